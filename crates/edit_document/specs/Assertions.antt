@@ -1,0 +1,188 @@
+-- What each statement asserts of which places, and which assertions may stand together.
+use Rattle.std.specs.Prelude.{◌≡◌, ℕ, zero, suc, ◌+◌, ◌-◌, ◌<◌, ◌≤◌, Bool, true, false, ◌&&◌, ◌||◌, ◌==◌, nat_lt, if◌then◌else◌, cond, List, [], ◌∷◌, ◌++◌, length, map, Option, Some, None, ⊤}
+use Rattle.std.specs.List.{AllByRecursion}
+use Rattle.edit_document.specs.Strings.{name, Key}
+use Rattle.edit_document.specs.Grammar.{Value, basic, literal, multi_basic, multi_literal, boolean, integer, float, datetime, array, inline, Elements, no_elements, last_element, element, Members, no_members, last_member, member, Statement, pair, header, element_header, Line, empty_line, full_line, Lines, one_line, more_lines, Text, Spells}
+
+pub data Step : Type 0 where
+  key : List ℕ → Step
+  index : ℕ → Step
+
+-- from the root; the empty list is the root
+abbrev pub Place : Type 0
+Place = List Step
+
+-- a place with one step more
+abbrev pub at : Place → Step → Place
+at place step = place ++ step ∷ []
+
+abbrev pub same_bytes : List ℕ → List ℕ → Bool
+same_bytes [] [] = true
+same_bytes [] (c ∷ cs) = false
+same_bytes (b ∷ bs) [] = false
+same_bytes (b ∷ bs) (c ∷ cs) = b == c && same_bytes bs cs
+
+abbrev pub same_step : Step → Step → Bool
+same_step (key a) (key b) = same_bytes a b
+same_step (index i) (index j) = i == j
+same_step _ _ = false
+
+abbrev pub same_place : Place → Place → Bool
+same_place [] [] = true
+same_place [] (t ∷ ts) = false
+same_place (s ∷ ss) [] = false
+same_place (s ∷ ss) (t ∷ ts) = same_step s t && same_place ss ts
+
+-- the kinds; a leaf has its value, and a dotted place tells whether the pair stands inside an inline table
+pub data Kind : Type 0 where
+  dotted : Bool → Kind
+  leaf : Value → Kind
+  super : Kind
+  header_kind : Kind
+  array_kind : Kind
+  element_kind : Kind
+
+-- by whom: the place that the statement, the member or the element names by its whole key
+pub record Assertion : Type 0 where
+  pub by : Place
+  pub place : Place
+  pub kind : Kind
+
+abbrev pub asserts : Place → Place → Kind → Assertion
+asserts by place kind = record { by = by; place = place; kind = kind }
+
+-- the names of a key's parts
+abbrev pub names : Key → List (List ℕ)
+names k = name k.first ∷ map (λ d. name d.part) k.others
+
+-- ---- pairs
+
+-- the place that a key names
+abbrev pub named : Place → List (List ℕ) → Place
+named place ns = place ++ map key ns
+
+-- Dotted on the front parts, Leaf on the last
+abbrev pub of_key : Bool → Place → Place → List (List ℕ) → Value → List Assertion
+of_key within by place [] v = []
+of_key within by place (n ∷ []) v = asserts by (at place (key n)) (leaf v) ∷ []
+of_key within by place (n ∷ m ∷ ns) v = asserts by (at place (key n)) (dotted within) ∷ of_key within by (at place (key n)) (m ∷ ns) v
+
+-- what a value asserts below its own place
+abbrev mutual
+  pub of_value : Place → Value → List Assertion
+  of_value place (basic ps) = []
+  of_value place (literal text) = []
+  of_value place (multi_basic ps) = []
+  of_value place (multi_literal ps) = []
+  of_value place (boolean b) = []
+  of_value place (integer n) = []
+  of_value place (float f) = []
+  of_value place (datetime d) = []
+  of_value place (array g es) = of_elements place 0 es
+  of_value place (inline ws ms) = of_members place ms
+
+  pub of_elements : Place → ℕ → Elements → List Assertion
+  of_elements place i no_elements = []
+  of_elements place i (last_element v g) = asserts (at place (index i)) (at place (index i)) (leaf v) ∷ of_value (at place (index i)) v
+  of_elements place i (element v g h es) = asserts (at place (index i)) (at place (index i)) (leaf v) ∷ (of_value (at place (index i)) v ++ of_elements place (suc i) es)
+
+  pub of_members : Place → Members → List Assertion
+  of_members place no_members = []
+  of_members place (last_member k a b v c) = of_key true (named place (names k)) place (names k) v ++ of_value (named place (names k)) v
+  of_members place (member k a b v c d ms) = (of_key true (named place (names k)) place (names k) v ++ of_value (named place (names k)) v) ++ of_members place ms
+
+abbrev pub of_pair : Place → Key → Value → List Assertion
+of_pair place k v = of_key false (named place (names k)) place (names k) v ++ of_value (named place (names k)) v
+
+-- ---- headers
+
+abbrev pub is_array : Kind → Bool
+is_array array_kind = true
+is_array _ = false
+
+abbrev pub is_array_at : Place → Assertion → Bool
+is_array_at place a = is_array a.kind && same_place a.place place
+
+-- how many elements an array of tables has so far
+abbrev pub elements_at : List Assertion → Place → ℕ
+elements_at [] place = 0
+elements_at (a ∷ earlier) place = cond (is_array_at place a) (suc (elements_at earlier place)) (elements_at earlier place)
+
+-- the last element, where an earlier statement asserted Array on the place
+abbrev pub resolved : List Assertion → Place → Place
+resolved earlier place = if nat_lt 0 (elements_at earlier place) then at place (index (elements_at earlier place - 1)) else place
+
+-- Super on the front parts, and the place of the last part
+abbrev pub fronts : List Assertion → Place → Place → List (List ℕ) → List Assertion
+fronts earlier by place [] = []
+fronts earlier by place (n ∷ []) = []
+fronts earlier by place (n ∷ m ∷ ns) = asserts by (resolved earlier (at place (key n))) super ∷ fronts earlier by (resolved earlier (at place (key n))) (m ∷ ns)
+
+abbrev pub header_place : List Assertion → Place → List (List ℕ) → Place
+header_place earlier place [] = place
+header_place earlier place (n ∷ []) = at place (key n)
+header_place earlier place (n ∷ m ∷ ns) = header_place earlier (resolved earlier (at place (key n))) (m ∷ ns)
+
+-- ---- texts
+
+-- the header that holds after a statement behind these assertions, under this header: its own place or element
+abbrev pub prefix_after : List Assertion → Place → Statement → Place
+prefix_after earlier prefix (pair k a b v) = prefix
+prefix_after earlier prefix (header a k b) = header_place earlier [] (names k)
+prefix_after earlier prefix (element_header a k b) = let place = header_place earlier [] (names k) in at place (index (elements_at earlier place))
+
+-- the place that a statement names by its whole key
+abbrev pub place_named : List Assertion → Place → Statement → Place
+place_named earlier prefix (pair k a b v) = named prefix (names k)
+place_named earlier prefix (header a k b) = prefix_after earlier prefix (header a k b)
+place_named earlier prefix (element_header a k b) = prefix_after earlier prefix (element_header a k b)
+
+-- what a statement asserts
+abbrev pub of_statement : List Assertion → Place → Statement → List Assertion
+of_statement earlier prefix (pair k a b v) = of_pair prefix k v
+of_statement earlier prefix (header a k b) =
+    let place = header_place earlier [] (names k) in
+    fronts earlier place [] (names k) ++ asserts place place header_kind ∷ []
+of_statement earlier prefix (element_header a k b) =
+    let place = header_place earlier [] (names k) in
+    let element = at place (index (elements_at earlier place)) in
+    fronts earlier element [] (names k) ++ asserts element place array_kind ∷ asserts element element element_kind ∷ []
+
+abbrev pub of_lines : List Assertion → Place → Lines → List Assertion
+of_lines earlier prefix (one_line (empty_line a c)) = earlier
+of_lines earlier prefix (one_line (full_line a s b c)) = earlier ++ of_statement earlier prefix s
+of_lines earlier prefix (more_lines (empty_line a c) e ls) = of_lines earlier prefix ls
+of_lines earlier prefix (more_lines (full_line a s b c) e ls) = of_lines (earlier ++ of_statement earlier prefix s) (prefix_after earlier prefix s) ls
+
+-- the assertions of a text, in its order
+abbrev pub assertions : Text → List Assertion
+assertions t = of_lines [] [] t.lines
+
+-- ---- which may stand together
+
+-- the pairs that are allowed; every other is refused, in either order
+abbrev pub together : Kind → Kind → Bool
+together (dotted a) (dotted b) = true
+together (dotted a) super = true
+together super (dotted b) = true
+together header_kind super = true
+together super header_kind = true
+together super super = true
+together super element_kind = true
+together element_kind super = true
+together array_kind array_kind = true
+together _ _ = false
+
+-- each assertion may stand with each later one on its place
+abbrev pub NoClash : List Assertion → Type 0
+NoClash [] = ⊤
+NoClash (a ∷ made) = AllByRecursion (λ b. a.place ≡ b.place → together a.kind b.kind ≡ true) made × NoClash made
+
+abbrev pub AreShort : List Assertion → Type 0
+AreShort made = AllByRecursion (λ a. length a.place ≤ 80) made
+
+-- the bytes are a document, with this form
+pub record IsDocument (bytes : List ℕ) (form : Text) : Type 0 where
+  pub grammar : Spells bytes form
+  pub short : AreShort (assertions form)
+  pub no_clash : NoClash (assertions form)

@@ -1,0 +1,10 @@
+pub mod Errors
+pub mod Paths
+pub mod Characters
+pub mod Strings
+pub mod Numbers
+pub mod Grammar
+pub mod Assertions
+pub mod Tree
+pub mod Supported
+pub mod Shown

@@ -1,0 +1,52 @@
+-- The part of the grammar that is read so far: keys of one part, strings on one line, booleans, inline tables,
+-- and headers of one part. Every other text is refused.
+use Rattle.std.specs.Prelude.{◌≡◌, ℕ, List, [], false, ⊤, ⊥}
+use Rattle.edit_document.specs.Strings.{Key}
+use Rattle.edit_document.specs.Grammar.{Value, basic, literal, multi_basic, multi_literal, boolean, integer, float, datetime, array, inline, Members, no_members, last_member, member, Statement, pair, header, element_header, Line, empty_line, full_line, Lines, one_line, more_lines, Text}
+use Rattle.edit_document.specs.Assertions.{IsDocument}
+
+-- a key of one part
+abbrev pub IsOnePart : Key → Type 0
+IsOnePart k = k.others ≡ []
+
+-- a string on one line, a boolean, or an inline table of such values under keys of one part
+abbrev mutual
+  pub IsSupportedValue : Value → Type 0
+  IsSupportedValue (basic ps) = ⊤
+  IsSupportedValue (literal text) = ⊤
+  IsSupportedValue (multi_basic ps) = ⊥
+  IsSupportedValue (multi_literal ps) = ⊥
+  IsSupportedValue (boolean b) = ⊤
+  IsSupportedValue (integer n) = ⊥
+  IsSupportedValue (float f) = ⊥
+  IsSupportedValue (datetime d) = ⊥
+  IsSupportedValue (array g es) = ⊥
+  IsSupportedValue (inline g ms) = AreSupportedMembers ms
+
+  pub AreSupportedMembers : Members → Type 0
+  AreSupportedMembers no_members = ⊤
+  AreSupportedMembers (last_member k a b v c) = IsOnePart k × IsSupportedValue v
+  AreSupportedMembers (member k a b v c d ms) = IsOnePart k × IsSupportedValue v × AreSupportedMembers ms
+
+-- a pair or a header whose key has one part
+abbrev pub IsSupportedStatement : Statement → Type 0
+IsSupportedStatement (pair k a b v) = IsOnePart k × IsSupportedValue v
+IsSupportedStatement (header a k b) = IsOnePart k
+IsSupportedStatement (element_header a k b) = ⊥
+
+abbrev pub IsSupportedLine : Line → Type 0
+IsSupportedLine (empty_line a c) = ⊤
+IsSupportedLine (full_line a s b c) = IsSupportedStatement s
+
+abbrev pub AreSupportedLines : Lines → Type 0
+AreSupportedLines (one_line l) = IsSupportedLine l
+AreSupportedLines (more_lines l e ls) = IsSupportedLine l × AreSupportedLines ls
+
+-- a text without a byte order mark, all of whose lines are of the part
+abbrev pub IsSupported : Text → Type 0
+IsSupported t = (t.marked ≡ false) × AreSupportedLines t.lines
+
+-- the bytes are a document with this form, and the form is of the part that is read
+pub record IsManifest (bytes : List ℕ) (form : Text) : Type 0 where
+  pub document : IsDocument bytes form
+  pub supported : IsSupported form
