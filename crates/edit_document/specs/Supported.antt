@@ -34,10 +34,12 @@ IsSupportedStatement (pair k a b v) = IsOnePart k × IsSupportedValue v
 IsSupportedStatement (header a k b) = IsOnePart k
 IsSupportedStatement (element_header a k b) = ⊥
 
+-- an empty line, or one whose statement is of the part
 abbrev pub IsSupportedLine : Line → Type 0
 IsSupportedLine (empty_line a c) = ⊤
 IsSupportedLine (full_line a s b c) = IsSupportedStatement s
 
+-- all lines are of the part
 abbrev pub AreSupportedLines : Lines → Type 0
 AreSupportedLines (one_line l) = IsSupportedLine l
 AreSupportedLines (more_lines l e ls) = IsSupportedLine l × AreSupportedLines ls

@@ -1,12 +1,14 @@
-//! Paths as texts.
-ghost use Rattle.std.specs.Prelude.{◌≡◌, ◌↔◌, IsTrue, IfOk, IfErr, string_bytes, map};
+//! Paths as texts: no file is looked at.
+ghost use Rattle.std.specs.Prelude.{◌≡◌, ◌≤◌, ◌↔◌, IsTrue, IfOk, IfErr, string_bytes, codes, length, take, drop, replicate};
 ghost use Rattle.edit_document.specs.Errors.{IsMemory};
-ghost use Rattle.edit_document.specs.Paths.{joined, parts_of, absolute, IsIdle, Named, Normal, IsNormalOf, IsFolderOf};
+ghost use Rattle.edit_document.specs.Paths.{joined, parts_of, texts, absolute, IsIdle, Named, Normal, IsNormalOf, IsFolderOf, BeginApart, way_text, IsRelative};
 
 use crate::errors::CargoResult;
 use std::alloc::{AllocError, Global};
 
-/// `path` where it is absolute, else `path` below `base`.
+/// `path` where it is absolute, else `path` below `base`, with one slash between them.
+///
+/// No slash is added where `base` is empty or ends in one.
 pub fn join(alloc: Global, base: &str, path: &str) -> CargoResult<String>
     ensures text { IfOk result (λ s. string_bytes s ≡ joined base.now path.now) }
     ensures refused { IfErr result IsMemory }
@@ -22,14 +24,14 @@ pub fn join(alloc: Global, base: &str, path: &str) -> CargoResult<String>
 
 /// The parts of a text between slashes.
 fn parts<'a>(alloc: Global, path: &'a str) -> Result<Vec<&'a str>, AllocError>
-    ensures { IfOk result (λ v. map (λ x. x.now) v.items ≡ parts_of path.now) }
+    ensures { IfOk result (λ v. texts v.items ≡ parts_of path.now) }
 {
     path.split('/').collect(alloc)
 }
 
 /// The names that are left of the parts of an absolute path.
 fn kept_names<'a>(alloc: Global, parts: &[&'a str]) -> Result<Vec<&'a str>, AllocError>
-    ensures { IfOk result (λ v. Normal (map (λ x. x.now) parts.now) (map (λ x. x.now) v.items)) }
+    ensures { IfOk result (λ v. Normal (texts parts.now) (texts v.items)) }
 {
     let mut names = Vec::new(alloc);
     for part in parts {
@@ -53,7 +55,7 @@ fn is_idle(part: &str) -> bool
 
 /// The absolute path of these names.
 fn absolute_text(alloc: Global, names: &[&str]) -> Result<String, AllocError>
-    ensures { IfOk result (λ s. string_bytes s ≡ absolute (map (λ x. x.now) names.now)) }
+    ensures { IfOk result (λ s. string_bytes s ≡ absolute (texts names.now)) }
 {
     if names.is_empty() {
         return String::from_str(alloc, "/");
@@ -66,7 +68,7 @@ fn absolute_text(alloc: Global, names: &[&str]) -> Result<String, AllocError>
     Ok(text)
 }
 
-/// The normal form of an absolute path.
+/// An absolute path without empty parts and the parts `.` and `..`: each `..` drops the part before it, and none at the root.
 pub fn normal(alloc: Global, path: &str) -> CargoResult<String>
     ensures text { IfOk result (λ s. IsNormalOf path.now (string_bytes s)) }
     ensures refused { IfErr result IsMemory }
@@ -76,7 +78,7 @@ pub fn normal(alloc: Global, path: &str) -> CargoResult<String>
     Ok(absolute_text(alloc, &names)?)
 }
 
-/// The folder of a path.
+/// The folder that a path lies in: the text before the last slash, and `/` where that is empty or no slash is there.
 pub fn folder(path: &str) -> &str
     ensures { IsFolderOf path.now result.now }
 {
@@ -93,7 +95,7 @@ pub fn folder(path: &str) -> &str
 
 /// The parts of a path that name something.
 fn named_parts<'a>(alloc: Global, parts: &[&'a str]) -> Result<Vec<&'a str>, AllocError>
-    ensures { IfOk result (λ v. Named (map (λ x. x.now) parts.now) (map (λ x. x.now) v.items)) }
+    ensures { IfOk result (λ v. Named (texts parts.now) (texts v.items)) }
 {
     let mut names = Vec::new(alloc);
     for part in parts {
@@ -105,64 +107,118 @@ fn named_parts<'a>(alloc: Global, parts: &[&'a str]) -> Result<Vec<&'a str>, All
     Ok(names)
 }
 
-/// The relative form of a path, from a folder.
-pub fn relative(alloc: Global, to: &str, from: &str) -> CargoResult<String> {
-    let to_parts = parts(alloc, to)?;
-    let to = named_parts(alloc, &to_parts)?;
-    let from_parts = parts(alloc, from)?;
-    let from = named_parts(alloc, &from_parts)?;
-    let common = to
-        .iter()
-        .zip(from.iter())
-        .take_while(|(a, b)| **a == **b)
-        .count();
-    let mut all: Vec<&str> = Vec::new(alloc);
-    for _ in common..from.len() {
-        all.push("..")?;
-    }
-    for (i, part) in to.iter().enumerate() {
-        if common <= i {
-            all.push(*part)?;
+/// How many parts both lists have in common at their fronts.
+fn common_count(to: &[&str], from: &[&str]) -> usize
+    ensures within_to { result ≤ length to.now }
+    ensures within_from { result ≤ length from.now }
+    ensures same { texts (take result to.now) ≡ texts (take result from.now) }
+    ensures longest { BeginApart (texts (drop result to.now)) (texts (drop result from.now)) }
+{
+    let mut count = 0;
+    while count < to.len() && count < from.len() {
+        if to[count] != from[count] {
+            return count;
         }
+        count += 1;
     }
-    Ok(all.as_slice().join(alloc, "/")?)
+    count
+}
+
+/// As many steps up as this.
+fn steps_up(alloc: Global, count: usize) -> Result<Vec<&'static str>, AllocError>
+    ensures { IfOk result (λ v. texts v.items ≡ replicate count (codes "..")) }
+{
+    let mut steps = Vec::new(alloc);
+    for i in 0..count {
+        steps.push("..")?;
+    }
+    Ok(steps)
+}
+
+/// The way up by as many steps, and then down by these names.
+fn way_text(alloc: Global, up: usize, down: &[&str]) -> Result<String, AllocError>
+    ensures { IfOk result (λ s. string_bytes s ≡ way_text up (texts down.now)) }
+{
+    let mut way = steps_up(alloc, up)?;
+    way.extend_from_slice(down)?;
+    let text = way.as_slice().join(alloc, "/")?;
+    Ok(text)
+}
+
+/// The path `to` as seen from the folder `from`, both absolute; `from` has no part `..`.
+///
+/// The result is empty where both name the same place. A part `..` of `to` is a part like others.
+pub fn relative(alloc: Global, to: &str, from: &str) -> CargoResult<String>
+    ensures text { IfOk result (λ s. IsRelative to.now from.now (string_bytes s)) }
+    ensures refused { IfErr result IsMemory }
+{
+    let to_parts = parts(alloc, to)?;
+    let to_names = named_parts(alloc, &to_parts)?;
+    let from_parts = parts(alloc, from)?;
+    let from_names = named_parts(alloc, &from_parts)?;
+    let count = common_count(&to_names, &from_names);
+    let up = from_names.len() - count;
+    let down = &to_names[count..];
+    let text = way_text(alloc, up, down)?;
+    Ok(text)
 }
 
 #[cfg(test)]
 mod tests {
-    use super::*;
+    use super::{folder, join, normal, relative};
     use std::test::Fail;
 
     #[test]
-    fn paths(rt: HostRuntime) -> Result<(), Fail> {
-        for (path, want) in [
-            ("/", "/"),
-            ("/a/./b//c/", "/a/b/c"),
-            ("/a/../b", "/b"),
-            ("/../a", "/a"),
-            ("/..", "/"),
+    fn paths_are_made(rt: HostRuntime) -> Result<(), Fail> {
+        for (row, base, path, want) in [
+            (
+                "a path below a folder",
+                "/w",
+                "a/Cargo.toml",
+                "/w/a/Cargo.toml",
+            ),
+            ("an absolute path stands alone", "/w", "/b", "/b"),
+            ("a folder that ends in a slash", "/w/", "a", "/w/a"),
+            ("no folder", "", "a", "a"),
+            ("nothing below a folder", "/w", "", "/w/"),
+        ] {
+            let found = join(rt.alloc(), base, path).map_err(|_| "refused")?;
+            assert_eq!(rt; found.as_str(), want, "{row}");
+        }
+        for (row, path, want) in [
+            ("the root", "/", "/"),
+            ("empty parts and single dots", "/a/./b//c/", "/a/b/c"),
+            ("two dots drop the part before them", "/a/../b", "/b"),
+            ("none is dropped at the root", "/../a", "/a"),
+            ("nothing is left", "/a/..", "/"),
         ] {
             let found = normal(rt.alloc(), path).map_err(|_| "refused")?;
-            assert_eq!(rt; found.as_str(), want);
+            assert_eq!(rt; found.as_str(), want, "{row}");
         }
-        for (path, want) in [
-            ("/a/b", "/a"),
-            ("/a", "/"),
-            ("a", "/"),
-            ("", "/"),
-            ("a/b/", "a/b"),
+        Ok(())
+    }
+
+    #[test]
+    fn paths_are_related(rt: HostRuntime) -> Result<(), Fail> {
+        for (row, path, want) in [
+            ("a file in a folder", "/a/b", "/a"),
+            ("a file at the root", "/a", "/"),
+            ("no slash", "a", "/"),
+            ("no text", "", "/"),
+            ("a slash at the end", "a/b/", "a/b"),
         ] {
-            assert_eq!(rt; folder(path), want);
+            assert_eq!(rt; folder(path), want, "{row}");
         }
-        for (to, from, want) in [
-            ("/bar", "/foo", "../bar"),
-            ("/sibling/crate", "/", "sibling/crate"),
-            ("/a/b", "/a/b", ""),
-            ("/a", "/a/b/c", "../.."),
-            ("/a/../b", "/a", "../b"),
+        for (row, to, from, want) in [
+            ("a folder beside", "/bar", "/foo", "../bar"),
+            ("below the root", "/sibling/crate", "/", "sibling/crate"),
+            ("one place", "/a/b", "/a/b", ""),
+            ("up alone", "/a", "/a/b/c", "../.."),
+            ("two dots are a part like others", "/a/../b", "/a", "../b"),
+            ("idle parts do not count", "/a//b/./c", "/a/b/", "c"),
         ] {
             let found = relative(rt.alloc(), to, from).map_err(|_| "refused")?;
-            assert_eq!(rt; found.as_str(), want, "{to} from {from}");
+            assert_eq!(rt; found.as_str(), want, "{row}");
         }
         Ok(())
     }

@@ -1,0 +1,284 @@
+-- The laws of lines and texts.
+use Rattle.std.proofs.Common.{◌≡◌, ℕ, zero, suc, ◌+◌, ◌≤◌, Bool, true, false, ◌&&◌, eqb, List, [], ◌∷◌, ◌++◌, length, slice_index, drop, Option, Some, None, refl, sym, ap, subst, ◌∙◌, inl, inr, arith}
+use Rattle.std.proofs.lemmas.Bool.{eqb-true}
+use Rattle.std.proofs.lemmas.Bool.Decides.{nat_tests}
+use Rattle.std.proofs.lemmas.List.{length-append, nil_from_length}
+use Rattle.edit_document.specs.Characters.{line_feed, carriage_return, hash, equals, left_bracket, right_bracket, is_blank, is_bare, is_ch}
+use Rattle.edit_document.specs.Strings.{LineEnd, lf, crlf, line_end, Part, bare, basic_part, literal_part, part, IsPart, Key, key, dotted, IsKey}
+use Rattle.edit_document.specs.Grammar.{value, Statement, pair, header, element_header, statement, IsStatement, comment, IsComment, Line, empty_line, full_line, line, IsLine, Lines, one_line, more_lines, lines, AreLines, Text, text, Spells}
+use Rattle.edit_document.specs.Supported.{IsSupportedStatement, IsSupportedLine, AreSupportedLines, IsSupported}
+use Rattle.edit_document.specs.Depth.{statement_depth, line_depth, lines_depth, text_depth}
+use Rattle.edit_document.specs.Reading.{first, past, blanks, past_blanks, key_at, Pair, pair_at, value_at, statement_at, comment_front, past_comment, is_line_over, line_at, line_end_at, lines_at, read_text}
+use Rattle.edit_document.proofs.TokenLaws.{bind_some, chosen, tested, some_is, first_is, at_drop, both, past_some, run_parts, run_all, front_again, after_again, key_sound, key_again}
+use Rattle.edit_document.proofs.ValueLaws.{blank_parts, IsPair, pair_sound, value_sound}
+use Rattle.edit_document.proofs.ValueReadAgain.{pair_again, ends_bare, value_again, key_first, pair_longer, key_longer, value_longer}
+
+-- ---- what is read is spelled so
+
+-- a statement that is read where n may be nested
+pub record IsGoodStatement (n : ℕ) (s : Statement) : Type 0 where
+  pub valid : IsStatement s
+  pub supported : IsSupportedStatement s
+  pub shallow : statement_depth s ≤ n
+
+pub record IsGoodLine (n : ℕ) (l : Line) : Type 0 where
+  pub valid : IsLine l
+  pub supported : IsSupportedLine l
+  pub shallow : line_depth l ≤ n
+
+pub record AreGoodLines (n : ℕ) (ls : Lines) : Type 0 where
+  pub valid : AreLines ls
+  pub supported : AreSupportedLines ls
+  pub shallow : lines_depth ls ≤ n
+
+pair_good : (n : ℕ) (p : Pair) → IsPair n p → IsGoodStatement n (pair p.key p.before p.behind p.value)
+pair_good n p h = record {
+  valid = (h.key, h.before, h.behind, h.value.valid);
+  supported = (h.one_part, h.value.supported);
+  shallow = h.value.shallow;
+}
+
+pub statement_sound : (n : ℕ) (bytes : List ℕ) (x : Statement × List ℕ) → statement_at n bytes ≡ Some x → (bytes ≡ statement x.0 x.1) × IsGoodStatement n x.0
+unfolding statement_at
+statement_sound n bytes x e =
+    let P : Statement × List ℕ → Type 0 = λ y. (bytes ≡ statement y.0 y.1) × IsGoodStatement n y.0 in
+    let inner = drop 1 bytes in
+    elim (chosen (eqb (first bytes) left_bracket) _ _ (Some x) e) [
+      | inl h ↦
+          let a = bind_some (key_at (past_blanks inner)) _ x h.1 in
+          let b = bind_some (past right_bracket (past_blanks a.0.1)) _ x a.2 in
+          let k = key_sound (past_blanks inner) a.0 a.1 in
+          let two : a.0.1 ≡ blanks a.0.1 ++ (right_bracket ∷ b.0) = blank_parts a.0.1 (right_bracket ∷ b.0) (past_some right_bracket _ b.0 (omega arith) b.1) in
+          let one : inner ≡ blanks inner ++ key a.0.0 (blanks a.0.1 ++ (right_bracket ∷ b.0)) = blank_parts inner (key a.0.0 (blanks a.0.1 ++ (right_bracket ∷ b.0))) (k.0 ∙ ap (key a.0.0) two) in
+          subst P (some_is _ x b.2) (
+            first_is left_bracket bytes (omega arith) h.0 ∙ ap (λ (r : List ℕ). left_bracket ∷ r) one,
+            record { valid = (run_all is_blank inner, k.1, run_all is_blank a.0.1); supported = k.2; shallow = omega arith },
+          )
+      | inr h ↦
+          let a = bind_some (pair_at (value_at n) bytes) _ x h.1 in
+          let p = pair_sound n (value_at n) (value_sound n) bytes a.0 a.1 in
+          subst P (some_is _ x a.2) (p.0, pair_good n a.0.0 p.1)
+    ]
+
+-- a comment or nothing is there
+pub comment_sound : (bytes : List ℕ) → (bytes ≡ comment (comment_front bytes) (past_comment bytes)) × IsComment (comment_front bytes)
+comment_sound bytes = go (eqb (first bytes) hash) refl
+  where
+    go : (b : Bool) → eqb (first bytes) hash ≡ b → (bytes ≡ comment (comment_front bytes) (past_comment bytes)) × IsComment (comment_front bytes)
+    go true e = rw e (first_is hash bytes (omega arith) e ∙ ap (λ (r : List ℕ). hash ∷ r) (run_parts is_ch (drop 1 bytes)), run_all is_ch (drop 1 bytes))
+    go false e = rw e (refl, tt)
+
+pub line_sound : (n : ℕ) (bytes : List ℕ) (x : Line × List ℕ) → line_at n bytes ≡ Some x → (bytes ≡ line x.0 x.1) × IsGoodLine n x.0
+unfolding line_at
+line_sound n bytes x e =
+    let P : Line × List ℕ → Type 0 = λ y. (bytes ≡ line y.0 y.1) × IsGoodLine n y.0 in
+    let rest = past_blanks bytes in
+    elim (chosen (is_line_over (first rest)) _ _ (Some x) e) [
+      | inl h ↦
+          let c = comment_sound rest in
+          subst P (some_is _ x h.1) (
+            run_parts is_blank bytes ∙ ap (λ (r : List ℕ). blanks bytes ++ r) c.0,
+            record { valid = (run_all is_blank bytes, c.1); supported = tt; shallow = omega arith },
+          )
+      | inr h ↦
+          let a = bind_some (statement_at n rest) _ x h.1 in
+          let s = statement_sound n rest a.0 a.1 in
+          let c = comment_sound (past_blanks a.0.1) in
+          let two : a.0.1 ≡ blanks a.0.1 ++ comment (comment_front (past_blanks a.0.1)) (past_comment (past_blanks a.0.1)) = run_parts is_blank a.0.1 ∙ ap (λ (r : List ℕ). blanks a.0.1 ++ r) c.0 in
+          subst P (some_is _ x a.2) (
+            run_parts is_blank bytes ∙ ap (λ (r : List ℕ). blanks bytes ++ r) (s.0 ∙ ap (statement a.0.0) two),
+            record { valid = (run_all is_blank bytes, s.1.valid, run_all is_blank a.0.1, c.1); supported = s.1.supported; shallow = s.1.shallow },
+          )
+    ]
+
+pub line_end_sound : (bytes : List ℕ) (x : LineEnd × List ℕ) → line_end_at bytes ≡ Some x → bytes ≡ line_end x.0 x.1
+unfolding line_end_at
+line_end_sound bytes x e =
+    let P : LineEnd × List ℕ → Type 0 = λ y. bytes ≡ line_end y.0 y.1 in
+    elim (chosen (eqb (first bytes) line_feed) _ _ (Some x) e) [
+      | inl h ↦ subst P (some_is _ x h.1) (first_is line_feed bytes (omega arith) h.0)
+      | inr h ↦
+          let t = tested (eqb (first bytes) carriage_return && eqb (slice_index bytes 1) line_feed) _ x h.1 in
+          let w = both (eqb (first bytes) carriage_return) (eqb (slice_index bytes 1) line_feed) t.0 in
+          subst P (some_is _ x t.1) (first_is carriage_return bytes (omega arith) w.0 ∙ ap (λ (r : List ℕ). carriage_return ∷ r) (at_drop 1 line_feed bytes (omega arith) w.1))
+    ]
+
+one_good : (n : ℕ) (l : Line) → IsGoodLine n l → AreGoodLines n (one_line l)
+one_good n l h = record { valid = h.valid; supported = h.supported; shallow = h.shallow }
+
+more_good : (n : ℕ) (l : Line) (e : LineEnd) (ls : Lines) → IsGoodLine n l → AreGoodLines n ls → AreGoodLines n (more_lines l e ls)
+more_good n l e ls h others = record {
+  valid = (h.valid, others.valid);
+  supported = (h.supported, others.supported);
+  shallow = let a = h.shallow in let b = others.shallow in omega arith;
+}
+
+pub lines_sound : (n count : ℕ) (bytes : List ℕ) (ls : Lines) → lines_at n count bytes ≡ Some ls → (bytes ≡ lines ls) × AreGoodLines n ls
+unfolding lines_at
+lines_sound n zero bytes ls e = absurd cc
+lines_sound n (suc count) bytes ls e =
+    let P : Lines → Type 0 = λ y. (bytes ≡ lines y) × AreGoodLines n y in
+    let a = bind_some (line_at n bytes) _ ls e in
+    let l = line_sound n bytes a.0 a.1 in
+    elim (chosen (eqb (length a.0.1) 0) _ _ (Some ls) a.2) [
+      | inl h ↦
+          let nothing : a.0.1 ≡ [] = nil_from_length a.0.1 (eqb-true _ _ h.0) in
+          subst P (some_is _ ls h.1) (l.0 ∙ ap (line a.0.0) nothing, one_good n a.0.0 l.1)
+      | inr h ↦
+          let b = bind_some (line_end_at a.0.1) _ ls h.1 in
+          let c = bind_some (lines_at n count b.0.1) _ ls b.2 in
+          let more = lines_sound n count b.0.1 c.0 c.1 in
+          subst P (some_is _ ls c.2) (l.0 ∙ ap (line a.0.0) (line_end_sound a.0.1 b.0 b.1 ∙ ap (line_end b.0.0) more.0), more_good n a.0.0 b.0.0 c.0 l.1 more.1)
+    ]
+
+-- ---- what is spelled so is read
+
+-- what may follow a line
+pub record EndsLine (rest : List ℕ) : Type 0 where
+  pub no_ch : is_ch (first rest) ≡ false
+  pub no_comment : eqb (first rest) hash ≡ false
+  pub no_blank : is_blank (first rest) ≡ false
+  pub over : is_line_over (first rest) ≡ true
+
+end_of_text : EndsLine []
+end_of_text = record { no_ch = refl; no_comment = refl; no_blank = refl; over = refl }
+
+end_of_line : (e : LineEnd) (rest : List ℕ) → EndsLine (line_end e rest)
+end_of_line lf rest = record { no_ch = refl; no_comment = refl; no_blank = refl; over = refl }
+end_of_line crlf rest = record { no_ch = refl; no_comment = refl; no_blank = refl; over = refl }
+
+comment_again : (c : Option (List ℕ)) (rest : List ℕ) → IsComment c → EndsLine rest → (comment_front (comment c rest) ≡ c) × (past_comment (comment c rest) ≡ rest)
+comment_again None rest h ends = (rw ends.no_comment refl, rw ends.no_comment refl)
+comment_again (Some text) rest h ends = (rw (front_again is_ch text rest h ends.no_ch) refl, after_again is_ch text rest h ends.no_ch)
+
+comment_first : (c : Option (List ℕ)) (rest : List ℕ) → EndsLine rest → (is_blank (first (comment c rest)) ≡ false) × (is_line_over (first (comment c rest)) ≡ true)
+comment_first None rest ends = (ends.no_blank, ends.over)
+comment_first (Some text) rest ends = (refl, refl)
+
+bare_starts : (b : ℕ) → is_bare b ≡ true → (is_line_over b ≡ false) × (eqb b left_bracket ≡ false)
+bare_starts b h = (grind (arith, nat_tests), grind (arith, nat_tests))
+
+part_starts : (k : Part) (rest : List ℕ) → IsPart k → (is_line_over (first (part k rest)) ≡ false) × (eqb (first (part k rest)) left_bracket ≡ false)
+part_starts (bare []) rest h = absurd (omega (arith, h.0))
+part_starts (bare (b ∷ text)) rest h = bare_starts b h.1.0
+part_starts (basic_part ps) rest h = (refl, refl)
+part_starts (literal_part text) rest h = (refl, refl)
+
+key_starts : (k : Key) (rest : List ℕ) → IsKey k → (is_line_over (first (key k rest)) ≡ false) × (eqb (first (key k rest)) left_bracket ≡ false)
+key_starts k rest h = part_starts k.first (dotted k.others rest) h.0
+
+statement_first : (s : Statement) (rest : List ℕ) → IsStatement s → (is_blank (first (statement s rest)) ≡ false) × (is_line_over (first (statement s rest)) ≡ false)
+statement_first (pair k a b v) rest h = ((key_first k _ h.0).0, (key_starts k _ h.0).0)
+statement_first (header a k b) rest h = (refl, refl)
+statement_first (element_header a k b) rest h = (refl, refl)
+
+pub statement_again : (n : ℕ) (s : Statement) (rest : List ℕ) → IsGoodStatement n s → statement_at n (statement s rest) ≡ Some (s, rest)
+unfolding statement_at
+statement_again n (pair k a b v) rest good =
+    let h = good.valid in
+    let p : Pair = record { key = k; before = a; behind = b; value = v } in
+    let hp : IsPair n p = record { key = h.0; one_part = good.supported.0; before = h.1; behind = h.2; value = record { valid = h.3; supported = good.supported.1; shallow = good.shallow } } in
+    let one = pair_again n (value_at n) p rest hp (value_again v n h.3 good.supported.1 good.shallow) in
+    rw ((key_starts k (a ++ (equals ∷ (b ++ value v rest))) h.0).1, one) refl
+statement_again n (header a k b) rest good =
+    let h = good.valid in
+    let end = right_bracket ∷ rest in
+    let one = key_again k (b ++ end) h.1 good.supported (ends_bare b right_bracket rest h.2 refl) in
+    let begins = (key_first k (b ++ end) h.1).0 in
+    rw (after_again is_blank a (key k (b ++ end)) h.0 begins, front_again is_blank a (key k (b ++ end)) h.0 begins, one, after_again is_blank b end h.2 refl, front_again is_blank b end h.2 refl) refl
+statement_again n (element_header a k b) rest good = absurd good.supported
+
+pub line_again : (n : ℕ) (l : Line) (rest : List ℕ) → IsGoodLine n l → EndsLine rest → line_at n (line l rest) ≡ Some (l, rest)
+unfolding line_at
+line_again n (empty_line a c) rest good ends =
+    let h = good.valid in
+    let begins = comment_first c rest ends in
+    let more = comment_again c rest h.1 ends in
+    rw (after_again is_blank a (comment c rest) h.0 begins.0, front_again is_blank a (comment c rest) h.0 begins.0, begins.1, more.0, more.1) refl
+line_again n (full_line a s b c) rest good ends =
+    let h = good.valid in
+    let tail = comment c rest in
+    let begins = comment_first c rest ends in
+    let more = comment_again c rest h.3 ends in
+    let starts = statement_first s (b ++ tail) h.1 in
+    let one = statement_again n s (b ++ tail) (record { valid = h.1; supported = good.supported; shallow = good.shallow }) in
+    rw (after_again is_blank a (statement s (b ++ tail)) h.0 starts.0, front_again is_blank a (statement s (b ++ tail)) h.0 starts.0, starts.1, one, after_again is_blank b tail h.2 begins.0, front_again is_blank b tail h.2 begins.0, more.0, more.1) refl
+
+abbrev pub count_lines : Lines → ℕ
+count_lines (one_line l) = 1
+count_lines (more_lines l e ls) = suc (count_lines ls)
+
+line_end_again : (e : LineEnd) (rest : List ℕ) → line_end_at (line_end e rest) ≡ Some (e, rest)
+unfolding line_end_at
+line_end_again lf rest = refl
+line_end_again crlf rest = refl
+
+suc_not_zero : (n : ℕ) → eqb (suc n) 0 ≡ false
+suc_not_zero n = grind (arith, nat_tests)
+
+not_over : (e : LineEnd) (rest : List ℕ) → eqb (length (line_end e rest)) 0 ≡ false
+not_over lf rest = suc_not_zero (length rest)
+not_over crlf rest = suc_not_zero (suc (length rest))
+
+first_good : (n : ℕ) (l : Line) (e : LineEnd) (ls : Lines) → AreGoodLines n (more_lines l e ls) → IsGoodLine n l
+first_good n l e ls h = record { valid = h.valid.0; supported = h.supported.0; shallow = let k = h.shallow in omega arith }
+
+others_good : (n : ℕ) (l : Line) (e : LineEnd) (ls : Lines) → AreGoodLines n (more_lines l e ls) → AreGoodLines n ls
+others_good n l e ls h = record { valid = h.valid.1; supported = h.supported.1; shallow = let k = h.shallow in omega arith }
+
+pub lines_again : (n count : ℕ) (ls : Lines) → AreGoodLines n ls → count_lines ls ≤ count → lines_at n count (lines ls) ≡ Some ls
+unfolding lines_at
+lines_again n zero (one_line l) h few = absurd (omega arith)
+lines_again n zero (more_lines l e ls) h few = absurd (omega arith)
+lines_again n (suc count) (one_line l) h few = rw (line_again n l [] (record { valid = h.valid; supported = h.supported; shallow = h.shallow }) end_of_text) refl
+lines_again n (suc count) (more_lines l e ls) h few =
+    rw (line_again n l (line_end e (lines ls)) (first_good n l e ls h) (end_of_line e (lines ls)), not_over e (lines ls), line_end_again e (lines ls), lines_again n count ls (others_good n l e ls h) (omega arith)) refl
+
+comment_longer : (c : Option (List ℕ)) (rest : List ℕ) → length rest ≤ length (comment c rest)
+comment_longer None rest = omega arith
+comment_longer (Some text) rest = omega (arith, length-append text rest)
+
+statement_longer : (n : ℕ) (s : Statement) (rest : List ℕ) → IsGoodStatement n s → length rest ≤ length (statement s rest)
+statement_longer n (pair k a b v) rest h = omega (arith, pair_longer k a b (value v rest), value_longer v rest h.valid.3 h.supported.1)
+statement_longer n (header a k b) rest h = omega (arith, length-append a (key k (b ++ (right_bracket ∷ rest))), key_longer k (b ++ (right_bracket ∷ rest)), length-append b (right_bracket ∷ rest))
+statement_longer n (element_header a k b) rest h = absurd h.supported
+
+line_longer : (n : ℕ) (l : Line) (rest : List ℕ) → IsGoodLine n l → length rest ≤ length (line l rest)
+line_longer n (empty_line a c) rest h = omega (arith, length-append a (comment c rest), comment_longer c rest)
+line_longer n (full_line a s b c) rest h =
+    let good : IsGoodStatement n s = record { valid = h.valid.1; supported = h.supported; shallow = h.shallow } in
+    omega (arith, length-append a (statement s (b ++ comment c rest)), statement_longer n s (b ++ comment c rest) good, length-append b (comment c rest), comment_longer c rest)
+
+few_lines : (n : ℕ) (ls : Lines) → AreGoodLines n ls → count_lines ls ≤ length (lines ls) + 1
+few_lines n (one_line l) h = omega arith
+few_lines n (more_lines l lf ls) h = omega (arith, line_longer n l (line_feed ∷ lines ls) (first_good n l lf ls h), few_lines n ls (others_good n l lf ls h))
+few_lines n (more_lines l crlf ls) h = omega (arith, line_longer n l (carriage_return ∷ (line_feed ∷ lines ls)) (first_good n l crlf ls h), few_lines n ls (others_good n l crlf ls h))
+
+-- ---- texts
+
+-- the text is in the grammar with this form, which is of the part that is read
+pub record IsReadText (n : ℕ) (bytes : List ℕ) (t : Text) : Type 0 where
+  pub spells : Spells bytes t
+  pub supported : IsSupported t
+  pub shallow : text_depth t ≤ n
+
+-- what is read is in the grammar, with the form that is read
+pub read_sound : (n : ℕ) (bytes : List ℕ) (t : Text) → read_text n bytes ≡ Some t → IsReadText n bytes t
+unfolding read_text
+read_sound n bytes t e =
+    let a = bind_some (lines_at n (length bytes + 1) bytes) (λ ls. Some (record { marked = false; lines = ls })) t e in
+    let h = lines_sound n (length bytes + 1) bytes a.0 a.1 in
+    subst (IsReadText n bytes) (some_is _ t a.2) (record { spells = record { spelled = h.0; well_formed = h.1.valid }; supported = (refl, h.1.supported); shallow = h.1.shallow })
+
+unmarked : (t : Text) → t.marked ≡ false → t ≡ record { marked = false; lines = t.lines }
+unmarked t e = ap (λ (b : Bool). record { marked = b; lines = t.lines }) e
+
+-- whatever is in the grammar and of the part is read, in the one form that it has
+pub read_again : (n : ℕ) (bytes : List ℕ) (t : Text) → IsReadText n bytes t → read_text n bytes ≡ Some t
+unfolding read_text
+read_again n bytes t h =
+    let same = unmarked t h.supported.0 in
+    let spelled : bytes ≡ lines t.lines = h.spells.spelled ∙ ap text same in
+    let good : AreGoodLines n t.lines = record { valid = h.spells.well_formed; supported = h.supported.1; shallow = h.shallow } in
+    let here : read_text n (lines t.lines) ≡ Some (record { marked = false; lines = t.lines }) = rw (lines_again n (length (lines t.lines) + 1) t.lines good (few_lines n t.lines good)) refl in
+    ap (read_text n) spelled ∙ here ∙ ap Some (sym same)

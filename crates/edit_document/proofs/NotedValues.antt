@@ -1,0 +1,242 @@
+-- What the functions that read keys and values note down.
+use Rattle.std.proofs.Common.{◌≡◌, ℕ, suc, true, false, eqb, List, [], ◌∷◌, ◌++◌, length, drop, Some, None, Result, Ok, Err, refl, sym, ap, subst, ◌∙◌, append_assoc, arith}
+use Rattle.std.specs.Borrow.{Bor}
+use Rattle.std.specs.Global.{Vec}
+use Rattle.edit_document.specs.declared.read.marks.Mark.{Mark}
+use Rattle.edit_document.specs.declared.read.marks.MarkKind.{MarkKind}
+use Rattle.edit_document.specs.declared.read.marks.MarkKind.TheVariants as kinds
+use Rattle.edit_document.specs.declared.read.marks.ReadError.{ReadError}
+use Rattle.edit_document.specs.declared.read.marks.ReadError.TheVariants.{Memory}
+use Rattle.edit_document.specs.Characters.{comma, equals, left_brace, right_brace}
+use Rattle.edit_document.specs.Strings.{Part, part, Key, key}
+use Rattle.edit_document.specs.Grammar.{gap, Value, basic, literal, multi_basic, multi_literal, boolean, integer, float, datetime, array, inline, Members, no_members, last_member, member, value, members}
+use Rattle.edit_document.specs.Supported.{IsSupportedValue}
+use Rattle.edit_document.specs.Depth.{depth}
+use Rattle.edit_document.specs.Reading.{◌>>=◌, Read, first, blanks, past_blanks, blank_gap, past, part_at, key_at, scalar_at, Pair, pair_at, members_at, value_at}
+use Rattle.edit_document.specs.Marks.{mark, part_kind, key_marks, value_marks, members_marks}
+use Rattle.edit_document.specs.Noting.{Notes, value_kind, told_token, pair_marks, inner_marks}
+use Rattle.edit_document.proofs.TokenLaws.{some_is, first_is, past_some, part_sound}
+use Rattle.edit_document.proofs.ValueLaws.{gap_parts, blank_parts, Sound, scalar_sound, members_sound, value_sound}
+use Rattle.edit_document.proofs.Loops.{rest_of}
+
+pub mapped : {A : Type 0} (read : Read A) (after : List ℕ) → Some after ≡ rest_of read → (x : A) × (read ≡ Some (x, after))
+mapped (Some x) after e = let same : after ≡ x.1 = cc in (x.0, rw same refl)
+mapped None after e = absurd cc
+
+pub unmapped : {A : Type 0} (read : Read A) → None ≡ rest_of read → read ≡ None
+unmapped (Some x) e = absurd cc
+unmapped None e = refl
+
+-- ---- tokens
+
+told_back : {A : Type 0} (kind : A → MarkKind) (k : MarkKind) (rest : List ℕ) (read : Read A) → Some (k, rest) ≡ told_token kind read → (v : A) × (read ≡ Some (v, rest)) × (k ≡ kind v)
+told_back kind k rest (Some x) e =
+    let pairs = some_is (k, rest) (kind x.0, x.1) e in
+    let b : rest ≡ x.1 = ap (λ (p : MarkKind × List ℕ). p.1) pairs in
+    (x.0, ap (λ (r : List ℕ). Some (x.0, r)) (sym b), ap (λ (p : MarkKind × List ℕ). p.0) pairs)
+told_back kind k rest None e = absurd cc
+
+untold : {A : Type 0} (kind : A → MarkKind) (read : Read A) → None ≡ told_token kind read → read ≡ None
+untold kind (Some x) e = absurd cc
+untold kind None e = refl
+
+-- the mark that was noted is that of the token's form
+same_mark : (j k : MarkKind) (a b rest : List ℕ) → j ≡ k → a ≡ b → mark j a rest ≡ mark k b rest
+same_mark j k a b rest e f = rw (e, f) refl
+
+key_here : (text rest : List ℕ) (v : Part) → part_at text ≡ Some (v, rest) → key_at text ≡ Some (record { first = v; others = [] }, rest)
+unfolding key_at
+key_here text rest v e = rw e refl
+
+pub key_noted : (old new : List Mark) (k : MarkKind) (text rest : List ℕ) → Some (k, rest) ≡ told_token part_kind (part_at text) → new ≡ old ++ (mark k text rest ∷ [])
+    → (x : Key) × (key_at text ≡ Some (x, rest)) × (new ≡ old ++ key_marks x rest)
+key_noted old new k text rest told noted =
+    let v = told_back part_kind k rest (part_at text) told in
+    let sound = part_sound text (v.0, rest) v.1 in
+    (record { first = v.0; others = [] }, key_here text rest v.0 v.1, noted ∙ ap (λ (m : Mark). old ++ (m ∷ [])) (same_mark k (part_kind v.0) text (part v.0 rest) rest v.2 sound.0))
+
+pub key_refused : (text : List ℕ) → None ≡ told_token part_kind (part_at text) → key_at text ≡ None
+unfolding key_at
+key_refused text told = rw (untold part_kind (part_at text) told) refl
+
+flat_marks : (v : Value) (rest : List ℕ) → IsSupportedValue v → depth v ≡ 0 → value_marks v rest ≡ mark (value_kind v) (value v rest) rest ∷ []
+flat_marks (basic ps) rest s e = refl
+flat_marks (literal text) rest s e = refl
+flat_marks (multi_basic ps) rest s e = absurd s
+flat_marks (multi_literal ps) rest s e = absurd s
+flat_marks (boolean true) rest s e = refl
+flat_marks (boolean false) rest s e = refl
+flat_marks (integer n) rest s e = absurd s
+flat_marks (float f) rest s e = absurd s
+flat_marks (datetime d) rest s e = absurd s
+flat_marks (array g es) rest s e = absurd s
+flat_marks (inline g ms) rest s e = absurd (omega arith)
+
+pub scalar_noted : (old new : List Mark) (k : MarkKind) (text rest : List ℕ) → Some (k, rest) ≡ told_token value_kind (scalar_at text) → new ≡ old ++ (mark k text rest ∷ [])
+    → (v : Value) × (scalar_at text ≡ Some (v, rest)) × (new ≡ old ++ value_marks v rest)
+scalar_noted old new k text rest told noted =
+    let v = told_back value_kind k rest (scalar_at text) told in
+    let sound = scalar_sound 0 text (v.0, rest) v.1 in
+    let flat : depth v.0 ≡ 0 = let h = sound.1.shallow in omega arith in
+    let marks = flat_marks v.0 rest sound.1.supported flat in
+    (v.0, v.1, noted ∙ ap (λ (m : Mark). old ++ (m ∷ [])) (same_mark k (value_kind v.0) text (value v.0 rest) rest v.2 sound.0) ∙ ap (λ (m : List Mark). old ++ m) (sym marks))
+
+pub scalar_refused : (text : List ℕ) → None ≡ told_token value_kind (scalar_at text) → scalar_at text ≡ None
+scalar_refused text told = untold value_kind (scalar_at text) told
+
+-- ---- pairs
+
+pair_tail : (n : ℕ) (read : List ℕ → Read Value) (key_end rest after : List ℕ) (v : Value) → Sound n read → Some rest ≡ past equals (past_blanks key_end) → read (past_blanks rest) ≡ Some (v, after)
+    → key_end ≡ blanks key_end ++ (equals ∷ (blanks rest ++ value v after))
+pair_tail n read key_end rest after v sound eq e =
+    let one = blank_parts rest (value v after) (sound (past_blanks rest) (v, after) e).0 in
+    blank_parts key_end (equals ∷ (blanks rest ++ value v after)) (past_some equals _ rest (omega arith) (sym eq) ∙ ap (λ (r : List ℕ). equals ∷ r) one)
+
+pair_here : (read : List ℕ → Read Value) (text key_end rest after : List ℕ) (k : Key) (v : Value) → key_at text ≡ Some (k, key_end) → Some rest ≡ past equals (past_blanks key_end) → read (past_blanks rest) ≡ Some (v, after)
+    → pair_at read text ≡ Some (record { key = k; before = blanks key_end; behind = blanks rest; value = v }, after)
+unfolding pair_at
+pair_here read text key_end rest after k v key eq e = rw (key, ← eq, e) refl
+
+pair_stops : (read : List ℕ → Read Value) (text key_end rest : List ℕ) (k : Key) → key_at text ≡ Some (k, key_end) → Some rest ≡ past equals (past_blanks key_end) → read (past_blanks rest) ≡ None → pair_at read text ≡ None
+unfolding pair_at
+pair_stops read text key_end rest k key eq e = rw (key, ← eq, e) refl
+
+pub pair_unsigned : (read : List ℕ → Read Value) (text key_end : List ℕ) (k : Key) → key_at text ≡ Some (k, key_end) → None ≡ past equals (past_blanks key_end) → pair_at read text ≡ None
+unfolding pair_at
+pair_unsigned read text key_end k key eq = rw (key, ← eq) refl
+
+pub pair_keyless : (read : List ℕ → Read Value) (text : List ℕ) → key_at text ≡ None → pair_at read text ≡ None
+unfolding pair_at
+pair_keyless read text key = rw key refl
+
+pub pair_noted : (n : ℕ) (read : List ℕ → Read Value) → Sound n read → (old mid new : Vec Mark) (text key_end rest : List ℕ) (k : Key) (r : Result (Bor (List ℕ)) ReadError) → key_at text ≡ Some (k, key_end)
+    → mid.items ≡ old.items ++ key_marks k key_end → Some rest ≡ past equals (past_blanks key_end) → Notes value_marks mid new r (read (past_blanks rest)) → Notes pair_marks old new r (pair_at read text)
+pair_noted n read sound old mid new text key_end rest k (Ok after) key noted eq h =
+    let v = h.0 in
+    let p : Pair = record { key = k; before = blanks key_end; behind = blanks rest; value = v } in
+    let tail = pair_tail n read key_end rest after.now v sound eq h.1 in
+    let same : key_marks k key_end ≡ key_marks k (blanks key_end ++ (equals ∷ (blanks rest ++ value v after.now))) = ap (key_marks k) tail in
+    (p, pair_here read text key_end rest after.now k v key eq h.1, h.2 ∙ ap (λ (m : List Mark). m ++ value_marks v after.now) (noted ∙ ap (λ (m : List Mark). old.items ++ m) same) ∙ append_assoc old.items _ (value_marks v after.now))
+pair_noted n read sound old mid new text key_end rest k (Err e) key noted eq h = λ other. pair_stops read text key_end rest k key eq (h other)
+
+-- the exit of a key that was not read
+pub pair_failed : (read : List ℕ → Read Value) (text : List ℕ) (old new : Vec Mark) (e e2 : ReadError) (r : Result (Bor (List ℕ)) ReadError) → r ≡ Err e2 → e2 ≡ e
+    → ((e ≡ Memory → ⊥) → key_at text ≡ None) → Notes pair_marks old new r (pair_at read text)
+pair_failed read text old new e e2 r was same h =
+    subst (λ (x : Result (Bor (List ℕ)) ReadError). Notes pair_marks old new x (pair_at read text)) (sym was) (λ other. pair_keyless read text (h (λ m. other (same ∙ m))))
+
+-- ---- members
+
+abbrev pub made : Pair → List ℕ → Members → Members
+made p r ms = member p.key p.before p.behind p.value (blank_gap (blanks r)) (blank_gap (blanks (drop 1 (past_blanks r)))) ms
+
+pub members_more : (read : List ℕ → Read Value) (count : ℕ) (text r : List ℕ) (p : Pair) → pair_at read text ≡ Some (p, r) → eqb (first (past_blanks r)) comma ≡ true
+    → members_at read (suc count) text ≡ (members_at read count (past_blanks (drop 1 (past_blanks r))) >>= λ ms. Some (made p r ms.0, ms.1))
+unfolding members_at
+members_more read count text r p e sign = rw (e, sign) refl
+
+made_marks : (n : ℕ) (read : List ℕ → Read Value) → Sound n read → (count : ℕ) (r : List ℕ) (p : Pair) (ms : Members) (after : List ℕ) → eqb (first (past_blanks r)) comma ≡ true
+    → members_at read count (past_blanks (drop 1 (past_blanks r))) ≡ Some (ms, after) → inner_marks (made p r ms) after ≡ pair_marks p r ++ inner_marks ms after
+made_marks n read sound count r p ms after sign e =
+    let next = drop 1 (past_blanks r) in
+    let more = members ms (right_brace ∷ after) in
+    let others = members_sound n read sound count (past_blanks next) (ms, after) e in
+    let tail = comma ∷ gap (blank_gap (blanks next)) more in
+    let two : next ≡ gap (blank_gap (blanks next)) more = gap_parts next more others.0 in
+    let whole : r ≡ gap (blank_gap (blanks r)) tail = gap_parts r tail (first_is comma (past_blanks r) (omega arith) sign ∙ ap (λ (t : List ℕ). comma ∷ t) two) in
+    let close = mark kinds.CloseTable (right_brace ∷ after) after ∷ [] in
+    let one : inner_marks (made p r ms) after ≡ (pair_marks p (gap (blank_gap (blanks r)) tail) ++ members_marks ms (right_brace ∷ after)) ++ close = refl in
+    one ∙ append_assoc (pair_marks p (gap (blank_gap (blanks r)) tail)) (members_marks ms (right_brace ∷ after)) close ∙ ap (λ (t : List ℕ). pair_marks p t ++ inner_marks ms after) (sym whole)
+
+-- whatever is read from here on, behind these marks, completes what is read from the start behind the old ones
+pub record Completes (read : List ℕ → Read Value) (total : Read Members) (count : ℕ) (text : List ℕ) (old out : List Mark) : Type 0 where
+  pub some : (x : Members × List ℕ) → members_at read count text ≡ Some x → (ms : Members) × (total ≡ Some (ms, x.1)) × (out ++ inner_marks x.0 x.1 ≡ old ++ inner_marks ms x.1)
+  pub none : members_at read count text ≡ None → total ≡ None
+
+pub members_turn : (n : ℕ) (read : List ℕ → Read Value) → Sound n read → (total : Read Members) (count : ℕ) (text r : List ℕ) (p : Pair) (old out new : List Mark) → pair_at read text ≡ Some (p, r) → eqb (first (past_blanks r)) comma ≡ true
+    → new ≡ out ++ pair_marks p r → Completes read total (suc count) text old out → Completes read total count (past_blanks (drop 1 (past_blanks r))) old new
+members_turn n read sound total count text r p old out new e sign noted before =
+    let step = members_more read count text r p e sign in
+    record {
+      some = λ x h.
+          let here : members_at read (suc count) text ≡ Some (made p r x.0, x.1) = step ∙ rw h refl in
+          let b = before.some (made p r x.0, x.1) here in
+          (b.0, b.1, ap (λ (m : List Mark). m ++ inner_marks x.0 x.1) noted ∙ append_assoc out (pair_marks p r) (inner_marks x.0 x.1) ∙ ap (λ (m : List Mark). out ++ m) (sym (made_marks n read sound count r p x.0 x.1 sign h)) ∙ b.2);
+      none = λ h. before.none (step ∙ rw h refl);
+    }
+
+pub members_over : (read : List ℕ → Read Value) (count : ℕ) (text r : List ℕ) (p : Pair) → pair_at read text ≡ Some (p, r) → eqb (first (past_blanks r)) comma ≡ false
+    → members_at read (suc count) text ≡ (past right_brace (past_blanks r) >>= λ rest. Some (last_member p.key p.before p.behind p.value (blank_gap (blanks r)), rest))
+unfolding members_at
+members_over read count text r p e sign = rw (e, sign) refl
+
+pub members_done : (read : List ℕ → Read Value) (total : Read Members) (count : ℕ) (text r after : List ℕ) (p : Pair) (old out mid new : List Mark) → pair_at read text ≡ Some (p, r) → eqb (first (past_blanks r)) comma ≡ false
+    → Some after ≡ past right_brace (past_blanks r) → mid ≡ out ++ pair_marks p r → new ≡ mid ++ (mark kinds.CloseTable (past_blanks r) after ∷ []) → Completes read total (suc count) text old out
+    → (ms : Members) × (total ≡ Some (ms, after)) × (new ≡ old ++ inner_marks ms after)
+members_done read total count text r after p old out mid new e sign closed noted ended before =
+    let c = blank_gap (blanks r) in
+    let m = last_member p.key p.before p.behind p.value c in
+    let here : members_at read (suc count) text ≡ Some (m, after) = members_over read count text r p e sign ∙ rw (← closed) refl in
+    let b = before.some (m, after) here in
+    let brace : past_blanks r ≡ right_brace ∷ after = past_some right_brace (past_blanks r) after (omega arith) (sym closed) in
+    let whole : r ≡ gap c (right_brace ∷ after) = gap_parts r (right_brace ∷ after) brace in
+    let close = mark kinds.CloseTable (right_brace ∷ after) after ∷ [] in
+    let one : inner_marks m after ≡ pair_marks p (gap c (right_brace ∷ after)) ++ close = refl in
+    let all : inner_marks m after ≡ pair_marks p r ++ (mark kinds.CloseTable (past_blanks r) after ∷ []) =
+    one ∙ ap (λ (t : List ℕ). pair_marks p t ++ close) (sym whole) ∙ ap (λ (t : List ℕ). pair_marks p r ++ (mark kinds.CloseTable t after ∷ [])) (sym brace) in
+    (b.0, b.1, ended ∙ ap (λ (t : List Mark). t ++ (mark kinds.CloseTable (past_blanks r) after ∷ [])) noted ∙ append_assoc out (pair_marks p r) (mark kinds.CloseTable (past_blanks r) after ∷ []) ∙ ap (λ (t : List Mark). out ++ t) (sym all) ∙ b.2)
+
+pub members_refused : (read : List ℕ → Read Value) (total : Read Members) (count : ℕ) (text r : List ℕ) (p : Pair) (old out : List Mark) → pair_at read text ≡ Some (p, r) → eqb (first (past_blanks r)) comma ≡ false
+    → None ≡ past right_brace (past_blanks r) → Completes read total (suc count) text old out → total ≡ None
+members_refused read total count text r p old out e sign closed before = before.none (members_over read count text r p e sign ∙ rw (← closed) refl)
+
+pub members_fail : (read : List ℕ → Read Value) (total : Read Members) (count : ℕ) (text : List ℕ) (old out : List Mark) → pair_at read text ≡ None → Completes read total (suc count) text old out → total ≡ None
+unfolding members_at
+members_fail read total count text old out e before = before.none (rw e refl)
+
+pub members_none : (read : List ℕ → Read Value) (text : List ℕ) → members_at read 0 text ≡ None
+unfolding members_at
+members_none read text = refl
+
+-- the exit of a pair that was not read
+pub members_failed : (read : List ℕ → Read Value) (total : Read Members) (count : ℕ) (text : List ℕ) (old new : Vec Mark) (out : List Mark) (e e2 : ReadError) (r : Result (Bor (List ℕ)) ReadError) → r ≡ Err e2 → e2 ≡ e
+    → ((e ≡ Memory → ⊥) → pair_at read text ≡ None) → Completes read total (suc count) text old.items out → Notes inner_marks old new r total
+members_failed read total count text old new out e e2 r was same h before =
+    subst (λ (x : Result (Bor (List ℕ)) ReadError). Notes inner_marks old new x total) (sym was) (λ other. members_fail read total count text old.items out (h (λ m. other (same ∙ m))) before)
+
+-- ---- inline tables
+
+pub inline_noted : (n : ℕ) (old mid new : Vec Mark) (text : List ℕ) (r : Result (Bor (List ℕ)) ReadError) → eqb (first text) left_brace ≡ true → eqb (first (past_blanks (drop 1 text))) right_brace ≡ false
+    → mid.items ≡ old.items ++ (mark kinds.OpenTable text (drop 1 text) ∷ []) → Notes inner_marks mid new r (members_at (value_at n) (length text) (past_blanks (drop 1 text))) → Notes value_marks old new r (value_at (suc n) text)
+unfolding value_at
+inline_noted n old mid new text (Ok after) opened other noted h =
+    let inner = drop 1 text in
+    let g = blank_gap (blanks inner) in
+    let v = inline g h.0 in
+    let more = members h.0 (right_brace ∷ after.now) in
+    let here : value_at (suc n) text ≡ Some (v, after.now) = rw (opened, other, h.1) refl in
+    let sound = value_sound (suc n) text (v, after.now) here in
+    let ms = members_sound n (value_at n) (value_sound n) (length text) (past_blanks inner) (h.0, after.now) h.1 in
+    let tail : inner ≡ gap g more = gap_parts inner more ms.0 in
+    let same : mark kinds.OpenTable text inner ≡ mark kinds.OpenTable (value v after.now) (gap g more) =
+    ap (λ (t : List ℕ). mark kinds.OpenTable t inner) sound.0 ∙ ap (λ (t : List ℕ). mark kinds.OpenTable (value v after.now) t) tail in
+    (v, here, h.2 ∙ ap (λ (m : List Mark). m ++ inner_marks h.0 after.now) (noted ∙ ap (λ (m : Mark). old.items ++ (m ∷ [])) same) ∙ append_assoc old.items _ (inner_marks h.0 after.now))
+inline_noted n old mid new text (Err e) opened other noted h = λ refused. rw (opened, other, h refused) refl
+
+pub empty_noted : (n : ℕ) (old mid new : List Mark) (text : List ℕ) → eqb (first text) left_brace ≡ true → eqb (first (past_blanks (drop 1 text))) right_brace ≡ true
+    → mid ≡ old ++ (mark kinds.OpenTable text (drop 1 text) ∷ []) → new ≡ mid ++ (mark kinds.CloseTable (past_blanks (drop 1 text)) (drop 1 (past_blanks (drop 1 text))) ∷ [])
+    → (v : Value) × (value_at (suc n) text ≡ Some (v, drop 1 (past_blanks (drop 1 text)))) × (new ≡ old ++ value_marks v (drop 1 (past_blanks (drop 1 text))))
+unfolding value_at
+empty_noted n old mid new text opened closed noted ended =
+    let inner = drop 1 text in
+    let after = drop 1 (past_blanks inner) in
+    let g = blank_gap (blanks inner) in
+    let v = inline g no_members in
+    let here : value_at (suc n) text ≡ Some (v, after) = rw (opened, closed) refl in
+    let sound = value_sound (suc n) text (v, after) here in
+    let brace : past_blanks inner ≡ right_brace ∷ after = first_is right_brace (past_blanks inner) (omega arith) closed in
+    let tail : inner ≡ gap g (right_brace ∷ after) = gap_parts inner (right_brace ∷ after) brace in
+    let same : mark kinds.OpenTable text inner ≡ mark kinds.OpenTable (value v after) (gap g (right_brace ∷ after)) =
+    ap (λ (t : List ℕ). mark kinds.OpenTable t inner) sound.0 ∙ ap (λ (t : List ℕ). mark kinds.OpenTable (value v after) t) tail in
+    let last : mark kinds.CloseTable (past_blanks inner) after ≡ mark kinds.CloseTable (right_brace ∷ after) after = ap (λ (t : List ℕ). mark kinds.CloseTable t after) brace in
+    (v, here, ended ∙ ap (λ (m : List Mark). m ++ (mark kinds.CloseTable (past_blanks inner) after ∷ [])) noted ∙ append_assoc old (mark kinds.OpenTable text inner ∷ []) (mark kinds.CloseTable (past_blanks inner) after ∷ []) ∙ rw (same, last) refl)

@@ -1,0 +1,111 @@
+-- The tree after one value was replaced, and after several strings were.
+use Rattle.std.proofs.Common.{◌≡◌, ℕ, Bool, true, false, not, ◌&&◌, ◌||◌, ◌==◌, if◌then◌else◌, cond, List, [], ◌∷◌, ◌++◌, map, Option, None, Some, option_map, refl, sym, ap, ap₂, ◌∙◌, subst, ◌⊎◌, inl, inr, ⊎_elim, true≢false}
+use Rattle.std.proofs.lemmas.Bool.{and_parts}
+use Rattle.std.specs.List.{AllByRecursion, list_any}
+use Rattle.edit_document.specs.Grammar.{Value, basic, literal, multi_basic, multi_literal, boolean, integer, float, datetime, array, inline, Text, text}
+use Rattle.edit_document.specs.Assertions.{Place, Step, same_place, Kind, dotted, leaf, super, header_kind, array_kind, element_kind, Assertion, assertions, NoClash, IsDocument}
+use Rattle.edit_document.specs.Tree.{View, string, view_in, view_at, view_of_kind, view_of_value, kind_at, is_value_at}
+use Rattle.edit_document.specs.Replaces.{Edits, new_text, replaced, is_below, is_below_any, written, emptied, is_string, AreStrings}
+use Rattle.edit_document.proofs.SamePlaces.{by_test, place_true, place_same, not_below_itself}
+use Rattle.edit_document.proofs.Thinned.{is_leaf}
+use Rattle.edit_document.proofs.NothingBelow.{HasLeaf, opens, leaf_there}
+use Rattle.edit_document.proofs.ReplacedTree.{HasValue, AreApart, edit_above, nothing_below, replaced_view}
+
+-- ---- one value
+
+value_has : (p : Place) (made : List Assertion) → list_any (λ a. same_place a.place p && is_leaf a.kind) made ≡ true → (v : Value) × HasLeaf p v made
+value_has p [] e = absurd (true≢false (sym e))
+value_has p (x ∷ made) e =
+    by_test (same_place x.place p && is_leaf x.kind)
+    (λ h. let b = and_parts (same_place x.place p) (is_leaf x.kind) h in let r = of_kind x.kind b.1 in (r.0, inl (place_true x.place p b.0, r.1)))
+    (λ h. let r = value_has p made (sym (ap (λ c. c || list_any (λ a. same_place a.place p && is_leaf a.kind) made) h) ∙ e) in (r.0, inr r.1))
+  where
+    of_kind : (k : Kind) → is_leaf k ≡ true → (v : Value) × (k ≡ leaf v)
+    of_kind (leaf v) e = (v, refl)
+    of_kind (dotted w) e = absurd (true≢false (sym e))
+    of_kind super e = absurd (true≢false (sym e))
+    of_kind header_kind e = absurd (true≢false (sym e))
+    of_kind array_kind e = absurd (true≢false (sym e))
+    of_kind element_kind e = absurd (true≢false (sym e))
+
+-- the value that is told at a place
+pub told_value : (form : Text) (p : Place) → NoClash (assertions form) → is_value_at form p ≡ true → HasValue form p
+told_value form p clash e = let r = value_has p (assertions form) e in (r.0, leaf_there p r.0 (assertions form) clash r.1)
+
+pub one_apart : (form : Text) (p : Place) (said : List ℕ) → HasValue form p → AreApart ((p, said) ∷ []) form
+one_apart form p said has q told e =
+    by_test (same_place p q)
+    (λ h. let same = place_true p q h in
+    (subst (λ r. HasValue form r) same has, ap (λ r. is_below r q || false) same ∙ ap (λ c. c || false) (not_below_itself q)))
+    (λ h. let no : None ≡ Some told = sym (ap (λ c. cond c (Some said) None) h) ∙ e in absurd (never told no))
+  where
+    never : (l : List ℕ) → None ≡ Some l → ⊥
+    never l h = cc
+
+pub one_view : (old : List ℕ) (form : Text) (p : Place) (said : List ℕ) → IsDocument old form → is_value_at form p ≡ true
+    → (q : Place) → view_at (replaced ((p, said) ∷ []) form) q ≡ written ((p, said) ∷ []) (emptied ((p, said) ∷ []) (view_at form)) q
+one_view old form p said document e q = replaced_view ((p, said) ∷ []) old form document (one_apart form p said (told_value form p document.no_clash e)) q
+
+-- ---- strings
+
+-- a plain value that shows a string
+abbrev Plain : Kind → Type 0
+Plain k = (v : Value) × (k ≡ leaf v) × (opens (leaf v) ≡ false)
+
+string_kind : (made : List Assertion) (p : Place) (k : Kind) → is_string (Some (view_of_kind made p k)) ≡ true → Plain k
+string_kind made p (leaf (basic ps)) e = (basic ps, refl, refl)
+string_kind made p (leaf (literal t)) e = (literal t, refl, refl)
+string_kind made p (leaf (multi_basic ps)) e = (multi_basic ps, refl, refl)
+string_kind made p (leaf (multi_literal ps)) e = (multi_literal ps, refl, refl)
+string_kind made p (leaf (boolean b)) e = absurd (true≢false (sym e))
+string_kind made p (leaf (integer n)) e = absurd (true≢false (sym e))
+string_kind made p (leaf (float f)) e = absurd (true≢false (sym e))
+string_kind made p (leaf (datetime d)) e = absurd (true≢false (sym e))
+string_kind made p (leaf (array g es)) e = absurd (true≢false (sym e))
+string_kind made p (leaf (inline g ms)) e = absurd (true≢false (sym e))
+string_kind made p (dotted true) e = absurd (true≢false (sym e))
+string_kind made p (dotted false) e = absurd (true≢false (sym e))
+string_kind made p super e = absurd (true≢false (sym e))
+string_kind made p header_kind e = absurd (true≢false (sym e))
+string_kind made p array_kind e = absurd (true≢false (sym e))
+string_kind made p element_kind e = absurd (true≢false (sym e))
+
+pub string_value : (form : Text) (p : Place) → is_string (view_at form p) ≡ true → (v : Value) × (kind_at (assertions form) p ≡ Some (leaf v)) × (opens (leaf v) ≡ false)
+string_value form [] e = absurd (true≢false (sym e))
+string_value form (s ∷ ss) e = go (kind_at (assertions form) (s ∷ ss)) refl
+  where
+    go : (o : Option Kind) → kind_at (assertions form) (s ∷ ss) ≡ o → (v : Value) × (kind_at (assertions form) (s ∷ ss) ≡ Some (leaf v)) × (opens (leaf v) ≡ false)
+    go None h = absurd (true≢false (sym e ∙ ap (λ o. is_string (option_map (view_of_kind (assertions form) (s ∷ ss)) o)) h))
+    go (Some k) h =
+        let r = string_kind (assertions form) (s ∷ ss) k (sym (ap (λ o. is_string (option_map (view_of_kind (assertions form) (s ∷ ss)) o)) h) ∙ e) in
+        (r.0, h ∙ ap Some r.1, r.2)
+
+edited_string : (edits : Edits) (tree : Place → Option View) (p : Place) (said : List ℕ) → AreStrings edits tree → new_text edits p ≡ Some said → is_string (tree p) ≡ true
+edited_string [] tree p said all e = absurd cc
+edited_string (x ∷ edits) tree p said all e =
+    by_test (same_place x.0 p)
+    (λ h. ap (λ r. is_string (tree r)) (sym (place_true x.0 p h)) ∙ all.0)
+    (λ h. edited_string edits tree p said all.1 (sym (ap (λ c. cond c (Some x.1) (new_text edits p)) h) ∙ e))
+
+-- nothing shows below a string
+below_none : (edits : Edits) (old : List ℕ) (form : Text) (q : Place) → IsDocument old form → AreStrings edits (view_at form) → is_below_any edits q ≡ true → view_at form q ≡ None
+below_none edits old form q document all low =
+    let r = edit_above edits q low in
+    let v = string_value form r.0 (edited_string edits (view_at form) r.0 r.1 all r.2) in
+    nothing_below form r.0 q v.0 v.2 document.no_clash v.1 r.3
+
+pub strings_apart : (edits : Edits) (old : List ℕ) (form : Text) → IsDocument old form → AreStrings edits (view_at form) → AreApart edits form
+strings_apart edits old form document all p said e =
+    let is = edited_string edits (view_at form) p said all e in
+    let v = string_value form p is in
+    ((v.0, v.1), by_test (is_below_any edits p) (λ low. absurd (true≢false (sym is ∙ ap is_string (below_none edits old form p document all low)))) (λ high. high))
+
+pub written_same : (edits : Edits) (t u : Place → Option View) (q : Place) → t q ≡ u q → written edits t q ≡ written edits u q
+written_same [] t u q e = e
+written_same (x ∷ edits) t u q e = ap (λ v. cond (same_place x.0 q) (Some (string x.1)) v) (written_same edits t u q e)
+
+pub strings_view : (edits : Edits) (old : List ℕ) (form : Text) → IsDocument old form → AreStrings edits (view_at form) → (q : Place) → view_at (replaced edits form) q ≡ written edits (view_at form) q
+strings_view edits old form document all q =
+    replaced_view edits old form document (strings_apart edits old form document all) q
+    ∙ written_same edits (emptied edits (view_at form)) (view_at form) q
+    (by_test (is_below_any edits q) (λ low. ap (λ c. cond c None (view_at form q)) low ∙ sym (below_none edits old form q document all low)) (λ high. ap (λ c. cond c None (view_at form q)) high))

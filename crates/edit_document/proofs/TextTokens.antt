@@ -1,0 +1,113 @@
+-- The marks of a text are marks of its tokens.
+use Rattle.std.proofs.Common.{◌≡◌, ℕ, zero, suc, ◌<◌, Bool, true, false, List, [], ◌∷◌, ◌++◌, length, Option, Some, None, refl, sym, ap, subst, ◌∙◌}
+use Rattle.std.specs.Prelude.{IsUtf8}
+use Rattle.std.specs.List.{AllByRecursion}
+use Rattle.edit_document.specs.declared.read.marks.Mark.{Mark}
+use Rattle.edit_document.specs.declared.read.marks.MarkKind.TheVariants as kinds
+use Rattle.edit_document.specs.Characters.{quote, apostrophe, comma, equals, left_bracket, right_bracket, right_brace, is_literal_ch, All}
+use Rattle.edit_document.specs.Strings.{◌·◌, line_end, Piece, pieces, says, IsBasicPiece, Part, bare, basic_part, literal_part, part, IsPart, name, basic_text, literal_text, Dotted, dotted, Key, IsKey}
+use Rattle.edit_document.specs.Strings as strings
+use Rattle.edit_document.specs.Grammar.{Between, gap, Value, basic, literal, multi_basic, multi_literal, boolean, integer, float, datetime, array, inline, value, IsValue, Members, no_members, last_member, member, members, AreMembers, Statement, pair, header, element_header, statement, IsStatement, comment, empty_line, full_line, Lines, one_line, more_lines, lines, AreLines, Text}
+use Rattle.edit_document.specs.Supported.{IsOnePart, IsSupportedValue, AreSupportedMembers, IsSupportedStatement, AreSupportedLines}
+use Rattle.edit_document.specs.Marks.{mark, part_mark, dotted_marks, key_marks, value_marks, members_marks, statement_marks, line_marks, lines_marks, text_marks}
+use Rattle.edit_document.specs.Walk.{said}
+use Rattle.edit_document.specs.WalkState.{SaysAt, IsToken}
+use Rattle.edit_document.proofs.Fronts.{Relation, IsKept, pieces_before}
+use Rattle.edit_document.proofs.Ends.{Ends, ends_past, ends_one, ends_pair, ends_gap, ends_value, ends_statement, ends_line, ends_line_end}
+use Rattle.edit_document.proofs.WalkedTokens.{said_basic, said_literal, said_part}
+
+abbrev AreTokens : List ℕ → List Mark → Type 0
+AreTokens bytes marks = AllByRecursion (IsToken bytes) marks
+
+tokens_append : (bytes : List ℕ) (xs ys : List Mark) → AreTokens bytes xs → AreTokens bytes ys → AreTokens bytes (xs ++ ys)
+tokens_append bytes [] ys h g = g
+tokens_append bytes (x ∷ xs) ys h g = (h.0, tokens_append bytes xs ys h.1 g)
+
+abbrev Own : List ℕ → Relation
+Own rest = λ whole own. whole ≡ own ++ rest
+
+own_one : (rest : List ℕ) → IsKept (Own rest)
+own_one rest c old new h = ap (λ (t : List ℕ). c ∷ t) h
+
+pieces_parts : (ps : List Piece) (rest : List ℕ) → pieces quote ps rest ≡ pieces quote ps [] ++ rest
+pieces_parts ps rest = pieces_before (Own rest) (own_one rest) quote ps rest [] refl
+
+basic_parts : (ps : List Piece) (rest : List ℕ) → basic_text ps rest ≡ quote ∷ (pieces quote ps [] ++ (quote ∷ rest))
+basic_parts ps rest = ap (λ (t : List ℕ). quote ∷ t) (pieces_parts ps (quote ∷ rest))
+
+-- ---- one token
+
+part_token : (bytes : List ℕ) (p : Part) (rest : List ℕ) → IsPart p → IsUtf8 bytes → Ends bytes (part p rest) → IsToken bytes (part_mark p rest)
+part_token bytes (bare text) rest h u ends e = (text, said_part bytes (bare text) rest h u ends, (ends.0, text, rest, ends.1, refl, refl, (h.0, h.1, refl)))
+part_token bytes (basic_part ps) rest h u ends e =
+    (says quote ps, said_part bytes (basic_part ps) rest h u ends, (ends.0, pieces quote ps [], rest, ends.1 ∙ ap (λ (t : List ℕ). ends.0 ++ t) (basic_parts ps rest), ap length (basic_parts ps rest), refl, (ps, h, refl, refl)))
+part_token bytes (literal_part text) rest h u ends e = (text, said_part bytes (literal_part text) rest h u ends, (ends.0, text, rest, ends.1, refl, refl, (h, refl)))
+
+basic_token : (bytes : List ℕ) (ps : List Piece) (rest : List ℕ) → AllByRecursion IsBasicPiece ps → IsUtf8 bytes → Ends bytes (basic_text ps rest) → IsToken bytes (mark kinds.BasicString (basic_text ps rest) rest)
+unfolding said
+basic_token bytes ps rest h u ends e =
+    (says quote ps, said_basic bytes ps rest 0 h u ends, (ends.0, pieces quote ps [], rest, ends.1 ∙ ap (λ (t : List ℕ). ends.0 ++ t) (basic_parts ps rest), ap length (basic_parts ps rest), refl, (ps, h, refl, refl)))
+
+literal_token : (bytes text rest : List ℕ) → All is_literal_ch text → IsUtf8 bytes → Ends bytes (literal_text text rest) → IsToken bytes (mark kinds.LiteralString (literal_text text rest) rest)
+unfolding said
+literal_token bytes text rest h u ends e = (text, said_literal bytes text rest 0 h u ends, (ends.0, text, rest, ends.1, refl, refl, (h, refl)))
+
+key_tokens : (bytes : List ℕ) (k : Key) (rest : List ℕ) → IsKey k → IsOnePart k → IsUtf8 bytes → Ends bytes (strings.key k rest) → AreTokens bytes (key_marks k rest)
+key_tokens bytes k rest h one u ends =
+    let ends2 : Ends bytes (part k.first rest) = subst (λ (ds : List Dotted). Ends bytes (part k.first (dotted ds rest))) one ends in
+    subst (λ (ds : List Dotted). AreTokens bytes (part_mark k.first (dotted ds rest) ∷ dotted_marks ds rest)) (sym one) (part_token bytes k.first rest h.0 u ends2, tt)
+
+-- ---- values and members
+
+mutual
+  value_tokens : (bytes : List ℕ) (v : Value) (rest : List ℕ) → IsValue v → IsSupportedValue v → IsUtf8 bytes → Ends bytes (value v rest) → AreTokens bytes (value_marks v rest)
+  value_tokens bytes (basic ps) rest h s u ends = (basic_token bytes ps rest h u ends, tt)
+  value_tokens bytes (literal text) rest h s u ends = (literal_token bytes text rest h u ends, tt)
+  value_tokens bytes (multi_basic ps) rest h s u ends = absurd s
+  value_tokens bytes (multi_literal ps) rest h s u ends = absurd s
+  value_tokens bytes (boolean true) rest h s u ends = ((λ e. absurd cc), tt)
+  value_tokens bytes (boolean false) rest h s u ends = ((λ e. absurd cc), tt)
+  value_tokens bytes (integer n) rest h s u ends = absurd s
+  value_tokens bytes (float f) rest h s u ends = absurd s
+  value_tokens bytes (datetime d) rest h s u ends = absurd s
+  value_tokens bytes (array g es) rest h s u ends = absurd s
+  value_tokens bytes (inline g ms) rest h s u ends =
+      let inside : Ends bytes (members ms (right_brace ∷ rest)) = ends_gap bytes g (members ms (right_brace ∷ rest)) (ends_one bytes 123 (gap g (members ms (right_brace ∷ rest))) ends) in
+      ((λ e. absurd cc), tokens_append bytes (members_marks ms (right_brace ∷ rest)) (mark kinds.CloseTable (right_brace ∷ rest) rest ∷ []) (members_tokens bytes ms (right_brace ∷ rest) h.1 s u inside) ((λ e. absurd cc), tt))
+
+  members_tokens : (bytes : List ℕ) (ms : Members) (rest : List ℕ) → AreMembers ms → AreSupportedMembers ms → IsUtf8 bytes → Ends bytes (members ms rest) → AreTokens bytes (members_marks ms rest)
+  members_tokens bytes no_members rest h s u ends = tt
+  members_tokens bytes (last_member k a b v c) rest h s u ends =
+      let after = gap c rest in
+      tokens_append bytes (key_marks k (a ++ (equals ∷ (b ++ value v after)))) (value_marks v after) (key_tokens bytes k (a ++ (equals ∷ (b ++ value v after))) h.0 s.0 u ends)
+      (value_tokens bytes v after h.3 s.1 u (ends_pair bytes k a b (value v after) ends))
+  members_tokens bytes (member k a b v c d ms) rest h s u ends =
+      let after = gap c (comma ∷ gap d (members ms rest)) in
+      let value_ends : Ends bytes (value v after) = ends_pair bytes k a b (value v after) ends in
+      let more_ends : Ends bytes (members ms rest) = ends_gap bytes d (members ms rest) (ends_one bytes comma (gap d (members ms rest)) (ends_gap bytes c (comma ∷ gap d (members ms rest)) (ends_value bytes v after value_ends))) in
+      tokens_append bytes (key_marks k (a ++ (equals ∷ (b ++ value v after))) ++ value_marks v after) (members_marks ms rest)
+      (tokens_append bytes (key_marks k (a ++ (equals ∷ (b ++ value v after)))) (value_marks v after) (key_tokens bytes k (a ++ (equals ∷ (b ++ value v after))) h.0 s.0 u ends) (value_tokens bytes v after h.3 s.1 u value_ends))
+      (members_tokens bytes ms rest h.6 s.2 u more_ends)
+
+-- ---- statements and lines
+
+statement_tokens : (bytes : List ℕ) (s : Statement) (rest : List ℕ) → IsStatement s → IsSupportedStatement s → IsUtf8 bytes → Ends bytes (statement s rest) → AreTokens bytes (statement_marks s rest)
+statement_tokens bytes (pair k a b v) rest h s u ends =
+    tokens_append bytes (key_marks k (a ++ (equals ∷ (b ++ value v rest)))) (value_marks v rest) (key_tokens bytes k (a ++ (equals ∷ (b ++ value v rest))) h.0 s.0 u ends)
+    (value_tokens bytes v rest h.3 s.1 u (ends_pair bytes k a b (value v rest) ends))
+statement_tokens bytes (header a k b) rest h s u ends =
+    let key_ends : Ends bytes (strings.key k (b ++ (right_bracket ∷ rest))) = ends_past bytes a (strings.key k (b ++ (right_bracket ∷ rest))) (ends_one bytes left_bracket (a ++ strings.key k (b ++ (right_bracket ∷ rest))) ends) in
+    tokens_append bytes (key_marks k (b ++ (right_bracket ∷ rest))) (mark kinds.Header (statement (header a k b) rest) rest ∷ []) (key_tokens bytes k (b ++ (right_bracket ∷ rest)) h.1 s u key_ends) ((λ e. absurd cc), tt)
+statement_tokens bytes (element_header a k b) rest h s u ends = absurd s
+
+lines_tokens : (bytes : List ℕ) (ls : Lines) → AreLines ls → AreSupportedLines ls → IsUtf8 bytes → Ends bytes (lines ls) → AreTokens bytes (lines_marks ls)
+lines_tokens bytes (one_line (empty_line a c)) h s u ends = tt
+lines_tokens bytes (one_line (full_line a st b c)) h s u ends = statement_tokens bytes st (b ++ comment c []) h.1 s u (ends_past bytes a (statement st (b ++ comment c [])) ends)
+lines_tokens bytes (more_lines (empty_line a c) e ls) h s u ends = lines_tokens bytes ls h.1 s.1 u (ends_line_end bytes e (lines ls) (ends_line bytes (empty_line a c) (line_end e (lines ls)) ends))
+lines_tokens bytes (more_lines (full_line a st b c) e ls) h s u ends =
+    let after = b ++ comment c (line_end e (lines ls)) in
+    tokens_append bytes (statement_marks st after) (lines_marks ls) (statement_tokens bytes st after h.0.1 s.0 u (ends_past bytes a (statement st after) ends))
+    (lines_tokens bytes ls h.1 s.1 u (ends_line_end bytes e (lines ls) (ends_line bytes (full_line a st b c) (line_end e (lines ls)) ends)))
+
+pub text_tokens : (bytes : List ℕ) (form : Text) → AreLines form.lines → AreSupportedLines form.lines → IsUtf8 bytes → Ends bytes (lines form.lines) → AllByRecursion (IsToken bytes) (text_marks form)
+text_tokens bytes form h s u ends = lines_tokens bytes form.lines h s u ends

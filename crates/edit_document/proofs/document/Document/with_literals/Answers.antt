@@ -1,0 +1,58 @@
+use Rattle.std.proofs.Common.{◌≡◌, ℕ, List, ap, sym, ◌∙◌, subst, true, map}
+use Rattle.edit_document.specs.declared.place.Step.{Step as WrittenStep}
+use Rattle.edit_document.specs.Items.{place_seen}
+use Rattle.std.specs.Prelude.{string_bytes, IfOk}
+use Rattle.std.proofs.lemmas.Result.{IfOk-weaker}
+use Rattle.edit_document.specs.Assertions.{Place, IsDocument}
+use Rattle.edit_document.specs.Ranges.{edits_seen}
+use Rattle.edit_document.specs.Splices.{range_of, Locates}
+use Rattle.edit_document.specs.Tree.{view_at}
+use Rattle.edit_document.specs.Grammar.{Text, text as text_of}
+use Rattle.edit_document.specs.Supported.{IsManifest}
+use Rattle.edit_document.specs.Replaces.{Replaces, replaced, written, is_string}
+use Rattle.edit_document.proofs.ReplacedDocuments.{tree_again}
+use Rattle.edit_document.proofs.Promised.{string_at, range_seen, ranged_more, all_ranges, strings_along, replaces_strings}
+use Rattle.edit_document.specs.Shown.{tree_of}
+use Rattle.edit_document.proofs.document.Document.with_literals.Goals as goal
+
+pub rewrite_of-requires : goal.rewrite_of-requires
+rewrite_of-requires c form manifest =
+    subst (λ (l : List WrittenStep). is_string (view_at form (place_seen l)) ≡ true) (sym c.deref.ensures.value)
+    (string_at (view_at form) c.args.edits.now c.loop-edit.edit-index c.edit-item.result c.loop-edit-test.true c.edit-item.is (strings_along (edits_seen c.args.edits.now) (tree_of c.args.self.now) (view_at form) (c.has_form.ensures.shows form manifest) c.requires.strings))
+
+pub loop-edit-preserved : goal.loop-edit-preserved
+loop-edit-preserved c form manifest =
+    let e = c.edit-item.result in
+    let range = range_seen form e c.deref.result.now c.as_str.result.now (range_of c.rewrite_of.result) c.deref.ensures.value c.as_str.ensures.value (c.rewrite_of.ensures form manifest) in
+    ranged_more form c.args.edits.now c.loop-edit.edit-index e c.loop-edit.rewrites.items c.push.new.self.items c.rewrite_of.result c.loop-edit-test.true c.edit-item.is c.in_ok-push.ensures.items
+    (c.loop-edit.invariant form manifest) range
+
+-- the clauses of a result that is the replaced text
+replaced_text : (c : goal.After-drop-rewrites-2) → (P : List ℕ → Type 0)
+    → ((new : List ℕ) → new ≡ text_of (replaced (edits_seen c.args.edits.now) c.has_form.ensures.some.0) → P new) → IfOk c.splice_unordered.result (λ s. P (string_bytes s))
+replaced_text c P from =
+    let f = c.has_form.ensures.some in
+    let edits = edits_seen c.args.edits.now in
+    let located : Locates c.as_str-2.result.now f.0 edits (map range_of c.deref_mut.result.now) = record {
+      document = subst (λ (b : List ℕ). IsDocument b f.0) (sym c.as_str-2.ensures) f.1.document;
+      strings = strings_along edits (tree_of c.args.self.now) (view_at f.0) (c.has_form.ensures.shows f.0 f.1) c.requires.strings;
+      distinct = c.requires.distinct;
+      found = all_ranges f.0 c.args.edits.now c.loop-edit.edit-index c.loop-edit.rewrites.items c.deref_mut.result.now c.loop-edit-test.false c.deref_mut.ensures.value (c.loop-edit.invariant f.0 f.1);
+    } in
+    IfOk-weaker c.splice_unordered.result _ _ (λ s e. from (string_bytes s) e) (c.splice_unordered.ensures.text f.0 edits located)
+
+pub returns-clause-replaces : goal.returns-clause-replaces
+returns-clause-replaces c =
+    let f = c.has_form.ensures.some in
+    let edits = edits_seen c.args.edits.now in
+    let strings = strings_along edits (tree_of c.args.self.now) (view_at f.0) (c.has_form.ensures.shows f.0 f.1) c.requires.strings in
+    replaced_text c (λ new. Replaces edits c.args.self.now.bytes new) (λ new e. replaces_strings edits c.args.self.now.bytes new f.0 f.1 strings e)
+
+pub returns-clause-tree : goal.returns-clause-tree
+returns-clause-tree c =
+    let f = c.has_form.ensures.some in
+    let edits = edits_seen c.args.edits.now in
+    let shows = c.has_form.ensures.shows f.0 f.1 in
+    let strings = strings_along edits (tree_of c.args.self.now) (view_at f.0) shows c.requires.strings in
+    replaced_text c (λ new. (form : Text) → IsManifest new form → (at : Place) → view_at form at ≡ written edits (tree_of c.args.self.now) at)
+    (λ new e. tree_again edits c.args.self.now.bytes new f.0 (tree_of c.args.self.now) f.1 strings shows e)

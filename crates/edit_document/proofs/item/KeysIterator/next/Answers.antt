@@ -1,0 +1,7 @@
+use Rattle.std.proofs.Common.{◌≡◌, ℕ, List, sym}
+use Rattle.edit_document.specs.Items.{names_in, view_numbered}
+use Rattle.edit_document.proofs.Views.{drop_from}
+use Rattle.edit_document.proofs.item.KeysIterator.next.Goals as goal
+
+pub returns-clause-steps : goal.returns-clause-steps
+returns-clause-steps c = drop_from (names_in (view_numbered c.args.self.now.document.now c.args.self.now.node)) c.args.self.now.next c.in_ok-name.name.now (sym (c.in_ok-name.ensures {u = tt}))

@@ -1,0 +1,12 @@
+use Rattle.std.proofs.Common.{◌≡◌, ◌∷◌, [], ◌++◌, lit<, append_assoc, arith}
+use Rattle.std.specs.Prelude.{string_bytes}
+use Rattle.std.specs.Char.{encode_utf8}
+use Rattle.std.proofs.lemmas.Grind.{common_steps}
+use Rattle.edit_document.proofs.LiteralBytes.{literal_parts}
+use Rattle.edit_document.proofs.literal.push_literal.Goals as goal
+
+pub returns : goal.returns
+returns c =
+    let quote_is = c.push.ensures.ascii (lit< tt) in
+    let parts = literal_parts c.args.text.now in
+    rw parts (grind (arith, common_steps, append_assoc))

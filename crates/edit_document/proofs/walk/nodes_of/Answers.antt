@@ -1,0 +1,25 @@
+use Rattle.std.proofs.Common.{◌≡◌, ℕ, ◌<◌, ◌≤◌, ◌+◌, Bool, true, false, List, [], ◌∷◌, length, drop, None, ap, sym, ◌∙◌, refl, subst}
+use Rattle.std.specs.List.{AllByRecursion}
+use Rattle.std.proofs.lemmas.List.{drop_all}
+use Rattle.edit_document.specs.declared.nodes.Node.{Node}
+use Rattle.edit_document.specs.declared.read.marks.Mark.{Mark}
+use Rattle.edit_document.specs.Walk.{start, step, walked}
+use Rattle.edit_document.specs.WalkState.{Goes, IsToken, KeepsState}
+use Rattle.edit_document.specs.declared.walk.Walk.{Walk}
+use Rattle.edit_document.proofs.Walking.{Along, along_end, turn_on, turn_off}
+use Rattle.edit_document.proofs.walk.nodes_of.Goals as goal
+
+pub marks-preserved : goal.marks-preserved
+marks-preserved c tokens =
+    turn_on c.marks.walk c.take.new.self c.args.text.now c.args.marks.now c.marks.mark-index _ c.in_ok-take.field-0 c.marks-test.true tokens c.if-not-branch.false (c.in_ok-take.ensures {u = tt}).goes (c.marks.invariant tokens)
+
+pub returns-then-not-branch-clause-nodes : goal.returns-then-not-branch-clause-nodes
+returns-then-not-branch-clause-nodes c tokens other =
+    turn_off c.marks.walk c.take.new.self c.args.text.now c.args.marks.now c.marks.mark-index _ c.in_ok-take.field-0 c.marks-test.true tokens c.if-not-branch.true (c.in_ok-take.ensures {u = tt}).goes (c.marks.invariant tokens)
+
+pub returns-clause-nodes : goal.returns-clause-nodes
+returns-clause-nodes c tokens =
+    let text = c.args.text.now in
+    let marks = c.args.marks.now in
+    let a = subst (Along c.marks.walk text marks) (drop_all c.marks.mark-index marks c.marks-test.false) (c.marks.invariant tokens) in
+    subst (λ (ns : List Node). KeepsState ns (walked text marks start)) (sym (ap (λ v. v.items) c.into_nodes.ensures)) (along_end c.marks.walk text marks a)

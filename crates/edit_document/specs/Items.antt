@@ -1,0 +1,103 @@
+-- What the views of a document's places show.
+use Rattle.std.specs.Prelude.{◌≡◌, ℕ, ◌<◌, Bool, true, false, List, [], ◌∷◌, length, map, drop, slice_get, unwrap_or, Option, Some, None, MatchOption, string_bytes, codes, ⊤}
+use Rattle.std.specs.List.{filter_map}
+use Rattle.edit_document.specs.declared.place.Step.{Step as WrittenStep}
+use Rattle.edit_document.specs.declared.place.Step.TheVariants.{Key, Index}
+use Rattle.edit_document.specs.declared.document.Seen.{Seen}
+use Rattle.edit_document.specs.declared.document.Seen.TheVariants as seen
+use Rattle.edit_document.specs.Assertions.{Step, key, index, Place}
+use Rattle.edit_document.specs.Tree.{View, string, truth, whole, fractional, moment, static_array, table_array, inline_table, table}
+use Rattle.edit_document.specs.Shown.{Shown, tree_of}
+use Rattle.edit_document.specs.DocumentLayout.{name_of_step}
+
+-- ---- places
+
+abbrev pub step_seen : WrittenStep → Step
+step_seen (Key name) = key (string_bytes name)
+step_seen (Index i) = index i
+
+-- the place of a list of steps
+abbrev pub place_seen : List WrittenStep → Place
+place_seen steps = map step_seen steps
+
+-- ---- views
+
+-- the view, and the empty table where there is none
+abbrev pub viewed : Option View → View
+viewed None = table []
+viewed (Some v) = v
+
+abbrev pub string_in : View → Option (List ℕ)
+string_in (string bytes) = Some bytes
+string_in _ = None
+
+abbrev pub truth_in : View → Option Bool
+truth_in (truth b) = Some b
+truth_in _ = None
+
+-- the names of the keys among a list of steps
+abbrev pub key_names : List Step → List (List ℕ)
+key_names steps = filter_map (λ s. name_of_step (Some s)) steps
+
+-- the names of the members, in the order of their first assertions
+abbrev pub names_in : View → List (List ℕ)
+names_in (inline_table members) = key_names members
+names_in (table members) = key_names members
+names_in _ = []
+
+-- how many elements or members there are
+abbrev pub count_in : View → ℕ
+count_in (static_array n) = n
+count_in (table_array n) = n
+count_in (inline_table members) = length members
+count_in (table members) = length members
+count_in _ = 0
+
+abbrev pub is_string : View → Bool
+is_string (string bytes) = true
+is_string _ = false
+
+abbrev pub is_inline : View → Bool
+is_inline (inline_table members) = true
+is_inline _ = false
+
+abbrev pub is_tabular : View → Bool
+is_tabular (inline_table members) = true
+is_tabular (table members) = true
+is_tabular _ = false
+
+abbrev pub is_static_array : View → Bool
+is_static_array (static_array n) = true
+is_static_array _ = false
+
+-- the name of what stands there (TOML 1.0.0: the types of values, "Table", "Array of Tables")
+abbrev pub type_name_of : View → List ℕ
+type_name_of (string bytes) = codes "string"
+type_name_of (truth b) = codes "boolean"
+type_name_of (whole digits) = codes "integer"
+type_name_of (fractional digits) = codes "float"
+type_name_of (moment digits) = codes "datetime"
+type_name_of (static_array n) = codes "array"
+type_name_of (table_array n) = codes "array of tables"
+type_name_of (inline_table members) = codes "inline table"
+type_name_of (table members) = codes "table"
+
+-- ---- nodes by number
+
+abbrev pub place_numbered : Shown → ℕ → Place
+place_numbered d n = (unwrap_or (slice_get d.nodes n) ([], table [])).0
+
+abbrev pub view_numbered : Shown → ℕ → View
+view_numbered d n = viewed (tree_of d (place_numbered d n))
+
+-- what a node shows
+abbrev pub Shows : View → Seen → Type 0
+Shows (string bytes) (seen.Text s) = s.now ≡ bytes
+Shows (truth b) (seen.Truth c) = c ≡ b
+Shows (inline_table members) seen.Inline = ⊤
+Shows (table members) seen.Table = ⊤
+Shows _ _ = ⊥
+
+-- the number of the place, or nothing where nothing stands there
+abbrev pub Numbers : Shown → Place → Option ℕ → Type 0
+Numbers d place r = MatchOption r (tree_of d place ≡ None) (λ n. (tree_of d place ≡ Some (view_numbered d n)) × (place_numbered d n ≡ place) × (n < length d.nodes))

@@ -1,0 +1,74 @@
+-- The nodes of a document: one for each place that a statement asserts, the root first and then in the order of first assertions.
+use Rattle.std.specs.Prelude.{◌≡◌, ℕ, Bool, List, [], ◌∷◌, ◌++◌, length, map, slice_get, Option, Some, None, string_bytes, ◌⊎◌}
+use Rattle.indexmap.specs.IndexMap.{get_by_text}
+use Rattle.edit_document.specs.declared.nodes.Span.{Span}
+use Rattle.edit_document.specs.declared.nodes.Content.{Content}
+use Rattle.edit_document.specs.declared.nodes.Content.TheVariants as content
+use Rattle.edit_document.specs.declared.nodes.Node.{Node}
+use Rattle.edit_document.specs.Assertions.{Step, key, Place, at}
+use Rattle.edit_document.specs.Tree.{View, string, truth, inline_table, table}
+
+-- what stands at a place, but for its members
+pub data Shape : Type 0 where
+  scalar : View → Shape
+  inline : Shape
+  section : Shape
+
+-- a place, its shape, the names of its members in the order of their first assertions, and where its value is written
+pub record Spot : Type 0 where
+  pub place : Place
+  pub shape : Shape
+  pub names : List (List ℕ)
+  pub span : Option Span
+
+-- what a place shows
+abbrev pub view_of_shape : Shape → List (List ℕ) → View
+view_of_shape (scalar v) names = v
+view_of_shape inline names = inline_table (map key names)
+view_of_shape section names = table (map key names)
+
+abbrev pub shown_spot : Spot → Place × View
+shown_spot s = (s.place, view_of_shape s.shape s.names)
+
+-- ---- what the table of nodes keeps of each spot
+
+abbrev pub shape_of : Content → Shape
+shape_of (content.Text s) = scalar (string (string_bytes s))
+shape_of (content.Truth b) = scalar (truth b)
+shape_of content.Inline = inline
+shape_of content.Table = section
+
+-- the place stands at this number
+abbrev pub StandsAt : List Spot → ℕ → Place → Type 0
+StandsAt spots n place = (s : Spot) × (slice_get spots n ≡ Some s) × (s.place ≡ place)
+
+-- a node keeps a spot, and the number of each of its members
+pub record Keeps (spots : List Spot) (node : Node) (spot : Spot) : Type 0 where
+  pub shape : shape_of node.content ≡ spot.shape
+  pub names : map (λ e. string_bytes e.0) node.members.entries ≡ spot.names
+  pub steps : node.steps ≡ length spot.place
+  pub span : node.span ≡ spot.span
+  pub below : (name : List ℕ) (n : ℕ) → get_by_text node.members name ≡ Some n → StandsAt spots n (at spot.place (key name))
+
+-- each node keeps the spot of its number
+pub record Holds (nodes : List Node) (spots : List Spot) : Type 0 where
+  pub len : length nodes ≡ length spots
+  pub each : (n : ℕ) (node : Node) (spot : Spot) → slice_get nodes n ≡ Some node → slice_get spots n ≡ Some spot → Keeps spots node spot
+
+-- ---- places
+
+-- a place that is a member of one that stands
+pub record IsMember (spots : List Spot) (place : Place) : Type 0 where
+  pub table : Spot
+  pub number : ℕ
+  pub name : List ℕ
+  pub position : ℕ
+  pub stands : slice_get spots number ≡ Some table
+  pub below : place ≡ at table.place (key name)
+  pub listed : slice_get table.names position ≡ Some name
+
+-- the spots of a tree: the root stands first, no place stands twice, and every other place is a member of one that stands
+pub record IsTree (spots : List Spot) : Type 0 where
+  pub root : StandsAt spots 0 []
+  pub unique : (i j : ℕ) (s t : Spot) → slice_get spots i ≡ Some s → slice_get spots j ≡ Some t → s.place ≡ t.place → i ≡ j
+  pub member : (j : ℕ) (t : Spot) → slice_get spots j ≡ Some t → (t.place ≡ []) ⊎ IsMember spots t.place

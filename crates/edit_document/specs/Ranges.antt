@@ -1,0 +1,24 @@
+-- Where a document tells that the value of a place is written.
+use Rattle.std.specs.Prelude.{◌≡◌, ℕ, false, List, [], ◌∷◌, map, Option, MatchOption, string_bytes}
+use Rattle.std.specs.Global.{Vec}
+use Rattle.std.specs.declared.string.String.{String}
+use Rattle.std.specs.declared.alloc.Global.{Global}
+use Rattle.edit_document.specs.declared.place.Step.{Step as WrittenStep}
+use Rattle.edit_document.specs.Grammar.{Text}
+use Rattle.edit_document.specs.Assertions.{Place}
+use Rattle.edit_document.specs.Tree.{is_value_at}
+use Rattle.edit_document.specs.Items.{place_seen}
+use Rattle.edit_document.specs.Replaces.{Edits}
+use Rattle.edit_document.specs.Written.{IsWrittenAt}
+
+-- from where to where the value of the place is written, or nothing where no value is
+abbrev pub HasRange : Text → Place → Option (ℕ × ℕ) → Type 0
+HasRange form place r = MatchOption r (is_value_at form place ≡ false) (λ p. IsWrittenAt form place p.0 p.1)
+
+-- places, each with the text to be written there
+abbrev pub edits_seen : List (Vec WrittenStep × String Global) → Edits
+edits_seen edits = map (λ e. (place_seen e.0.items, string_bytes e.1)) edits
+
+-- one place, with the text to be written there
+abbrev pub one_edit : Place → List ℕ → Edits
+one_edit place text = (place, text) ∷ []

@@ -1,0 +1,134 @@
+-- Strings written at places: the form that a text then has, the bytes that are kept, and the tree that is meant.
+use Rattle.std.specs.Prelude.{◌≡◌, ℕ, suc, Bool, true, false, ◌&&◌, ◌||◌, if◌then◌else◌, List, [], ◌∷◌, ◌++◌, Option, Some, None, option_map, ⊤}
+use Rattle.std.specs.List.{AllByRecursion, filter_map}
+use Rattle.edit_document.specs.Grammar.{Value, basic, literal, multi_basic, multi_literal, boolean, integer, float, datetime, array, inline, value, Elements, no_elements, last_element, element, Members, no_members, last_member, member, Statement, pair, header, element_header, empty_line, full_line, Lines, one_line, more_lines, Text, text}
+use Rattle.edit_document.specs.Assertions.{Place, index, at, names, named, same_step, same_place, Assertion, of_statement, prefix_after}
+use Rattle.edit_document.specs.Tree.{View, string, view_at}
+use Rattle.edit_document.specs.Supported.{IsManifest}
+use Rattle.edit_document.specs.Literals.{literal_of}
+use Rattle.edit_document.specs.Written.{Valued, values}
+
+-- places, each with the text to be written there
+abbrev pub Edits : Type 0
+Edits = List (Place × List ℕ)
+
+-- the text to be written at a place
+abbrev pub new_text : Edits → Place → Option (List ℕ)
+new_text [] place = None
+new_text (e ∷ es) place = if same_place e.0 place then Some e.1 else new_text es place
+
+-- ---- the form
+
+-- the literal of the text to be written, or the value where there is none
+abbrev pub literal_or : Option (List ℕ) → Value → Value
+literal_or None v = v
+literal_or (Some said) v = literal_of said
+
+abbrev pub put : Edits → Place → Value → Value
+put edits place v = literal_or (new_text edits place) v
+
+-- a value whose inner values are replaced at the places
+abbrev mutual
+  pub replaced_inside : Edits → Place → Value → Value
+  replaced_inside edits place (basic ps) = basic ps
+  replaced_inside edits place (literal text) = literal text
+  replaced_inside edits place (multi_basic ps) = multi_basic ps
+  replaced_inside edits place (multi_literal ps) = multi_literal ps
+  replaced_inside edits place (boolean b) = boolean b
+  replaced_inside edits place (integer n) = integer n
+  replaced_inside edits place (float f) = float f
+  replaced_inside edits place (datetime d) = datetime d
+  replaced_inside edits place (array g es) = array g (replaced_elements edits place 0 es)
+  replaced_inside edits place (inline g ms) = inline g (replaced_members edits place ms)
+
+  pub replaced_elements : Edits → Place → ℕ → Elements → Elements
+  replaced_elements edits place i no_elements = no_elements
+  replaced_elements edits place i (last_element v g) = last_element (put edits (at place (index i)) (replaced_inside edits (at place (index i)) v)) g
+  replaced_elements edits place i (element v g h es) =
+      element (put edits (at place (index i)) (replaced_inside edits (at place (index i)) v)) g h (replaced_elements edits place (suc i) es)
+
+  pub replaced_members : Edits → Place → Members → Members
+  replaced_members edits place no_members = no_members
+  replaced_members edits place (last_member k a b v c) =
+      last_member k a b (put edits (named place (names k)) (replaced_inside edits (named place (names k)) v)) c
+  replaced_members edits place (member k a b v c d ms) =
+      member k a b (put edits (named place (names k)) (replaced_inside edits (named place (names k)) v)) c d (replaced_members edits place ms)
+
+-- a value at its place
+abbrev pub replaced_value : Edits → Place → Value → Value
+replaced_value edits place v = put edits place (replaced_inside edits place v)
+
+abbrev pub replaced_statement : Edits → Place → Statement → Statement
+replaced_statement edits prefix (pair k a b v) = pair k a b (replaced_value edits (named prefix (names k)) v)
+replaced_statement edits prefix (header a k b) = header a k b
+replaced_statement edits prefix (element_header a k b) = element_header a k b
+
+-- lines behind these assertions and under this header
+abbrev pub replaced_lines : Edits → List Assertion → Place → Lines → Lines
+replaced_lines edits earlier prefix (one_line (empty_line a c)) = one_line (empty_line a c)
+replaced_lines edits earlier prefix (one_line (full_line a s b c)) = one_line (full_line a (replaced_statement edits prefix s) b c)
+replaced_lines edits earlier prefix (more_lines (empty_line a c) e ls) = more_lines (empty_line a c) e (replaced_lines edits earlier prefix ls)
+replaced_lines edits earlier prefix (more_lines (full_line a s b c) e ls) =
+    more_lines (full_line a (replaced_statement edits prefix s) b c) e (replaced_lines edits (earlier ++ of_statement earlier prefix s) (prefix_after earlier prefix s) ls)
+
+-- the form in which each value at one of the places is the literal of the text to be written there
+abbrev pub replaced : Edits → Text → Text
+replaced edits t = record { marked = t.marked; lines = replaced_lines edits [] [] t.lines }
+
+-- ---- the bytes
+
+-- the values at the places, in the order of the text, each with the text to be written there
+abbrev pub edited : Edits → Text → List (Valued × List ℕ)
+edited edits t = filter_map (λ w. option_map (λ said. (w, said)) (new_text edits w.place)) (values t)
+
+-- `t0 v1 t1 .. vn tn` and `t0 l1 t1 .. ln tn`: each value gives way to the literal of its text, and every other byte is kept
+pub data Swaps : List (Valued × List ℕ) → List ℕ → List ℕ → Type 0 where
+  rest : (t : List ℕ) → Swaps [] t t
+  next : (t : List ℕ) (w : Valued) (said : List ℕ) (more : List (Valued × List ℕ)) (new : List ℕ)
+      → Swaps more w.after new → Swaps ((w, said) ∷ more) (t ++ value w.value w.after) (t ++ value (literal_of said) new)
+
+-- ---- the tree
+
+-- q lies below the place
+abbrev pub is_below : Place → Place → Bool
+is_below [] [] = false
+is_below [] (t ∷ ts) = true
+is_below (s ∷ ss) [] = false
+is_below (s ∷ ss) (t ∷ ts) = same_step s t && is_below ss ts
+
+-- q lies below one of the places
+abbrev pub is_below_any : Edits → Place → Bool
+is_below_any [] q = false
+is_below_any (e ∷ es) q = is_below e.0 q || is_below_any es q
+
+-- a tree with other strings at some places
+abbrev pub written : Edits → (Place → Option View) → Place → Option View
+written [] tree q = tree q
+written (e ∷ es) tree q = if same_place e.0 q then Some (string e.1) else written es tree q
+
+-- a tree with nothing below some places
+abbrev pub emptied : Edits → (Place → Option View) → Place → Option View
+emptied edits tree q = if is_below_any edits q then None else tree q
+
+-- a string stands there
+abbrev pub is_string : Option View → Bool
+is_string (Some (string said)) = true
+is_string view = false
+
+-- a string stands at each of the places
+abbrev pub AreStrings : Edits → (Place → Option View) → Type 0
+AreStrings edits tree = AllByRecursion (λ e. is_string (tree e.0) ≡ true) edits
+
+-- no two of the places are the same
+abbrev pub AreDistinct : Edits → Type 0
+AreDistinct [] = ⊤
+AreDistinct (e ∷ es) = AllByRecursion (λ f. same_place e.0 f.0 ≡ false) es × AreDistinct es
+
+-- the new bytes are the old document with the texts written at the places: only the literals differ, and only these strings of the tree
+pub record Replaces (edits : Edits) (old new : List ℕ) : Type 0 where
+  pub form : Text
+  pub was : IsManifest old form
+  pub bytes : new ≡ text (replaced edits form)
+  pub kept : Swaps (edited edits form) old new
+  pub is : IsManifest new (replaced edits form)
+  pub tree : (place : Place) → view_at (replaced edits form) place ≡ written edits (emptied edits (view_at form)) place

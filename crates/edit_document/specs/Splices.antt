@@ -1,0 +1,49 @@
+-- Ranges of a text in whose place the literals of other texts are written.
+use Rattle.std.specs.Prelude.{◌≡◌, ℕ, ◌≤◌, List, [], ◌∷◌, ◌++◌, length, map, drop, slice_range, ⊤}
+use Rattle.std.specs.Str.{IsCharBoundary}
+use Rattle.edit_document.specs.declared.replace.Rewrite.{Rewrite}
+use Rattle.edit_document.specs.Literals.{literal_bytes}
+use Rattle.edit_document.specs.Grammar.{Text}
+use Rattle.edit_document.specs.Assertions.{Place, IsDocument}
+use Rattle.edit_document.specs.Tree.{view_at}
+use Rattle.edit_document.specs.Written.{Valued, start_of, end_of, IsWrittenAt}
+use Rattle.edit_document.specs.Replaces.{Edits, AreStrings, AreDistinct}
+
+-- where it begins, where it ends, and the text whose literal is to be written there
+abbrev pub Range : Type 0
+Range = ℕ × ℕ × List ℕ
+
+abbrev pub range_of : Rewrite → Range
+range_of s = (s.start, s.end, s.text.now)
+
+-- the text from a position on, with its literal in the place of each range
+abbrev pub spliced : List ℕ → ℕ → List Range → List ℕ
+spliced text at [] = drop at text
+spliced text at (r ∷ more) = slice_range text at r.0 ++ (literal_bytes r.2 ++ spliced text r.1 more)
+
+-- the ranges stand one behind the other, and the text may be cut at their ends
+abbrev pub AreInOrder : List ℕ → ℕ → List Range → Type 0
+AreInOrder text at [] = ⊤
+AreInOrder text at (r ∷ more) = (at ≤ r.0) × (r.0 ≤ r.1) × IsCharBoundary text r.0 × IsCharBoundary text r.1 × AreInOrder text r.1 more
+
+-- the ranges of values in a text of this length
+abbrev pub ranges_of : ℕ → List (Valued × List ℕ) → List Range
+ranges_of total edits = map (λ e. (start_of total e.0, end_of total e.0, e.1)) edits
+
+-- the range is that of the value at the place of an edit, and its text the one to be written there
+abbrev pub IsRangeFor : Text → Place × List ℕ → Range → Type 0
+IsRangeFor form e r = IsWrittenAt form e.0 r.0 r.1 × (r.2 ≡ e.1)
+
+-- the ranges are those of the edits, one by one
+abbrev pub AreRanges : Text → Edits → List Range → Type 0
+AreRanges form [] [] = ⊤
+AreRanges form [] (r ∷ rs) = ⊥
+AreRanges form (e ∷ es) [] = ⊥
+AreRanges form (e ∷ es) (r ∷ rs) = IsRangeFor form e r × AreRanges form es rs
+
+-- the ranges of edits at distinct places of a document, at each of which a string stands
+pub record Locates (whole : List ℕ) (form : Text) (edits : Edits) (ranges : List Range) : Type 0 where
+  pub document : IsDocument whole form
+  pub strings : AreStrings edits (view_at form)
+  pub distinct : AreDistinct edits
+  pub found : AreRanges form edits ranges

@@ -1,0 +1,122 @@
+-- How the spots of a text come from its marks, one after the other. The contracts of the private functions cite this;
+-- what it has to do with the assertions of a form is proved in proofs/.
+use Rattle.std.specs.Prelude.{◌≡◌, ℕ, ◌+◌, ◌-◌, Bool, true, false, ◌||◌, nat_le, if◌then◌else◌, List, [], ◌∷◌, ◌++◌, length, take, drop, slice_get, slice_set, Option, Some, None, option_map, string_bytes}
+use Rattle.std.specs.List.{list_any}
+use Rattle.std.specs.Str.{bytes_eq, is_utf8}
+use Rattle.edit_document.specs.declared.read.marks.Mark.{Mark}
+use Rattle.edit_document.specs.declared.read.marks.MarkKind.{MarkKind}
+use Rattle.edit_document.specs.declared.read.marks.MarkKind.TheVariants as kinds
+use Rattle.edit_document.specs.declared.nodes.Span.{Span}
+use Rattle.edit_document.specs.Characters.{quote}
+use Rattle.edit_document.specs.Strings.{says}
+use Rattle.edit_document.specs.Reading.{◌>>=◌, basic_at, literal_at}
+use Rattle.edit_document.specs.Assertions.{key, at}
+use Rattle.edit_document.specs.Tree.{string, truth}
+use Rattle.edit_document.specs.Nodes.{Shape, scalar, inline, section, Spot}
+
+-- ---- what tokens say
+
+-- the text from a byte on that has so many bytes
+abbrev pub suffix : List ℕ → ℕ → List ℕ
+suffix bytes n = drop (length bytes - n) bytes
+
+-- what a basic string says, from behind its opening quote on
+abbrev pub basic_said : List ℕ → Option (List ℕ)
+basic_said text = option_map (λ p. says quote p.0) (basic_at text)
+
+-- what a literal string says, from behind its opening apostrophe on
+abbrev pub literal_said : List ℕ → Option (List ℕ)
+literal_said text = option_map (λ p. p.0) (literal_at text)
+
+-- what a token of this kind says that begins a text, and is so long
+abbrev pub told : MarkKind → List ℕ → ℕ → Option (List ℕ)
+told kinds.BarePart text n = Some (take n text)
+told kinds.BasicPart text n = basic_said (drop 1 text)
+told kinds.LiteralPart text n = literal_said (drop 1 text)
+told kinds.BasicString text n = basic_said (drop 1 text)
+told kinds.LiteralString text n = literal_said (drop 1 text)
+told _ text n = None
+
+-- the bytes, where they are a text
+abbrev pub as_text : List ℕ → Option (List ℕ)
+as_text bytes = if is_utf8 bytes then Some bytes else None
+
+-- what the token of a mark says
+unfoldable pub said : List ℕ → Mark → Option (List ℕ)
+said bytes m = told m.kind (suffix bytes m.from) (m.from - m.to) >>= as_text
+
+-- ---- spots
+
+-- the name is one of these
+abbrev pub has_name : List (List ℕ) → List ℕ → Bool
+has_name names name = list_any (λ n. bytes_eq name n) names
+
+abbrev pub with_name : Spot → List ℕ → Spot
+with_name s name = record s { names = s.names ++ name ∷ [] }
+
+-- a member more of the spot of a number, refused where it has one of this name, and past 80 steps
+unfoldable pub added : List Spot → ℕ → List ℕ → Shape → Option Span → Option (List Spot)
+added spots number name shape span = slice_get spots number >>= λ s.
+    if has_name s.names name || nat_le 80 (length s.place) then None
+    else Some (slice_set spots number (with_name s name) ++ record { place = at s.place (key name); shape = shape; names = []; span = span } ∷ [])
+
+-- ---- the walk
+
+-- the spots so far; the numbers of the header and of the inline tables that are open, the innermost last; the name that waits for its value
+pub record State : Type 0 where
+  pub spots : List Spot
+  pub tables : List ℕ
+  pub name : Option (List ℕ)
+
+abbrev pub last_of : List ℕ → Option ℕ
+last_of numbers = slice_get numbers (length numbers - 1)
+
+abbrev pub without_last : List ℕ → List ℕ
+without_last numbers = take (length numbers - 1) numbers
+
+-- the waiting name becomes a member of the innermost table
+abbrev pub entered : State → Shape → Option Span → Option State
+entered st shape span = st.name >>= λ name. last_of st.tables >>= λ number. added st.spots number name shape span >>= λ spots.
+    Some (record { spots = spots; tables = st.tables; name = None })
+
+-- an inline table opens
+abbrev pub opened : State → Option Span → Option State
+opened st span = entered st inline span >>= λ next. Some (record next { tables = next.tables ++ length st.spots ∷ [] })
+
+-- the innermost table ends before so many bytes
+abbrev pub closed : State → ℕ → Option State
+closed st to = last_of st.tables >>= λ number. slice_get st.spots number >>= λ s. s.span >>= λ span.
+    Some (record st { spots = slice_set st.spots number (record s { span = Some (record { from = span.from; to = to }) }); tables = without_last st.tables })
+
+-- a header, which is a member of the root
+abbrev pub headed : State → Option State
+headed st = st.name >>= λ name. added st.spots 0 name section None >>= λ spots.
+    Some (record { spots = spots; tables = length st.spots ∷ []; name = None })
+
+abbrev pub span_of_mark : Mark → Span
+span_of_mark m = record { from = m.from; to = m.to }
+
+abbrev pub act : MarkKind → List ℕ → Mark → State → Option State
+act kinds.BarePart bytes m st = said bytes m >>= λ name. Some (record st { name = Some name })
+act kinds.BasicPart bytes m st = said bytes m >>= λ name. Some (record st { name = Some name })
+act kinds.LiteralPart bytes m st = said bytes m >>= λ name. Some (record st { name = Some name })
+act kinds.BasicString bytes m st = said bytes m >>= λ text. entered st (scalar (string text)) (Some (span_of_mark m))
+act kinds.LiteralString bytes m st = said bytes m >>= λ text. entered st (scalar (string text)) (Some (span_of_mark m))
+act kinds.True bytes m st = entered st (scalar (truth true)) (Some (span_of_mark m))
+act kinds.False bytes m st = entered st (scalar (truth false)) (Some (span_of_mark m))
+act kinds.OpenTable bytes m st = opened st (Some (span_of_mark m))
+act kinds.CloseTable bytes m st = closed st m.to
+act kinds.Header bytes m st = headed st
+act _ bytes m st = None
+
+unfoldable pub step : List ℕ → Mark → State → Option State
+step bytes m st = act m.kind bytes m st
+
+-- the root alone
+abbrev pub start : State
+start = record { spots = record { place = []; shape = section; names = []; span = None } ∷ []; tables = 0 ∷ []; name = None }
+
+-- the state behind these marks
+unfoldable pub walked : List ℕ → List Mark → State → Option State
+walked bytes [] st = Some st
+walked bytes (m ∷ ms) st = step bytes m st >>= λ next. walked bytes ms next

@@ -1,0 +1,214 @@
+//! A document: its text, and what stands at each place that a statement asserts.
+ghost use Rattle.std.specs.Prelude.{◌≡◌, Some, None, ◌<◌, [], ◌++◌, IfOk, IfErr, MatchResult, string_bytes, length, map, slice_get, option_map};
+ghost use Rattle.edit_document.specs.Assertions.{Place, at, key as key_step, index as index_step};
+ghost use Rattle.edit_document.specs.Errors.{IsMemory};
+ghost use Rattle.edit_document.specs.ItemViews.{Finds};
+ghost use Rattle.edit_document.specs.Grammar.{Text};
+ghost use Rattle.edit_document.specs.Shown.{tree_of, ShowsTree};
+ghost use Rattle.edit_document.specs.Supported.{IsManifest};
+ghost use Rattle.edit_document.specs.Ranges.{HasRange};
+ghost use Rattle.edit_document.specs.DocumentLayout.{shown_by};
+ghost use Rattle.edit_document.specs.Marks.{IsReadRefusal};
+ghost use Rattle.edit_document.specs.Items.{place_numbered, view_numbered, names_in, count_in, place_seen, Shows, Numbers};
+
+use crate::errors::CargoResult;
+use crate::item::Item;
+use crate::nodes::{Content, Node};
+use crate::place::Step;
+use crate::read::read_marks;
+use crate::walk::nodes_of;
+use std::alloc::Global;
+use std::fmt;
+use std::marker::Model;
+
+/// A document as it was written. A contract sees its bytes, and the places with what they show.
+#[derive(Drop)]
+pub struct Document {
+    text: String,
+    nodes: Vec<Node>,
+}
+
+impl Model for Document {
+    ghost use Rattle.edit_document.specs.Shown.{Shown};
+
+    ghost Value = { Shown };
+
+    ghost use Rattle.edit_document.specs.DocumentLayout.{shown_of, IsRead};
+
+    ghost view = { shown_of };
+
+    ghost invariant = { IsRead };
+}
+
+/// What a node shows, but for its members.
+#[derive(Clone, Copy)]
+pub(crate) enum Seen<'a> {
+    Text(&'a str),
+    Truth(bool),
+    Inline,
+    Table,
+}
+
+impl Document {
+    /// Reads a text. What is no document of the part that is read is refused, with a byte near which it goes wrong.
+    pub fn read(alloc: Global, text: &str) -> CargoResult<Document>
+        ensures bytes { IfOk result (λ d. d.bytes ≡ text.now) }
+        // The same text shows the same places.
+        ensures shown { IfOk result (λ d. d ≡ shown_by text.now) }
+        // What is read is a document, and shows its tree.
+        ensures found { IfOk result (λ d. (form : Text) × IsManifest text.now form × ShowsTree d form) }
+        // Whatever is a document is read, in whichever way the text was split, unless memory runs out.
+        ensures only { (form : Text) → IsManifest text.now form → MatchResult result (λ d. ShowsTree d form) IsMemory }
+        ensures refused { IfErr result (IsReadRefusal (length text.now)) }
+    {
+        let marks = read_marks(alloc, text.as_bytes())?;
+        let nodes = nodes_of(alloc, text, marks.as_slice())?;
+        let text = String::from_str(alloc, text)?;
+        Ok(Document { text, nodes })
+    }
+
+    /// The text, as it was read.
+    pub fn as_str(&self) -> &str
+        ensures { result.now ≡ self.now.bytes }
+    {
+        self.text.as_str()
+    }
+
+    /// What the node of a number shows.
+    pub(crate) fn seen(&self, number: usize) -> Seen<'_>
+        requires { number < length self.now.nodes }
+        ensures { Shows (view_numbered self.now number) result }
+    {
+        let node = &self.nodes[number];
+        match &node.content {
+            Content::Text(text) => Seen::Text(text.as_str()),
+            Content::Truth(truth) => Seen::Truth(*truth),
+            Content::Inline => Seen::Inline,
+            Content::Table => Seen::Table,
+        }
+    }
+
+    /// How many members a node has.
+    pub(crate) fn member_count(&self, number: usize) -> usize
+        requires { number < length self.now.nodes }
+        ensures count { result ≡ count_in (view_numbered self.now number) }
+        ensures names { result ≡ length (names_in (view_numbered self.now number)) }
+    {
+        let node = &self.nodes[number];
+        match &node.content {
+            Content::Text(_) | Content::Truth(_) => 0,
+            Content::Inline | Content::Table => node.members.len(),
+        }
+    }
+
+    /// The name of a member of a node.
+    pub(crate) fn member_name(&self, number: usize, index: usize) -> Option<&str>
+        requires { number < length self.now.nodes }
+        ensures { option_map (λ s. s.now) result ≡ slice_get (names_in (view_numbered self.now number)) index }
+    {
+        let node = &self.nodes[number];
+        match &node.content {
+            Content::Text(_) | Content::Truth(_) => None,
+            Content::Inline | Content::Table => {
+                let (name, _) = node.members.get_index(index)?;
+                Some(name.as_str())
+            }
+        }
+    }
+
+    /// The number of a member of a node.
+    pub(crate) fn member(&self, number: usize, key: &str) -> Option<usize>
+        requires { number < length self.now.nodes }
+        ensures { Numbers self.now (at (place_numbered self.now number) (key_step key.now)) result }
+    {
+        let node = &self.nodes[number];
+        node.members.get(key).copied()
+    }
+
+    /// A node stands at its place.
+    pub(crate) fn stands(&self, number: usize)
+        requires { number < length self.now.nodes }
+        ensures { tree_of self.now (place_numbered self.now number) ≡ Some (view_numbered self.now number) }
+    {
+        let _node = &self.nodes[number];
+    }
+
+    /// No element stands below a node.
+    pub(crate) fn has_no_element(&self, number: usize, index: usize)
+        requires { number < length self.now.nodes }
+        ensures { tree_of self.now (at (place_numbered self.now number) (index_step index)) ≡ None }
+    {
+        let _node = &self.nodes[number];
+    }
+
+    /// Nothing stands below a place where nothing stands, and the root stands first.
+    fn is_tree(&self)
+        ensures root { (0 < length self.now.nodes) × (place_numbered self.now 0 ≡ []) }
+        ensures below { (place more : Place) → tree_of self.now place ≡ None → tree_of self.now (place ++ more) ≡ None }
+    {
+        let _nodes = &self.nodes;
+    }
+
+    /// The number of the node of a place.
+    pub(crate) fn number(&self, place: &[Step]) -> Option<usize>
+        ensures { Numbers self.now (place_seen place.now) result }
+    {
+        self.is_tree();
+        let mut number = 0;
+        'steps: for step in place {
+            match step {
+                Step::Key(key) => number = self.member(number, key.as_str())?,
+                Step::Index(index) => {
+                    self.has_no_element(number, *index);
+                    return None;
+                }
+            }
+        }
+        self.stands(number);
+        Some(number)
+    }
+
+    /// The text is a document of the part that is read, and what it shows is the tree of each form that it has.
+    pub(crate) fn has_form(&self)
+        ensures some { (form : Text) × IsManifest self.now.bytes form }
+        ensures shows { (form : Text) → IsManifest self.now.bytes form → ShowsTree self.now form }
+    {
+        let _nodes = &self.nodes;
+    }
+
+    /// Where the value of a place is written, from its first byte to its end, or `None` where no value is.
+    pub(crate) fn value_range(&self, place: &[Step]) -> Option<(usize, usize)>
+        ensures { (form : Text) → IsManifest self.now.bytes form → HasRange form (place_seen place.now) result }
+    {
+        let len = self.text.len();
+        let number = self.number(place)?;
+        let span = self.nodes[number].span?;
+        Some((len.saturating_sub(span.from), len.saturating_sub(span.to)))
+    }
+
+    /// What stands at a place.
+    pub fn item(&self, place: &[Step]) -> Option<Item<'_>>
+        ensures { Finds self.now (place_seen place.now) result }
+    {
+        match self.number(place) {
+            Some(number) => Some(Item::new(self, number)),
+            None => None,
+        }
+    }
+
+    /// The text, as it was read.
+    pub fn text(&self, alloc: Global) -> CargoResult<String>
+        ensures text { IfOk result (λ s. string_bytes s ≡ self.now.bytes) }
+        ensures refused { IfErr result IsMemory }
+    {
+        Ok(String::from_str(alloc, self.as_str())?)
+    }
+}
+
+impl fmt::Display for Document {
+    ghost output = { λ d. Some d.bytes };
+
+    fn fmt<W: fmt::Write>(&self, f: &mut fmt::Formatter<W>) -> fmt::Result {
+        f.write_str(self.as_str())
+    }
+}

@@ -1,0 +1,176 @@
+//! Views of the places of a document. None of these calls takes memory.
+ghost use Rattle.std.specs.Prelude.{◌<◌, length};
+
+use crate::document::{Document, Seen};
+
+/// A view of what stands at a place of a document.
+#[derive(Clone, Copy)]
+pub struct Item<'a> {
+    document: &'a Document,
+    node: usize,
+    ghost numbered: { node < length document.now.nodes },
+}
+
+impl<'a> Item<'a> {
+    ghost use Rattle.std.specs.Prelude.{◌≡◌, ◌↔◌, ◌<◌, Some, true, false, IsTrue, MatchOption, length, option_map};
+    ghost use Rattle.edit_document.specs.Assertions.{at as below, key as key_step, index as index_step};
+    ghost use Rattle.edit_document.specs.Shown.{tree_of};
+    ghost use Rattle.edit_document.specs.Items.{place_numbered, string_in, truth_in, names_in, count_in, is_string, is_inline, is_tabular, is_static_array, type_name_of, Shows};
+    ghost use Rattle.edit_document.specs.ItemViews.{document_of, place_of, view_of, keys_left, Finds};
+
+    pub(crate) fn new(document: &'a Document, node: usize) -> Item<'a>
+        requires { node < length document.now.nodes }
+        ensures document { document_of result ≡ document.now }
+        ensures place { place_of result ≡ place_numbered document.now node }
+    {
+        Item { document, node }
+    }
+
+    /// Something stands at the place of an item.
+    pub fn stands(self)
+        ensures { tree_of (document_of self.entry) (place_of self.entry) ≡ Some (view_of self.entry) }
+    {
+        self.document.stands(self.node)
+    }
+
+    fn seen(self) -> Seen<'a>
+        ensures { Shows (view_of self.entry) result }
+    {
+        self.document.seen(self.node)
+    }
+
+    /// A string, after escapes.
+    pub fn as_str(self) -> Option<&'a str>
+        ensures { option_map (λ s. s.now) result ≡ string_in (view_of self.entry) }
+    {
+        match self.seen() {
+            Seen::Text(text) => Some(text),
+            Seen::Truth(_) | Seen::Inline | Seen::Table => None,
+        }
+    }
+
+    pub fn as_bool(self) -> Option<bool>
+        ensures { result ≡ truth_in (view_of self.entry) }
+    {
+        match self.seen() {
+            Seen::Truth(truth) => Some(truth),
+            Seen::Text(_) | Seen::Inline | Seen::Table => None,
+        }
+    }
+
+    /// The item itself, where it is an array that was written as a value.
+    pub fn as_array(self) -> Option<Item<'a>>
+        ensures { MatchOption result (is_static_array (view_of self.entry) ≡ false) (λ i. (is_static_array (view_of self.entry) ≡ true) × (document_of i ≡ document_of self.entry) × (place_of i ≡ place_of self.entry)) }
+    {
+        match self.seen() {
+            Seen::Text(_) | Seen::Truth(_) | Seen::Inline | Seen::Table => None,
+        }
+    }
+
+    /// The member of a table.
+    pub fn get(self, key: &str) -> Option<Item<'a>>
+        ensures { Finds (document_of self.entry) (below (place_of self.entry) (key_step key.now)) result }
+    {
+        let document = self.document;
+        match document.member(self.node, key) {
+            Some(node) => Some(Item { document, node }),
+            None => None,
+        }
+    }
+
+    /// The element of an array.
+    pub fn at(self, index: usize) -> Option<Item<'a>>
+        ensures { Finds (document_of self.entry) (below (place_of self.entry) (index_step index)) result }
+    {
+        self.document.has_no_element(self.node, index);
+        None
+    }
+
+    /// How many members or elements there are.
+    pub fn len(self) -> usize
+        ensures { result ≡ count_in (view_of self.entry) }
+    {
+        self.document.member_count(self.node)
+    }
+
+    /// The keys of a table, in the order of their first statements.
+    pub fn keys(self) -> Keys<'a>
+        ensures { keys_left result ≡ names_in (view_of self.entry) }
+    {
+        Keys {
+            document: self.document,
+            node: self.node,
+            next: 0,
+        }
+    }
+
+    pub fn is_str(self) -> bool
+        ensures { result ≡ is_string (view_of self.entry) }
+    {
+        match self.seen() {
+            Seen::Text(_) => true,
+            Seen::Truth(_) | Seen::Inline | Seen::Table => false,
+        }
+    }
+
+    /// Whether this is a table or an inline table.
+    pub fn is_table_like(self) -> bool
+        ensures { result ≡ is_tabular (view_of self.entry) }
+    {
+        match self.seen() {
+            Seen::Text(_) | Seen::Truth(_) => false,
+            Seen::Inline | Seen::Table => true,
+        }
+    }
+
+    pub fn is_inline_table(self) -> bool
+        ensures { result ≡ is_inline (view_of self.entry) }
+    {
+        match self.seen() {
+            Seen::Inline => true,
+            Seen::Text(_) | Seen::Truth(_) | Seen::Table => false,
+        }
+    }
+
+    /// One of `string`, `integer`, `float`, `boolean`, `datetime`, `array`, `inline table`, `table` and
+    /// `array of tables`.
+    pub fn type_name(self) -> &'static str
+        ensures { result.now ≡ type_name_of (view_of self.entry) }
+    {
+        match self.seen() {
+            Seen::Text(_) => "string",
+            Seen::Truth(_) => "boolean",
+            Seen::Inline => "inline table",
+            Seen::Table => "table",
+        }
+    }
+}
+
+/// The keys of a table that are left.
+#[derive(Drop)]
+pub struct Keys<'a> {
+    document: &'a Document,
+    node: usize,
+    next: usize,
+    ghost numbered: { node < length document.now.nodes },
+}
+
+impl<'a> Iterator for Keys<'a> {
+    ghost use Rattle.std.specs.Iterator.{YieldsFirstBy, item_count};
+    ghost use Rattle.edit_document.specs.ItemViews.{keys_left};
+
+    type Item = &'a str;
+
+    ghost next_gives = { YieldsFirstBy (λ s. s.now) keys_left };
+
+    ghost remaining = { item_count keys_left };
+
+    fn next(&mut self) -> Option<&'a str> {
+        if self.next >= self.document.member_count(self.node) {
+            return None;
+        }
+        let name = self.document.member_name(self.node, self.next)?;
+        self.next += 1;
+        Some(name)
+    }
+}

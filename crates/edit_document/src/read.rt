@@ -1,0 +1,43 @@
+//! The reading of a text into marks.
+ghost use Rattle.std.specs.Prelude.{◌≡◌, ◌≤◌, IfOk, IfErr, MatchResult, length};
+ghost use Rattle.edit_document.specs.Errors.{IsMemory};
+ghost use Rattle.edit_document.specs.Grammar.{Text, Spells};
+ghost use Rattle.edit_document.specs.Supported.{IsSupported};
+ghost use Rattle.edit_document.specs.Depth.{text_depth};
+ghost use Rattle.edit_document.specs.Marks.{text_marks, IsReadRefusal};
+
+mod bytes;
+pub(crate) mod decode;
+mod lines;
+mod marks;
+mod tokens;
+mod values;
+
+use crate::errors::{CargoResult, Error};
+pub(crate) use decode::{content, is_plain, said};
+use lines::lines;
+use marks::ReadError;
+pub(crate) use marks::{Mark, MarkKind};
+use std::alloc::Global;
+
+/// The marks of a text, with arrays and inline tables at most 80 deep in one another.
+/// A refusal tells the byte at which the part begins that could not be read.
+pub(crate) fn read_marks(alloc: Global, text: &[u8]) -> CargoResult<Vec<Mark>>
+    // What is read is in the grammar.
+    ensures found { IfOk result (λ v.
+        (form : Text) × Spells text.now form × IsSupported form × (text_depth form ≤ 80)
+        × (v.items ≡ text_marks form)) }
+    // Whatever is in the grammar is read, in whichever way the text was split, unless memory runs out.
+    ensures only { (form : Text) → Spells text.now form → IsSupported form → text_depth form ≤ 80 →
+        MatchResult result (λ v. v.items ≡ text_marks form) IsMemory }
+    // The byte that a refusal tells lies in the text.
+    ensures refused { IfErr result (IsReadRefusal (length text.now)) }
+{
+    match lines(alloc, text) {
+        Ok(marks) => Ok(marks),
+        Err(ReadError::Memory) => Err(Error::Memory),
+        Err(ReadError::NotToml { left }) => Err(Error::NotToml {
+            at: text.len().saturating_sub(left),
+        }),
+    }
+}

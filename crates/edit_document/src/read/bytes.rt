@@ -1,0 +1,105 @@
+//! Steps over the bytes of a text.
+ghost use Rattle.std.specs.Prelude.{◌≡◌, ◌≤◌, length, drop, slice_index, option_map};
+ghost use Rattle.std.specs.List.{prefix_len};
+ghost use Rattle.edit_document.specs.Characters as spec;
+ghost use Rattle.edit_document.specs.Reading as reading;
+ghost use Rattle.edit_document.specs.Noting.{class_test};
+
+/// The sets of bytes of which runs are read.
+#[derive(Clone, Copy)]
+pub(crate) enum Class {
+    Blank,
+    Comment,
+    Bare,
+    Literal,
+    Unescaped,
+}
+
+/// The byte at `index`, or 0 past the end.
+#[inline]
+pub(crate) fn byte_at(s: &[u8], index: usize) -> u8
+    ensures { result ≡ slice_index s.now index }
+{
+    s.get(index).copied().unwrap_or(0)
+}
+
+/// The first byte, or 0.
+#[inline]
+pub(crate) fn first(s: &[u8]) -> u8
+    ensures { result ≡ reading.first s.now }
+{
+    byte_at(s, 0)
+}
+
+fn is_blank(b: u8) -> bool
+    ensures { result ≡ spec.is_blank b }
+{
+    b == b'\t' || b == b' '
+}
+
+fn is_ch(b: u8) -> bool
+    ensures { result ≡ spec.is_ch b }
+{
+    b == b'\t' || (b >= b' ' && b != 127)
+}
+
+pub(crate) fn is_bare(b: u8) -> bool
+    ensures { result ≡ spec.is_bare b }
+{
+    (b >= b'A' && b <= b'Z')
+        || (b >= b'a' && b <= b'z')
+        || (b >= b'0' && b <= b'9')
+        || b == b'_'
+        || b == b'-'
+}
+
+pub(crate) fn is_basic_ch(b: u8) -> bool
+    ensures { result ≡ spec.is_basic_ch b }
+{
+    is_ch(b) && b != b'"' && b != b'\\'
+}
+
+fn is_in(class: Class, b: u8) -> bool
+    ensures { result ≡ class_test class b }
+{
+    match class {
+        Class::Blank => is_blank(b),
+        Class::Comment => is_ch(b),
+        Class::Bare => is_bare(b),
+        Class::Literal => is_ch(b) && b != b'\'',
+        Class::Unescaped => b != b'\\',
+    }
+}
+
+/// How many bytes at the front are of the class.
+pub(crate) fn run_len(s: &[u8], class: Class) -> usize
+    ensures len { result ≡ prefix_len (class_test class) s.now }
+    ensures within { result ≤ length s.now }
+{
+    s.iter().take_while(|b| is_in(class, **b)).count()
+}
+
+/// What follows the first `n` bytes, or nothing where there are fewer.
+pub(crate) fn skip(s: &[u8], n: usize) -> &[u8]
+    ensures { result.now ≡ drop n s.now }
+{
+    if n <= s.len() { &s[n..] } else { &[] }
+}
+
+/// What follows the longest front of the class.
+pub(crate) fn past_run(s: &[u8], class: Class) -> &[u8]
+    ensures { result.now ≡ reading.after (class_test class) s.now }
+{
+    skip(s, run_len(s, class))
+}
+
+/// What follows the first byte, where it is this one.
+pub(crate) fn past(s: &[u8], b: u8) -> Option<&[u8]>
+    ensures { option_map (λ rest. rest.now) result ≡ reading.past b s.now }
+{
+    if first(s) == b {
+        Some(skip(s, 1))
+    } else {
+        None
+    }
+}

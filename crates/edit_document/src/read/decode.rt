@@ -1,0 +1,149 @@
+//! What keys and strings say.
+ghost use Rattle.std.specs.Prelude.{◌≡◌, ℕ, ◌+◌, ◌-◌, ◌<◌, ◌≤◌, List, [], length, take, drop, ◌++◌, false, IfOk, IfErr, IsTrue, string_bytes, encode_utf8};
+ghost use Rattle.std.specs.Str.{IsCharBoundary};
+ghost use Rattle.edit_document.specs.Errors.{IsMemory};
+ghost use Rattle.edit_document.specs.Characters.{quote};
+ghost use Rattle.std.specs.Str.Parse.{digits_value};
+ghost use Rattle.edit_document.specs.Strings as strings;
+ghost use Rattle.edit_document.specs.Strings.{Piece, piece, IsBasicPiece, NamesScalar};
+ghost use Rattle.edit_document.specs.Decoding.{delimiter, delimited, IsEscape, BasicSays, Says};
+
+use super::bytes::{Class, byte_at, run_len, skip};
+use super::marks::{Mark, MarkKind};
+use super::tokens::scalar;
+use crate::errors::CargoResult;
+use std::alloc::Global;
+
+/// How long the delimiter of a token is.
+fn delimiter_len(kind: MarkKind) -> usize
+    ensures { result ≡ length (delimiter kind) }
+{
+    match kind {
+        MarkKind::BasicPart | MarkKind::LiteralPart => 1,
+        MarkKind::BasicString | MarkKind::LiteralString => 1,
+        MarkKind::MultiBasicString | MarkKind::MultiLiteralString => 3,
+        _ => 0,
+    }
+}
+
+/// What stands between the delimiters of the token with this mark, as it is written.
+pub(crate) fn content(text: &str, mark: Mark) -> &str
+    // However the text is split at the token.
+    ensures { (before content rest said : List ℕ) → text.now ≡ before ++ delimited mark.kind content rest →
+        mark.from ≡ length (delimited mark.kind content rest) → mark.to ≡ length rest →
+        Says mark.kind content said → result.now ≡ content }
+{
+    let width = delimiter_len(mark.kind);
+    let start = text.len().saturating_sub(mark.from) + width;
+    let end = text.len().saturating_sub(mark.to).saturating_sub(width);
+    text.get(start..end).unwrap_or("")
+}
+
+/// Whether a content of this kind stands for itself.
+pub(crate) fn is_plain(kind: MarkKind, content: &str) -> bool
+    ensures plain { IsTrue result → (said : List ℕ) → Says kind content.now said → said ≡ content.now }
+    ensures escaped { result ≡ false → (said : List ℕ) → Says kind content.now said → BasicSays content.now said }
+{
+    match kind {
+        MarkKind::BasicPart | MarkKind::BasicString => {
+            run_len(content.as_bytes(), Class::Unescaped) == content.len()
+        }
+        MarkKind::MultiBasicString | MarkKind::MultiLiteralString => false,
+        _ => true,
+    }
+}
+
+/// The character that the letter of an escape names.
+fn escaped(letter: u8) -> char
+    ensures { result ≡ strings.escaped letter }
+{
+    match letter {
+        b'b' => '\u{8}',
+        b't' => '\t',
+        b'n' => '\n',
+        b'f' => '\u{c}',
+        b'r' => '\r',
+        other => char::from(other),
+    }
+}
+
+/// The character that the first `n` digits name.
+fn coded(bytes: &[u8], n: usize) -> char
+    requires { n ≤ 8 }
+    ensures { (digits rest : List ℕ) → bytes.now ≡ digits ++ rest → NamesScalar n digits →
+        result ≡ digits_value 16 digits }
+{
+    if bytes.len() < n {
+        return char::REPLACEMENT_CHARACTER;
+    }
+    scalar(&bytes[..n]).unwrap_or(char::REPLACEMENT_CHARACTER)
+}
+
+/// The character that the escape at the front names, and how many bytes the escape has.
+fn escape(bytes: &[u8]) -> (char, usize)
+    ensures some { 2 ≤ result.1 }
+    ensures names { (p : Piece) (rest : List ℕ) → IsEscape p → IsBasicPiece p → bytes.now ≡ piece quote p rest →
+        (encode_utf8 result.0 ≡ strings.said quote p) × (result.1 ≡ length (piece quote p [])) }
+{
+    let letter = byte_at(bytes, 1);
+    if letter == b'u' {
+        return (coded(skip(bytes, 2), 4), 6);
+    }
+    if letter == b'U' {
+        return (coded(skip(bytes, 2), 8), 10);
+    }
+    (escaped(letter), 2)
+}
+
+/// The first `n` bytes of a text, where it may be cut there.
+fn front(s: &str, n: usize) -> &str
+    ensures { IsCharBoundary s.now n → result.now ≡ take n s.now }
+{
+    match s.split_at_checked(n) {
+        Some((front, _)) => front,
+        None => "",
+    }
+}
+
+/// What follows the first `n` bytes of a text, where it may be cut there.
+fn behind(s: &str, n: usize) -> &str
+    ensures text { IsCharBoundary s.now n → result.now ≡ drop n s.now }
+    ensures shorter { length result.now ≤ length s.now - n }
+{
+    match s.split_at_checked(n) {
+        Some((_, behind)) => behind,
+        None => "",
+    }
+}
+
+/// What the content of a basic string says.
+fn decoded(alloc: Global, content: &str) -> CargoResult<String>
+    ensures text { (said : List ℕ) → BasicSays content.now said → IfOk result (λ s. string_bytes s ≡ said) }
+    ensures refused { IfErr result IsMemory }
+{
+    let mut out = String::new(alloc);
+    let mut rest = content;
+    'pieces: for _piece in 0..content.len() + 1 {
+        let run = run_len(rest.as_bytes(), Class::Unescaped);
+        out.push_str(front(rest, run))?;
+        let tail = behind(rest, run);
+        if tail.is_empty() {
+            return Ok(out);
+        }
+        let (named, len) = escape(tail.as_bytes());
+        out.push(named)?;
+        rest = behind(tail, len);
+    }
+    Ok(out)
+}
+
+/// What a content of this kind says.
+pub(crate) fn said(alloc: Global, kind: MarkKind, content: &str) -> CargoResult<String>
+    ensures text { (said : List ℕ) → Says kind content.now said → IfOk result (λ s. string_bytes s ≡ said) }
+    ensures refused { IfErr result IsMemory }
+{
+    if is_plain(kind, content) {
+        return Ok(String::from_str(alloc, content)?);
+    }
+    decoded(alloc, content)
+}

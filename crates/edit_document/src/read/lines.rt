@@ -1,0 +1,101 @@
+//! Lines, noted down from left to right.
+ghost use Rattle.std.specs.Prelude.{◌≡◌, ◌<◌, ◌≤◌, IfOk, MatchResult};
+ghost use Rattle.edit_document.specs.declared.read.marks.ReadError.TheVariants.{Memory};
+ghost use Rattle.edit_document.specs.Grammar.{Text, Spells};
+ghost use Rattle.edit_document.specs.Supported.{IsSupported};
+ghost use Rattle.edit_document.specs.Depth.{text_depth};
+ghost use Rattle.edit_document.specs.Reading as reading;
+ghost use Rattle.edit_document.specs.Marks.{statement_marks, line_marks, text_marks};
+ghost use Rattle.edit_document.specs.Noting.{Skips, Notes};
+
+use super::bytes::{Class, byte_at, first, past, past_run, skip};
+use super::marks::{Mark, MarkKind, ReadError};
+use super::values::{key, note, pair};
+use std::alloc::Global;
+
+#[tactic(auto, unfolding(crate::specs::Reading::statement_at))]
+fn statement<'a>(out: &mut Vec<Mark>, s: &'a [u8], depth: usize) -> Result<&'a [u8], ReadError>
+    requires { depth < 1000 }
+    ensures { Notes statement_marks out.old out.new result (reading.statement_at depth s.now) }
+{
+    if first(s) != b'[' {
+        return pair(out, s, depth);
+    }
+    let after_key = key(out, past_run(skip(s, 1), Class::Blank))?;
+    let end = past_run(after_key, Class::Blank);
+    let Some(rest) = past(end, b']') else {
+        return Err(ReadError::NotToml { left: end.len() });
+    };
+    note(out, MarkKind::Header, s, rest)?;
+    Ok(rest)
+}
+
+fn past_comment(s: &[u8]) -> &[u8]
+    ensures { result.now ≡ reading.past_comment s.now }
+{
+    if first(s) == b'#' {
+        past_run(skip(s, 1), Class::Comment)
+    } else {
+        s
+    }
+}
+
+fn is_line_over(b: u8) -> bool
+    ensures { result ≡ reading.is_line_over b }
+{
+    b == 0 || b == b'#' || b == b'\n' || b == b'\r'
+}
+
+pub(crate) fn line<'a>(
+    out: &mut Vec<Mark>,
+    s: &'a [u8],
+    depth: usize,
+) -> Result<&'a [u8], ReadError>
+    requires { depth < 1000 }
+    ensures { Notes line_marks out.old out.new result (reading.line_at depth s.now) }
+{
+    let start = past_run(s, Class::Blank);
+    if is_line_over(first(start)) {
+        return Ok(past_comment(start));
+    }
+    let rest = statement(out, start, depth)?;
+    Ok(past_comment(past_run(rest, Class::Blank)))
+}
+
+#[tactic(auto, unfolding(crate::specs::Reading::line_end_at))]
+pub(crate) fn past_line_end(s: &[u8]) -> Option<&[u8]>
+    ensures { Skips result (reading.line_end_at s.now) }
+{
+    if first(s) == b'\n' {
+        Some(skip(s, 1))
+    } else if first(s) == b'\r' && byte_at(s, 1) == b'\n' {
+        Some(skip(s, 2))
+    } else {
+        None
+    }
+}
+
+/// The marks of all lines of a text, with inline tables at most 80 deep in one another.
+pub(crate) fn lines(alloc: Global, text: &[u8]) -> Result<Vec<Mark>, ReadError>
+    ensures found { IfOk result (λ v.
+        (form : Text) × Spells text.now form × IsSupported form × (text_depth form ≤ 80)
+        × (v.items ≡ text_marks form)) }
+    ensures only { (form : Text) → Spells text.now form → IsSupported form → text_depth form ≤ 80 →
+        MatchResult result (λ v. v.items ≡ text_marks form) (λ e. e ≡ Memory) }
+{
+    let mut out = Vec::new(alloc);
+    let mut rest = text;
+    'lines: for _line in 0..text.len() + 1 {
+        let after_line = line(&mut out, rest, 80)?;
+        if after_line.is_empty() {
+            return Ok(out);
+        }
+        let Some(next) = past_line_end(after_line) else {
+            return Err(ReadError::NotToml {
+                left: after_line.len(),
+            });
+        };
+        rest = next;
+    }
+    Err(ReadError::NotToml { left: rest.len() })
+}

@@ -1,0 +1,111 @@
+//! Keys, values and pairs, noted down from left to right.
+ghost use Rattle.std.specs.Prelude.{◌≡◌, ◌<◌};
+ghost use Rattle.edit_document.specs.Reading as reading;
+ghost use Rattle.edit_document.specs.Marks.{mark, key_marks, value_marks};
+ghost use Rattle.edit_document.specs.Noting.{Notes, Noted, pair_marks, inner_marks};
+
+use super::bytes::{Class, first, past, past_run, skip};
+use super::marks::{Mark, MarkKind, ReadError};
+use super::tokens::{past_part, past_scalar};
+
+/// Notes the token that stands before `to` in `from`.
+pub(crate) fn note(
+    out: &mut Vec<Mark>,
+    kind: MarkKind,
+    from: &[u8],
+    to: &[u8],
+) -> Result<(), ReadError>
+    ensures { Noted out.old out.new result (mark kind from.now to.now) }
+{
+    out.push(Mark {
+        kind,
+        from: from.len(),
+        to: to.len(),
+    })?;
+    Ok(())
+}
+
+/// A key of one part.
+pub(crate) fn key<'a>(out: &mut Vec<Mark>, s: &'a [u8]) -> Result<&'a [u8], ReadError>
+    ensures { Notes key_marks out.old out.new result (reading.key_at s.now) }
+{
+    let Some((kind, rest)) = past_part(s) else {
+        return Err(ReadError::NotToml { left: s.len() });
+    };
+    note(out, kind, s, rest)?;
+    Ok(rest)
+}
+
+fn scalar<'a>(out: &mut Vec<Mark>, s: &'a [u8]) -> Result<&'a [u8], ReadError>
+    ensures { Notes value_marks out.old out.new result (reading.scalar_at s.now) }
+{
+    let Some((kind, rest)) = past_scalar(s) else {
+        return Err(ReadError::NotToml { left: s.len() });
+    };
+    note(out, kind, s, rest)?;
+    Ok(rest)
+}
+
+#[cycle(values)]
+#[tactic(auto, unfolding(crate::specs::Reading::pair_at))]
+pub(crate) fn pair<'a>(
+    out: &mut Vec<Mark>,
+    s: &'a [u8],
+    depth: usize,
+) -> Result<&'a [u8], ReadError>
+    requires { depth < 1000 }
+    ensures { Notes pair_marks out.old out.new result (reading.pair_at (reading.value_at depth) s.now) }
+{
+    let after_key = key(out, s)?;
+    let sign = past_run(after_key, Class::Blank);
+    let Some(rest) = past(sign, b'=') else {
+        return Err(ReadError::NotToml { left: sign.len() });
+    };
+    value(out, past_run(rest, Class::Blank), depth)
+}
+
+#[cycle(values)]
+fn members<'a>(
+    out: &mut Vec<Mark>,
+    s: &'a [u8],
+    depth: usize,
+    count: usize,
+) -> Result<&'a [u8], ReadError>
+    requires { depth < 1000 }
+    ensures { Notes inner_marks out.old out.new result (reading.members_at (reading.value_at depth) count s.now) }
+{
+    let mut rest = s;
+    'members: for _member in 0..count {
+        let after_value = pair(out, rest, depth)?;
+        let end = past_run(after_value, Class::Blank);
+        if first(end) != b',' {
+            let Some(after) = past(end, b'}') else {
+                return Err(ReadError::NotToml { left: end.len() });
+            };
+            note(out, MarkKind::CloseTable, end, after)?;
+            return Ok(after);
+        }
+        rest = past_run(skip(end, 1), Class::Blank);
+    }
+    Err(ReadError::NotToml { left: rest.len() })
+}
+
+#[cycle(values)]
+#[tactic(auto, unfolding(crate::specs::Reading::value_at))]
+fn value<'a>(out: &mut Vec<Mark>, s: &'a [u8], depth: usize) -> Result<&'a [u8], ReadError>
+    requires { depth < 1000 }
+    ensures { Notes value_marks out.old out.new result (reading.value_at depth s.now) }
+{
+    if depth == 0 || first(s) != b'{' {
+        return scalar(out, s);
+    }
+    let behind = skip(s, 1);
+    note(out, MarkKind::OpenTable, s, behind)?;
+    let inner = past_run(behind, Class::Blank);
+    if first(inner) == b'}' {
+        let after = skip(inner, 1);
+        note(out, MarkKind::CloseTable, inner, after)?;
+        return Ok(after);
+    }
+    members(out, inner, depth - 1, s.len())
+}

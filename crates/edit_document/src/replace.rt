@@ -1,0 +1,133 @@
+//! Literals written in the place of values.
+ghost use Rattle.std.specs.Prelude.{◌≡◌, IfOk, IfErr, true, map, string_bytes};
+ghost use Rattle.edit_document.specs.Errors.{IsMemory};
+ghost use Rattle.edit_document.specs.Grammar.{Text, text as text_of};
+ghost use Rattle.edit_document.specs.Items.{place_seen};
+ghost use Rattle.edit_document.specs.Ranges.{one_edit, edits_seen};
+ghost use Rattle.edit_document.specs.Replaces.{Edits, replaced, written, emptied, is_string, AreStrings, AreDistinct, Replaces};
+ghost use Rattle.edit_document.specs.Assertions.{Place as PlaceSeen};
+ghost use Rattle.edit_document.specs.Shown.{tree_of};
+ghost use Rattle.edit_document.specs.Splices.{range_of, spliced, AreInOrder, IsRangeFor, Locates};
+ghost use Rattle.edit_document.specs.Supported.{IsManifest};
+ghost use Rattle.edit_document.specs.Tree.{is_value_at, view_at};
+
+use crate::document::Document;
+use crate::errors::CargoResult;
+use crate::literal::push_literal;
+use crate::place::{Place, Step};
+use std::alloc::Global;
+
+/// Another text for the value that is written from `start` to `end`.
+#[derive(Clone, Copy)]
+pub(crate) struct Rewrite<'a> {
+    pub(crate) start: usize,
+    pub(crate) end: usize,
+    pub(crate) text: &'a str,
+}
+
+/// The text with the literal of each other text in the place of its range, in one pass.
+pub(crate) fn splice(alloc: Global, text: &str, rewrites: &[Rewrite<'_>]) -> CargoResult<String>
+    requires { AreInOrder text.now 0 (map range_of rewrites.now) }
+    ensures text { IfOk result (λ s. string_bytes s ≡ spliced text.now 0 (map range_of rewrites.now)) }
+    ensures refused { IfErr result IsMemory }
+{
+    let mut out = String::with_capacity(alloc, text.len())?;
+    let mut at = 0;
+    for rewrite in rewrites {
+        out.push_str(&text[at..rewrite.start])?;
+        push_literal(&mut out, rewrite.text)?;
+        at = rewrite.end;
+    }
+    out.push_str(&text[at..])?;
+    Ok(out)
+}
+
+/// The same of ranges that stand in any order, each the range of an edit.
+pub(crate) fn splice_unordered(
+    alloc: Global,
+    source: &str,
+    rewrites: &mut [Rewrite<'_>],
+) -> CargoResult<String>
+    requires { (form : Text) × (edits : Edits) × Locates source.now form edits (map range_of rewrites.old) }
+    ensures text { (form : Text) → (edits : Edits) → Locates source.now form edits (map range_of rewrites.old)
+        → IfOk result (λ s. string_bytes s ≡ text_of (replaced edits form)) }
+    ensures refused { IfErr result IsMemory }
+{
+    rewrites.sort_unstable_by_key(|rewrite| rewrite.start);
+    splice(alloc, source, rewrites)
+}
+
+impl Document {
+    /// Whether a value stands at a place: it was written behind an equals sign or as an array's element.
+    pub fn is_value(&self, place: &[Step]) -> bool
+        ensures { (form : Text) → IsManifest self.now.bytes form → result ≡ is_value_at form (place_seen place.now) }
+    {
+        self.value_range(place).is_some()
+    }
+
+    /// The rewrite of a string at a place.
+    fn rewrite_of<'a>(&self, place: &[Step], text: &'a str) -> Rewrite<'a>
+        requires { (form : Text) → IsManifest self.now.bytes form → is_string (view_at form (place_seen place.now)) ≡ true }
+        ensures { (form : Text) → IsManifest self.now.bytes form
+            → IsRangeFor form (record { 0 = place_seen place.now; 1 = text.now }) (range_of result) }
+    {
+        self.has_form();
+        match self.value_range(place) {
+            Some((start, end)) => Rewrite { start, end, text },
+            None => unreachable!(),
+        }
+    }
+
+    /// The document's text with the literal of another text in the place of a value.
+    pub(crate) fn with_literal(
+        &self,
+        alloc: Global,
+        place: &[Step],
+        text: &str,
+    ) -> CargoResult<String>
+        requires is_value { (form : Text) → IsManifest self.now.bytes form → is_value_at form (place_seen place.now) ≡ true }
+        ensures bytes { IfOk result (λ s. (form : Text) → IsManifest self.now.bytes form
+            → string_bytes s ≡ text_of (replaced (one_edit (place_seen place.now) text.now) form)) }
+        ensures replaces { IfOk result (λ s. Replaces (one_edit (place_seen place.now) text.now) self.now.bytes (string_bytes s)) }
+        ensures refused { IfErr result IsMemory }
+    {
+        self.has_form();
+        match self.value_range(place) {
+            Some((start, end)) => splice(alloc, self.as_str(), &[Rewrite { start, end, text }]),
+            None => unreachable!(),
+        }
+    }
+
+    /// The document's text with the literals of other texts in the place of strings. The places may come in any order.
+    pub fn with_literals(&self, alloc: Global, edits: &[(Place, String)]) -> CargoResult<String>
+        requires strings { AreStrings (edits_seen edits.now) (tree_of self.now) }
+        requires distinct { AreDistinct (edits_seen edits.now) }
+        ensures bytes { IfOk result (λ s. (form : Text) → IsManifest self.now.bytes form → string_bytes s ≡ text_of (replaced (edits_seen edits.now) form)) }
+        ensures replaces { IfOk result (λ s. Replaces (edits_seen edits.now) self.now.bytes (string_bytes s)) }
+        ensures tree { IfOk result (λ s. (form : Text) → IsManifest (string_bytes s) form → (at : PlaceSeen)
+            → view_at form at ≡ written (edits_seen edits.now) (tree_of self.now) at) }
+        ensures refused { IfErr result IsMemory }
+    {
+        self.has_form();
+        let mut rewrites = Vec::with_capacity(alloc, edits.len())?;
+        for edit in edits {
+            rewrites.push(self.rewrite_of(&edit.0, edit.1.as_str()))?;
+        }
+        splice_unordered(alloc, self.as_str(), &mut rewrites)
+    }
+
+    /// Writes the literal of a text in the place of a value. After a refusal the document is as it was.
+    pub fn set_literal(&mut self, alloc: Global, place: &[Step], text: &str) -> CargoResult<()>
+        requires is_value { (form : Text) → IsManifest self.old.bytes form → is_value_at form (place_seen place.now) ≡ true }
+        ensures bytes { IfOk result (λ _. Replaces (one_edit (place_seen place.now) text.now) self.old.bytes self.new.bytes) }
+        ensures tree { IfOk result (λ _. (at : PlaceSeen) → let edit = one_edit (place_seen place.now) text.now in
+            tree_of self.new at ≡ written edit (emptied edit (tree_of self.old)) at) }
+        ensures err { IfErr result (λ _. self.new ≡ self.old) }
+        ensures refused { IfErr result IsMemory }
+    {
+        self.has_form();
+        let new_text = self.with_literal(alloc, place, text)?;
+        *self = Document::read(alloc, new_text.as_str())?;
+        Ok(())
+    }
+}
