@@ -1,0 +1,21 @@
+-- What a search for a version among the entries of an index finds.
+use Rattle.std.specs.Prelude.{◌≡◌, Bool, List, Option, Some, None, true}
+use Rattle.std.specs.Ordering.{is_le}
+use Rattle.semver.specs.Parse.{Parts}
+use Rattle.edit_record.specs.Admissible.{entry_order, is_kept}
+use Rattle.edit_record.specs.Greatest.{IsGreatest, IsGreatestKept}
+use Rattle.edit_record.specs.IndexEntry.{IndexEntry}
+use Rattle.edit_record.specs.Records.{IsRegistryDependency}
+use Rattle.edit_record.specs.RustVersions.{Numbers}
+use Rattle.edit_record.specs.declared.dependency.Dependency.{Dependency}
+
+-- the greatest of the admissible entries whose versions pass a test, the last of equal ones, as a dependency; none where none is (own)
+abbrev pub IsFound : Option Numbers → (Parts → Bool) → List IndexEntry → Option Dependency → Type 0
+IsFound rust test entries None = IsGreatest (is_kept rust test) entry_order entries None
+IsFound rust test entries (Some d) = (e : IndexEntry) × IsGreatestKept (is_kept rust test) entry_order entries e × IsRegistryDependency e.name e.version d
+
+-- such an entry is found, and it is not less than this one (own)
+abbrev pub IsFoundAtLeast : Option Numbers → (Parts → Bool) → List IndexEntry → IndexEntry → Option Dependency → Type 0
+IsFoundAtLeast rust test entries least None = ⊥
+IsFoundAtLeast rust test entries least (Some d) = (e : IndexEntry) × IsGreatestKept (is_kept rust test) entry_order entries e
+    × IsRegistryDependency e.name e.version d × (is_le (entry_order least e) ≡ true)

@@ -1,0 +1,34 @@
+-- The record of an entry of a dependency table (Cargo reference, "Specifying Dependencies").
+use Rattle.std.specs.Prelude.{◌≡◌, ℕ, List, Option, Some, None, option_and_then, option_map, string_bytes}
+use Rattle.std.specs.BTreeMap.{btree_map_len}
+use Rattle.edit_record.specs.Requirement.{cut}
+use Rattle.edit_record.specs.declared.dependency.Dependency.{Dependency}
+use Rattle.edit_record.specs.declared.dependency.RegistrySource.{RegistrySource}
+use Rattle.edit_record.specs.declared.dependency.Source.{Source}
+use Rattle.edit_record.specs.declared.dependency.Source.TheVariants.{Registry, Path, Git, Workspace}
+
+-- the version text of a source, which one that is the workspace's entry has not (own)
+abbrev pub source_version : Source → Option (List ℕ)
+source_version (Registry s) = Some (string_bytes s.version)
+source_version (Path s) = option_map string_bytes s.version
+source_version (Git s) = option_map string_bytes s.version
+source_version (Workspace s) = None
+
+-- the version text of a dependency's source (own)
+abbrev pub version_of : Dependency → Option (List ℕ)
+version_of d = option_and_then source_version d.source
+
+-- a dependency of this name, of which nothing but perhaps its source is known (own)
+pub record IsBare (crate_name : List ℕ) (d : Dependency) : Type 0 where
+  pub name : string_bytes d.name ≡ crate_name
+  pub optional : d.optional ≡ None
+  pub features : d.features ≡ None
+  pub default_features : d.default_features ≡ None
+  pub inherited_features : d.inherited_features ≡ None
+  pub registry : d.registry ≡ None
+  pub rename : d.rename ≡ None
+  pub available_features : btree_map_len d.available_features ≡ 0
+
+-- a dependency of this name in a registry, at this version text before its first `+` (own)
+abbrev pub IsRegistryDependency : List ℕ → List ℕ → Dependency → Type 0
+IsRegistryDependency name version d = IsBare name d × ((s : RegistrySource) × (d.source ≡ Some (Registry s)) × (string_bytes s.version ≡ cut version))

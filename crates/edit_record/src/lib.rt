@@ -1,0 +1,21 @@
+//! Records of a manifest's entries, versions and requirements, and the choice of a version.
+#![tactic(auto)]
+
+pub mod crate_spec;
+pub mod dependency;
+pub mod fetch;
+pub mod find;
+pub mod requirement;
+mod requirement_text;
+#[cfg(test)]
+mod tests;
+pub mod version;
+
+pub use crate_spec::CrateSpec;
+pub use dependency::{Dependency, GitSource, PathSource, RegistrySource, Source, WorkspaceSource};
+pub use fetch::{IndexVersion, RustVersion};
+pub use find::{
+    Candidate, dependency_on, find_compatible_version, find_latest_version, read_candidate,
+};
+pub use requirement::{admits, allows_prerelease, cut, upgrade_requirement};
+pub use version::VersionExt;
