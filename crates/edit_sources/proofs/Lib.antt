@@ -1,0 +1,9 @@
+pub mod ChainLemmas
+pub mod ConfigurationLemmas
+pub mod FileLemmas
+pub mod FirstLemmas
+pub mod FolderLemmas
+pub mod FrontLemmas
+pub mod NameLemmas
+pub mod RankLemmas
+pub mod SourceLemmas

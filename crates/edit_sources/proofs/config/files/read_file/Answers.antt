@@ -1,0 +1,15 @@
+use Rattle.std.proofs.Common.{◌≡◌, ℕ, List, true, Some, option_map, Vec, Global, ◌∙◌, subst, inl, inr, ⊎_elim, sym, ap}
+use Rattle.edit_sources.specs.Configuration.{SaysNothing}
+use Rattle.edit_sources.specs.ConfigurationFiles.{standing}
+use Rattle.edit_sources.proofs.config.files.read_file.Goals as goal
+
+pub returns-clause-refused : goal.returns-clause-refused
+returns-clause-refused g c =
+    let file : List ℕ × List ℕ = (c.args.path.now, c.in-Ok-Some.bytes.items) in
+    let stands : g.S.Store.tells c.args.store.now ≡ true → standing (g.S.Store.file_at c.args.store.now) c.args.path.now ≡ Some file
+    = λ tells. ap (option_map (λ (bytes : List ℕ). let pair : List ℕ × List ℕ = (c.args.path.now, bytes) in pair)) (sym (c.in-Ok-Some.ensures.bytes tells) ∙ ap (option_map (λ (v : Vec ℕ Global). v.items)) c.in-Ok-Some.field-0-is) in
+    ⊎_elim (λ memory. inl memory) (λ refused. inr (inr (record {
+      file = file;
+      stands = stands;
+      unread = record { named = refused.0; nothing = subst SaysNothing c.deref.ensures.value refused.1 };
+    }))) c.in-Err-read.ensures.refused

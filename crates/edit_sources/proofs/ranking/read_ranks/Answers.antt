@@ -1,0 +1,12 @@
+use Rattle.std.proofs.Common.{ap, sym, ◌∙◌, ◌++◌}
+use Rattle.edit_record.specs.IndexEntry.{entry_of}
+use Rattle.edit_sources.specs.Ranking.{rank_at}
+use Rattle.edit_sources.proofs.RankLemmas.{ranks_from-step}
+use Rattle.edit_sources.proofs.ranking.read_ranks.Goals as goal
+
+pub loop-place-preserved : goal.loop-place-preserved
+loop-place-preserved c =
+    let told = c.index-entries-place.result in
+    c.in_ok-push_rank.ensures.ok
+    ∙ ap (λ ranks. ranks ++ rank_at c.loop-place.place (entry_of told)) c.loop-place.invariant
+    ∙ sym (ranks_from-step c.args.entries.now c.loop-place.place told c.loop-place-test.true c.index-entries-place.is)

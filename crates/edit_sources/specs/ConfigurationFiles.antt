@@ -1,0 +1,110 @@
+-- Which configuration files count, the first one first (Cargo reference, "Configuration", Hierarchical structure).
+use Rattle.std.specs.Prelude.{◌≡◌, ◌≢◌, ◌≤◌, ℕ, List, [], ◌∷◌, ◌++◌, map, Option, Some, None, option_map, Bool, true, codes, ⊤, string_bytes}
+use Rattle.std.specs.List.{filter_map, AllZip}
+use Rattle.std.specs.Option.{option_to_list}
+use Rattle.edit_document.specs.Paths.{joined, IsFolderOf}
+use Rattle.edit_document.specs.declared.errors.Error.{Error}
+use Rattle.edit_document.specs.declared.errors.Error.TheVariants.{Device}
+use Rattle.edit_document.specs.declared.errors.DeviceCall.TheVariants.{Read}
+use Rattle.edit_sources.specs.Store.{Files, SameFiles, raised}
+use Rattle.edit_sources.specs.Configuration.{Says, SaysNothing}
+use Rattle.url.specs.Parts.{Parts}
+use Rattle.edit_sources.specs.Configured.{configuration, IsConfigRefusal, HasAddress, HasNoUrl}
+use Rattle.edit_sources.specs.Sources.{or_else}
+use Rattle.edit_sources.specs.declared.config.Config.{Config}
+
+-- the folders that are passed on the way upwards from one, and the folder that is reached (own)
+pub data Climbs (start : List ℕ) : List (List ℕ) → List ℕ → Type 0 where
+  begin : Climbs start [] start
+  step : (passed : List (List ℕ)) (here above : List ℕ) → Climbs start passed here → here ≢ codes "/" → IsFolderOf here above → Climbs start (passed ++ here ∷ []) above
+
+-- the folders of a file, from its own upwards to the root (own)
+pub record IsUpwards (path : List ℕ) (folders : List (List ℕ)) : Type 0 where
+  pub start : List ℕ
+  pub own : IsFolderOf path start
+  pub passed : List (List ℕ)
+  pub climbs : Climbs start passed (codes "/")
+  pub all : folders ≡ passed ++ codes "/" ∷ []
+
+-- where files may stand: `.cargo` in each folder from the manifest's upwards, and then the home of cargo (Cargo reference, "Configuration", Hierarchical structure)
+pub record IsSearched (manifest : List ℕ) (home : Option (List ℕ)) (places : List (List ℕ)) : Type 0 where
+  pub folders : List (List ℕ)
+  pub upwards : IsUpwards manifest folders
+  pub all : places ≡ map (λ folder. joined folder (codes ".cargo")) folders ++ option_to_list home
+
+-- a file that stands: its path and its bytes (own)
+abbrev pub standing : Files → List ℕ → Option (List ℕ × List ℕ)
+standing files path = option_map (λ bytes. (path, bytes)) (files path)
+
+-- the file that counts in a place: `config`, else `config.toml` (Cargo reference, "Configuration", Hierarchical structure)
+abbrev pub file_in : Files → List ℕ → Option (List ℕ × List ℕ)
+file_in files place = or_else (standing files (joined place (codes "config"))) (standing files (joined place (codes "config.toml")))
+
+-- the files that count in these places, in their order (own)
+abbrev pub files_in : Files → List (List ℕ) → List (List ℕ × List ℕ)
+files_in files places = filter_map (file_in files) places
+
+-- a configuration is what its file says (own)
+pub record IsReadFrom (file : List ℕ × List ℕ) (config : Config) : Type 0 where
+  pub path : string_bytes config.path ≡ file.0
+  pub said : Says file.1 (configuration config)
+
+-- a configuration where a file stands, none where none does (own)
+abbrev pub IsReadOf : Option (List ℕ × List ℕ) → Option Config → Type 0
+IsReadOf None None = ⊤
+IsReadOf (Some file) (Some config) = IsReadFrom file config
+IsReadOf _ _ = ⊥
+
+-- the refusal of a file that says nothing (own)
+pub record IsUnread (file : List ℕ × List ℕ) (e : Error) : Type 0 where
+  pub named : IsConfigRefusal file.0 e
+  pub nothing : SaysNothing file.1
+
+-- the device failed at a file (own)
+pub record HasFailed (before now : ℕ) (e : Error) : Type 0 where
+  pub is : e ≡ Device Read
+  pub counted : raised before now
+
+-- the files are only read (own)
+pub record OnlyReads (told_old told_new : Bool) (old new : Files) (before now : ℕ) : Type 0 where
+  pub tells : told_new ≡ told_old
+  pub files : SameFiles old new
+  pub later : before ≤ now
+
+-- why no file is read: the one that counts says nothing (own)
+pub record FileFails (tells : Bool) (counts : Option (List ℕ × List ℕ)) (e : Error) : Type 0 where
+  pub file : List ℕ × List ℕ
+  pub stands : tells ≡ true → counts ≡ Some file
+  pub unread : IsUnread file e
+
+-- the configurations of a manifest: what each file that counts says, in order (own)
+pub record AreConfigs (files : Files) (manifest : List ℕ) (home : Option (List ℕ)) (configs : List Config) : Type 0 where
+  pub places : List (List ℕ)
+  pub searched : IsSearched manifest home places
+  pub each : AllZip IsReadFrom (files_in files places) configs
+
+-- why files are not read: one that counts says nothing (own)
+pub record PlaceFails (tells : Bool) (files : Files) (places : List (List ℕ)) (e : Error) : Type 0 where
+  pub place : List ℕ
+  pub before : List (List ℕ)
+  pub after : List (List ℕ)
+  pub within : places ≡ before ++ place ∷ after
+  pub fails : FileFails tells (file_in files place) e
+
+-- why the configurations of a manifest are not read (own)
+pub record ConfigsFail (tells : Bool) (files : Files) (manifest : List ℕ) (home : Option (List ℕ)) (e : Error) : Type 0 where
+  pub places : List (List ℕ)
+  pub searched : IsSearched manifest home places
+  pub fails : PlaceFails tells files places e
+
+-- the URL of a registry under the configurations of a manifest (own)
+pub record ConfiguredUrl (files : Files) (manifest : List ℕ) (home registry : Option (List ℕ)) (url : Parts) : Type 0 where
+  pub configs : List Config
+  pub read : AreConfigs files manifest home configs
+  pub address : HasAddress configs registry url
+
+-- why a registry has no URL under the configurations of a manifest (own)
+pub record HasNoConfiguredUrl (tells : Bool) (files : Files) (manifest : List ℕ) (home registry : Option (List ℕ)) (e : Error) : Type 0 where
+  pub configs : List Config
+  pub read : tells ≡ true → AreConfigs files manifest home configs
+  pub none : HasNoUrl configs registry e

@@ -1,0 +1,30 @@
+-- What a look in an index of one file gives (own).
+use Rattle.std.specs.Prelude.{◌≡◌, ℕ, List, [], ◌∷◌, Option, Some, None, Ok, Err, true, false, map, ◌⊎◌}
+use Rattle.std.specs.List.{filter}
+use Rattle.std.specs.Option.{option_map_or}
+use Rattle.std.specs.Str.{bytes_eq}
+use Rattle.std.specs.BTreeMap.{get_by_text}
+use Rattle.edit_record.specs.IndexEntry.{IndexEntry, entry_of}
+use Rattle.edit_sources.specs.Index.{Outcome}
+use Rattle.edit_sources.specs.IndexLines.{LinesSay, lines_of}
+use Rattle.edit_sources.specs.Names.{is_crate_name}
+use Rattle.edit_sources.specs.declared.file_index.FileIndex.{FileIndex}
+
+-- the entries of a name, in the order of the lines (own)
+abbrev pub named : FileIndex → List ℕ → List IndexEntry
+named index name = map entry_of (option_map_or (λ g. g.items) (get_by_text index.groups name) [])
+
+-- the lines of a file say entries, and each name has those of equal name, in order (own)
+pub record HoldsLines (index : FileIndex) (bytes : List ℕ) : Type 0 where
+  pub entries : List IndexEntry
+  pub say : LinesSay (lines_of bytes) entries
+  pub groups : (name : List ℕ) → named index name ≡ filter (λ e. bytes_eq name e.name) entries
+
+-- none where there are none (own)
+abbrev pub if_any : List IndexEntry → Option (List IndexEntry)
+if_any [] = None
+if_any (e ∷ es) = Some (e ∷ es)
+
+-- what a look gives, at every address: 29 for a name that no index may have, else the entries of equal name (own)
+abbrev pub FileGives : FileIndex → List ℕ → Outcome → Type 0
+FileGives index name outcome = ((is_crate_name name ≡ false) × (outcome ≡ Err 29)) ⊎ ((is_crate_name name ≡ true) × (outcome ≡ Ok (if_any (named index name))))

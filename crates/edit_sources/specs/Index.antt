@@ -1,0 +1,45 @@
+-- What a look in an index may give (Cargo reference, "Registries", index format).
+use Rattle.std.specs.Prelude.{◌≡◌, ℕ, ◌≤◌, ◌⊎◌, ◌↔◌, List, map, Option, option_map, Result, Ok, Err, IfErr}
+use Rattle.url.specs.Parts.{Parts}
+use Rattle.edit_document.specs.declared.errors.Error.{Error}
+use Rattle.edit_document.specs.Errors.{number_of, IsMemory}
+use Rattle.edit_record.specs.IndexEntry.{IndexEntry, entry_of}
+use Rattle.edit_sources.specs.Store.{raised}
+use Rattle.edit_sources.specs.declared.index.IndexKrate.{IndexKrate}
+
+-- the entries of an answer (own)
+abbrev pub entries_of : IndexKrate → List IndexEntry
+entries_of krate = map entry_of krate.versions.items
+
+-- an answer by its entries; none where the index has no such name (own)
+abbrev pub answer_of : Option IndexKrate → Option (List IndexEntry)
+answer_of krate = option_map entries_of krate
+
+-- what a look gives: an answer, or the number of a refusal (own)
+abbrev pub Outcome : Type 0
+Outcome = Result (Option (List IndexEntry)) ℕ
+
+-- which outcomes a look for a name at an address may have (own)
+abbrev pub Outcomes : Type 1
+Outcomes = Parts → List ℕ → Outcome → Type 0
+
+-- the numbers of the refusals that an index gives: 27 to 30 (own)
+abbrev pub IsLookRefusal : ℕ → Type 0
+IsLookRefusal n = (27 ≤ n) × (n ≤ 30)
+
+-- the same outcomes at each address and name (own)
+abbrev pub SameOutcomes : Outcomes → Outcomes → Type 0
+SameOutcomes old new = (address : Parts) (name : List ℕ) (outcome : Outcome) → new address name outcome ↔ old address name outcome
+
+-- why a look is refused: want of memory, one of the index's outcomes, or a fault of the device below that was counted (own)
+abbrev pub RefusesLook : Outcomes → Parts → List ℕ → ℕ → ℕ → Error → Type 0
+RefusesLook gives address name before now e = IsMemory e ⊎ ((IsLookRefusal (number_of e) × gives address name (Err (number_of e))) ⊎ ((number_of e ≡ 3) × raised before now))
+
+-- the same, without the count (own)
+abbrev pub IsLookError : Outcomes → Parts → List ℕ → Error → Type 0
+IsLookError gives address name e = IsMemory e ⊎ ((IsLookRefusal (number_of e) × gives address name (Err (number_of e))) ⊎ (number_of e ≡ 3))
+
+-- the count of faults never falls, and a look is refused only for such a cause (own)
+pub record HasLookCause {T : Type 0} (gives : Outcomes) (address : Parts) (name : List ℕ) (before now : ℕ) (result : Result T Error) : Type 0 where
+  pub later : before ≤ now
+  pub refused : IfErr result (RefusesLook gives address name before now)

@@ -1,0 +1,75 @@
+-- The lines of an index file, one JSON object each (Cargo reference, "Registries", index format).
+use Rattle.std.specs.Prelude.{◌≡◌, ℕ, ◌+◌, ◌⊎◌, List, [], ◌∷◌, ◌++◌, Option, Some, None, option_and_then, Bool, true, false, codes, length, ◌==◌, ◌||◌}
+use Rattle.std.specs.List.{slice_split, list_all}
+use Rattle.std.specs.Str.{IsUtf8}
+use Rattle.serde_json.specs.Data.{Data, null, boolean, number, string, array, object}
+use Rattle.serde_json.specs.Read.{read}
+use Rattle.serde_json.specs.Find.{get, as_str}
+use Rattle.edit_document.specs.declared.errors.Error.{Error}
+use Rattle.edit_document.specs.declared.errors.Error.TheVariants.{IndexLine}
+use Rattle.edit_document.specs.Errors.{IsMemory}
+use Rattle.edit_record.specs.IndexEntry.{IndexEntry}
+
+-- whether a version is yanked: not where nothing says so (Cargo reference, "Registries", yanked)
+abbrev pub yanked_of : Option Data → Option Bool
+yanked_of None = Some false
+yanked_of (Some null) = None
+yanked_of (Some (boolean b)) = Some b
+yanked_of (Some (number n)) = None
+yanked_of (Some (string s)) = None
+yanked_of (Some (array ds)) = None
+yanked_of (Some (object ms)) = None
+
+-- the Rust version that a version asks for, if it asks for one (Cargo reference, "Registries", rust_version)
+abbrev pub rust_version_of : Option Data → Option (Option (List ℕ))
+rust_version_of None = Some None
+rust_version_of (Some null) = Some None
+rust_version_of (Some (boolean b)) = None
+rust_version_of (Some (number n)) = None
+rust_version_of (Some (string s)) = Some (Some s)
+rust_version_of (Some (array ds)) = None
+rust_version_of (Some (object ms)) = None
+
+-- the entry that a JSON value says (Cargo reference, "Registries", name, vers)
+pub record SaysEntry (d : Data) (e : IndexEntry) : Type 0 where
+  pub name : option_and_then as_str (get (codes "name") d) ≡ Some e.name
+  pub version : option_and_then as_str (get (codes "vers") d) ≡ Some e.version
+  pub yanked : yanked_of (get (codes "yanked") d) ≡ Some e.yanked
+  pub rust_version : rust_version_of (get (codes "rust_version") d) ≡ Some e.rust_version
+
+-- a line of an index: one JSON object in UTF-8 (Cargo reference, "Registries", index files)
+pub record IsIndexLine (line : List ℕ) (e : IndexEntry) : Type 0 where
+  pub value : Data
+  pub utf8 : IsUtf8 line
+  pub reads : read line ≡ Some value
+  pub says : SaysEntry value e
+
+-- a line of spaces, tabs and carriage returns (own)
+abbrev pub is_blank : List ℕ → Bool
+is_blank line = list_all (λ b. (b == 32) || ((b == 9) || (b == 13))) line
+
+-- lines, and the entries that they say in order, blank lines aside (own)
+pub data LinesSay : List (List ℕ) → List IndexEntry → Type 0 where
+  none : LinesSay [] []
+  blank : (lines : List (List ℕ)) (entries : List IndexEntry) (line : List ℕ) → LinesSay lines entries → is_blank line ≡ true → LinesSay (lines ++ line ∷ []) entries
+  entry : (lines : List (List ℕ)) (entries : List IndexEntry) (line : List ℕ) (e : IndexEntry) → LinesSay lines entries → is_blank line ≡ false → IsIndexLine line e → LinesSay (lines ++ line ∷ []) (entries ++ e ∷ [])
+
+-- the lines of a file, which end with a line feed (own)
+abbrev pub lines_of : List ℕ → List (List ℕ)
+lines_of bytes = slice_split (λ b. b == 10) bytes
+
+-- the number, from 1, of the first line that says no entry and is not blank (own)
+pub record IsBadLine (lines : List (List ℕ)) (number : ℕ) : Type 0 where
+  pub before : List (List ℕ)
+  pub line : List ℕ
+  pub after : List (List ℕ)
+  pub entries : List IndexEntry
+  pub whole : lines ≡ before ++ line ∷ after
+  pub place : number ≡ length before + 1
+  pub good : LinesSay before entries
+  pub some : is_blank line ≡ false
+  pub bad : (e : IndexEntry) → IsIndexLine line e → ⊥
+
+-- why the lines of a file are refused: want of memory, or the first bad line (own)
+abbrev pub RefusesLines : List (List ℕ) → Error → Type 0
+RefusesLines lines e = IsMemory e ⊎ ((n : ℕ) × (e ≡ IndexLine n) × IsBadLine lines n)

@@ -1,0 +1,67 @@
+-- What a look in an index in files gives (Cargo reference, "Registries", index format).
+use Rattle.std.specs.Prelude.{◌≡◌, ℕ, ◌-◌, List, ◌∷◌, ◌++◌, Some, None, Ok, Err, Bool, true, false, codes, length, slice_index, ◌⊎◌, ◌==◌, if◌then◌else◌}
+use Rattle.std.specs.List.{list_any}
+use Rattle.std.specs.Str.{IsUtf8}
+use Rattle.percent_encoding.specs.Percent.{percent_decode}
+use Rattle.url.specs.Parts.{Parts, has_host}
+use Rattle.edit_sources.specs.Index.{Outcome}
+use Rattle.edit_sources.specs.IndexLines.{LinesSay, IsBadLine, lines_of}
+use Rattle.edit_sources.specs.Names.{is_crate_name, layout}
+use Rattle.edit_sources.specs.Store.{Files}
+use Rattle.edit_sources.specs.declared.local_index.LocalIndex.{LocalIndex}
+
+-- the store that an index stands on (own)
+abbrev pub store_of : {S : Type 0} → LocalIndex S → S
+store_of index = index.store
+
+-- an address of the scheme `file` (RFC 8089, section 2)
+abbrev pub IsFileAddress : Parts → Type 0
+IsFileAddress address = address.scheme ≡ codes "file"
+
+-- a text that a folder may have: UTF-8 without U+0000 (own)
+pub record IsFolderText (folder : List ℕ) : Type 0 where
+  pub utf8 : IsUtf8 folder
+  pub no_nul : list_any (λ b. b == 0) folder ≡ false
+
+-- the folder that an address names: its path with each escape read, where it has no host (RFC 8089, section 2)
+pub record IsFolderOf (address : Parts) (folder : List ℕ) : Type 0 where
+  pub no_host : has_host address ≡ false
+  pub path : folder ≡ percent_decode address.path
+  pub valid : IsFolderText folder
+
+-- an address that names no folder (own)
+abbrev pub HasNoFolder : Parts → Type 0
+HasNoFolder address = (folder : List ℕ) → IsFolderOf address folder → ⊥
+
+-- whether a text ends with `/` (own)
+abbrev pub ends_with_slash : List ℕ → Bool
+ends_with_slash folder = slice_index folder (length folder - 1) == 47
+
+-- a path directly below a folder, whose own last `/` serves (own)
+abbrev pub below : List ℕ → List ℕ → List ℕ
+below folder rest = (if ends_with_slash folder then folder else folder ++ codes "/") ++ rest
+
+-- the file of a name in the index at an address (Cargo reference, "Registries", index files)
+pub record IsIndexPath (address : Parts) (name path : List ℕ) : Type 0 where
+  pub scheme : IsFileAddress address
+  pub folder : List ℕ
+  pub folder_of : IsFolderOf address folder
+  pub named : is_crate_name name ≡ true
+  pub is : path ≡ below folder (layout name)
+
+-- why a name has no file at an address, by the number of the refusal: the scheme, else the address, else the name (own)
+abbrev pub HasNoIndexPath : Parts → List ℕ → ℕ → Type 0
+HasNoIndexPath address name n =
+    ((n ≡ 27) × (IsFileAddress address → ⊥))
+    ⊎ (((n ≡ 28) × IsFileAddress address × HasNoFolder address)
+    ⊎ ((n ≡ 29) × IsFileAddress address × ((folder : List ℕ) × IsFolderOf address folder) × (is_crate_name name ≡ false)))
+
+-- the lines of the file at a path, where the store tells them (own)
+abbrev pub StandsIn : Bool → Files → List ℕ → List ℕ → Type 0
+StandsIn tells files path bytes = tells ≡ true → files path ≡ Some bytes
+
+-- what a look gives: none where no file stands, the entries of its lines, a refusal of the path, or 30 for a bad line (own)
+abbrev pub LocalGives : Bool → Files → Parts → List ℕ → Outcome → Type 0
+LocalGives tells files address name (Ok None) = (path : List ℕ) × IsIndexPath address name path × (tells ≡ true → files path ≡ None)
+LocalGives tells files address name (Ok (Some entries)) = (path : List ℕ) × (bytes : List ℕ) × IsIndexPath address name path × StandsIn tells files path bytes × LinesSay (lines_of bytes) entries
+LocalGives tells files address name (Err n) = HasNoIndexPath address name n ⊎ ((n ≡ 30) × ((path : List ℕ) × (bytes : List ℕ) × (line : ℕ) × IsIndexPath address name path × StandsIn tells files path bytes × IsBadLine (lines_of bytes) line))

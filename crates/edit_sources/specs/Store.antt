@@ -1,0 +1,39 @@
+-- What a store promises: files as a map from paths to bytes, and a count of faults (own).
+use Rattle.std.specs.Prelude.{◌≡◌, ◌≢◌, ℕ, ◌-◌, ◌^◌, ◌<◌, ◌≤◌, ◌⊎◌, ◌++◌, List, ◌∷◌, Option, Some, Bool, true, IsSome, IsNone, Result, IfErr, codes}
+use Rattle.edit_document.specs.declared.errors.DeviceCall.{DeviceCall}
+use Rattle.edit_document.specs.declared.errors.Error.{Error}
+use Rattle.edit_document.specs.declared.errors.Error.TheVariants.{Device}
+use Rattle.edit_document.specs.Errors.{IsMemory}
+use Rattle.edit_sources.specs.declared.store.Kind.{Kind}
+use Rattle.edit_sources.specs.declared.store.Kind.TheVariants.{File, Folder, Absent}
+
+-- what files hold: the bytes at each path that has a file (own)
+abbrev pub Files : Type 0
+Files = List ℕ → Option (List ℕ)
+
+-- the count of faults rose, or stands at its end and stays there (own)
+abbrev pub raised : ℕ → ℕ → Type 0
+raised before now = (before < now) ⊎ ((before ≡ 2 ^ 64 - 1) × (now ≡ 2 ^ 64 - 1))
+
+-- the count of faults never falls, and a call is refused only for memory, or for its device where the count rose (own)
+pub record HasCause {T : Type 0} (call : DeviceCall) (before now : ℕ) (result : Result T Error) : Type 0 where
+  pub later : before ≤ now
+  pub refused : IfErr result (λ e. IsMemory e ⊎ ((e ≡ Device call) × raised before now))
+
+-- each path has what it had (own)
+abbrev pub SameFiles : Files → Files → Type 0
+SameFiles old new = (path : List ℕ) → new path ≡ old path
+
+-- each path but one has what it had (own)
+abbrev pub SameBut : List ℕ → Files → Files → Type 0
+SameBut at old new = (path : List ℕ) → path ≢ at → new path ≡ old path
+
+-- a path that files make a folder: `/`, and each front of a file's path before a `/` (own)
+abbrev pub IsFront : Files → List ℕ → Type 0
+IsFront files path = (path ≡ codes "/") ⊎ ((rest : List ℕ) × IsSome (files (path ++ 47 ∷ rest)))
+
+-- what stands at a path: a file, else a folder, else nothing (own)
+abbrev pub StandsAt : Files → List ℕ → Kind → Type 0
+StandsAt files path File = IsSome (files path)
+StandsAt files path Folder = IsNone (files path) × IsFront files path
+StandsAt files path Absent = IsNone (files path) × (IsFront files path → ⊥)

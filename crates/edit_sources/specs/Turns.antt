@@ -1,0 +1,33 @@
+-- A store whose one fault comes at a given call (own).
+use Rattle.std.specs.Prelude.{◌≡◌, ℕ, zero, suc, ◌+◌, Option, Some, None, Result, IfErr, IsErrAnd, ◌⊎◌}
+use Rattle.edit_document.specs.declared.errors.DeviceCall.{DeviceCall}
+use Rattle.edit_document.specs.declared.errors.Error.{Error}
+use Rattle.edit_document.specs.declared.errors.Error.TheVariants.{Device}
+use Rattle.edit_document.specs.Errors.{IsMemory}
+use Rattle.edit_sources.specs.Store.{raised}
+use Rattle.edit_sources.specs.declared.fault_store.FaultStore.{FaultStore}
+
+-- how many calls come before the one that fails; none once it has come (own)
+abbrev pub calls_left : FaultStore → Option ℕ
+calls_left store = store.left
+
+-- how many bytes a write that fails leaves (own)
+abbrev pub bytes_left : FaultStore → ℕ
+bytes_left store = store.cut
+
+-- how often a call has failed (own)
+abbrev pub faults_of : FaultStore → ℕ
+faults_of store = store.failed
+
+-- the calls before the one that fails, one call later (own)
+abbrev pub one_less : Option ℕ → Option ℕ
+one_less None = None
+one_less (Some zero) = None
+one_less (Some (suc n)) = Some n
+
+-- a call: the one that is to fail does, each other one is refused for memory alone (own)
+pub record TakesTurn {T : Type 0} (call : DeviceCall) (old new : FaultStore) (result : Result T Error) : Type 0 where
+  pub turn : calls_left new ≡ one_less (calls_left old)
+  pub cut : bytes_left new ≡ bytes_left old
+  pub due : calls_left old ≡ Some 0 → IsErrAnd result (λ e. IsMemory e ⊎ ((e ≡ Device call) × raised (faults_of old) (faults_of new)))
+  pub other : (calls_left old ≡ Some 0 → ⊥) → IfErr result IsMemory × (faults_of new ≡ faults_of old)

@@ -1,0 +1,217 @@
+//! What configuration files say of registries and sources.
+ghost use Rattle.std.specs.Prelude.{◌≡◌, ◌⊎◌, IfOk, IfErr, IfSome, map, option_map, string_bytes};
+ghost use Rattle.edit_document.specs.Errors.{IsMemory};
+ghost use Rattle.toml.specs.Data.{get_member};
+ghost use Rattle.toml.specs.View.{view, table_view};
+ghost use Rattle.edit_sources.specs.Configuration as said;
+ghost use Rattle.edit_sources.specs.Configuration.{Says, SaysNothing, configuration_of, entries_of, table_of};
+ghost use Rattle.edit_sources.specs.Configured.{IsConfigRefusal, configuration, registry_entry, source_entry, source_view};
+
+use edit_document::{CargoResult, Error};
+use std::alloc::{AllocError, Global};
+use toml::{Table, Value};
+
+mod files;
+
+pub use files::read_configs;
+
+/// What a configuration file of cargo says of registries and sources.
+#[derive(Debug, Drop)]
+pub struct Config {
+    /// The path of the file.
+    pub path: String,
+    /// Each key of `registries` with its `index`.
+    pub registries: Vec<(String, Option<String>)>,
+    /// Each key of `source`.
+    pub sources: Vec<(String, ConfigSource)>,
+}
+
+/// What a configuration file says of a source.
+#[derive(Debug, Drop)]
+pub struct ConfigSource {
+    /// `registry`, the address of a registry.
+    pub registry: Option<String>,
+    /// `replace-with`, the key of the source that replaces this one.
+    pub replace_with: Option<String>,
+}
+
+/// A copy of a text that need not be there.
+fn copied(alloc: Global, text: Option<&str>) -> Result<Option<String>, AllocError>
+    ensures { IfOk result (λ c. option_map string_bytes c ≡ option_map (λ t. t.now) text.entry) }
+{
+    match text {
+        Some(text) => Ok(Some(String::from_str(alloc, text)?)),
+        None => Ok(None),
+    }
+}
+
+/// The value at a key of a table.
+fn value_at<'a>(table: &'a Table, key: &str) -> Option<&'a Value>
+    ensures { option_map (λ v. view v.now) result ≡ get_member key.now (table_view table.now) }
+{
+    table.get(key)
+}
+
+/// The text at a key, `Some(None)` where the key is absent and `None` where it holds no text.
+fn text_at<'a>(table: &'a Table, key: &str) -> Option<Option<&'a str>>
+    ensures { option_map (option_map (λ t. t.now)) result ≡ said.text_at key.now (table_view table.now) }
+{
+    let Some(value) = value_at(table, key) else {
+        return Some(None);
+    };
+    let text = value.as_str()?;
+    Some(Some(text))
+}
+
+/// The index that a table below `registries` names.
+fn index_of<'a>(value: &'a Value) -> Option<Option<&'a str>>
+    ensures { option_map (option_map (λ t. t.now)) result ≡ said.index_of (view value.now) }
+{
+    let table = value.as_table()?;
+    text_at(table, "index")
+}
+
+/// The source that a table below `source` describes.
+fn source_of(alloc: Global, value: &Value) -> Result<Option<ConfigSource>, AllocError>
+    ensures { IfOk result (λ found. option_map source_view found ≡ said.source_of (view value.now)) }
+{
+    let Some(table) = value.as_table() else {
+        return Ok(None);
+    };
+    let Some(registry) = text_at(table, "registry") else {
+        return Ok(None);
+    };
+    let Some(replace_with) = text_at(table, "replace-with") else {
+        return Ok(None);
+    };
+    Ok(Some(ConfigSource {
+        registry: copied(alloc, registry)?,
+        replace_with: copied(alloc, replace_with)?,
+    }))
+}
+
+/// The keys below `registries`, each with its index; `None` where one of them is misshapen.
+fn registry_entries(
+    alloc: Global,
+    table: &Table,
+) -> Result<Option<Vec<(String, Option<String>)>>, AllocError>
+    ensures { IfOk result (λ found. option_map (λ v. map registry_entry v.items) found ≡ entries_of said.index_of (table_view table.now)) }
+{
+    let mut registries = Vec::new(alloc);
+    for (key, value) in table {
+        let Some(index) = index_of(value) else {
+            return Ok(None);
+        };
+        let index = copied(alloc, index)?;
+        registries.push((String::from_str(alloc, key.as_str())?, index))?;
+    }
+    Ok(Some(registries))
+}
+
+/// The keys below `source`, each with its source; `None` where one of them is misshapen.
+fn source_entries(
+    alloc: Global,
+    table: &Table,
+) -> Result<Option<Vec<(String, ConfigSource)>>, AllocError>
+    ensures { IfOk result (λ found. option_map (λ v. map source_entry v.items) found ≡ entries_of said.source_of (table_view table.now)) }
+{
+    let mut sources = Vec::new(alloc);
+    for (key, value) in table {
+        let Some(source) = source_of(alloc, value)? else {
+            return Ok(None);
+        };
+        sources.push((String::from_str(alloc, key.as_str())?, source))?;
+    }
+    Ok(Some(sources))
+}
+
+/// The refusal of a file.
+fn unreadable(alloc: Global, path: &str) -> Error
+    ensures { IsMemory result ⊎ IsConfigRefusal path.now result }
+{
+    match String::from_str(alloc, path) {
+        Ok(path) => Error::Config { path },
+        Err(error) => Error::from(error),
+    }
+}
+
+/// The keys of `registries`; `None` where it is no table of tables with texts.
+fn registries_in(
+    alloc: Global,
+    table: &Table,
+) -> Result<Option<Vec<(String, Option<String>)>>, AllocError>
+    ensures { IfOk result (λ found. option_map (λ v. map registry_entry v.items) found ≡ said.registries_in (table_view table.now)) }
+{
+    let Some(value) = value_at(table, "registries") else {
+        return Ok(Some(Vec::new(alloc)));
+    };
+    match value.as_table() {
+        Some(entries) => registry_entries(alloc, entries),
+        None => Ok(None),
+    }
+}
+
+/// The keys of `source`; `None` where it is no table of tables with texts.
+fn sources_in(
+    alloc: Global,
+    table: &Table,
+) -> Result<Option<Vec<(String, ConfigSource)>>, AllocError>
+    ensures { IfOk result (λ found. option_map (λ v. map source_entry v.items) found ≡ said.sources_in (table_view table.now)) }
+{
+    let Some(value) = value_at(table, "source") else {
+        return Ok(Some(Vec::new(alloc)));
+    };
+    match value.as_table() {
+        Some(entries) => source_entries(alloc, entries),
+        None => Ok(None),
+    }
+}
+
+/// What a document says; `None` where it is misshapen.
+fn configuration_in(alloc: Global, path: &str, table: &Table) -> Result<Option<Config>, AllocError>
+    ensures named { IfOk result (λ found. IfSome found (λ c. string_bytes c.path ≡ path.now)) }
+    ensures said { IfOk result (λ found. option_map configuration found ≡ configuration_of (table_view table.now)) }
+{
+    let Some(registries) = registries_in(alloc, table)? else {
+        return Ok(None);
+    };
+    let Some(sources) = sources_in(alloc, table)? else {
+        return Ok(None);
+    };
+    let path = String::from_str(alloc, path)?;
+    Ok(Some(Config {
+        path,
+        registries,
+        sources,
+    }))
+}
+
+impl Config {
+    /// Reads a configuration file; `path` is where it stands. The keys are in the order of their bytes.
+    ///
+    /// `registries` and `source` are absent or tables of tables, and `index`, `registry` and
+    /// `replace-with` in these absent or texts; all else is ignored. `Config` where that is not so,
+    /// where the bytes are not UTF-8 and where `toml` refuses the text.
+    pub fn read(alloc: Global, path: &str, bytes: &[u8]) -> CargoResult<Config>
+        ensures named { IfOk result (λ c. string_bytes c.path ≡ path.now) }
+        ensures said { IfOk result (λ c. Says bytes.now (configuration c)) }
+        ensures refused { IfErr result (λ e. IsMemory e ⊎ (IsConfigRefusal path.now e × SaysNothing bytes.now)) }
+    {
+        let Ok(text) = std::str::from_utf8(bytes) else {
+            return Err(unreadable(alloc, path));
+        };
+        let table = match toml::table_from_str(alloc, text) {
+            Ok(table) => table,
+            Err(error) => {
+                if error.is_memory() {
+                    return Err(Error::Memory);
+                }
+                return Err(unreadable(alloc, path));
+            }
+        };
+        match configuration_in(alloc, path, &table)? {
+            Some(config) => Ok(config),
+            None => Err(unreadable(alloc, path)),
+        }
+    }
+}

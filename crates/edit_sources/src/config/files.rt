@@ -1,0 +1,138 @@
+//! Which configuration files count.
+ghost use Rattle.std.specs.Prelude.{◌≡◌, ◌⊎◌, ◌++◌, ℕ, List, true, IfOk, IfErr, OnOk, map, string_bytes};
+ghost use Rattle.std.specs.List.{AllZip};
+ghost use Rattle.std.specs.Option.{option_to_list};
+ghost use Rattle.edit_document.specs.Errors.{IsMemory};
+ghost use Rattle.edit_document.specs.Paths.{texts};
+ghost use Rattle.edit_sources.specs.Configured.{given};
+ghost use Rattle.edit_sources.specs.ConfigurationFiles.{IsUpwards, IsSearched, OnlyReads, IsReadOf, IsReadFrom, HasFailed, FileFails, PlaceFails, AreConfigs, ConfigsFail, standing, file_in, files_in};
+
+use super::Config;
+use crate::store::Store;
+use edit_document::CargoResult;
+use edit_document::paths::{folder, join};
+use std::alloc::{AllocError, Global};
+
+/// The folders of a file, from its own upwards to the root.
+fn folders_upwards<'a>(alloc: Global, path: &'a str) -> Result<Vec<&'a str>, AllocError>
+    ensures { IfOk result (λ v. IsUpwards path.entry.now (texts v.items)) }
+{
+    let mut folders = Vec::new(alloc);
+    let mut here = folder(path);
+    while here != "/" {
+        folders.push(here)?;
+        here = folder(here);
+    }
+    folders.push(here)?;
+    Ok(folders)
+}
+
+/// The folders where configuration files may stand.
+fn places(alloc: Global, manifest_path: &str, cargo_home: Option<&str>) -> CargoResult<Vec<String>>
+    ensures searched { IfOk result (λ v. IsSearched manifest_path.now (given cargo_home.entry) (map string_bytes v.items)) }
+    ensures refused { IfErr result IsMemory }
+{
+    let folders = folders_upwards(alloc, manifest_path)?;
+    let mut places = Vec::new(alloc);
+    for folder in &folders {
+        places.push(join(alloc, folder, ".cargo")?)?;
+    }
+    if let Some(home) = cargo_home {
+        places.push(String::from_str(alloc, home)?)?;
+    }
+    Ok(places)
+}
+
+/// The configuration in a file, none where no file stands.
+fn read_file<S: Store>(alloc: Global, store: &mut S, path: &str) -> CargoResult<Option<Config>>
+    ensures store { OnlyReads (S.tells store.old) (S.tells store.new) (S.file_at store.old) (S.file_at store.new) (S.faults store.old) (S.faults store.new) }
+    ensures read { IfOk result (λ found. S.tells store.old ≡ true → IsReadOf (standing (S.file_at store.old) path.now) found) }
+    ensures refused { IfErr result (λ e. IsMemory e ⊎ (HasFailed (S.faults store.old) (S.faults store.new) e ⊎ FileFails (S.tells store.old) (standing (S.file_at store.old) path.now) e)) }
+{
+    let bytes = match store.read(alloc, path) {
+        Ok(Some(bytes)) => bytes,
+        Ok(None) => return Ok(None),
+        Err(error) => return Err(error),
+    };
+    match Config::read(alloc, path, &bytes) {
+        Ok(config) => Ok(Some(config)),
+        Err(error) => Err(error),
+    }
+}
+
+/// The configuration that counts in a place, none where no file stands there.
+fn config_in<S: Store>(alloc: Global, store: &mut S, place: &str) -> CargoResult<Option<Config>>
+    ensures store { OnlyReads (S.tells store.old) (S.tells store.new) (S.file_at store.old) (S.file_at store.new) (S.faults store.old) (S.faults store.new) }
+    ensures read { IfOk result (λ found. S.tells store.old ≡ true → IsReadOf (file_in (S.file_at store.old) place.now) found) }
+    ensures refused { IfErr result (λ e. IsMemory e ⊎ (HasFailed (S.faults store.old) (S.faults store.new) e ⊎ FileFails (S.tells store.old) (file_in (S.file_at store.old) place.now) e)) }
+{
+    let path = match join(alloc, place, "config") {
+        Ok(path) => path,
+        Err(error) => return Err(error),
+    };
+    match read_file(alloc, store, path.as_str()) {
+        Ok(Some(config)) => return Ok(Some(config)),
+        Ok(None) => {}
+        Err(error) => return Err(error),
+    }
+    let path = match join(alloc, place, "config.toml") {
+        Ok(path) => path,
+        Err(error) => return Err(error),
+    };
+    match read_file(alloc, store, path.as_str()) {
+        Ok(found) => Ok(found),
+        Err(error) => Err(error),
+    }
+}
+
+/// Adds what was found.
+fn add(configs: &mut Vec<Config>, found: Option<Config>) -> Result<(), AllocError>
+    ensures { OnOk result (configs.new.items ≡ configs.old.items ++ option_to_list found) }
+{
+    if let Some(config) = found {
+        configs.push(config)?;
+    }
+    Ok(())
+}
+
+/// The configurations that count in these places, in their order.
+fn configs_in<S: Store>(alloc: Global, store: &mut S, places: &[String]) -> CargoResult<Vec<Config>>
+    ensures store { OnlyReads (S.tells store.old) (S.tells store.new) (S.file_at store.old) (S.file_at store.new) (S.faults store.old) (S.faults store.new) }
+    ensures read { IfOk result (λ v. S.tells store.old ≡ true → AllZip IsReadFrom (files_in (S.file_at store.old) (map string_bytes places.now)) v.items) }
+    ensures refused { IfErr result (λ e. IsMemory e ⊎ (HasFailed (S.faults store.old) (S.faults store.new) e ⊎ PlaceFails (S.tells store.old) (S.file_at store.old) (map string_bytes places.now) e)) }
+{
+    let mut configs = Vec::new(alloc);
+    for place in places {
+        let found = match config_in(alloc, store, place.as_str()) {
+            Ok(found) => found,
+            Err(error) => return Err(error),
+        };
+        add(&mut configs, found)?;
+    }
+    Ok(configs)
+}
+
+/// The configurations of a manifest, the first one first: in each folder from the manifest's
+/// upwards `.cargo/config`, else `.cargo/config.toml`, and then `config`, else `config.toml` of
+/// the home of cargo, where one is given. Only files count.
+///
+/// `Config` where such a file is no configuration, and `Device` where the store fails.
+pub fn read_configs<S: Store>(
+    alloc: Global,
+    store: &mut S,
+    manifest_path: &str,
+    cargo_home: Option<&str>,
+) -> CargoResult<Vec<Config>>
+    ensures store { OnlyReads (S.tells store.old) (S.tells store.new) (S.file_at store.old) (S.file_at store.new) (S.faults store.old) (S.faults store.new) }
+    ensures read { IfOk result (λ v. S.tells store.old ≡ true → AreConfigs (S.file_at store.old) manifest_path.now (given cargo_home.entry) v.items) }
+    ensures refused { IfErr result (λ e. IsMemory e ⊎ (HasFailed (S.faults store.old) (S.faults store.new) e ⊎ ConfigsFail (S.tells store.old) (S.file_at store.old) manifest_path.now (given cargo_home.entry) e)) }
+{
+    let places = match places(alloc, manifest_path, cargo_home) {
+        Ok(places) => places,
+        Err(error) => return Err(error),
+    };
+    match configs_in(alloc, store, &places) {
+        Ok(configs) => Ok(configs),
+        Err(error) => Err(error),
+    }
+}

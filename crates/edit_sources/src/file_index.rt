@@ -1,0 +1,83 @@
+//! An index of one file, read once.
+ghost use Rattle.std.specs.Prelude.{◌≡◌, ℕ, List, IfOk, IfErr, [], string_bytes};
+ghost use Rattle.std.specs.List.{filter};
+ghost use Rattle.std.specs.Option.{option_map_or};
+ghost use Rattle.std.specs.Str.{bytes_eq};
+ghost use Rattle.std.specs.BTreeMap.{get_by_text};
+ghost use Rattle.edit_sources.specs.IndexLines.{RefusesLines, lines_of};
+
+use crate::crate_name::is_crate_name;
+use crate::index::{Index, IndexKrate, copied};
+use crate::index_lines::read_lines;
+use edit_document::errors::{CargoResult, Error};
+use edit_record::fetch::IndexVersion;
+use std::alloc::{AllocError, Global};
+use std::collections::BTreeMap;
+use url::Url;
+
+/// An index of one file, read once. It answers every address alike.
+#[derive(Debug, Drop)]
+pub struct FileIndex {
+    groups: BTreeMap<String, Vec<IndexVersion>>,
+}
+
+impl FileIndex {
+    ghost use Rattle.edit_sources.specs.FileIndex.{HoldsLines};
+
+    /// Reads the lines: refused with 30 and the number of the first line that is not one of an
+    /// index.
+    pub fn read(alloc: Global, bytes: &[u8]) -> CargoResult<FileIndex>
+        ensures entries { IfOk result (λ i. HoldsLines i bytes.now) }
+        ensures refused { IfErr result (RefusesLines (lines_of bytes.now)) }
+    {
+        let entries = read_lines(alloc, bytes)?;
+        Ok(FileIndex {
+            groups: grouped(alloc, entries)?,
+        })
+    }
+}
+
+/// The entries by name, those of one name in their order.
+fn grouped(
+    alloc: Global,
+    entries: Vec<IndexVersion>,
+) -> Result<BTreeMap<String, Vec<IndexVersion>>, AllocError>
+    ensures { IfOk result (λ m. (q : List ℕ) → option_map_or (λ g. g.items) (get_by_text m q) [] ≡ filter (λ e. bytes_eq q (string_bytes e.name)) entries.items) }
+{
+    let mut groups: BTreeMap<String, Vec<IndexVersion>> = BTreeMap::new(alloc);
+    for entry in entries {
+        groups.entry(entry.name.clone()?)?.or_default().push(entry)?;
+    }
+    Ok(groups)
+}
+
+impl Index for FileIndex {
+    ghost use Rattle.edit_sources.specs.FileIndex.{FileGives};
+
+    ghost gives = { λ i _ name outcome. FileGives i name outcome };
+
+    ghost faults = { λ _. 0 };
+
+    fn look(
+        &mut self,
+        alloc: Global,
+        _registry: &Url,
+        name: &str,
+    ) -> CargoResult<Option<IndexKrate>> {
+        if !is_crate_name(name) {
+            return Err(Error::BadCrateName {
+                name: String::from_str(alloc, name)?,
+            });
+        }
+        match self.groups.get(name) {
+            Some(entries) if !entries.is_empty() => Ok(Some(IndexKrate {
+                versions: copied(alloc, entries)?,
+            })),
+            _ => Ok(None),
+        }
+    }
+
+    fn faults(&self) -> u64 {
+        0
+    }
+}

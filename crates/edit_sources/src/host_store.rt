@@ -1,0 +1,85 @@
+//! The files of the machine.
+ghost use Rattle.std.specs.Prelude.{◌≡◌, ◌⊎◌, ℕ, List, None, false};
+ghost use Rattle.edit_document.specs.Errors.{IsMemory};
+ghost use Rattle.edit_sources.specs.Store.{raised};
+
+use crate::replace::replace;
+use crate::store::{Kind, Store};
+use edit_document::errors::{CargoResult, DeviceCall, Error};
+use std::alloc::Global;
+use std::fs::Files;
+use std::io::ErrorKind;
+use std::{fs, io};
+
+/// The files of the machine. No clause can say what they hold.
+#[derive(Debug, Drop)]
+pub struct HostStore<R> {
+    rt: R,
+    failed: u64,
+}
+
+impl<R: Files + Alloc<A = Global> + Drop> HostStore<R> {
+    ghost use Rattle.edit_sources.specs.Host.{host_faults};
+
+    /// The files that the runtime reaches.
+    pub fn new(rt: R) -> HostStore<R>
+        ensures { host_faults result ≡ 0 }
+    {
+        HostStore { rt, failed: 0 }
+    }
+
+    /// The refusal of a call. Each but want of memory counts as a fault.
+    fn refused(&mut self, call: DeviceCall, error: io::Error) -> Error
+        ensures { (IsMemory result × (self.new.failed ≡ self.old.failed)) ⊎ ((result ≡ Error.Device call) × raised self.old.failed self.new.failed) }
+    {
+        if error.kind() == ErrorKind::OutOfMemory {
+            return Error::Memory;
+        }
+        self.failed = self.failed.saturating_add(1);
+        Error::Device(call)
+    }
+}
+
+impl<R: Files + Alloc<A = Global> + Drop> Store for HostStore<R> {
+    ghost tells = { λ _. false };
+
+    ghost file_at = { λ _ _. None };
+
+    ghost faults = { λ s. s.failed };
+
+    fn kind(&mut self, _alloc: Global, path: &str) -> CargoResult<Kind> {
+        match fs::metadata(&self.rt, path) {
+            Ok(metadata) if metadata.is_dir() => Ok(Kind::Folder),
+            Ok(_) => Ok(Kind::File),
+            Err(error) if is_absent(error.kind()) => Ok(Kind::Absent),
+            Err(error) => Err(self.refused(DeviceCall::Kind, error)),
+        }
+    }
+
+    fn read(&mut self, _alloc: Global, path: &str) -> CargoResult<Option<Vec<u8>>> {
+        match fs::read(&self.rt, path) {
+            Ok(bytes) => Ok(Some(bytes)),
+            Err(error) if is_absent(error.kind()) => Ok(None),
+            Err(error) => Err(self.refused(DeviceCall::Read, error)),
+        }
+    }
+
+    fn write(&mut self, alloc: Global, path: &str, bytes: &[u8]) -> CargoResult<()> {
+        match replace(&self.rt, alloc, path, bytes) {
+            Ok(()) => Ok(()),
+            Err(error) => Err(self.refused(DeviceCall::Write, error)),
+        }
+    }
+
+    fn faults(&self) -> u64 {
+        self.failed
+    }
+}
+
+/// Whether the machine says that no file stands at a path.
+fn is_absent(kind: ErrorKind) -> bool {
+    matches!(
+        kind,
+        ErrorKind::NotFound | ErrorKind::NotADirectory | ErrorKind::IsADirectory
+    )
+}

@@ -1,0 +1,63 @@
+//! What an index answers.
+ghost use Rattle.std.specs.Prelude.{◌≡◌, ℕ, List, Option, Result, Ok, IfOk, IfErr, map};
+ghost use Rattle.url.specs.Parts.{Parts};
+ghost use Rattle.edit_document.specs.Errors.{IsMemory};
+ghost use Rattle.edit_record.specs.IndexEntry.{IndexEntry, entry_of};
+ghost use Rattle.edit_sources.specs.Index.{HasLookCause, SameOutcomes, answer_of, entries_of};
+
+use edit_document::errors::CargoResult;
+use edit_record::fetch::IndexVersion;
+use std::alloc::Global;
+use url::Url;
+
+/// What an index answers for a name: an entry for each version, in the order of the index.
+#[derive(Debug, PartialEq, Eq, Drop)]
+pub struct IndexKrate {
+    pub versions: Vec<IndexVersion>,
+}
+
+impl IndexKrate {
+    /// The same answer on memory of its own.
+    pub fn try_clone(&self, alloc: Global) -> CargoResult<IndexKrate>
+        ensures ok { IfOk result (λ k. entries_of k ≡ entries_of self.now) }
+        ensures refused { IfErr result IsMemory }
+    {
+        Ok(IndexKrate {
+            versions: copied(alloc, &self.versions)?,
+        })
+    }
+}
+
+/// The same entries on memory of their own.
+pub(crate) fn copied(alloc: Global, entries: &[IndexVersion]) -> CargoResult<Vec<IndexVersion>>
+    ensures ok { IfOk result (λ v. map entry_of v.items ≡ map entry_of entries.now) }
+    ensures refused { IfErr result IsMemory }
+{
+    let mut all = Vec::new(alloc);
+    for entry in entries {
+        all.push(entry.try_clone(alloc)?)?;
+    }
+    Ok(all)
+}
+
+/// Where entries are looked up.
+pub trait Index {
+    /// What a look for a name at an address may give: entries, none, or the number of a refusal.
+    ghost gives: { Self → Parts → List ℕ → Result (Option (List IndexEntry)) ℕ → Type 0 };
+
+    /// How often the device below has failed.
+    ghost faults: { Self → ℕ };
+
+    /// The entries of a name; none where the index has no such name.
+    ///
+    /// Refused with 27 to 30 by what is asked and what stands in the index, and with 3 where the
+    /// device below fails.
+    fn look(&mut self, alloc: Global, registry: &Url, name: &str) -> CargoResult<Option<IndexKrate>>
+        ensures same { SameOutcomes (gives self.old) (gives self.new) }
+        ensures given { IfOk result (λ k. gives self.old registry.now name.now (Ok (answer_of k))) }
+        ensures cause { HasLookCause (gives self.old) registry.now name.now (faults self.old) (faults self.new) result };
+
+    /// How often the device below has failed.
+    fn faults(&self) -> u64
+        ensures { result ≡ faults self.now };
+}

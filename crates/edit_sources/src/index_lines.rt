@@ -1,0 +1,126 @@
+//! The lines of an index file.
+ghost use Rattle.std.specs.Prelude.{◌≡◌, ◌==◌, ◌⊎◌, ◌+◌, ℕ, Ok, Err, IfOk, IfErr, IsTrue, map, MatchResult, string_bytes, option_map, option_and_then};
+ghost use Rattle.edit_document.specs.Errors.{IsMemory};
+ghost use Rattle.edit_document.specs.declared.errors.Error.TheVariants.{IndexLine};
+ghost use Rattle.edit_record.specs.IndexEntry.{IndexEntry, entry_of};
+ghost use Rattle.edit_sources.specs.IndexLines.{IsIndexLine, LinesSay, RefusesLines, is_blank, lines_of, yanked_of, rust_version_of};
+ghost use Rattle.serde_json.specs.View.{view};
+ghost use Rattle.serde_json.specs.Find.{as_str};
+
+use edit_document::errors::{CargoResult, Error};
+use edit_record::fetch::IndexVersion;
+use serde_json::Value;
+use std::alloc::{AllocError, Global};
+
+/// The lines of a file.
+fn lines<'a>(alloc: Global, bytes: &'a [u8]) -> Result<Vec<&'a [u8]>, AllocError>
+    ensures { IfOk result (λ v. map (λ x. x.now) v.items ≡ lines_of bytes.now) }
+{
+    bytes.split(|b| *b == b'\n').collect(alloc)
+}
+
+fn blank(line: &[u8]) -> bool
+    ensures { result ≡ is_blank line.now }
+{
+    line.iter()
+        .all(|b| *b == b' ' || *b == b'\t' || *b == b'\r')
+}
+
+/// The text that a value says.
+fn text<'a>(value: Option<&'a Value>) -> Option<&'a str>
+    ensures { option_map (λ s. s.now) result ≡ option_and_then as_str (option_map (λ v. view v.now) value.entry) }
+{
+    match value {
+        Some(value) => value.as_str(),
+        None => None,
+    }
+}
+
+/// Whether a version is yanked; none where the value says neither.
+fn yanked(value: Option<&Value>) -> Option<bool>
+    ensures { result ≡ yanked_of (option_map (λ v. view v.now) value.entry) }
+{
+    match value {
+        None => Some(false),
+        Some(Value::Bool(yanked)) => Some(*yanked),
+        Some(_) => None,
+    }
+}
+
+/// The Rust version that a version asks for; none where the value is no text.
+fn rust_version<'a>(value: Option<&'a Value>) -> Option<Option<&'a str>>
+    ensures { option_map (λ r. option_map (λ s. s.now) r) result ≡ rust_version_of (option_map (λ v. view v.now) value.entry) }
+{
+    match value {
+        None | Some(Value::Null) => Some(None),
+        Some(Value::String(text)) => Some(Some(text.as_str())),
+        Some(_) => None,
+    }
+}
+
+fn copied(alloc: Global, text: Option<&str>) -> Result<Option<String>, AllocError>
+    ensures { IfOk result (λ t. option_map string_bytes t ≡ option_map (λ s. s.now) text.entry) }
+{
+    match text {
+        Some(text) => Ok(Some(String::from_str(alloc, text)?)),
+        None => Ok(None),
+    }
+}
+
+/// The entry that a line says.
+fn read_line(alloc: Global, bytes: &[u8], line: usize) -> CargoResult<IndexVersion>
+    ensures { MatchResult result (λ v. IsIndexLine bytes.now (entry_of v)) (λ e. IsMemory e ⊎ ((e ≡ IndexLine line) × ((x : IndexEntry) → IsIndexLine bytes.now x → ⊥))) }
+{
+    let value = match Value::from_slice(alloc, bytes) {
+        Ok(value) => value,
+        Err(error) if error.is_memory() => return Err(Error::Memory),
+        Err(_) => return Err(Error::IndexLine { line }),
+    };
+    let Some(name) = text(value.get("name")) else {
+        return Err(Error::IndexLine { line });
+    };
+    let Some(version) = text(value.get("vers")) else {
+        return Err(Error::IndexLine { line });
+    };
+    let Some(yanked) = yanked(value.get("yanked")) else {
+        return Err(Error::IndexLine { line });
+    };
+    let Some(rust_version) = rust_version(value.get("rust_version")) else {
+        return Err(Error::IndexLine { line });
+    };
+    Ok(IndexVersion {
+        name: String::from_str(alloc, name)?,
+        version: String::from_str(alloc, version)?,
+        yanked,
+        rust_version: copied(alloc, rust_version)?,
+    })
+}
+
+/// The entries of an index file, one for each line that is not blank, in order.
+///
+/// A line is a JSON object with texts `name` and `vers`, `yanked` absent or a boolean, and
+/// `rust_version` absent, null or text; refused with 30 and the number of the first other line.
+pub fn read_lines(alloc: Global, bytes: &[u8]) -> CargoResult<Vec<IndexVersion>>
+    ensures entries { IfOk result (λ v. LinesSay (lines_of bytes.now) (map entry_of v.items)) }
+    ensures refused { IfErr result (RefusesLines (lines_of bytes.now)) }
+{
+    let lines = lines(alloc, bytes)?;
+    read_each(alloc, &lines)
+}
+
+fn read_each(alloc: Global, lines: &[&[u8]]) -> CargoResult<Vec<IndexVersion>>
+    ensures entries { IfOk result (λ v. LinesSay (map (λ x. x.now) lines.now) (map entry_of v.items)) }
+    ensures refused { IfErr result (RefusesLines (map (λ x. x.now) lines.now)) }
+{
+    let mut entries = Vec::new(alloc);
+    for (i, line) in lines.iter().enumerate() {
+        if blank(line) {
+            continue;
+        }
+        match read_line(alloc, line, i + 1) {
+            Ok(entry) => entries.push(entry)?,
+            Err(error) => return Err(error),
+        }
+    }
+    Ok(entries)
+}

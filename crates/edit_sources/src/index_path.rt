@@ -1,0 +1,124 @@
+//! Where the file of a name stands in an index.
+ghost use Rattle.std.specs.Prelude.{◌≡◌, [], ◌∷◌, ◌++◌, ◌-◌, ◌==◌, ◌<◌, ◌⊎◌, true, false, codes, length, slice_index, All, IfOk, IfErr, OnOk, MatchOption, string_bytes};
+ghost use Rattle.std.specs.List.{list_any};
+ghost use Rattle.percent_encoding.specs.Percent.{percent_decode};
+ghost use Rattle.edit_document.specs.Errors.{IsMemory, number_of};
+ghost use Rattle.edit_sources.specs.LocalIndex.{HasNoFolder, HasNoIndexPath, IsFolderOf, IsFolderText, IsIndexPath, below, ends_with_slash};
+ghost use Rattle.edit_sources.specs.Names.{folders, is_crate_name, layout};
+
+use crate::crate_name::is_crate_name;
+use edit_document::errors::{CargoResult, Error};
+use percent_encoding::percent_decode;
+use std::alloc::{AllocError, Global};
+use std::str;
+use url::Url;
+
+/// The path of the file of a name: refused with 27, 28 and 29, of several the least.
+pub(crate) fn index_path(alloc: Global, registry: &Url, name: &str) -> CargoResult<String>
+    ensures ok { IfOk result (λ p. IsIndexPath registry.now name.now (string_bytes p)) }
+    ensures refused { IfErr result (λ e. IsMemory e ⊎ HasNoIndexPath registry.now name.now (number_of e)) }
+{
+    if registry.scheme() != "file" {
+        return Err(Error::Scheme {
+            scheme: String::from_str(alloc, registry.scheme())?,
+        });
+    }
+    let Some(folder) = folder_of(alloc, registry)? else {
+        return Err(Error::IndexPath {
+            address: String::from_str(alloc, registry.as_str())?,
+        });
+    };
+    if !is_crate_name(name) {
+        return Err(Error::BadCrateName {
+            name: String::from_str(alloc, name)?,
+        });
+    }
+    Ok(path_below(alloc, folder, name)?)
+}
+
+/// The folder that an address names.
+fn folder_of(alloc: Global, registry: &Url) -> Result<Option<String>, AllocError>
+    ensures { IfOk result (λ o. MatchOption o (HasNoFolder registry.now) (λ f. IsFolderOf registry.now (string_bytes f))) }
+{
+    if registry.has_host() {
+        return Ok(None);
+    }
+    decoded(alloc, registry.path())
+}
+
+/// A path with each escape read, where that is a folder's text.
+fn decoded(alloc: Global, path: &str) -> Result<Option<String>, AllocError>
+    ensures { IfOk result (λ o. MatchOption o (IsFolderText (percent_decode path.now) → ⊥) (λ f. IsFolderText (string_bytes f) × (string_bytes f ≡ percent_decode path.now))) }
+{
+    let mut bytes = Vec::new(alloc);
+    percent_decode(path.as_bytes()).append_to(&mut bytes)?;
+    if has_nul(&bytes) {
+        return Ok(None);
+    }
+    match str::from_utf8(&bytes) {
+        Ok(text) => Ok(Some(String::from_str(alloc, text)?)),
+        Err(_) => Ok(None),
+    }
+}
+
+fn has_nul(bytes: &[u8]) -> bool
+    ensures { result ≡ list_any (λ b. b == 0) bytes.now }
+{
+    bytes.iter().any(|b| *b == 0)
+}
+
+/// The path of the file of a name below a folder.
+fn path_below(alloc: Global, folder: String, name: &str) -> Result<String, AllocError>
+    requires { is_crate_name name.now ≡ true }
+    ensures { IfOk result (λ p. string_bytes p ≡ below (string_bytes folder) (layout name.now)) }
+{
+    let small = name.to_ascii_lowercase(alloc)?;
+    let mut path = folder;
+    if !ends_with_slash(path.as_bytes()) {
+        path.push_str("/")?;
+    }
+    push_folders(&mut path, small.as_bytes())?;
+    path.push_str(small.as_str())?;
+    Ok(path)
+}
+
+fn ends_with_slash(folder: &[u8]) -> bool
+    ensures { result ≡ ends_with_slash folder.now }
+{
+    match folder {
+        [.., last] => *last == b'/',
+        [] => false,
+    }
+}
+
+/// Adds the folders of a small name.
+fn push_folders(path: &mut String, name: &[u8]) -> Result<(), AllocError>
+    requires { All (λ b. b < 128) name.now }
+    ensures { OnOk result (string_bytes path.new ≡ string_bytes path.old ++ folders name.now) }
+{
+    match name {
+        [] => Ok(()),
+        [_] => path.push_str("1/"),
+        [_, _] => path.push_str("2/"),
+        [a, _, _] => {
+            path.push_str("3/")?;
+            path.push(char::from(*a))?;
+            path.push_str("/")
+        }
+        [a, b, c, d, ..] => {
+            push_pair(path, *a, *b)?;
+            push_pair(path, *c, *d)
+        }
+    }
+}
+
+/// Adds a folder of two letters.
+fn push_pair(path: &mut String, a: u8, b: u8) -> Result<(), AllocError>
+    requires first { a < 128 }
+    requires second { b < 128 }
+    ensures { OnOk result (string_bytes path.new ≡ string_bytes path.old ++ a ∷ b ∷ 47 ∷ []) }
+{
+    path.push(char::from(a))?;
+    path.push(char::from(b))?;
+    path.push_str("/")
+}

@@ -1,0 +1,197 @@
+//! The entries of an answer, ranked once.
+ghost use Rattle.std.specs.Prelude.{◌≡◌, ◌++◌, ℕ, List, Bool, not, IfOk, IfErr, IsTrue, OnOk, map, option_copied, option_map, slice_get};
+ghost use Rattle.std.specs.List.{find};
+ghost use Rattle.semver.specs.Identifiers.{parts_of};
+ghost use Rattle.semver.specs.Parse.{Parts};
+ghost use Rattle.edit_document.specs.Errors.{IsMemory};
+ghost use Rattle.edit_record.specs.Admissible.{entry_order, is_kept, is_too_new, is_wanted};
+ghost use Rattle.edit_record.specs.Admits.{admits};
+ghost use Rattle.edit_record.specs.Finding.{IsFound, IsFoundAtLeast};
+ghost use Rattle.edit_record.specs.Greatest.{IsGreatestKept};
+ghost use Rattle.edit_record.specs.IndexEntry.{IndexEntry, entry_of};
+ghost use Rattle.edit_record.specs.Selection.{is_admitted, is_allowed};
+ghost use Rattle.edit_record.specs.Laws.{holds_dash};
+ghost use Rattle.edit_record.specs.Requirement.{comparators_of};
+ghost use Rattle.edit_record.specs.RustVersions.{numbers_of};
+ghost use Rattle.edit_sources.specs.Ranking.{passes, rank_at, rank_of, ranks_from};
+
+use edit_document::errors::CargoResult;
+use edit_record::dependency::Dependency;
+use edit_record::fetch::{IndexVersion, RustVersion};
+use edit_record::find::{dependency_on, read_candidate};
+use edit_record::requirement::admits;
+use semver::{Version, VersionReq};
+use std::alloc::Global;
+use std::cmp::Reverse;
+
+/// An entry that is readable and not yanked, with what is read of it.
+///
+/// Ranks are ordered by version, the greatest first, and then by place, the later first.
+#[derive(Debug, Drop)]
+#[derive_where(PartialEq, Eq, PartialOrd, Ord)]
+pub struct Rank {
+    version: Reverse<Version>,
+    place: Reverse<usize>,
+    #[derive_where(skip(EqHashOrd))]
+    rust_version: Option<RustVersion>,
+    #[derive_where(skip(EqHashOrd))]
+    told: IndexVersion,
+}
+
+/// Adds the rank of an entry that is readable and not yanked.
+fn push_rank(
+    alloc: Global,
+    ranks: &mut Vec<Rank>,
+    place: usize,
+    told: &IndexVersion,
+) -> CargoResult<()>
+    ensures ok { OnOk result (map rank_of ranks.new.items ≡ map rank_of ranks.old.items ++ rank_at place (entry_of told.now)) }
+    ensures refused { IfErr result IsMemory }
+{
+    let Some(candidate) = read_candidate(alloc, told)? else {
+        return Ok(());
+    };
+    let told = told.try_clone(alloc)?;
+    ranks.push(Rank {
+        version: Reverse(candidate.version),
+        place: Reverse(place),
+        rust_version: candidate.rust_version,
+        told,
+    })?;
+    Ok(())
+}
+
+/// The ranks of entries, in the order of the entries.
+fn read_ranks(alloc: Global, entries: &[IndexVersion]) -> CargoResult<Vec<Rank>>
+    ensures ok { IfOk result (λ v. map rank_of v.items ≡ ranks_from 0 (map entry_of entries.now)) }
+    ensures refused { IfErr result IsMemory }
+{
+    let mut ranks = Vec::new(alloc);
+    for (place, told) in entries.iter().enumerate() {
+        push_rank(alloc, &mut ranks, place, told)?;
+    }
+    Ok(ranks)
+}
+
+/// The first rank that is for a Rust version and whose version is wanted.
+fn first_wanted<'a>(
+    ranks: &'a [Rank],
+    allow_prerelease: bool,
+    req: Option<&VersionReq>,
+    rust_version: Option<RustVersion>,
+) -> Option<&'a Rank>
+    ensures { option_copied result ≡ find (λ r. passes (option_map numbers_of rust_version) (is_wanted allow_prerelease (option_map comparators_of (option_copied req.entry))) (rank_of r)) ranks.now }
+{
+    ranks
+        .iter()
+        .find(|rank| is_first(rank, allow_prerelease, req, rust_version))
+}
+
+fn is_first(
+    rank: &Rank,
+    allow_prerelease: bool,
+    req: Option<&VersionReq>,
+    rust_version: Option<RustVersion>,
+) -> bool
+    ensures { result ≡ passes (option_map numbers_of rust_version) (is_wanted allow_prerelease (option_map comparators_of (option_copied req.entry))) (rank_of rank.now) }
+{
+    is_for(rank.rust_version, rust_version) && is_wanted(&rank.version.0, allow_prerelease, req)
+}
+
+/// Whether the Rust version that is asked for is not above the given one, where there are both.
+fn is_for(asked: Option<RustVersion>, given: Option<RustVersion>) -> bool
+    ensures { result ≡ not (is_too_new (option_map numbers_of asked) (option_map numbers_of given)) }
+{
+    match (asked, given) {
+        (Some(asked), Some(given)) => asked <= given,
+        _ => true,
+    }
+}
+
+/// Whether a requirement admits a version; without one, whether it may have its pre-release.
+fn is_wanted(version: &Version, allow_prerelease: bool, req: Option<&VersionReq>) -> bool
+    ensures { result ≡ is_wanted allow_prerelease (option_map comparators_of (option_copied req.entry)) (parts_of version.now) }
+{
+    match req {
+        Some(req) => admits(req, version),
+        None => allow_prerelease || version.pre.is_empty(),
+    }
+}
+
+/// The entries of an answer that are readable and not yanked, the greatest version first and among
+/// equal ones the later entry.
+#[derive(Debug, Drop)]
+pub struct Ranked {
+    ranks: Vec<Rank>,
+}
+
+impl Ranked {
+    ghost use Rattle.edit_sources.specs.Ranking.{IsRanking, ranks_of};
+
+    /// Ranks entries.
+    pub fn new(alloc: Global, entries: &[IndexVersion]) -> CargoResult<Ranked>
+        ensures ok { IfOk result (λ r. IsRanking (map entry_of entries.now) (ranks_of r)) }
+        ensures refused { IfErr result IsMemory }
+    {
+        let mut ranks = read_ranks(alloc, entries)?;
+        ranks.sort_unstable();
+        Ok(Ranked { ranks })
+    }
+
+    /// The version of a rank, from 0; none past the last.
+    pub fn version(&self, n: usize) -> Option<&Version>
+        ensures { option_map parts_of (option_copied result) ≡ option_map (λ r. r.version) (slice_get (ranks_of self.now) n) }
+    {
+        match self.ranks.get(n) {
+            Some(rank) => Some(&rank.version.0),
+            None => None,
+        }
+    }
+
+    /// The dependency on the first rank that is for a Rust version and whose version is wanted.
+    fn best(
+        &self,
+        alloc: Global,
+        allow_prerelease: bool,
+        req: Option<&VersionReq>,
+        rust_version: Option<RustVersion>,
+    ) -> CargoResult<Option<Dependency>>
+        ensures found { (entries : List IndexEntry) → IsRanking entries (ranks_of self.now) → IfOk result (IsFound (option_map numbers_of rust_version) (is_wanted allow_prerelease (option_map comparators_of (option_copied req.entry))) entries) }
+        ensures refused { IfErr result IsMemory }
+    {
+        match first_wanted(&self.ranks, allow_prerelease, req, rust_version) {
+            Some(rank) => Ok(Some(dependency_on(alloc, &rank.told)?)),
+            None => Ok(None),
+        }
+    }
+
+    /// What `find_latest_version` finds among the entries that are ranked.
+    pub fn latest(
+        &self,
+        alloc: Global,
+        allow_prerelease: bool,
+        rust_version: Option<RustVersion>,
+    ) -> CargoResult<Option<Dependency>>
+        ensures found { (entries : List IndexEntry) → IsRanking entries (ranks_of self.now) → IfOk result (IsFound (option_map numbers_of rust_version) (is_allowed allow_prerelease) entries) }
+        // where a requirement has a greatest version, this one is not less, if pre-releases are allowed where the requirement has a `-`
+        ensures at_least { (entries : List IndexEntry) → IsRanking entries (ranks_of self.now) → IfOk result (λ o. (req : List ℕ) → (IsTrue (holds_dash req) → IsTrue allow_prerelease) → (e : IndexEntry)
+            → IsGreatestKept (is_kept (option_map numbers_of rust_version) (is_admitted req)) entry_order entries e
+            → IsFoundAtLeast (option_map numbers_of rust_version) (is_allowed allow_prerelease) entries e o) }
+        ensures refused { IfErr result IsMemory }
+    {
+        self.best(alloc, allow_prerelease, None, rust_version)
+    }
+
+    /// What `find_compatible_version` finds among the entries that are ranked.
+    pub fn compatible(
+        &self,
+        alloc: Global,
+        version_req: &VersionReq,
+        rust_version: Option<RustVersion>,
+    ) -> CargoResult<Option<Dependency>>
+        ensures found { (entries : List IndexEntry) → IsRanking entries (ranks_of self.now) → IfOk result (IsFound (option_map numbers_of rust_version) (admits (comparators_of version_req.now)) entries) }
+        ensures refused { IfErr result IsMemory }
+    {
+        self.best(alloc, false, Some(version_req), rust_version)
+    }
+}

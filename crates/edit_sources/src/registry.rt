@@ -1,0 +1,72 @@
+//! The address of a registry.
+ghost use Rattle.std.specs.Prelude.{◌≡◌, ◌⊎◌, true, IfOk, IfErr, None, Ok};
+ghost use Rattle.edit_document.specs.Errors.{IsMemory};
+ghost use Rattle.edit_sources.specs.ConfigurationFiles.{OnlyReads, HasFailed, ConfigsFail, ConfiguredUrl, HasNoConfiguredUrl};
+ghost use Rattle.url.specs.Parser.{parse_url};
+ghost use Rattle.edit_sources.specs.Configured.{given, HasAddress, IsNoUrl, HasNoUrl};
+
+use crate::config::{Config, read_configs};
+use crate::store::Store;
+use edit_document::{CargoResult, Error};
+use std::alloc::Global;
+use url::{ParseError, Url};
+
+mod chain;
+#[cfg(test)]
+mod tests;
+
+pub use chain::CRATES_IO_INDEX;
+
+/// The URL of an address.
+fn url_of(alloc: Global, address: &str) -> CargoResult<Url>
+    ensures reads { IfOk result (λ url. parse_url None address.now ≡ Ok url) }
+    ensures refused { IfErr result (λ e. IsMemory e ⊎ IsNoUrl address.now e) }
+{
+    match Url::parse(alloc, address) {
+        Ok(url) => Ok(url),
+        Err(ParseError::OutOfMemory | ParseError::Overflow) => Err(Error::Memory),
+        Err(_) => Err(Error::InvalidUrl),
+    }
+}
+
+/// The address of a registry: none, or the address of crates.io, begins at the key `crates-io`, and
+/// another at its own key; each `replace-with` names the next key, and the last source has the address.
+///
+/// `configs` are in the order of their precedence, the first one first. `RegistryNotFound` where no
+/// file defines the key at which the registry begins, `SourceNotFound` where a `replace-with` names
+/// a key that no file defines or that was used, `MissingRegistry` where the last source has no
+/// address, and `InvalidUrl` where `url` refuses it. What memory allows is `Memory`, an address of
+/// 4 GB included.
+pub fn resolve(alloc: Global, configs: &[Config], registry: Option<&str>) -> CargoResult<Url>
+    ensures address { IfOk result (λ url. HasAddress configs.now (given registry.entry) url) }
+    ensures refused { IfErr result (λ e. IsMemory e ⊎ HasNoUrl configs.now (given registry.entry) e) }
+{
+    let source = chain::last_source(alloc, configs, registry)?;
+    match source.registry {
+        Some(address) => url_of(alloc, address),
+        None => Err(Error::MissingRegistry),
+    }
+}
+
+/// The address of a registry under the configurations of a manifest, as `read_configs` reads them
+/// and `resolve` follows them.
+pub fn registry_url<S: Store>(
+    alloc: Global,
+    store: &mut S,
+    manifest_path: &str,
+    cargo_home: Option<&str>,
+    registry: Option<&str>,
+) -> CargoResult<Url>
+    ensures store { OnlyReads (S.tells store.old) (S.tells store.new) (S.file_at store.old) (S.file_at store.new) (S.faults store.old) (S.faults store.new) }
+    ensures address { IfOk result (λ url. S.tells store.old ≡ true → ConfiguredUrl (S.file_at store.old) manifest_path.now (given cargo_home.entry) (given registry.entry) url) }
+    ensures refused { IfErr result (λ e. IsMemory e ⊎ (HasFailed (S.faults store.old) (S.faults store.new) e ⊎ (ConfigsFail (S.tells store.old) (S.file_at store.old) manifest_path.now (given cargo_home.entry) e ⊎ HasNoConfiguredUrl (S.tells store.old) (S.file_at store.old) manifest_path.now (given cargo_home.entry) (given registry.entry) e))) }
+{
+    let configs = match read_configs(alloc, store, manifest_path, cargo_home) {
+        Ok(configs) => configs,
+        Err(error) => return Err(error),
+    };
+    match resolve(alloc, &configs, registry) {
+        Ok(url) => Ok(url),
+        Err(error) => Err(error),
+    }
+}
