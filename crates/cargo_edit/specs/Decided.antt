@@ -1,0 +1,46 @@
+-- The decision's values, as the program has them.
+use Rattle.std.specs.Prelude.{List, ℕ, Bool, not, ◌&&◌, if◌then◌else◌, is_some, Option, option_map, string_bytes, Some, None}
+use Rattle.semver.specs.Identifiers.{parts_of}
+use Rattle.semver.specs.declared.Version.{Version}
+use Rattle.cargo_edit.specs.Decision.{Case, Choice, Outcome, first_reason, first_row, kept, given, left_out, or_else, row_change, row_text, same_text, to_compatible, to_latest, unless, unread, when}
+use Rattle.cargo_edit.specs.declared.upgrade.Options.{Options}
+use Rattle.cargo_edit.specs.declared.upgrade.Reason.{Reason}
+use Rattle.cargo_edit.specs.declared.upgrade.Reason.TheVariants as reason
+use Rattle.cargo_edit.specs.declared.decide.Decided.{Decided}
+
+abbrev pub case_view : Bool → Bool → Option (List ℕ) → List ℕ → Option Version → Option Version → Case
+case_view excluded renamed selected old compatible latest = record {
+  excluded = excluded;
+  renamed = renamed;
+  selected = selected;
+  old = old;
+  compatible = option_map parts_of compatible;
+  latest = option_map parts_of latest;
+}
+
+abbrev pub choice_view : Decided → Choice
+choice_view d = record { new = string_bytes d.new; change = d.change; reason = d.reason }
+
+abbrev pub held_by : Bool → Bool → Option (List ℕ) → Option Reason
+held_by jumps pinned far = when (is_some far && not jumps) (Some (if pinned then reason.Pinned else reason.Incompatible))
+
+abbrev pub reason_by : Bool → Bool → Option (List ℕ) → Option (List ℕ) → Outcome → Option Reason
+reason_by jumps pinned far near left_out = Some reason.Excluded
+reason_by jumps pinned far near (given text) = None
+reason_by jumps pinned far near unread = None
+reason_by jumps pinned far near (to_latest text) = None
+reason_by jumps pinned far near (to_compatible text) = held_by jumps pinned far
+reason_by jumps pinned far near kept = or_else (held_by jumps pinned far) (when (is_some near) (Some reason.Compatible))
+
+-- the decision, from the texts that could be written
+abbrev pub decision_by : Options → Bool → Bool → Bool → Option (List ℕ) → List ℕ → Option (List ℕ) → Option (List ℕ) → Choice
+decision_by o excluded pinned readable selected old far near =
+    let aside = is_some selected && pinned && not o.pinned in
+    let jumps = if pinned then o.pinned else o.incompatible in
+    let row = first_row excluded (unless aside selected) readable (when jumps far) (when o.compatible near) in
+    let new = row_text old row in
+    record {
+      new = new;
+      change = row_change old row;
+      reason = first_reason row aside (reason_by jumps pinned far near row) (same_text new old);
+    }

@@ -1,0 +1,15 @@
+pub mod Decision
+pub mod Decided
+pub mod Entries
+pub mod Records
+pub mod Rows
+pub mod Found
+pub mod Address
+pub mod Looks
+pub mod Looked
+pub mod Lines
+pub mod Upgraded
+pub mod Causes
+pub mod Lists
+pub mod Outputs
+pub mod PlannedView

@@ -1,0 +1,289 @@
+//! The decision for one entry.
+ghost use Rattle.std.specs.List.{list_any};
+ghost use Rattle.edit_document.specs.Errors.{IsMemory};
+ghost use Rattle.cargo_edit.specs.declared.upgrade.Reason.TheVariants as reason;
+ghost use Rattle.std.specs.Prelude.{◌≡◌, ◌||◌, if◌then◌else◌, Some, None, false, Ok, Err, IfErr, IfOk, Result, is_ok, option_and_then, option_copied, option_map, string_bytes};
+ghost use Rattle.cargo_edit.specs.Decision.{decision, has_pin_read, is_pin, newer, or_else, same_text, text_or, unless_old};
+ghost use Rattle.cargo_edit.specs.Decided.{case_view, choice_view, decision_by};
+ghost use Rattle.edit_record.specs.Requirement.{plain_text};
+ghost use Rattle.edit_record.specs.Requirement.{raise};
+ghost use Rattle.semver.specs.Identifiers.{parts_of};
+ghost use Rattle.semver.specs.Parse.{req_of};
+
+use crate::upgrade::{Change, Options, Reason};
+use edit_document::{CargoResult, Error};
+use edit_record::upgrade_requirement;
+use semver::{Comparator, Op, Version, VersionReq};
+use std::alloc::{AllocError, Global};
+
+/// What is decided for an entry.
+#[derive(Debug, Drop)]
+pub(crate) struct Decided {
+    pub(crate) new: String,
+    pub(crate) change: Option<Change>,
+    pub(crate) reason: Option<Reason>,
+}
+
+/// The text of a version, without its build metadata.
+pub(crate) fn plain_version(alloc: Global, version: &Version) -> Result<String, AllocError>
+    ensures { IfOk result (λ s. string_bytes s ≡ plain_text (parts_of version.now)) }
+{
+    let mut out = String::new(alloc);
+    write!(out, "{}", version.major)?;
+    out.push('.')?;
+    write!(out, "{}", version.minor)?;
+    out.push('.')?;
+    write!(out, "{}", version.patch)?;
+    if !version.pre.as_str().is_empty() {
+        out.push('-')?;
+        out.push_str(version.pre.as_str())?;
+    }
+    Ok(out)
+}
+
+// The text `old` raised to a version, or `other` where a comparator cannot be raised.
+fn candidate(
+    alloc: Global,
+    old: &str,
+    version: &Version,
+    other: &str,
+) -> CargoResult<Option<String>>
+    ensures text { IfOk result (λ o. option_map string_bytes o ≡ text_or other.now (raise old.now (parts_of version.now))) }
+    ensures refused { IfErr result IsMemory }
+{
+    match upgrade_requirement(alloc, old, version) {
+        Ok(text) => Ok(text),
+        Err(Error::Unsupported { comparator: _ }) => Ok(Some(String::from_str(alloc, other)?)),
+        Err(Error::InvalidRequirement { text: _ }) => Ok(None),
+        Err(error) => Err(error),
+    }
+}
+
+// The text for the latest version, where that is newer than the compatible one.
+fn latest_candidate(
+    alloc: Global,
+    old: &str,
+    compatible: Option<&Version>,
+    latest: Option<&Version>,
+) -> CargoResult<Option<String>>
+    ensures text { IfOk result (λ o. option_map string_bytes o ≡ option_and_then (λ v. text_or (plain_text v) (raise old.now v))
+        (newer (option_map parts_of (option_copied latest.entry)) (option_map parts_of (option_copied compatible.entry)))) }
+    ensures refused { IfErr result IsMemory }
+{
+    let Some(latest) = latest else {
+        return Ok(None);
+    };
+    let text = plain_version(alloc, latest)?;
+    if let Some(compatible) = compatible {
+        let near = plain_version(alloc, compatible)?;
+        if text.as_str() == near.as_str() {
+            return Ok(None);
+        }
+    }
+    candidate(alloc, old, latest, text.as_str())
+}
+
+// The text for the compatible version.
+fn compatible_candidate(
+    alloc: Global,
+    old: &str,
+    compatible: Option<&Version>,
+) -> CargoResult<Option<String>>
+    ensures text { IfOk result (λ o. option_map string_bytes o
+        ≡ option_and_then (λ v. text_or old.now (raise old.now v)) (option_map parts_of (option_copied compatible.entry))) }
+    ensures refused { IfErr result IsMemory }
+{
+    match compatible {
+        Some(version) => candidate(alloc, old, version, old),
+        None => Ok(None),
+    }
+}
+
+// `=`, `<`, `<=` and wildcards.
+fn is_pin(op: Op) -> bool
+    ensures { result ≡ is_pin op }
+{
+    matches!(op, Op::Exact | Op::Less | Op::LessEq | Op::Wildcard)
+}
+
+fn has_pin(comparators: &[Comparator]) -> bool
+    ensures { result ≡ list_any (λ c. is_pin c.op) comparators.now }
+{
+    comparators.iter().any(|c| is_pin(c.op))
+}
+
+// What a requirement's text says of its entry.
+#[derive(Clone, Copy)]
+struct Pin {
+    readable: bool,
+    pinned: bool,
+}
+
+// Whether a requirement is read, and whether it or another name pins the entry.
+fn read_pin(alloc: Global, renamed: bool, req: &str) -> CargoResult<Pin>
+    ensures readable { IfOk result (λ p. p.readable ≡ is_ok (req_of req.now)) }
+    ensures pinned { IfOk result (λ p. p.pinned ≡ (renamed || has_pin_read (req_of req.now))) }
+    ensures refused { IfErr result IsMemory }
+{
+    match VersionReq::parse(alloc, req) {
+        Ok(parsed) => Ok(Pin {
+            readable: true,
+            pinned: renamed | has_pin(&parsed.comparators),
+        }),
+        Err(error) => {
+            if error == semver::Error::from(AllocError) {
+                return Err(Error::Memory);
+            }
+            Ok(Pin {
+                readable: false,
+                pinned: renamed,
+            })
+        }
+    }
+}
+
+// An entry whose text stays.
+fn keep(alloc: Global, old: &str, why: Reason) -> Result<Decided, AllocError>
+    ensures { IfOk result (λ d. choice_view d ≡ record { new = old.now; change = None; reason = Some why }) }
+{
+    Ok(Decided {
+        new: String::from_str(alloc, old)?,
+        change: None,
+        reason: Some(why),
+    })
+}
+
+// The first reason, or that the text stays.
+fn why_same(why: Option<Reason>) -> Reason
+    ensures { Some result ≡ or_else why (Some reason.Latest) }
+{
+    match why {
+        Some(why) => why,
+        None => Reason::Latest,
+    }
+}
+
+// An entry that gets a text.
+fn take(old: &str, text: String, kind: Change, why: Option<Reason>) -> Decided
+    ensures { choice_view result ≡ record {
+      new = string_bytes text;
+      change = unless_old old.now (string_bytes text) kind;
+      reason = or_else why (if same_text (string_bytes text) old.now then Some reason.Latest else None);
+    } }
+{
+    if text.as_str() == old {
+        Decided {
+            new: text,
+            change: None,
+            reason: Some(why_same(why)),
+        }
+    } else {
+        Decided {
+            new: text,
+            change: Some(kind),
+            reason: why,
+        }
+    }
+}
+
+// The decision, from the texts that could be written.
+fn decide_by(
+    alloc: Global,
+    options: &Options,
+    pinned: bool,
+    readable: bool,
+    selected: Option<&str>,
+    old: &str,
+    far: Option<String>,
+    near: Option<String>,
+) -> Result<Decided, AllocError>
+    ensures { IfOk result (λ d. choice_view d ≡ decision_by options.now false pinned readable (option_copied selected.entry) old.now
+        (option_map string_bytes far) (option_map string_bytes near)) }
+{
+    let may_jump = if pinned {
+        options.pinned
+    } else {
+        options.incompatible
+    };
+    let aside = match selected {
+        Some(text) => {
+            if !pinned || options.pinned {
+                let text = String::from_str(alloc, text)?;
+                return Ok(take(old, text, Change::Explicit, None));
+            }
+            Some(Reason::Pinned)
+        }
+        None => None,
+    };
+    if !readable {
+        return keep(alloc, old, why_same(aside));
+    }
+    let held = match far {
+        Some(text) => {
+            if may_jump {
+                return Ok(take(old, text, Change::Latest, aside));
+            }
+            match aside {
+                Some(why) => Some(why),
+                None => Some(if pinned {
+                    Reason::Pinned
+                } else {
+                    Reason::Incompatible
+                }),
+            }
+        }
+        None => aside,
+    };
+    match near {
+        Some(text) => {
+            if options.compatible {
+                return Ok(take(old, text, Change::Compatible, held));
+            }
+            keep(
+                alloc,
+                old,
+                match held {
+                    Some(why) => why,
+                    None => Reason::Compatible,
+                },
+            )
+        }
+        None => keep(alloc, old, why_same(held)),
+    }
+}
+
+/// What is decided for an entry that has a version text.
+pub(crate) fn decide(
+    alloc: Global,
+    options: &Options,
+    excluded: bool,
+    renamed: bool,
+    selected: Option<&str>,
+    old: &str,
+    compatible: Option<&Version>,
+    latest: Option<&Version>,
+) -> CargoResult<Decided>
+    ensures decided { IfOk result (λ d. choice_view d ≡ decision options.now (case_view excluded renamed (option_copied selected.entry) old.now
+        (option_copied compatible.entry) (option_copied latest.entry))) }
+    ensures refused { IfErr result IsMemory }
+{
+    if excluded {
+        return Ok(keep(alloc, old, Reason::Excluded)?);
+    }
+    let pin = read_pin(alloc, renamed, old)?;
+    let far = latest_candidate(alloc, old, compatible, latest)?;
+    let near = compatible_candidate(alloc, old, compatible)?;
+    Ok(decide_by(
+        alloc,
+        options,
+        pin.pinned,
+        pin.readable,
+        selected,
+        old,
+        far,
+        near,
+    )?)
+}
+
+#[cfg(test)]
+mod tests;

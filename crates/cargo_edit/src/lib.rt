@@ -1,0 +1,17 @@
+//! The upgrade of a manifest: what is planned for its entries.
+#![tactic(auto)]
+
+mod candidates;
+mod decide;
+mod lists;
+mod looks;
+mod names;
+mod plan;
+mod planned;
+mod rows;
+mod seen;
+pub mod upgrade;
+mod writes;
+
+pub use plan::plan_upgrade;
+pub use upgrade::{Change, Input, Look, Options, Output, Reason, Row, UpgradePlan, Warning};

@@ -1,0 +1,112 @@
+//! What is planned for the entries of manifests.
+
+use edit_document::Place;
+use edit_record::RustVersion;
+use edit_sources::index::IndexKrate;
+use url::Url;
+
+/// What an upgrade may do.
+#[derive(Debug, Drop)]
+pub struct Options {
+    /// Raise to the greatest compatible version.
+    pub compatible: bool,
+    /// Raise to the latest version, also where the requirement does not admit it.
+    pub incompatible: bool,
+    /// Raise pinned entries to the latest version.
+    pub pinned: bool,
+    pub package: Vec<String>,
+    pub exclude: Vec<String>,
+    pub dry_run: bool,
+    pub locked: bool,
+    pub recursive: Option<bool>,
+    pub verbosity: i8,
+}
+
+/// What an entry's new requirement was taken from.
+#[derive(Debug, Clone, Copy, PartialEq, Eq)]
+pub enum Change {
+    Explicit,
+    Latest,
+    Compatible,
+}
+
+/// Why an entry did not get the newest requirement, or that it has it.
+#[derive(Debug, Clone, Copy, PartialEq, Eq)]
+pub enum Reason {
+    Latest,
+    Compatible,
+    Incompatible,
+    Pinned,
+    GitSource,
+    PathSource,
+    Excluded,
+}
+
+/// A manifest to plan for.
+#[derive(Debug, Drop)]
+pub struct Input {
+    /// What reports call the manifest.
+    pub name: String,
+    /// An absolute path in normal form.
+    pub path: String,
+    pub bytes: Vec<u8>,
+    pub rust_version: Option<RustVersion>,
+}
+
+/// A manifest's new bytes.
+#[derive(Debug, Drop)]
+pub struct Output {
+    pub path: String,
+    pub bytes: Vec<u8>,
+}
+
+/// What became of an entry.
+#[derive(Debug, Drop)]
+pub struct Row {
+    /// The index of the input, from 0.
+    pub input: usize,
+    pub name: String,
+    pub place: Place,
+    pub rename: Option<String>,
+    pub old: Option<String>,
+    pub compatible: Option<String>,
+    pub latest: Option<String>,
+    pub new: Option<String>,
+    pub reason: Option<Reason>,
+    pub change: Option<Change>,
+}
+
+/// What an index answered for a name at a registry's address.
+#[derive(Debug, Drop)]
+pub struct Look {
+    pub registry: Url,
+    pub name: String,
+    pub answer: Option<IndexKrate>,
+}
+
+/// What a report says of an entry beside its row.
+#[derive(Debug, Drop)]
+pub struct Warning {
+    /// The index of the input, from 0.
+    pub input: usize,
+    /// Whether only a verbose report has it.
+    pub verbose: bool,
+    pub text: String,
+}
+
+/// What is planned.
+#[derive(Debug, Drop)]
+pub struct UpgradePlan {
+    /// The inputs that change, in order.
+    pub outputs: Vec<Output>,
+    pub rows: Vec<Row>,
+    pub looks: Vec<Look>,
+    pub warnings: Vec<Warning>,
+    /// The selected names that no entry has.
+    pub missing: Vec<String>,
+    /// The names of the rows with a change.
+    pub modified: Vec<String>,
+    pub git_crates: Vec<String>,
+    pub pinned_present: bool,
+    pub incompatible_present: bool,
+}
