@@ -109,3 +109,6 @@ pub fn plan_upgrade<I: Index>(
         Err(error) => Err(error),
     }
 }
+
+#[cfg(test)]
+mod tests;
