@@ -1,3 +1,4 @@
+pub mod AddressLemmas
 pub mod ChainLemmas
 pub mod ConfigurationLemmas
 pub mod FileLemmas

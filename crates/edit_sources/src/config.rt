@@ -4,7 +4,7 @@ ghost use Rattle.edit_document.specs.Errors.{IsMemory};
 ghost use Rattle.toml.specs.Data.{get_member};
 ghost use Rattle.toml.specs.View.{view, table_view};
 ghost use Rattle.edit_sources.specs.Configuration as said;
-ghost use Rattle.edit_sources.specs.Configuration.{Says, SaysNothing, configuration_of, entries_of, table_of};
+ghost use Rattle.edit_sources.specs.Configuration.{Configuration, Says, SaysNothing, configuration_of, entries_of, table_of};
 ghost use Rattle.edit_sources.specs.Configured.{IsConfigRefusal, configuration, registry_entry, source_entry, source_view};
 
 use edit_document::{CargoResult, Error};
@@ -195,6 +195,9 @@ impl Config {
     pub fn read(alloc: Global, path: &str, bytes: &[u8]) -> CargoResult<Config>
         ensures named { IfOk result (λ c. string_bytes c.path ≡ path.now) }
         ensures said { IfOk result (λ c. Says bytes.now (configuration c)) }
+        // and nothing else; no file says something and nothing
+        ensures only { IfOk result (λ c. (other : Configuration) → Says bytes.now other → other ≡ configuration c) }
+        ensures something { IfOk result (λ c. SaysNothing bytes.now → ⊥) }
         ensures refused { IfErr result (λ e. IsMemory e ⊎ (IsConfigRefusal path.now e × SaysNothing bytes.now)) }
     {
         let Ok(text) = std::str::from_utf8(bytes) else {

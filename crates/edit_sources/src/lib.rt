@@ -21,6 +21,8 @@ pub mod ranking;
 mod ranking_tests;
 pub mod registry;
 mod replace;
+#[cfg(test)]
+mod rows;
 pub mod store;
 #[cfg(test)]
 mod store_tests;

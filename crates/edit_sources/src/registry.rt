@@ -3,6 +3,7 @@ ghost use Rattle.std.specs.Prelude.{◌≡◌, ◌⊎◌, true, IfOk, IfErr, Non
 ghost use Rattle.edit_document.specs.Errors.{IsMemory};
 ghost use Rattle.edit_sources.specs.ConfigurationFiles.{OnlyReads, HasFailed, ConfigsFail, ConfiguredUrl, HasNoConfiguredUrl};
 ghost use Rattle.url.specs.Parser.{parse_url};
+ghost use Rattle.url.specs.Parts.{Parts};
 ghost use Rattle.edit_sources.specs.Configured.{given, HasAddress, IsNoUrl, HasNoUrl};
 
 use crate::config::{Config, read_configs};
@@ -39,6 +40,8 @@ fn url_of(alloc: Global, address: &str) -> CargoResult<Url>
 /// 4 GB included.
 pub fn resolve(alloc: Global, configs: &[Config], registry: Option<&str>) -> CargoResult<Url>
     ensures address { IfOk result (λ url. HasAddress configs.now (given registry.entry) url) }
+    // and no other URL is
+    ensures only { IfOk result (λ url. (other : Parts) → HasAddress configs.now (given registry.entry) other → other ≡ url) }
     ensures refused { IfErr result (λ e. IsMemory e ⊎ HasNoUrl configs.now (given registry.entry) e) }
 {
     let source = chain::last_source(alloc, configs, registry)?;
