@@ -23,6 +23,8 @@ pub mod Views
 pub mod Loops
 pub mod Codes
 pub mod TokenLaws
+pub mod NumberLaws
+pub mod NumberReadAgain
 pub mod ValueLaws
 pub mod ValueReadAgain
 pub mod LineLaws
