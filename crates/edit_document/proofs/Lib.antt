@@ -40,6 +40,7 @@ pub mod Promised
 pub mod Fronts
 pub mod Ends
 pub mod WalkedTokens
+pub mod NumberTokens
 pub mod WalkedValues
 pub mod WalkedLines
 pub mod Matched
@@ -48,6 +49,7 @@ pub mod Depths
 pub mod Decoded
 pub mod Contents
 pub mod StandardFacts
+pub mod NumberFacts
 pub mod ShownForms
 pub mod ReplacedDocuments
 pub mod Walking
