@@ -9,8 +9,8 @@ use Rattle.std.proofs.lemmas.Bool.Decides.{nat_tests}
 use Rattle.std.proofs.lemmas.List.{take_at, drop_at, length-append}
 use Rattle.std.proofs.lemmas.Str.{encode_ascii, IsUtf8-past_char, IsUtf8-drop, IsCharBoundary-before_ascii, IsCharBoundary-at_seam}
 use Rattle.edit_document.specs.declared.read.marks.MarkKind.{MarkKind}
-use Rattle.edit_document.specs.declared.read.marks.MarkKind.TheVariants.{BarePart, BasicPart, LiteralPart, BasicString, LiteralString}
-use Rattle.edit_document.specs.Characters.{quote, apostrophe, backslash, is_bare, is_unescaped, All}
+use Rattle.edit_document.specs.declared.read.marks.MarkKind.TheVariants.{BarePart, BasicPart, LiteralPart, BasicString, LiteralString, Integer, Float, DateTime}
+use Rattle.edit_document.specs.Characters.{quote, apostrophe, backslash, is_bare, is_ascii, is_unescaped, All}
 use Rattle.edit_document.specs.Strings.{Piece, plain, letter, short, long, feed, fold, delimiter, pieces, said, says}
 use Rattle.edit_document.specs.Decoding as decoding
 use Rattle.edit_document.specs.Decoding.{delimited, BasicSays, Says}
@@ -63,12 +63,28 @@ bare_utf8 before (b ∷ content) rest some h u =
     let one = utf8_from before (content ++ rest) b u (bare_ascii b h.0) in
     (one, utf8_behind (b ∷ content) rest (bares_ascii (b ∷ content) h) one)
 
+ascii_byte : (b : ℕ) → is_ascii b ≡ true → b < 128
+ascii_byte b h = grind (arith, nat_tests)
+
+ascii_bytes : (bytes : List ℕ) → All is_ascii bytes → Ascii bytes
+ascii_bytes [] h = tt
+ascii_bytes (b ∷ bytes) h = (ascii_byte b h.0, ascii_bytes bytes h.1)
+
+word_utf8 : (before content rest : List ℕ) → 0 < length content → All is_ascii content → IsUtf8 (before ++ (content ++ rest)) → IsUtf8 (content ++ rest) × IsUtf8 rest
+word_utf8 before [] rest some h u = absurd (omega arith)
+word_utf8 before (b ∷ content) rest some h u =
+    let one = utf8_from before (content ++ rest) b u (ascii_byte b h.0) in
+    (one, utf8_behind (b ∷ content) rest (ascii_bytes (b ∷ content) h) one)
+
 parts_utf8 : (kind : MarkKind) (before content rest said : List ℕ) → Says kind content said → IsUtf8 (before ++ delimited kind content rest) → PartsUtf8 kind content rest
 parts_utf8 BarePart before content rest said h u = bare_utf8 before content rest h.0 h.1 u
 parts_utf8 BasicPart before content rest said h u = quoted_utf8 quote before content rest (omega arith) u
 parts_utf8 LiteralPart before content rest said h u = quoted_utf8 apostrophe before content rest (omega arith) u
 parts_utf8 BasicString before content rest said h u = quoted_utf8 quote before content rest (omega arith) u
 parts_utf8 LiteralString before content rest said h u = quoted_utf8 apostrophe before content rest (omega arith) u
+parts_utf8 Integer before content rest said h u = word_utf8 before content rest h.0 h.1 u
+parts_utf8 Float before content rest said h u = word_utf8 before content rest h.0 h.1 u
+parts_utf8 DateTime before content rest said h u = word_utf8 before content rest h.0 h.1 u
 parts_utf8 _ before content rest said h u = absurd h
 
 -- ---- the range of a content

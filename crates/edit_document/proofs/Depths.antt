@@ -35,9 +35,9 @@ mutual
   value_deep p (multi_basic ps) after s le h = absurd s
   value_deep p (multi_literal ps) after s le h = absurd s
   value_deep p (boolean b) after s le h = omega arith
-  value_deep p (integer n) after s le h = absurd s
-  value_deep p (float f) after s le h = absurd s
-  value_deep p (datetime d) after s le h = absurd s
+  value_deep p (integer n) after s le h = omega arith
+  value_deep p (float f) after s le h = omega arith
+  value_deep p (datetime d) after s le h = omega arith
   value_deep p (array g es) after s le h = absurd s
   value_deep p (inline g ms) after s le h = let m = members_deep p ms (right_brace ∷ after) s le h in omega arith
 

@@ -27,7 +27,7 @@ pub record IsEnclosed (text : List ℕ) : Type 0 where
 
 -- ---- texts of ASCII
 
-abbrev Ascii : List ℕ → Type 0
+abbrev pub Ascii : List ℕ → Type 0
 Ascii bs = AllByRecursion (λ b. b < 128) bs
 
 ascii_append : (xs ys : List ℕ) → Ascii xs → Ascii ys → Ascii (xs ++ ys)
@@ -92,7 +92,7 @@ whole_some (b ∷ ds) e = omega arith
 -- ---- numbers and dates
 
 -- what is of ASCII and not empty
-abbrev IsAsciiText : List ℕ → Type 0
+abbrev pub IsAsciiText : List ℕ → Type 0
 IsAsciiText bs = (0 < length bs) × Ascii bs
 
 put_ascii : (xs ys : List ℕ) → 0 < length xs → Ascii xs → Ascii ys → IsAsciiText (xs ++ ys)
@@ -103,7 +103,7 @@ sign_ascii no_sign rest h = h
 sign_ascii plus rest h = (omega arith, (lit< tt, h.1))
 sign_ascii minus rest h = (omega arith, (lit< tt, h.1))
 
-integer_ascii : (n : Integer) → IsInteger n → IsAsciiText (integer_text n [])
+pub integer_ascii : (n : Integer) → IsInteger n → IsAsciiText (integer_text n [])
 integer_ascii (decimal s ds) h = sign_ascii s (ds ++ []) (put_ascii ds [] (whole_some ds h) (whole_ascii ds h) tt)
 integer_ascii (based b ds) h = (omega arith, (lit< tt, (letter b, ascii_append ds [] (digits_ascii (base_digit b) ds (base_ascii b) h) tt)))
   where
@@ -128,7 +128,7 @@ optional_ascii : (e : Option Exponent) → IfSome e IsExponent → Ascii (option
 optional_ascii None h = tt
 optional_ascii (Some e) h = (exponent_ascii e h).1
 
-float_ascii : (f : Float) → IsFloat f → IsAsciiText (float_text f [])
+pub float_ascii : (f : Float) → IsFloat f → IsAsciiText (float_text f [])
 float_ascii (with_fraction s w f e) h =
     sign_ascii s _ (put_ascii w _ (whole_some w h.0) (whole_ascii w h.0) (lit< tt, ascii_append f _ (digits_ascii is_decimal f decimal_ascii h.1) (optional_ascii e h.2)))
 float_ascii (with_exponent s w e) h = sign_ascii s _ (put_ascii w _ (whole_some w h.0) (whole_ascii w h.0) (exponent_ascii e h.1).1)
@@ -162,7 +162,7 @@ offset_ascii (shift s hour minute) h =
 between_ascii : (b : ℕ) → (b == 84 || b == 116 || b == 32) ≡ true → b < 128
 between_ascii b e = grind (arith, nat_tests)
 
-datetime_ascii : (d : DateTime) → IsDateTime d → IsAsciiText (datetime_text d [])
+pub datetime_ascii : (d : DateTime) → IsDateTime d → IsAsciiText (datetime_text d [])
 datetime_ascii (only_date d) h = date_ascii d [] h tt
 datetime_ascii (only_time t) h = time_ascii t [] h tt
 datetime_ascii (both d b t o) h = date_ascii d _ h.0 (between_ascii b h.1, (time_ascii t _ h.2 (offset_ascii o h.3)).1)

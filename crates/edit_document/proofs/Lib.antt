@@ -23,6 +23,8 @@ pub mod Views
 pub mod Loops
 pub mod Codes
 pub mod TokenLaws
+pub mod NumberLaws
+pub mod NumberReadAgain
 pub mod ValueLaws
 pub mod ValueReadAgain
 pub mod LineLaws
@@ -38,6 +40,7 @@ pub mod Promised
 pub mod Fronts
 pub mod Ends
 pub mod WalkedTokens
+pub mod NumberTokens
 pub mod WalkedValues
 pub mod WalkedLines
 pub mod Matched
@@ -46,6 +49,7 @@ pub mod Depths
 pub mod Decoded
 pub mod Contents
 pub mod StandardFacts
+pub mod NumberFacts
 pub mod ShownForms
 pub mod ReplacedDocuments
 pub mod Walking

@@ -12,6 +12,7 @@ use Rattle.edit_document.specs.Reading.{first, past, blanks, past_blanks, key_at
 use Rattle.edit_document.proofs.TokenLaws.{bind_some, chosen, tested, some_is, first_is, at_drop, both, past_some, run_parts, run_all, front_again, after_again, key_sound, key_again}
 use Rattle.edit_document.proofs.ValueLaws.{blank_parts, IsPair, pair_sound, value_sound}
 use Rattle.edit_document.proofs.ValueReadAgain.{pair_again, ends_bare, value_again, key_first, pair_longer, key_longer, value_longer}
+use Rattle.edit_document.proofs.NumberReadAgain.{EndsValue, ends_value, is_stop}
 
 -- ---- what is read is spelled so
 
@@ -155,6 +156,9 @@ comment_first : (c : Option (List ℕ)) (rest : List ℕ) → EndsLine rest → 
 comment_first None rest ends = (ends.no_blank, ends.over)
 comment_first (Some text) rest ends = (refl, refl)
 
+over_stop : (b : ℕ) → is_line_over b ≡ true → is_stop b ≡ true
+over_stop b h = grind (arith, nat_tests)
+
 bare_starts : (b : ℕ) → is_bare b ≡ true → (is_line_over b ≡ false) × (eqb b left_bracket ≡ false)
 bare_starts b h = (grind (arith, nat_tests), grind (arith, nat_tests))
 
@@ -172,21 +176,21 @@ statement_first (pair k a b v) rest h = ((key_first k _ h.0).0, (key_starts k _ 
 statement_first (header a k b) rest h = (refl, refl)
 statement_first (element_header a k b) rest h = (refl, refl)
 
-pub statement_again : (n : ℕ) (s : Statement) (rest : List ℕ) → IsGoodStatement n s → statement_at n (statement s rest) ≡ Some (s, rest)
+pub statement_again : (n : ℕ) (s : Statement) (rest : List ℕ) → IsGoodStatement n s → EndsValue rest → statement_at n (statement s rest) ≡ Some (s, rest)
 unfolding statement_at
-statement_again n (pair k a b v) rest good =
+statement_again n (pair k a b v) rest good ends =
     let h = good.valid in
     let p : Pair = record { key = k; before = a; behind = b; value = v } in
     let hp : IsPair n p = record { key = h.0; one_part = good.supported.0; before = h.1; behind = h.2; value = record { valid = h.3; supported = good.supported.1; shallow = good.shallow } } in
-    let one = pair_again n (value_at n) p rest hp (value_again v n h.3 good.supported.1 good.shallow) in
+    let one = pair_again n (value_at n) p rest hp (value_again v n h.3 good.supported.1 good.shallow) ends in
     rw ((key_starts k (a ++ (equals ∷ (b ++ value v rest))) h.0).1, one) refl
-statement_again n (header a k b) rest good =
+statement_again n (header a k b) rest good ends =
     let h = good.valid in
     let end = right_bracket ∷ rest in
     let one = key_again k (b ++ end) h.1 good.supported (ends_bare b right_bracket rest h.2 refl) in
     let begins = (key_first k (b ++ end) h.1).0 in
     rw (after_again is_blank a (key k (b ++ end)) h.0 begins, front_again is_blank a (key k (b ++ end)) h.0 begins, one, after_again is_blank b end h.2 refl, front_again is_blank b end h.2 refl) refl
-statement_again n (element_header a k b) rest good = absurd good.supported
+statement_again n (element_header a k b) rest good ends = absurd good.supported
 
 pub line_again : (n : ℕ) (l : Line) (rest : List ℕ) → IsGoodLine n l → EndsLine rest → line_at n (line l rest) ≡ Some (l, rest)
 unfolding line_at
@@ -201,7 +205,7 @@ line_again n (full_line a s b c) rest good ends =
     let begins = comment_first c rest ends in
     let more = comment_again c rest h.3 ends in
     let starts = statement_first s (b ++ tail) h.1 in
-    let one = statement_again n s (b ++ tail) (record { valid = h.1; supported = good.supported; shallow = good.shallow }) in
+    let one = statement_again n s (b ++ tail) (record { valid = h.1; supported = good.supported; shallow = good.shallow }) (ends_value b tail h.2 (over_stop (first tail) begins.1)) in
     rw (after_again is_blank a (statement s (b ++ tail)) h.0 starts.0, front_again is_blank a (statement s (b ++ tail)) h.0 starts.0, starts.1, one, after_again is_blank b tail h.2 begins.0, front_again is_blank b tail h.2 begins.0, more.0, more.1) refl
 
 abbrev pub count_lines : Lines → ℕ

@@ -66,9 +66,9 @@ flat_marks (multi_basic ps) rest s e = absurd s
 flat_marks (multi_literal ps) rest s e = absurd s
 flat_marks (boolean true) rest s e = refl
 flat_marks (boolean false) rest s e = refl
-flat_marks (integer n) rest s e = absurd s
-flat_marks (float f) rest s e = absurd s
-flat_marks (datetime d) rest s e = absurd s
+flat_marks (integer n) rest s e = refl
+flat_marks (float f) rest s e = refl
+flat_marks (datetime d) rest s e = refl
 flat_marks (array g es) rest s e = absurd s
 flat_marks (inline g ms) rest s e = absurd (omega arith)
 

@@ -88,9 +88,9 @@ value_view made p (literal text) names s e = refl
 value_view made p (multi_basic ps) names s e = absurd s
 value_view made p (multi_literal ps) names s e = absurd s
 value_view made p (boolean b) names s e = refl
-value_view made p (integer n) names s e = absurd s
-value_view made p (float f) names s e = absurd s
-value_view made p (datetime d) names s e = absurd s
+value_view made p (integer n) names s e = refl
+value_view made p (float f) names s e = refl
+value_view made p (datetime d) names s e = refl
 value_view made p (array g es) names s e = absurd s
 value_view made p (inline g ms) names s e = ap inline_table (sym e)
 

@@ -4,6 +4,7 @@ use Rattle.std.specs.Prelude.{codes, is_some}
 use Rattle.edit_document.specs.Characters.{quote}
 use Rattle.edit_document.specs.Strings.{Piece, letter, short, long, pieces, says}
 use Rattle.edit_document.specs.Reading.{read_text, lines_at, line_end_at, line_at, statement_at, value_at, members_at, pair_at, scalar_at, key_at, part_at, literal_at, basic_at, pieces_at, piece_at, escape_at, coded_at}
+use Rattle.edit_document.specs.ReadingNumbers.{number_at, unsigned_at, decimal_at, whole_at}
 
 -- "String": each escape, as it is spelled and as what it says
 abbrev pub every_escape : List Piece
@@ -57,7 +58,7 @@ inline_table_read = refl
 
 -- "Key/Value Pair"
 pub pair_without_value_refused : read_text 80 (codes "key = # INVALID") ≡ None
-unfolding read_text lines_at line_end_at line_at statement_at value_at members_at pair_at scalar_at key_at part_at literal_at basic_at pieces_at piece_at escape_at coded_at
+unfolding read_text lines_at line_end_at line_at statement_at value_at members_at pair_at scalar_at key_at part_at literal_at basic_at pieces_at piece_at escape_at coded_at number_at unsigned_at decimal_at whole_at
 pair_without_value_refused = refl
 
 -- "Key/Value Pair"

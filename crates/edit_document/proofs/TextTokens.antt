@@ -15,6 +15,7 @@ use Rattle.edit_document.specs.WalkState.{SaysAt, IsToken}
 use Rattle.edit_document.proofs.Fronts.{Relation, IsKept, pieces_before}
 use Rattle.edit_document.proofs.Ends.{Ends, ends_past, ends_one, ends_pair, ends_gap, ends_value, ends_statement, ends_line, ends_line_end}
 use Rattle.edit_document.proofs.WalkedTokens.{said_basic, said_literal, said_part}
+use Rattle.edit_document.proofs.NumberTokens.{number_token}
 
 abbrev AreTokens : List ℕ → List Mark → Type 0
 AreTokens bytes marks = AllByRecursion (IsToken bytes) marks
@@ -67,9 +68,9 @@ mutual
   value_tokens bytes (multi_literal ps) rest h s u ends = absurd s
   value_tokens bytes (boolean true) rest h s u ends = ((λ e. absurd cc), tt)
   value_tokens bytes (boolean false) rest h s u ends = ((λ e. absurd cc), tt)
-  value_tokens bytes (integer n) rest h s u ends = absurd s
-  value_tokens bytes (float f) rest h s u ends = absurd s
-  value_tokens bytes (datetime d) rest h s u ends = absurd s
+  value_tokens bytes (integer n) rest h s u ends = (number_token bytes (integer n) rest h tt ends, tt)
+  value_tokens bytes (float f) rest h s u ends = (number_token bytes (float f) rest h tt ends, tt)
+  value_tokens bytes (datetime d) rest h s u ends = (number_token bytes (datetime d) rest h tt ends, tt)
   value_tokens bytes (array g es) rest h s u ends = absurd s
   value_tokens bytes (inline g ms) rest h s u ends =
       let inside : Ends bytes (members ms (right_brace ∷ rest)) = ends_gap bytes g (members ms (right_brace ∷ rest)) (ends_one bytes 123 (gap g (members ms (right_brace ∷ rest))) ends) in

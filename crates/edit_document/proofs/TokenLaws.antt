@@ -237,7 +237,7 @@ literal_again text rest h =
 abbrev pub EndsBare : List ℕ → Type 0
 EndsBare rest = is_bare (first rest) ≡ false
 
-length_front : (class : ℕ → Bool) (text : List ℕ) → class 0 ≡ false → class (first text) ≡ true → 0 < length (front class text)
+pub length_front : (class : ℕ → Bool) (text : List ℕ) → class 0 ≡ false → class (first text) ≡ true → 0 < length (front class text)
 length_front class [] none e = absurd cc
 length_front class (b ∷ text) none e = rw e (let k : 1 + prefix_len class text ≡ suc (prefix_len class text) = omega arith in rw k (omega arith))
 

@@ -1,12 +1,13 @@
 -- The laws of values: what is read is spelled so, and what is spelled so is read.
-use Rattle.std.proofs.Common.{◌≡◌, ℕ, zero, suc, ◌<◌, ◌≤◌, true, false, eqb, List, [], ◌∷◌, ◌++◌, length, slice_index, drop, Some, refl, sym, ap, subst, ◌∙◌, inl, inr, arith}
+use Rattle.std.proofs.Common.{◌≡◌, ℕ, zero, suc, ◌<◌, ◌≤◌, true, false, ◌&&◌, eqb, List, [], ◌∷◌, ◌++◌, length, slice_index, drop, Some, refl, sym, ap, subst, ◌∙◌, inl, inr, arith}
 use Rattle.edit_document.specs.Characters.{quote, apostrophe, comma, equals, left_brace, right_brace, is_blank, All}
 use Rattle.edit_document.specs.Strings.{key, IsKey}
-use Rattle.edit_document.specs.Grammar.{Between, blank, break, remark, gap, IsBlankGap, Value, basic, literal, boolean, inline, Members, no_members, last_member, member, value, members, IsValue, AreMembers, IsMember}
+use Rattle.edit_document.specs.Grammar.{Between, blank, break, remark, gap, IsBlankGap, Value, basic, literal, multi_basic, multi_literal, boolean, integer, float, datetime, array, inline, Members, no_members, last_member, member, value, members, IsValue, AreMembers, IsMember}
 use Rattle.edit_document.specs.Supported.{IsOnePart, IsSupportedValue, AreSupportedMembers}
 use Rattle.edit_document.specs.Depth.{depth, members_depth}
 use Rattle.edit_document.specs.Reading.{◌>>=◌, Read, first, past, blanks, past_blanks, blank_gap, basic_at, literal_at, key_at, scalar_at, starts, Pair, pair_at, members_at, value_at}
 use Rattle.edit_document.proofs.TokenLaws.{bind_some, chosen, tested, some_is, first_is, at_drop, both, past_some, run_parts, run_all, basic_sound, literal_sound, key_sound}
+use Rattle.edit_document.proofs.NumberLaws.{IsNumber, number_sound}
 
 -- ---- gaps of tabs and spaces
 
@@ -58,6 +59,18 @@ starts_is a b c d text la lb lc ld e =
 flat : (n : ℕ) (v : Value) → IsValue v → IsSupportedValue v → depth v ≡ 0 → IsReadable n v
 flat n v h s e = record { valid = h; supported = s; shallow = omega arith }
 
+number_readable : (n : ℕ) (v : Value) → IsValue v → IsNumber v → IsReadable n v
+number_readable n (integer i) h s = flat n (integer i) h tt refl
+number_readable n (float f) h s = flat n (float f) h tt refl
+number_readable n (datetime d) h s = flat n (datetime d) h tt refl
+number_readable n (basic ps) h s = absurd s
+number_readable n (literal text) h s = absurd s
+number_readable n (multi_basic ps) h s = absurd s
+number_readable n (multi_literal ps) h s = absurd s
+number_readable n (boolean b) h s = absurd s
+number_readable n (array g es) h s = absurd s
+number_readable n (inline g ms) h s = absurd s
+
 pub scalar_sound : (n : ℕ) → Sound n scalar_at
 unfolding scalar_at
 scalar_sound n text x e =
@@ -74,11 +87,13 @@ scalar_sound n text x e =
             subst P (some_is _ x a.2) (first_is apostrophe text (omega arith) k.0 ∙ ap (λ (r : List ℕ). apostrophe ∷ r) b.0, flat n (literal a.0.0) b.1 tt refl)
         | inr k ↦ elim (chosen (starts 116 114 117 101 text) _ _ (Some x) k.1) [
           | inl l ↦ subst P (some_is _ x l.1) (starts_is 116 114 117 101 text (omega arith) (omega arith) (omega arith) (omega arith) l.0, flat n (boolean true) tt tt refl)
-          | inr l ↦
-              let t = tested _ _ x l.1 in
-              let w = both (starts 102 97 108 115 text) (eqb (slice_index text 4) 101) t.0 in
-              let four = starts_is 102 97 108 115 text (omega arith) (omega arith) (omega arith) (omega arith) w.0 in
-              subst P (some_is _ x t.1) (four ∙ ap (λ (r : List ℕ). 102 ∷ (97 ∷ (108 ∷ (115 ∷ r)))) (at_drop 4 101 text (omega arith) w.1), flat n (boolean false) tt tt refl)
+          | inr l ↦ elim (chosen (starts 102 97 108 115 text && eqb (slice_index text 4) 101) _ _ (Some x) l.1) [
+            | inl m ↦
+                let w = both (starts 102 97 108 115 text) (eqb (slice_index text 4) 101) m.0 in
+                let four = starts_is 102 97 108 115 text (omega arith) (omega arith) (omega arith) (omega arith) w.0 in
+                subst P (some_is _ x m.1) (four ∙ ap (λ (r : List ℕ). 102 ∷ (97 ∷ (108 ∷ (115 ∷ r)))) (at_drop 4 101 text (omega arith) w.1), flat n (boolean false) tt tt refl)
+            | inr m ↦ let f = number_sound text x m.1 in (f.0, number_readable n x.0 f.1 f.2)
+          ]
         ]
       ]
     ]

@@ -1,5 +1,5 @@
 -- What is spelled so is read, however the text was split.
-use Rattle.std.proofs.Common.{◌≡◌, ℕ, zero, suc, ◌+◌, ◌≤◌, true, false, eqb, List, [], ◌∷◌, ◌++◌, length, Some, refl, sym, subst, arith}
+use Rattle.std.proofs.Common.{◌≡◌, ℕ, zero, suc, ◌+◌, ◌≤◌, true, false, eqb, List, [], ◌∷◌, ◌++◌, length, Some, refl, sym, ap, subst, ◌∙◌, arith}
 use Rattle.std.proofs.lemmas.Bool.Decides.{nat_tests}
 use Rattle.std.proofs.lemmas.List.{length-append}
 use Rattle.edit_document.specs.Characters.{quote, apostrophe, comma, equals, left_brace, right_brace, is_blank, is_bare, All}
@@ -10,36 +10,43 @@ use Rattle.edit_document.specs.Depth.{depth, members_depth}
 use Rattle.edit_document.specs.Reading.{Read, first, blank_gap, scalar_at, Pair, pair_at, members_at, value_at}
 use Rattle.edit_document.proofs.TokenLaws.{front_again, after_again, basic_again, literal_again, length-pieces, key_again, EndsBare}
 use Rattle.edit_document.proofs.ValueLaws.{gap_blanks, blank_gap_is, AreReadable, pair_text, IsPair}
+use Rattle.edit_document.specs.Numbers.{integer_text, float_text, datetime_text}
+use Rattle.edit_document.specs.ReadingNumbers.{number_at}
+use Rattle.edit_document.proofs.NumberReadAgain.{EndsValue, ends_value, is_start, integer_start, float_start, datetime_start, integer_again, float_again, datetime_again}
+use Rattle.edit_document.proofs.Enclosed.{value_rest}
 
--- the reader reads this value, whatever follows
+-- the reader reads this value, under what may follow it
 abbrev pub Again : (List ℕ → Read Value) → Value → Type 0
-Again read v = (rest : List ℕ) → read (value v rest) ≡ Some (v, rest)
+Again read v = (rest : List ℕ) → EndsValue rest → read (value v rest) ≡ Some (v, rest)
 
 -- white space and then this byte ends a bare key
 pub ends_bare : (a : List ℕ) (b : ℕ) (rest : List ℕ) → All is_blank a → is_bare b ≡ false → EndsBare (a ++ (b ∷ rest))
 ends_bare [] b rest h e = e
 ends_bare (c ∷ a) b rest h e = grind (arith, nat_tests, h.0)
 
-pub value_first : (v : Value) (rest : List ℕ) → IsSupportedValue v → is_blank (first (value v rest)) ≡ false
+start_not_blank : (b : ℕ) → is_start b ≡ true → is_blank b ≡ false
+start_not_blank b h = grind (arith, nat_tests)
+
+pub value_first : (v : Value) (rest : List ℕ) → IsValue v → is_blank (first (value v rest)) ≡ false
 value_first (basic ps) rest h = refl
 value_first (literal text) rest h = refl
 value_first (multi_basic ps) rest h = refl
 value_first (multi_literal ps) rest h = refl
 value_first (boolean true) rest h = refl
 value_first (boolean false) rest h = refl
-value_first (integer n) rest h = absurd h
-value_first (float f) rest h = absurd h
-value_first (datetime d) rest h = absurd h
+value_first (integer n) rest h = start_not_blank (first (integer_text n rest)) (integer_start n rest h)
+value_first (float f) rest h = start_not_blank (first (float_text f rest)) (float_start f rest h)
+value_first (datetime d) rest h = start_not_blank (first (datetime_text d rest)) (datetime_start d rest h)
 value_first (array g es) rest h = refl
 value_first (inline g ms) rest h = refl
 
-pub pair_again : (n : ℕ) (read : List ℕ → Read Value) (p : Pair) (rest : List ℕ) → IsPair n p → Again read p.value → pair_at read (pair_text p rest) ≡ Some (p, rest)
+pub pair_again : (n : ℕ) (read : List ℕ → Read Value) (p : Pair) (rest : List ℕ) → IsPair n p → Again read p.value → EndsValue rest → pair_at read (pair_text p rest) ≡ Some (p, rest)
 unfolding pair_at
-pair_again n read p rest h again =
+pair_again n read p rest h again ends =
     let more = p.behind ++ value p.value rest in
-    let begins = value_first p.value rest h.value.supported in
+    let begins = value_first p.value rest h.value.valid in
     let k = key_again p.key (p.before ++ (equals ∷ more)) h.key h.one_part (ends_bare p.before equals more h.before refl) in
-    rw (k, after_again is_blank p.before (equals ∷ more) h.before refl, front_again is_blank p.before (equals ∷ more) h.before refl, after_again is_blank p.behind (value p.value rest) h.behind begins, front_again is_blank p.behind (value p.value rest) h.behind begins, again rest) refl
+    rw (k, after_again is_blank p.before (equals ∷ more) h.before refl, front_again is_blank p.before (equals ∷ more) h.before refl, after_again is_blank p.behind (value p.value rest) h.behind begins, front_again is_blank p.behind (value p.value rest) h.behind begins, again rest ends) refl
 
 -- ---- lengths: what follows is no longer than the whole
 
@@ -71,26 +78,15 @@ count (member k a b v c d ms) = suc (count ms)
 pub pair_longer : (k : Key) (a b : List ℕ) (rest : List ℕ) → suc (length rest) ≤ length (key k (a ++ (equals ∷ (b ++ rest))))
 pair_longer k a b rest = omega (arith, key_longer k (a ++ (equals ∷ (b ++ rest))), length-append a (equals ∷ (b ++ rest)), length-append b rest)
 
-mutual
-  pub value_longer : (v : Value) (rest : List ℕ) → IsValue v → IsSupportedValue v → length rest ≤ length (value v rest)
-  value_longer (basic ps) rest h s = let k = length-pieces quote ps (quote ∷ rest) in omega arith
-  value_longer (literal text) rest h s = omega (arith, length-append text (apostrophe ∷ rest))
-  value_longer (multi_basic ps) rest h s = absurd s
-  value_longer (multi_literal ps) rest h s = absurd s
-  value_longer (boolean true) rest h s = omega arith
-  value_longer (boolean false) rest h s = omega arith
-  value_longer (integer n) rest h s = absurd s
-  value_longer (float f) rest h s = absurd s
-  value_longer (datetime d) rest h s = absurd s
-  value_longer (array g es) rest h s = absurd s
-  value_longer (inline g ms) rest h s = omega (arith, gap_longer g (members ms (right_brace ∷ rest)) h.0, members_longer ms (right_brace ∷ rest) h.1 s)
+pub value_longer : (v : Value) (rest : List ℕ) → IsValue v → IsSupportedValue v → length rest ≤ length (value v rest)
+value_longer v rest h s = omega (arith, ap length (value_rest v rest), length-append (value v []) rest)
 
-  members_longer : (ms : Members) (rest : List ℕ) → AreMembers ms → AreSupportedMembers ms → length rest + count ms ≤ length (members ms rest)
-  members_longer no_members rest h s = omega arith
-  members_longer (last_member k a b v c) rest h s = omega (arith, pair_longer k a b (value v (gap c rest)), value_longer v (gap c rest) h.3 s.1, gap_longer c rest h.4)
-  members_longer (member k a b v c d ms) rest h s =
-      let more = gap d (members ms rest) in
-      omega (arith, pair_longer k a b (value v (gap c (comma ∷ more))), value_longer v (gap c (comma ∷ more)) h.3 s.1, gap_longer c (comma ∷ more) h.4, gap_longer d (members ms rest) h.5, members_longer ms rest h.6 s.2)
+members_longer : (ms : Members) (rest : List ℕ) → AreMembers ms → AreSupportedMembers ms → length rest + count ms ≤ length (members ms rest)
+members_longer no_members rest h s = omega arith
+members_longer (last_member k a b v c) rest h s = omega (arith, pair_longer k a b (value v (gap c rest)), value_longer v (gap c rest) h.3 s.1, gap_longer c rest h.4)
+members_longer (member k a b v c d ms) rest h s =
+    let more = gap d (members ms rest) in
+    omega (arith, pair_longer k a b (value v (gap c (comma ∷ more))), value_longer v (gap c (comma ∷ more)) h.3 s.1, gap_longer c (comma ∷ more) h.4, gap_longer d (members ms rest) h.5, members_longer ms rest h.6 s.2)
 
 -- ---- members
 
@@ -127,14 +123,14 @@ last_again : (n : ℕ) (read : List ℕ → Read Value) (count : ℕ) (p : Pair)
 unfolding members_at
 last_again n read count p c rest h hc again =
     let end = right_brace ∷ rest in
-    rw (pair_again n read p (c ++ end) h again, after_again is_blank c end hc refl, front_again is_blank c end hc refl) refl
+    rw (pair_again n read p (c ++ end) h again (ends_value c end hc refl), after_again is_blank c end hc refl, front_again is_blank c end hc refl) refl
 
 more_again : (n : ℕ) (read : List ℕ → Read Value) (count : ℕ) (p : Pair) (c d : List ℕ) (ms : Members) (more rest : List ℕ) → IsPair n p → All is_blank c → All is_blank d → Again read p.value → is_blank (first more) ≡ false → members_at read count more ≡ Some (ms, rest)
     → members_at read (suc count) (pair_text p (c ++ (comma ∷ (d ++ more)))) ≡ Some (member p.key p.before p.behind p.value (blank_gap c) (blank_gap d) ms, rest)
 unfolding members_at
 more_again n read count p c d ms more rest h hc hd again begins others =
     let end = comma ∷ (d ++ more) in
-    rw (pair_again n read p (c ++ end) h again, after_again is_blank c end hc refl, front_again is_blank c end hc refl, after_again is_blank d more hd begins, front_again is_blank d more hd begins, others) refl
+    rw (pair_again n read p (c ++ end) h again (ends_value c end hc refl), after_again is_blank c end hc refl, front_again is_blank c end hc refl, after_again is_blank d more hd begins, front_again is_blank d more hd begins, others) refl
 
 members_again : (n : ℕ) (read : List ℕ → Read Value) (few : ℕ) (ms : Members) (rest : List ℕ) → AreReadable n ms → IsMember ms → AgainAll read ms → count ms ≤ few → members_at read few (members ms (right_brace ∷ rest)) ≡ Some (ms, rest)
 members_again n read few no_members rest h some again le = absurd some
@@ -167,19 +163,40 @@ members_again n read (suc few) (member k a b v c d ms) rest h some again le =
 
 -- ---- values
 
-scalar_again : (v : Value) (rest : List ℕ) → IsValue v → IsSupportedValue v → depth v ≡ 0 → scalar_at (value v rest) ≡ Some (v, rest)
+-- what numbers begin with is nothing else
+record IsNumberFirst (b : ℕ) : Type 0 where
+  no_quote : eqb b quote ≡ false
+  no_apostrophe : eqb b apostrophe ≡ false
+  no_t : eqb b 116 ≡ false
+  no_f : eqb b 102 ≡ false
+  no_brace : eqb b left_brace ≡ false
+
+number_first : (b : ℕ) → is_start b ≡ true → IsNumberFirst b
+number_first b h = record {
+  no_quote = grind (arith, nat_tests);
+  no_apostrophe = grind (arith, nat_tests);
+  no_t = grind (arith, nat_tests);
+  no_f = grind (arith, nat_tests);
+  no_brace = grind (arith, nat_tests);
+}
+
+number_scalar : (text : List ℕ) → is_start (first text) ≡ true → scalar_at text ≡ number_at text
 unfolding scalar_at
-scalar_again (basic ps) rest h s e = rw (basic_again ps rest h) refl
-scalar_again (literal text) rest h s e = rw (literal_again text rest h) refl
-scalar_again (multi_basic ps) rest h s e = absurd s
-scalar_again (multi_literal ps) rest h s e = absurd s
-scalar_again (boolean true) rest h s e = refl
-scalar_again (boolean false) rest h s e = refl
-scalar_again (integer n) rest h s e = absurd s
-scalar_again (float f) rest h s e = absurd s
-scalar_again (datetime d) rest h s e = absurd s
-scalar_again (array g es) rest h s e = absurd s
-scalar_again (inline g ms) rest h s e = absurd (omega arith)
+number_scalar text h = let n = number_first (first text) h in rw (n.no_quote, n.no_apostrophe, n.no_t, n.no_f) refl
+
+scalar_again : (v : Value) (rest : List ℕ) → IsValue v → IsSupportedValue v → depth v ≡ 0 → EndsValue rest → scalar_at (value v rest) ≡ Some (v, rest)
+unfolding scalar_at
+scalar_again (basic ps) rest h s e ends = rw (basic_again ps rest h) refl
+scalar_again (literal text) rest h s e ends = rw (literal_again text rest h) refl
+scalar_again (multi_basic ps) rest h s e ends = absurd s
+scalar_again (multi_literal ps) rest h s e ends = absurd s
+scalar_again (boolean true) rest h s e ends = refl
+scalar_again (boolean false) rest h s e ends = refl
+scalar_again (integer n) rest h s e ends = number_scalar (integer_text n rest) (integer_start n rest h) ∙ integer_again n rest h ends
+scalar_again (float f) rest h s e ends = number_scalar (float_text f rest) (float_start f rest h) ∙ float_again f rest h ends
+scalar_again (datetime d) rest h s e ends = number_scalar (datetime_text d rest) (datetime_start d rest h) ∙ datetime_again d rest h ends
+scalar_again (array g es) rest h s e ends = absurd s
+scalar_again (inline g ms) rest h s e ends = absurd (omega arith)
 
 empty_again : (n : ℕ) (g rest : List ℕ) → All is_blank g → value_at (suc n) (left_brace ∷ (g ++ (right_brace ∷ rest))) ≡ Some (inline (blank_gap g) no_members, rest)
 unfolding value_at
@@ -207,25 +224,25 @@ inline_again n g ms rest hg h again =
     let here : value_at (suc n) (left_brace ∷ gap (blank_gap i.0) more) ≡ Some (inline (blank_gap i.0) ms, rest) = rw (gap_blanks i.0 more) (inline_blank n i.0 ms rest i.2 h again) in
     subst (λ (y : List Between). value_at (suc n) (left_brace ∷ gap y more) ≡ Some (inline y ms, rest)) (sym i.1) here
 
-flat_again : (n : ℕ) (v : Value) (rest : List ℕ) → IsValue v → IsSupportedValue v → depth v ≡ 0 → eqb (first (value v rest)) left_brace ≡ false → value_at n (value v rest) ≡ Some (v, rest)
+flat_again : (n : ℕ) (v : Value) (rest : List ℕ) → IsValue v → IsSupportedValue v → depth v ≡ 0 → EndsValue rest → eqb (first (value v rest)) left_brace ≡ false → value_at n (value v rest) ≡ Some (v, rest)
 unfolding value_at
-flat_again zero v rest h s e other = scalar_again v rest h s e
-flat_again (suc n) v rest h s e other = rw other (scalar_again v rest h s e)
+flat_again zero v rest h s e ends other = scalar_again v rest h s e ends
+flat_again (suc n) v rest h s e ends other = rw other (scalar_again v rest h s e ends)
 
 mutual
   pub value_again : (v : Value) (n : ℕ) → IsValue v → IsSupportedValue v → depth v ≤ n → Again (value_at n) v
-  value_again (basic ps) n h s le rest = flat_again n (basic ps) rest h s refl refl
-  value_again (literal text) n h s le rest = flat_again n (literal text) rest h s refl refl
-  value_again (multi_basic ps) n h s le rest = absurd s
-  value_again (multi_literal ps) n h s le rest = absurd s
-  value_again (boolean true) n h s le rest = flat_again n (boolean true) rest h s refl refl
-  value_again (boolean false) n h s le rest = flat_again n (boolean false) rest h s refl refl
-  value_again (integer i) n h s le rest = absurd s
-  value_again (float f) n h s le rest = absurd s
-  value_again (datetime d) n h s le rest = absurd s
-  value_again (array g es) n h s le rest = absurd s
-  value_again (inline g ms) zero h s le rest = absurd (omega arith)
-  value_again (inline g ms) (suc n) h s le rest = inline_again n g ms rest h.0 (record { valid = h.1; supported = s; shallow = omega arith }) (all_again ms n h.1 s (omega arith))
+  value_again (basic ps) n h s le rest ends = flat_again n (basic ps) rest h s refl ends refl
+  value_again (literal text) n h s le rest ends = flat_again n (literal text) rest h s refl ends refl
+  value_again (multi_basic ps) n h s le rest ends = absurd s
+  value_again (multi_literal ps) n h s le rest ends = absurd s
+  value_again (boolean true) n h s le rest ends = flat_again n (boolean true) rest h s refl ends refl
+  value_again (boolean false) n h s le rest ends = flat_again n (boolean false) rest h s refl ends refl
+  value_again (integer i) n h s le rest ends = flat_again n (integer i) rest h s refl ends (number_first (first (integer_text i rest)) (integer_start i rest h)).no_brace
+  value_again (float f) n h s le rest ends = flat_again n (float f) rest h s refl ends (number_first (first (float_text f rest)) (float_start f rest h)).no_brace
+  value_again (datetime d) n h s le rest ends = flat_again n (datetime d) rest h s refl ends (number_first (first (datetime_text d rest)) (datetime_start d rest h)).no_brace
+  value_again (array g es) n h s le rest ends = absurd s
+  value_again (inline g ms) zero h s le rest ends = absurd (omega arith)
+  value_again (inline g ms) (suc n) h s le rest ends = inline_again n g ms rest h.0 (record { valid = h.1; supported = s; shallow = omega arith }) (all_again ms n h.1 s (omega arith))
 
   all_again : (ms : Members) (n : ℕ) → AreMembers ms → AreSupportedMembers ms → members_depth ms ≤ n → AgainAll (value_at n) ms
   all_again no_members n h s le = tt

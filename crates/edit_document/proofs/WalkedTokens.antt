@@ -106,13 +106,17 @@ said_literal bytes text rest n h u ends =
     ap (λ (s : List ℕ). literal_said (drop 1 s) >>= as_text) (suffix_is bytes (literal_text text rest) ends)
     ∙ ap (λ (o : Option (List ℕ × List ℕ)). option_map (λ (p : List ℕ × List ℕ). p.0) o >>= as_text) (literal_again text rest h) ∙ text_is text u2
 
+-- a token that is written as it is
+pub said_word : (bytes word rest : List ℕ) → IsUtf8 word → Ends bytes (word ++ rest) → as_text (take (length (word ++ rest) - length rest) (suffix bytes (length (word ++ rest)))) ≡ Some word
+said_word bytes word rest u ends =
+    let size : length (word ++ rest) ≡ length word + length rest = length-append word rest in
+    let n : length (word ++ rest) - length rest ≡ length word = omega arith in
+    ap (λ (s : List ℕ). as_text (take (length (word ++ rest) - length rest) s)) (suffix_is bytes (word ++ rest) ends)
+    ∙ ap (λ (k : ℕ). as_text (take k (word ++ rest))) n ∙ ap as_text (take_length word rest) ∙ text_is word u
+
 pub said_part : (bytes : List ℕ) (p : Part) (rest : List ℕ) → IsPart p → IsUtf8 bytes → Ends bytes (part p rest) → said bytes (part_mark p rest) ≡ Some (name p)
 unfolding said
-said_part bytes (bare text) rest h u ends =
-    let size : length (text ++ rest) ≡ length text + length rest = length-append text rest in
-    let n : length (text ++ rest) - length rest ≡ length text = omega arith in
-    ap (λ (s : List ℕ). as_text (take (length (text ++ rest) - length rest) s)) (suffix_is bytes (text ++ rest) ends)
-    ∙ ap (λ (k : ℕ). as_text (take k (text ++ rest))) n ∙ ap as_text (take_length text rest) ∙ text_is text (ascii_text is_bare bare_small text h.1)
+said_part bytes (bare text) rest h u ends = said_word bytes text rest (ascii_text is_bare bare_small text h.1) ends
 said_part bytes (basic_part ps) rest h u ends = said_basic bytes ps rest 0 h u ends
 said_part bytes (literal_part text) rest h u ends = said_literal bytes text rest 0 h u ends
 

@@ -22,6 +22,7 @@ use Rattle.edit_document.proofs.Ends.{Ends, ends_one, ends_pair, ends_gap, ends_
 use Rattle.edit_document.proofs.Adding.{get_front, get_last}
 use Rattle.edit_document.proofs.Spotting.{Fine, fine_front, Closed, Good, next, spot_in, spots_length}
 use Rattle.edit_document.proofs.WalkedTokens.{walked_one, walked_first, walked_stops, walked_none, walked_append, state, Leads, leads, stops, last_push, entered_leads, said_basic, said_literal, walked_key}
+use Rattle.edit_document.proofs.NumberTokens.{number_step}
 
 -- ---- one walk and then another
 
@@ -218,9 +219,12 @@ mutual
       scalar_leads bytes (mark kinds.True (value (boolean true) rest) rest) (scalar (truth true)) (span_of (boolean true) rest) made base t m n (true_step bytes rest) good there
   value_leads bytes (boolean false) rest made base t m n h s u ends good there =
       scalar_leads bytes (mark kinds.False (value (boolean false) rest) rest) (scalar (truth false)) (span_of (boolean false) rest) made base t m n (false_step bytes rest) good there
-  value_leads bytes (integer i) rest made base t m n h s u ends good there = absurd s
-  value_leads bytes (float f) rest made base t m n h s u ends good there = absurd s
-  value_leads bytes (datetime d) rest made base t m n h s u ends good there = absurd s
+  value_leads bytes (integer i) rest made base t m n h s u ends good there =
+      scalar_leads bytes (mark kinds.Integer (value (integer i) rest) rest) (shape_of_value (integer i)) (span_of (integer i) rest) made base t m n (number_step bytes (integer i) rest h tt ends) good there
+  value_leads bytes (float f) rest made base t m n h s u ends good there =
+      scalar_leads bytes (mark kinds.Float (value (float f) rest) rest) (shape_of_value (float f)) (span_of (float f) rest) made base t m n (number_step bytes (float f) rest h tt ends) good there
+  value_leads bytes (datetime d) rest made base t m n h s u ends good there =
+      scalar_leads bytes (mark kinds.DateTime (value (datetime d) rest) rest) (shape_of_value (datetime d)) (span_of (datetime d) rest) made base t m n (number_step bytes (datetime d) rest h tt ends) good there
   value_leads bytes (array g es) rest made base t m n h s u ends good there = absurd s
   value_leads bytes (inline g ms) rest made base t m n h s u ends good there =
       let x : Noted = table_noted (at m.place (key n)) (record { from = length (value (inline g ms) rest); to = length (gap g (members ms (right_brace ∷ rest))) }) in

@@ -12,11 +12,10 @@ use Rattle.edit_document.specs.Reading.{◌>>=◌}
 use Rattle.edit_document.specs.declared.read.marks.Mark.{Mark}
 use Rattle.edit_document.specs.declared.read.marks.MarkKind.{MarkKind}
 use Rattle.edit_document.specs.declared.read.marks.MarkKind.TheVariants as kinds
-use Rattle.edit_document.specs.Tree.{string}
 use Rattle.edit_document.proofs.Ends.{take_length}
-use Rattle.edit_document.specs.Nodes.{Shape, scalar, section, Spot, StandsAt, Keeps, Holds}
+use Rattle.edit_document.specs.Nodes.{Shape, shape_said, scalar, section, Spot, StandsAt, Keeps, Holds}
 use Rattle.edit_document.specs.Nodes as shapes
-use Rattle.edit_document.specs.Walk.{State, added, said, last_of, without_last, entered, opened, closed, headed, span_of_mark, act, step, start, walked}
+use Rattle.edit_document.specs.Walk.{State, added, said, last_of, without_last, entered, opened, closed, headed, span_of_mark, worded, act, step, start, walked}
 use Rattle.edit_document.specs.WalkState.{Adds, Walks, Goes, SaysAt, is_said, IsToken, KeepsState}
 use Rattle.edit_document.proofs.Views.{spot_at, slice_get_same, drop_from}
 use Rattle.edit_document.proofs.Below.{all_at}
@@ -177,41 +176,48 @@ goes_named walk old bytes m st s (inr (inl e)) = named_by walk old bytes m st s 
 goes_named walk old bytes m st s (inr (inr e)) = named_by walk old bytes m st s kinds.LiteralPart e refl refl
 
 -- a string
-string_by : (bytes : List ℕ) (m : Mark) (st : State) (s : String Global) (k : MarkKind) → m.kind ≡ k → is_said k ≡ true → act k bytes m st ≡ (said bytes m >>= λ n. entered st (scalar (string n)) (Some (span_of_mark m))) → IsToken bytes m
-    → ((n : List ℕ) → SaysAt bytes m n → string_bytes s ≡ n) → step bytes m st ≡ entered st (scalar (string (string_bytes s))) (Some (span_of_mark m))
-string_by bytes m st s k kind says does token told =
+word_by : (bytes : List ℕ) (m : Mark) (st : State) (s : String Global) (k : MarkKind) → m.kind ≡ k → is_said k ≡ true → act k bytes m st ≡ worded bytes m st → IsToken bytes m
+    → ((n : List ℕ) → SaysAt bytes m n → string_bytes s ≡ n) → step bytes m st ≡ entered st (shape_said m.kind (string_bytes s)) (Some (span_of_mark m))
+word_by bytes m st s k kind says does token told =
     let t = token (ap is_said kind ∙ says) in
-    step_is bytes m st k kind ∙ does ∙ ap (λ (o : Option (List ℕ)). o >>= λ n. entered st (scalar (string n)) (Some (span_of_mark m))) t.1 ∙ ap (λ (n : List ℕ). entered st (scalar (string n)) (Some (span_of_mark m))) (sym (told t.0 t.2))
+    step_is bytes m st k kind ∙ does ∙ ap (λ (o : Option (List ℕ)). o >>= λ n. entered st (shape_said m.kind n) (Some (span_of_mark m))) t.1 ∙ ap (λ (n : List ℕ). entered st (shape_said m.kind n) (Some (span_of_mark m))) (sym (told t.0 t.2))
 
-pub string_step : (bytes : List ℕ) (m : Mark) (st : State) (s : String Global) → (m.kind ≡ kinds.BasicString) ⊎ (m.kind ≡ kinds.LiteralString) → IsToken bytes m → ((n : List ℕ) → SaysAt bytes m n → string_bytes s ≡ n)
-    → step bytes m st ≡ entered st (scalar (string (string_bytes s))) (Some (span_of_mark m))
-string_step bytes m st s (inl e) = string_by bytes m st s kinds.BasicString e refl refl
-string_step bytes m st s (inr e) = string_by bytes m st s kinds.LiteralString e refl refl
+-- a mark of a string, a number, a date or a time
+abbrev pub IsWorded : MarkKind → Type 0
+IsWorded k = (k ≡ kinds.BasicString) ⊎ ((k ≡ kinds.LiteralString) ⊎ ((k ≡ kinds.Integer) ⊎ ((k ≡ kinds.Float) ⊎ (k ≡ kinds.DateTime))))
+
+pub word_step : (bytes : List ℕ) (m : Mark) (st : State) (s : String Global) → IsWorded m.kind → IsToken bytes m → ((n : List ℕ) → SaysAt bytes m n → string_bytes s ≡ n)
+    → step bytes m st ≡ entered st (shape_said m.kind (string_bytes s)) (Some (span_of_mark m))
+word_step bytes m st s (inl e) = word_by bytes m st s kinds.BasicString e refl refl
+word_step bytes m st s (inr (inl e)) = word_by bytes m st s kinds.LiteralString e refl refl
+word_step bytes m st s (inr (inr (inl e))) = word_by bytes m st s kinds.Integer e refl refl
+word_step bytes m st s (inr (inr (inr (inl e)))) = word_by bytes m st s kinds.Float e refl refl
+word_step bytes m st s (inr (inr (inr (inr e)))) = word_by bytes m st s kinds.DateTime e refl refl
 
 pub other_step : (bytes : List ℕ) (m : Mark) (st : State) (k : MarkKind) → m.kind ≡ k → (k ≡ kinds.BarePart → ⊥) → (k ≡ kinds.BasicPart → ⊥) → (k ≡ kinds.LiteralPart → ⊥) → (k ≡ kinds.BasicString → ⊥) → (k ≡ kinds.LiteralString → ⊥) → (k ≡ kinds.True → ⊥)
-    → (k ≡ kinds.False → ⊥) → (k ≡ kinds.OpenTable → ⊥) → (k ≡ kinds.CloseTable → ⊥) → (k ≡ kinds.Header → ⊥) → step bytes m st ≡ None
-other_step bytes m st k kind a b c d e f g h i j = step_is bytes m st k kind ∙ nothing k a b c d e f g h i j
+    → (k ≡ kinds.False → ⊥) → (k ≡ kinds.OpenTable → ⊥) → (k ≡ kinds.CloseTable → ⊥) → (k ≡ kinds.Header → ⊥) → (k ≡ kinds.Integer → ⊥) → (k ≡ kinds.Float → ⊥) → (k ≡ kinds.DateTime → ⊥) → step bytes m st ≡ None
+other_step bytes m st k kind a b c d e f g h i j l n o = step_is bytes m st k kind ∙ nothing k a b c d e f g h i j l n o
   where
     nothing : (x : MarkKind) → (x ≡ kinds.BarePart → ⊥) → (x ≡ kinds.BasicPart → ⊥) → (x ≡ kinds.LiteralPart → ⊥) → (x ≡ kinds.BasicString → ⊥) → (x ≡ kinds.LiteralString → ⊥) → (x ≡ kinds.True → ⊥)
-        → (x ≡ kinds.False → ⊥) → (x ≡ kinds.OpenTable → ⊥) → (x ≡ kinds.CloseTable → ⊥) → (x ≡ kinds.Header → ⊥) → act x bytes m st ≡ None
-    nothing kinds.BarePart a b c d e f g h i j = absurd (a refl)
-    nothing kinds.BasicPart a b c d e f g h i j = absurd (b refl)
-    nothing kinds.LiteralPart a b c d e f g h i j = absurd (c refl)
-    nothing kinds.BasicString a b c d e f g h i j = absurd (d refl)
-    nothing kinds.LiteralString a b c d e f g h i j = absurd (e refl)
-    nothing kinds.True a b c d e f g h i j = absurd (f refl)
-    nothing kinds.False a b c d e f g h i j = absurd (g refl)
-    nothing kinds.OpenTable a b c d e f g h i j = absurd (h refl)
-    nothing kinds.CloseTable a b c d e f g h i j = absurd (i refl)
-    nothing kinds.Header a b c d e f g h i j = absurd (j refl)
-    nothing kinds.ElementHeader a b c d e f g h i j = refl
-    nothing kinds.MultiBasicString a b c d e f g h i j = refl
-    nothing kinds.MultiLiteralString a b c d e f g h i j = refl
-    nothing kinds.Integer a b c d e f g h i j = refl
-    nothing kinds.Float a b c d e f g h i j = refl
-    nothing kinds.DateTime a b c d e f g h i j = refl
-    nothing kinds.OpenArray a b c d e f g h i j = refl
-    nothing kinds.CloseArray a b c d e f g h i j = refl
+        → (x ≡ kinds.False → ⊥) → (x ≡ kinds.OpenTable → ⊥) → (x ≡ kinds.CloseTable → ⊥) → (x ≡ kinds.Header → ⊥) → (x ≡ kinds.Integer → ⊥) → (x ≡ kinds.Float → ⊥) → (x ≡ kinds.DateTime → ⊥) → act x bytes m st ≡ None
+    nothing kinds.BarePart a b c d e f g h i j l n o = absurd (a refl)
+    nothing kinds.BasicPart a b c d e f g h i j l n o = absurd (b refl)
+    nothing kinds.LiteralPart a b c d e f g h i j l n o = absurd (c refl)
+    nothing kinds.BasicString a b c d e f g h i j l n o = absurd (d refl)
+    nothing kinds.LiteralString a b c d e f g h i j l n o = absurd (e refl)
+    nothing kinds.True a b c d e f g h i j l n o = absurd (f refl)
+    nothing kinds.False a b c d e f g h i j l n o = absurd (g refl)
+    nothing kinds.OpenTable a b c d e f g h i j l n o = absurd (h refl)
+    nothing kinds.CloseTable a b c d e f g h i j l n o = absurd (i refl)
+    nothing kinds.Header a b c d e f g h i j l n o = absurd (j refl)
+    nothing kinds.ElementHeader a b c d e f g h i j l n o = refl
+    nothing kinds.MultiBasicString a b c d e f g h i j l n o = refl
+    nothing kinds.MultiLiteralString a b c d e f g h i j l n o = refl
+    nothing kinds.Integer a b c d e f g h i j l n o = absurd (l refl)
+    nothing kinds.Float a b c d e f g h i j l n o = absurd (n refl)
+    nothing kinds.DateTime a b c d e f g h i j l n o = absurd (o refl)
+    nothing kinds.OpenArray a b c d e f g h i j l n o = refl
+    nothing kinds.CloseArray a b c d e f g h i j l n o = refl
 
 -- ---- all marks
 

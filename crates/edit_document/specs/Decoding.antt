@@ -2,8 +2,8 @@
 use Rattle.std.specs.Prelude.{◌≡◌, ℕ, ◌<◌, List, [], ◌∷◌, ◌++◌, length, ⊤}
 use Rattle.std.specs.List.{AllByRecursion}
 use Rattle.edit_document.specs.declared.read.marks.MarkKind.{MarkKind}
-use Rattle.edit_document.specs.declared.read.marks.MarkKind.TheVariants.{BarePart, BasicPart, LiteralPart, BasicString, LiteralString, MultiBasicString, MultiLiteralString}
-use Rattle.edit_document.specs.Characters.{quote, apostrophe, is_bare, is_literal_ch, All}
+use Rattle.edit_document.specs.declared.read.marks.MarkKind.TheVariants.{BarePart, BasicPart, LiteralPart, BasicString, LiteralString, MultiBasicString, MultiLiteralString, Integer, Float, DateTime}
+use Rattle.edit_document.specs.Characters.{quote, apostrophe, is_bare, is_literal_ch, is_ascii, All}
 use Rattle.edit_document.specs.Strings.{Piece, letter, short, long, pieces, IsBasicPiece, says}
 
 -- what opens and closes a token of this kind
@@ -31,6 +31,10 @@ IsEscape _ = ⊥
 abbrev pub BasicSays : List ℕ → List ℕ → Type 0
 BasicSays content said = (ps : List Piece) × AllByRecursion IsBasicPiece ps × (content ≡ pieces quote ps []) × (said ≡ says quote ps)
 
+-- bytes of ASCII, as numbers, dates and times are, which say themselves
+abbrev pub WordSays : List ℕ → List ℕ → Type 0
+WordSays content said = (0 < length content) × All is_ascii content × (said ≡ content)
+
 -- what the content of a token of this kind says
 abbrev pub Says : MarkKind → List ℕ → List ℕ → Type 0
 Says BarePart content said = (0 < length content) × All is_bare content × (said ≡ content)
@@ -38,4 +42,7 @@ Says BasicPart content said = BasicSays content said
 Says LiteralPart content said = All is_literal_ch content × (said ≡ content)
 Says BasicString content said = BasicSays content said
 Says LiteralString content said = All is_literal_ch content × (said ≡ content)
+Says Integer content said = WordSays content said
+Says Float content said = WordSays content said
+Says DateTime content said = WordSays content said
 Says _ content said = ⊥

@@ -94,6 +94,9 @@ view_numbered d n = viewed (tree_of d (place_numbered d n))
 abbrev pub Shows : View → Seen → Type 0
 Shows (string bytes) (seen.Text s) = s.now ≡ bytes
 Shows (truth b) (seen.Truth c) = c ≡ b
+Shows (whole digits) seen.Integer = ⊤
+Shows (fractional digits) seen.Float = ⊤
+Shows (moment digits) seen.DateTime = ⊤
 Shows (inline_table members) seen.Inline = ⊤
 Shows (table members) seen.Table = ⊤
 Shows _ _ = ⊥

@@ -19,6 +19,8 @@ pub mod FormOf
 pub mod DocumentLayout
 pub mod Items
 pub mod ItemViews
+pub mod ReadingSteps
+pub mod ReadingNumbers
 pub mod Reading
 pub mod Noting
 pub mod Walk

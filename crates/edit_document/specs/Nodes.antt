@@ -6,13 +6,22 @@ use Rattle.edit_document.specs.declared.nodes.Content.{Content}
 use Rattle.edit_document.specs.declared.nodes.Content.TheVariants as content
 use Rattle.edit_document.specs.declared.nodes.Node.{Node}
 use Rattle.edit_document.specs.Assertions.{Step, key, Place, at}
-use Rattle.edit_document.specs.Tree.{View, string, truth, inline_table, table}
+use Rattle.edit_document.specs.declared.read.marks.MarkKind.{MarkKind}
+use Rattle.edit_document.specs.declared.read.marks.MarkKind.TheVariants as kinds
+use Rattle.edit_document.specs.Tree.{View, string, truth, whole, fractional, moment, inline_table, table}
 
 -- what stands at a place, but for its members
 pub data Shape : Type 0 where
   scalar : View → Shape
   inline : Shape
   section : Shape
+
+-- what a value shows whose token of this kind says this: a string, or a number, a date or a time (own)
+abbrev pub shape_said : MarkKind → List ℕ → Shape
+shape_said kinds.Integer text = scalar (whole text)
+shape_said kinds.Float text = scalar (fractional text)
+shape_said kinds.DateTime text = scalar (moment text)
+shape_said _ text = scalar (string text)
 
 -- a place, its shape, the names of its members in the order of their first assertions, and where its value is written
 pub record Spot : Type 0 where
@@ -35,6 +44,9 @@ shown_spot s = (s.place, view_of_shape s.shape s.names)
 abbrev pub shape_of : Content → Shape
 shape_of (content.Text s) = scalar (string (string_bytes s))
 shape_of (content.Truth b) = scalar (truth b)
+shape_of (content.Integer s) = scalar (whole (string_bytes s))
+shape_of (content.Float s) = scalar (fractional (string_bytes s))
+shape_of (content.DateTime s) = scalar (moment (string_bytes s))
 shape_of content.Inline = inline
 shape_of content.Table = section
 

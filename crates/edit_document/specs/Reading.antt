@@ -6,43 +6,12 @@ use Rattle.std.specs.Str.Parse.{digits_value}
 use Rattle.edit_document.specs.Characters.{line_feed, carriage_return, quote, hash, apostrophe, comma, equals, left_bracket, backslash, right_bracket, left_brace, right_brace, is_blank, is_ch, is_bare, is_literal_ch, is_basic_ch}
 use Rattle.edit_document.specs.Strings.{LineEnd, lf, crlf, Piece, plain, letter, short, long, is_escape, is_hex, is_scalar, Part, bare, basic_part, literal_part, Key}
 use Rattle.edit_document.specs.Grammar.{Between, blank, Value, basic, literal, boolean, inline, Members, no_members, last_member, member, Statement, pair, header, Line, empty_line, full_line, Lines, one_line, more_lines, Text}
-
--- what was read and what follows it, or nothing
-abbrev pub Read : Type 0 → Type 0
-Read A = Option (A × List ℕ)
-
-infixl 10 ◌>>=◌
--- the next step, where the one before gave something
-abbrev pub ◌>>=◌ : {A B : Type 0} → Option A → (A → Option B) → Option B
-o >>= f = option_and_then f o
-
--- the first byte, or 0, which stands nowhere
-abbrev pub first : List ℕ → ℕ
-first text = slice_index text 0
-
--- the longest front of a class
-abbrev pub front : (ℕ → Bool) → List ℕ → List ℕ
-front class text = take (prefix_len class text) text
-
--- what follows the longest front of a class
-abbrev pub after : (ℕ → Bool) → List ℕ → List ℕ
-after class text = drop (prefix_len class text) text
-
--- the tabs and spaces at the front
-abbrev pub blanks : List ℕ → List ℕ
-blanks = front is_blank
-
--- what follows them
-abbrev pub past_blanks : List ℕ → List ℕ
-past_blanks = after is_blank
+use Rattle.edit_document.specs.ReadingNumbers.{number_at}
+pub use Rattle.edit_document.specs.ReadingSteps.{Read, ◌>>=◌, first, front, after, blanks, past_blanks, past}
 
 -- tabs and spaces, as what stands between values
 abbrev pub blank_gap : List ℕ → List Between
 blank_gap bytes = map blank bytes
-
--- what follows this byte
-abbrev pub past : ℕ → List ℕ → Option (List ℕ)
-past b text = if first text == b then Some (drop 1 text) else None
 
 -- ---- strings
 
@@ -108,7 +77,7 @@ scalar_at text =
     else (if first text == apostrophe then (literal_at (drop 1 text) >>= λ p. Some (literal p.0, p.1))
     else (if starts 116 114 117 101 text then Some (boolean true, drop 4 text)
     else (if starts 102 97 108 115 text && slice_index text 4 == 101 then Some (boolean false, drop 5 text)
-    else None)))
+    else number_at text)))
 
 -- a key, an equals sign and a value, with the white space beside the sign
 pub record Pair : Type 0 where

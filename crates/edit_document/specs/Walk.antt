@@ -12,7 +12,7 @@ use Rattle.edit_document.specs.Strings.{says}
 use Rattle.edit_document.specs.Reading.{◌>>=◌, basic_at, literal_at}
 use Rattle.edit_document.specs.Assertions.{key, at}
 use Rattle.edit_document.specs.Tree.{string, truth}
-use Rattle.edit_document.specs.Nodes.{Shape, scalar, inline, section, Spot}
+use Rattle.edit_document.specs.Nodes.{Shape, shape_said, scalar, inline, section, Spot}
 
 -- ---- what tokens say
 
@@ -35,6 +35,9 @@ told kinds.BasicPart text n = basic_said (drop 1 text)
 told kinds.LiteralPart text n = literal_said (drop 1 text)
 told kinds.BasicString text n = basic_said (drop 1 text)
 told kinds.LiteralString text n = literal_said (drop 1 text)
+told kinds.Integer text n = Some (take n text)
+told kinds.Float text n = Some (take n text)
+told kinds.DateTime text n = Some (take n text)
 told _ text n = None
 
 -- the bytes, where they are a text
@@ -96,12 +99,19 @@ headed st = st.name >>= λ name. added st.spots 0 name section None >>= λ spots
 abbrev pub span_of_mark : Mark → Span
 span_of_mark m = record { from = m.from; to = m.to }
 
+-- a string, a number, a date or a time becomes what stands at the waiting name
+abbrev pub worded : List ℕ → Mark → State → Option State
+worded bytes m st = said bytes m >>= λ text. entered st (shape_said m.kind text) (Some (span_of_mark m))
+
 abbrev pub act : MarkKind → List ℕ → Mark → State → Option State
 act kinds.BarePart bytes m st = said bytes m >>= λ name. Some (record st { name = Some name })
 act kinds.BasicPart bytes m st = said bytes m >>= λ name. Some (record st { name = Some name })
 act kinds.LiteralPart bytes m st = said bytes m >>= λ name. Some (record st { name = Some name })
-act kinds.BasicString bytes m st = said bytes m >>= λ text. entered st (scalar (string text)) (Some (span_of_mark m))
-act kinds.LiteralString bytes m st = said bytes m >>= λ text. entered st (scalar (string text)) (Some (span_of_mark m))
+act kinds.BasicString bytes m st = worded bytes m st
+act kinds.LiteralString bytes m st = worded bytes m st
+act kinds.Integer bytes m st = worded bytes m st
+act kinds.Float bytes m st = worded bytes m st
+act kinds.DateTime bytes m st = worded bytes m st
 act kinds.True bytes m st = entered st (scalar (truth true)) (Some (span_of_mark m))
 act kinds.False bytes m st = entered st (scalar (truth false)) (Some (span_of_mark m))
 act kinds.OpenTable bytes m st = opened st (Some (span_of_mark m))

@@ -43,6 +43,9 @@ is_said kinds.BasicPart = true
 is_said kinds.LiteralPart = true
 is_said kinds.BasicString = true
 is_said kinds.LiteralString = true
+is_said kinds.Integer = true
+is_said kinds.Float = true
+is_said kinds.DateTime = true
 is_said _ = false
 
 -- the mark of a token of the text: where the token says something, it says what the walk takes it to say

@@ -45,6 +45,9 @@ impl Model for Document {
 pub(crate) enum Seen<'a> {
     Text(&'a str),
     Truth(bool),
+    Integer,
+    Float,
+    DateTime,
     Inline,
     Table,
 }
@@ -83,6 +86,9 @@ impl Document {
         match &node.content {
             Content::Text(text) => Seen::Text(text.as_str()),
             Content::Truth(truth) => Seen::Truth(*truth),
+            Content::Integer(_) => Seen::Integer,
+            Content::Float(_) => Seen::Float,
+            Content::DateTime(_) => Seen::DateTime,
             Content::Inline => Seen::Inline,
             Content::Table => Seen::Table,
         }
@@ -96,7 +102,11 @@ impl Document {
     {
         let node = &self.nodes[number];
         match &node.content {
-            Content::Text(_) | Content::Truth(_) => 0,
+            Content::Text(_)
+            | Content::Truth(_)
+            | Content::Integer(_)
+            | Content::Float(_)
+            | Content::DateTime(_) => 0,
             Content::Inline | Content::Table => node.members.len(),
         }
     }
@@ -108,7 +118,11 @@ impl Document {
     {
         let node = &self.nodes[number];
         match &node.content {
-            Content::Text(_) | Content::Truth(_) => None,
+            Content::Text(_)
+            | Content::Truth(_)
+            | Content::Integer(_)
+            | Content::Float(_)
+            | Content::DateTime(_) => None,
             Content::Inline | Content::Table => {
                 let (name, _) = node.members.get_index(index)?;
                 Some(name.as_str())

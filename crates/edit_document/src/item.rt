@@ -46,6 +46,7 @@ impl<'a> Item<'a> {
         match self.seen() {
             Seen::Text(text) => Some(text),
             Seen::Truth(_) | Seen::Inline | Seen::Table => None,
+            Seen::Integer | Seen::Float | Seen::DateTime => None,
         }
     }
 
@@ -55,6 +56,7 @@ impl<'a> Item<'a> {
         match self.seen() {
             Seen::Truth(truth) => Some(truth),
             Seen::Text(_) | Seen::Inline | Seen::Table => None,
+            Seen::Integer | Seen::Float | Seen::DateTime => None,
         }
     }
 
@@ -64,6 +66,7 @@ impl<'a> Item<'a> {
     {
         match self.seen() {
             Seen::Text(_) | Seen::Truth(_) | Seen::Inline | Seen::Table => None,
+            Seen::Integer | Seen::Float | Seen::DateTime => None,
         }
     }
 
@@ -110,6 +113,7 @@ impl<'a> Item<'a> {
         match self.seen() {
             Seen::Text(_) => true,
             Seen::Truth(_) | Seen::Inline | Seen::Table => false,
+            Seen::Integer | Seen::Float | Seen::DateTime => false,
         }
     }
 
@@ -119,6 +123,7 @@ impl<'a> Item<'a> {
     {
         match self.seen() {
             Seen::Text(_) | Seen::Truth(_) => false,
+            Seen::Integer | Seen::Float | Seen::DateTime => false,
             Seen::Inline | Seen::Table => true,
         }
     }
@@ -129,6 +134,7 @@ impl<'a> Item<'a> {
         match self.seen() {
             Seen::Inline => true,
             Seen::Text(_) | Seen::Truth(_) | Seen::Table => false,
+            Seen::Integer | Seen::Float | Seen::DateTime => false,
         }
     }
 
@@ -140,6 +146,9 @@ impl<'a> Item<'a> {
         match self.seen() {
             Seen::Text(_) => "string",
             Seen::Truth(_) => "boolean",
+            Seen::Integer => "integer",
+            Seen::Float => "float",
+            Seen::DateTime => "datetime",
             Seen::Inline => "inline table",
             Seen::Table => "table",
         }

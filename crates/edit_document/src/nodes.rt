@@ -16,6 +16,10 @@ pub(crate) enum Content {
     /// A string, after escapes.
     Text(String),
     Truth(bool),
+    /// A number, a date or a time, as it is written.
+    Integer(String),
+    Float(String),
+    DateTime(String),
     Inline,
     Table,
 }

@@ -2,7 +2,7 @@
 ghost use Rattle.std.specs.Prelude.{◌≡◌, ◌<◌, ◌≤◌, ℕ, List, IfOk, IfErr, MatchResult, not, ◌||◌, nat_le, is_some, length, string_bytes, Some, None};
 ghost use Rattle.indexmap.specs.IndexMap.{get_by_text};
 ghost use Rattle.edit_document.specs.Errors.{IsMemory};
-ghost use Rattle.edit_document.specs.Nodes.{Spot, Holds, shape_of};
+ghost use Rattle.edit_document.specs.Nodes.{Spot, Holds, shape_of, shape_said};
 ghost use Rattle.edit_document.specs.Nodes as shapes;
 ghost use Rattle.edit_document.specs.Walk.{State, added, entered, opened, closed, headed, start, step, walked};
 ghost use Rattle.edit_document.specs.WalkState.{Adds, Walks, Goes, SaysAt, IsToken, KeepsState};
@@ -69,6 +69,18 @@ fn told(alloc: Global, text: &str, mark: Mark) -> CargoResult<String>
     ensures refused { IfErr result IsMemory }
 {
     said(alloc, mark.kind, content(text, mark))
+}
+
+/// What a token of this kind shows that says this.
+fn worded(kind: MarkKind, said: String) -> Content
+    ensures { shape_of result ≡ shape_said kind (string_bytes said) }
+{
+    match kind {
+        MarkKind::Integer => Content::Integer(said),
+        MarkKind::Float => Content::Float(said),
+        MarkKind::DateTime => Content::DateTime(said),
+        _ => Content::Text(said),
+    }
 }
 
 impl Walk {
@@ -183,8 +195,12 @@ impl Walk {
                 self.name = Some(told(alloc, text, mark)?);
                 Ok(true)
             }
-            MarkKind::BasicString | MarkKind::LiteralString => {
-                let content = Content::Text(told(alloc, text, mark)?);
+            MarkKind::BasicString
+            | MarkKind::LiteralString
+            | MarkKind::Integer
+            | MarkKind::Float
+            | MarkKind::DateTime => {
+                let content = worded(mark.kind, told(alloc, text, mark)?);
                 self.enter(alloc, content, Some(span))
             }
             MarkKind::True => self.enter(alloc, Content::Truth(true), Some(span)),

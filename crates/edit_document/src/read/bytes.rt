@@ -1,6 +1,7 @@
 //! Steps over the bytes of a text.
 ghost use Rattle.std.specs.Prelude.{◌≡◌, ◌≤◌, length, drop, slice_index, option_map};
 ghost use Rattle.std.specs.List.{prefix_len};
+ghost use Rattle.std.specs.Char as chars;
 ghost use Rattle.edit_document.specs.Characters as spec;
 ghost use Rattle.edit_document.specs.Reading as reading;
 ghost use Rattle.edit_document.specs.Noting.{class_test};
@@ -13,6 +14,10 @@ pub(crate) enum Class {
     Bare,
     Literal,
     Unescaped,
+    Decimal,
+    Hexadecimal,
+    Octal,
+    Binary,
 }
 
 /// The byte at `index`, or 0 past the end.
@@ -59,7 +64,15 @@ pub(crate) fn is_basic_ch(b: u8) -> bool
     is_ch(b) && b != b'"' && b != b'\\'
 }
 
-fn is_in(class: Class, b: u8) -> bool
+fn is_digit(b: u8, base: u32) -> bool
+    requires low { 2 ≤ base }
+    requires high { base ≤ 36 }
+    ensures { result ≡ chars.is_digit b base }
+{
+    char::from(b).is_digit(base)
+}
+
+pub(crate) fn is_in(class: Class, b: u8) -> bool
     ensures { result ≡ class_test class b }
 {
     match class {
@@ -68,6 +81,10 @@ fn is_in(class: Class, b: u8) -> bool
         Class::Bare => is_bare(b),
         Class::Literal => is_ch(b) && b != b'\'',
         Class::Unescaped => b != b'\\',
+        Class::Decimal => is_digit(b, 10),
+        Class::Hexadecimal => is_digit(b, 16),
+        Class::Octal => is_digit(b, 8),
+        Class::Binary => is_digit(b, 2),
     }
 }
 

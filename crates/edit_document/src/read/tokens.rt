@@ -7,6 +7,7 @@ ghost use Rattle.edit_document.specs.Marks.{part_kind};
 
 use super::bytes::{Class, byte_at, first, is_bare, is_basic_ch, past, past_run, skip};
 use super::marks::MarkKind;
+use super::numbers::past_number;
 
 /// The scalar value that these hexadecimal digits name.
 pub(crate) fn scalar(digits: &[u8]) -> Option<char>
@@ -130,5 +131,5 @@ pub(crate) fn past_scalar(s: &[u8]) -> Option<(MarkKind, &[u8])>
     if starts(s, *b"fals") && byte_at(s, 4) == b'e' {
         return Some((MarkKind::False, skip(s, 5)));
     }
-    None
+    past_number(s)
 }

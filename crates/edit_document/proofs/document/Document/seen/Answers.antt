@@ -29,3 +29,18 @@ pub returns-in-Table : goal.returns-in-Table
 returns-in-Table c =
     let f = found c.args.self.now c.self.inside.nodes.items c.args.number c.index-node.result.now (opened c.self.inside c.args.self.now c.self.invariant c.self.view_is) c.requires c.index-node.ensures in
     shows c.args.self.now c.self.inside.nodes.items (opened c.self.inside c.args.self.now c.self.invariant c.self.view_is).spots c.args.number c.index-node.result.now content.Table seen.Table f c.in-Table.is tt
+
+pub returns-in-Integer : goal.returns-in-Integer
+returns-in-Integer c =
+    let f = found c.args.self.now c.self.inside.nodes.items c.args.number c.index-node.result.now (opened c.self.inside c.args.self.now c.self.invariant c.self.view_is) c.requires c.index-node.ensures in
+    shows c.args.self.now c.self.inside.nodes.items (opened c.self.inside c.args.self.now c.self.invariant c.self.view_is).spots c.args.number c.index-node.result.now (content.Integer c.in-Integer.field-0) seen.Integer f c.in-Integer.is tt
+
+pub returns-in-Float : goal.returns-in-Float
+returns-in-Float c =
+    let f = found c.args.self.now c.self.inside.nodes.items c.args.number c.index-node.result.now (opened c.self.inside c.args.self.now c.self.invariant c.self.view_is) c.requires c.index-node.ensures in
+    shows c.args.self.now c.self.inside.nodes.items (opened c.self.inside c.args.self.now c.self.invariant c.self.view_is).spots c.args.number c.index-node.result.now (content.Float c.in-Float.field-0) seen.Float f c.in-Float.is tt
+
+pub returns-in-DateTime : goal.returns-in-DateTime
+returns-in-DateTime c =
+    let f = found c.args.self.now c.self.inside.nodes.items c.args.number c.index-node.result.now (opened c.self.inside c.args.self.now c.self.invariant c.self.view_is) c.requires c.index-node.ensures in
+    shows c.args.self.now c.self.inside.nodes.items (opened c.self.inside c.args.self.now c.self.invariant c.self.view_is).spots c.args.number c.index-node.result.now (content.DateTime c.in-DateTime.field-0) seen.DateTime f c.in-DateTime.is tt

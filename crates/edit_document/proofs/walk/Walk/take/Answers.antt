@@ -1,9 +1,10 @@
 use Rattle.std.proofs.Common.{◌≡◌, ℕ, List, true, Option, Some, None, ap, sym, ◌∙◌, refl, subst}
-use Rattle.std.specs.Prelude.{IfOk}
+use Rattle.std.specs.Prelude.{IfOk, string_bytes}
 use Rattle.edit_document.specs.declared.read.marks.MarkKind.TheVariants as kinds
-use Rattle.edit_document.specs.Walk.{State}
+use Rattle.edit_document.specs.Nodes.{Shape, shape_of, shape_said}
+use Rattle.edit_document.specs.Walk.{State, entered, span_of_mark}
 use Rattle.edit_document.specs.WalkState.{Goes}
-use Rattle.edit_document.proofs.Walking.{step_is, goes_named, string_step, other_step}
+use Rattle.edit_document.proofs.Walking.{step_is, goes_named, word_step, other_step}
 use Rattle.edit_document.proofs.walk.Walk.take.Goals as goal
 
 pub returns-in_ok-told-in-BarePart-clause-goes : goal.returns-in_ok-told-in-BarePart-clause-goes
@@ -12,7 +13,9 @@ returns-in_ok-told-in-BarePart-clause-goes c st w token =
 
 pub returns-in_ok-told-in-BasicString-clause-goes : goal.returns-in_ok-told-in-BasicString-clause-goes
 returns-in_ok-told-in-BasicString-clause-goes c st w token =
-    subst (λ (o : Option State). IfOk c.enter.result (Goes c.enter.new.self o)) (sym (string_step c.args.text.now c.args.mark st c.in_ok-told-in-BasicString.field-0 c.in-BasicString.is token (c.in_ok-told-in-BasicString.ensures {u = tt}).text)) (c.enter.ensures.goes st w)
+    let shape : shape_of c.worded-content.result ≡ shape_said c.args.mark.kind (string_bytes c.in_ok-told-in-BasicString.field-0) = c.worded-content.ensures in
+    subst (λ (o : Option State). IfOk c.enter.result (Goes c.enter.new.self o))
+    (ap (λ (x : Shape). entered st x (Some (span_of_mark c.args.mark))) shape ∙ sym (word_step c.args.text.now c.args.mark st c.in_ok-told-in-BasicString.field-0 c.in-BasicString.is token (c.in_ok-told-in-BasicString.ensures {u = tt}).text)) (c.enter.ensures.goes st w)
 
 pub returns-in-True-clause-goes : goal.returns-in-True-clause-goes
 returns-in-True-clause-goes c st w token =
@@ -36,4 +39,4 @@ returns-in-CloseTable-clause-goes c st w token =
 
 pub returns-in_default-clause-goes : goal.returns-in_default-clause-goes
 returns-in_default-clause-goes c st w token =
-    other_step c.args.text.now c.args.mark st c.args.mark.kind refl c.in_default.not-BarePart c.in_default.not-BasicPart c.in_default.not-LiteralPart c.in_default.not-BasicString c.in_default.not-LiteralString c.in_default.not-True c.in_default.not-False c.in_default.not-OpenTable c.in_default.not-CloseTable c.in_default.not-Header
+    other_step c.args.text.now c.args.mark st c.args.mark.kind refl c.in_default.not-BarePart c.in_default.not-BasicPart c.in_default.not-LiteralPart c.in_default.not-BasicString c.in_default.not-LiteralString c.in_default.not-True c.in_default.not-False c.in_default.not-OpenTable c.in_default.not-CloseTable c.in_default.not-Header c.in_default.not-Integer c.in_default.not-Float c.in_default.not-DateTime

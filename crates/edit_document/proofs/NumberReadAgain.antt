@@ -1,0 +1,470 @@
+-- Numbers, dates and times that are spelled so are read, under what may follow a value.
+use Rattle.std.proofs.Common.{◌≡◌, ℕ, zero, suc, ◌+◌, ◌<◌, ◌≤◌, nat_le, nat_lt, cond, not, Bool, true, false, ◌&&◌, ◌||◌, ◌==◌, eqb, eq-eqb, List, [], ◌∷◌, ◌++◌, length, slice_index, take, drop, Option, Some, None, IfSome, refl, sym, ap, subst, ◌∙◌, true≢false, arith}
+use Rattle.std.proofs.lemmas.Bool.{and_parts, cases_Bool}
+use Rattle.std.proofs.lemmas.Bool.Decides.{nat_tests}
+use Rattle.std.proofs.lemmas.List.{take_at, drop_at}
+use Rattle.std.specs.List.{prefix_len}
+use Rattle.edit_document.specs.Characters.{is_blank, is_bare, All}
+use Rattle.edit_document.specs.Numbers.{Sign, no_sign, plus, minus, sign, is_decimal, are_digits, are_more_digits, is_whole, Base, hexadecimal, octal, binary, base_letter, base_digit, Integer, decimal, based, integer_text, IsInteger, Exponent, exponent, IsExponent, optional_exponent, Float, with_fraction, with_exponent, infinite, not_a_number, float_text, IsFloat, Date, date, IsDate, Time, time, IsTime, HasDigits, fraction_text, Offset, local, zulu, shift, offset, IsOffset, DateTime, only_date, only_time, both, datetime_text, IsDateTime}
+use Rattle.edit_document.specs.Grammar.{Value, integer, float, datetime}
+use Rattle.edit_document.specs.ReadingSteps.{◌>>=◌, first, front, after, past}
+use Rattle.edit_document.specs.ReadingNumbers.{is_marked, digits_at, whole_at, sign_of, past_sign, is_power, exponent_at, fraction_read, whole_read, decimal_at, based_at, count_at, group_at, date_at, second_at, time_at, offset_at, joins, dated_at, timed_at, unsigned_at, number_at}
+use Rattle.edit_document.proofs.TokenLaws.{front_again, after_again}
+
+-- ---- what may follow
+
+-- a byte that numbers, dates and times are made of, but for the space
+abbrev pub is_word : ℕ → Bool
+is_word b = is_bare b || b == 43 || b == 46 || b == 58
+
+-- a byte that may stand behind a value and the white space after it
+abbrev pub is_stop : ℕ → Bool
+is_stop b = not (is_word b) && not (is_blank b) && not (b == 34) && not (b == 39)
+
+-- what may follow a value: neither more of it, nor a space and a digit, nor a delimiter of strings
+pub record EndsValue (rest : List ℕ) : Type 0 where
+  pub no_word : is_word (first rest) ≡ false
+  pub no_time : (eqb (first rest) 32 && is_decimal (first (drop 1 rest))) ≡ false
+  pub no_quote : eqb (first rest) 34 ≡ false
+  pub no_apostrophe : eqb (first rest) 39 ≡ false
+
+blank_ends : (b : ℕ) (rest : List ℕ) → is_blank b ≡ true → is_decimal (first rest) ≡ false → EndsValue (b ∷ rest)
+blank_ends b rest h other = record {
+  no_word = grind (arith, nat_tests);
+  no_time = rw other (and_false (eqb b 32));
+  no_quote = grind (arith, nat_tests);
+  no_apostrophe = grind (arith, nat_tests);
+}
+  where
+    and_false : (c : Bool) → (c && false) ≡ false
+    and_false true = refl
+    and_false false = refl
+
+stop_ends : (rest : List ℕ) → is_stop (first rest) ≡ true → EndsValue rest
+stop_ends rest h = record {
+  no_word = grind (arith, nat_tests);
+  no_time = let other : eqb (first rest) 32 ≡ false = grind (arith, nat_tests) in rw other refl;
+  no_quote = grind (arith, nat_tests);
+  no_apostrophe = grind (arith, nat_tests);
+}
+
+stop_other : (b : ℕ) → is_stop b ≡ true → is_decimal b ≡ false
+stop_other b h = grind (arith, nat_tests)
+
+blank_other : (b : ℕ) → is_blank b ≡ true → is_decimal b ≡ false
+blank_other b h = grind (arith, nat_tests)
+
+-- white space and then such a byte, or the end
+pub ends_value : (a rest : List ℕ) → All is_blank a → is_stop (first rest) ≡ true → EndsValue (a ++ rest)
+ends_value [] rest h stop = stop_ends rest stop
+ends_value (b ∷ []) rest h stop = blank_ends b rest h.0 (stop_other (first rest) stop)
+ends_value (b ∷ c ∷ a) rest h stop = blank_ends b (c ∷ (a ++ rest)) h.0 (blank_other c h.1.0)
+
+-- what may follow the digits of a number's whole part
+record EndsWhole (b : ℕ) : Type 0 where
+  no_mark : is_marked is_decimal b ≡ false
+  no_digit : is_decimal b ≡ false
+  no_dash : eqb b 45 ≡ false
+  no_colon : eqb b 58 ≡ false
+  no_x : eqb b 120 ≡ false
+  no_o : eqb b 111 ≡ false
+  no_b : eqb b 98 ≡ false
+
+word_whole : (b : ℕ) → is_word b ≡ false → EndsWhole b
+word_whole b h = record {
+  no_mark = grind (arith, nat_tests);
+  no_digit = grind (arith, nat_tests);
+  no_dash = grind (arith, nat_tests);
+  no_colon = grind (arith, nat_tests);
+  no_x = grind (arith, nat_tests);
+  no_o = grind (arith, nat_tests);
+  no_b = grind (arith, nat_tests);
+}
+
+power_whole : (b : ℕ) → is_power b ≡ true → EndsWhole b
+power_whole b h = record {
+  no_mark = grind (arith, nat_tests);
+  no_digit = grind (arith, nat_tests);
+  no_dash = grind (arith, nat_tests);
+  no_colon = grind (arith, nat_tests);
+  no_x = grind (arith, nat_tests);
+  no_o = grind (arith, nat_tests);
+  no_b = grind (arith, nat_tests);
+}
+
+dot_whole : EndsWhole 46
+dot_whole = record { no_mark = refl; no_digit = refl; no_dash = refl; no_colon = refl; no_x = refl; no_o = refl; no_b = refl }
+
+-- ---- digits
+
+by_test : {P : Type 0} (c : Bool) → (c ≡ true → P) → (c ≡ false → P) → P
+by_test true t f = t refl
+by_test false t f = f refl
+
+marked_class : (class : ℕ → Bool) (b : ℕ) → class b ≡ true → is_marked class b ≡ true
+marked_class class b h = rw h refl
+
+marked_bar : (class : ℕ → Bool) (b : ℕ) → eqb b 95 ≡ true → is_marked class b ≡ true
+marked_bar class b h = go (class b)
+  where
+    go : (c : Bool) → (c || eqb b 95) ≡ true
+    go true = refl
+    go false = h
+
+mutual
+  digits_marked : (class : ℕ → Bool) (ds : List ℕ) → are_digits class ds ≡ true → All (is_marked class) ds
+  digits_marked class [] e = tt
+  digits_marked class (b ∷ ds) e = let h = and_parts (class b) (are_more_digits class ds) e in (marked_class class b h.0, more_marked class ds h.1)
+
+  more_marked : (class : ℕ → Bool) (ds : List ℕ) → are_more_digits class ds ≡ true → All (is_marked class) ds
+  more_marked class [] e = tt
+  more_marked class (b ∷ ds) e =
+      by_test (eqb b 95)
+      (λ h. (marked_bar class b h, digits_marked class ds (sym (ap (λ c. cond c (are_digits class ds) (class b && are_more_digits class ds)) h) ∙ e)))
+      (λ h. let g = and_parts (class b) (are_more_digits class ds) (sym (ap (λ c. cond c (are_digits class ds) (class b && are_more_digits class ds)) h) ∙ e) in
+      (marked_class class b g.0, more_marked class ds g.1))
+
+whole_marked : (ds : List ℕ) → is_whole ds ≡ true → All (is_marked is_decimal) ds
+whole_marked [] e = absurd (true≢false (sym e))
+whole_marked (b ∷ []) e = (marked_class is_decimal b e, tt)
+whole_marked (b ∷ c ∷ ds) e = digits_marked is_decimal (b ∷ c ∷ ds) (and_parts (nat_le 49 b) (are_digits is_decimal (b ∷ c ∷ ds)) e).1
+
+digits_again : (class : ℕ → Bool) (ds rest : List ℕ) → are_digits class ds ≡ true → is_marked class (first rest) ≡ false → digits_at class (ds ++ rest) ≡ Some (ds, rest)
+unfolding digits_at
+digits_again class ds rest h stops =
+    let all = digits_marked class ds h in
+    rw (front_again (is_marked class) ds rest all stops, after_again (is_marked class) ds rest all stops, h) refl
+
+whole_again : (ds rest : List ℕ) → is_whole ds ≡ true → is_marked is_decimal (first rest) ≡ false → whole_at (ds ++ rest) ≡ Some (ds, rest)
+unfolding whole_at
+whole_again ds rest h stops =
+    let all = whole_marked ds h in
+    rw (front_again (is_marked is_decimal) ds rest all stops, after_again (is_marked is_decimal) ds rest all stops, h) refl
+
+-- a digit comes first
+digits_first : (ds rest : List ℕ) → are_digits is_decimal ds ≡ true → is_decimal (first (ds ++ rest)) ≡ true
+digits_first [] rest e = absurd (true≢false (sym e))
+digits_first (b ∷ ds) rest e = (and_parts (is_decimal b) (are_more_digits is_decimal ds) e).0
+
+whole_first : (ds rest : List ℕ) → is_whole ds ≡ true → is_decimal (first (ds ++ rest)) ≡ true
+whole_first [] rest e = absurd (true≢false (sym e))
+whole_first (b ∷ []) rest e = e
+whole_first (b ∷ c ∷ ds) rest e = digits_first (b ∷ c ∷ ds) rest (and_parts (nat_le 49 b) (are_digits is_decimal (b ∷ c ∷ ds)) e).1
+
+-- a digit is nothing else
+record IsDigitAlone (b : ℕ) : Type 0 where
+  no_plus : eqb b 43 ≡ false
+  no_dash : eqb b 45 ≡ false
+  no_dot : eqb b 46 ≡ false
+  no_i : eqb b 105 ≡ false
+  no_n : eqb b 110 ≡ false
+
+digit_alone : (b : ℕ) → is_decimal b ≡ true → IsDigitAlone b
+digit_alone b h = record {
+  no_plus = grind (arith, nat_tests);
+  no_dash = grind (arith, nat_tests);
+  no_dot = grind (arith, nat_tests);
+  no_i = grind (arith, nat_tests);
+  no_n = grind (arith, nat_tests);
+}
+
+-- ---- numbers
+
+sign_again : (s : Sign) (text : List ℕ) → is_decimal (first text) ≡ true → (sign_of (sign s text) ≡ s) × (past_sign (sign s text) ≡ text)
+sign_again no_sign text h = let d = digit_alone (first text) h in (rw (d.no_plus, d.no_dash) refl, rw (d.no_plus, d.no_dash) refl)
+sign_again plus text h = (refl, refl)
+sign_again minus text h = (refl, refl)
+
+exponent_again : (e : Exponent) (rest : List ℕ) → IsExponent e → is_marked is_decimal (first rest) ≡ false → exponent_at (exponent e rest) ≡ Some (e, rest)
+unfolding exponent_at
+exponent_again e rest h stops =
+    let s = sign_again e.sign (e.digits ++ rest) (digits_first e.digits rest h.1) in
+    rw (s.0, s.1, digits_again is_decimal e.digits rest h.1 stops) refl
+
+optional_whole : (e : Option Exponent) (rest : List ℕ) → IfSome e IsExponent → is_word (first rest) ≡ false → EndsWhole (first (optional_exponent e rest))
+optional_whole None rest h ends = word_whole (first rest) ends
+optional_whole (Some e) rest h ends = power_whole e.letter h.0
+
+no_power : (b : ℕ) → is_word b ≡ false → is_power b ≡ false
+no_power b h = grind (arith, nat_tests)
+
+no_dot : (b : ℕ) → is_word b ≡ false → eqb b 46 ≡ false
+no_dot b h = grind (arith, nat_tests)
+
+power_no_dot : (b : ℕ) → is_power b ≡ true → eqb b 46 ≡ false
+power_no_dot b h = grind (arith, nat_tests)
+
+fraction_again : (s : Sign) (whole fraction : List ℕ) (e : Option Exponent) (rest : List ℕ) → IfSome e IsExponent → is_word (first rest) ≡ false
+    → fraction_read s whole fraction (optional_exponent e rest) ≡ Some (float (with_fraction s whole fraction e), rest)
+unfolding fraction_read
+fraction_again s whole fraction None rest h ends = rw (no_power (first rest) ends) refl
+fraction_again s whole fraction (Some e) rest h ends = rw (h.0, exponent_again e rest h (word_whole (first rest) ends).no_mark) refl
+
+-- from behind the whole part on
+integer_behind : (s : Sign) (whole rest : List ℕ) → is_word (first rest) ≡ false → whole_read s whole rest ≡ Some (integer (decimal s whole), rest)
+unfolding whole_read
+integer_behind s whole rest ends = rw (no_dot (first rest) ends, no_power (first rest) ends) refl
+
+exponent_behind : (s : Sign) (whole : List ℕ) (e : Exponent) (rest : List ℕ) → IsExponent e → is_word (first rest) ≡ false → whole_read s whole (exponent e rest) ≡ Some (float (with_exponent s whole e), rest)
+unfolding whole_read
+exponent_behind s whole e rest h ends = rw (power_no_dot e.letter h.0, h.0, exponent_again e rest h (word_whole (first rest) ends).no_mark) refl
+
+fraction_behind : (s : Sign) (whole fraction : List ℕ) (e : Option Exponent) (rest : List ℕ) → are_digits is_decimal fraction ≡ true → IfSome e IsExponent → is_word (first rest) ≡ false
+    → whole_read s whole (46 ∷ (fraction ++ optional_exponent e rest)) ≡ Some (float (with_fraction s whole fraction e), rest)
+unfolding whole_read
+fraction_behind s whole fraction e rest hf h ends =
+    rw (digits_again is_decimal fraction (optional_exponent e rest) hf (optional_whole e rest h ends).no_mark, fraction_again s whole fraction e rest h ends) refl
+
+decimal_again : (s : Sign) (whole more : List ℕ) → is_whole whole ≡ true → EndsWhole (first more) → decimal_at s (whole ++ more) ≡ whole_read s whole more
+unfolding decimal_at
+decimal_again s whole more h ends =
+    let d = digit_alone (first (whole ++ more)) (whole_first whole more h) in
+    rw (d.no_i, d.no_n, whole_again whole more h ends.no_mark) refl
+
+-- what stands behind the run of digits is an underscore, or what follows the whole part
+behind_digits : (c : ℕ) (ds more : List ℕ) → eqb 95 c ≡ false → All (is_marked is_decimal) ds → is_decimal (first more) ≡ false → eqb (first more) c ≡ false → eqb (first (after is_decimal (ds ++ more))) c ≡ false
+behind_digits c [] more bar all stops other = rw (after_again is_decimal [] more tt stops) other
+behind_digits c (b ∷ ds) more bar all stops other = go (is_decimal b) refl all.0 (behind_digits c ds more bar all.1 stops other)
+  where
+    same : (b : ℕ) → eqb b 95 ≡ true → eqb b c ≡ eqb 95 c
+    same b e = ap (λ (x : ℕ). eqb x c) (let k : b ≡ 95 = grind (arith, nat_tests) in k)
+
+    go : (t : Bool) → is_decimal b ≡ t → is_marked is_decimal b ≡ true → eqb (first (after is_decimal (ds ++ more))) c ≡ false → eqb (first (after is_decimal (b ∷ (ds ++ more)))) c ≡ false
+    go true e m others = let k : 1 + prefix_len is_decimal (ds ++ more) ≡ suc (prefix_len is_decimal (ds ++ more)) = omega arith in rw (e, k) others
+    go false e m others = let bar2 : eqb b 95 ≡ true = (rw e at m) in rw e (same b bar2 ∙ bar)
+
+-- no prefix of a base
+no_prefix : (c : ℕ) (ds more : List ℕ) → is_whole ds ≡ true → eqb (first more) c ≡ false → (eqb (first (ds ++ more)) 48 && eqb (slice_index (ds ++ more) 1) c) ≡ false
+no_prefix c [] more h other = absurd (true≢false (sym h))
+no_prefix c (b ∷ []) [] h other = rw other (go (eqb b 48))
+  where
+    go : (t : Bool) → (t && false) ≡ false
+    go true = refl
+    go false = refl
+no_prefix c (b ∷ []) (d ∷ more) h other = rw other (go (eqb b 48))
+  where
+    go : (t : Bool) → (t && false) ≡ false
+    go true = refl
+    go false = refl
+no_prefix c (b ∷ d ∷ ds) more h other =
+    let high = (and_parts (nat_le 49 b) (are_digits is_decimal (b ∷ d ∷ ds)) h).0 in
+    let not_zero : eqb b 48 ≡ false = grind (arith, nat_tests) in
+    rw not_zero refl
+
+unsigned_again : (whole more : List ℕ) → is_whole whole ≡ true → EndsWhole (first more) → unsigned_at (whole ++ more) ≡ decimal_at no_sign (whole ++ more)
+unfolding unsigned_at
+unsigned_again whole more h ends =
+    let all = whole_marked whole h in
+    rw (behind_digits 45 whole more refl all ends.no_digit ends.no_dash, behind_digits 58 whole more refl all ends.no_digit ends.no_colon, no_prefix 120 whole more h ends.no_x, no_prefix 111 whole more h ends.no_o, no_prefix 98 whole more h ends.no_b) refl
+
+-- what begins with a digit has no sign
+number_unsigned : (text : List ℕ) → is_decimal (first text) ≡ true → number_at text ≡ unsigned_at text
+unfolding number_at
+number_unsigned text h = let d = digit_alone (first text) h in rw (d.no_plus, d.no_dash) refl
+
+number_decimal : (s : Sign) (whole more : List ℕ) → is_whole whole ≡ true → EndsWhole (first more) → number_at (sign s (whole ++ more)) ≡ whole_read s whole more
+unfolding number_at
+number_decimal no_sign whole more h ends = number_unsigned (whole ++ more) (whole_first whole more h) ∙ unsigned_again whole more h ends ∙ decimal_again no_sign whole more h ends
+number_decimal plus whole more h ends = decimal_again plus whole more h ends
+number_decimal minus whole more h ends = decimal_again minus whole more h ends
+
+based_again : (b : Base) (digits rest : List ℕ) → are_digits (base_digit b) digits ≡ true → is_marked (base_digit b) (first rest) ≡ false → based_at b (digits ++ rest) ≡ Some (integer (based b digits), rest)
+unfolding based_at
+based_again b digits rest h stops = rw (digits_again (base_digit b) digits rest h stops) refl
+
+base_stops : (b : Base) (c : ℕ) → is_word c ≡ false → is_marked (base_digit b) c ≡ false
+base_stops hexadecimal c h = grind (arith, nat_tests)
+base_stops octal c h = grind (arith, nat_tests)
+base_stops binary c h = grind (arith, nat_tests)
+
+number_based : (b : Base) (text : List ℕ) → number_at (48 ∷ (base_letter b ∷ text)) ≡ based_at b text
+unfolding number_at unsigned_at
+number_based hexadecimal text = refl
+number_based octal text = refl
+number_based binary text = refl
+
+pub integer_again : (n : Integer) (rest : List ℕ) → IsInteger n → EndsValue rest → number_at (integer_text n rest) ≡ Some (integer n, rest)
+integer_again (decimal s digits) rest h ends = number_decimal s digits rest h (word_whole (first rest) ends.no_word) ∙ integer_behind s digits rest ends.no_word
+integer_again (based b digits) rest h ends = number_based b (digits ++ rest) ∙ based_again b digits rest h (base_stops b (first rest) ends.no_word)
+
+infinite_again : (s : Sign) (rest : List ℕ) → number_at (sign s (105 ∷ (110 ∷ (102 ∷ rest)))) ≡ Some (float (infinite s), rest)
+unfolding number_at unsigned_at decimal_at
+infinite_again no_sign rest = refl
+infinite_again plus rest = refl
+infinite_again minus rest = refl
+
+nan_again : (s : Sign) (rest : List ℕ) → number_at (sign s (110 ∷ (97 ∷ (110 ∷ rest)))) ≡ Some (float (not_a_number s), rest)
+unfolding number_at unsigned_at decimal_at
+nan_again no_sign rest = refl
+nan_again plus rest = refl
+nan_again minus rest = refl
+
+pub float_again : (f : Float) (rest : List ℕ) → IsFloat f → EndsValue rest → number_at (float_text f rest) ≡ Some (float f, rest)
+float_again (with_fraction s whole fraction e) rest h ends = number_decimal s whole (46 ∷ (fraction ++ optional_exponent e rest)) h.0 dot_whole ∙ fraction_behind s whole fraction e rest h.1 h.2 ends.no_word
+float_again (with_exponent s whole e) rest h ends = number_decimal s whole (exponent e rest) h.0 (power_whole e.letter h.1.0) ∙ exponent_behind s whole e rest h.1 ends.no_word
+float_again (infinite s) rest h ends = infinite_again s rest
+float_again (not_a_number s) rest h ends = nan_again s rest
+
+-- ---- dates and times
+
+long_run : (class : ℕ → Bool) (ds rest : List ℕ) → All class ds → length ds ≤ prefix_len class (ds ++ rest)
+long_run class [] rest h = omega arith
+long_run class (d ∷ ds) rest h = rw h.0 (let k = long_run class ds rest h.1 in omega arith)
+
+is_le : (a b : ℕ) → a ≤ b → nat_le a b ≡ true
+is_le a b h = grind (arith, nat_tests)
+
+count_again : (n : ℕ) (digits rest : List ℕ) → HasDigits n digits → count_at n (digits ++ rest) ≡ Some (digits, rest)
+unfolding count_at
+count_again n digits rest h =
+    let long = long_run is_decimal digits rest h.1 in
+    let enough : n ≤ prefix_len is_decimal (digits ++ rest) = let e = h.0 in omega arith in
+    rw (is_le n (prefix_len is_decimal (digits ++ rest)) enough, take_at digits rest n h.0, drop_at digits rest n h.0) refl
+
+group_again : (n b : ℕ) (digits rest : List ℕ) → HasDigits n digits → group_at n b (digits ++ (b ∷ rest)) ≡ Some (digits, rest)
+unfolding group_at
+group_again n b digits rest h = rw (count_again n digits (b ∷ rest) h, eq-eqb b b refl) refl
+
+date_again : (d : Date) (rest : List ℕ) → IsDate d → date_at (date d rest) ≡ Some (d, rest)
+unfolding date_at
+date_again d rest h =
+    rw (group_again 4 45 d.year (d.month ++ (45 ∷ (d.day ++ rest))) h.0, group_again 2 45 d.month (d.day ++ rest) h.1, count_again 2 d.day rest h.2) refl
+
+-- what may follow a time
+record EndsTime (b : ℕ) : Type 0 where
+  no_digit : is_decimal b ≡ false
+  no_dot : eqb b 46 ≡ false
+
+some_first : (ds rest : List ℕ) → 0 < length ds → All is_decimal ds → is_decimal (first (ds ++ rest)) ≡ true
+some_first [] rest some all = absurd (omega arith)
+some_first (d ∷ ds) rest some all = all.0
+
+second_again : (f : Option (List ℕ)) (rest : List ℕ) → IfSome f (λ digits. (0 < length digits) × All is_decimal digits) → EndsTime (first rest) → second_at (fraction_text f rest) ≡ Some (f, rest)
+unfolding second_at
+second_again None rest h ends = rw ends.no_dot refl
+second_again (Some digits) rest h ends = rw (some_first digits rest h.0 h.1, front_again is_decimal digits rest h.1 ends.no_digit, after_again is_decimal digits rest h.1 ends.no_digit) refl
+
+time_again : (t : Time) (rest : List ℕ) → IsTime t → EndsTime (first rest) → time_at (time t rest) ≡ Some (t, rest)
+unfolding time_at
+time_again t rest h ends =
+    let tail = t.second ++ fraction_text t.fraction rest in
+    rw (group_again 2 58 t.hour (t.minute ++ (58 ∷ tail)) h.0, group_again 2 58 t.minute tail h.1, count_again 2 t.second (fraction_text t.fraction rest) h.2, second_again t.fraction rest h.3 ends) refl
+
+-- what may follow an offset
+record EndsOffset (b : ℕ) : Type 0 where
+  no_zulu : (eqb b 90 || eqb b 122) ≡ false
+  no_shift : (eqb b 43 || eqb b 45) ≡ false
+
+word_offset : (b : ℕ) → is_word b ≡ false → EndsOffset b
+word_offset b h = record { no_zulu = grind (arith, nat_tests); no_shift = grind (arith, nat_tests) }
+
+word_time : (b : ℕ) → is_word b ≡ false → EndsTime b
+word_time b h = record { no_digit = grind (arith, nat_tests); no_dot = grind (arith, nat_tests) }
+
+shift_not : (s : ℕ) → (eqb s 43 || eqb s 45) ≡ true → (eqb s 90 || eqb s 122) ≡ false
+shift_not s h = grind (arith, nat_tests)
+
+offset_again : (o : Offset) (rest : List ℕ) → IsOffset o → is_word (first rest) ≡ false → offset_at (offset o rest) ≡ Some (o, rest)
+unfolding offset_at
+offset_again local rest h ends = let e = word_offset (first rest) ends in rw (e.no_zulu, e.no_shift) refl
+offset_again (zulu z) rest h ends = rw h refl
+offset_again (shift s hour minute) rest h ends = rw (shift_not s h.0, h.0, group_again 2 58 hour (minute ++ rest) h.1, count_again 2 minute rest h.2) refl
+
+zulu_time : (z : ℕ) → (eqb z 90 || eqb z 122) ≡ true → EndsTime z
+zulu_time z h = record { no_digit = grind (arith, nat_tests); no_dot = grind (arith, nat_tests) }
+
+shift_time : (s : ℕ) → (eqb s 43 || eqb s 45) ≡ true → EndsTime s
+shift_time s h = record { no_digit = grind (arith, nat_tests); no_dot = grind (arith, nat_tests) }
+
+offset_time : (o : Offset) (rest : List ℕ) → IsOffset o → is_word (first rest) ≡ false → EndsTime (first (offset o rest))
+offset_time local rest h ends = word_time (first rest) ends
+offset_time (zulu z) rest h ends = zulu_time z h
+offset_time (shift s hour minute) rest h ends = shift_time s h.0
+
+count_first : (n : ℕ) (digits rest : List ℕ) → 0 < n → HasDigits n digits → is_decimal (first (digits ++ rest)) ≡ true
+count_first n digits rest lt h = some_first digits rest (let e = h.0 in omega arith) h.1
+
+time_first : (t : Time) (rest : List ℕ) → IsTime t → is_decimal (first (time t rest)) ≡ true
+time_first t rest h = count_first 2 t.hour _ (omega arith) h.0
+
+date_first : (d : Date) (rest : List ℕ) → IsDate d → is_decimal (first (date d rest)) ≡ true
+date_first d rest h = count_first 4 d.year _ (omega arith) h.0
+
+no_join : (rest : List ℕ) → EndsValue rest → joins rest ≡ false
+no_join rest ends =
+    let t : eqb (first rest) 84 ≡ false = not_big (first rest) ends.no_word in
+    let u : eqb (first rest) 116 ≡ false = not_small (first rest) ends.no_word in
+    rw (t, u) ends.no_time
+  where
+    not_big : (b : ℕ) → is_word b ≡ false → eqb b 84 ≡ false
+    not_big b h = grind (arith, nat_tests)
+
+    not_small : (b : ℕ) → is_word b ≡ false → eqb b 116 ≡ false
+    not_small b h = grind (arith, nat_tests)
+
+does_join : (b : ℕ) (text : List ℕ) → (eqb b 84 || eqb b 116 || eqb b 32) ≡ true → is_decimal (first text) ≡ true → joins (b ∷ text) ≡ true
+does_join b text h digit = rw digit (with_true (eqb b 84) (eqb b 116) (eqb b 32) h)
+  where
+    with_true : (x y z : Bool) → (x || y || z) ≡ true → (x || y || (z && true)) ≡ true
+    with_true true y z e = refl
+    with_true false true z e = refl
+    with_true false false true e = refl
+    with_true false false false e = e
+
+dated_alone : (d : Date) (rest : List ℕ) → IsDate d → EndsValue rest → dated_at (date d rest) ≡ Some (datetime (only_date d), rest)
+unfolding dated_at
+dated_alone d rest h ends = rw (date_again d rest h, no_join rest ends) refl
+
+dated_both : (d : Date) (b : ℕ) (t : Time) (o : Offset) (rest : List ℕ) → IsDateTime (both d b t o) → is_word (first rest) ≡ false → dated_at (date d (b ∷ time t (offset o rest))) ≡ Some (datetime (both d b t o), rest)
+unfolding dated_at
+dated_both d b t o rest h ends =
+    let tail = time t (offset o rest) in
+    rw (date_again d (b ∷ tail) h.0, does_join b tail h.1 (time_first t (offset o rest) h.2), time_again t (offset o rest) h.2 (offset_time o rest h.3 ends), offset_again o rest h.3 ends) refl
+
+timed_again : (t : Time) (rest : List ℕ) → IsTime t → is_word (first rest) ≡ false → timed_at (time t rest) ≡ Some (datetime (only_time t), rest)
+unfolding timed_at
+timed_again t rest h ends = rw (time_again t rest h (word_time (first rest) ends)) refl
+
+number_dated : (d : Date) (more : List ℕ) → IsDate d → number_at (date d more) ≡ dated_at (date d more)
+unfolding unsigned_at
+number_dated d more h = number_unsigned (date d more) (date_first d more h) ∙ rw (after_again is_decimal d.year (45 ∷ (d.month ++ (45 ∷ (d.day ++ more)))) h.0.1 refl) refl
+
+number_timed : (t : Time) (more : List ℕ) → IsTime t → number_at (time t more) ≡ timed_at (time t more)
+unfolding unsigned_at
+number_timed t more h = number_unsigned (time t more) (time_first t more h) ∙ rw (after_again is_decimal t.hour (58 ∷ (t.minute ++ (58 ∷ (t.second ++ fraction_text t.fraction more)))) h.0.1 refl) refl
+
+pub datetime_again : (d : DateTime) (rest : List ℕ) → IsDateTime d → EndsValue rest → number_at (datetime_text d rest) ≡ Some (datetime d, rest)
+datetime_again (only_date d) rest h ends = number_dated d rest h ∙ dated_alone d rest h ends
+datetime_again (only_time t) rest h ends = number_timed t rest h ∙ timed_again t rest h ends.no_word
+datetime_again (both d b t o) rest h ends = number_dated d (b ∷ time t (offset o rest)) h.0 ∙ dated_both d b t o rest h ends.no_word
+
+-- ---- the first byte
+
+-- what numbers, dates and times begin with
+abbrev pub is_start : ℕ → Bool
+is_start b = is_decimal b || b == 43 || b == 45 || b == 105 || b == 110
+
+start_digit : (b : ℕ) → is_decimal b ≡ true → is_start b ≡ true
+start_digit b h = rw h refl
+
+sign_start : (s : Sign) (text : List ℕ) → is_start (first text) ≡ true → is_start (first (sign s text)) ≡ true
+sign_start no_sign text h = h
+sign_start plus text h = refl
+sign_start minus text h = refl
+
+pub integer_start : (n : Integer) (rest : List ℕ) → IsInteger n → is_start (first (integer_text n rest)) ≡ true
+integer_start (decimal s digits) rest h = sign_start s (digits ++ rest) (start_digit (first (digits ++ rest)) (whole_first digits rest h))
+integer_start (based b digits) rest h = refl
+
+pub float_start : (f : Float) (rest : List ℕ) → IsFloat f → is_start (first (float_text f rest)) ≡ true
+float_start (with_fraction s whole fraction e) rest h =
+    let more = 46 ∷ (fraction ++ optional_exponent e rest) in
+    sign_start s (whole ++ more) (start_digit (first (whole ++ more)) (whole_first whole more h.0))
+float_start (with_exponent s whole e) rest h = sign_start s (whole ++ exponent e rest) (start_digit (first (whole ++ exponent e rest)) (whole_first whole (exponent e rest) h.0))
+float_start (infinite s) rest h = sign_start s (105 ∷ (110 ∷ (102 ∷ rest))) refl
+float_start (not_a_number s) rest h = sign_start s (110 ∷ (97 ∷ (110 ∷ rest))) refl
+
+pub datetime_start : (d : DateTime) (rest : List ℕ) → IsDateTime d → is_start (first (datetime_text d rest)) ≡ true
+datetime_start (only_date d) rest h = start_digit (first (date d rest)) (date_first d rest h)
+datetime_start (only_time t) rest h = start_digit (first (time t rest)) (time_first t rest h)
+datetime_start (both d b t o) rest h = let more = b ∷ time t (offset o rest) in start_digit (first (date d more)) (date_first d more h.0)
