@@ -1,5 +1,5 @@
 -- What the nodes of a text tell of it.
-use Rattle.std.proofs.Common.{◌≡◌, ℕ, ◌≤◌, false, List, [], ◌∷◌, ◌++◌, length, Option, Some, None, Result, Ok, Err, refl, sym, ap, subst, ◌∙◌, ◌⊎◌, inl, inr, arith}
+use Rattle.std.proofs.Common.{◌≡◌, ℕ, ◌≤◌, Bool, true, false, List, [], ◌∷◌, ◌++◌, length, Option, Some, None, Result, Ok, Err, refl, sym, ap, subst, ◌∙◌, ◌⊎◌, inl, inr, arith}
 use Rattle.std.specs.Prelude.{map, IsUtf8, MatchResult, string_bytes}
 use Rattle.std.specs.List.{AllByRecursion}
 use Rattle.edit_document.specs.declared.read.marks.Mark.{Mark}
@@ -40,16 +40,20 @@ pub read_of : (bytes : List ℕ) (form : Text) → IsManifest bytes form → IsU
 read_of bytes form m u = record { spells = m.document.grammar; supported = m.supported; utf8 = u }
 
 ends_all : (bytes : List ℕ) (form : Text) → Read bytes form → Ends bytes (lines form.lines)
-ends_all bytes form r = ([], r.spells.spelled ∙ ap (λ b. byte_order_mark b (lines form.lines)) r.supported.0)
+ends_all bytes form r = behind form.marked (lines form.lines) r.spells.spelled
+  where
+    behind : (b : Bool) (rest : List ℕ) → bytes ≡ byte_order_mark b rest → Ends bytes rest
+    behind true rest e = (0xEF ∷ (0xBB ∷ (0xBF ∷ [])), e)
+    behind false rest e = ([], e)
 
 pub tokens_of : (bytes : List ℕ) (form : Text) → Read bytes form → AllByRecursion (IsToken bytes) (text_marks form)
-tokens_of bytes form r = text_tokens bytes form r.spells.well_formed r.supported.1 r.utf8 (ends_all bytes form r)
+tokens_of bytes form r = text_tokens bytes form r.spells.well_formed r.supported r.utf8 (ends_all bytes form r)
 
 walk_of : (bytes : List ℕ) (form : Text) → Read bytes form → (tables : List ℕ) × Leads (walked bytes (text_marks form) start) (noted_text form) tables
-walk_of bytes form r = text_leads bytes form r.spells.well_formed r.supported.1 r.utf8 (ends_all bytes form r)
+walk_of bytes form r = text_leads bytes form r.spells.well_formed r.supported r.utf8 (ends_all bytes form r)
 
 matched_of : (bytes : List ℕ) (form : Text) → Read bytes form → Matched (assertions form) (noted_text form)
-matched_of bytes form r = text_matched form r.supported.1
+matched_of bytes form r = text_matched form r.supported
 
 -- what is walked over is a document
 pub record Walked (bytes : List ℕ) (form : Text) (nodes : List Node) : Type 0 where
@@ -91,8 +95,8 @@ refused_is bytes form m u none = go (walk_of bytes form (read_of bytes form m u)
 
 pub shallow : (bytes : List ℕ) (form : Text) → IsManifest bytes form → text_depth form ≤ 80
 shallow bytes form m =
-    let fine = fine_of (assertions form) (noted_text form) (text_matched form m.supported.1) m.document.no_clash m.document.short in
-    lines_deep form.lines [] m.supported.1 fine.short
+    let fine = fine_of (assertions form) (noted_text form) (text_matched form m.supported) m.document.no_clash m.document.short in
+    lines_deep form.lines [] m.supported fine.short
 
 -- ---- the form of a text, and what it shows
 
@@ -103,7 +107,7 @@ pub shows_form : (bytes : List ℕ) (form : Text) (nodes : List Node) → Walked
 unfolding shown_by
 shows_form bytes form nodes w place =
     let m = w.manifest in
-    ap (λ (o : Option Text). node_at (nodes_by o) place) (form_is bytes form m) ∙ tree_shown (assertions form) (noted_text form) place (text_matched form m.supported.1) w.good
+    ap (λ (o : Option Text). node_at (nodes_by o) place) (form_is bytes form m) ∙ tree_shown (assertions form) (noted_text form) place (text_matched form m.supported) w.good
 
 -- two forms of one text
 pub one_form : (bytes : List ℕ) (f g : Text) → IsManifest bytes f → IsManifest bytes g → f ≡ g

@@ -10,15 +10,15 @@ use Rattle.edit_document.specs.declared.read.marks.ReadError.{ReadError}
 use Rattle.edit_document.specs.declared.read.marks.ReadError.TheVariants.{Memory, NotToml}
 use Rattle.edit_document.specs.Characters.{left_bracket, right_bracket, is_blank}
 use Rattle.edit_document.specs.Strings.{LineEnd, line_end, Key, key}
-use Rattle.edit_document.specs.Grammar.{Statement, header, statement, comment, Line, empty_line, full_line, Lines, one_line, more_lines, lines, Text, Spells}
-use Rattle.edit_document.specs.Supported.{IsSupported}
-use Rattle.edit_document.specs.Depth.{text_depth}
-use Rattle.edit_document.specs.Reading.{◌>>=◌, first, blanks, past_blanks, past, key_at, statement_at, comment_front, past_comment, is_line_over, line_at, line_end_at, lines_at, read_text}
-use Rattle.edit_document.specs.Marks.{mark, key_marks, statement_marks, line_marks, lines_marks, text_marks}
+use Rattle.edit_document.specs.Grammar.{Statement, header, statement, comment, Line, empty_line, full_line, Lines, one_line, more_lines, lines, Text, Spells, AreLines}
+use Rattle.edit_document.specs.Supported.{AreSupportedLines}
+use Rattle.edit_document.specs.Depth.{lines_depth}
+use Rattle.edit_document.specs.Reading.{◌>>=◌, first, blanks, past_blanks, past, key_at, statement_at, comment_front, past_comment, is_line_over, line_at, line_end_at, lines_at}
+use Rattle.edit_document.specs.Marks.{mark, key_marks, statement_marks, line_marks, lines_marks}
 use Rattle.edit_document.specs.Noting.{Notes}
 use Rattle.edit_document.proofs.TokenLaws.{past_some, run_parts}
 use Rattle.edit_document.proofs.ValueLaws.{blank_parts}
-use Rattle.edit_document.proofs.LineLaws.{statement_sound, comment_sound, line_end_sound, lines_sound, IsReadText, read_again, read_sound}
+use Rattle.edit_document.proofs.LineLaws.{statement_sound, comment_sound, line_sound, line_end_sound, lines_sound, AreGoodLines, lines_read, lines_read_again}
 use Rattle.edit_document.proofs.Loops.{rest_of}
 use Rattle.edit_document.proofs.NotedValues.{mapped, unmapped}
 
@@ -129,41 +129,27 @@ pub lines_none : (total : Option Lines) (bytes : List ℕ) (out : List Mark) →
 unfolding lines_at
 lines_none total bytes out before = before.none refl
 
--- ---- texts
+-- ---- the whole
 
--- what is read of a text is what is read of its lines
-pub text_of_lines : (bytes : List ℕ) (ls : Lines) → lines_at 80 (length bytes + 1) bytes ≡ Some ls → read_text 80 bytes ≡ Some (record { marked = false; lines = ls })
-unfolding read_text
-text_of_lines bytes ls e = rw e refl
-
-pub no_text : (bytes : List ℕ) → lines_at 80 (length bytes + 1) bytes ≡ None → read_text 80 bytes ≡ None
-unfolding read_text
-no_text bytes e = rw e refl
-
--- the form of a text that was read, with its marks
+-- the form of lines that were read, with its marks
 abbrev pub Found : List ℕ → List Mark → Type 0
-Found bytes new = (form : Text) × Spells bytes form × IsSupported form × (text_depth form ≤ 80) × (new ≡ text_marks form)
+Found bytes new = (form : Lines) × (bytes ≡ lines form) × AreLines form × AreSupportedLines form × (lines_depth form ≤ 80) × (new ≡ lines_marks form)
 
--- what the public function says, of a text that was read
 pub found : (bytes : List ℕ) (us : Lines) (new : List Mark) → lines_at 80 (length bytes + 1) bytes ≡ Some us → new ≡ lines_marks us → Found bytes new
-found bytes us new e noted =
-    let form : Text = record { marked = false; lines = us } in
-    let h = read_sound 80 bytes form (text_of_lines bytes us e) in
-    (form, h.spells, h.supported, h.shallow, noted)
+found bytes us new e noted = let h = lines_read 80 bytes us e in (us, h.0, h.1.valid, h.1.supported, h.1.shallow, noted)
 
-good : (bytes : List ℕ) (form : Text) → Spells bytes form → IsSupported form → text_depth form ≤ 80 → IsReadText 80 bytes form
-good bytes form has part le = record { spells = has; supported = part; shallow = le }
+good : (form : Lines) → AreLines form → AreSupportedLines form → lines_depth form ≤ 80 → AreGoodLines 80 form
+good form valid part le = record { valid = valid; supported = part; shallow = le }
 
-pub only : (bytes : List ℕ) (us : Lines) (new : List Mark) → lines_at 80 (length bytes + 1) bytes ≡ Some us → new ≡ lines_marks us → (form : Text) → Spells bytes form → IsSupported form → text_depth form ≤ 80 → new ≡ text_marks form
-only bytes us new e noted form has part le =
-    let read : Text = record { marked = false; lines = us } in
-    let same : Some read ≡ Some form = sym (text_of_lines bytes us e) ∙ read_again 80 bytes form (good bytes form has part le) in
-    let one : read ≡ form = cc in
-    noted ∙ ap text_marks one
+pub only : (bytes : List ℕ) (us : Lines) (new : List Mark) → lines_at 80 (length bytes + 1) bytes ≡ Some us → new ≡ lines_marks us → (form : Lines) → bytes ≡ lines form → AreLines form → AreSupportedLines form → lines_depth form ≤ 80 → new ≡ lines_marks form
+only bytes us new e noted form has valid part le =
+    let same : Some us ≡ Some form = sym e ∙ lines_read_again 80 bytes form has (good form valid part le) in
+    let one : us ≡ form = cc in
+    noted ∙ ap lines_marks one
 
-pub refused : (bytes : List ℕ) (form : Text) → lines_at 80 (length bytes + 1) bytes ≡ None → Spells bytes form → IsSupported form → text_depth form ≤ 80 → ⊥
-refused bytes form e has part le =
-    let same : None ≡ Some form = sym (no_text bytes e) ∙ read_again 80 bytes form (good bytes form has part le) in
+pub refused : (bytes : List ℕ) (form : Lines) → lines_at 80 (length bytes + 1) bytes ≡ None → bytes ≡ lines form → AreLines form → AreSupportedLines form → lines_depth form ≤ 80 → ⊥
+refused bytes form e has valid part le =
+    let same : None ≡ Some form = sym e ∙ lines_read_again 80 bytes form has (good form valid part le) in
     absurd cc
 
 not_memory : (left : ℕ) → NotToml left ≡ Memory → ⊥
@@ -171,6 +157,6 @@ not_memory left e = cc
 
 -- the exit of a line that was not read
 pub exit_only : (bytes : List ℕ) (e e2 : ReadError) (r : Result (Vec Mark) ReadError) → r ≡ Err e2 → e2 ≡ e → ((e ≡ Memory → ⊥) → lines_at 80 (length bytes + 1) bytes ≡ None)
-    → (form : Text) → Spells bytes form → IsSupported form → text_depth form ≤ 80 → MatchResult r (λ v. v.items ≡ text_marks form) (λ x. x ≡ Memory)
-exit_only bytes Memory e2 r was same h form has part le = subst (λ (x : Result (Vec Mark) ReadError). MatchResult x (λ v. v.items ≡ text_marks form) (λ y. y ≡ Memory)) (sym was) same
-exit_only bytes (NotToml left) e2 r was same h form has part le = absurd (refused bytes form (h (not_memory left)) has part le)
+    → (form : Lines) → bytes ≡ lines form → AreLines form → AreSupportedLines form → lines_depth form ≤ 80 → MatchResult r (λ v. v.items ≡ lines_marks form) (λ x. x ≡ Memory)
+exit_only bytes Memory e2 r was same h form has valid part le = subst (λ (x : Result (Vec Mark) ReadError). MatchResult x (λ v. v.items ≡ lines_marks form) (λ y. y ≡ Memory)) (sym was) same
+exit_only bytes (NotToml left) e2 r was same h form has valid part le = absurd (refused bytes form (h (not_memory left)) has valid part le)

@@ -121,7 +121,7 @@ supported_lines edits earlier prefix (more_lines (full_line a s b c) e ls) h = (
 pub replaced_manifest : (edits : Edits) (old : List ℕ) (form : Text) → IsManifest old form → IsManifest (text (replaced edits form)) (replaced edits form)
 replaced_manifest edits old form manifest = record {
   document = replaced_document edits old form manifest.document;
-  supported = (manifest.supported.0, supported_lines edits [] [] form.lines manifest.supported.1);
+  supported = supported_lines edits [] [] form.lines manifest.supported;
 }
 
 -- ---- the tree

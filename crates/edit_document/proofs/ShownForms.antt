@@ -50,7 +50,7 @@ pub shows_tree : (inside : Inside) (shown : Shown) (form : Text) → IsRead insi
 shows_tree inside shown form read view manifest place =
     let same = form_same inside shown form read view manifest in
     let m = subst (λ t. IsManifest shown.bytes t) same manifest in
-    let matched = text_matched read.form m.supported.1 in
+    let matched = text_matched read.form m.supported in
     let fine = fine_of (assertions read.form) (noted_text read.form) matched m.document.no_clash m.document.short in
     let good : Good (noted_text read.form) = record { fine = fine; closed = closed_from (noted_text read.form) fine read.tree } in
     ap (λ ns. node_at ns place) (open_spots inside shown read view) ∙ tree_shown (assertions read.form) (noted_text read.form) place matched good ∙ ap (λ t. view_at t place) (sym same)

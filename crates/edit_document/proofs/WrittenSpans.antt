@@ -91,4 +91,4 @@ lines_spans earlier prefix (more_lines (full_line a s b c) e ls) h =
     (subst (λ (p : Place). notes (noted_lines (header_after prefix s) ls) ≡ spans (in_lines us p ls)) (same_header earlier prefix s h.0) (lines_spans us (header_after prefix s) ls h.1))
 
 pub text_spans : (form : Text) → IsSupported form → filter_map placed_note (noted_text form) ≡ map placed_value (values form)
-text_spans form h = lines_spans [] [] form.lines h.1
+text_spans form h = lines_spans [] [] form.lines h

@@ -152,6 +152,14 @@ lines_at depth (suc n) text = line_at depth text >>= λ l.
     if length l.1 == 0 then Some (one_line l.0)
     else (line_end_at l.1 >>= λ e. lines_at depth n e.1 >>= λ ls. Some (more_lines l.0 e.0 ls))
 
+-- a byte order mark comes first
+abbrev pub is_marked : List ℕ → Bool
+is_marked text = first text == 0xEF && slice_index text 1 == 0xBB && slice_index text 2 == 0xBF
+
+-- what follows a byte order mark or nothing
+abbrev pub past_mark : List ℕ → List ℕ
+past_mark text = if is_marked text then drop 3 text else text
+
 -- a text with arrays and inline tables at most so deep in one another
 unfoldable pub read_text : ℕ → List ℕ → Option Text
-read_text depth text = lines_at depth (length text + 1) text >>= λ ls. Some (record { marked = false; lines = ls })
+read_text depth text = lines_at depth (length (past_mark text) + 1) (past_mark text) >>= λ ls. Some (record { marked = is_marked text; lines = ls })

@@ -1,6 +1,6 @@
--- The part of the grammar that is read so far: keys of one part, strings on one line, booleans, numbers, dates and times,
--- inline tables, and headers of one part. Every other text is refused.
-use Rattle.std.specs.Prelude.{◌≡◌, ℕ, List, [], false, ⊤}
+-- The part of the grammar that is read so far: a byte order mark, keys of one part, strings on one line, booleans,
+-- numbers, dates and times, inline tables, and headers of one part. Every other text is refused.
+use Rattle.std.specs.Prelude.{◌≡◌, ℕ, List, [], ⊤}
 use Rattle.edit_document.specs.Strings.{Key}
 use Rattle.edit_document.specs.Grammar.{Value, basic, literal, multi_basic, multi_literal, boolean, integer, float, datetime, array, inline, Members, no_members, last_member, member, Statement, pair, header, element_header, Line, empty_line, full_line, Lines, one_line, more_lines, Text}
 use Rattle.edit_document.specs.Assertions.{IsDocument}
@@ -44,9 +44,9 @@ abbrev pub AreSupportedLines : Lines → Type 0
 AreSupportedLines (one_line l) = IsSupportedLine l
 AreSupportedLines (more_lines l e ls) = IsSupportedLine l × AreSupportedLines ls
 
--- a text without a byte order mark, all of whose lines are of the part
+-- a text all of whose lines are of the part
 abbrev pub IsSupported : Text → Type 0
-IsSupported t = (t.marked ≡ false) × AreSupportedLines t.lines
+IsSupported t = AreSupportedLines t.lines
 
 -- the bytes are a document with this form, and the form is of the part that is read
 pub record IsManifest (bytes : List ℕ) (form : Text) : Type 0 where

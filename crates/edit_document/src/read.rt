@@ -3,6 +3,7 @@ ghost use Rattle.std.specs.Prelude.{◌≡◌, ◌≤◌, IfOk, IfErr, MatchResu
 ghost use Rattle.edit_document.specs.Errors.{IsMemory};
 ghost use Rattle.edit_document.specs.Grammar.{Text, Spells};
 ghost use Rattle.edit_document.specs.Supported.{IsSupported};
+ghost use Rattle.edit_document.specs.Reading as reading;
 ghost use Rattle.edit_document.specs.Depth.{text_depth};
 ghost use Rattle.edit_document.specs.Marks.{text_marks, IsReadRefusal};
 
@@ -15,11 +16,23 @@ mod tokens;
 mod values;
 
 use crate::errors::{CargoResult, Error};
+use bytes::{byte_at, first, skip};
 pub(crate) use decode::{content, is_plain, said};
 use lines::lines;
 use marks::ReadError;
 pub(crate) use marks::{Mark, MarkKind};
 use std::alloc::Global;
+
+/// What follows a byte order mark or nothing.
+fn past_mark(text: &[u8]) -> &[u8]
+    ensures { result.now ≡ reading.past_mark text.now }
+{
+    if first(text) == 0xEF && byte_at(text, 1) == 0xBB && byte_at(text, 2) == 0xBF {
+        skip(text, 3)
+    } else {
+        text
+    }
+}
 
 /// The marks of a text, with arrays and inline tables at most 80 deep in one another.
 /// A refusal tells the byte at which the part begins that could not be read.
@@ -34,7 +47,8 @@ pub(crate) fn read_marks(alloc: Global, text: &[u8]) -> CargoResult<Vec<Mark>>
     // The byte that a refusal tells lies in the text.
     ensures refused { IfErr result (IsReadRefusal (length text.now)) }
 {
-    match lines(alloc, text) {
+    let body = past_mark(text);
+    match lines(alloc, body) {
         Ok(marks) => Ok(marks),
         Err(ReadError::Memory) => Err(Error::Memory),
         Err(ReadError::NotToml { left }) => Err(Error::NotToml {

@@ -1,11 +1,11 @@
 //! Lines, noted down from left to right.
 ghost use Rattle.std.specs.Prelude.{◌≡◌, ◌<◌, ◌≤◌, IfOk, MatchResult};
 ghost use Rattle.edit_document.specs.declared.read.marks.ReadError.TheVariants.{Memory};
-ghost use Rattle.edit_document.specs.Grammar.{Text, Spells};
-ghost use Rattle.edit_document.specs.Supported.{IsSupported};
-ghost use Rattle.edit_document.specs.Depth.{text_depth};
+ghost use Rattle.edit_document.specs.Grammar.{Lines, AreLines, lines};
+ghost use Rattle.edit_document.specs.Supported.{AreSupportedLines};
+ghost use Rattle.edit_document.specs.Depth.{lines_depth};
 ghost use Rattle.edit_document.specs.Reading as reading;
-ghost use Rattle.edit_document.specs.Marks.{statement_marks, line_marks, text_marks};
+ghost use Rattle.edit_document.specs.Marks.{statement_marks, line_marks, lines_marks};
 ghost use Rattle.edit_document.specs.Noting.{Skips, Notes};
 
 use super::bytes::{Class, byte_at, first, past, past_run, skip};
@@ -75,13 +75,10 @@ pub(crate) fn past_line_end(s: &[u8]) -> Option<&[u8]>
     }
 }
 
-/// The marks of all lines of a text, with inline tables at most 80 deep in one another.
+/// The marks of lines, with inline tables at most 80 deep in one another.
 pub(crate) fn lines(alloc: Global, text: &[u8]) -> Result<Vec<Mark>, ReadError>
-    ensures found { IfOk result (λ v.
-        (form : Text) × Spells text.now form × IsSupported form × (text_depth form ≤ 80)
-        × (v.items ≡ text_marks form)) }
-    ensures only { (form : Text) → Spells text.now form → IsSupported form → text_depth form ≤ 80 →
-        MatchResult result (λ v. v.items ≡ text_marks form) (λ e. e ≡ Memory) }
+    ensures found { IfOk result (λ v. (form : Lines) × (text.now ≡ lines form) × AreLines form × AreSupportedLines form × (lines_depth form ≤ 80) × (v.items ≡ lines_marks form)) }
+    ensures only { (form : Lines) → text.now ≡ lines form → AreLines form → AreSupportedLines form → lines_depth form ≤ 80 → MatchResult result (λ v. v.items ≡ lines_marks form) (λ e. e ≡ Memory) }
 {
     let mut out = Vec::new(alloc);
     let mut rest = text;
