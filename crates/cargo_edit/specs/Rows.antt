@@ -1,5 +1,5 @@
 -- The rows of a manifest's seen entries, and what is written of them.
-use Rattle.std.specs.Prelude.{◌≡◌, ℕ, List, [], ◌∷◌, ◌++◌, Bool, false, Option, Some, None, is_some, option_map}
+use Rattle.std.specs.Prelude.{◌≡◌, ℕ, List, [], ◌∷◌, false, Option, Some, None, is_some, option_map}
 use Rattle.std.specs.List.{AllZip}
 use Rattle.edit_document.specs.Assertions.{Place}
 use Rattle.semver.specs.Parse.{Parts}
