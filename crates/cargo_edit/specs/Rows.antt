@@ -77,6 +77,7 @@ write_at literal line = write_of line.change line.new
     write_of (Some kind) (Some text) = Some (literal, text)
     write_of kind text = None
 
+-- one more write, where there is one
 abbrev pub with_write : Option (Place × List ℕ) → List (Place × List ℕ) → List (Place × List ℕ)
 with_write None ws = ws
 with_write (Some w) ws = w ∷ ws

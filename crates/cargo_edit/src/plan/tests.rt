@@ -3,9 +3,9 @@ use super::*;
 use edit_sources::FileIndex;
 use std::test::Fail;
 
-// An entry, the options (`i` incompatible, `p` pinned), the versions of its name (`!` is yanked), and the entry afterwards,
-// `-` where nothing is written; then its row: the requirement, the compatible version, the latest one, the new requirement,
-// the reason and the change; then the warnings.
+// An entry, the options (`i` incompatible, `p` pinned), the versions of its name (`!` is yanked), and
+// the entry afterwards, `-` where nothing is written; then its row: the requirement, the compatible
+// version, the latest one, the new requirement, the reason and the change; then the warnings.
 const ROWS: &str = "\
 serde = { version = '1.0', optional = true } # keep||1.2.3|serde = { version = \"1.2\", optional = true } # keep|1.0 1.2.3 1.2.3 1.2 None Some(Compatible)
 x = '1.0.0-rc.1'||1.2.0 2.0.0-beta.1|x = \"1.2.0\"|1.0.0-rc.1 1.2.0 2.0.0-beta.1 1.2.0 Some(Incompatible) Some(Compatible)
@@ -114,7 +114,8 @@ fn is_settled(plan: &UpgradePlan) -> bool {
     plan.outputs.is_empty() && plan.rows.iter().all(|row| row.change.is_none())
 }
 
-// What is told of an entry, if the plan writes what it should, and the plan for the output changes nothing.
+// What is told of an entry, if the plan writes what it should, and the plan for the output changes
+// nothing.
 fn outcome(
     alloc: Global,
     entry: &str,
