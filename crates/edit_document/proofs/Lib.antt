@@ -21,8 +21,11 @@ pub mod SortedRewrites
 pub mod SamePlace
 pub mod Views
 pub mod Loops
+pub mod MultiLoops
 pub mod Codes
 pub mod TokenLaws
+pub mod MultiLaws
+pub mod MultiReadAgain
 pub mod NumberLaws
 pub mod NumberReadAgain
 pub mod ValueLaws

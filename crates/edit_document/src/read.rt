@@ -10,6 +10,7 @@ mod bytes;
 pub(crate) mod decode;
 mod lines;
 mod marks;
+mod multi;
 mod numbers;
 mod tokens;
 mod values;

@@ -128,7 +128,7 @@ fn behind_whole(s: &[u8]) -> Option<(MarkKind, &[u8])>
 }
 
 /// Whether these three bytes come next.
-fn begins(s: &[u8], word: [u8; 3]) -> bool
+pub(crate) fn begins(s: &[u8], word: [u8; 3]) -> bool
     ensures { result ≡ reading.begins (slice_index word 0) (slice_index word 1) (slice_index word 2) s.now }
 {
     first(s) == word[0] && byte_at(s, 1) == word[1] && byte_at(s, 2) == word[2]

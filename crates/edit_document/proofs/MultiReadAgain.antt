@@ -1,0 +1,1 @@
+-- Strings over several lines that are spelled so are read.
