@@ -8,7 +8,7 @@ use Rattle.edit_document.specs.Strings.{LineEnd, lf, crlf, line_end, Space, blan
 use Rattle.edit_document.specs.Grammar.{three}
 use Rattle.edit_document.specs.Reading.{◌>>=◌, Read, first, blanks, past_blanks, line_end_at, begins_space, space_at, spaces_at, fold_at, feed_at, is_line_break, escape_at, spot_at, raw_at, line_piece_at, closes, delimiter_at, body_at, multi_at}
 use Rattle.edit_document.specs.ReadingNumbers.{begins}
-use Rattle.edit_document.proofs.TokenLaws.{bind_some, chosen, tested, some_is, first_is, first_of, at_drop, both, run_parts, run_all, front_again, after_again, escape_sound, piece_again, basic_ch_not, length-pieces}
+use Rattle.edit_document.proofs.TokenLaws.{bind_some, chosen, tested, some_is, first_is, first_of, at_drop, both, run_parts, run_all, escape_sound}
 
 -- ---- newlines
 
@@ -24,12 +24,12 @@ line_end_sound bytes x e =
           subst P (some_is _ x t.1) (first_is carriage_return bytes (omega arith) w.0 ∙ ap (λ (r : List ℕ). carriage_return ∷ r) (at_drop 1 line_feed bytes (omega arith) w.1))
     ]
 
-line_end_again : (e : LineEnd) (rest : List ℕ) → line_end_at (line_end e rest) ≡ Some (e, rest)
+pub line_end_again : (e : LineEnd) (rest : List ℕ) → line_end_at (line_end e rest) ≡ Some (e, rest)
 unfolding line_end_at
 line_end_again lf rest = refl
 line_end_again crlf rest = refl
 
-line_end_first : (e : LineEnd) (rest : List ℕ) → is_line_break (first (line_end e rest)) ≡ true
+pub line_end_first : (e : LineEnd) (rest : List ℕ) → is_line_break (first (line_end e rest)) ≡ true
 line_end_first lf rest = refl
 line_end_first crlf rest = refl
 
@@ -84,7 +84,7 @@ space_again (blank b) more h = rw h refl
 space_again (break lf) more h = rw (line_end_again lf more) refl
 space_again (break crlf) more h = rw (line_end_again crlf more) refl
 
-spaces_again : (n : ℕ) (ss : List Space) (rest : List ℕ) → AllByRecursion IsSpace ss → begins_space rest ≡ false → length ss < n → spaces_at n (spaces ss rest) ≡ Some (ss, rest)
+pub spaces_again : (n : ℕ) (ss : List Space) (rest : List ℕ) → AllByRecursion IsSpace ss → begins_space rest ≡ false → length ss < n → spaces_at n (spaces ss rest) ≡ Some (ss, rest)
 unfolding spaces_at
 spaces_again zero ss rest h ends lt = absurd (omega arith)
 spaces_again (suc n) [] rest h ends lt = rw ends refl
@@ -92,7 +92,7 @@ spaces_again (suc n) (s ∷ ss) rest h ends lt =
     let P : List ℕ → Type 0 = λ t. spaces_at (suc n) t ≡ Some (s ∷ ss, rest) in
     subst P (spaces_step s ss rest) (rw (space_begins s (spaces ss rest) h.0, space_again s (spaces ss rest) h.0, spaces_again n ss rest h.1 ends (omega arith)) refl)
 
-count_spaces : (ss : List Space) (rest : List ℕ) → length ss ≤ length (spaces ss rest)
+pub count_spaces : (ss : List Space) (rest : List ℕ) → length ss ≤ length (spaces ss rest)
 count_spaces [] rest = omega arith
 count_spaces (blank b ∷ ss) rest = let h = count_spaces ss rest in omega arith
 count_spaces (break lf ∷ ss) rest = let h = count_spaces ss rest in omega arith
