@@ -44,6 +44,7 @@ pub mod Fronts
 pub mod Ends
 pub mod WalkedTokens
 pub mod NumberTokens
+pub mod MultiTokens
 pub mod WalkedValues
 pub mod WalkedLines
 pub mod Matched

@@ -53,7 +53,7 @@ pub run_all : (class : ℕ → Bool) (text : List ℕ) → All class (front clas
 run_all class [] = tt
 run_all class (b ∷ text) = run_step class b text (class b) refl (run_all class text)
 
-prefix_len_run : (class : ℕ → Bool) (run rest : List ℕ) → All class run → class (first rest) ≡ false → prefix_len class (run ++ rest) ≡ length run
+pub prefix_len_run : (class : ℕ → Bool) (run rest : List ℕ) → All class run → class (first rest) ≡ false → prefix_len class (run ++ rest) ≡ length run
 prefix_len_run class [] [] all stops = refl
 prefix_len_run class [] (b ∷ rest) all stops = rw stops refl
 prefix_len_run class (b ∷ run) rest all stops = rw (all.0, prefix_len_run class run rest all.1 stops) (omega arith)

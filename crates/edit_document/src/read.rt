@@ -16,7 +16,7 @@ mod tokens;
 mod values;
 
 use crate::errors::{CargoResult, Error};
-pub(crate) use decode::{content, is_plain, said};
+pub(crate) use decode::{content, said};
 use lines::lines;
 use marks::ReadError;
 pub(crate) use marks::{Mark, MarkKind};

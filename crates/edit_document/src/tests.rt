@@ -161,6 +161,74 @@ fn tells_numbers_and_dates(rt: HostRuntime) -> Result<(), Fail> {
     Ok(())
 }
 
+/// The string at `a`, where a text is read and a string stands there.
+fn string_at_a(alloc: Global, text: &str) -> Result<Option<String>, Error> {
+    match Document::read(alloc, text) {
+        Ok(document) => {
+            let said = document
+                .item(&[])
+                .and_then(|root: Item<'_>| root.get("a"))
+                .and_then(|item: Item<'_>| item.as_str());
+            match said {
+                Some(said) => Ok(Some(String::from_str(alloc, said)?)),
+                None => Ok(None),
+            }
+        }
+        Err(Error::NotToml { .. }) => Ok(None),
+        Err(error) => Err(error),
+    }
+}
+
+#[test]
+fn reads_strings_over_several_lines(rt: HostRuntime) -> Result<(), Fail> {
+    let rows = [
+        ("a = \"\"\"\"\"\"", Some("")),
+        (
+            "a = \"\"\"\nRoses are red\nViolets are blue\"\"\"",
+            Some("Roses are red\nViolets are blue"),
+        ),
+        (
+            "a = \"\"\"\r\nRoses\r\nare\"\"\" # red",
+            Some("Roses\r\nare"),
+        ),
+        ("a = \"\"\"\n\nRoses\"\"\"", Some("\nRoses")),
+        ("a = \"\"\"x\\\n  y\"\"\"", Some("xy")),
+        (
+            "a = \"\"\"\\\n  The quick \\\n\n\t\r\n  brown.\\ \n \"\"\"",
+            Some("The quick brown."),
+        ),
+        ("a = \"\"\"\\u00e9\\t\\\\\"\"\"", Some("\u{e9}\t\\")),
+        ("a = \"\"\"\"b\"\"\"\"", Some("\"b\"")),
+        ("a = \"\"\"\"\"b\"\"\"\"\"", Some("\"\"b\"\"")),
+        ("a = \"\"\"two: \"\"\\\".\"\"\"", Some("two: \"\"\".")),
+        ("a = ''''''", Some("")),
+        (
+            "a = '''\nFirst\\n\nis 'trimmed'.\n'''",
+            Some("First\\n\nis 'trimmed'.\n"),
+        ),
+        ("a = '''''a \"\"\" b'''''", Some("''a \"\"\" b''")),
+        ("a = { b = \"\"\"\n\"\"\" }", None),
+        ("a = \"\"\"b\"\"\"\"\"\"", None),
+        ("a = \"\"\"\"\"\"b\"\"\"\"\"\"", None),
+        ("a = '''b''''''", None),
+        ("a = \"\"\"b", None),
+        ("a = \"\"\"b\"\"", None),
+        ("a = \"\"\"b\rc\"\"\"", None),
+        ("a = \"\"\"b\\ c\"\"\"", None),
+        ("a = \"\"\"b\\q\"\"\"", None),
+        ("a = '''\u{7}'''", None),
+    ];
+    for (text, said) in rows {
+        let found = string_at_a(rt.alloc(), text)?;
+        assert_eq!(rt; found.as_ref().map(|s: &String| s.as_str()), said, "{text}");
+    }
+    let text = "a = { b = '''\nc''', d = 1 }\n";
+    let place = key_place(rt.alloc(), ["a", "b"].as_slice())?;
+    let set = with_string(rt.alloc(), text, &place, "e\nf")?.ok_or("no value")?;
+    assert_eq!(rt; set.as_str(), "a = { b = \"e\\nf\", d = 1 }\n");
+    Ok(())
+}
+
 /// `count` inline tables in one another below the key `a`.
 fn nested(alloc: Global, count: usize) -> Result<String, Error> {
     let mut text = String::from_str(alloc, "a = ")?;

@@ -38,7 +38,7 @@ pieces-preserved c =
     let left = length c.args.s.now - (c.pieces._piece + 1) in
     let P : ℕ → List ℕ → Type 0 = λ few rest. rest_of (body_at c.args.mark left few rest) ≡ rest_of (multi_at c.args.mark c.args.s.now) in
     elim c.if-first-mark.branch [
-      then-first-mark+in_ok-rest w ↦
+      | then-first-mark+in_ok-rest w ↦
           let other : eqb (first c.pieces.rest.now) c.args.mark ≡ false = grind (arith, nat_tests) in
           let some : Some w.in_ok-rest.rest.now ≡ rest_of (line_piece_at c.args.mark c.pieces.rest.now) = w.in_ok-rest.ensures in
           let next : P 2 w.in_ok-rest.rest.now = sym (body_turn c.args.mark left c.pieces.few c.pieces.rest.now w.in_ok-rest.rest.now going other some) ∙ (rw k at c.pieces.invariant) in
