@@ -9,6 +9,7 @@ pub mod ReplacedStrings
 pub mod LiteralBytes
 pub mod SwappedTexts
 pub mod Escapes
+pub mod LineContents
 pub mod Enclosed
 pub mod SplicedTexts
 pub mod Members
@@ -28,6 +29,7 @@ pub mod MultiLaws
 pub mod MultiReadAgain
 pub mod NumberLaws
 pub mod NumberReadAgain
+pub mod DateReadAgain
 pub mod ValueLaws
 pub mod ValueReadAgain
 pub mod LineLaws
@@ -54,6 +56,7 @@ pub mod Decoded
 pub mod Contents
 pub mod StandardFacts
 pub mod NumberFacts
+pub mod MultiFacts
 pub mod ShownForms
 pub mod ReplacedDocuments
 pub mod Walking

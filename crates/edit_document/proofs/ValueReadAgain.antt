@@ -17,7 +17,8 @@ use Rattle.edit_document.specs.Strings.{Piece, pieces, IsBasicPiece, basic_text,
 use Rattle.edit_document.specs.Characters.{is_literal_ch}
 use Rattle.edit_document.proofs.TokenLaws.{piece_first}
 use Rattle.edit_document.proofs.MultiReadAgain.{multi_basic_again, multi_literal_again}
-use Rattle.edit_document.proofs.NumberReadAgain.{EndsValue, ends_value, is_start, integer_start, float_start, datetime_start, integer_again, float_again, datetime_again}
+use Rattle.edit_document.proofs.NumberReadAgain.{EndsValue, ends_value, is_start, integer_start, float_start, integer_again, float_again}
+use Rattle.edit_document.proofs.DateReadAgain.{datetime_start, datetime_again}
 use Rattle.edit_document.proofs.Enclosed.{value_rest}
 
 -- the reader reads this value, under what may follow it

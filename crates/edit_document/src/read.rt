@@ -7,6 +7,7 @@ ghost use Rattle.edit_document.specs.Depth.{text_depth};
 ghost use Rattle.edit_document.specs.Marks.{text_marks, IsReadRefusal};
 
 mod bytes;
+mod dates;
 pub(crate) mod decode;
 mod lines;
 mod marks;

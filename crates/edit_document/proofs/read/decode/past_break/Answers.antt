@@ -1,7 +1,7 @@
 use Rattle.std.proofs.Common.{◌≡◌, ℕ, List, get_or, sym, ap, ◌∙◌}
 use Rattle.std.specs.Prelude.{slice_index}
 use Rattle.edit_document.specs.ReadingSteps.{first}
-use Rattle.edit_document.proofs.Escapes.{break_one, break_two}
+use Rattle.edit_document.proofs.LineContents.{break_one, break_two}
 use Rattle.edit_document.proofs.read.decode.past_break.Goals as goal
 
 pub returns-then-first-eq10 : goal.returns-then-first-eq10
