@@ -32,8 +32,8 @@ mutual
   value_deep : (p : Place) (v : Value) (after : List ℕ) → IsSupportedValue v → length p ≤ 80 → Short (noted_inside p v after) → length p + depth v ≤ 81
   value_deep p (basic ps) after s le h = omega arith
   value_deep p (literal text) after s le h = omega arith
-  value_deep p (multi_basic ps) after s le h = absurd s
-  value_deep p (multi_literal ps) after s le h = absurd s
+  value_deep p (multi_basic ps) after s le h = omega arith
+  value_deep p (multi_literal ps) after s le h = omega arith
   value_deep p (boolean b) after s le h = omega arith
   value_deep p (integer n) after s le h = omega arith
   value_deep p (float f) after s le h = omega arith

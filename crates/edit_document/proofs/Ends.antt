@@ -99,7 +99,7 @@ text_behind xs ys c small u =
     let here : get_or (xs ++ (c ∷ ys)) (length xs) 0 ≡ c = get_seam xs ys c in
     subst IsUtf8 (drop_seam xs ys c) (IsUtf8-drop (xs ++ (c ∷ ys)) (length xs + 1) u (IsCharBoundary-after_ascii (xs ++ (c ∷ ys)) (length xs) u (omega arith) (omega arith)))
 
-one_text : (x : ℕ) → x < 128 → IsUtf8 (x ∷ [])
+pub one_text : (x : ℕ) → x < 128 → IsUtf8 (x ∷ [])
 one_text x small = IsUtf8-from_ascii (x ∷ []) one
   where
     one : (i : ℕ) → get_or (x ∷ []) i 0 < 128
@@ -114,23 +114,23 @@ pub ascii_text : (class : ℕ → Bool) → Small class → (xs : List ℕ) → 
 ascii_text class small [] h = IsUtf8-nil
 ascii_text class small (x ∷ xs) h = IsUtf8-append (x ∷ []) xs (one_text x (small x h.0)) (ascii_text class small xs h.1)
 
-past_ascii : (class : ℕ → Bool) → Small class → (xs ys : List ℕ) → All class xs → IsUtf8 (xs ++ ys) → IsUtf8 ys
+pub past_ascii : (class : ℕ → Bool) → Small class → (xs ys : List ℕ) → All class xs → IsUtf8 (xs ++ ys) → IsUtf8 ys
 past_ascii class small [] ys h u = u
 past_ascii class small (x ∷ xs) ys h u = past_ascii class small xs ys h.1 (text_behind [] (xs ++ ys) x (small x h.0) u)
 
-hex_small : Small is_hex
+pub hex_small : Small is_hex
 hex_small b e = grind (arith, nat_tests)
 
 pub bare_small : Small is_bare
 bare_small b e = grind (arith, nat_tests)
 
-escape_small : Small is_escape
+pub escape_small : Small is_escape
 escape_small b e = grind (arith, nat_tests)
 
-escaped_small : (c : ℕ) → c < 128 → escaped c < 128
+pub escaped_small : (c : ℕ) → c < 128 → escaped c < 128
 escaped_small c h = grind (arith, nat_tests)
 
-scalar_is : (c : ℕ) → is_scalar c ≡ true → IsScalar c
+pub scalar_is : (c : ℕ) → is_scalar c ≡ true → IsScalar c
 scalar_is c e = grind (arith, nat_tests)
 
 -- what a basic string says is a text, where the string stands in one

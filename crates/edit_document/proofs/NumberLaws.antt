@@ -88,7 +88,7 @@ behind_sound s whole text x hw e =
       ]
     ]
 
-begins_is : (a b c : ℕ) (text : List ℕ) → 0 < a → 0 < b → 0 < c → begins a b c text ≡ true → text ≡ a ∷ (b ∷ (c ∷ drop 3 text))
+pub begins_is : (a b c : ℕ) (text : List ℕ) → 0 < a → 0 < b → 0 < c → begins a b c text ≡ true → text ≡ a ∷ (b ∷ (c ∷ drop 3 text))
 begins_is a b c text la lb lc e =
     let y = tokens.both _ (eqb (slice_index text 2) c) e in
     let z = tokens.both _ (eqb (slice_index text 1) b) y.0 in

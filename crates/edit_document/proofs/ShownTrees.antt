@@ -85,8 +85,8 @@ members_are made ms p h o k = ap once (steps_matched made ms p h) ∙ steps_once
 value_view : (made : List Assertion) (p : Place) (v : Value) (names : List (List ℕ)) → IsSupportedValue v → members_of made p ≡ map key names → view_of_shape (shape_of_value v) names ≡ view_of_value made p v
 value_view made p (basic ps) names s e = refl
 value_view made p (literal text) names s e = refl
-value_view made p (multi_basic ps) names s e = absurd s
-value_view made p (multi_literal ps) names s e = absurd s
+value_view made p (multi_basic ps) names s e = refl
+value_view made p (multi_literal ps) names s e = refl
 value_view made p (boolean b) names s e = refl
 value_view made p (integer n) names s e = refl
 value_view made p (float f) names s e = refl

@@ -16,6 +16,7 @@ use Rattle.edit_document.proofs.Fronts.{Relation, IsKept, pieces_before}
 use Rattle.edit_document.proofs.Ends.{Ends, ends_past, ends_one, ends_pair, ends_gap, ends_value, ends_statement, ends_line, ends_line_end}
 use Rattle.edit_document.proofs.WalkedTokens.{said_basic, said_literal, said_part}
 use Rattle.edit_document.proofs.NumberTokens.{number_token}
+use Rattle.edit_document.proofs.MultiTokens.{multi_basic_token, multi_literal_token}
 
 abbrev AreTokens : List ℕ → List Mark → Type 0
 AreTokens bytes marks = AllByRecursion (IsToken bytes) marks
@@ -64,8 +65,8 @@ mutual
   value_tokens : (bytes : List ℕ) (v : Value) (rest : List ℕ) → IsValue v → IsSupportedValue v → IsUtf8 bytes → Ends bytes (value v rest) → AreTokens bytes (value_marks v rest)
   value_tokens bytes (basic ps) rest h s u ends = (basic_token bytes ps rest h u ends, tt)
   value_tokens bytes (literal text) rest h s u ends = (literal_token bytes text rest h u ends, tt)
-  value_tokens bytes (multi_basic ps) rest h s u ends = absurd s
-  value_tokens bytes (multi_literal ps) rest h s u ends = absurd s
+  value_tokens bytes (multi_basic ps) rest h s u ends = (multi_basic_token bytes ps rest h u ends, tt)
+  value_tokens bytes (multi_literal ps) rest h s u ends = (multi_literal_token bytes ps rest h u ends, tt)
   value_tokens bytes (boolean true) rest h s u ends = ((λ e. absurd cc), tt)
   value_tokens bytes (boolean false) rest h s u ends = ((λ e. absurd cc), tt)
   value_tokens bytes (integer n) rest h s u ends = (number_token bytes (integer n) rest h tt ends, tt)

@@ -135,17 +135,20 @@ IsScalar x =
     ((s : String Global) × (x ≡ content.Text s)) ⊎ (((b : Bool) × (x ≡ content.Truth b))
     ⊎ (((s : String Global) × (x ≡ content.Integer s)) ⊎ (((s : String Global) × (x ≡ content.Float s)) ⊎ ((s : String Global) × (x ≡ content.DateTime s)))))
 
+bare : (x : Content) (names : List (List ℕ)) → IsScalar x → (names_in (view_of_shape (shape_of x) names) ≡ []) × (count_in (view_of_shape (shape_of x) names) ≡ 0)
+bare x names t = go t
+  where
+    go : IsScalar x → (names_in (view_of_shape (shape_of x) names) ≡ []) × (count_in (view_of_shape (shape_of x) names) ≡ 0)
+    go (inl e) = rw e.1 (refl, refl)
+    go (inr (inl e)) = rw e.1 (refl, refl)
+    go (inr (inr (inl e))) = rw e.1 (refl, refl)
+    go (inr (inr (inr (inl e)))) = rw e.1 (refl, refl)
+    go (inr (inr (inr (inr e)))) = rw e.1 (refl, refl)
+
 -- a node without members, and one with them
 pub names_scalar : (shown : Shown) (nodes : List Node) (spots : List Spot) (n : ℕ) (node : Node) → Found shown nodes spots n node
     → IsScalar node.content → names_in (view_numbered shown n) ≡ []
-names_scalar shown nodes spots n node f t = ap names_in f.view ∙ go node.content t
-  where
-    go : (x : Content) → IsScalar x → names_in (view_of_shape (shape_of x) (names_of_node node)) ≡ []
-    go x (inl e) = ap (λ (y : Content). names_in (view_of_shape (shape_of y) (names_of_node node))) e.1
-    go x (inr (inl e)) = ap (λ (y : Content). names_in (view_of_shape (shape_of y) (names_of_node node))) e.1
-    go x (inr (inr (inl e))) = ap (λ (y : Content). names_in (view_of_shape (shape_of y) (names_of_node node))) e.1
-    go x (inr (inr (inr (inl e)))) = ap (λ (y : Content). names_in (view_of_shape (shape_of y) (names_of_node node))) e.1
-    go x (inr (inr (inr (inr e)))) = ap (λ (y : Content). names_in (view_of_shape (shape_of y) (names_of_node node))) e.1
+names_scalar shown nodes spots n node f t = ap names_in f.view ∙ (bare node.content (names_of_node node) t).0
 
 pub names_tabular : (shown : Shown) (nodes : List Node) (spots : List Spot) (n : ℕ) (node : Node) → Found shown nodes spots n node
     → (node.content ≡ content.Inline) ⊎ (node.content ≡ content.Table) → names_in (view_numbered shown n) ≡ names_of_node node
@@ -155,14 +158,7 @@ names_tabular shown nodes spots n node f (inr t) = ap names_in f.view ∙ ap (λ
 -- how many members a node has
 pub count_scalar : (shown : Shown) (nodes : List Node) (spots : List Spot) (n : ℕ) (node : Node) → Found shown nodes spots n node
     → IsScalar node.content → count_in (view_numbered shown n) ≡ 0
-count_scalar shown nodes spots n node f t = ap count_in f.view ∙ go node.content t
-  where
-    go : (x : Content) → IsScalar x → count_in (view_of_shape (shape_of x) (names_of_node node)) ≡ 0
-    go x (inl e) = ap (λ (y : Content). count_in (view_of_shape (shape_of y) (names_of_node node))) e.1
-    go x (inr (inl e)) = ap (λ (y : Content). count_in (view_of_shape (shape_of y) (names_of_node node))) e.1
-    go x (inr (inr (inl e))) = ap (λ (y : Content). count_in (view_of_shape (shape_of y) (names_of_node node))) e.1
-    go x (inr (inr (inr (inl e)))) = ap (λ (y : Content). count_in (view_of_shape (shape_of y) (names_of_node node))) e.1
-    go x (inr (inr (inr (inr e)))) = ap (λ (y : Content). count_in (view_of_shape (shape_of y) (names_of_node node))) e.1
+count_scalar shown nodes spots n node f t = ap count_in f.view ∙ (bare node.content (names_of_node node) t).1
 
 pub count_tabular : (shown : Shown) (nodes : List Node) (spots : List Spot) (n : ℕ) (node : Node) → Found shown nodes spots n node
     → (node.content ≡ content.Inline) ⊎ (node.content ≡ content.Table) → count_in (view_numbered shown n) ≡ length node.members.entries

@@ -88,7 +88,7 @@ entered_leads made base t m n shape span good there = go (add_note made t m n sh
 
 -- ---- what tokens say
 
-text_is : (bytes : List ℕ) → IsUtf8 bytes → as_text bytes ≡ Some bytes
+pub text_is : (bytes : List ℕ) → IsUtf8 bytes → as_text bytes ≡ Some bytes
 text_is bytes u = rw (is_utf8-from_IsUtf8 bytes u) refl
 
 behind_mark : (bytes : List ℕ) (c : ℕ) (s : List ℕ) → c < 128 → IsUtf8 bytes → Ends bytes (c ∷ s) → IsUtf8 s

@@ -23,6 +23,7 @@ use Rattle.edit_document.proofs.Adding.{get_front, get_last}
 use Rattle.edit_document.proofs.Spotting.{Fine, fine_front, Closed, Good, next, spot_in, spots_length}
 use Rattle.edit_document.proofs.WalkedTokens.{walked_one, walked_first, walked_stops, walked_none, walked_append, state, Leads, leads, stops, last_push, entered_leads, said_basic, said_literal, walked_key}
 use Rattle.edit_document.proofs.NumberTokens.{number_step}
+use Rattle.edit_document.proofs.MultiTokens.{multi_basic_step, multi_literal_step}
 
 -- ---- one walk and then another
 
@@ -213,8 +214,10 @@ mutual
       scalar_leads bytes (mark kinds.BasicString (basic_text ps rest) rest) (scalar (string (says quote ps))) (span_of (basic ps) rest) made base t m n (basic_step bytes ps rest h u ends) good there
   value_leads bytes (literal text) rest made base t m n h s u ends good there =
       scalar_leads bytes (mark kinds.LiteralString (literal_text text rest) rest) (scalar (string text)) (span_of (literal text) rest) made base t m n (literal_step bytes text rest h u ends) good there
-  value_leads bytes (multi_basic ps) rest made base t m n h s u ends good there = absurd s
-  value_leads bytes (multi_literal ps) rest made base t m n h s u ends good there = absurd s
+  value_leads bytes (multi_basic ps) rest made base t m n h s u ends good there =
+      scalar_leads bytes (mark kinds.MultiBasicString (value (multi_basic ps) rest) rest) (shape_of_value (multi_basic ps)) (span_of (multi_basic ps) rest) made base t m n (multi_basic_step bytes ps rest h u ends) good there
+  value_leads bytes (multi_literal ps) rest made base t m n h s u ends good there =
+      scalar_leads bytes (mark kinds.MultiLiteralString (value (multi_literal ps) rest) rest) (shape_of_value (multi_literal ps)) (span_of (multi_literal ps) rest) made base t m n (multi_literal_step bytes ps rest h u ends) good there
   value_leads bytes (boolean true) rest made base t m n h s u ends good there =
       scalar_leads bytes (mark kinds.True (value (boolean true) rest) rest) (scalar (truth true)) (span_of (boolean true) rest) made base t m n (true_step bytes rest) good there
   value_leads bytes (boolean false) rest made base t m n h s u ends good there =

@@ -184,40 +184,44 @@ word_by bytes m st s k kind says does token told =
 
 -- a mark of a string, a number, a date or a time
 abbrev pub IsWorded : MarkKind → Type 0
-IsWorded k = (k ≡ kinds.BasicString) ⊎ ((k ≡ kinds.LiteralString) ⊎ ((k ≡ kinds.Integer) ⊎ ((k ≡ kinds.Float) ⊎ (k ≡ kinds.DateTime))))
+IsWorded k =
+    (k ≡ kinds.BasicString) ⊎ ((k ≡ kinds.LiteralString) ⊎ ((k ≡ kinds.MultiBasicString) ⊎ ((k ≡ kinds.MultiLiteralString)
+    ⊎ ((k ≡ kinds.Integer) ⊎ ((k ≡ kinds.Float) ⊎ (k ≡ kinds.DateTime))))))
 
 pub word_step : (bytes : List ℕ) (m : Mark) (st : State) (s : String Global) → IsWorded m.kind → IsToken bytes m → ((n : List ℕ) → SaysAt bytes m n → string_bytes s ≡ n)
     → step bytes m st ≡ entered st (shape_said m.kind (string_bytes s)) (Some (span_of_mark m))
 word_step bytes m st s (inl e) = word_by bytes m st s kinds.BasicString e refl refl
 word_step bytes m st s (inr (inl e)) = word_by bytes m st s kinds.LiteralString e refl refl
-word_step bytes m st s (inr (inr (inl e))) = word_by bytes m st s kinds.Integer e refl refl
-word_step bytes m st s (inr (inr (inr (inl e)))) = word_by bytes m st s kinds.Float e refl refl
-word_step bytes m st s (inr (inr (inr (inr e)))) = word_by bytes m st s kinds.DateTime e refl refl
+word_step bytes m st s (inr (inr (inl e))) = word_by bytes m st s kinds.MultiBasicString e refl refl
+word_step bytes m st s (inr (inr (inr (inl e)))) = word_by bytes m st s kinds.MultiLiteralString e refl refl
+word_step bytes m st s (inr (inr (inr (inr (inl e))))) = word_by bytes m st s kinds.Integer e refl refl
+word_step bytes m st s (inr (inr (inr (inr (inr (inl e)))))) = word_by bytes m st s kinds.Float e refl refl
+word_step bytes m st s (inr (inr (inr (inr (inr (inr e)))))) = word_by bytes m st s kinds.DateTime e refl refl
 
 pub other_step : (bytes : List ℕ) (m : Mark) (st : State) (k : MarkKind) → m.kind ≡ k → (k ≡ kinds.BarePart → ⊥) → (k ≡ kinds.BasicPart → ⊥) → (k ≡ kinds.LiteralPart → ⊥) → (k ≡ kinds.BasicString → ⊥) → (k ≡ kinds.LiteralString → ⊥) → (k ≡ kinds.True → ⊥)
-    → (k ≡ kinds.False → ⊥) → (k ≡ kinds.OpenTable → ⊥) → (k ≡ kinds.CloseTable → ⊥) → (k ≡ kinds.Header → ⊥) → (k ≡ kinds.Integer → ⊥) → (k ≡ kinds.Float → ⊥) → (k ≡ kinds.DateTime → ⊥) → step bytes m st ≡ None
-other_step bytes m st k kind a b c d e f g h i j l n o = step_is bytes m st k kind ∙ nothing k a b c d e f g h i j l n o
+    → (k ≡ kinds.False → ⊥) → (k ≡ kinds.OpenTable → ⊥) → (k ≡ kinds.CloseTable → ⊥) → (k ≡ kinds.Header → ⊥) → (k ≡ kinds.Integer → ⊥) → (k ≡ kinds.Float → ⊥) → (k ≡ kinds.DateTime → ⊥) → (k ≡ kinds.MultiBasicString → ⊥) → (k ≡ kinds.MultiLiteralString → ⊥) → step bytes m st ≡ None
+other_step bytes m st k kind a b c d e f g h i j l n o p q = step_is bytes m st k kind ∙ nothing k a b c d e f g h i j l n o p q
   where
     nothing : (x : MarkKind) → (x ≡ kinds.BarePart → ⊥) → (x ≡ kinds.BasicPart → ⊥) → (x ≡ kinds.LiteralPart → ⊥) → (x ≡ kinds.BasicString → ⊥) → (x ≡ kinds.LiteralString → ⊥) → (x ≡ kinds.True → ⊥)
-        → (x ≡ kinds.False → ⊥) → (x ≡ kinds.OpenTable → ⊥) → (x ≡ kinds.CloseTable → ⊥) → (x ≡ kinds.Header → ⊥) → (x ≡ kinds.Integer → ⊥) → (x ≡ kinds.Float → ⊥) → (x ≡ kinds.DateTime → ⊥) → act x bytes m st ≡ None
-    nothing kinds.BarePart a b c d e f g h i j l n o = absurd (a refl)
-    nothing kinds.BasicPart a b c d e f g h i j l n o = absurd (b refl)
-    nothing kinds.LiteralPart a b c d e f g h i j l n o = absurd (c refl)
-    nothing kinds.BasicString a b c d e f g h i j l n o = absurd (d refl)
-    nothing kinds.LiteralString a b c d e f g h i j l n o = absurd (e refl)
-    nothing kinds.True a b c d e f g h i j l n o = absurd (f refl)
-    nothing kinds.False a b c d e f g h i j l n o = absurd (g refl)
-    nothing kinds.OpenTable a b c d e f g h i j l n o = absurd (h refl)
-    nothing kinds.CloseTable a b c d e f g h i j l n o = absurd (i refl)
-    nothing kinds.Header a b c d e f g h i j l n o = absurd (j refl)
-    nothing kinds.ElementHeader a b c d e f g h i j l n o = refl
-    nothing kinds.MultiBasicString a b c d e f g h i j l n o = refl
-    nothing kinds.MultiLiteralString a b c d e f g h i j l n o = refl
-    nothing kinds.Integer a b c d e f g h i j l n o = absurd (l refl)
-    nothing kinds.Float a b c d e f g h i j l n o = absurd (n refl)
-    nothing kinds.DateTime a b c d e f g h i j l n o = absurd (o refl)
-    nothing kinds.OpenArray a b c d e f g h i j l n o = refl
-    nothing kinds.CloseArray a b c d e f g h i j l n o = refl
+        → (x ≡ kinds.False → ⊥) → (x ≡ kinds.OpenTable → ⊥) → (x ≡ kinds.CloseTable → ⊥) → (x ≡ kinds.Header → ⊥) → (x ≡ kinds.Integer → ⊥) → (x ≡ kinds.Float → ⊥) → (x ≡ kinds.DateTime → ⊥) → (x ≡ kinds.MultiBasicString → ⊥) → (x ≡ kinds.MultiLiteralString → ⊥) → act x bytes m st ≡ None
+    nothing kinds.BarePart a b c d e f g h i j l n o p q = absurd (a refl)
+    nothing kinds.BasicPart a b c d e f g h i j l n o p q = absurd (b refl)
+    nothing kinds.LiteralPart a b c d e f g h i j l n o p q = absurd (c refl)
+    nothing kinds.BasicString a b c d e f g h i j l n o p q = absurd (d refl)
+    nothing kinds.LiteralString a b c d e f g h i j l n o p q = absurd (e refl)
+    nothing kinds.True a b c d e f g h i j l n o p q = absurd (f refl)
+    nothing kinds.False a b c d e f g h i j l n o p q = absurd (g refl)
+    nothing kinds.OpenTable a b c d e f g h i j l n o p q = absurd (h refl)
+    nothing kinds.CloseTable a b c d e f g h i j l n o p q = absurd (i refl)
+    nothing kinds.Header a b c d e f g h i j l n o p q = absurd (j refl)
+    nothing kinds.ElementHeader a b c d e f g h i j l n o p q = refl
+    nothing kinds.MultiBasicString a b c d e f g h i j l n o p q = absurd (p refl)
+    nothing kinds.MultiLiteralString a b c d e f g h i j l n o p q = absurd (q refl)
+    nothing kinds.Integer a b c d e f g h i j l n o p q = absurd (l refl)
+    nothing kinds.Float a b c d e f g h i j l n o p q = absurd (n refl)
+    nothing kinds.DateTime a b c d e f g h i j l n o p q = absurd (o refl)
+    nothing kinds.OpenArray a b c d e f g h i j l n o p q = refl
+    nothing kinds.CloseArray a b c d e f g h i j l n o p q = refl
 
 -- ---- all marks
 

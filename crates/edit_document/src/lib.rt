@@ -19,3 +19,5 @@ pub use place::{Place, Step};
 
 #[cfg(test)]
 mod tests;
+#[cfg(test)]
+mod value_tests;

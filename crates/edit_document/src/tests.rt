@@ -102,69 +102,6 @@ fn decodes_every_escape(rt: HostRuntime) -> Result<(), Fail> {
     Ok(())
 }
 
-/// The name of the type of the value of `a`, where a text is read.
-fn type_of_a(alloc: Global, text: &str) -> Result<Option<&'static str>, Error> {
-    match Document::read(alloc, text) {
-        Ok(document) => {
-            let name = document
-                .item(&[])
-                .and_then(|root: Item<'_>| root.get("a"))
-                .map(|item: Item<'_>| item.type_name());
-            Ok(name)
-        }
-        Err(Error::NotToml { .. }) => Ok(None),
-        Err(error) => Err(error),
-    }
-}
-
-#[test]
-fn tells_numbers_and_dates(rt: HostRuntime) -> Result<(), Fail> {
-    let rows = [
-        ("a = +99", Some("integer")),
-        ("a = 0", Some("integer")),
-        ("a = -17", Some("integer")),
-        ("a = 1_2_3_4_5 # a comment", Some("integer")),
-        ("a = 0xdead_beef", Some("integer")),
-        ("a = 0o01234567", Some("integer")),
-        ("a = 0b11010110", Some("integer")),
-        ("a = +1.0", Some("float")),
-        ("a = 5e+22", Some("float")),
-        ("a = 6.626E-34", Some("float")),
-        ("a = 224_617.445_991_228", Some("float")),
-        ("a = -inf", Some("float")),
-        ("a = +nan", Some("float")),
-        ("a = 1979-05-27T07:32:00Z", Some("datetime")),
-        ("a = 1979-05-27 00:32:00.999999-07:00", Some("datetime")),
-        ("a = 1979-05-27t00:32:00.5", Some("datetime")),
-        ("a = 1979-05-27 # a date", Some("datetime")),
-        ("a = 00:32:00.999999", Some("datetime")),
-        ("a = 9999-99-99", Some("datetime")),
-        ("a = { b = 1 }", Some("inline table")),
-        ("a = 01", None),
-        ("a = +0x1", None),
-        ("a = 0xg", None),
-        ("a = 1__0", None),
-        ("a = 1_", None),
-        ("a = 1.e5", None),
-        ("a = .7", None),
-        ("a = 7.", None),
-        ("a = 1e", None),
-        ("a = infinite", None),
-        ("a = 1979-5-27", None),
-        ("a = 1979-05-27T", None),
-        ("a = 07:32", None),
-        ("a = 07:32:00.", None),
-        ("a = 1979-05-27T07:32:00+7", None),
-    ];
-    for (text, name) in rows {
-        assert_eq!(rt; type_of_a(rt.alloc(), text)?, name, "{text}");
-    }
-    let text = "[a]\nb = { c = 1, d = -2.5 }\ne = 1979-05-27\n";
-    let document = Document::read(rt.alloc(), text)?;
-    assert_eq!(rt; document.as_str(), text);
-    Ok(())
-}
-
 /// `count` inline tables in one another below the key `a`.
 fn nested(alloc: Global, count: usize) -> Result<String, Error> {
     let mut text = String::from_str(alloc, "a = ")?;
@@ -224,7 +161,7 @@ fn reads_ten_thousand_entries(rt: HostRuntime) -> Result<(), Fail> {
 }
 
 /// The place that these keys name.
-fn key_place(alloc: Global, names: &[&str]) -> Result<Vec<Step>, Error> {
+pub(crate) fn key_place(alloc: Global, names: &[&str]) -> Result<Vec<Step>, Error> {
     let mut place = Vec::new(alloc);
     for name in names {
         place.push(Step::Key(String::from_str(alloc, name)?))?;
@@ -233,7 +170,7 @@ fn key_place(alloc: Global, names: &[&str]) -> Result<Vec<Step>, Error> {
 }
 
 /// The text of a document with another string at a place, where a value was written there.
-fn with_string(
+pub(crate) fn with_string(
     alloc: Global,
     text: &str,
     place: &[Step],

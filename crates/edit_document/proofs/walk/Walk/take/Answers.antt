@@ -39,4 +39,4 @@ returns-in-CloseTable-clause-goes c st w token =
 
 pub returns-in_default-clause-goes : goal.returns-in_default-clause-goes
 returns-in_default-clause-goes c st w token =
-    other_step c.args.text.now c.args.mark st c.args.mark.kind refl c.in_default.not-BarePart c.in_default.not-BasicPart c.in_default.not-LiteralPart c.in_default.not-BasicString c.in_default.not-LiteralString c.in_default.not-True c.in_default.not-False c.in_default.not-OpenTable c.in_default.not-CloseTable c.in_default.not-Header c.in_default.not-Integer c.in_default.not-Float c.in_default.not-DateTime
+    other_step c.args.text.now c.args.mark st c.args.mark.kind refl c.in_default.not-BarePart c.in_default.not-BasicPart c.in_default.not-LiteralPart c.in_default.not-BasicString c.in_default.not-LiteralString c.in_default.not-True c.in_default.not-False c.in_default.not-OpenTable c.in_default.not-CloseTable c.in_default.not-Header c.in_default.not-Integer c.in_default.not-Float c.in_default.not-DateTime c.in_default.not-MultiBasicString c.in_default.not-MultiLiteralString
