@@ -27,7 +27,7 @@ compatible_taken o p i c = rw (p, i, c) refl
 pub latest_taken : (o : Options) → o.pinned ≡ false → o.incompatible ≡ true → o.compatible ≡ true
     → decision o (entry (codes "2.0") None (Some (version 1 9 0))) ≡ record { new = codes "1.9"; change = Some change.Latest; reason = None }
 unfolding semver_on_literals digits
-latest_taken o p i c = rw (p, i, c) refl
+latest_taken o p i c = rw i refl
 
 -- a pinned requirement stays
 pub pinned_stays : (o : Options) → o.pinned ≡ false → o.incompatible ≡ true → o.compatible ≡ true
@@ -42,7 +42,6 @@ unfolding semver_on_literals digits
 incompatible_left o p i c = rw (p, i, c) refl
 
 -- an unreadable requirement stays
-pub unreadable_stays : (o : Options) → o.pinned ≡ false → o.incompatible ≡ false → o.compatible ≡ true
-    → decision o (entry (codes "one") None (Some (version 1 0 0))) ≡ record { new = codes "one"; change = None; reason = Some reason.Latest }
+pub unreadable_stays : (o : Options) → decision o (entry (codes "one") None (Some (version 1 0 0))) ≡ record { new = codes "one"; change = None; reason = Some reason.Latest }
 unfolding semver_on_literals digits
-unreadable_stays o p i c = rw (p, i, c) refl
+unreadable_stays o = refl
