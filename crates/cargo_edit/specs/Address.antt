@@ -10,7 +10,7 @@ abbrev pub address_in : Result Parts ParseError → List ℕ
 address_in (Ok url) = serialize url
 address_in (Err e) = []
 
--- what the default address is read as (own: crates.io by the sparse protocol)
+-- what the default address is read as (own: the default registry by the sparse protocol)
 unfoldable pub default_address : List ℕ
 default_address = address_in (parse_url None (codes "sparse+https://index.crates.io/"))
 

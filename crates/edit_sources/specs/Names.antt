@@ -7,7 +7,7 @@ use Rattle.std.specs.Str.{str_to_ascii_lowercase}
 abbrev pub is_name_byte : ℕ → Bool
 is_name_byte b = (nat_le 65 b && nat_le b 90) || ((nat_le 97 b && nat_le b 122) || ((nat_le 48 b && nat_le b 57) || ((b == 45) || (b == 95))))
 
--- a name that an index may have: 1 to 64 of these (own; 64 is the limit of crates.io)
+-- a name that an index may have: 1 to 64 of these (own; 64 is the limit of the default registry)
 abbrev pub is_crate_name : List ℕ → Bool
 is_crate_name name = nat_le 1 (length name) && (nat_le (length name) 64 && list_all is_name_byte name)
 

@@ -30,7 +30,7 @@ abbrev pub first : List ℕ → List Definition → Option Source
 first key [] = None
 first key (d ∷ ds) = cond (bytes_eq key d.key) (Some d.source) (first key ds)
 
--- the address of the index of crates.io, which stands where none is given (own)
+-- the address of the index of the default registry, which stands where none is given (own)
 abbrev pub crates_io_index : List ℕ
 crates_io_index = codes "sparse+https://index.crates.io/"
 
