@@ -362,7 +362,7 @@ pub record Reaches (nodes : List Node) (total : Option (List Spot × ℕ)) (tabl
 pub reaches_start : (nodes : List Node) (spots : List Spot) (table : ℕ) (names : List (List ℕ)) (shape : Shape) (taken : Taken) → Holds nodes spots → Reaches nodes (reached spots table names shape taken) table names shape taken
 reaches_start nodes spots table names shape taken holds = record { spots = spots; holds = holds; same = refl }
 
-reached_more : (spots : List Spot) (t : ℕ) (name : List ℕ) (names : List (List ℕ)) (shape : Shape) (taken : Taken) → reached spots t (name ∷ names) shape taken ≡ (asserted spots t name shape taken None >>= λ r. reached r.0 r.1 names shape taken)
+pub reached_more : (spots : List Spot) (t : ℕ) (name : List ℕ) (names : List (List ℕ)) (shape : Shape) (taken : Taken) → reached spots t (name ∷ names) shape taken ≡ (asserted spots t name shape taken None >>= λ r. reached r.0 r.1 names shape taken)
 unfolding reached
 reached_more spots t name names shape taken = refl
 

@@ -35,6 +35,10 @@ pub mod Takings
 pub mod Trees
 pub mod Standing
 pub mod Gaining
+pub mod Asserting
+pub mod Landing
+pub mod Evens
+pub mod Leading
 pub mod Shallow
 pub mod ValueRanges
 pub mod Promised

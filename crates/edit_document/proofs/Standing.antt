@@ -9,12 +9,9 @@ use Rattle.std.proofs.lemmas.Option.{slice_get_within, same_Some}
 use Rattle.edit_document.specs.declared.nodes.Span.{Span}
 use Rattle.edit_document.specs.declared.nodes.Taken.{Taken}
 use Rattle.edit_document.specs.declared.nodes.Taken.TheVariants.{Header}
-use Rattle.edit_document.specs.Characters.{quote, apostrophe}
-use Rattle.edit_document.specs.Strings.{says, says_multi}
-use Rattle.edit_document.specs.Numbers.{integer_text, float_text, datetime_text}
-use Rattle.edit_document.specs.Grammar.{Value, basic, literal, multi_basic, multi_literal, boolean, integer, float, datetime, array, inline}
+use Rattle.edit_document.specs.DocumentLayout.{shape_of_value, Placed, span_at}
 use Rattle.edit_document.specs.Assertions.{Step, key, index, Place, at, same_place, Kind, dotted, leaf, super, header_kind, array_kind, element_kind, Assertion, asserts, together, AreShort}
-use Rattle.edit_document.specs.Tree.{View, string, truth, whole, fractional, moment, static_array, count_elements, members_of, kind_at}
+use Rattle.edit_document.specs.Tree.{members_of, kind_at}
 use Rattle.edit_document.specs.Items.{name_of_step, key_names}
 use Rattle.edit_document.specs.Taking.{taken_of, joins, stronger}
 use Rattle.edit_document.specs.Nodes.{Shape, scalar, section, sections, Spot, names_of, StandsAt, below, IsBelow, IsTree}
@@ -27,15 +24,6 @@ use Rattle.edit_document.proofs.MoreAssertions.{kind_stays, kind_new, kind_else,
 use Rattle.edit_document.proofs.Trees.{Grows, grows_set, tree_set, Gains, grown, last_is, tree_gain, each_gain}
 
 -- ---- what is written
-
--- a place and the span of what is written there
-abbrev pub Placed : Type 0
-Placed = Place × Span
-
--- the span of what is written at a place
-abbrev pub span_at : List Placed → Place → Option Span
-span_at [] p = None
-span_at (w ∷ ws) p = cond (same_place w.0 p) (Some w.1) (span_at ws p)
 
 -- what is written at a place more
 abbrev pub noted : Place → Option Span → List Placed
@@ -57,18 +45,6 @@ span_here (w ∷ ws) p span e = go (same_place w.0 p) e (span_here ws p span)
     go false h ih = ih h
 
 -- ---- what a spot tells
-
-abbrev pub shape_of_value : Value → Shape
-shape_of_value (basic ps) = scalar (string (says quote ps))
-shape_of_value (literal text) = scalar (string text)
-shape_of_value (multi_basic ps) = scalar (string (says_multi quote ps))
-shape_of_value (multi_literal ps) = scalar (string (says_multi apostrophe ps))
-shape_of_value (boolean b) = scalar (truth b)
-shape_of_value (integer n) = scalar (whole (integer_text n []))
-shape_of_value (float f) = scalar (fractional (float_text f []))
-shape_of_value (datetime d) = scalar (moment (datetime_text d []))
-shape_of_value (array g es) = scalar (static_array (count_elements es))
-shape_of_value (inline g ms) = shapes.inline
 
 -- the shape that the first assertion of a place gives it
 abbrev pub shape_of_kind : Kind → Shape

@@ -45,7 +45,7 @@ awaits old walk st name w ns ts fs n = record {
     listed None = refl
     listed (Some s) = refl
 
-settled_is : (st : State) (number : ℕ) (front : Taken) (shape : Shape) (taken : Taken) (span : Option Span) (name : List ℕ) → st.name ≡ Some name
+pub settled_is : (st : State) (number : ℕ) (front : Taken) (shape : Shape) (taken : Taken) (span : Option Span) (name : List ℕ) → st.name ≡ Some name
     → settled st number front shape taken span
     ≡ (reached st.spots number st.fronts (front_shape (is_dotted_within (length st.tables) front)) front >>= λ r. asserted r.0 r.1 name shape taken span >>= λ q. Some (settled_state q.0 st.tables, q.1))
 unfolding settled

@@ -1,16 +1,55 @@
 -- What a document keeps of its text, and what it shows.
-use Rattle.std.specs.Prelude.{◌≡◌, ℕ, List, [], map, Option, Some, None, string_bytes}
+use Rattle.std.specs.Prelude.{◌≡◌, ℕ, List, [], ◌∷◌, length, map, slice_get, Option, Some, None, if◌then◌else◌, string_bytes}
+use Rattle.edit_document.specs.declared.nodes.Span.{Span}
 use Rattle.edit_document.specs.declared.document.Document.TheInside.{Inside}
-use Rattle.edit_document.specs.Grammar.{Text}
-use Rattle.edit_document.specs.Assertions.{Place}
-use Rattle.edit_document.specs.Tree.{View}
+use Rattle.edit_document.specs.Characters.{quote, apostrophe}
+use Rattle.edit_document.specs.Strings.{says, says_multi}
+use Rattle.edit_document.specs.Numbers.{integer_text, float_text, datetime_text}
+use Rattle.edit_document.specs.Grammar.{Value, basic, literal, multi_basic, multi_literal, boolean, integer, float, datetime, array, inline, value, Text}
+use Rattle.edit_document.specs.Assertions.{Place, same_place}
+use Rattle.edit_document.specs.Tree.{View, string, truth, whole, fractional, moment, static_array, count_elements, view_at}
 use Rattle.edit_document.specs.Supported.{IsManifest}
 use Rattle.edit_document.specs.Reading.{◌>>=◌}
 use Rattle.edit_document.specs.Marks.{text_marks}
-use Rattle.edit_document.specs.Shown.{Shown}
-use Rattle.edit_document.specs.Nodes.{Spot, shown_spot, Holds}
+use Rattle.edit_document.specs.Shown.{Shown, node_at}
+use Rattle.edit_document.specs.Nodes.{Shape, scalar, Spot, shown_spot, Holds, IsTree}
+use Rattle.edit_document.specs.Nodes as shapes
 use Rattle.edit_document.specs.FormOf.{form_of}
-use Rattle.edit_document.specs.Walk.{State, start, walked}
+use Rattle.edit_document.specs.Walk.{start, walked}
+use Rattle.edit_document.specs.Written.{Valued, values}
+
+-- what a value shows, but for its members
+abbrev pub shape_of_value : Value → Shape
+shape_of_value (basic ps) = scalar (string (says quote ps))
+shape_of_value (literal text) = scalar (string text)
+shape_of_value (multi_basic ps) = scalar (string (says_multi quote ps))
+shape_of_value (multi_literal ps) = scalar (string (says_multi apostrophe ps))
+shape_of_value (boolean b) = scalar (truth b)
+shape_of_value (integer n) = scalar (whole (integer_text n []))
+shape_of_value (float f) = scalar (fractional (float_text f []))
+shape_of_value (datetime d) = scalar (moment (datetime_text d []))
+shape_of_value (array g es) = scalar (static_array (count_elements es))
+shape_of_value (inline g ms) = shapes.inline
+
+-- ---- where values are written
+
+-- where a value is written that stands before this text
+abbrev pub span_of : Value → List ℕ → Span
+span_of v after = record { from = length (value v after); to = length after }
+
+-- a place and the span of what is written there
+abbrev pub Placed : Type 0
+Placed = Place × Span
+
+abbrev pub placed : Valued → Placed
+placed w = (w.place, span_of w.value w.after)
+
+-- the span of what is written at a place
+abbrev pub span_at : List Placed → Place → Option Span
+span_at [] place = None
+span_at (w ∷ ws) place = if same_place w.0 place then Some w.1 else span_at ws place
+
+-- ---- documents
 
 -- the spots that the walk over the marks of a text makes
 abbrev pub spots_of : List ℕ → Option (List Spot)
@@ -27,11 +66,13 @@ shown_by bytes = record { bytes = bytes; nodes = nodes_by (spots_of bytes) }
 abbrev pub shown_of : Inside → Shown
 shown_of d = shown_by (string_bytes d.text)
 
--- the text was read, and the nodes keep the spots of its form
+-- the text was read, and the nodes keep the spots of its form, which show its tree and where its values are written
 pub record IsRead (d : Inside) : Type 0 where
+  pub spots : List Spot
+  pub found : spots_of (string_bytes d.text) ≡ Some spots
   pub form : Text
-  pub found : form_of (string_bytes d.text) ≡ Some form
   pub manifest : IsManifest (string_bytes d.text) form
-  pub state : State
-  pub walked_to : walked (string_bytes d.text) (text_marks form) start ≡ Some state
-  pub holds : Holds d.nodes.items state.spots
+  pub holds : Holds d.nodes.items spots
+  pub tree : IsTree spots
+  pub views : (place : Place) → node_at (map shown_spot spots) place ≡ view_at form place
+  pub spans : (n : ℕ) (s : Spot) → slice_get spots n ≡ Some s → s.span ≡ span_at (map placed (values form)) s.place

@@ -1,3 +1,8 @@
+use Rattle.edit_document.proofs.Leading.{closed_leads}
+use Rattle.edit_document.proofs.Evens.{even_statement}
+use Rattle.edit_document.proofs.Landing.{header_lands}
+use Rattle.edit_document.proofs.TextTokens.{text_tokens}
+use Rattle.edit_document.proofs.Asserting.{element_makes}
 use Rattle.edit_document.proofs.Gaining.{stands_gained}
 use Rattle.edit_document.proofs.Standing.{stands_again}
 use Rattle.edit_document.proofs.Trees.{tree_gain}
