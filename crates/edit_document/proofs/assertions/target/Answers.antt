@@ -1,3 +1,5 @@
+use Rattle.edit_document.proofs.WalkedLines.{text_walked}
+use Rattle.edit_document.proofs.WalkedValues.{value_leads}
 use Rattle.edit_document.proofs.Leading.{closed_leads}
 use Rattle.edit_document.proofs.Evens.{even_statement}
 use Rattle.edit_document.proofs.Landing.{header_lands}
