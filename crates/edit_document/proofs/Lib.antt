@@ -39,6 +39,7 @@ pub mod Asserting
 pub mod Landing
 pub mod Evens
 pub mod Leading
+pub mod ShownTrees
 pub mod Shallow
 pub mod ValueRanges
 pub mod Promised

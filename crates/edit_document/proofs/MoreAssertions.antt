@@ -135,10 +135,10 @@ short_last made a h = all_last (λ b. length b.place ≤ 80) made a h.short
 
 -- ---- members
 
-abbrev steps : List Assertion → Place → List Step
+abbrev pub steps : List Assertion → Place → List Step
 steps made p = filter_map (λ a. step_from p a.place) made
 
-abbrev has : Step → List Step → Bool
+abbrev pub has : Step → List Step → Bool
 has x xs = list_any (λ s. same_step s x) xs
 
 or_false : (x y : Bool) → (x || y) ≡ false → (x ≡ false) × (y ≡ false)
@@ -172,7 +172,7 @@ once_old (s ∷ ss) x e = first (same_step s x) refl (once_old ss x)
         ap (λ (ts : List Step). s ∷ filter (λ t. not (same_step s t)) ts) (ih there)
 
 -- a step is among those below a place exactly where something stands there
-has_step : (made : List Assertion) (p : Place) (x : Step) → has x (steps made p) ≡ is_some (kind_at made (at p x))
+pub has_step : (made : List Assertion) (p : Place) (x : Step) → has x (steps made p) ≡ is_some (kind_at made (at p x))
 has_step [] p x = refl
 has_step (a ∷ made) p x = go (step_from p a.place) refl (has_step made p x)
   where

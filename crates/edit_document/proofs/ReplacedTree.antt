@@ -103,12 +103,12 @@ mutual
 
   supported_members : (edits : Edits) (p : Place) (ms : Members) → AreSupportedMembers ms → AreSupportedMembers (replaced_members edits p ms)
   supported_members edits p no_members h = h
-  supported_members edits p (last_member k a b v c) h = (h.0, supported_put edits (named p (names k)) _ (supported_inside edits (named p (names k)) v h.1))
+  supported_members edits p (last_member k a b v c) h = supported_put edits (named p (names k)) _ (supported_inside edits (named p (names k)) v h)
   supported_members edits p (member k a b v c d ms) h =
-      (h.0, supported_put edits (named p (names k)) _ (supported_inside edits (named p (names k)) v h.1), supported_members edits p ms h.2)
+      (supported_put edits (named p (names k)) _ (supported_inside edits (named p (names k)) v h.0), supported_members edits p ms h.1)
 
 supported_statement : (edits : Edits) (prefix : Place) (s : Statement) → IsSupportedStatement s → IsSupportedStatement (replaced_statement edits prefix s)
-supported_statement edits prefix (pair k a b v) h = (h.0, supported_put edits (named prefix (names k)) _ (supported_inside edits (named prefix (names k)) v h.1))
+supported_statement edits prefix (pair k a b v) h = supported_put edits (named prefix (names k)) _ (supported_inside edits (named prefix (names k)) v h)
 supported_statement edits prefix (header a k b) h = h
 supported_statement edits prefix (element_header a k b) h = h
 
