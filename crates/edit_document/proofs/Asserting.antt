@@ -1,28 +1,27 @@
 -- What asserting a member or an element makes of the spots that stand for the assertions so far.
 use Rattle.std.proofs.Common.{◌≡◌, ℕ, zero, suc, ◌+◌, ◌-◌, ◌<◌, ◌≤◌, Bool, true, false, cond, List, [], ◌∷◌, ◌++◌, length, Option, Some, None, refl, sym, ap, subst, ◌∙◌, ◌⊎◌, inl, inr, arith}
-use Rattle.std.specs.Prelude.{slice_get, slice_set, map, nat_lt, unwrap_or, if◌then◌else◌}
+use Rattle.std.specs.Prelude.{slice_get, slice_set, map, nat_lt, unwrap_or}
 use Rattle.std.specs.Map.{lookup}
 use Rattle.std.specs.Str.{bytes_eq}
 use Rattle.std.proofs.lemmas.Bool.{cases_lt}
 use Rattle.std.proofs.lemmas.Bool.Decides.{nat_tests}
 use Rattle.std.proofs.lemmas.List.{append-nil, length_push, map-append}
-use Rattle.std.proofs.lemmas.Option.{slice_get_past, slice_get_within, same_Some}
+use Rattle.std.proofs.lemmas.Option.{slice_get_past}
 use Rattle.std.proofs.lemmas.Slice.Eq.{bytes_eq-Decides}
 use Rattle.edit_document.specs.declared.nodes.Span.{Span}
 use Rattle.edit_document.specs.declared.nodes.Taken.{Taken}
 use Rattle.edit_document.specs.declared.nodes.Taken.TheVariants.{Dotted, Super, Value, Header, Array, Element}
 use Rattle.edit_document.specs.Assertions.{Step, key, index, Place, at, Kind, super, array_kind, element_kind, Assertion, asserts, elements_at, resolved}
-use Rattle.edit_document.specs.Tree.{kind_at}
 use Rattle.edit_document.specs.DocumentLayout.{Placed}
 use Rattle.edit_document.specs.Taking.{taken_of, joins}
-use Rattle.edit_document.specs.Nodes.{Shape, section, Spot, StandsAt, below}
-use Rattle.edit_document.specs.Walk.{last_of, spot_at, child, target_of, with_taken, taken_again, with_member, with_element, added, element_added, numbered, asserted_at, asserted}
+use Rattle.edit_document.specs.Nodes.{section, Spot, StandsAt, below}
+use Rattle.edit_document.specs.Walk.{last_of, spot_at, target_of, with_taken, taken_again, with_member, with_element, added, element_added, numbered, asserted}
 use Rattle.edit_document.proofs.SamePlace.{not_root}
 use Rattle.edit_document.proofs.Adding.{get_front, get_last, equal_or, child_is, target_is, target_other, added_long, added_made, element_long, element_made, asserted_new, asserted_old}
-use Rattle.edit_document.proofs.MoreAssertions.{first_kind, first_is, allowed, IsClear, clash_last, short_last, is_element, elements_below, elements_none}
+use Rattle.edit_document.proofs.MoreAssertions.{first_kind, allowed, IsClear, clash_last, short_last, is_element, elements_below, elements_none}
 use Rattle.edit_document.proofs.Trees.{Grows, grows_set, Gains}
-use Rattle.edit_document.proofs.Standing.{noted, shape_of_kind, Tells, Stands, was_asserted, nothing_below_spot, nothing_under, stands_again}
-use Rattle.edit_document.proofs.Gaining.{is_index, more_elements, Shows, stands_gained, gained_grows, gained_last}
+use Rattle.edit_document.proofs.Standing.{noted, shape_of_kind, Stands, nothing_below_spot, nothing_under, stands_again}
+use Rattle.edit_document.proofs.Gaining.{Shows, stands_gained, gained_grows, gained_last}
 
 -- the spots stand for one assertion more, whose place has a number; or it clashes
 pub data Makes (made : List Assertion) (written : List Placed) (spots : List Spot) (a : Assertion) (more : List Placed) (r : Option (List Spot × ℕ)) : Type 0 where
@@ -52,10 +51,10 @@ again_makes made written spots j s a st here place inner plain = go (joins s.tak
     go false stops =
         fails (ap (numbered j) (again_is spots j s (taken_of a.kind) false here stops))
         (λ clear.
-            let fits : allowed made a.place a.kind ≡ true = clash_last made a clear in
-            let says : allowed made a.place a.kind ≡ joins s.taken (taken_of a.kind) = ap (λ (q : Place). allowed made q a.kind) place ∙ (st.tells j s here).joined inner a.kind in
-            let clash : true ≡ false = sym fits ∙ says ∙ stops in
-            cc)
+        let fits : allowed made a.place a.kind ≡ true = clash_last made a clear in
+        let says : allowed made a.place a.kind ≡ joins s.taken (taken_of a.kind) = ap (λ (q : Place). allowed made q a.kind) place ∙ (st.tells j s here).joined inner a.kind in
+        let clash : true ≡ false = sym fits ∙ says ∙ stops in
+        cc)
 
 -- ---- a member more
 
@@ -227,11 +226,11 @@ element_gains s number = record { place = refl; gained = get_last s.elements num
     elsewhere (index i) ne = elim (cases_lt i (length s.elements)) [
       | inl lt ↦ get_front s.elements (number ∷ []) i lt
       | inr le ↦ elim (equal_or i (length s.elements)) [
-          | inl same ↦ absurd (ne (ap index same))
-          | inr off ↦
-              let more : length (s.elements ++ number ∷ []) ≡ length s.elements + 1 = length_push s.elements number in
-              slice_get_past (s.elements ++ number ∷ []) i (let apart : i ≡ length s.elements → ⊥ = off in omega arith) ∙ sym (slice_get_past s.elements i le)
-        ]
+        | inl same ↦ absurd (ne (ap index same))
+        | inr off ↦
+            let more : length (s.elements ++ number ∷ []) ≡ length s.elements + 1 = length_push s.elements number in
+            slice_get_past (s.elements ++ number ∷ []) i (let apart : i ≡ length s.elements → ⊥ = off in omega arith) ∙ sym (slice_get_past s.elements i le)
+      ]
     ]
 
 element_shows : (s : Spot) (number : ℕ) → Shows s (with_element s number) (index (length s.elements))

@@ -1,19 +1,18 @@
 -- What the nodes of a text tell of it.
-use Rattle.std.proofs.Common.{◌≡◌, ℕ, ◌≤◌, Bool, true, false, List, [], ◌∷◌, ◌++◌, length, Option, Some, None, Result, Ok, Err, refl, sym, ap, subst, ◌∙◌, ◌⊎◌, inl, inr, arith}
+use Rattle.std.proofs.Common.{◌≡◌, ℕ, ◌≤◌, Bool, true, false, List, [], ◌∷◌, Option, Some, None, Result, Err, refl, sym, ap, subst, ◌∙◌, ◌⊎◌, inl, inr, arith}
 use Rattle.std.specs.Prelude.{map, IsUtf8, MatchResult, string_bytes}
 use Rattle.std.specs.List.{AllByRecursion}
 use Rattle.edit_document.specs.declared.read.marks.Mark.{Mark}
 use Rattle.edit_document.specs.declared.nodes.Node.{Node}
 use Rattle.edit_document.specs.declared.document.Document.TheInside.{Inside}
-use Rattle.edit_document.specs.Grammar.{Text, text, lines, byte_order_mark, AreLines, Spells}
+use Rattle.edit_document.specs.Grammar.{Text, lines, byte_order_mark, Spells}
 use Rattle.edit_document.specs.Supported.{IsSupported, IsManifest}
-use Rattle.edit_document.specs.Assertions.{Place, assertions, NoClash, AreShort, IsDocument}
+use Rattle.edit_document.specs.Assertions.{assertions}
 use Rattle.edit_document.specs.Depth.{text_depth}
 use Rattle.edit_document.specs.Marks.{text_marks, IsReadRefusal}
 use Rattle.edit_document.specs.Errors.{IsMemory}
 use Rattle.edit_document.specs.declared.errors.Error.{Error}
 use Rattle.edit_document.specs.declared.errors.Error.TheVariants.{NotToml, Memory}
-use Rattle.edit_document.specs.Tree.{view_at}
 use Rattle.edit_document.specs.Shown.{Shown, ShowsTree, node_at}
 use Rattle.edit_document.specs.Nodes.{Spot, Holds}
 use Rattle.edit_document.specs.FormOf.{form_of}
@@ -22,7 +21,7 @@ use Rattle.edit_document.specs.DocumentLayout.{placed, spots_of, nodes_by, shown
 use Rattle.edit_document.specs.Reading.{◌>>=◌}
 use Rattle.edit_document.specs.Walk.{State, start, walked, settled_state}
 use Rattle.edit_document.specs.WalkState.{IsToken, KeepsState}
-use Rattle.edit_document.proofs.LineLaws.{IsReadText, read_again}
+use Rattle.edit_document.proofs.LineLaws.{read_again}
 use Rattle.edit_document.proofs.Ends.{Ends}
 use Rattle.edit_document.proofs.Shallow.{shallow as shallow_form, manifest_form}
 use Rattle.edit_document.proofs.Standing.{Stands}

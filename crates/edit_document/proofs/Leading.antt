@@ -1,25 +1,24 @@
 -- The walk over the marks of a key and of what it is for, against the assertions that are made.
-use Rattle.std.proofs.Common.{◌≡◌, ℕ, suc, ◌+◌, ◌-◌, ◌<◌, ◌≤◌, Bool, true, false, cond, ◌&&◌, List, [], ◌∷◌, ◌++◌, length, map, take, Option, Some, None, refl, sym, ap, subst, ◌∙◌, ◌⊎◌, inl, inr, append_assoc, length-append, arith}
-use Rattle.std.specs.Prelude.{slice_get, slice_set, nat_lt}
-use Rattle.std.proofs.lemmas.Bool.Decides.{nat_tests}
-use Rattle.std.proofs.lemmas.Option.{slice_get_within, same_Some}
+use Rattle.std.proofs.Common.{◌≡◌, ℕ, ◌+◌, ◌-◌, Bool, true, false, cond, List, [], ◌∷◌, ◌++◌, length, map, take, Option, Some, None, refl, sym, ap, subst, ◌∙◌, inl, inr, append_assoc, length-append, arith}
+use Rattle.std.specs.Prelude.{slice_get, slice_set}
+use Rattle.std.proofs.lemmas.Option.{slice_get_within}
 use Rattle.edit_document.specs.declared.read.marks.Mark.{Mark}
 use Rattle.edit_document.specs.declared.nodes.Span.{Span}
 use Rattle.edit_document.specs.declared.nodes.Taken.{Taken}
 use Rattle.edit_document.specs.declared.nodes.Taken.TheVariants.{Dotted, Value}
 use Rattle.edit_document.specs.Grammar.{Value as Written}
-use Rattle.edit_document.specs.Assertions.{key, Place, same_place, Kind, dotted, leaf, Assertion, asserts, named, of_key, together, NoClash}
+use Rattle.edit_document.specs.Assertions.{key, Place, same_place, Kind, dotted, leaf, Assertion, asserts, named, of_key, together}
 use Rattle.edit_document.specs.Tree.{kind_at}
 use Rattle.edit_document.specs.DocumentLayout.{shape_of_value, Placed, span_at}
 use Rattle.edit_document.specs.Reading.{◌>>=◌}
 use Rattle.edit_document.specs.Nodes.{Shape, Spot, StandsAt}
 use Rattle.edit_document.specs.Walk.{State, last_of, without_last, asserted, front_shape, reached, settled_state, is_dotted_within, settled, entered_at, closed, walked}
-use Rattle.edit_document.proofs.SamePlace.{both_true, same_place_self, same_place_is, other_place, place_or}
+use Rattle.edit_document.proofs.SamePlace.{both_true, same_place_self, other_place, place_or}
 use Rattle.edit_document.proofs.Ends.{take_length}
-use Rattle.edit_document.proofs.Adding.{get_set_same, OneSet, changed, other, in_set}
+use Rattle.edit_document.proofs.Adding.{OneSet, changed, other, in_set}
 use Rattle.edit_document.proofs.MoreAssertions.{allowed, IsClear, clear_front, clash_last}
 use Rattle.edit_document.proofs.Trees.{Grows, grows_then, grows_set, tree_set}
-use Rattle.edit_document.proofs.Standing.{noted, Tells, Stands}
+use Rattle.edit_document.proofs.Standing.{Tells, Stands}
 use Rattle.edit_document.proofs.Thinned.{leaf_alone}
 use Rattle.edit_document.proofs.Walks.{walked_append, last_push}
 use Rattle.edit_document.proofs.Walking.{settled_is, entered_is}

@@ -1,11 +1,9 @@
 -- One assertion more: what then stands at a place, what its members are, and which assertions may follow.
-use Rattle.std.proofs.Common.{◌≡◌, ℕ, zero, suc, ◌+◌, ◌≤◌, Bool, true, false, cond, not, ◌&&◌, ◌||◌, List, [], ◌∷◌, ◌++◌, length, Option, Some, None, is_some, refl, sym, ap, subst, ◌∙◌, ◌⊎◌, inl, inr, arith}
-use Rattle.std.specs.Prelude.{map, if◌then◌else◌}
-use Rattle.std.specs.List.{AllByRecursion, filter, filter_map, cons_option, list_any}
+use Rattle.std.proofs.Common.{◌≡◌, ℕ, suc, ◌≤◌, Bool, true, false, cond, not, ◌&&◌, ◌||◌, List, [], ◌∷◌, ◌++◌, length, Option, Some, None, is_some, refl, sym, ap, ◌∙◌, ◌⊎◌, inl, inr}
+use Rattle.std.specs.List.{filter, filter_map, cons_option, list_any}
 use Rattle.std.proofs.lemmas.List.{append-nil}
 use Rattle.std.proofs.lemmas.List.Elements.{filter-append, filter_map-append}
-use Rattle.std.proofs.lemmas.Option.{same_Some}
-use Rattle.edit_document.specs.Assertions.{Step, key, index, Place, at, same_step, same_place, Kind, dotted, leaf, super, header_kind, array_kind, element_kind, Assertion, is_array, is_array_at, elements_at, together, NoClash, AreShort}
+use Rattle.edit_document.specs.Assertions.{Step, key, index, Place, at, same_step, same_place, Kind, header_kind, element_kind, Assertion, together, NoClash, AreShort}
 use Rattle.edit_document.specs.Tree.{step_from, once, members_of, kind_at}
 use Rattle.edit_document.proofs.SamePlace.{both_true, same_step_self, same_step_is, same_place_self, same_place_is, other_place, last_same}
 use Rattle.edit_document.proofs.Below.{step_from_at, step_from_is, all_front, all_push, all_last}

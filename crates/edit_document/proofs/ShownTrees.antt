@@ -1,17 +1,17 @@
 -- The spots that stand for the assertions of a text show its tree.
-use Rattle.std.proofs.Common.{◌≡◌, ℕ, Bool, true, false, cond, not, ◌||◌, List, [], ◌∷◌, length, Option, Some, None, is_some, refl, sym, ap, subst, ◌∙◌, arith}
+use Rattle.std.proofs.Common.{◌≡◌, ℕ, Bool, true, false, cond, not, ◌||◌, List, [], ◌∷◌, length, Option, Some, None, is_some, refl, sym, ap, ◌∙◌}
 use Rattle.std.specs.Prelude.{map, option_map, slice_get}
-use Rattle.std.specs.List.{AllByRecursion, filter, list_any}
+use Rattle.std.specs.List.{AllByRecursion, filter}
 use Rattle.edit_document.specs.Grammar.{Value, basic, literal, multi_basic, multi_literal, boolean, integer, float, datetime, array, inline}
 use Rattle.edit_document.specs.Assertions.{Step, key, index, Place, at, same_step, Kind, dotted, leaf, super, header_kind, array_kind, element_kind, Assertion, elements_at}
 use Rattle.edit_document.specs.Tree.{once, members_of, View, inline_table, table, table_array, view_of_value, view_of_kind, kind_at, view_in}
 use Rattle.edit_document.specs.Shown.{node_at}
 use Rattle.edit_document.specs.Items.{key_names}
 use Rattle.edit_document.specs.DocumentLayout.{shape_of_value, Placed}
-use Rattle.edit_document.specs.Nodes.{Spot, names_of, view_of_shape, shown_spot, StandsAt}
+use Rattle.edit_document.specs.Nodes.{Spot, names_of, view_of_shape, shown_spot}
 use Rattle.edit_document.proofs.SamePlace.{same_step_self}
-use Rattle.edit_document.proofs.MoreAssertions.{first_kind, first_is, elements_below, steps, has, has_step}
-use Rattle.edit_document.proofs.Standing.{shape_of_kind, Tells, Stands, was_asserted, nothing_at}
+use Rattle.edit_document.proofs.MoreAssertions.{first_kind, steps, has, has_step}
+use Rattle.edit_document.proofs.Standing.{shape_of_kind, Tells, Stands}
 use Rattle.edit_document.proofs.Evens.{IsEven}
 use Rattle.edit_document.proofs.Views.{node_first, node_none}
 

@@ -1,27 +1,23 @@
 -- The spots that stand for the assertions that were made, and one assertion more.
-use Rattle.std.proofs.Common.{◌≡◌, ℕ, zero, suc, ◌+◌, ◌<◌, ◌≤◌, Bool, true, false, cond, ◌&&◌, List, [], ◌∷◌, ◌++◌, length, map, Option, Some, None, refl, sym, ap, ap₂, subst, ◌∙◌, ◌⊎◌, inl, inr, arith}
+use Rattle.std.proofs.Common.{◌≡◌, ℕ, zero, suc, ◌≤◌, Bool, true, false, cond, ◌&&◌, List, [], ◌∷◌, ◌++◌, length, Option, Some, None, refl, sym, ap, ap₂, subst, ◌∙◌, inl, inr}
 use Rattle.std.specs.Prelude.{slice_get, slice_set}
-use Rattle.std.specs.List.{AllByRecursion, filter_map}
-use Rattle.std.specs.Map.{lookup}
-use Rattle.std.proofs.lemmas.List.{length_push, append-nil, map-append}
-use Rattle.std.proofs.lemmas.List.Elements.{filter_map-append}
 use Rattle.std.proofs.lemmas.Option.{slice_get_within, same_Some}
 use Rattle.edit_document.specs.declared.nodes.Span.{Span}
 use Rattle.edit_document.specs.declared.nodes.Taken.{Taken}
 use Rattle.edit_document.specs.declared.nodes.Taken.TheVariants.{Header}
 use Rattle.edit_document.specs.DocumentLayout.{shape_of_value, Placed, span_at}
-use Rattle.edit_document.specs.Assertions.{Step, key, index, Place, at, same_place, Kind, dotted, leaf, super, header_kind, array_kind, element_kind, Assertion, asserts, together, AreShort}
+use Rattle.edit_document.specs.Assertions.{Step, key, index, Place, at, same_place, Kind, dotted, leaf, super, header_kind, array_kind, element_kind, Assertion, together, AreShort}
 use Rattle.edit_document.specs.Tree.{members_of, kind_at}
-use Rattle.edit_document.specs.Items.{name_of_step, key_names}
+use Rattle.edit_document.specs.Items.{key_names}
 use Rattle.edit_document.specs.Taking.{taken_of, joins, stronger}
 use Rattle.edit_document.specs.Nodes.{Shape, scalar, section, sections, Spot, names_of, StandsAt, below, IsBelow, IsTree}
 use Rattle.edit_document.specs.Nodes as shapes
 use Rattle.edit_document.specs.Walk.{spot_at, with_taken}
-use Rattle.edit_document.proofs.SamePlace.{same_place_self, same_place_is, other_place, last_same, not_root, not_below}
+use Rattle.edit_document.proofs.SamePlace.{same_place_self, same_place_is, other_place, last_same, not_root}
 use Rattle.edit_document.proofs.Adding.{OneSet, changed, other, in_set, slice_get_same}
 use Rattle.edit_document.proofs.Takings.{together_is, stronger_is}
-use Rattle.edit_document.proofs.MoreAssertions.{kind_stays, kind_new, kind_else, kind_back, first_kind, first_stays, first_is, allowed, allowed_else, allowed_here, allowed_none, IsClear, clear_more, members_new, members_old, members_else, members_again, members_none, is_element, elements_below, elements_stay, elements_grow, elements_else, elements_none}
-use Rattle.edit_document.proofs.Trees.{Grows, grows_set, tree_set, Gains, grown, last_is, tree_gain, each_gain}
+use Rattle.edit_document.proofs.MoreAssertions.{kind_stays, kind_else, kind_back, first_kind, first_stays, first_is, allowed, allowed_else, allowed_here, IsClear, clear_more, members_again, is_element, elements_below, elements_stay}
+use Rattle.edit_document.proofs.Trees.{grows_set, tree_set}
 
 -- ---- what is written
 

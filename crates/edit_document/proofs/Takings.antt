@@ -1,5 +1,5 @@
 -- By what places are taken, against the pairs of kinds that may stand together.
-use Rattle.std.proofs.Common.{◌≡◌, Bool, true, false, ◌&&◌, refl, arith}
+use Rattle.std.proofs.Common.{◌≡◌, true, ◌&&◌, refl}
 use Rattle.edit_document.specs.declared.nodes.Taken.{Taken}
 use Rattle.edit_document.specs.declared.nodes.Taken.TheVariants.{Dotted, Value, Super, Header, Array, Element}
 use Rattle.edit_document.specs.Assertions.{Kind, dotted, leaf, super, header_kind, array_kind, element_kind, together}

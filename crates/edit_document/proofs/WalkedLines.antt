@@ -1,37 +1,36 @@
 -- The walk over the marks of statements, lines and texts.
-use Rattle.std.proofs.Common.{◌≡◌, ℕ, zero, suc, ◌+◌, ◌<◌, Bool, true, false, cond, List, [], ◌∷◌, ◌++◌, length, map, Option, Some, None, refl, sym, ap, subst, ◌∙◌, append_assoc, arith}
+use Rattle.std.proofs.Common.{◌≡◌, ℕ, Bool, true, false, cond, List, [], ◌∷◌, ◌++◌, length, map, Option, Some, None, refl, sym, ap, subst, ◌∙◌, append_assoc}
 use Rattle.std.specs.Prelude.{slice_get, IsUtf8}
 use Rattle.std.proofs.lemmas.List.{append-nil, map-append}
 use Rattle.std.proofs.lemmas.Option.{same_Some}
 use Rattle.edit_document.specs.declared.read.marks.Mark.{Mark}
 use Rattle.edit_document.specs.declared.read.marks.MarkKind.TheVariants as kinds
-use Rattle.edit_document.specs.declared.nodes.Taken.{Taken}
 use Rattle.edit_document.specs.declared.nodes.Taken.TheVariants.{Super, Header, Array}
 use Rattle.edit_document.specs.Characters.{equals, left_bracket, right_bracket}
 use Rattle.edit_document.specs.Strings.{◌·◌, LineEnd, line_end, name, Dotted as DottedPart, Key}
 use Rattle.edit_document.specs.Strings as strings
-use Rattle.edit_document.specs.Grammar.{Value, value, Statement, pair, header, element_header, statement, IsStatement, comment, Line, empty_line, full_line, line, IsLine, Lines, one_line, more_lines, lines, AreLines, Text}
+use Rattle.edit_document.specs.Grammar.{value, Statement, pair, header, element_header, statement, IsStatement, comment, empty_line, full_line, Lines, one_line, more_lines, lines, AreLines, Text}
 use Rattle.edit_document.specs.Supported.{IsSupportedStatement, AreSupportedLines}
-use Rattle.edit_document.specs.Assertions.{key, index, Place, at, same_place, together, resolved, Kind, dotted, leaf, super, header_kind, array_kind, element_kind, Assertion, asserts, names, named, of_key, of_value, elements_at, fronts, header_place, prefix_after, of_statement, of_lines, assertions}
+use Rattle.edit_document.specs.Assertions.{key, index, Place, at, same_place, together, resolved, Kind, dotted, leaf, super, header_kind, array_kind, element_kind, Assertion, asserts, names, elements_at, fronts, header_place, prefix_after, of_statement, of_lines, assertions}
 use Rattle.edit_document.specs.Tree.{kind_at}
-use Rattle.edit_document.specs.Written.{Valued, in_statement, in_lines, values}
+use Rattle.edit_document.specs.Written.{in_statement, in_lines, values}
 use Rattle.edit_document.specs.DocumentLayout.{Placed, placed}
 use Rattle.edit_document.specs.Reading.{◌>>=◌}
-use Rattle.edit_document.specs.Nodes.{Shape, section, sections, Spot, StandsAt}
+use Rattle.edit_document.specs.Nodes.{section, sections, Spot, StandsAt}
 use Rattle.edit_document.specs.Walk.{State, element_added, settled_state, settled, turned, headed, element_headed, step, start, walked}
-use Rattle.edit_document.specs.Marks.{mark, key_marks, value_marks, statement_marks, line_marks, lines_marks, text_marks}
+use Rattle.edit_document.specs.Marks.{mark, value_marks, statement_marks, lines_marks, text_marks}
 use Rattle.edit_document.proofs.Ends.{Ends, ends_past, ends_one, ends_pair, ends_line, ends_line_end}
 use Rattle.edit_document.proofs.SamePlace.{both_true, not_root}
 use Rattle.edit_document.proofs.MoreAssertions.{first_kind, first_is, kind_stays, kind_new, IsClear, clear_front, clash_last, allowed, elements_below, elements_stay}
-use Rattle.edit_document.proofs.Trees.{Grows, grows_same, grows_then}
-use Rattle.edit_document.proofs.Standing.{Tells, Stands, was_asserted, stands_start}
+use Rattle.edit_document.proofs.Trees.{Grows, grows_then}
+use Rattle.edit_document.proofs.Standing.{Stands, stands_start}
 use Rattle.edit_document.proofs.Asserting.{Makes, makes, fails, element_makes}
 use Rattle.edit_document.proofs.Landing.{header_lands}
 use Rattle.edit_document.proofs.Evens.{IsEven, even_statement}
 use Rattle.edit_document.proofs.Walks.{walked_one, walked_none, walked_append}
-use Rattle.edit_document.proofs.WalkedTokens.{waits, walked_key, fore, rear}
-use Rattle.edit_document.proofs.Leading.{Leads, leads, stops, leads_along, Enters, enters, bars, settled_enters}
-use Rattle.edit_document.proofs.WalkedValues.{spans, Before, IsBefore, value_leads}
+use Rattle.edit_document.proofs.WalkedTokens.{waits, walked_key}
+use Rattle.edit_document.proofs.Leading.{Leads, leads, stops, Enters, enters, bars, settled_enters}
+use Rattle.edit_document.proofs.WalkedValues.{spans, Before, value_leads}
 
 header_step : (bytes from rest : List ℕ) (st : State) → step bytes (mark kinds.Header from rest) st ≡ headed st
 unfolding step
@@ -63,7 +62,7 @@ pair_stated before made written t p r there (stops e c) = halts e c
 
 header_stated : (bytes : List ℕ) (spots : List Spot) (t : ℕ) (made : List Assertion) (written : List Placed) (k : Key) (whole rest : List ℕ) → Stands made written spots → IsEven made
     → Stated spots (made ++ (fronts made (header_place made [] (names k)) [] (names k) ++ asserts (header_place made [] (names k)) (header_place made [] (names k)) header_kind ∷ [])) written (header_place made [] (names k))
-        (walked bytes (mark kinds.Header whole rest ∷ []) (waits (settled_state spots (t ∷ [])) (names k)))
+    (walked bytes (mark kinds.Header whole rest ∷ []) (waits (settled_state spots (t ∷ [])) (names k)))
 header_stated bytes spots t made written k whole rest st even =
     let q = header_place made [] (names k) in
     let root = st.tree.root in
@@ -250,7 +249,7 @@ lines_walked bytes (more_lines (full_line a s b c) e ls) spots made written t p 
     let here = spans (in_statement p s after) in
     let one = statement_stated bytes s after spots made written t p h.0.1 sup.0 u (ends_past bytes a (statement s after) ends) st even there in
     let all = then_lines bytes (statement_marks s after) (lines_marks ls) (settled_state spots (t ∷ [])) spots next (of_lines next (prefix_after made p s) ls) (written ++ here) ((written ++ here) ++ spans (in_lines next (prefix_after made p s) ls)) (prefix_after made p s) one (clear_lines next (prefix_after made p s) ls)
-        (λ now j st2 there2. lines_walked bytes ls now next (written ++ here) j (prefix_after made p s) h.1 sup.1 u more_ends st2 (even_statement made p s even) there2) in
+    (λ now j st2 there2. lines_walked bytes ls now next (written ++ here) j (prefix_after made p s) h.1 sup.1 u more_ends st2 (even_statement made p s even) there2) in
     subst (λ (w : List Placed). Walked (of_lines made p (more_lines (full_line a s b c) e ls)) w (walked bytes (lines_marks (more_lines (full_line a s b c) e ls)) (settled_state spots (t ∷ []))))
     (append_assoc written here (spans (in_lines next (prefix_after made p s) ls)) ∙ ap (λ (w : List Placed). written ++ w) (sym (map-append placed (in_statement p s after) (in_lines next (prefix_after made p s) ls)))) all
 

@@ -1,6 +1,6 @@
 -- The walk over the marks of values and of their members.
-use Rattle.std.proofs.Common.{◌≡◌, ℕ, zero, suc, ◌+◌, ◌<◌, Bool, true, false, List, [], ◌∷◌, ◌++◌, length, map, Option, Some, None, refl, sym, ap, subst, ◌∙◌, append_assoc, length-append, arith}
-use Rattle.std.specs.Prelude.{nat_lt, IsUtf8}
+use Rattle.std.proofs.Common.{◌≡◌, ℕ, ◌+◌, Bool, true, false, List, [], ◌∷◌, ◌++◌, length, map, Option, Some, refl, sym, ap, subst, ◌∙◌, append_assoc, length-append, arith}
+use Rattle.std.specs.Prelude.{IsUtf8}
 use Rattle.std.proofs.lemmas.Bool.Decides.{nat_tests}
 use Rattle.std.proofs.lemmas.List.{append-nil, map-append}
 use Rattle.edit_document.specs.declared.read.marks.Mark.{Mark}
@@ -8,8 +8,7 @@ use Rattle.edit_document.specs.declared.read.marks.MarkKind.TheVariants as kinds
 use Rattle.edit_document.specs.declared.nodes.Span.{Span}
 use Rattle.edit_document.specs.declared.nodes.Taken.TheVariants.{Dotted}
 use Rattle.edit_document.specs.Characters.{quote, comma, equals, right_brace}
-use Rattle.edit_document.specs.Strings.{◌·◌, Piece, says, name, basic_text, literal_text, Dotted as DottedPart, Key, IsKey}
-use Rattle.edit_document.specs.Strings as strings
+use Rattle.edit_document.specs.Strings.{Piece, says, name, basic_text, literal_text, Dotted as DottedPart, Key}
 use Rattle.edit_document.specs.Grammar.{Between, gap, Value, basic, literal, multi_basic, multi_literal, boolean, integer, float, datetime, array, inline, Members, no_members, last_member, member, value, members, IsValue, AreMembers}
 use Rattle.edit_document.specs.Supported.{IsSupportedValue, AreSupportedMembers}
 use Rattle.edit_document.specs.Assertions.{Place, Assertion, names, named, of_key, of_value, of_members}
@@ -224,7 +223,7 @@ mutual
       leads_along (walked_key bytes k (a ++ (equals ∷ (b ++ value v after))) (value_marks v after) (settled_state spots (base ++ t ∷ [])) h.0 u ends)
       (value_leads bytes v after before h.3 s.0 u value_ends (record { stands = st; there = there; in_table = deep })) in
       let all = leads_then bytes (key_marks k (a ++ (equals ∷ (b ++ value v after))) ++ value_marks v after) (members_marks ms rest) (settled_state spots (base ++ t ∷ [])) spots (made ++ asserted_one) (of_members p ms) (written ++ spans one) (spans (in_members p ms rest)) (base ++ t ∷ []) (base ++ t ∷ []) first
-          (λ now st2 grows. members_lead bytes ms rest now (made ++ asserted_one) (written ++ spans one) base t p h.6 s.1 u more_ends st2 (grows t p there) deep) in
+      (λ now st2 grows. members_lead bytes ms rest now (made ++ asserted_one) (written ++ spans one) base t p h.6 s.1 u more_ends st2 (grows t p there) deep) in
       let same_made : (made ++ asserted_one) ++ of_members p ms ≡ made ++ (asserted_one ++ of_members p ms) = append_assoc made asserted_one (of_members p ms) in
       let same_spans : (written ++ spans one) ++ spans (in_members p ms rest) ≡ written ++ spans (one ++ in_members p ms rest) =
       append_assoc written (spans one) (spans (in_members p ms rest)) ∙ ap (λ (w : List Placed). written ++ w) (sym (map-append placed one (in_members p ms rest))) in

@@ -1,5 +1,5 @@
 -- The steps of the walk over marks, as the code takes them.
-use Rattle.std.proofs.Common.{◌≡◌, ℕ, zero, suc, ◌+◌, ◌-◌, ◌<◌, ◌≤◌, Bool, true, false, List, [], ◌∷◌, ◌++◌, length, take, drop, get_or, Option, Some, None, is_some, Result, Ok, Err, refl, sym, ap, ap₂, subst, ◌∙◌, ◌⊎◌, inl, inr, length-append, arith, String, Global}
+use Rattle.std.proofs.Common.{◌≡◌, ℕ, ◌+◌, ◌-◌, ◌<◌, Bool, true, false, List, [], ◌∷◌, ◌++◌, length, take, drop, get_or, Option, Some, None, is_some, Result, Ok, Err, refl, sym, ap, ap₂, subst, ◌∙◌, ◌⊎◌, inl, inr, length-append, arith, String, Global}
 use Rattle.std.specs.Prelude.{IfOk, option_map, option_to_list, map, slice_get, slice_set, string_bytes}
 use Rattle.std.specs.List.{AllByRecursion}
 use Rattle.std.proofs.lemmas.List.{map-append}
@@ -21,7 +21,7 @@ use Rattle.edit_document.specs.WalkState.{Puts, Walks, Goes, Settles, SaysAt, is
 use Rattle.edit_document.proofs.Below.{all_at}
 use Rattle.edit_document.proofs.Ends.{take_length}
 use Rattle.edit_document.proofs.Adding.{spot_of_node, holds_set, drop_from}
-use Rattle.edit_document.proofs.Walks.{last_push, walked_first, walked_stops, walked_none}
+use Rattle.edit_document.proofs.Walks.{walked_first, walked_stops, walked_none}
 
 pub if_ok_map : {A E : Type 0} {P Q : A → Type 0} (r : Result A E) → IfOk r P → ((x : A) → P x → Q x) → IfOk r Q
 if_ok_map (Ok x) h f = f x h

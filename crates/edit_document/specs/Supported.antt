@@ -1,6 +1,6 @@
 -- The part of the grammar that is read so far: strings on one line, booleans, inline tables,
 -- keys and headers. Every other text is refused.
-use Rattle.std.specs.Prelude.{◌≡◌, ℕ, List, ⊤}
+use Rattle.std.specs.Prelude.{ℕ, List, ⊤}
 use Rattle.edit_document.specs.Grammar.{Value, basic, literal, multi_basic, multi_literal, boolean, integer, float, datetime, array, inline, Members, no_members, last_member, member, Statement, pair, header, element_header, Line, empty_line, full_line, Lines, one_line, more_lines, Text}
 use Rattle.edit_document.specs.Assertions.{IsDocument}
 

@@ -20,7 +20,10 @@ fn joins(before: Taken, after: Taken) -> bool
         Taken::Dotted => matches!(after, Taken::Dotted | Taken::Super),
         Taken::Value => false,
         Taken::Super => {
-            matches!(after, Taken::Dotted | Taken::Super | Taken::Header | Taken::Element)
+            matches!(
+                after,
+                Taken::Dotted | Taken::Super | Taken::Header | Taken::Element
+            )
         }
         Taken::Header => matches!(after, Taken::Super),
         Taken::Array => matches!(after, Taken::Array),

@@ -109,7 +109,14 @@ impl Walk {
             return Ok(None);
         };
         let is_inline = self.is_within(front);
-        let Some(table) = reach(alloc, &mut self.nodes, number, &self.fronts, is_inline, front)?
+        let Some(table) = reach(
+            alloc,
+            &mut self.nodes,
+            number,
+            &self.fronts,
+            is_inline,
+            front,
+        )?
         else {
             return Ok(None);
         };
@@ -189,8 +196,7 @@ impl Walk {
         ensures goes { (st : State) → Walks self.old st → IfOk result (Goes self.new (headed st)) }
         ensures refused { IfErr result IsMemory }
     {
-        let Some(number) =
-            self.settle(alloc, 0, Taken::Super, Content::Table, Taken::Header, None)?
+        let Some(number) = self.settle(alloc, 0, Taken::Super, Content::Table, Taken::Header, None)?
         else {
             return Ok(false);
         };
@@ -203,8 +209,7 @@ impl Walk {
         ensures goes { (st : State) → Walks self.old st → IfOk result (Goes self.new (element_headed st)) }
         ensures refused { IfErr result IsMemory }
     {
-        let Some(number) =
-            self.settle(alloc, 0, Taken::Super, Content::Tables, Taken::Array, None)?
+        let Some(number) = self.settle(alloc, 0, Taken::Super, Content::Tables, Taken::Array, None)?
         else {
             return Ok(false);
         };

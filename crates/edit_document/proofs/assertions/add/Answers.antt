@@ -1,4 +1,4 @@
-use Rattle.std.proofs.Common.{◌≡◌, ℕ, ◌<◌, ◌≤◌, ◌+◌, List, length, get_or, sym, ap, ◌∙◌, refl, arith}
+use Rattle.std.proofs.Common.{◌≡◌, ◌<◌, ◌≤◌, length, ◌∙◌, refl, arith}
 use Rattle.std.specs.Prelude.{string_bytes}
 use Rattle.edit_document.specs.Nodes.{shape_of}
 use Rattle.edit_document.proofs.Adding.{added_past, add_stopped, add_done}

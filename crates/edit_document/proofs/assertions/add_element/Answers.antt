@@ -1,4 +1,4 @@
-use Rattle.std.proofs.Common.{◌≡◌, ℕ, ◌<◌, ◌≤◌, ◌+◌, List, length, get_or, sym, ap, ◌∙◌, refl, arith}
+use Rattle.std.proofs.Common.{◌≡◌, ◌<◌, ◌≤◌, length, ◌∙◌, refl, arith}
 use Rattle.edit_document.specs.declared.nodes.Content.TheVariants as content
 use Rattle.edit_document.proofs.Adding.{element_past, element_stopped, element_done}
 use Rattle.edit_document.proofs.assertions.add_element.Goals as goal

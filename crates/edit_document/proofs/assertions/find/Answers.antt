@@ -1,4 +1,4 @@
-use Rattle.std.proofs.Common.{◌≡◌, List, sym, ◌∙◌}
+use Rattle.std.proofs.Common.{sym, ◌∙◌}
 use Rattle.edit_document.proofs.Adding.{child_past, child_found}
 use Rattle.edit_document.proofs.assertions.find.Goals as goal
 

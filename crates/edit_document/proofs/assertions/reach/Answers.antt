@@ -1,7 +1,7 @@
-use Rattle.std.proofs.Common.{◌≡◌, ℕ, ◌+◌, List, [], Option, Some, None, length, drop, sym, ap, ◌∙◌, subst}
+use Rattle.std.proofs.Common.{◌≡◌, ◌+◌, [], Some, None, drop, ◌∙◌, subst}
 use Rattle.std.specs.Prelude.{map, string_bytes}
 use Rattle.std.proofs.lemmas.List.{drop_all}
-use Rattle.edit_document.specs.Nodes.{Spot, Holds, shape_of}
+use Rattle.edit_document.specs.Nodes.{shape_of}
 use Rattle.edit_document.specs.Walk.{front_shape, reached}
 use Rattle.edit_document.proofs.Adding.{Reaches, reaches_next, front_made, reaches_turn, reaches_stop, reaches_end}
 use Rattle.edit_document.proofs.assertions.reach.Goals as goal

@@ -1,5 +1,4 @@
-use Rattle.std.proofs.Common.{◌≡◌, ℕ, ◌<◌, ◌≤◌, List, length, get_or, sym, ap, ◌∙◌, refl, true, false, arith}
-use Rattle.edit_document.specs.Taking.{joins}
+use Rattle.std.proofs.Common.{◌≡◌, ◌<◌, ◌≤◌, length, sym, ◌∙◌, arith}
 use Rattle.edit_document.proofs.Adding.{again_past, again_stopped, again_done}
 use Rattle.edit_document.proofs.assertions.take_again.Goals as goal
 

@@ -1,4 +1,4 @@
-use Rattle.std.proofs.Common.{◌≡◌, sym}
+use Rattle.std.proofs.Common.{sym}
 use Rattle.edit_document.proofs.Adding.{target_other}
 use Rattle.edit_document.proofs.assertions.target.Goals as goal
 

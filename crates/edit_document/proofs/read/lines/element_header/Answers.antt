@@ -1,4 +1,4 @@
-use Rattle.std.proofs.Common.{◌≡◌, ◌++◌, Some, true, eqb, eq-eqb, ap, sym, ◌∙◌, drop, slice_index, arith}
+use Rattle.std.proofs.Common.{◌≡◌, ◌++◌, Some, true, eqb, eq-eqb, ap, ◌∙◌, drop, slice_index}
 use Rattle.edit_document.specs.Characters.{left_bracket, right_bracket}
 use Rattle.edit_document.specs.Strings.{Key}
 use Rattle.edit_document.specs.Marks.{key_marks}

@@ -1,9 +1,9 @@
-use Rattle.std.proofs.Common.{◌≡◌, ◌++◌, Some, true, eqb, eq-eqb, ap, sym, ◌∙◌, drop, arith}
+use Rattle.std.proofs.Common.{◌≡◌, ◌++◌, Some, true, eqb, eq-eqb, ap, ◌∙◌, drop}
 use Rattle.edit_document.specs.Characters.{left_bracket, right_bracket}
 use Rattle.edit_document.specs.Strings.{Key}
 use Rattle.edit_document.specs.Marks.{key_marks}
 use Rattle.edit_document.specs.Reading.{first, past_blanks, past, key_at}
-use Rattle.edit_document.proofs.NotedLines.{header_noted, header_failed, header_open}
+use Rattle.edit_document.proofs.NotedLines.{header_noted}
 use Rattle.edit_document.proofs.read.lines.header.Goals as goal
 
 pub returns : goal.returns

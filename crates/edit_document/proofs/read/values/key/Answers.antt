@@ -1,11 +1,11 @@
-use Rattle.std.proofs.Common.{rules, ◌≡◌, ◌<◌, ◌+◌, ◌-◌, length, drop, suc, List, ℕ, ◌++◌, [], ◌∷◌, Some, None, true, false, eqb, refl, sym, ap, subst, ◌∙◌, arith}
+use Rattle.std.proofs.Common.{◌≡◌, ◌+◌, ◌-◌, length, drop, ◌++◌, [], ◌∷◌, Some, true, false, eqb, ap, ◌∙◌, arith}
 use Rattle.std.proofs.lemmas.Bool.Decides.{nat_tests}
 use Rattle.std.proofs.lemmas.Result.{err_from_is_err_and}
 use Rattle.edit_document.specs.Strings.{Part}
 use Rattle.edit_document.specs.Marks.{part_mark}
 use Rattle.edit_document.specs.Reading.{first, past_blanks, part_at, key_at}
 use Rattle.edit_document.proofs.Loops.{one_less}
-use Rattle.edit_document.proofs.NotedValues.{CompletesKey, key_begins, key_turn, key_done, key_none, key_unbegun, key_failed}
+use Rattle.edit_document.proofs.NotedValues.{key_begins, key_turn, key_done, key_none, key_unbegun, key_failed}
 use Rattle.edit_document.proofs.read.values.key.Goals as goal
 
 pub returns-in_err-rest : goal.returns-in_err-rest

@@ -1,4 +1,4 @@
-use Rattle.std.proofs.Common.{◌≡◌, ℕ, Option, Some, None, ap, sym, ◌∙◌, refl, subst}
+use Rattle.std.proofs.Common.{None, refl, subst}
 use Rattle.edit_document.specs.declared.nodes.Taken.TheVariants.{Super, Array}
 use Rattle.edit_document.specs.Nodes.{sections}
 use Rattle.edit_document.specs.Walk.{settled, element_added}

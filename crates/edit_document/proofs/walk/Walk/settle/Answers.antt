@@ -1,4 +1,4 @@
-use Rattle.std.proofs.Common.{◌≡◌, ℕ, List, Option, Some, None, ap, sym, ◌∙◌, refl, subst, length}
+use Rattle.std.proofs.Common.{ℕ, List, Some, None, ap, sym, ◌∙◌, subst, length}
 use Rattle.std.specs.Prelude.{string_bytes, option_map, map}
 use Rattle.edit_document.specs.Nodes.{shape_of}
 use Rattle.edit_document.specs.Walk.{front_shape, is_dotted_within, reached}
@@ -25,7 +25,7 @@ returns-clause-goes c st w =
     let some : Puts c.reach.new.nodes.items (reached st.spots c.args.number (map string_bytes c.deref.result.now) (front_shape c.is_within-is_inline.result) c.args.front) (Some c.in-Some-2.table) =
     subst (Puts c.reach.new.nodes.items (reached st.spots c.args.number (map string_bytes c.deref.result.now) (front_shape c.is_within-is_inline.result) c.args.front)) c.in-Some-2.is ((c.in_ok-table.ensures {u = tt}).made st.spots w.holds) in
     let r = reach_of c.reach.new.nodes.items st c.args.number (map string_bytes c.deref.result.now) c.is_within-is_inline.result c.args.front (Some c.in-Some-2.table)
-        (ap (map string_bytes) c.deref.ensures.value ∙ w.fronts) (c.is_within-is_inline.ensures ∙ ap (λ (ts : List ℕ). is_dotted_within (length ts) c.args.front) w.tables) some in
+    (ap (map string_bytes) c.deref.ensures.value ∙ w.fronts) (c.is_within-is_inline.ensures ∙ ap (λ (ts : List ℕ). is_dotted_within (length ts) c.args.front) w.tables) some in
     if_ok_map c.assert_member.result (c.assert_member.ensures.made r.0 r.2)
     (λ q puts. settles (record { nodes = c.assert_member.new.nodes; tables = c.args.self.now.tables; fronts = c.clear.new.self; name = c.take.new.self }) st c.args.number c.args.front (shape_of c.args.content) c.args.taken c.args.span (string_bytes c.in-Some.name) r.0 c.in-Some-2.table q
     name r.1 w.tables c.clear.ensures.items c.take.ensures.after puts)
