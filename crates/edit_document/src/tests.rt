@@ -1,5 +1,7 @@
 //! Rows of documents: texts that are read, and texts that are refused.
 
+mod keys;
+
 use crate::document::Document;
 use crate::errors::Error;
 use crate::item::Item;
