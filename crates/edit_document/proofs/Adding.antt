@@ -19,7 +19,7 @@ use Rattle.edit_document.specs.Assertions.{key, index, Place, at}
 use Rattle.edit_document.specs.Reading.{◌>>=◌}
 use Rattle.edit_document.specs.Taking.{joins, stronger}
 use Rattle.edit_document.specs.Nodes.{Shape, section, Spot, shape_of, Keeps, Holds, below}
-use Rattle.edit_document.specs.Walk.{last_of, spot_at, child, target_of, with_taken, taken_again, with_member, with_element, added, element_added, asserted_at, asserted, numbered, reached}
+use Rattle.edit_document.specs.Walk.{last_table, spot_at, child, target_of, with_taken, taken_again, with_member, with_element, added, element_added, asserted_at, asserted, numbered, reached}
 use Rattle.edit_document.specs.WalkState.{Adds, Puts}
 
 -- ---- elements of lists
@@ -174,14 +174,14 @@ pub target_past : (nodes : List Node) (spots : List Spot) (t : ℕ) → Holds no
 unfolding target_of
 target_past nodes spots t holds le = rw (slice_get_past spots t (let l = holds.len in omega arith)) refl
 
-pub target_is : (spots : List Spot) (t : ℕ) (s : Spot) → slice_get spots t ≡ Some s → target_of spots t Super ≡ unwrap_or (last_of s.elements) t
+pub target_is : (spots : List Spot) (t : ℕ) (s : Spot) → slice_get spots t ≡ Some s → target_of spots t Super ≡ unwrap_or (last_table s.shape s.elements) t
 unfolding target_of
 target_is spots t s e = rw e refl
 
-pub target_found : (nodes : List Node) (spots : List Spot) (t : ℕ) (node : Node) → Holds nodes spots → t < length nodes → node ≡ get_or nodes t node → target_of spots t Super ≡ unwrap_or (last_of node.elements.items) t
+pub target_found : (nodes : List Node) (spots : List Spot) (t : ℕ) (node : Node) → Holds nodes spots → t < length nodes → node ≡ get_or nodes t node → target_of spots t Super ≡ unwrap_or (last_table (shape_of node.content) node.elements.items) t
 target_found nodes spots t node holds lt is =
     let k = kept_at nodes spots t node holds lt is in
-    target_is spots t k.spot k.spot_is ∙ ap (λ (ns : List ℕ). unwrap_or (last_of ns) t) (sym k.keeps.elements)
+    target_is spots t k.spot k.spot_is ∙ ap (λ (x : Shape). unwrap_or (last_table x k.spot.elements) t) (sym k.keeps.shape) ∙ ap (λ (ns : List ℕ). unwrap_or (last_table (shape_of node.content) ns) t) (sym k.keeps.elements)
 
 pub target_other : (spots : List Spot) (t : ℕ) (taken : Taken) → (taken ≡ Super → ⊥) → target_of spots t taken ≡ t
 unfolding target_of
@@ -273,23 +273,23 @@ add_done nodes nodes2 spots t count old node2 last name content taken span holds
       subst (λ (ns : List Node). Holds ns (slice_set spots t (with_member k.spot (string_bytes name) count) ++ spot_at (at k.spot.place (key (string_bytes name))) (shape_of content) taken span ∷ [])) (sym made) both,
     )
 
-pub element_past : (nodes : List Node) (spots : List Spot) (t : ℕ) → Holds nodes spots → length nodes ≤ t → element_added spots t ≡ None
+pub element_past : (nodes : List Node) (spots : List Spot) (t : ℕ) (shape : Shape) (taken : Taken) (span : Option Span) → Holds nodes spots → length nodes ≤ t → element_added spots t shape taken span ≡ None
 unfolding element_added
-element_past nodes spots t holds le = rw (slice_get_past spots t (let l = holds.len in omega arith)) refl
+element_past nodes spots t shape taken span holds le = rw (slice_get_past spots t (let l = holds.len in omega arith)) refl
 
-pub element_long : (spots : List Spot) (t : ℕ) (s : Spot) → slice_get spots t ≡ Some s → 80 ≤ length s.place → element_added spots t ≡ None
+pub element_long : (spots : List Spot) (t : ℕ) (shape : Shape) (taken : Taken) (span : Option Span) (s : Spot) → slice_get spots t ≡ Some s → 80 ≤ length s.place → element_added spots t shape taken span ≡ None
 unfolding element_added
-element_long spots t s e le = let test : nat_le 80 (length s.place) ≡ true = grind (arith, nat_tests) in rw (e, test) refl
+element_long spots t shape taken span s e le = let test : nat_le 80 (length s.place) ≡ true = grind (arith, nat_tests) in rw (e, test) refl
 
-pub element_made : (spots : List Spot) (t : ℕ) (s : Spot) → slice_get spots t ≡ Some s → length s.place < 80
-    → element_added spots t ≡ Some (slice_set spots t (with_element s (length spots)) ++ spot_at (at s.place (index (length s.elements))) section Element None ∷ [], length spots)
+pub element_made : (spots : List Spot) (t : ℕ) (shape : Shape) (taken : Taken) (span : Option Span) (s : Spot) → slice_get spots t ≡ Some s → length s.place < 80
+    → element_added spots t shape taken span ≡ Some (slice_set spots t (with_element s (length spots)) ++ spot_at (at s.place (index (length s.elements))) shape taken span ∷ [], length spots)
 unfolding element_added
-element_made spots t s e lt = let test : nat_le 80 (length s.place) ≡ false = grind (arith, nat_tests) in rw (e, test) refl
+element_made spots t shape taken span s e lt = let test : nat_le 80 (length s.place) ≡ false = grind (arith, nat_tests) in rw (e, test) refl
 
-pub element_stopped : (nodes : List Node) (spots : List Spot) (t : ℕ) (node : Node) → Holds nodes spots → t < length nodes → node ≡ get_or nodes t node → 80 ≤ node.steps → element_added spots t ≡ None
-element_stopped nodes spots t node holds lt is le =
+pub element_stopped : (nodes : List Node) (spots : List Spot) (t : ℕ) (node : Node) (shape : Shape) (taken : Taken) (span : Option Span) → Holds nodes spots → t < length nodes → node ≡ get_or nodes t node → 80 ≤ node.steps → element_added spots t shape taken span ≡ None
+element_stopped nodes spots t node shape taken span holds lt is le =
     let k = kept_at nodes spots t node holds lt is in
-    element_long spots t k.spot k.spot_is (let e = k.keeps.steps in omega arith)
+    element_long spots t shape taken span k.spot k.spot_is (let e = k.keeps.steps in omega arith)
 
 -- a node with an element more
 pub record Extended (old new : Node) (count : ℕ) : Type 0 where
@@ -310,21 +310,21 @@ extended_keeps old new count s keeps i = record {
   span = i.span ∙ keeps.span;
 }
 
-pub element_done : (nodes nodes2 : List Node) (spots : List Spot) (t count : ℕ) (old node2 last : Node) (content : Content) → Holds nodes spots → t < count → count ≡ length nodes → old ≡ get_or nodes t old → old.steps < 80 → Extended old node2 count
-    → shape_of content ≡ section → Starts last content Element old.steps None → nodes2 ≡ slice_set nodes t node2 ++ last ∷ [] → (made : List Spot) × (element_added spots t ≡ Some (made, count)) × Holds nodes2 made
-element_done nodes nodes2 spots t count old node2 last content holds lt size was few extended table starts made =
+pub element_done : (nodes nodes2 : List Node) (spots : List Spot) (t count : ℕ) (old node2 last : Node) (content : Content) (taken : Taken) (span : Option Span) → Holds nodes spots → t < count → count ≡ length nodes → old ≡ get_or nodes t old → old.steps < 80 → Extended old node2 count
+    → Starts last content taken old.steps span → nodes2 ≡ slice_set nodes t node2 ++ last ∷ [] → (made : List Spot) × (element_added spots t (shape_of content) taken span ≡ Some (made, count)) × Holds nodes2 made
+element_done nodes nodes2 spots t count old node2 last content taken span holds lt size was few extended starts made =
     let lt2 : t < length nodes = omega arith in
     let k = kept_at nodes spots t old holds lt2 was in
     let number : count ≡ length spots = size ∙ holds.len in
     let place = at k.spot.place (index (length k.spot.elements)) in
     let long : length (at k.spot.place (index (length k.spot.elements))) ≡ old.steps + 1 = length_push k.spot.place (index (length k.spot.elements)) ∙ ap (λ (n : ℕ). n + 1) (sym k.keeps.steps) in
     let first = holds_set nodes spots t node2 (with_element k.spot count) holds lt2 (extended_keeps old node2 count k.spot k.keeps extended) in
-    let keeps : Keeps last (spot_at place section Element None) = subst (λ (sh : Shape). Keeps last (spot_at place sh Element None)) table (starts_keeps last content Element old.steps None place starts long) in
-    let both = holds_push (slice_set nodes t node2) (slice_set spots t (with_element k.spot count)) last (spot_at place section Element None) first keeps in
+    let keeps : Keeps last (spot_at place (shape_of content) taken span) = starts_keeps last content taken old.steps span place starts long in
+    let both = holds_push (slice_set nodes t node2) (slice_set spots t (with_element k.spot count)) last (spot_at place (shape_of content) taken span) first keeps in
     let fits : length k.spot.place < 80 = (let e = k.keeps.steps in omega arith) in (
-      slice_set spots t (with_element k.spot count) ++ spot_at place section Element None ∷ [],
-      element_made spots t k.spot k.spot_is fits ∙ ap (λ (n : ℕ). Some (slice_set spots t (with_element k.spot n) ++ spot_at place section Element None ∷ [], n)) (sym number),
-      subst (λ (ns : List Node). Holds ns (slice_set spots t (with_element k.spot count) ++ spot_at place section Element None ∷ [])) (sym made) both,
+      slice_set spots t (with_element k.spot count) ++ spot_at place (shape_of content) taken span ∷ [],
+      element_made spots t (shape_of content) taken span k.spot k.spot_is fits ∙ ap (λ (n : ℕ). Some (slice_set spots t (with_element k.spot n) ++ spot_at place (shape_of content) taken span ∷ [], n)) (sym number),
+      subst (λ (ns : List Node). Holds ns (slice_set spots t (with_element k.spot count) ++ spot_at place (shape_of content) taken span ∷ [])) (sym made) both,
     )
 
 -- ---- members asserted

@@ -10,17 +10,20 @@ use Rattle.std.proofs.lemmas.Option.{slice_get_past}
 use Rattle.std.proofs.lemmas.Slice.Eq.{bytes_eq-Decides}
 use Rattle.edit_document.specs.declared.nodes.Span.{Span}
 use Rattle.edit_document.specs.declared.nodes.Taken.{Taken}
-use Rattle.edit_document.specs.declared.nodes.Taken.TheVariants.{Dotted, Super, Value, Header, Array, Element}
-use Rattle.edit_document.specs.Assertions.{Step, key, index, Place, at, Kind, super, array_kind, element_kind, Assertion, asserts, elements_at, resolved}
-use Rattle.edit_document.specs.DocumentLayout.{Placed}
+use Rattle.edit_document.specs.declared.nodes.Taken.TheVariants as takings
+use Rattle.edit_document.specs.declared.nodes.Taken.TheVariants.{Dotted, Super, Header, Array, Element}
+use Rattle.edit_document.specs.Assertions.{Step, key, index, Place, at, Kind, dotted, leaf, super, header_kind, array_kind, element_kind, Assertion, asserts, elements_at, resolved}
+use Rattle.edit_document.specs.Grammar.{Value, basic, literal, multi_basic, multi_literal, boolean, integer, float, datetime, array, inline}
+use Rattle.edit_document.specs.Tree.{kind_at}
+use Rattle.edit_document.specs.DocumentLayout.{shape_of_value, Placed}
 use Rattle.edit_document.specs.Taking.{taken_of, joins}
-use Rattle.edit_document.specs.Nodes.{section, Spot, StandsAt, below}
-use Rattle.edit_document.specs.Walk.{last_of, spot_at, target_of, with_taken, taken_again, with_member, with_element, added, element_added, numbered, asserted}
+use Rattle.edit_document.specs.Nodes.{Shape, section, Spot, StandsAt, below}
+use Rattle.edit_document.specs.Walk.{last_of, last_table, spot_at, target_of, with_taken, taken_again, with_member, with_element, added, element_added, numbered, asserted}
 use Rattle.edit_document.proofs.SamePlace.{not_root}
 use Rattle.edit_document.proofs.Adding.{get_front, get_last, equal_or, child_is, target_is, target_other, added_long, added_made, element_long, element_made, asserted_new, asserted_old}
-use Rattle.edit_document.proofs.MoreAssertions.{first_kind, allowed, IsClear, clash_last, short_last, is_element, elements_below, elements_none}
+use Rattle.edit_document.proofs.MoreAssertions.{first_kind, allowed, IsClear, clash_last, short_last, is_element, is_headed, elements_below, elements_none}
 use Rattle.edit_document.proofs.Trees.{Grows, grows_set, Gains}
-use Rattle.edit_document.proofs.Standing.{noted, shape_of_kind, Stands, nothing_below_spot, nothing_under, stands_again}
+use Rattle.edit_document.proofs.Standing.{IsIndexed, noted, shape_of_kind, Stands, was_asserted, nothing_below_spot, nothing_under, stands_again}
 use Rattle.edit_document.proofs.Gaining.{Shows, stands_gained, gained_grows, gained_last}
 
 -- the spots stand for one assertion more, whose place has a number; or it clashes
@@ -107,23 +110,24 @@ added_makes made written spots t s name a span st here none place plain = elim (
       let s2 = with_member s name (length spots) in
       let gains = member_gains s name (length spots) none in
       let shows = member_shows s name (length spots) in
-      let indexed : (i : ℕ) → key name ≡ index i → first_kind made s.place ≡ Some array_kind = λ i e. absurd cc in
+      let indexed : (i : ℕ) → key name ≡ index i → IsIndexed made s.place i = λ i e. absurd cc in
+      let unindexed : (k : Kind) → first_kind made s.place ≡ Some k → is_headed k ≡ true → is_element a.kind ≡ false = λ k f e. plain in
       let last = spot_at a.place (shape_of_kind a.kind) (taken_of a.kind) span in
       let is : added spots t name (shape_of_kind a.kind) (taken_of a.kind) span ≡ Some (slice_set spots t s2 ++ last ∷ [], length spots) =
       added_made spots t name (shape_of_kind a.kind) (taken_of a.kind) span s here few
       ∙ ap (λ (p : Place). Some (slice_set spots t (with_member s name (length spots)) ++ spot_at p (shape_of_kind a.kind) (taken_of a.kind) span ∷ [], length spots)) (sym place) in
-      makes (slice_set spots t s2 ++ last ∷ []) (length spots) is (stands_gained made written spots t s s2 (key name) a span st here gains shows place plain indexed few)
-      (gained_last made written spots t s s2 (key name) a span st here gains shows place plain indexed few) (gained_grows made written spots t s s2 (key name) a span st here gains shows place plain indexed few)
+      makes (slice_set spots t s2 ++ last ∷ []) (length spots) is (stands_gained made written spots t s s2 (key name) a span st here gains shows place unindexed indexed few)
+      (gained_last made written spots t s s2 (key name) a span st here gains shows place unindexed indexed few) (gained_grows made written spots t s s2 (key name) a span st here gains shows place unindexed indexed few)
   | inr many ↦ fails (added_long spots t name (shape_of_kind a.kind) (taken_of a.kind) span s here many) (too_long made a s.place (key name) place many)
 ]
 
 -- only a value has a span
 abbrev pub IsSpanFor : Kind → Option Span → Type 0
-IsSpanFor k span = (span ≡ None) ⊎ (taken_of k ≡ Value)
+IsSpanFor k span = (span ≡ None) ⊎ (taken_of k ≡ takings.Value)
 
-no_value_again : (t : Taken) → joins t Value ≡ true → ⊥
+no_value_again : (t : Taken) → joins t takings.Value ≡ true → ⊥
 no_value_again Dotted e = cc
-no_value_again Value e = cc
+no_value_again takings.Value e = cc
 no_value_again Super e = cc
 no_value_again Header e = cc
 no_value_again Array e = cc
@@ -161,9 +165,40 @@ member_makes made written spots t s name a span st here place plain kind spanned
 resolved_by : (earlier : List Assertion) (p : Place) (n : ℕ) → elements_at earlier p ≡ n → resolved earlier p ≡ cond (nat_lt 0 n) (at p (index (n - 1))) p
 resolved_by earlier p n e = ap (λ (m : ℕ). cond (nat_lt 0 m) (at p (index (m - 1))) p) e
 
+-- what has no table of its own among its elements
+no_table : (v : Value) (numbers : List ℕ) → last_table (shape_of_value v) numbers ≡ None
+no_table (basic ps) numbers = refl
+no_table (literal text) numbers = refl
+no_table (multi_basic ps) numbers = refl
+no_table (multi_literal ps) numbers = refl
+no_table (boolean b) numbers = refl
+no_table (integer n) numbers = refl
+no_table (float f) numbers = refl
+no_table (datetime d) numbers = refl
+no_table (array g es) numbers = refl
+no_table (inline g ms) numbers = refl
+
+no_last : (k : Kind) (numbers : List ℕ) → (k ≡ array_kind → ⊥) → last_table (shape_of_kind k) numbers ≡ None
+no_last (dotted true) numbers ne = refl
+no_last (dotted false) numbers ne = refl
+no_last (leaf v) numbers ne = no_table v numbers
+no_last super numbers ne = refl
+no_last header_kind numbers ne = refl
+no_last array_kind numbers ne = absurd (ne refl)
+no_last element_kind numbers ne = refl
+
+array_or : (k : Kind) → (k ≡ array_kind) ⊎ (k ≡ array_kind → ⊥)
+array_or (dotted b) = inr (λ e. cc)
+array_or (leaf v) = inr (λ e. cc)
+array_or super = inr (λ e. cc)
+array_or header_kind = inr (λ e. cc)
+array_or array_kind = inl refl
+array_or element_kind = inr (λ e. cc)
+
 pub super_makes : (made earlier : List Assertion) (written : List Placed) (spots : List Spot) (t : ℕ) (s : Spot) (name : List ℕ) (by : Place) → Stands made written spots → slice_get spots t ≡ Some s
-    → ((p : Place) → elements_at earlier p ≡ elements_below made p) → Makes made written spots (asserts by (resolved earlier (at s.place (key name))) super) [] (asserted spots t name section Super None)
-super_makes made earlier written spots t s name by st here even = go (below s (key name)) refl
+    → ((p : Place) → elements_at earlier p ≡ elements_below made p) → ((p : Place) → (elements_at earlier p ≡ 0) ⊎ (kind_at made p ≡ Some array_kind))
+    → Makes made written spots (asserts by (resolved earlier (at s.place (key name))) super) [] (asserted spots t name section Super None)
+super_makes made earlier written spots t s name by st here even alone = go (below s (key name)) refl
   where
     p : Place
     p = at s.place (key name)
@@ -177,14 +212,17 @@ super_makes made earlier written spots t s name by st here even = go (below s (k
         makes_along (asserted_old spots t j name section Super None (child_is spots t s name here ∙ b) ∙ ap (λ (n : ℕ). numbered n (taken_again spots n Super)) target)
         (again_makes made written spots e d (asserts by (resolved earlier (at s.place (key name))) super) st stands (is ∙ sym place) (λ root. inner (sym place ∙ root)) refl)
 
-    counted : (j : ℕ) (d : Spot) → slice_get spots j ≡ Some d → d.place ≡ at s.place (key name) → elements_at earlier (at s.place (key name)) ≡ length d.elements
-    counted j d stands place = even (at s.place (key name)) ∙ ap (elements_below made) (sym place) ∙ sym (st.tells j d stands).count
+    counted : (j : ℕ) (d : Spot) → (stands : slice_get spots j ≡ Some d) → (st.tells j d stands).kind ≡ array_kind → d.place ≡ at s.place (key name) → elements_at earlier (at s.place (key name)) ≡ length d.elements
+    counted j d stands kind place = even (at s.place (key name)) ∙ ap (elements_below made) (sym place) ∙ sym ((st.tells j d stands).count (ap is_headed kind))
 
-    some : (j : ℕ) (d : Spot) (n : ℕ) → below s (key name) ≡ Some j → slice_get spots j ≡ Some d → d.place ≡ at s.place (key name) → length d.elements ≡ n → Makes made written spots (asserts by (resolved earlier (at s.place (key name))) super) [] (asserted spots t name section Super None)
-    some j d zero b stands place size =
+    last_is : (j : ℕ) (d : Spot) → (stands : slice_get spots j ≡ Some d) → (st.tells j d stands).kind ≡ array_kind → last_table d.shape d.elements ≡ last_of d.elements
+    last_is j d stands kind = ap (λ (x : Shape). last_table x d.elements) ((st.tells j d stands).shape ∙ ap shape_of_kind kind)
+
+    some : (j : ℕ) (d : Spot) (n : ℕ) → below s (key name) ≡ Some j → (stands : slice_get spots j ≡ Some d) → (st.tells j d stands).kind ≡ array_kind → d.place ≡ at s.place (key name) → length d.elements ≡ n → Makes made written spots (asserts by (resolved earlier (at s.place (key name))) super) [] (asserted spots t name section Super None)
+    some j d zero b stands kind place size =
         let none : last_of d.elements ≡ None = slice_get_past d.elements (length d.elements - 1) (omega arith) in
-        taken_at j j d (at s.place (key name)) b (target_is spots j d stands ∙ ap (λ (o : Option ℕ). unwrap_or o j) none) stands place (resolved_by earlier (at s.place (key name)) 0 (counted j d stands place ∙ size)) (not_root s.place (key name))
-    some j d (suc n) b stands place size =
+        taken_at j j d (at s.place (key name)) b (target_is spots j d stands ∙ ap (λ (o : Option ℕ). unwrap_or o j) (last_is j d stands kind ∙ none)) stands place (resolved_by earlier (at s.place (key name)) 0 (counted j d stands kind place ∙ size)) (not_root s.place (key name))
+    some j d (suc n) b stands kind place size =
         let lt : n < length d.elements = omega arith in
         let l = last_some d.elements n lt in
         let number : length d.elements - 1 ≡ n = omega arith in
@@ -193,7 +231,7 @@ super_makes made earlier written spots t s name by st here even = go (below s (k
         let last : last_of d.elements ≡ Some l.0 = ap (slice_get d.elements) number ∙ l.1 in
         let e = st.tree.down j l.0 d (index n) stands l.1 in
         let upper : e.0.place ≡ at (at s.place (key name)) (index n) = e.2 ∙ ap (λ (q : Place). at q (index n)) place in
-        taken_at j l.0 e.0 (at (at s.place (key name)) (index n)) b (target_is spots j d stands ∙ ap (λ (o : Option ℕ). unwrap_or o j) last) e.1 upper (resolved_by earlier (at s.place (key name)) (suc n) (counted j d stands place ∙ size) ∙ ap (λ (b : Bool). cond b (at (at s.place (key name)) (index (suc n - 1))) (at s.place (key name))) positive ∙ ap (λ (m : ℕ). at (at s.place (key name)) (index m)) less) (not_root (at s.place (key name)) (index n))
+        taken_at j l.0 e.0 (at (at s.place (key name)) (index n)) b (target_is spots j d stands ∙ ap (λ (o : Option ℕ). unwrap_or o j) (last_is j d stands kind ∙ last)) e.1 upper (resolved_by earlier (at s.place (key name)) (suc n) (counted j d stands kind place ∙ size) ∙ ap (λ (b : Bool). cond b (at (at s.place (key name)) (index (suc n - 1))) (at s.place (key name))) positive ∙ ap (λ (m : ℕ). at (at s.place (key name)) (index m)) less) (not_root (at s.place (key name)) (index n))
       where
         last_some : (xs : List ℕ) (i : ℕ) → i < length xs → (x : ℕ) × (slice_get xs i ≡ Some x)
         last_some xs i lt = pick (slice_get xs i) refl
@@ -207,6 +245,18 @@ super_makes made earlier written spots t s name by st here even = go (below s (k
                 past (x ∷ xs) zero lt e = cc
                 past (x ∷ xs) (suc i) lt e = past xs i (omega arith) e
 
+    -- no array of tables
+    none : (j : ℕ) (d : Spot) → below s (key name) ≡ Some j → (stands : slice_get spots j ≡ Some d) → ((st.tells j d stands).kind ≡ array_kind → ⊥) → d.place ≡ at s.place (key name) → Makes made written spots (asserts by (resolved earlier (at s.place (key name))) super) [] (asserted spots t name section Super None)
+    none j d b stands other place =
+        let told = st.tells j d stands in
+        let bare : last_table d.shape d.elements ≡ None = ap (λ (x : Shape). last_table x d.elements) told.shape ∙ no_last told.kind d.elements other in
+        let inner : d.place ≡ [] → ⊥ = λ root. not_root s.place (key name) (sym place ∙ root) in
+        let zero_elements : elements_at earlier (at s.place (key name)) ≡ 0 = elim (alone (at s.place (key name))) [
+          | inl e ↦ e
+          | inr k ↦ absurd (other (let same : Some told.kind ≡ Some array_kind = sym (was_asserted told inner) ∙ ap (kind_at made) place ∙ k in cc))
+        ] in
+        taken_at j j d (at s.place (key name)) b (target_is spots j d stands ∙ ap (λ (o : Option ℕ). unwrap_or o j) bare) stands place (resolved_by earlier (at s.place (key name)) 0 zero_elements) (not_root s.place (key name))
+
     go : (o : Option ℕ) → below s (key name) ≡ o → Makes made written spots (asserts by (resolved earlier (at s.place (key name))) super) [] (asserted spots t name section Super None)
     go None e =
         let nothing = nothing_below_spot made written spots t s (key name) st here e in
@@ -214,7 +264,12 @@ super_makes made earlier written spots t s name by st here even = go (below s (k
         even (at s.place (key name)) ∙ elements_none made (at s.place (key name)) (λ y. nothing_under made written spots (at s.place (key name)) y st (not_root s.place (key name)) nothing) in
         let is : resolved earlier (at s.place (key name)) ≡ at s.place (key name) = resolved_by earlier (at s.place (key name)) 0 zero_elements in
         makes_along (asserted_new spots t name section Super None (child_is spots t s name here ∙ e)) (added_makes made written spots t s name (asserts by (resolved earlier (at s.place (key name))) super) None st here e is refl)
-    go (Some j) e = let d = st.tree.down t j s (key name) here e in some j d.0 (length d.0.elements) e d.1 d.2 refl
+    go (Some j) e =
+        let d = st.tree.down t j s (key name) here e in
+        elim (array_or (st.tells j d.0 d.1).kind) [
+          | inl kind ↦ some j d.0 (length d.0.elements) e d.1 kind d.2 refl
+          | inr other ↦ none j d.0 e d.1 other d.2
+        ]
 
 -- ---- an element more
 
@@ -236,22 +291,20 @@ element_gains s number = record { place = refl; gained = get_last s.elements num
 element_shows : (s : Spot) (number : ℕ) → Shows s (with_element s number) (index (length s.elements))
 element_shows s number = record { shape = refl; taken = refl; span = refl; names = sym (append-nil (map (λ (e : List ℕ × ℕ). e.0) s.members)); count = length_push s.elements number ∙ (let n : length s.elements + 1 ≡ suc (length s.elements) = omega arith in n) }
 
-pub element_makes : (made : List Assertion) (written : List Placed) (spots : List Spot) (t : ℕ) (s : Spot) (a : Assertion) → Stands made written spots → slice_get spots t ≡ Some s → a.place ≡ at s.place (index (length s.elements)) → a.kind ≡ element_kind
-    → first_kind made s.place ≡ Some array_kind → Makes made written spots a [] (element_added spots t)
-element_makes made written spots t s a st here place kind arrays = elim (cases_lt (length s.place) 80) [
+pub element_makes : (made : List Assertion) (written : List Placed) (spots : List Spot) (t : ℕ) (s : Spot) (a : Assertion) (span : Option Span) → Stands made written spots → slice_get spots t ≡ Some s → a.place ≡ at s.place (index (length s.elements))
+    → ((k : Kind) → first_kind made s.place ≡ Some k → is_headed k ≡ true → is_element a.kind ≡ true) → IsIndexed made s.place (length s.elements) → Makes made written spots a (noted a.place span) (element_added spots t (shape_of_kind a.kind) (taken_of a.kind) span)
+element_makes made written spots t s a span st here place plain lists = elim (cases_lt (length s.place) 80) [
   | inl few ↦
       let x = index (length s.elements) in
       let s2 = with_element s (length spots) in
       let gains = element_gains s (length spots) in
       let shows = element_shows s (length spots) in
-      let plain : is_element a.kind ≡ true = ap is_element kind in
-      let indexed : (i : ℕ) → index (length s.elements) ≡ index i → first_kind made s.place ≡ Some array_kind = λ i e. arrays in
-      let last = spot_at a.place (shape_of_kind a.kind) (taken_of a.kind) None in
-      let is : element_added spots t ≡ Some (slice_set spots t s2 ++ last ∷ [], length spots) =
-      element_made spots t s here few
-      ∙ ap (λ (p : Place). Some (slice_set spots t (with_element s (length spots)) ++ spot_at p section Element None ∷ [], length spots)) (sym place)
-      ∙ ap (λ (k : Kind). Some (slice_set spots t (with_element s (length spots)) ++ spot_at a.place (shape_of_kind k) (taken_of k) None ∷ [], length spots)) (sym kind) in
-      makes (slice_set spots t s2 ++ last ∷ []) (length spots) is (stands_gained made written spots t s s2 x a None st here gains shows place plain indexed few)
-      (gained_last made written spots t s s2 x a None st here gains shows place plain indexed few) (gained_grows made written spots t s s2 x a None st here gains shows place plain indexed few)
-  | inr many ↦ fails (element_long spots t s here many) (too_long made a s.place (index (length s.elements)) place many)
+      let indexed : (i : ℕ) → index (length s.elements) ≡ index i → IsIndexed made s.place i = λ i e. subst (IsIndexed made s.place) (let same : length s.elements ≡ i = cc in same) lists in
+      let last = spot_at a.place (shape_of_kind a.kind) (taken_of a.kind) span in
+      let is : element_added spots t (shape_of_kind a.kind) (taken_of a.kind) span ≡ Some (slice_set spots t s2 ++ last ∷ [], length spots) =
+      element_made spots t (shape_of_kind a.kind) (taken_of a.kind) span s here few
+      ∙ ap (λ (p : Place). Some (slice_set spots t (with_element s (length spots)) ++ spot_at p (shape_of_kind a.kind) (taken_of a.kind) span ∷ [], length spots)) (sym place) in
+      makes (slice_set spots t s2 ++ last ∷ []) (length spots) is (stands_gained made written spots t s s2 x a span st here gains shows place plain indexed few)
+      (gained_last made written spots t s s2 x a span st here gains shows place plain indexed few) (gained_grows made written spots t s s2 x a span st here gains shows place plain indexed few)
+  | inr many ↦ fails (element_long spots t (shape_of_kind a.kind) (taken_of a.kind) span s here many) (too_long made a s.place (index (length s.elements)) place many)
 ]

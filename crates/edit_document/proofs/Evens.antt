@@ -1,9 +1,10 @@
 -- Behind each statement every array of tables has as many elements as were asserted of it.
-use Rattle.std.proofs.Common.{◌≡◌, ℕ, suc, Bool, true, false, cond, ◌&&◌, List, [], ◌∷◌, ◌++◌, refl, sym, ap, ◌∙◌, inl, inr, append_assoc, subst}
+use Rattle.std.proofs.Common.{◌≡◌, ℕ, suc, Bool, true, false, cond, ◌&&◌, List, [], ◌∷◌, ◌++◌, Option, Some, None, refl, sym, ap, ◌∙◌, ◌⊎◌, inl, inr, append_assoc, subst}
 use Rattle.std.specs.List.{AllByRecursion}
 use Rattle.edit_document.specs.Grammar.{Value, basic, literal, multi_basic, multi_literal, boolean, integer, float, datetime, array, inline, Elements, no_elements, last_element, element, Members, no_members, last_member, member, Statement, pair, header, element_header}
-use Rattle.edit_document.specs.Assertions.{key, index, Place, at, same_place, Kind, dotted, leaf, super, header_kind, array_kind, element_kind, Assertion, asserts, names, named, of_key, of_value, of_elements, of_members, is_array, is_array_at, elements_at, resolved, fronts, header_place, of_statement}
-use Rattle.edit_document.proofs.SamePlace.{last_same, other_place, same_place_self, place_or}
+use Rattle.edit_document.specs.Assertions.{key, index, Place, at, same_place, Kind, dotted, leaf, super, header_kind, array_kind, element_kind, Assertion, asserts, together, NoClash, names, named, of_key, of_value, of_elements, of_members, is_array, is_array_at, elements_at, resolved, fronts, header_place, of_statement}
+use Rattle.edit_document.specs.Tree.{kind_at}
+use Rattle.edit_document.proofs.SamePlace.{same_place_is, last_same, other_place, same_place_self, place_or}
 use Rattle.edit_document.proofs.MoreAssertions.{is_element, elements_below, elements_stay, elements_grow, elements_else}
 
 -- as many arrays as elements are asserted
@@ -64,6 +65,61 @@ even_plain made (a ∷ more) e h =
 plain_both : (xs ys : List Assertion) → ArePlain xs → ArePlain ys → ArePlain (xs ++ ys)
 plain_both [] ys h g = g
 plain_both (x ∷ xs) ys h g = (h.0, plain_both xs ys h.1 g)
+
+-- ---- an array stands alone
+
+no_arrays : (p : Place) (k : Kind) (made : List Assertion) → AllByRecursion (λ b. p ≡ b.place → together k b.kind ≡ true) made → is_array k ≡ false → elements_at made p ≡ 0
+no_arrays p k [] h ne = refl
+no_arrays p k (b ∷ made) h ne = go (same_place b.place p) refl (no_arrays p k made h.1 ne)
+  where
+    other : (j : Kind) → together k j ≡ true → is_array j ≡ false
+    other (dotted w) t = refl
+    other (leaf v) t = refl
+    other super t = refl
+    other header_kind t = refl
+    other element_kind t = refl
+    other array_kind t = pick k t ne
+      where
+        pick : (x : Kind) → together x array_kind ≡ true → is_array x ≡ false → true ≡ false
+        pick (dotted w) t ne = absurd cc
+        pick (leaf v) t ne = absurd cc
+        pick super t ne = absurd cc
+        pick header_kind t ne = absurd cc
+        pick array_kind t ne = ne
+        pick element_kind t ne = absurd cc
+
+    go : (t : Bool) → same_place b.place p ≡ t → elements_at made p ≡ 0 → elements_at (b ∷ made) p ≡ 0
+    go true t ih = let plain = other b.kind (h.0 (sym (same_place_is b.place p t))) in rw plain ih
+    go false t ih = rw (t, nothing (is_array b.kind)) ih
+      where
+        nothing : (x : Bool) → (x && false) ≡ false
+        nothing true = refl
+        nothing false = refl
+
+-- where an array of tables is asserted, it is the first
+pub arrays_alone : (made : List Assertion) (p : Place) → NoClash made → (elements_at made p ≡ 0) ⊎ (kind_at made p ≡ Some array_kind)
+arrays_alone [] p h = inl refl
+arrays_alone (a ∷ made) p h = go (same_place a.place p) refl (arrays_alone made p h.1)
+  where
+    first : (k : Kind) → a.kind ≡ k → same_place a.place p ≡ true → (elements_at (a ∷ made) p ≡ 0) ⊎ (kind_at (a ∷ made) p ≡ Some array_kind)
+    first array_kind e t = inr (rw (t, e) refl)
+    first (dotted w) e t = inl (rw e (no_arrays p (dotted w) made (here (dotted w) e t) refl))
+    first (leaf v) e t = inl (rw e (no_arrays p (leaf v) made (here (leaf v) e t) refl))
+    first super e t = inl (rw e (no_arrays p super made (here super e t) refl))
+    first header_kind e t = inl (rw e (no_arrays p header_kind made (here header_kind e t) refl))
+    first element_kind e t = inl (rw e (no_arrays p element_kind made (here element_kind e t) refl))
+
+    here : (k : Kind) → a.kind ≡ k → same_place a.place p ≡ true → AllByRecursion (λ b. p ≡ b.place → together k b.kind ≡ true) made
+    here k e t = subst (λ (x : Kind). AllByRecursion (λ b. p ≡ b.place → together x b.kind ≡ true) made) e (subst (λ (q : Place). AllByRecursion (λ b. q ≡ b.place → together a.kind b.kind ≡ true) made) (same_place_is a.place p t) h.0)
+
+    go : (t : Bool) → same_place a.place p ≡ t → (elements_at made p ≡ 0) ⊎ (kind_at made p ≡ Some array_kind) → (elements_at (a ∷ made) p ≡ 0) ⊎ (kind_at (a ∷ made) p ≡ Some array_kind)
+    go true t ih = first a.kind refl t
+    go false t (inl e) = inl (rw (t, nothing (is_array a.kind)) e)
+      where
+        nothing : (x : Bool) → (x && false) ≡ false
+        nothing true = refl
+        nothing false = refl
+    go false t (inr e) = inr (rw t e)
 
 -- ---- what values and headers assert
 

@@ -13,9 +13,9 @@ use Rattle.edit_document.specs.Nodes.{Spot, names_of, StandsAt, below}
 use Rattle.edit_document.specs.Walk.{spot_at}
 use Rattle.edit_document.proofs.SamePlace.{last_same, not_root, not_below, place_or}
 use Rattle.edit_document.proofs.Takings.{together_is}
-use Rattle.edit_document.proofs.MoreAssertions.{kind_stays, kind_new, kind_else, kind_back, first_kind, first_stays, first_is, allowed_else, allowed_here, allowed_none, clear_more, members_new, members_else, members_none, is_element, elements_below, elements_stay, elements_grow, elements_else, elements_none}
+use Rattle.edit_document.proofs.MoreAssertions.{kind_stays, kind_new, kind_else, kind_back, first_kind, first_stays, first_is, allowed_else, allowed_here, allowed_none, clear_more, members_new, members_else, members_none, is_element, is_headed, elements_below, elements_stay, elements_grow, elements_else, elements_none}
 use Rattle.edit_document.proofs.Trees.{Grows, Gains, grown, last_is, tree_gain, each_gain}
-use Rattle.edit_document.proofs.Standing.{noted, span_else, span_here, shape_of_kind, Tells, Stands, was_asserted, nothing_below_spot, nothing_under}
+use Rattle.edit_document.proofs.Standing.{IsIndexed, indexed_stays, noted, span_else, span_here, shape_of_kind, Tells, Stands, was_asserted, nothing_below_spot, nothing_under}
 
 abbrev pub is_index : Step → Bool
 is_index (key n) = false
@@ -38,7 +38,7 @@ counted made a p (key n) place e = elements_stay made a p e
 counted made a p (index i) place e = elements_grow made a p i e place
 
 module _ (made : List Assertion) (written : List Placed) (spots : List Spot) (t : ℕ) (s s2 : Spot) (x : Step) (a : Assertion) (span : Option Span) (st : Stands made written spots) (here : slice_get spots t ≡ Some s) (gains : Gains s s2 x (length spots)) (shows : Shows s s2 x)
-    (place : a.place ≡ at s.place x) (element : is_element a.kind ≡ is_index x) (indexed : (i : ℕ) → x ≡ index i → first_kind made s.place ≡ Some array_kind) (few : length s.place < 80) where
+    (place : a.place ≡ at s.place x) (element : (k : Kind) → first_kind made s.place ≡ Some k → is_headed k ≡ true → is_element a.kind ≡ is_index x) (indexed : (i : ℕ) → x ≡ index i → IsIndexed made s.place i) (few : length s.place < 80) where
   nothing : kind_at made (at s.place x) ≡ None
   nothing = nothing_below_spot made written spots t s x st here gains.absent
 
@@ -76,7 +76,7 @@ module _ (made : List Assertion) (written : List Placed) (spots : List Spot) (t 
         names =
             shows.names ∙ ap (λ (ns : List (List ℕ)). ns ++ key_names (x ∷ [])) k.names ∙ sym (filter_map-append name_of_step (members_of made s.place) (x ∷ []))
             ∙ ap key_names (sym (members_new made a s.place x place nothing));
-        count = shows.count ∙ ap (more_elements x) k.count ∙ sym (counted made a s.place x place element);
+        count = λ e. shows.count ∙ ap (more_elements x) (k.count e) ∙ sym (counted made a s.place x place (element k.kind k.first e));
         span = shows.span ∙ k.span ∙ sym (span_else written a.place s.place span apart);
       } in
       subst (λ (q : Place). Tells (made ++ a ∷ []) (written ++ noted a.place span) (record s2 { place = q })) (sym gains.place) tells
@@ -90,7 +90,7 @@ module _ (made : List Assertion) (written : List Placed) (spots : List Spot) (t 
         shape = refl;
         joined = λ root l. allowed_here made a a.place l refl ∙ ap (λ (b : Bool). b && together a.kind l) (allowed_none made a.place l none) ∙ together_is a.kind l;
         names = ap key_names (sym (members_else made a a.place (λ y e. not_below a.place y (sym e)) ∙ members_none made a.place under));
-        count = sym (elements_else made a a.place (λ i e. not_below a.place (index i) (sym e)) ∙ elements_none made a.place under);
+        count = λ e. sym (elements_else made a a.place (λ i e. not_below a.place (index i) (sym e)) ∙ elements_none made a.place under);
         span = sym (span_here written a.place span (unwritten (span_at written a.place) refl));
       }
     where
@@ -109,7 +109,7 @@ module _ (made : List Assertion) (written : List Placed) (spots : List Spot) (t 
         shape = k.shape;
         joined = λ root l. allowed_else made a u.place l off ∙ k.joined root l;
         names = k.names ∙ ap key_names (sym (members_else made a u.place under));
-        count = k.count ∙ sym (elements_else made a u.place (λ j e. under (index j) e));
+        count = λ e. k.count e ∙ sym (elements_else made a u.place (λ j e. under (index j) e));
         span = k.span ∙ sym (span_else written a.place u.place span off);
       }
 
@@ -134,10 +134,10 @@ module _ (made : List Assertion) (written : List Placed) (spots : List Spot) (t 
     ];
     rooted = kind_else made a [] inner ∙ st.rooted;
     indexed = λ p i k e. elim (kind_back made a (at p (index i)) k e) [
-      | inl earlier ↦ first_stays made a p array_kind (st.indexed p i k earlier)
+      | inl earlier ↦ indexed_stays made a p i (st.indexed p i k earlier)
       | inr same ↦
           let steps = last_same s.place p x (index i) (sym place ∙ same) in
-          first_stays made a p array_kind (ap (first_kind made) (sym steps.0) ∙ indexed i steps.1)
+          indexed_stays made a p i (subst (λ (q : Place). IsIndexed made q i) steps.0 (indexed i steps.1))
     ];
     spans = λ p w e. written_there p w e;
     clear = clear_more made a st.clear (allowed_none made a.place a.kind none) (let l : length (at s.place x) ≡ length s.place + 1 = length_push s.place x in let m : length a.place ≡ length (at s.place x) = ap length place in omega arith);

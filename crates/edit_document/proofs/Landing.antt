@@ -1,18 +1,19 @@
 -- Where a key leads: each part before the last asserts a place, and the last one the place that is named.
-use Rattle.std.proofs.Common.{◌≡◌, ℕ, Bool, true, false, List, [], ◌∷◌, ◌++◌, map, Option, Some, None, refl, sym, ap, subst, ◌∙◌, inl, inr, append_assoc}
+use Rattle.std.proofs.Common.{◌≡◌, ℕ, Bool, true, false, List, [], ◌∷◌, ◌++◌, map, Option, Some, None, refl, sym, ap, subst, ◌∙◌, ◌⊎◌, inl, inr, append_assoc}
 use Rattle.std.proofs.lemmas.List.{append-nil}
 use Rattle.edit_document.specs.declared.nodes.Span.{Span}
 use Rattle.edit_document.specs.declared.nodes.Taken.{Taken}
 use Rattle.edit_document.specs.declared.nodes.Taken.TheVariants.{Dotted, Value, Super}
 use Rattle.edit_document.specs.Grammar.{Value as Written}
-use Rattle.edit_document.specs.Assertions.{key, Place, at, Kind, dotted, leaf, super, Assertion, asserts, named, of_key, elements_at, resolved, fronts, header_place}
+use Rattle.edit_document.specs.Assertions.{key, Place, at, Kind, dotted, leaf, super, array_kind, Assertion, asserts, named, of_key, elements_at, resolved, fronts, header_place}
+use Rattle.edit_document.specs.Tree.{kind_at}
 use Rattle.edit_document.specs.Reading.{◌>>=◌}
 use Rattle.edit_document.specs.DocumentLayout.{shape_of_value, Placed}
 use Rattle.edit_document.specs.Taking.{taken_of}
 use Rattle.edit_document.specs.Nodes.{Shape, section, Spot, StandsAt}
 use Rattle.edit_document.specs.Walk.{asserted, front_shape, reached}
 use Rattle.edit_document.proofs.Adding.{reached_none, reached_more}
-use Rattle.edit_document.proofs.MoreAssertions.{IsClear, clear_front, is_element, elements_below, elements_stay}
+use Rattle.edit_document.proofs.MoreAssertions.{kind_stays, IsClear, clear_front, is_element, elements_below, elements_stay}
 use Rattle.edit_document.proofs.Trees.{Grows, grows_then}
 use Rattle.edit_document.proofs.Standing.{noted, shape_of_kind, Stands}
 use Rattle.edit_document.proofs.Asserting.{Makes, makes, fails, makes_along, member_makes, super_makes}
@@ -93,20 +94,24 @@ pair_lands spots t p n (m ∷ ns) within by v span made written st there =
 
 -- ---- the key of a header
 
+still : (made : List Assertion) (a : Assertion) (earlier : List Assertion) (q : Place) → (elements_at earlier q ≡ 0) ⊎ (kind_at made q ≡ Some array_kind) → (elements_at earlier q ≡ 0) ⊎ (kind_at (made ++ a ∷ []) q ≡ Some array_kind)
+still made a earlier q (inl e) = inl e
+still made a earlier q (inr e) = inr (kind_stays made a q array_kind e)
+
 pub header_lands : (spots : List Spot) (t : ℕ) (p : Place) (n : List ℕ) (ns : List (List ℕ)) (earlier : List Assertion) (by by2 : Place) (k : Kind) (made : List Assertion) (written : List Placed) → Stands made written spots → StandsAt spots t p
-    → ((q : Place) → elements_at earlier q ≡ elements_below made q) → is_element k ≡ false → (taken_of k ≡ Super → ⊥)
+    → ((q : Place) → elements_at earlier q ≡ elements_below made q) → ((q : Place) → (elements_at earlier q ≡ 0) ⊎ (kind_at made q ≡ Some array_kind)) → is_element k ≡ false → (taken_of k ≡ Super → ⊥)
     → Lands spots (made ++ (fronts earlier by p (n ∷ ns) ++ asserts by2 (header_place earlier p (n ∷ ns)) k ∷ [])) written (header_place earlier p (n ∷ ns)) (landed spots t (fore n ns) section Super (rear n ns) (shape_of_kind k) (taken_of k) None)
-header_lands spots t p n [] earlier by by2 k made written st there even plain kind =
+header_lands spots t p n [] earlier by by2 k made written st there even alone plain kind =
     let a : Assertion = asserts by2 (at p (key n)) k in
     let place : a.place ≡ at there.0.place (key n) = ap (λ (q : Place). at q (key n)) (sym there.2) in
     subst (λ (w : List Placed). Lands spots (made ++ a ∷ []) w (at p (key n)) (landed spots t [] section Super n (shape_of_kind k) (taken_of k) None)) (append-nil written)
     (lands_along (landed_none spots t section Super n (shape_of_kind k) (taken_of k) None)
     (lands_made spots made written [] a (asserted spots t n (shape_of_kind k) (taken_of k) None) (member_makes made written spots t there.0 n a None st there.1 place plain kind (inl refl))))
-header_lands spots t p n (m ∷ ns) earlier by by2 k made written st there even plain kind =
+header_lands spots t p n (m ∷ ns) earlier by by2 k made written st there even alone plain kind =
     let q = resolved earlier (at p (key n)) in
     let a : Assertion = asserts by (resolved earlier (at p (key n))) super in
     let first : Makes made written spots a [] (asserted spots t n section Super None) =
-    subst (λ (r : Place). Makes made written spots (asserts by (resolved earlier (at r (key n))) super) [] (asserted spots t n section Super None)) there.2 (super_makes made earlier written spots t there.0 n by st there.1 even) in
+    subst (λ (r : Place). Makes made written spots (asserts by (resolved earlier (at r (key n))) super) [] (asserted spots t n section Super None)) there.2 (super_makes made earlier written spots t there.0 n by st there.1 even alone) in
     let rest = fronts earlier by q (m ∷ ns) ++ asserts by2 (header_place earlier q (m ∷ ns)) k ∷ [] in
     lands_more spots t n (fore m ns) section Super (rear m ns) (shape_of_kind k) (taken_of k) None made rest written written (header_place earlier q (m ∷ ns)) a first
-    (λ now j stands here. header_lands now j q m ns earlier by by2 k (made ++ a ∷ []) written stands here (λ r. even r ∙ sym (elements_stay made a r refl)) plain kind)
+    (λ now j stands here. header_lands now j q m ns earlier by by2 k (made ++ a ∷ []) written stands here (λ r. even r ∙ sym (elements_stay made a r refl)) (λ r. still made a earlier r (alone r)) plain kind)

@@ -1,27 +1,28 @@
 -- The walk over the marks of a key and of what it is for, against the assertions that are made.
-use Rattle.std.proofs.Common.{◌≡◌, ℕ, ◌+◌, ◌-◌, Bool, true, false, cond, List, [], ◌∷◌, ◌++◌, length, map, take, Option, Some, None, refl, sym, ap, subst, ◌∙◌, inl, inr, append_assoc, length-append, arith}
+use Rattle.std.proofs.Common.{◌≡◌, ℕ, ◌+◌, ◌-◌, ◌<◌, Bool, true, false, cond, List, [], ◌∷◌, ◌++◌, length, map, take, Option, Some, None, refl, sym, ap, subst, ◌∙◌, inl, inr, append_assoc, length-append, arith}
 use Rattle.std.specs.Prelude.{slice_get, slice_set}
-use Rattle.std.proofs.lemmas.Option.{slice_get_within}
+use Rattle.std.proofs.lemmas.Option.{slice_get_past, slice_get_within}
 use Rattle.edit_document.specs.declared.read.marks.Mark.{Mark}
 use Rattle.edit_document.specs.declared.nodes.Span.{Span}
 use Rattle.edit_document.specs.declared.nodes.Taken.{Taken}
 use Rattle.edit_document.specs.declared.nodes.Taken.TheVariants.{Dotted, Value}
-use Rattle.edit_document.specs.Grammar.{Value as Written}
-use Rattle.edit_document.specs.Assertions.{key, Place, same_place, Kind, dotted, leaf, Assertion, asserts, named, of_key, together}
-use Rattle.edit_document.specs.Tree.{kind_at}
+use Rattle.edit_document.specs.Grammar.{Between, Elements, array, Value as Written}
+use Rattle.edit_document.specs.Assertions.{key, index, Place, at, same_place, Kind, dotted, leaf, Assertion, asserts, named, of_key, together}
+use Rattle.edit_document.specs.Tree.{kind_at, count_elements}
 use Rattle.edit_document.specs.DocumentLayout.{shape_of_value, Placed, span_at}
 use Rattle.edit_document.specs.Reading.{◌>>=◌}
-use Rattle.edit_document.specs.Nodes.{Shape, Spot, StandsAt}
-use Rattle.edit_document.specs.Walk.{State, last_of, without_last, asserted, front_shape, reached, settled_state, is_dotted_within, settled, entered_at, closed, walked}
+use Rattle.edit_document.specs.Nodes.{Shape, Spot, StandsAt, below}
+use Rattle.edit_document.specs.Walk.{State, last_of, without_last, element_added, asserted, front_shape, reached, settled_state, is_dotted_within, settled, entered_at, closed, walked}
 use Rattle.edit_document.proofs.SamePlace.{both_true, same_place_self, other_place, place_or}
 use Rattle.edit_document.proofs.Ends.{take_length}
 use Rattle.edit_document.proofs.Adding.{OneSet, changed, other, in_set}
-use Rattle.edit_document.proofs.MoreAssertions.{allowed, IsClear, clear_front, clash_last}
+use Rattle.edit_document.proofs.MoreAssertions.{first_kind, is_headed, allowed, IsClear, clear_front, clash_last}
 use Rattle.edit_document.proofs.Trees.{Grows, grows_then, grows_set, tree_set}
-use Rattle.edit_document.proofs.Standing.{Tells, Stands}
+use Rattle.edit_document.proofs.Standing.{Tells, Stands, nothing_below_spot}
+use Rattle.edit_document.proofs.Asserting.{Makes, makes, fails, element_makes}
 use Rattle.edit_document.proofs.Thinned.{leaf_alone}
 use Rattle.edit_document.proofs.Walks.{walked_append, last_push}
-use Rattle.edit_document.proofs.Walking.{settled_is, entered_is}
+use Rattle.edit_document.proofs.Walking.{settled_is, entered_is, enters_element}
 use Rattle.edit_document.proofs.WalkedTokens.{waits, waits_are, fore, rear}
 use Rattle.edit_document.proofs.Landing.{Lands, lands, misses, landed, pair_lands}
 
@@ -92,8 +93,41 @@ pair_enters spots base t p n ns within by v span made written in_table st there 
     let lands_at = pair_lands spots t p n ns within by v (Some span) made written st there in
     let lands_here : Lands spots (made ++ of_key within by p (n ∷ ns) v) (written ++ (named p (n ∷ ns), span) ∷ []) (named p (n ∷ ns)) (landed spots t (fore n ns) (front_shape (is_dotted_within (length (base ++ t ∷ [])) Dotted)) Dotted (rear n ns) (shape_of_value v) Value (Some span)) =
     subst (λ (b : Bool). Lands spots (made ++ of_key within by p (n ∷ ns) v) (written ++ (named p (n ∷ ns), span) ∷ []) (named p (n ∷ ns)) (landed spots t (fore n ns) (front_shape b) Dotted (rear n ns) (shape_of_value v) Value (Some span))) (sym in_table) lands_at in
-    enters_along (entered_is state (shape_of_value v) (Some span) t top)
+    enters_along (entered_is state (shape_of_value v) (Some span) t (rear n ns) top (ap (λ (x : State). x.name) (waits_are spots (base ++ t ∷ []) n ns)))
     (settled_enters spots (base ++ t ∷ []) t n ns Dotted (shape_of_value v) Value (Some span) (made ++ of_key within by p (n ∷ ns) v) (written ++ (named p (n ∷ ns), span) ∷ []) (named p (n ∷ ns)) lands_here)
+
+-- an element enters the innermost array
+pub element_enters : (spots : List Spot) (base : List ℕ) (t : ℕ) (p : Place) (i : ℕ) (g : List Between) (es : Elements) (v : Written) (span : Span) (made : List Assertion) (written : List Placed)
+    → Stands made written spots → (there : StandsAt spots t p) → length there.0.elements ≡ i → first_kind made p ≡ Some (leaf (array g es)) → i < count_elements es
+    → Enters spots (made ++ asserts (at p (index i)) (at p (index i)) (leaf v) ∷ []) (written ++ (at p (index i), span) ∷ []) (base ++ t ∷ []) (at p (index i)) (entered_at (settled_state spots (base ++ t ∷ [])) (shape_of_value v) (Some span))
+element_enters spots base t p i g es v span made written st there size first few =
+    let a : Assertion = asserts (at p (index i)) (at p (index i)) (leaf v) in
+    let first2 : first_kind made there.0.place ≡ Some (leaf (array g es)) = ap (first_kind made) there.2 ∙ first in
+    let place : at p (index i) ≡ at there.0.place (index (length there.0.elements)) = ap (λ (q : Place). at q (index i)) (sym there.2) ∙ ap (λ (n : ℕ). at there.0.place (index n)) (sym size) in
+    let few2 : length there.0.elements < count_elements es = omega arith in
+    go (element_makes made written spots t there.0 a (Some span) st there.1 place
+    (λ k f e. absurd (let same : k ≡ leaf (array g es) = (let both : Some k ≡ Some (leaf (array g es)) = sym f ∙ first2 in cc) in let clash : true ≡ false = sym e ∙ ap is_headed same in cc))
+    (record { kind = leaf (array g es); first = first2; lists = few2 }))
+  where
+    path : entered_at (settled_state spots (base ++ t ∷ [])) (shape_of_value v) (Some span) ≡ (element_added spots t (shape_of_value v) Value (Some span) >>= λ q. with_number (base ++ t ∷ []) q)
+    path = enters_element (settled_state spots (base ++ t ∷ [])) (shape_of_value v) (Some span) t (last_push base t) refl
+
+    go : Makes made written spots (asserts (at p (index i)) (at p (index i)) (leaf v)) ((at p (index i), span) ∷ []) (element_added spots t (shape_of_value v) Value (Some span))
+        → Enters spots (made ++ asserts (at p (index i)) (at p (index i)) (leaf v) ∷ []) (written ++ (at p (index i), span) ∷ []) (base ++ t ∷ []) (at p (index i)) (entered_at (settled_state spots (base ++ t ∷ [])) (shape_of_value v) (Some span))
+    go (makes now j e s h grows) = enters now j (path ∙ ap (λ (o : Option (List Spot × ℕ)). o >>= λ q. with_number (base ++ t ∷ []) q) e) s h grows
+    go (fails e c) = bars (path ∙ ap (λ (o : Option (List Spot × ℕ)). o >>= λ q. with_number (base ++ t ∷ []) q) e) c
+
+-- nothing is written at an element before it
+pub element_unwritten : (spots : List Spot) (t : ℕ) (p : Place) (i : ℕ) (made : List Assertion) (written : List Placed) → Stands made written spots → (there : StandsAt spots t p) → length there.0.elements ≡ i → span_at written (at p (index i)) ≡ None
+element_unwritten spots t p i made written st there size = go (span_at written (at p (index i))) refl
+  where
+    go : (o : Option Span) → span_at written (at p (index i)) ≡ o → span_at written (at p (index i)) ≡ None
+    go None e = e
+    go (Some s) e =
+        let k = st.spans (at p (index i)) s e in
+        let past : below there.0 (index i) ≡ None = slice_get_past there.0.elements i (omega arith) in
+        let none : kind_at made (at p (index i)) ≡ None = ap (λ (q : Place). kind_at made (at q (index i))) (sym there.2) ∙ nothing_below_spot made written spots t there.0 (index i) st there.1 past in
+        absurd (let clash : None ≡ Some k.0 = sym none ∙ k.1 in cc)
 
 -- ---- nothing is written at a place before its value
 

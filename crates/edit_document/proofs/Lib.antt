@@ -30,10 +30,12 @@ pub mod MultiReadAgain
 pub mod NumberLaws
 pub mod NumberReadAgain
 pub mod DateReadAgain
+pub mod GapLaws
 pub mod ValueLaws
 pub mod ValueReadAgain
 pub mod LineLaws
 pub mod NotedValues
+pub mod NotedElements
 pub mod NotedLines
 pub mod Adding
 pub mod Below
@@ -45,6 +47,8 @@ pub mod Gaining
 pub mod Asserting
 pub mod Landing
 pub mod Evens
+pub mod Parts
+pub mod Arrays
 pub mod Leading
 pub mod ShownTrees
 pub mod Shallow

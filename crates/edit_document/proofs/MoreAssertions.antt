@@ -3,7 +3,7 @@ use Rattle.std.proofs.Common.{◌≡◌, ℕ, suc, ◌≤◌, Bool, true, false,
 use Rattle.std.specs.List.{filter, filter_map, cons_option, list_any}
 use Rattle.std.proofs.lemmas.List.{append-nil}
 use Rattle.std.proofs.lemmas.List.Elements.{filter-append, filter_map-append}
-use Rattle.edit_document.specs.Assertions.{Step, key, index, Place, at, same_step, same_place, Kind, header_kind, element_kind, Assertion, together, NoClash, AreShort}
+use Rattle.edit_document.specs.Assertions.{Step, key, index, Place, at, same_step, same_place, Kind, leaf, header_kind, element_kind, Assertion, together, NoClash, AreShort}
 use Rattle.edit_document.specs.Tree.{step_from, once, members_of, kind_at}
 use Rattle.edit_document.proofs.SamePlace.{both_true, same_step_self, same_step_is, same_place_self, same_place_is, other_place, last_same}
 use Rattle.edit_document.proofs.Below.{step_from_at, step_from_is, all_front, all_push, all_last}
@@ -251,7 +251,12 @@ abbrev pub is_element : Kind → Bool
 is_element element_kind = true
 is_element _ = false
 
--- how many elements of a place were asserted
+-- what headers make of a place, and not a value
+abbrev pub is_headed : Kind → Bool
+is_headed (leaf v) = false
+is_headed _ = true
+
+-- how many elements of a place headers asserted
 abbrev pub elements_below : List Assertion → Place → ℕ
 elements_below [] p = 0
 elements_below (a ∷ made) p = cond (is_element a.kind && is_index (step_from p a.place)) (suc (elements_below made p)) (elements_below made p)

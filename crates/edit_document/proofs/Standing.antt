@@ -1,13 +1,14 @@
 -- The spots that stand for the assertions that were made, and one assertion more.
-use Rattle.std.proofs.Common.{◌≡◌, ℕ, zero, suc, ◌≤◌, Bool, true, false, cond, ◌&&◌, List, [], ◌∷◌, ◌++◌, length, Option, Some, None, refl, sym, ap, ap₂, subst, ◌∙◌, inl, inr}
+use Rattle.std.proofs.Common.{◌≡◌, ℕ, zero, suc, ◌<◌, ◌≤◌, Bool, true, false, cond, ◌&&◌, List, [], ◌∷◌, ◌++◌, length, Option, Some, None, refl, sym, ap, ap₂, subst, ◌∙◌, inl, inr}
 use Rattle.std.specs.Prelude.{slice_get, slice_set}
 use Rattle.std.proofs.lemmas.Option.{slice_get_within, same_Some}
 use Rattle.edit_document.specs.declared.nodes.Span.{Span}
 use Rattle.edit_document.specs.declared.nodes.Taken.{Taken}
 use Rattle.edit_document.specs.declared.nodes.Taken.TheVariants.{Header}
 use Rattle.edit_document.specs.DocumentLayout.{shape_of_value, Placed, span_at}
+use Rattle.edit_document.specs.Grammar.{array}
 use Rattle.edit_document.specs.Assertions.{Step, key, index, Place, at, same_place, Kind, dotted, leaf, super, header_kind, array_kind, element_kind, Assertion, together, AreShort}
-use Rattle.edit_document.specs.Tree.{members_of, kind_at}
+use Rattle.edit_document.specs.Tree.{members_of, kind_at, count_elements}
 use Rattle.edit_document.specs.Items.{key_names}
 use Rattle.edit_document.specs.Taking.{taken_of, joins, stronger}
 use Rattle.edit_document.specs.Nodes.{Shape, scalar, section, sections, Spot, names_of, StandsAt, below, IsBelow, IsTree}
@@ -16,7 +17,7 @@ use Rattle.edit_document.specs.Walk.{spot_at, with_taken}
 use Rattle.edit_document.proofs.SamePlace.{same_place_self, same_place_is, other_place, last_same, not_root}
 use Rattle.edit_document.proofs.Adding.{OneSet, changed, other, in_set, slice_get_same}
 use Rattle.edit_document.proofs.Takings.{together_is, stronger_is}
-use Rattle.edit_document.proofs.MoreAssertions.{kind_stays, kind_else, kind_back, first_kind, first_stays, first_is, allowed, allowed_else, allowed_here, IsClear, clear_more, members_again, is_element, elements_below, elements_stay}
+use Rattle.edit_document.proofs.MoreAssertions.{kind_stays, kind_else, kind_back, first_kind, first_stays, first_is, allowed, allowed_else, allowed_here, IsClear, clear_more, members_again, is_element, is_headed, elements_below, elements_stay}
 use Rattle.edit_document.proofs.Trees.{grows_set, tree_set}
 
 -- ---- what is written
@@ -42,6 +43,20 @@ span_here (w ∷ ws) p span e = go (same_place w.0 p) e (span_here ws p span)
 
 -- ---- what a spot tells
 
+-- an element of this number may stand below a place of this kind
+abbrev pub Lists : Kind → ℕ → Type 0
+Lists array_kind i = Unit {0}
+Lists (leaf (array g es)) i = i < count_elements es
+Lists _ i = ⊥
+
+pub record IsIndexed (made : List Assertion) (p : Place) (i : ℕ) : Type 0 where
+  pub kind : Kind
+  pub first : first_kind made p ≡ Some kind
+  pub lists : Lists kind i
+
+pub indexed_stays : (made : List Assertion) (a : Assertion) (p : Place) (i : ℕ) → IsIndexed made p i → IsIndexed (made ++ a ∷ []) p i
+indexed_stays made a p i h = record { kind = h.kind; first = first_stays made a p h.kind h.first; lists = h.lists }
+
 -- the shape that the first assertion of a place gives it
 abbrev pub shape_of_kind : Kind → Shape
 shape_of_kind (leaf v) = shape_of_value v
@@ -58,7 +73,7 @@ pub record Tells (made : List Assertion) (written : List Placed) (s : Spot) : Ty
   pub shape : s.shape ≡ shape_of_kind kind
   pub joined : (s.place ≡ [] → ⊥) → (k : Kind) → allowed made s.place k ≡ joins s.taken (taken_of k)
   pub names : names_of s ≡ key_names (members_of made s.place)
-  pub count : length s.elements ≡ elements_below made s.place
+  pub count : is_headed kind ≡ true → length s.elements ≡ elements_below made s.place
   pub span : s.span ≡ span_at written s.place
 
 -- the spots stand for these assertions, of which no two clash
@@ -67,7 +82,7 @@ pub record Stands (made : List Assertion) (written : List Placed) (spots : List 
   pub tells : (n : ℕ) (s : Spot) → slice_get spots n ≡ Some s → Tells made written s
   pub covers : (p : Place) (k : Kind) → kind_at made p ≡ Some k → (n : ℕ) × StandsAt spots n p
   pub rooted : kind_at made [] ≡ None
-  pub indexed : (p : Place) (i : ℕ) (k : Kind) → kind_at made (at p (index i)) ≡ Some k → first_kind made p ≡ Some array_kind
+  pub indexed : (p : Place) (i : ℕ) (k : Kind) → kind_at made (at p (index i)) ≡ Some k → IsIndexed made p i
   pub spans : (p : Place) (s : Span) → span_at written p ≡ Some s → (k : Kind) × (kind_at made p ≡ Some k)
   pub clear : IsClear made
 
@@ -79,7 +94,7 @@ stands_start = record {
     down = λ i j s x a b. absurd (bare i j s x a b);
     up = λ j t b. inl (root j t b);
   };
-  tells = λ n s e. subst (Tells [] []) (first n s e) (record { kind = header_kind; first = refl; shape = refl; joined = λ ne. absurd (ne refl); names = refl; count = refl; span = refl });
+  tells = λ n s e. subst (Tells [] []) (first n s e) (record { kind = header_kind; first = refl; shape = refl; joined = λ ne. absurd (ne refl); names = refl; count = λ e. refl; span = refl });
   covers = λ p k e. absurd cc;
   rooted = refl;
   indexed = λ p i k e. absurd cc;
@@ -173,7 +188,7 @@ module _ (made : List Assertion) (written : List Placed) (spots : List Spot) (j 
     shape = t.shape;
     joined = λ root k. allowed_else made a u.place k ne ∙ t.joined root k;
     names = t.names ∙ ap key_names (sym (members_again made a u.place (st.tells j s here).kind stood_kind));
-    count = t.count ∙ sym (elements_stay made a u.place plain);
+    count = λ e. t.count e ∙ sym (elements_stay made a u.place plain);
     span = t.span;
   }
 
@@ -186,7 +201,7 @@ module _ (made : List Assertion) (written : List Placed) (spots : List Spot) (j 
         shape = t.shape;
         joined = λ root k. allowed_here made a s.place k place ∙ and_joins made s.place a.kind k s.taken (t.joined root k) fits;
         names = t.names ∙ ap key_names (sym (members_again made a s.place t.kind stood_kind));
-        count = t.count ∙ sym (elements_stay made a s.place plain);
+        count = λ e. t.count e ∙ sym (elements_stay made a s.place plain);
         span = t.span;
       }
 
@@ -200,8 +215,8 @@ module _ (made : List Assertion) (written : List Placed) (spots : List Spot) (j 
     ];
     rooted = kind_else made a [] (λ e. inner (sym place ∙ e)) ∙ st.rooted;
     indexed = λ p i k e. elim (kind_back made a (at p (index i)) k e) [
-      | inl old_kind ↦ first_stays made a p array_kind (st.indexed p i k old_kind)
-      | inr same ↦ first_stays made a p array_kind (st.indexed p i (st.tells j s here).kind (ap (kind_at made) (sym same) ∙ stood_kind))
+      | inl old_kind ↦ indexed_stays made a p i (st.indexed p i k old_kind)
+      | inr same ↦ indexed_stays made a p i (st.indexed p i (st.tells j s here).kind (ap (kind_at made) (sym same) ∙ stood_kind))
     ];
     spans = λ p sp e. let w = st.spans p sp e in (w.0, kind_stays made a p w.0 w.1);
     clear = clear_more made a st.clear (ap (λ (q : Place). allowed made q a.kind) place ∙ (st.tells j s here).joined inner a.kind ∙ fits) (short_at made a.place (st.tells j s here).kind st.clear.short stood_kind);

@@ -7,7 +7,7 @@ use Rattle.std.proofs.lemmas.Option.{slice_get_read, slice_get-get_or, slice_get
 use Rattle.edit_document.specs.declared.nodes.Node.{Node}
 use Rattle.edit_document.specs.declared.nodes.Span.{Span}
 use Rattle.edit_document.specs.declared.nodes.Taken.{Taken}
-use Rattle.edit_document.specs.declared.nodes.Taken.TheVariants.{Dotted, Value, Super, Header, Array}
+use Rattle.edit_document.specs.declared.nodes.Taken.TheVariants.{Dotted, Value, Super, Header, Array, Element}
 use Rattle.edit_document.specs.declared.walk.Walk.{Walk}
 use Rattle.edit_document.specs.declared.read.marks.Mark.{Mark}
 use Rattle.edit_document.specs.declared.read.marks.MarkKind.{MarkKind}
@@ -15,7 +15,7 @@ use Rattle.edit_document.specs.declared.read.marks.MarkKind.TheVariants as kinds
 use Rattle.edit_document.specs.Reading.{◌>>=◌}
 use Rattle.edit_document.specs.Nodes.{Shape, shape_said, scalar, section, sections, Spot, Holds}
 use Rattle.edit_document.specs.Nodes as shapes
-use Rattle.edit_document.specs.Walk.{State, said, last_of, without_last, asserted, element_added, front_shape, reached, awaiting, settled_state, is_dotted_within, settled, entered_at, entered, opened, closed, turned, headed, element_headed, span_of_mark, worded, act, step, start, walked}
+use Rattle.edit_document.specs.Walk.{State, said, last_of, without_last, asserted, element_added, front_shape, reached, awaiting, settled_state, is_dotted_within, settled, entered_below, entered_at, entered, opened, closed, turned, headed, element_headed, span_of_mark, worded, act, step, start, walked}
 use Rattle.edit_document.specs.WalkState.{Puts, Walks, Goes, Settles, SaysAt, is_said, IsToken, KeepsState}
 use Rattle.edit_document.proofs.Below.{all_at}
 use Rattle.edit_document.proofs.Ends.{take_length}
@@ -83,20 +83,48 @@ settles walk st number front shape taken span name spots table r n reach ts fs n
       record { holds = holds; tables = ts; fronts = ap (map string_bytes) fs; name = ap (option_map string_bytes) none },
     )
 
-pub entered_is : (st : State) (shape : Shape) (span : Option Span) (number : ℕ) → last_of st.tables ≡ Some number → entered_at st shape span ≡ settled st number Dotted shape Value span
-entered_is st shape span number t = ap (λ (o : Option ℕ). o >>= λ k. settled st k Dotted shape Value span) t
+pub entered_is : (st : State) (shape : Shape) (span : Option Span) (number : ℕ) (name : List ℕ) → last_of st.tables ≡ Some number → st.name ≡ Some name → entered_at st shape span ≡ settled st number Dotted shape Value span
+entered_is st shape span number name t n = ap (λ (o : Option ℕ). o >>= λ k. entered_below st.name st k shape span) t ∙ ap (λ (o : Option (List ℕ)). entered_below o st number shape span) n
 
 pub unentered : (st : State) (shape : Shape) (span : Option Span) → last_of st.tables ≡ None → entered_at st shape span ≡ None
-unentered st shape span t = ap (λ (o : Option ℕ). o >>= λ k. settled st k Dotted shape Value span) t
+unentered st shape span t = ap (λ (o : Option ℕ). o >>= λ k. entered_below st.name st k shape span) t
+
+abbrev spots_of_state : State → List Spot × ℕ → Option (State × ℕ)
+spots_of_state st q = Some (record st { spots = q.0 }, q.1)
+
+-- where no key waits an element stands in the innermost array
+pub enters_element : (st : State) (shape : Shape) (span : Option Span) (number : ℕ) → last_of st.tables ≡ Some number → st.name ≡ None → entered_at st shape span ≡ (element_added st.spots number shape Value span >>= λ q. spots_of_state st q)
+enters_element st shape span number t n = ap (λ (o : Option ℕ). o >>= λ k. entered_below st.name st k shape span) t ∙ ap (λ (o : Option (List ℕ)). entered_below o st number shape span) n
+
+pub settles_element : (old walk : Walk) (st : State) (shape : Shape) (span : Option Span) (number : ℕ) (r : Option ℕ) → Walks old st → last_of old.tables.items ≡ Some number → old.name ≡ None → Puts walk.nodes.items (element_added st.spots number shape Value span) r
+    → walk.tables.items ≡ old.tables.items → walk.fronts.items ≡ old.fronts.items → walk.name ≡ old.name → Settles walk (entered_at st shape span) r
+settles_element old walk st shape span number r w top bare puts ts fs n =
+    let name : st.name ≡ None = sym w.name ∙ ap (option_map string_bytes) bare in
+    subst (λ (o : Option (State × ℕ)). Settles walk o r) (sym (enters_element st shape span number (ap last_of (sym w.tables) ∙ top) name)) (go r puts)
+  where
+    go : (r : Option ℕ) → Puts walk.nodes.items (element_added st.spots number shape Value span) r → Settles walk (element_added st.spots number shape Value span >>= λ q. spots_of_state st q) r
+    go None e = ap (λ (o : Option (List Spot × ℕ)). o >>= λ q. spots_of_state st q) e
+    go (Some k) (made, e, holds) = (
+      record st { spots = made },
+      ap (λ (o : Option (List Spot × ℕ)). o >>= λ q. spots_of_state st q) e,
+      record { holds = holds; tables = ts ∙ w.tables; fronts = ap (map string_bytes) fs ∙ w.fronts; name = ap (option_map string_bytes) n ∙ w.name },
+    )
+
+-- where a key waits it settles
+pub settles_named : (old walk : Walk) (st : State) (shape : Shape) (span : Option Span) (number : ℕ) (name : String Global) (r : Option ℕ) → Walks old st → last_of old.tables.items ≡ Some number → old.name ≡ Some name → Settles walk (settled st number Dotted shape Value span) r
+    → Settles walk (entered_at st shape span) r
+settles_named old walk st shape span number name r w top waits settles =
+    let named : st.name ≡ Some (string_bytes name) = sym w.name ∙ ap (option_map string_bytes) waits in
+    subst (λ (o : Option (State × ℕ)). Settles walk o r) (sym (entered_is st shape span number (string_bytes name) (ap last_of (sym w.tables) ∙ top) named)) settles
 
 pub goes_settled : (walk : Walk) (o : Option (State × ℕ)) (r : Option ℕ) → Settles walk o r → Goes walk (o >>= λ q. Some q.0) (is_some r)
 goes_settled walk o None e = ap (λ (x : Option (State × ℕ)). x >>= λ q. Some q.0) e
 goes_settled walk o (Some k) (st, e, w) = (st, ap (λ (x : Option (State × ℕ)). x >>= λ q. Some q.0) e, w)
 
--- an inline table is innermost
-pub goes_opened : (middle walk : Walk) (st : State) (span : Option Span) (number : ℕ) → Settles middle (entered_at st shapes.inline span) (Some number) → walk.nodes.items ≡ middle.nodes.items → walk.tables.items ≡ middle.tables.items ++ number ∷ []
-    → walk.fronts.items ≡ middle.fronts.items → walk.name ≡ middle.name → Goes walk (opened st span) true
-goes_opened middle walk st span number (next, e, w) ns ts fs n = (
+-- an array or an inline table is innermost
+pub goes_opened : (middle walk : Walk) (st : State) (shape : Shape) (span : Option Span) (number : ℕ) → Settles middle (entered_at st shape span) (Some number) → walk.nodes.items ≡ middle.nodes.items → walk.tables.items ≡ middle.tables.items ++ number ∷ []
+    → walk.fronts.items ≡ middle.fronts.items → walk.name ≡ middle.name → Goes walk (opened st shape span) true
+goes_opened middle walk st shape span number (next, e, w) ns ts fs n = (
   record next { tables = next.tables ++ number ∷ [] },
   ap (λ (o : Option (State × ℕ)). o >>= λ r. Some (record r.0 { tables = r.0.tables ++ r.1 ∷ [] })) e,
   record {
@@ -107,8 +135,8 @@ goes_opened middle walk st span number (next, e, w) ns ts fs n = (
   },
 )
 
-pub opened_refused : (middle : Walk) (st : State) (span : Option Span) → Settles middle (entered_at st shapes.inline span) None → opened st span ≡ None
-opened_refused middle st span e = ap (λ (o : Option (State × ℕ)). o >>= λ r. Some (record r.0 { tables = r.0.tables ++ r.1 ∷ [] })) e
+pub opened_refused : (middle : Walk) (st : State) (shape : Shape) (span : Option Span) → Settles middle (entered_at st shape span) None → opened st shape span ≡ None
+opened_refused middle st shape span e = ap (λ (o : Option (State × ℕ)). o >>= λ r. Some (record r.0 { tables = r.0.tables ++ r.1 ∷ [] })) e
 
 -- one table is open
 pub turns : (old walk : Walk) (st : State) (number : ℕ) → Walks old st → walk.nodes.items ≡ old.nodes.items → walk.tables.items ≡ number ∷ [] → walk.fronts.items ≡ old.fronts.items → walk.name ≡ old.name → Walks walk (record st { tables = number ∷ [] })
@@ -126,16 +154,16 @@ pub headed_refused : (middle : Walk) (st : State) → Settles middle (settled st
 headed_refused middle st e = ap (λ (o : Option (State × ℕ)). o >>= λ r. Some (turned r)) e
 
 abbrev pub with_element_of : State × ℕ → Option State
-with_element_of r = element_added r.0.spots r.1 >>= λ q. Some (turned (record r.0 { spots = q.0 }, q.1))
+with_element_of r = element_added r.0.spots r.1 section Element None >>= λ q. Some (turned (record r.0 { spots = q.0 }, q.1))
 
 pub element_unheaded : (middle : Walk) (st : State) → Settles middle (settled st 0 Super sections Array None) None → element_headed st ≡ None
 element_unheaded middle st e = ap (λ (o : Option (State × ℕ)). o >>= λ r. with_element_of r) e
 
-pub element_refused : (middle : Walk) (nodes : List Node) (st : State) (number : ℕ) → Settles middle (settled st 0 Super sections Array None) (Some number) → ((spots : List Spot) → Holds middle.nodes.items spots → Puts nodes (element_added spots number) None) → element_headed st ≡ None
+pub element_refused : (middle : Walk) (nodes : List Node) (st : State) (number : ℕ) → Settles middle (settled st 0 Super sections Array None) (Some number) → ((spots : List Spot) → Holds middle.nodes.items spots → Puts nodes (element_added spots number section Element None) None) → element_headed st ≡ None
 element_refused middle nodes st number (next, e, w) stops =
     ap (λ (o : Option (State × ℕ)). o >>= λ r. with_element_of r) e ∙ ap (λ (o : Option (List Spot × ℕ)). o >>= λ q. Some (turned (record next { spots = q.0 }, q.1))) (stops next.spots w.holds)
 
-pub goes_element : (middle walk : Walk) (nodes : Walk) (st : State) (number element : ℕ) → Settles middle (settled st 0 Super sections Array None) (Some number) → ((spots : List Spot) → Holds middle.nodes.items spots → Puts nodes.nodes.items (element_added spots number) (Some element))
+pub goes_element : (middle walk : Walk) (nodes : Walk) (st : State) (number element : ℕ) → Settles middle (settled st 0 Super sections Array None) (Some number) → ((spots : List Spot) → Holds middle.nodes.items spots → Puts nodes.nodes.items (element_added spots number section Element None) (Some element))
     → nodes.tables.items ≡ middle.tables.items → nodes.fronts.items ≡ middle.fronts.items → nodes.name ≡ middle.name → ((s : State) → Walks nodes s → Walks walk (record s { tables = element ∷ [] })) → Goes walk (element_headed st) true
 goes_element middle walk nodes st number element (next, e, w) puts ts fs n turn =
     let p = puts next.spots w.holds in
@@ -241,30 +269,35 @@ word_step bytes m st s (inr (inr (inr (inr (inl e))))) = word_by bytes m st s ki
 word_step bytes m st s (inr (inr (inr (inr (inr (inl e)))))) = word_by bytes m st s kinds.Float e refl refl
 word_step bytes m st s (inr (inr (inr (inr (inr (inr e)))))) = word_by bytes m st s kinds.DateTime e refl refl
 
+-- the end of an array or of an inline table
+pub close_step : (bytes : List ℕ) (m : Mark) (st : State) → (m.kind ≡ kinds.CloseArray) ⊎ (m.kind ≡ kinds.CloseTable) → step bytes m st ≡ closed st m.to
+close_step bytes m st (inl e) = step_is bytes m st kinds.CloseArray e
+close_step bytes m st (inr e) = step_is bytes m st kinds.CloseTable e
+
 pub other_step : (bytes : List ℕ) (m : Mark) (st : State) (k : MarkKind) → m.kind ≡ k → (k ≡ kinds.BarePart → ⊥) → (k ≡ kinds.BasicPart → ⊥) → (k ≡ kinds.LiteralPart → ⊥) → (k ≡ kinds.BasicString → ⊥) → (k ≡ kinds.LiteralString → ⊥) → (k ≡ kinds.True → ⊥)
-    → (k ≡ kinds.False → ⊥) → (k ≡ kinds.OpenTable → ⊥) → (k ≡ kinds.CloseTable → ⊥) → (k ≡ kinds.Header → ⊥) → (k ≡ kinds.ElementHeader → ⊥) → (k ≡ kinds.Integer → ⊥) → (k ≡ kinds.Float → ⊥) → (k ≡ kinds.DateTime → ⊥) → (k ≡ kinds.MultiBasicString → ⊥) → (k ≡ kinds.MultiLiteralString → ⊥) → step bytes m st ≡ None
-other_step bytes m st k kind a b c d e f g h i j r l n o p q = step_is bytes m st k kind ∙ nothing k a b c d e f g h i j r l n o p q
+    → (k ≡ kinds.False → ⊥) → (k ≡ kinds.OpenTable → ⊥) → (k ≡ kinds.CloseTable → ⊥) → (k ≡ kinds.Header → ⊥) → (k ≡ kinds.ElementHeader → ⊥) → (k ≡ kinds.Integer → ⊥) → (k ≡ kinds.Float → ⊥) → (k ≡ kinds.DateTime → ⊥) → (k ≡ kinds.MultiBasicString → ⊥) → (k ≡ kinds.MultiLiteralString → ⊥) → (k ≡ kinds.OpenArray → ⊥) → (k ≡ kinds.CloseArray → ⊥) → step bytes m st ≡ None
+other_step bytes m st k kind a b c d e f g h i j r l n o p q t u = step_is bytes m st k kind ∙ nothing k a b c d e f g h i j r l n o p q t u
   where
     nothing : (x : MarkKind) → (x ≡ kinds.BarePart → ⊥) → (x ≡ kinds.BasicPart → ⊥) → (x ≡ kinds.LiteralPart → ⊥) → (x ≡ kinds.BasicString → ⊥) → (x ≡ kinds.LiteralString → ⊥) → (x ≡ kinds.True → ⊥)
-        → (x ≡ kinds.False → ⊥) → (x ≡ kinds.OpenTable → ⊥) → (x ≡ kinds.CloseTable → ⊥) → (x ≡ kinds.Header → ⊥) → (x ≡ kinds.ElementHeader → ⊥) → (x ≡ kinds.Integer → ⊥) → (x ≡ kinds.Float → ⊥) → (x ≡ kinds.DateTime → ⊥) → (x ≡ kinds.MultiBasicString → ⊥) → (x ≡ kinds.MultiLiteralString → ⊥) → act x bytes m st ≡ None
-    nothing kinds.BarePart a b c d e f g h i j r l n o p q = absurd (a refl)
-    nothing kinds.BasicPart a b c d e f g h i j r l n o p q = absurd (b refl)
-    nothing kinds.LiteralPart a b c d e f g h i j r l n o p q = absurd (c refl)
-    nothing kinds.BasicString a b c d e f g h i j r l n o p q = absurd (d refl)
-    nothing kinds.LiteralString a b c d e f g h i j r l n o p q = absurd (e refl)
-    nothing kinds.True a b c d e f g h i j r l n o p q = absurd (f refl)
-    nothing kinds.False a b c d e f g h i j r l n o p q = absurd (g refl)
-    nothing kinds.OpenTable a b c d e f g h i j r l n o p q = absurd (h refl)
-    nothing kinds.CloseTable a b c d e f g h i j r l n o p q = absurd (i refl)
-    nothing kinds.Header a b c d e f g h i j r l n o p q = absurd (j refl)
-    nothing kinds.ElementHeader a b c d e f g h i j r l n o p q = absurd (r refl)
-    nothing kinds.MultiBasicString a b c d e f g h i j r l n o p q = absurd (p refl)
-    nothing kinds.MultiLiteralString a b c d e f g h i j r l n o p q = absurd (q refl)
-    nothing kinds.Integer a b c d e f g h i j r l n o p q = absurd (l refl)
-    nothing kinds.Float a b c d e f g h i j r l n o p q = absurd (n refl)
-    nothing kinds.DateTime a b c d e f g h i j r l n o p q = absurd (o refl)
-    nothing kinds.OpenArray a b c d e f g h i j r l n o p q = refl
-    nothing kinds.CloseArray a b c d e f g h i j r l n o p q = refl
+        → (x ≡ kinds.False → ⊥) → (x ≡ kinds.OpenTable → ⊥) → (x ≡ kinds.CloseTable → ⊥) → (x ≡ kinds.Header → ⊥) → (x ≡ kinds.ElementHeader → ⊥) → (x ≡ kinds.Integer → ⊥) → (x ≡ kinds.Float → ⊥) → (x ≡ kinds.DateTime → ⊥) → (x ≡ kinds.MultiBasicString → ⊥) → (x ≡ kinds.MultiLiteralString → ⊥) → (x ≡ kinds.OpenArray → ⊥) → (x ≡ kinds.CloseArray → ⊥) → act x bytes m st ≡ None
+    nothing kinds.BarePart a b c d e f g h i j r l n o p q t u = absurd (a refl)
+    nothing kinds.BasicPart a b c d e f g h i j r l n o p q t u = absurd (b refl)
+    nothing kinds.LiteralPart a b c d e f g h i j r l n o p q t u = absurd (c refl)
+    nothing kinds.BasicString a b c d e f g h i j r l n o p q t u = absurd (d refl)
+    nothing kinds.LiteralString a b c d e f g h i j r l n o p q t u = absurd (e refl)
+    nothing kinds.True a b c d e f g h i j r l n o p q t u = absurd (f refl)
+    nothing kinds.False a b c d e f g h i j r l n o p q t u = absurd (g refl)
+    nothing kinds.OpenTable a b c d e f g h i j r l n o p q t u = absurd (h refl)
+    nothing kinds.CloseTable a b c d e f g h i j r l n o p q t u = absurd (i refl)
+    nothing kinds.Header a b c d e f g h i j r l n o p q t u = absurd (j refl)
+    nothing kinds.ElementHeader a b c d e f g h i j r l n o p q t u = absurd (r refl)
+    nothing kinds.MultiBasicString a b c d e f g h i j r l n o p q t u = absurd (p refl)
+    nothing kinds.MultiLiteralString a b c d e f g h i j r l n o p q t u = absurd (q refl)
+    nothing kinds.Integer a b c d e f g h i j r l n o p q t u = absurd (l refl)
+    nothing kinds.Float a b c d e f g h i j r l n o p q t u = absurd (n refl)
+    nothing kinds.DateTime a b c d e f g h i j r l n o p q t u = absurd (o refl)
+    nothing kinds.OpenArray a b c d e f g h i j r l n o p q t u = absurd (t refl)
+    nothing kinds.CloseArray a b c d e f g h i j r l n o p q t u = absurd (u refl)
 
 -- ---- all marks
 

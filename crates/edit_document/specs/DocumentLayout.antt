@@ -7,7 +7,7 @@ use Rattle.edit_document.specs.Strings.{says, says_multi}
 use Rattle.edit_document.specs.Numbers.{integer_text, float_text, datetime_text}
 use Rattle.edit_document.specs.Grammar.{Value, basic, literal, multi_basic, multi_literal, boolean, integer, float, datetime, array, inline, value, Text}
 use Rattle.edit_document.specs.Assertions.{Place, same_place}
-use Rattle.edit_document.specs.Tree.{View, string, truth, whole, fractional, moment, static_array, count_elements, view_at}
+use Rattle.edit_document.specs.Tree.{View, string, truth, whole, fractional, moment, view_at}
 use Rattle.edit_document.specs.Supported.{IsManifest}
 use Rattle.edit_document.specs.Reading.{◌>>=◌}
 use Rattle.edit_document.specs.Marks.{text_marks}
@@ -18,7 +18,7 @@ use Rattle.edit_document.specs.FormOf.{form_of}
 use Rattle.edit_document.specs.Walk.{start, walked}
 use Rattle.edit_document.specs.Written.{Valued, values}
 
--- what a value shows, but for its members
+-- what a value shows, but for its members and elements
 abbrev pub shape_of_value : Value → Shape
 shape_of_value (basic ps) = scalar (string (says quote ps))
 shape_of_value (literal text) = scalar (string text)
@@ -28,7 +28,7 @@ shape_of_value (boolean b) = scalar (truth b)
 shape_of_value (integer n) = scalar (whole (integer_text n []))
 shape_of_value (float f) = scalar (fractional (float_text f []))
 shape_of_value (datetime d) = scalar (moment (datetime_text d []))
-shape_of_value (array g es) = scalar (static_array (count_elements es))
+shape_of_value (array g es) = shapes.listed
 shape_of_value (inline g ms) = shapes.inline
 
 -- ---- where values are written

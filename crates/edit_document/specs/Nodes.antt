@@ -10,11 +10,12 @@ use Rattle.edit_document.specs.declared.nodes.Node.{Node}
 use Rattle.edit_document.specs.Assertions.{Step, key, index, Place, at}
 use Rattle.edit_document.specs.declared.read.marks.MarkKind.{MarkKind}
 use Rattle.edit_document.specs.declared.read.marks.MarkKind.TheVariants as kinds
-use Rattle.edit_document.specs.Tree.{View, string, truth, whole, fractional, moment, table_array, inline_table, table}
+use Rattle.edit_document.specs.Tree.{View, string, truth, whole, fractional, moment, static_array, table_array, inline_table, table}
 
 -- what stands at a place, but for its members
 pub data Shape : Type 0 where
   scalar : View → Shape
+  listed : Shape
   inline : Shape
   section : Shape
   sections : Shape
@@ -43,6 +44,7 @@ names_of s = map (λ e. e.0) s.members
 -- what a place shows, with members of these names and so many elements
 abbrev pub view_of_shape : Shape → List (List ℕ) → ℕ → View
 view_of_shape (scalar v) names n = v
+view_of_shape listed names n = static_array n
 view_of_shape inline names n = inline_table (map key names)
 view_of_shape section names n = table (map key names)
 view_of_shape sections names n = table_array n
@@ -58,6 +60,7 @@ shape_of (content.Truth b) = scalar (truth b)
 shape_of (content.Integer s) = scalar (whole (string_bytes s))
 shape_of (content.Float s) = scalar (fractional (string_bytes s))
 shape_of (content.DateTime s) = scalar (moment (string_bytes s))
+shape_of content.Array = listed
 shape_of content.Inline = inline
 shape_of content.Table = section
 shape_of content.Tables = sections

@@ -1,10 +1,9 @@
--- The part of the grammar that is read so far: a byte order mark, keys, headers, and every value but arrays.
--- Every other text is refused.
+-- The part of the grammar that is read: a byte order mark, keys, headers, and every value.
 use Rattle.std.specs.Prelude.{ℕ, List, ⊤}
-use Rattle.edit_document.specs.Grammar.{Value, basic, literal, multi_basic, multi_literal, boolean, integer, float, datetime, array, inline, Members, no_members, last_member, member, Statement, pair, header, element_header, Line, empty_line, full_line, Lines, one_line, more_lines, Text}
+use Rattle.edit_document.specs.Grammar.{Value, basic, literal, multi_basic, multi_literal, boolean, integer, float, datetime, array, inline, Elements, no_elements, last_element, element, Members, no_members, last_member, member, Statement, pair, header, element_header, Line, empty_line, full_line, Lines, one_line, more_lines, Text}
 use Rattle.edit_document.specs.Assertions.{IsDocument}
 
--- every value but an array: of inline tables, those of such values
+-- every value, of arrays and inline tables those of such values
 abbrev mutual
   pub IsSupportedValue : Value → Type 0
   IsSupportedValue (basic ps) = ⊤
@@ -15,8 +14,13 @@ abbrev mutual
   IsSupportedValue (integer n) = ⊤
   IsSupportedValue (float f) = ⊤
   IsSupportedValue (datetime d) = ⊤
-  IsSupportedValue (array g es) = ⊥
+  IsSupportedValue (array g es) = AreSupportedElements es
   IsSupportedValue (inline g ms) = AreSupportedMembers ms
+
+  pub AreSupportedElements : Elements → Type 0
+  AreSupportedElements no_elements = ⊤
+  AreSupportedElements (last_element v g) = IsSupportedValue v
+  AreSupportedElements (element v g h es) = IsSupportedValue v × AreSupportedElements es
 
   pub AreSupportedMembers : Members → Type 0
   AreSupportedMembers no_members = ⊤

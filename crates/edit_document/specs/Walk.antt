@@ -13,7 +13,7 @@ use Rattle.edit_document.specs.Strings.{says, says_multi}
 use Rattle.edit_document.specs.Reading.{◌>>=◌, basic_at, literal_at, multi_at}
 use Rattle.edit_document.specs.Assertions.{Place, key, index, at}
 use Rattle.edit_document.specs.Tree.{string, truth}
-use Rattle.edit_document.specs.Nodes.{Shape, shape_said, scalar, inline, section, sections, Spot, below}
+use Rattle.edit_document.specs.Nodes.{Shape, shape_said, scalar, listed, inline, section, sections, Spot, below}
 use Rattle.edit_document.specs.Taking.{joins, stronger}
 
 -- the last of some numbers
@@ -70,9 +70,14 @@ spot_at place shape taken span = record { place = place; shape = shape; taken = 
 unfoldable pub child : List Spot → ℕ → List ℕ → Option ℕ
 child spots number name = slice_get spots number >>= λ s. below s (key name)
 
+-- the last table of an array of tables
+abbrev pub last_table : Shape → List ℕ → Option ℕ
+last_table sections numbers = last_of numbers
+last_table _ numbers = None
+
 -- the spot whose place is taken: a header that goes on below an array of tables goes on below its last element
 unfoldable pub target_of : List Spot → ℕ → Taken → ℕ
-target_of spots number Super = unwrap_or (slice_get spots number >>= λ s. last_of s.elements) number
+target_of spots number Super = unwrap_or (slice_get spots number >>= λ s. last_table s.shape s.elements) number
 target_of spots number _ = number
 
 abbrev pub with_taken : Spot → Taken → Spot
@@ -96,10 +101,10 @@ added spots number name shape taken span = slice_get spots number >>= λ s.
     else Some (slice_set spots number (with_member s name (length spots)) ++ spot_at (at s.place (key name)) shape taken span ∷ [], length spots)
 
 -- an element more of the spot of a number, and its own number; refused past 80 steps
-unfoldable pub element_added : List Spot → ℕ → Option (List Spot × ℕ)
-element_added spots number = slice_get spots number >>= λ s.
+unfoldable pub element_added : List Spot → ℕ → Shape → Taken → Option Span → Option (List Spot × ℕ)
+element_added spots number shape taken span = slice_get spots number >>= λ s.
     if nat_le 80 (length s.place) then None
-    else Some (slice_set spots number (with_element s (length spots)) ++ spot_at (at s.place (index (length s.elements))) section Element None ∷ [], length spots)
+    else Some (slice_set spots number (with_element s (length spots)) ++ spot_at (at s.place (index (length s.elements))) shape taken span ∷ [], length spots)
 
 -- the spots, and the number of one of them
 abbrev pub numbered : ℕ → Option (List Spot) → Option (List Spot × ℕ)
@@ -125,7 +130,7 @@ reached spots number (name ∷ names) shape taken = asserted spots number name s
 
 -- ---- the walk
 
--- the spots so far; the numbers of the header and of the inline tables that are open, the innermost last; the parts of
+-- the spots so far; the numbers of the header and of the arrays and inline tables that are open, the innermost last; the parts of
 -- the key that waits for its value: the last one, and those before it
 pub record State : Type 0 where
   pub spots : List Spot
@@ -154,19 +159,24 @@ unfoldable pub settled : State → ℕ → Taken → Shape → Taken → Option 
 settled st number front shape taken span = st.name >>= λ name. reached st.spots number st.fronts (front_shape (is_dotted_within (length st.tables) front)) front >>= λ r.
     asserted r.0 r.1 name shape taken span >>= λ q. Some (settled_state q.0 st.tables, q.1)
 
--- the waiting key becomes a member of the innermost table, with its number
-abbrev pub entered_at : State → Shape → Option Span → Option (State × ℕ)
-entered_at st shape span = last_of st.tables >>= λ number. settled st number Dotted shape Value span
+-- the waiting key becomes a member of a table; where none waits, an element more stands in an array
+abbrev pub entered_below : Option (List ℕ) → State → ℕ → Shape → Option Span → Option (State × ℕ)
+entered_below (Some name) st number shape span = settled st number Dotted shape Value span
+entered_below None st number shape span = element_added st.spots number shape Value span >>= λ q. Some (record st { spots = q.0 }, q.1)
 
--- the waiting key becomes a member of the innermost table
+-- a value enters the innermost table or array, with its number
+abbrev pub entered_at : State → Shape → Option Span → Option (State × ℕ)
+entered_at st shape span = last_of st.tables >>= λ number. entered_below st.name st number shape span
+
+-- a value enters the innermost table or array
 abbrev pub entered : State → Shape → Option Span → Option State
 entered st shape span = entered_at st shape span >>= λ r. Some r.0
 
--- an inline table opens
-abbrev pub opened : State → Option Span → Option State
-opened st span = entered_at st inline span >>= λ r. Some (record r.0 { tables = r.0.tables ++ r.1 ∷ [] })
+-- an array or an inline table opens
+abbrev pub opened : State → Shape → Option Span → Option State
+opened st shape span = entered_at st shape span >>= λ r. Some (record r.0 { tables = r.0.tables ++ r.1 ∷ [] })
 
--- the innermost table ends before so many bytes
+-- the innermost table or array ends before so many bytes
 abbrev pub closed : State → ℕ → Option State
 closed st to = last_of st.tables >>= λ number. slice_get st.spots number >>= λ s. s.span >>= λ span.
     Some (record st { spots = slice_set st.spots number (record s { span = Some (record { from = span.from; to = to }) }); tables = without_last st.tables })
@@ -181,7 +191,7 @@ headed st = settled st 0 Super section Header None >>= λ r. Some (turned r)
 
 -- the waiting key becomes the header of an element
 abbrev pub element_headed : State → Option State
-element_headed st = settled st 0 Super sections Array None >>= λ r. element_added r.0.spots r.1 >>= λ q.
+element_headed st = settled st 0 Super sections Array None >>= λ r. element_added r.0.spots r.1 section Element None >>= λ q.
     Some (turned (record r.0 { spots = q.0 }, q.1))
 
 abbrev pub span_of_mark : Mark → Span
@@ -204,7 +214,9 @@ act kinds.Float bytes m st = worded bytes m st
 act kinds.DateTime bytes m st = worded bytes m st
 act kinds.True bytes m st = entered st (scalar (truth true)) (Some (span_of_mark m))
 act kinds.False bytes m st = entered st (scalar (truth false)) (Some (span_of_mark m))
-act kinds.OpenTable bytes m st = opened st (Some (span_of_mark m))
+act kinds.OpenArray bytes m st = opened st listed (Some (span_of_mark m))
+act kinds.CloseArray bytes m st = closed st m.to
+act kinds.OpenTable bytes m st = opened st inline (Some (span_of_mark m))
 act kinds.CloseTable bytes m st = closed st m.to
 act kinds.Header bytes m st = headed st
 act kinds.ElementHeader bytes m st = element_headed st

@@ -4,7 +4,7 @@ ghost use Rattle.edit_document.specs.Errors.{IsMemory};
 ghost use Rattle.edit_document.specs.Nodes.{Spot, Holds, shape_of};
 ghost use Rattle.edit_document.specs.Taking as taking;
 ghost use Rattle.edit_document.specs.declared.nodes.Taken.TheVariants.{Super};
-ghost use Rattle.edit_document.specs.Walk.{child, target_of, taken_again, added, element_added, asserted, front_shape, reached};
+ghost use Rattle.edit_document.specs.Walk.{child, last_table, target_of, taken_again, added, element_added, asserted, front_shape, reached};
 ghost use Rattle.edit_document.specs.WalkState.{Adds, Puts};
 
 use crate::errors::CargoResult;
@@ -68,6 +68,23 @@ fn find(nodes: &[Node], number: usize, name: &str) -> Option<usize>
     node.members.get(name).copied()
 }
 
+/// The last table of an array of tables.
+fn last_table(node: &Node) -> Option<usize>
+    ensures { result ≡ last_table (shape_of node.now.content) node.now.elements.items }
+{
+    match &node.content {
+        Content::Tables => node.elements.last().copied(),
+        Content::Text(_)
+        | Content::Truth(_)
+        | Content::Integer(_)
+        | Content::Float(_)
+        | Content::DateTime(_)
+        | Content::Array
+        | Content::Inline
+        | Content::Table => None,
+    }
+}
+
 /// The last element of an array of tables, and any other node itself.
 fn last_element(nodes: &[Node], number: usize) -> usize
     ensures { (spots : List Spot) → Holds nodes.now spots → result ≡ target_of spots number Super }
@@ -75,8 +92,7 @@ fn last_element(nodes: &[Node], number: usize) -> usize
     if number >= nodes.len() {
         return number;
     }
-    let node = &nodes[number];
-    node.elements.last().copied().unwrap_or(number)
+    last_table(&nodes[number]).unwrap_or(number)
 }
 
 /// The node whose place is taken: a header that goes on below an array of tables goes on below its last element.
@@ -125,13 +141,16 @@ fn add(
     Ok(Some(count))
 }
 
-/// Adds an element to an array of tables. Answers its number, or nothing where it would have more than 80 steps.
+/// Adds an element to an array. Answers its number, or nothing where it would have more than 80 steps.
 pub(crate) fn add_element(
     alloc: Global,
     nodes: &mut Vec<Node>,
     number: usize,
+    content: Content,
+    taken: Taken,
+    span: Option<Span>,
 ) -> CargoResult<Option<usize>>
-    ensures added { (spots : List Spot) → Holds nodes.old.items spots → IfOk result (Puts nodes.new.items (element_added spots number)) }
+    ensures added { (spots : List Spot) → Holds nodes.old.items spots → IfOk result (Puts nodes.new.items (element_added spots number (shape_of content) taken span)) }
     ensures refused { IfErr result IsMemory }
 {
     let count = nodes.len();
@@ -145,10 +164,10 @@ pub(crate) fn add_element(
     let steps = node.steps + 1;
     node.elements.push(count)?;
     nodes.push(Node {
-        content: Content::Table,
-        taken: Taken::Element,
+        content,
+        taken,
         steps,
-        span: None,
+        span,
         members: IndexMap::new(alloc),
         elements: Vec::new(alloc),
     })?;

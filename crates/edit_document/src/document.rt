@@ -48,6 +48,7 @@ pub(crate) enum Seen<'a> {
     Integer,
     Float,
     DateTime,
+    Array,
     Inline,
     Table,
     Tables,
@@ -90,6 +91,7 @@ impl Document {
             Content::Integer(_) => Seen::Integer,
             Content::Float(_) => Seen::Float,
             Content::DateTime(_) => Seen::DateTime,
+            Content::Array => Seen::Array,
             Content::Inline => Seen::Inline,
             Content::Table => Seen::Table,
             Content::Tables => Seen::Tables,
@@ -109,7 +111,7 @@ impl Document {
             | Content::Float(_)
             | Content::DateTime(_) => 0,
             Content::Inline | Content::Table => node.members.len(),
-            Content::Tables => node.elements.len(),
+            Content::Array | Content::Tables => node.elements.len(),
         }
     }
 
@@ -125,6 +127,7 @@ impl Document {
             | Content::Integer(_)
             | Content::Float(_)
             | Content::DateTime(_)
+            | Content::Array
             | Content::Tables => 0,
             Content::Inline | Content::Table => node.members.len(),
         }
@@ -142,6 +145,7 @@ impl Document {
             | Content::Integer(_)
             | Content::Float(_)
             | Content::DateTime(_)
+            | Content::Array
             | Content::Tables => None,
             Content::Inline | Content::Table => {
                 let (name, _) = node.members.get_index(index)?;

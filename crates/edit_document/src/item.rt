@@ -46,7 +46,7 @@ impl<'a> Item<'a> {
         match self.seen() {
             Seen::Text(text) => Some(text),
             Seen::Truth(_) | Seen::Inline | Seen::Table | Seen::Tables => None,
-            Seen::Integer | Seen::Float | Seen::DateTime => None,
+            Seen::Integer | Seen::Float | Seen::DateTime | Seen::Array => None,
         }
     }
 
@@ -56,7 +56,7 @@ impl<'a> Item<'a> {
         match self.seen() {
             Seen::Truth(truth) => Some(truth),
             Seen::Text(_) | Seen::Inline | Seen::Table | Seen::Tables => None,
-            Seen::Integer | Seen::Float | Seen::DateTime => None,
+            Seen::Integer | Seen::Float | Seen::DateTime | Seen::Array => None,
         }
     }
 
@@ -67,6 +67,7 @@ impl<'a> Item<'a> {
         match self.seen() {
             Seen::Text(_) | Seen::Truth(_) | Seen::Inline | Seen::Table | Seen::Tables => None,
             Seen::Integer | Seen::Float | Seen::DateTime => None,
+            Seen::Array => Some(self),
         }
     }
 
@@ -116,7 +117,7 @@ impl<'a> Item<'a> {
         match self.seen() {
             Seen::Text(_) => true,
             Seen::Truth(_) | Seen::Inline | Seen::Table | Seen::Tables => false,
-            Seen::Integer | Seen::Float | Seen::DateTime => false,
+            Seen::Integer | Seen::Float | Seen::DateTime | Seen::Array => false,
         }
     }
 
@@ -126,7 +127,7 @@ impl<'a> Item<'a> {
     {
         match self.seen() {
             Seen::Text(_) | Seen::Truth(_) | Seen::Tables => false,
-            Seen::Integer | Seen::Float | Seen::DateTime => false,
+            Seen::Integer | Seen::Float | Seen::DateTime | Seen::Array => false,
             Seen::Inline | Seen::Table => true,
         }
     }
@@ -137,7 +138,7 @@ impl<'a> Item<'a> {
         match self.seen() {
             Seen::Inline => true,
             Seen::Text(_) | Seen::Truth(_) | Seen::Table | Seen::Tables => false,
-            Seen::Integer | Seen::Float | Seen::DateTime => false,
+            Seen::Integer | Seen::Float | Seen::DateTime | Seen::Array => false,
         }
     }
 
@@ -152,6 +153,7 @@ impl<'a> Item<'a> {
             Seen::Integer => "integer",
             Seen::Float => "float",
             Seen::DateTime => "datetime",
+            Seen::Array => "array",
             Seen::Inline => "inline table",
             Seen::Table => "table",
             Seen::Tables => "array of tables",

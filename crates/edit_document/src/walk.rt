@@ -15,8 +15,8 @@ use crate::read::{Mark, MarkKind};
 use indexmap::IndexMap;
 use std::alloc::Global;
 
-/// The nodes so far; the numbers of the header and of the inline tables that are open, the innermost last; and the
-/// parts of the key that waits for its value: the last one, and those before it.
+/// The nodes so far; the numbers of the header and of the arrays and inline tables that are open, the innermost last;
+/// and the parts of the key that waits for its value: the last one, and those before it.
 #[derive(Drop)]
 pub(crate) struct Walk {
     nodes: Vec<Node>,
@@ -136,7 +136,7 @@ impl Walk {
         assert_member(alloc, &mut self.nodes, table, name, content, taken, span)
     }
 
-    /// The waiting key becomes a member of the innermost table. Answers the number of its node.
+    /// A value enters the innermost table or array. Answers the number of its node.
     fn enter_at(
         &mut self,
         alloc: Global,
@@ -149,10 +149,13 @@ impl Walk {
         let Some(number) = self.tables.last().copied() else {
             return Ok(None);
         };
-        self.settle(alloc, number, Taken::Dotted, content, Taken::Value, span)
+        match &self.name {
+            Some(_) => self.settle(alloc, number, Taken::Dotted, content, Taken::Value, span),
+            None => add_element(alloc, &mut self.nodes, number, content, Taken::Value, span),
+        }
     }
 
-    /// The waiting key becomes a member of the innermost table.
+    /// A value enters the innermost table or array.
     fn enter(&mut self, alloc: Global, content: Content, span: Option<Span>) -> CargoResult<bool>
         ensures goes { (st : State) → Walks self.old st → IfOk result (Goes self.new (entered st (shape_of content) span)) }
         ensures refused { IfErr result IsMemory }
@@ -160,19 +163,19 @@ impl Walk {
         Ok(self.enter_at(alloc, content, span)?.is_some())
     }
 
-    /// An inline table opens.
-    fn open(&mut self, alloc: Global, span: Span) -> CargoResult<bool>
-        ensures goes { (st : State) → Walks self.old st → IfOk result (Goes self.new (opened st (Some span))) }
+    /// An array or an inline table opens.
+    fn open(&mut self, alloc: Global, content: Content, span: Span) -> CargoResult<bool>
+        ensures goes { (st : State) → Walks self.old st → IfOk result (Goes self.new (opened st (shape_of content) (Some span))) }
         ensures refused { IfErr result IsMemory }
     {
-        let Some(number) = self.enter_at(alloc, Content::Inline, Some(span))? else {
+        let Some(number) = self.enter_at(alloc, content, Some(span))? else {
             return Ok(false);
         };
         self.tables.push(number)?;
         Ok(true)
     }
 
-    /// The innermost table ends before so many bytes.
+    /// The innermost table or array ends before so many bytes.
     fn close(&mut self, to: usize) -> bool
         ensures { (st : State) → Walks self.old st → Goes self.new (closed st to) result }
     {
@@ -225,7 +228,7 @@ impl Walk {
         else {
             return Ok(false);
         };
-        let Some(element) = add_element(alloc, &mut self.nodes, number)? else {
+        let Some(element) = add_element(alloc, &mut self.nodes, number, Content::Table, Taken::Element, None)? else {
             return Ok(false);
         };
         self.turn_to(element)?;
@@ -259,8 +262,9 @@ impl Walk {
             }
             MarkKind::True => self.enter(alloc, Content::Truth(true), Some(span)),
             MarkKind::False => self.enter(alloc, Content::Truth(false), Some(span)),
-            MarkKind::OpenTable => self.open(alloc, span),
-            MarkKind::CloseTable => Ok(self.close(mark.to)),
+            MarkKind::OpenArray => self.open(alloc, Content::Array, span),
+            MarkKind::OpenTable => self.open(alloc, Content::Inline, span),
+            MarkKind::CloseArray | MarkKind::CloseTable => Ok(self.close(mark.to)),
             MarkKind::Header => self.head(alloc),
             MarkKind::ElementHeader => self.head_element(alloc),
             _ => Ok(false),
