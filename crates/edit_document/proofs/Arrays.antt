@@ -44,6 +44,13 @@ elements_are made written spots t s i k st here some none =
       | inr le ↦ omega arith
     ]
 
+pub elements_none_at : (made : List Assertion) (written : List Placed) (spots : List Spot) (t : ℕ) (s : Spot) → Stands made written spots → slice_get spots t ≡ Some s → kind_at made (at s.place (index 0)) ≡ None → length s.elements ≡ 0
+elements_none_at made written spots t s st here none =
+    elim (cases_lt 0 (length s.elements)) [
+      | inl lt ↦ let l = listed_stands made written spots t s 0 st here lt in absurd (let clash : None ≡ Some l.0 = sym none ∙ l.1 in cc)
+      | inr le ↦ omega arith
+    ]
+
 -- an array has all of its elements
 pub elements_full : (made : List Assertion) (written : List Placed) (spots : List Spot) (t : ℕ) (s : Spot) (g : List Between) (es : Elements) → Stands made written spots → slice_get spots t ≡ Some s → first_kind made s.place ≡ Some (leaf (array g es))
     → ((i : ℕ) → i < count_elements es → kind_at made (at s.place (index i)) ≡ None → ⊥) → length s.elements ≡ count_elements es

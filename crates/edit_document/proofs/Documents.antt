@@ -5,9 +5,9 @@ use Rattle.std.specs.List.{AllByRecursion}
 use Rattle.edit_document.specs.declared.read.marks.Mark.{Mark}
 use Rattle.edit_document.specs.declared.nodes.Node.{Node}
 use Rattle.edit_document.specs.declared.document.Document.TheInside.{Inside}
-use Rattle.edit_document.specs.Grammar.{Text, lines, byte_order_mark, Spells}
+use Rattle.edit_document.specs.Grammar.{array, Text, lines, byte_order_mark, Spells}
 use Rattle.edit_document.specs.Supported.{IsSupported, IsManifest}
-use Rattle.edit_document.specs.Assertions.{assertions}
+use Rattle.edit_document.specs.Assertions.{index, at, assertions}
 use Rattle.edit_document.specs.Depth.{text_depth}
 use Rattle.edit_document.specs.Marks.{text_marks, IsReadRefusal}
 use Rattle.edit_document.specs.Errors.{IsMemory}
@@ -26,7 +26,8 @@ use Rattle.edit_document.proofs.Ends.{Ends}
 use Rattle.edit_document.proofs.Shallow.{shallow as shallow_form, manifest_form}
 use Rattle.edit_document.proofs.Standing.{Stands}
 use Rattle.edit_document.proofs.WalkedLines.{Walked as Walks, ended, stuck, text_walked, text_even}
-use Rattle.edit_document.proofs.ShownTrees.{tree_shown}
+use Rattle.edit_document.proofs.ShownTrees.{AreFull, tree_shown}
+use Rattle.edit_document.proofs.Parts.{any_stands, has_kind, text_whole}
 use Rattle.edit_document.proofs.TextTokens.{text_tokens}
 
 -- a text in the grammar, with a form of the part that is read
@@ -90,10 +91,14 @@ refused_is bytes form m u none = go (walk_of bytes form (read_of bytes form m u)
     go (ended now tables e st) = let clash : None ≡ Some (settled_state now tables) = sym none ∙ e in cc
     go (stuck e clash) = clash (record { apart = m.document.no_clash; short = m.document.short })
 
+-- and each of its arrays has all of its elements
+text_full : (form : Text) → AreFull (assertions form)
+text_full form p g es i kind lt none = any_stands (at p (index i)) (assertions form) (text_whole form p g es i (has_kind p (array g es) (assertions form) kind) lt) none
+
 pub shows_form : (bytes : List ℕ) (form : Text) (nodes : List Node) → Walked bytes form nodes → ShowsTree (shown_by bytes) form
 unfolding shown_by
 shows_form bytes form nodes w place =
-    ap (λ (o : Option (List Spot)). node_at (nodes_by o) place) w.found ∙ tree_shown (assertions form) (map placed (values form)) w.spots place w.stands (text_even form)
+    ap (λ (o : Option (List Spot)). node_at (nodes_by o) place) w.found ∙ tree_shown (assertions form) (map placed (values form)) w.spots place w.stands (text_even form) (text_full form)
 
 -- two forms of one text
 pub one_form : (bytes : List ℕ) (f g : Text) → IsManifest bytes f → IsManifest bytes g → f ≡ g
@@ -107,7 +112,7 @@ read_is inside form w = record {
   manifest = w.manifest;
   holds = w.holds;
   tree = w.stands.tree;
-  views = λ place. tree_shown (assertions form) (map placed (values form)) w.spots place w.stands (text_even form);
+  views = λ place. tree_shown (assertions form) (map placed (values form)) w.spots place w.stands (text_even form) (text_full form);
   spans = λ n s e. (w.stands.tells n s e).span;
 }
 

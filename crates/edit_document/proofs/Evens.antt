@@ -101,6 +101,9 @@ pub arrays_alone : (made : List Assertion) (p : Place) → NoClash made → (ele
 arrays_alone [] p h = inl refl
 arrays_alone (a ∷ made) p h = go (same_place a.place p) refl (arrays_alone made p h.1)
   where
+    here : (k : Kind) → a.kind ≡ k → same_place a.place p ≡ true → AllByRecursion (λ b. p ≡ b.place → together k b.kind ≡ true) made
+    here k e t = subst (λ (x : Kind). AllByRecursion (λ b. p ≡ b.place → together x b.kind ≡ true) made) e (subst (λ (q : Place). AllByRecursion (λ b. q ≡ b.place → together a.kind b.kind ≡ true) made) (same_place_is a.place p t) h.0)
+
     first : (k : Kind) → a.kind ≡ k → same_place a.place p ≡ true → (elements_at (a ∷ made) p ≡ 0) ⊎ (kind_at (a ∷ made) p ≡ Some array_kind)
     first array_kind e t = inr (rw (t, e) refl)
     first (dotted w) e t = inl (rw e (no_arrays p (dotted w) made (here (dotted w) e t) refl))
@@ -108,9 +111,6 @@ arrays_alone (a ∷ made) p h = go (same_place a.place p) refl (arrays_alone mad
     first super e t = inl (rw e (no_arrays p super made (here super e t) refl))
     first header_kind e t = inl (rw e (no_arrays p header_kind made (here header_kind e t) refl))
     first element_kind e t = inl (rw e (no_arrays p element_kind made (here element_kind e t) refl))
-
-    here : (k : Kind) → a.kind ≡ k → same_place a.place p ≡ true → AllByRecursion (λ b. p ≡ b.place → together k b.kind ≡ true) made
-    here k e t = subst (λ (x : Kind). AllByRecursion (λ b. p ≡ b.place → together x b.kind ≡ true) made) e (subst (λ (q : Place). AllByRecursion (λ b. q ≡ b.place → together a.kind b.kind ≡ true) made) (same_place_is a.place p t) h.0)
 
     go : (t : Bool) → same_place a.place p ≡ t → (elements_at made p ≡ 0) ⊎ (kind_at made p ≡ Some array_kind) → (elements_at (a ∷ made) p ≡ 0) ⊎ (kind_at (a ∷ made) p ≡ Some array_kind)
     go true t ih = first a.kind refl t

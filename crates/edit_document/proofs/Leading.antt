@@ -117,19 +117,13 @@ element_enters spots base t p i g es v span made written st there size first few
     go (makes now j e s h grows) = enters now j (path ∙ ap (λ (o : Option (List Spot × ℕ)). o >>= λ q. with_number (base ++ t ∷ []) q) e) s h grows
     go (fails e c) = bars (path ∙ ap (λ (o : Option (List Spot × ℕ)). o >>= λ q. with_number (base ++ t ∷ []) q) e) c
 
--- nothing is written at an element before it
-pub element_unwritten : (spots : List Spot) (t : ℕ) (p : Place) (i : ℕ) (made : List Assertion) (written : List Placed) → Stands made written spots → (there : StandsAt spots t p) → length there.0.elements ≡ i → span_at written (at p (index i)) ≡ None
-element_unwritten spots t p i made written st there size = go (span_at written (at p (index i))) refl
-  where
-    go : (o : Option Span) → span_at written (at p (index i)) ≡ o → span_at written (at p (index i)) ≡ None
-    go None e = e
-    go (Some s) e =
-        let k = st.spans (at p (index i)) s e in
-        let past : below there.0 (index i) ≡ None = slice_get_past there.0.elements i (omega arith) in
-        let none : kind_at made (at p (index i)) ≡ None = ap (λ (q : Place). kind_at made (at q (index i))) (sym there.2) ∙ nothing_below_spot made written spots t there.0 (index i) st there.1 past in
-        absurd (let clash : None ≡ Some k.0 = sym none ∙ k.1 in cc)
+-- nothing stands at an element before it
+pub element_vacant : (spots : List Spot) (t : ℕ) (p : Place) (i : ℕ) (made : List Assertion) (written : List Placed) → Stands made written spots → (there : StandsAt spots t p) → length there.0.elements ≡ i → kind_at made (at p (index i)) ≡ None
+element_vacant spots t p i made written st there size =
+    let past : below there.0 (index i) ≡ None = slice_get_past there.0.elements i (omega arith) in
+    ap (λ (q : Place). kind_at made (at q (index i))) (sym there.2) ∙ nothing_below_spot made written spots t there.0 (index i) st there.1 past
 
--- ---- nothing is written at a place before its value
+-- ---- nothing stands at a place before its value
 
 key_last : (within : Bool) (by p : Place) (n : List ℕ) (ns : List (List ℕ)) (v : Written) → (front : List Assertion) × (q : Place) × (of_key within by p (n ∷ ns) v ≡ front ++ asserts by q (leaf v) ∷ []) × (q ≡ named p (n ∷ ns))
 key_last within by p n [] v = ([], named p (n ∷ []), refl, refl)
@@ -148,19 +142,18 @@ leaf_refused (a ∷ made) p k v e h = go (same_place a.place p) refl e (leaf_ref
     go true t g ih = let clash : true ≡ false = sym parts.0 ∙ ap (λ (b : Bool). cond b (together a.kind (leaf v)) true) t ∙ leaf_alone a.kind v in cc
     go false t g ih = ih g parts.1
 
-pub unwritten : (made : List Assertion) (written : List Placed) (spots : List Spot) (within : Bool) (by p : Place) (n : List ℕ) (ns : List (List ℕ)) (v : Written) → Stands made written spots → IsClear (made ++ of_key within by p (n ∷ ns) v) → span_at written (named p (n ∷ ns)) ≡ None
-unwritten made written spots within by p n ns v st clear = go (span_at written (named p (n ∷ ns))) refl
+pub vacant : (made : List Assertion) (within : Bool) (by p : Place) (n : List ℕ) (ns : List (List ℕ)) (v : Written) → IsClear (made ++ of_key within by p (n ∷ ns) v) → kind_at made (named p (n ∷ ns)) ≡ None
+vacant made within by p n ns v clear = go (kind_at made (named p (n ∷ ns))) refl
   where
-    go : (o : Option Span) → span_at written (named p (n ∷ ns)) ≡ o → span_at written (named p (n ∷ ns)) ≡ None
+    go : (o : Option Kind) → kind_at made (named p (n ∷ ns)) ≡ o → kind_at made (named p (n ∷ ns)) ≡ None
     go None e = e
-    go (Some s) e =
-        let k = st.spans (named p (n ∷ ns)) s e in
+    go (Some k) e =
         let l = key_last within by p n ns v in
         let a : Assertion = asserts by l.1 (leaf v) in
         let all : made ++ of_key within by p (n ∷ ns) v ≡ (made ++ l.0) ++ a ∷ [] = ap (λ (xs : List Assertion). made ++ xs) l.2 ∙ sym (append_assoc made l.0 (a ∷ [])) in
         let fits : allowed (made ++ l.0) l.1 (leaf v) ≡ true = clash_last (made ++ l.0) a (subst IsClear all clear) in
-        let there : kind_at made l.1 ≡ Some k.0 = ap (kind_at made) l.3 ∙ k.1 in
-        absurd (leaf_refused (made ++ l.0) l.1 k.0 v (kind_front made l.0 l.1 k.0 there) fits)
+        let there : kind_at made l.1 ≡ Some k = ap (kind_at made) l.3 ∙ e in
+        absurd (leaf_refused (made ++ l.0) l.1 k v (kind_front made l.0 l.1 k there) fits)
       where
         kind_front : (made more : List Assertion) (q : Place) (k : Kind) → kind_at made q ≡ Some k → kind_at (made ++ more) q ≡ Some k
         kind_front [] more q k e = absurd cc

@@ -66,6 +66,7 @@ pub mod Decoded
 pub mod Contents
 pub mod StandardFacts
 pub mod NumberFacts
+pub mod ArrayFacts
 pub mod MultiFacts
 pub mod ShownForms
 pub mod ReplacedDocuments

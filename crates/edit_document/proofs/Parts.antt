@@ -1,5 +1,5 @@
 -- What stands below the elements of an array, and that all of its elements stand.
-use Rattle.std.proofs.Common.{◌≡◌, ℕ, suc, ◌+◌, ◌<◌, ◌≤◌, Bool, true, false, cond, List, [], ◌∷◌, ◌++◌, length, map, Option, Some, None, refl, sym, ap, subst, ◌∙◌, ◌⊎◌, inl, inr, arith, append_assoc}
+use Rattle.std.proofs.Common.{◌≡◌, ℕ, zero, suc, ◌+◌, ◌<◌, ◌≤◌, Bool, true, false, cond, List, [], ◌∷◌, ◌++◌, length, map, Option, Some, None, refl, sym, ap, subst, ◌∙◌, ◌⊎◌, inl, inr, arith, append_assoc}
 use Rattle.std.specs.List.{AllByRecursion}
 use Rattle.std.proofs.lemmas.List.{length_push, length-append}
 use Rattle.edit_document.specs.Strings.{Key, name, Dotted as DottedPart}
@@ -7,6 +7,7 @@ use Rattle.edit_document.specs.Grammar.{Between, Value, basic, literal, multi_ba
 use Rattle.edit_document.specs.Assertions.{key, index, Place, at, same_place, Kind, dotted, leaf, super, header_kind, array_kind, element_kind, Assertion, asserts, names, named, of_key, of_value, of_elements, of_members, resolved, fronts, header_place, of_statement, prefix_after, of_lines, assertions}
 use Rattle.edit_document.specs.Tree.{kind_at, count_elements}
 use Rattle.edit_document.proofs.SamePlace.{same_place_is, same_place_self}
+use Rattle.edit_document.proofs.NothingBelow.{HasLeaf}
 
 -- ---- what a value asserts lies below it
 
@@ -104,30 +105,25 @@ any_stands p (a ∷ made) (inr m) e = go (same_place a.place p) e (any_stands p 
     go true h ih = cc
     go false h ih = ih h
 
--- the value of a place is asserted
-abbrev pub HasValue : Place → Value → List Assertion → Type 0
-HasValue p v [] = ⊥
-HasValue p v (a ∷ made) = ((a.place ≡ p) × (a.kind ≡ leaf v)) ⊎ HasValue p v made
-
-has_parts : (p : Place) (v : Value) (xs ys : List Assertion) → HasValue p v (xs ++ ys) → HasValue p v xs ⊎ HasValue p v ys
+has_parts : (p : Place) (v : Value) (xs ys : List Assertion) → HasLeaf p v (xs ++ ys) → HasLeaf p v xs ⊎ HasLeaf p v ys
 has_parts p v [] ys h = inr h
 has_parts p v (x ∷ xs) ys (inl e) = inl (inl e)
 has_parts p v (x ∷ xs) ys (inr m) = elim (has_parts p v xs ys m) [ inl a ↦ inl (inr a) | inr b ↦ inr b ]
 
-pub has_kind : (p : Place) (v : Value) (made : List Assertion) → kind_at made p ≡ Some (leaf v) → HasValue p v made
+pub has_kind : (p : Place) (v : Value) (made : List Assertion) → kind_at made p ≡ Some (leaf v) → HasLeaf p v made
 has_kind p v [] e = absurd cc
 has_kind p v (a ∷ made) e = go (same_place a.place p) refl e (has_kind p v made)
   where
-    go : (b : Bool) → same_place a.place p ≡ b → cond b (Some a.kind) (kind_at made p) ≡ Some (leaf v) → (kind_at made p ≡ Some (leaf v) → HasValue p v made) → HasValue p v (a ∷ made)
+    go : (b : Bool) → same_place a.place p ≡ b → cond b (Some a.kind) (kind_at made p) ≡ Some (leaf v) → (kind_at made p ≡ Some (leaf v) → HasLeaf p v made) → HasLeaf p v (a ∷ made)
     go true t h ih = inl (same_place_is a.place p t, let same : a.kind ≡ leaf v = cc in same)
     go false t h ih = inr (ih h)
 
 -- the place of each element is asserted where the array is
 abbrev pub AreWhole : List Assertion → Type 0
-AreWhole made = (p : Place) (g : List Between) (es : Elements) (i : ℕ) → HasValue p (array g es) made → i < count_elements es → AnyAt (at p (index i)) made
+AreWhole made = (p : Place) (g : List Between) (es : Elements) (i : ℕ) → HasLeaf p (array g es) made → i < count_elements es → AnyAt (at p (index i)) made
 
-whole_none : (made : List Assertion) → ((p : Place) (v : Value) → HasValue p v made → ⊥) → AreWhole made
-whole_none made no p g es i h lt = absurd (no p (array g es) h)
+whole_none : (made : List Assertion) → ((p : Place) (v : Value) → HasLeaf p v made → ⊥) → AreWhole made
+whole_none made free p g es i h lt = absurd (free p (array g es) h)
 
 whole_both : (xs ys : List Assertion) → AreWhole xs → AreWhole ys → AreWhole (xs ++ ys)
 whole_both xs ys h k p g es i has lt = elim (has_parts p (array g es) xs ys has) [
@@ -138,7 +134,7 @@ whole_both xs ys h k p g es i has lt = elim (has_parts p (array g es) xs ys has)
 elements_any : (p : Place) (j : ℕ) (es : Elements) (i : ℕ) → i < count_elements es → AnyAt (at p (index (j + i))) (of_elements p j es)
 elements_any p j no_elements i lt = absurd (omega arith)
 elements_any p j (last_element v g) i lt = inl (ap (λ (n : ℕ). at p (index n)) (let same : j ≡ j + i = omega arith in same))
-elements_any p j (element v g h es) 0 lt = inl (ap (λ (n : ℕ). at p (index n)) (let same : j ≡ j + 0 = omega arith in same))
+elements_any p j (element v g h es) zero lt = inl (ap (λ (n : ℕ). at p (index n)) (let same : j ≡ j + zero = omega arith in same))
 elements_any p j (element v g h es) (suc i) lt =
     let same : suc j + i ≡ j + suc i = omega arith in
     inr (any_right (at p (index (j + suc i))) (of_value (at p (index j)) v) (of_elements p (suc j) es) (subst (λ (n : ℕ). AnyAt (at p (index n)) (of_elements p (suc j) es)) same (elements_any p (suc j) es i (omega arith))))
@@ -149,7 +145,7 @@ whole_at p v front = front ++ of_value p v
 
 -- the front asserts this value at this place, and no other
 abbrev OnlyValue : Place → Value → List Assertion → Type 0
-OnlyValue p v front = (q : Place) (w : Value) → HasValue q w front → (p ≡ q) × (v ≡ w)
+OnlyValue p v front = (q : Place) (w : Value) → HasLeaf q w front → (p ≡ q) × (v ≡ w)
 
 whole_value_at : (p : Place) (v : Value) (front : List Assertion) → OnlyValue p v front → AreWhole (of_value p v) → AreWhole (front ++ of_value p v)
 whole_value_at p v front only inner q g es i has lt = elim (has_parts q (array g es) front (of_value p v) has) [
@@ -207,7 +203,7 @@ mutual
 
 -- ---- statements
 
-front_values : (earlier : List Assertion) (by p : Place) (ns : List (List ℕ)) (q : Place) (v : Value) → HasValue q v (fronts earlier by p ns) → ⊥
+front_values : (earlier : List Assertion) (by p : Place) (ns : List (List ℕ)) (q : Place) (v : Value) → HasLeaf q v (fronts earlier by p ns) → ⊥
 front_values earlier by p [] q v h = h
 front_values earlier by p (n ∷ []) q v h = h
 front_values earlier by p (n ∷ m ∷ ns) q v (inl h) = cc
@@ -221,7 +217,7 @@ whole_statement earlier prefix (header a k b) =
     let p = header_place earlier [] (names k) in
     whole_both (fronts earlier p [] (names k)) (asserts p p header_kind ∷ []) (whole_none (fronts earlier p [] (names k)) (front_values earlier p [] (names k))) (whole_none (asserts p p header_kind ∷ []) no_header)
   where
-    no_header : (q : Place) (v : Value) → HasValue q v (asserts (header_place earlier [] (names k)) (header_place earlier [] (names k)) header_kind ∷ []) → ⊥
+    no_header : (q : Place) (v : Value) → HasLeaf q v (asserts (header_place earlier [] (names k)) (header_place earlier [] (names k)) header_kind ∷ []) → ⊥
     no_header q v (inl h) = cc
     no_header q v (inr h) = h
 whole_statement earlier prefix (element_header a k b) =
@@ -229,7 +225,7 @@ whole_statement earlier prefix (element_header a k b) =
     let p = header_place earlier [] (names k) in
     whole_both (fronts earlier by [] (names k)) (asserts by p array_kind ∷ asserts by by element_kind ∷ []) (whole_none (fronts earlier by [] (names k)) (front_values earlier by [] (names k))) (whole_none (asserts by p array_kind ∷ asserts by by element_kind ∷ []) (no_element by p))
   where
-    no_element : (by p q : Place) (v : Value) → HasValue q v (asserts by p array_kind ∷ asserts by by element_kind ∷ []) → ⊥
+    no_element : (by p q : Place) (v : Value) → HasLeaf q v (asserts by p array_kind ∷ asserts by by element_kind ∷ []) → ⊥
     no_element by p q v (inl h) = cc
     no_element by p q v (inr (inl h)) = cc
     no_element by p q v (inr (inr h)) = h

@@ -152,14 +152,15 @@ names_of_content : (shown : Shown) (nodes : List Node) (spots : List Spot) (n : 
 names_of_content shown nodes spots n node x f is = ap names_in f.view ∙ ap (λ (y : Content). names_in (view_of_shape (shape_of y) (names_of_node node) (length node.elements.items))) is
 
 -- what shows no names, and what does
-pub names_none : (shown : Shown) (nodes : List Node) (spots : List Spot) (n : ℕ) (node : Node) → Found shown nodes spots n node → IsText node.content ⊎ (IsTruth node.content ⊎ (IsInteger node.content ⊎ (IsFloat node.content ⊎ (IsDateTime node.content ⊎ (node.content ≡ content.Tables)))))
+pub names_none : (shown : Shown) (nodes : List Node) (spots : List Spot) (n : ℕ) (node : Node) → Found shown nodes spots n node → IsText node.content ⊎ (IsTruth node.content ⊎ (IsInteger node.content ⊎ (IsFloat node.content ⊎ (IsDateTime node.content ⊎ ((node.content ≡ content.Array) ⊎ (node.content ≡ content.Tables))))))
     → names_in (view_numbered shown n) ≡ []
 names_none shown nodes spots n node f (inl t) = names_of_content shown nodes spots n node (content.Text t.0) f t.1
 names_none shown nodes spots n node f (inr (inl t)) = names_of_content shown nodes spots n node (content.Truth t.0) f t.1
 names_none shown nodes spots n node f (inr (inr (inl t))) = names_of_content shown nodes spots n node (content.Integer t.0) f t.1
 names_none shown nodes spots n node f (inr (inr (inr (inl t)))) = names_of_content shown nodes spots n node (content.Float t.0) f t.1
 names_none shown nodes spots n node f (inr (inr (inr (inr (inl t))))) = names_of_content shown nodes spots n node (content.DateTime t.0) f t.1
-names_none shown nodes spots n node f (inr (inr (inr (inr (inr t))))) = names_of_content shown nodes spots n node content.Tables f t
+names_none shown nodes spots n node f (inr (inr (inr (inr (inr (inl t)))))) = names_of_content shown nodes spots n node content.Array f t
+names_none shown nodes spots n node f (inr (inr (inr (inr (inr (inr t)))))) = names_of_content shown nodes spots n node content.Tables f t
 
 pub names_tabular : (shown : Shown) (nodes : List Node) (spots : List Spot) (n : ℕ) (node : Node) → Found shown nodes spots n node → (node.content ≡ content.Inline) ⊎ (node.content ≡ content.Table) → names_in (view_numbered shown n) ≡ names_of_node node
 names_tabular shown nodes spots n node f (inl t) = names_of_content shown nodes spots n node content.Inline f t ∙ names_keys (names_of_node node)
@@ -175,6 +176,10 @@ count_scalar shown nodes spots n node f (inr (inl t)) = count_shown shown nodes 
 count_scalar shown nodes spots n node f (inr (inr (inl t))) = count_shown shown nodes spots n node (content.Integer t.0) f t.1
 count_scalar shown nodes spots n node f (inr (inr (inr (inl t)))) = count_shown shown nodes spots n node (content.Float t.0) f t.1
 count_scalar shown nodes spots n node f (inr (inr (inr (inr t)))) = count_shown shown nodes spots n node (content.DateTime t.0) f t.1
+
+pub count_elements : (shown : Shown) (nodes : List Node) (spots : List Spot) (n : ℕ) (node : Node) → Found shown nodes spots n node → (node.content ≡ content.Array) ⊎ (node.content ≡ content.Tables) → count_in (view_numbered shown n) ≡ length node.elements.items
+count_elements shown nodes spots n node f (inl t) = count_shown shown nodes spots n node content.Array f t
+count_elements shown nodes spots n node f (inr t) = count_shown shown nodes spots n node content.Tables f t
 
 pub count_tabular : (shown : Shown) (nodes : List Node) (spots : List Spot) (n : ℕ) (node : Node) → Found shown nodes spots n node → (node.content ≡ content.Inline) ⊎ (node.content ≡ content.Table) → count_in (view_numbered shown n) ≡ length node.members.entries
 count_tabular shown nodes spots n node f (inl t) = count_shown shown nodes spots n node content.Inline f t ∙ count_members node

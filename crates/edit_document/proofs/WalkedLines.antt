@@ -5,7 +5,7 @@ use Rattle.std.proofs.lemmas.List.{append-nil, map-append}
 use Rattle.std.proofs.lemmas.Option.{same_Some}
 use Rattle.edit_document.specs.declared.read.marks.Mark.{Mark}
 use Rattle.edit_document.specs.declared.read.marks.MarkKind.TheVariants as kinds
-use Rattle.edit_document.specs.declared.nodes.Taken.TheVariants.{Super, Header, Array}
+use Rattle.edit_document.specs.declared.nodes.Taken.TheVariants.{Super, Header, Array, Element}
 use Rattle.edit_document.specs.Characters.{equals, left_bracket, right_bracket}
 use Rattle.edit_document.specs.Strings.{◌·◌, LineEnd, line_end, name, Dotted as DottedPart, Key}
 use Rattle.edit_document.specs.Strings as strings
@@ -21,16 +21,16 @@ use Rattle.edit_document.specs.Walk.{State, element_added, settled_state, settle
 use Rattle.edit_document.specs.Marks.{mark, value_marks, statement_marks, lines_marks, text_marks}
 use Rattle.edit_document.proofs.Ends.{Ends, ends_past, ends_one, ends_pair, ends_line, ends_line_end}
 use Rattle.edit_document.proofs.SamePlace.{both_true, not_root}
-use Rattle.edit_document.proofs.MoreAssertions.{first_kind, first_is, kind_stays, kind_new, IsClear, clear_front, clash_last, allowed, elements_below, elements_stay}
+use Rattle.edit_document.proofs.MoreAssertions.{first_kind, first_is, kind_stays, kind_new, IsClear, clear_front, clash_last, allowed, is_headed, elements_below, elements_stay}
 use Rattle.edit_document.proofs.Trees.{Grows, grows_then}
 use Rattle.edit_document.proofs.Standing.{Stands, stands_start}
 use Rattle.edit_document.proofs.Asserting.{Makes, makes, fails, element_makes}
 use Rattle.edit_document.proofs.Landing.{header_lands}
-use Rattle.edit_document.proofs.Evens.{IsEven, even_statement}
+use Rattle.edit_document.proofs.Evens.{IsEven, arrays_alone, even_statement}
 use Rattle.edit_document.proofs.Walks.{walked_one, walked_none, walked_append}
 use Rattle.edit_document.proofs.WalkedTokens.{waits, walked_key}
 use Rattle.edit_document.proofs.Leading.{Leads, leads, stops, Enters, enters, bars, settled_enters}
-use Rattle.edit_document.proofs.WalkedValues.{spans, Before, value_leads}
+use Rattle.edit_document.proofs.WalkedValues.{spans, pair_before, pair_is_before, value_leads}
 
 header_step : (bytes from rest : List ℕ) (st : State) → step bytes (mark kinds.Header from rest) st ≡ headed st
 unfolding step
@@ -66,7 +66,7 @@ header_stated : (bytes : List ℕ) (spots : List Spot) (t : ℕ) (made : List As
 header_stated bytes spots t made written k whole rest st even =
     let q = header_place made [] (names k) in
     let root = st.tree.root in
-    let lands = header_lands spots 0 [] (name k.first) (key_names k) made q q header_kind made written st root even refl (λ e. absurd cc) in
+    let lands = header_lands spots 0 [] (name k.first) (key_names k) made q q header_kind made written st root even (λ r. arrays_alone made r st.clear.apart) refl (λ e. absurd cc) in
     go (settled_enters spots (t ∷ []) 0 (name k.first) (key_names k) Super section Header None (made ++ (fronts made q [] (names k) ++ asserts q q header_kind ∷ [])) written q lands)
   where
     path : walked bytes (mark kinds.Header whole rest ∷ []) (waits (settled_state spots (t ∷ [])) (names k)) ≡ headed (waits (settled_state spots (t ∷ [])) (names k))
@@ -142,7 +142,7 @@ module _ (bytes : List ℕ) (spots : List Spot) (t : ℕ) (made : List Assertion
   element_path = walked_one bytes (mark kinds.ElementHeader whole rest) waiting ∙ element_step bytes whole rest waiting
 
   abbrev with_element_of : State × ℕ → Option State
-  with_element_of r = element_added r.0.spots r.1 >>= λ e. Some (turned (record r.0 { spots = e.0 }, e.1))
+  with_element_of r = element_added r.0.spots r.1 section Element None >>= λ e. Some (turned (record r.0 { spots = e.0 }, e.1))
 
   all_made : (made ++ (supers ++ one_array ∷ [])) ++ one_element ∷ [] ≡ made ++ (supers ++ one_array ∷ one_element ∷ [])
   all_made = append_assoc made (supers ++ one_array ∷ []) (one_element ∷ []) ∙ ap (λ (xs : List Assertion). made ++ xs) (append_assoc supers (one_array ∷ []) (one_element ∷ []))
@@ -150,13 +150,22 @@ module _ (bytes : List ℕ) (spots : List Spot) (t : ℕ) (made : List Assertion
   array_made : made ++ (supers ++ one_array ∷ []) ≡ (made ++ supers) ++ one_array ∷ []
   array_made = sym (append_assoc made supers (one_array ∷ []))
 
+  -- what is asserted as an array of tables was made by headers
+  by_headers : (now : List Spot) (s : Spot) (j : ℕ) → (st2 : Stands (made ++ (supers ++ one_array ∷ [])) written now) → (here : slice_get now j ≡ Some s) → s.place ≡ array_at → is_headed (st2.tells j s here).kind ≡ true
+  by_headers now s j st2 here place =
+      let clear2 : IsClear ((made ++ supers) ++ one_array ∷ []) = subst IsClear array_made st2.clear in
+      let arrays : first_kind (made ++ (supers ++ one_array ∷ [])) s.place ≡ Some array_kind =
+      ap (first_kind (made ++ (supers ++ one_array ∷ []))) place ∙ ap (λ (xs : List Assertion). first_kind xs array_at) array_made ∙ array_place (made ++ supers) own array_at (header_inner made [] (name k.first) (key_names k)) clear2 in
+      let kind : (st2.tells j s here).kind ≡ array_kind = (let both : Some (st2.tells j s here).kind ≡ Some array_kind = sym (st2.tells j s here).first ∙ arrays in cc) in
+      ap is_headed kind
+
   -- as many elements stand below the array as were asserted before this statement
   counted : (now : List Spot) (s : Spot) (j : ℕ) → Stands (made ++ (supers ++ one_array ∷ [])) written now → slice_get now j ≡ Some s → s.place ≡ array_at → length s.elements ≡ elements_at made array_at
   counted now s j st2 here place =
-      (st2.tells j s here).count ∙ ap (elements_below (made ++ (supers ++ one_array ∷ []))) place ∙ ap (λ (xs : List Assertion). elements_below xs array_at) array_made
+      (st2.tells j s here).count (by_headers now s j st2 here place) ∙ ap (elements_below (made ++ (supers ++ one_array ∷ []))) place ∙ ap (λ (xs : List Assertion). elements_below xs array_at) array_made
       ∙ elements_stay (made ++ supers) one_array array_at refl ∙ fronts_stay made made own [] (names k) array_at ∙ sym (even array_at)
 
-  element_second : (now : List Spot) (j : ℕ) → settled waiting 0 Super sections Array None ≡ Some (settled_state now (t ∷ []), j) → Grows spots now → Makes (made ++ (supers ++ one_array ∷ [])) written now one_element [] (element_added now j)
+  element_second : (now : List Spot) (j : ℕ) → settled waiting 0 Super sections Array None ≡ Some (settled_state now (t ∷ []), j) → Grows spots now → Makes (made ++ (supers ++ one_array ∷ [])) written now one_element [] (element_added now j section Element None)
       → Stated spots (made ++ (supers ++ one_array ∷ one_element ∷ [])) written own (walked bytes (mark kinds.ElementHeader whole rest ∷ []) waiting)
   element_second now j e grows (makes later i f s p g) =
       stated later i
@@ -173,14 +182,14 @@ module _ (bytes : List ℕ) (spots : List Spot) (t : ℕ) (made : List Assertion
       let clear2 : IsClear ((made ++ supers) ++ one_array ∷ []) = subst IsClear array_made s.clear in
       let arrays : first_kind (made ++ (supers ++ one_array ∷ [])) p.0.place ≡ Some array_kind =
       ap (first_kind (made ++ (supers ++ one_array ∷ []))) p.2 ∙ ap (λ (xs : List Assertion). first_kind xs array_at) array_made ∙ array_place (made ++ supers) own array_at (header_inner made [] (name k.first) (key_names k)) clear2 in
-      element_second now j e g (element_makes (made ++ (supers ++ one_array ∷ [])) written now j p.0 one_element s p.1 place refl arrays)
+      element_second now j e g (element_makes (made ++ (supers ++ one_array ∷ [])) written now j p.0 one_element None s p.1 place (λ r f e. refl) (record { kind = array_kind; first = arrays; lists = tt }))
   element_first (bars e c) =
       halts (element_path ∙ ap (λ (o : Option (State × ℕ)). o >>= λ r. with_element_of r) e) (λ clear. c (clear_front (made ++ (supers ++ one_array ∷ [])) (one_element ∷ []) (subst IsClear (sym all_made) clear)))
 
   pub element_stated : Stated spots (made ++ (supers ++ one_array ∷ one_element ∷ [])) written own (walked bytes (mark kinds.ElementHeader whole rest ∷ []) waiting)
   element_stated =
       element_first (settled_enters spots (t ∷ []) 0 (name k.first) (key_names k) Super sections Array None (made ++ (supers ++ one_array ∷ [])) written array_at
-      (header_lands spots 0 [] (name k.first) (key_names k) made own own array_kind made written st st.tree.root even refl (λ e. absurd cc)))
+      (header_lands spots 0 [] (name k.first) (key_names k) made own own array_kind made written st st.tree.root even (λ r. arrays_alone made r st.clear.apart) refl (λ e. absurd cc)))
 
 -- ---- statements
 
@@ -188,10 +197,10 @@ statement_stated : (bytes : List ℕ) (s : Statement) (rest : List ℕ) (spots :
     → Stands made written spots → IsEven made → StandsAt spots t p
     → Stated spots (made ++ of_statement made p s) (written ++ spans (in_statement p s rest)) (prefix_after made p s) (walked bytes (statement_marks s rest) (settled_state spots (t ∷ [])))
 statement_stated bytes (pair k a b v) rest spots made written t p h s u ends st even there =
-    let before : Before = record { spots = spots; made = made; written = written; base = []; number = t; place = p; within = false; name = name k.first; names = key_names k } in
+    let before = pair_before spots made written [] t p false (name k.first) (key_names k) in
     stated_along (walked_key bytes k (a ++ (equals ∷ (b ++ value v rest))) (value_marks v rest) (settled_state spots (t ∷ [])) h.0 u ends)
     (pair_stated spots (made ++ of_statement made p (pair k a b v)) (written ++ spans (in_statement p (pair k a b v) rest)) t p (walked bytes (value_marks v rest) (waits (settled_state spots (t ∷ [])) (names k))) there
-    (value_leads bytes v rest before h.3 s u (ends_pair bytes k a b (value v rest) ends) (record { stands = st; there = there; in_table = refl })))
+    (value_leads bytes v rest before h.3 s u (ends_pair bytes k a b (value v rest) ends) (pair_is_before spots made written [] t p false (name k.first) (key_names k) st there refl)))
 statement_stated bytes (header a k b) rest spots made written t p h s u ends st even there =
     let whole = statement (header a k b) rest in
     let key_ends : Ends bytes (strings.key k (b ++ (right_bracket ∷ rest))) = ends_past bytes a (strings.key k (b ++ (right_bracket ∷ rest))) (ends_one bytes left_bracket (a ++ strings.key k (b ++ (right_bracket ∷ rest))) ends) in

@@ -274,31 +274,6 @@ pub close_step : (bytes : List ℕ) (m : Mark) (st : State) → (m.kind ≡ kind
 close_step bytes m st (inl e) = step_is bytes m st kinds.CloseArray e
 close_step bytes m st (inr e) = step_is bytes m st kinds.CloseTable e
 
-pub other_step : (bytes : List ℕ) (m : Mark) (st : State) (k : MarkKind) → m.kind ≡ k → (k ≡ kinds.BarePart → ⊥) → (k ≡ kinds.BasicPart → ⊥) → (k ≡ kinds.LiteralPart → ⊥) → (k ≡ kinds.BasicString → ⊥) → (k ≡ kinds.LiteralString → ⊥) → (k ≡ kinds.True → ⊥)
-    → (k ≡ kinds.False → ⊥) → (k ≡ kinds.OpenTable → ⊥) → (k ≡ kinds.CloseTable → ⊥) → (k ≡ kinds.Header → ⊥) → (k ≡ kinds.ElementHeader → ⊥) → (k ≡ kinds.Integer → ⊥) → (k ≡ kinds.Float → ⊥) → (k ≡ kinds.DateTime → ⊥) → (k ≡ kinds.MultiBasicString → ⊥) → (k ≡ kinds.MultiLiteralString → ⊥) → (k ≡ kinds.OpenArray → ⊥) → (k ≡ kinds.CloseArray → ⊥) → step bytes m st ≡ None
-other_step bytes m st k kind a b c d e f g h i j r l n o p q t u = step_is bytes m st k kind ∙ nothing k a b c d e f g h i j r l n o p q t u
-  where
-    nothing : (x : MarkKind) → (x ≡ kinds.BarePart → ⊥) → (x ≡ kinds.BasicPart → ⊥) → (x ≡ kinds.LiteralPart → ⊥) → (x ≡ kinds.BasicString → ⊥) → (x ≡ kinds.LiteralString → ⊥) → (x ≡ kinds.True → ⊥)
-        → (x ≡ kinds.False → ⊥) → (x ≡ kinds.OpenTable → ⊥) → (x ≡ kinds.CloseTable → ⊥) → (x ≡ kinds.Header → ⊥) → (x ≡ kinds.ElementHeader → ⊥) → (x ≡ kinds.Integer → ⊥) → (x ≡ kinds.Float → ⊥) → (x ≡ kinds.DateTime → ⊥) → (x ≡ kinds.MultiBasicString → ⊥) → (x ≡ kinds.MultiLiteralString → ⊥) → (x ≡ kinds.OpenArray → ⊥) → (x ≡ kinds.CloseArray → ⊥) → act x bytes m st ≡ None
-    nothing kinds.BarePart a b c d e f g h i j r l n o p q t u = absurd (a refl)
-    nothing kinds.BasicPart a b c d e f g h i j r l n o p q t u = absurd (b refl)
-    nothing kinds.LiteralPart a b c d e f g h i j r l n o p q t u = absurd (c refl)
-    nothing kinds.BasicString a b c d e f g h i j r l n o p q t u = absurd (d refl)
-    nothing kinds.LiteralString a b c d e f g h i j r l n o p q t u = absurd (e refl)
-    nothing kinds.True a b c d e f g h i j r l n o p q t u = absurd (f refl)
-    nothing kinds.False a b c d e f g h i j r l n o p q t u = absurd (g refl)
-    nothing kinds.OpenTable a b c d e f g h i j r l n o p q t u = absurd (h refl)
-    nothing kinds.CloseTable a b c d e f g h i j r l n o p q t u = absurd (i refl)
-    nothing kinds.Header a b c d e f g h i j r l n o p q t u = absurd (j refl)
-    nothing kinds.ElementHeader a b c d e f g h i j r l n o p q t u = absurd (r refl)
-    nothing kinds.MultiBasicString a b c d e f g h i j r l n o p q t u = absurd (p refl)
-    nothing kinds.MultiLiteralString a b c d e f g h i j r l n o p q t u = absurd (q refl)
-    nothing kinds.Integer a b c d e f g h i j r l n o p q t u = absurd (l refl)
-    nothing kinds.Float a b c d e f g h i j r l n o p q t u = absurd (n refl)
-    nothing kinds.DateTime a b c d e f g h i j r l n o p q t u = absurd (o refl)
-    nothing kinds.OpenArray a b c d e f g h i j r l n o p q t u = absurd (t refl)
-    nothing kinds.CloseArray a b c d e f g h i j r l n o p q t u = absurd (u refl)
-
 -- ---- all marks
 
 -- what is left to walk gives what the whole walk gives

@@ -220,7 +220,6 @@ act kinds.OpenTable bytes m st = opened st inline (Some (span_of_mark m))
 act kinds.CloseTable bytes m st = closed st m.to
 act kinds.Header bytes m st = headed st
 act kinds.ElementHeader bytes m st = element_headed st
-act _ bytes m st = None
 
 unfoldable pub step : List ℕ → Mark → State → Option State
 step bytes m st = act m.kind bytes m st

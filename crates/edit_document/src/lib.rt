@@ -19,6 +19,8 @@ pub use item::{Item, Keys};
 pub use place::{Place, Step};
 
 #[cfg(test)]
+mod array_tests;
+#[cfg(test)]
 mod tests;
 #[cfg(test)]
 mod value_tests;

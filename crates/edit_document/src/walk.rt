@@ -267,7 +267,6 @@ impl Walk {
             MarkKind::CloseArray | MarkKind::CloseTable => Ok(self.close(mark.to)),
             MarkKind::Header => self.head(alloc),
             MarkKind::ElementHeader => self.head_element(alloc),
-            _ => Ok(false),
         }
     }
 }

@@ -1,6 +1,5 @@
 use Rattle.std.proofs.Common.{sym, ◌∙◌}
-use Rattle.edit_document.specs.declared.nodes.Content.TheVariants as content
-use Rattle.edit_document.proofs.Views.{opened, within, found, count_shown, count_scalar, count_tabular}
+use Rattle.edit_document.proofs.Views.{opened, within, found, count_elements, count_scalar, count_tabular}
 use Rattle.edit_document.proofs.document.Document.member_count.Goals as goal
 
 pub index-node-requires : goal.index-node-requires
@@ -36,7 +35,7 @@ returns-in-Inline c =
     let f = found c.args.self.now c.self.inside.nodes.items c.args.number c.index-node.result.now (opened c.self.inside c.args.self.now c.self.invariant c.self.view_is) c.requires c.index-node.ensures in
     c.len-in-Inline.ensures.len ∙ sym (count_tabular c.args.self.now c.self.inside.nodes.items (opened c.self.inside c.args.self.now c.self.invariant c.self.view_is).spots c.args.number c.index-node.result.now f c.in-Inline.is)
 
-pub returns-in-Tables : goal.returns-in-Tables
-returns-in-Tables c =
+pub returns-in-Array : goal.returns-in-Array
+returns-in-Array c =
     let f = found c.args.self.now c.self.inside.nodes.items c.args.number c.index-node.result.now (opened c.self.inside c.args.self.now c.self.invariant c.self.view_is) c.requires c.index-node.ensures in
-    c.len.ensures ∙ c.index-node.result.now.elements.ok.0 ∙ sym (count_shown c.args.self.now c.self.inside.nodes.items (opened c.self.inside c.args.self.now c.self.invariant c.self.view_is).spots c.args.number c.index-node.result.now content.Tables f c.in-Tables.is)
+    c.len.ensures ∙ c.index-node.result.now.elements.ok.0 ∙ sym (count_elements c.args.self.now c.self.inside.nodes.items (opened c.self.inside c.args.self.now c.self.invariant c.self.view_is).spots c.args.number c.index-node.result.now f c.in-Array.is)

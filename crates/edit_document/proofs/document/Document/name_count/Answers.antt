@@ -37,6 +37,11 @@ returns-in-Text-6 c =
     let f = found c.args.self.now c.self.inside.nodes.items c.args.number c.index-node.result.now (opened c.self.inside c.args.self.now c.self.invariant c.self.view_is) c.requires c.index-node.ensures in
     sym (ap length (names_none c.args.self.now c.self.inside.nodes.items (opened c.self.inside c.args.self.now c.self.invariant c.self.view_is).spots c.args.number c.index-node.result.now f c.in-Text.is))
 
+pub returns-in-Text-7 : goal.returns-in-Text-7
+returns-in-Text-7 c =
+    let f = found c.args.self.now c.self.inside.nodes.items c.args.number c.index-node.result.now (opened c.self.inside c.args.self.now c.self.invariant c.self.view_is) c.requires c.index-node.ensures in
+    sym (ap length (names_none c.args.self.now c.self.inside.nodes.items (opened c.self.inside c.args.self.now c.self.invariant c.self.view_is).spots c.args.number c.index-node.result.now f c.in-Text.is))
+
 pub returns-in-Inline : goal.returns-in-Inline
 returns-in-Inline c =
     let f = found c.args.self.now c.self.inside.nodes.items c.args.number c.index-node.result.now (opened c.self.inside c.args.self.now c.self.invariant c.self.view_is) c.requires c.index-node.ensures in

@@ -46,3 +46,8 @@ pub returns-in-Tables : goal.returns-in-Tables
 returns-in-Tables c =
     let f = found c.args.self.now c.self.inside.nodes.items c.args.number c.index-node.result.now (opened c.self.inside c.args.self.now c.self.invariant c.self.view_is) c.requires c.index-node.ensures in
     shows c.args.self.now c.self.inside.nodes.items (opened c.self.inside c.args.self.now c.self.invariant c.self.view_is).spots c.args.number c.index-node.result.now content.Tables seen.Tables f c.in-Tables.is tt
+
+pub returns-in-Array : goal.returns-in-Array
+returns-in-Array c =
+    let f = found c.args.self.now c.self.inside.nodes.items c.args.number c.index-node.result.now (opened c.self.inside c.args.self.now c.self.invariant c.self.view_is) c.requires c.index-node.ensures in
+    shows c.args.self.now c.self.inside.nodes.items (opened c.self.inside c.args.self.now c.self.invariant c.self.view_is).spots c.args.number c.index-node.result.now content.Array seen.Array f c.in-Array.is tt
