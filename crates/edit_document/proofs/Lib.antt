@@ -28,7 +28,9 @@ pub mod ValueReadAgain
 pub mod LineLaws
 pub mod NotedValues
 pub mod NotedLines
+pub mod ListElements
 pub mod Adding
+pub mod Reaching
 pub mod Below
 pub mod MoreAssertions
 pub mod Takings
