@@ -21,59 +21,7 @@ use Rattle.edit_document.specs.Taking.{joins, stronger}
 use Rattle.edit_document.specs.Nodes.{Shape, section, Spot, shape_of, Keeps, Holds, below}
 use Rattle.edit_document.specs.Walk.{last_table, spot_at, child, target_of, with_taken, taken_again, with_member, with_element, added, element_added, asserted_at, asserted, numbered, reached}
 use Rattle.edit_document.specs.WalkState.{Adds, Puts}
-
--- ---- elements of lists
-
-pub get_front : {X : Type 0} (xs ys : List X) (i : ℕ) → i < length xs → slice_get (xs ++ ys) i ≡ slice_get xs i
-get_front [] ys i lt = absurd (omega arith)
-get_front (x ∷ xs) ys zero lt = refl
-get_front (x ∷ xs) ys (suc i) lt = get_front xs ys i (omega arith)
-
-pub get_last : {X : Type 0} (xs : List X) (y : X) → slice_get (xs ++ y ∷ []) (length xs) ≡ Some y
-get_last [] y = refl
-get_last (x ∷ xs) y = get_last xs y
-
-pub get_set_same : {X : Type 0} (xs : List X) (i : ℕ) (y : X) → i < length xs → slice_get (slice_set xs i y) i ≡ Some y
-get_set_same [] i y lt = absurd (omega arith)
-get_set_same (x ∷ xs) zero y lt = refl
-get_set_same (x ∷ xs) (suc i) y lt = get_set_same xs i y (omega arith)
-
-pub get_set_other : {X : Type 0} (xs : List X) (i j : ℕ) (y : X) → (j ≡ i → ⊥) → slice_get (slice_set xs i y) j ≡ slice_get xs j
-get_set_other [] i j y ne = refl
-get_set_other (x ∷ xs) zero zero y ne = absurd (ne refl)
-get_set_other (x ∷ xs) zero (suc j) y ne = refl
-get_set_other (x ∷ xs) (suc i) zero y ne = refl
-get_set_other (x ∷ xs) (suc i) (suc j) y ne = get_set_other xs i j y (λ e. ne (ap suc e))
-
-pub equal_or : (i j : ℕ) → (i ≡ j) ⊎ (i ≡ j → ⊥)
-equal_or i j = elim (cases_lt i j) [ inl a ↦ inr (λ e. absurd (omega arith)) | inr a ↦ elim (cases_lt j i) [ inl b ↦ inr (λ e. absurd (omega arith)) | inr b ↦ inl (omega arith) ] ]
-
--- an element of a list with one changed: the changed one, or another one
-pub data OneSet {X : Type 0} (xs : List X) (t : ℕ) (new : X) (i : ℕ) (x : X) : Type 0 where
-  changed : i ≡ t → x ≡ new → OneSet xs t new i x
-  other : (i ≡ t → ⊥) → slice_get xs i ≡ Some x → OneSet xs t new i x
-
-pub in_set : {X : Type 0} (xs : List X) (t : ℕ) (new : X) (i : ℕ) (x : X) → t < length xs → slice_get (slice_set xs t new) i ≡ Some x → OneSet xs t new i x
-in_set xs t new i x lt e = elim (equal_or i t) [
-  | inl same ↦ changed same (same_Some x new (sym e ∙ ap (slice_get (slice_set xs t new)) same ∙ get_set_same xs t new lt))
-  | inr ne ↦ other ne (sym (get_set_other xs t i new ne) ∙ e)
-]
-
--- an element of a list with one more: an old one, or the last
-pub data OneMore {X : Type 0} (xs : List X) (last : X) (i : ℕ) (x : X) : Type 0 where
-  stood : i < length xs → slice_get xs i ≡ Some x → OneMore xs last i x
-  newest : i ≡ length xs → x ≡ last → OneMore xs last i x
-
-pub in_push : {X : Type 0} (xs : List X) (last : X) (i : ℕ) (x : X) → slice_get (xs ++ last ∷ []) i ≡ Some x → OneMore xs last i x
-in_push xs last i x e =
-    elim (cases_lt i (length xs)) [
-      | inl a ↦ stood a (sym (get_front xs (last ∷ []) i a) ∙ e)
-      | inr a ↦
-          let within = slice_get_within (xs ++ last ∷ []) i x e in
-          let more : length (xs ++ last ∷ []) ≡ length xs + 1 = length_push xs last in
-          let here : i ≡ length xs = omega arith in
-          newest here (same_Some x last (sym e ∙ ap (slice_get (xs ++ last ∷ [])) here ∙ get_last xs last))
-    ]
+use Rattle.edit_document.proofs.ListElements.{OneMore, OneSet, changed, drop_from, equal_or, get_front, get_last, get_set_other, get_set_same, in_push, in_set, newest, other, slice_get_same, stood}
 
 -- ---- nodes and spots
 
@@ -193,6 +141,12 @@ target_other spots t Array ne = refl
 target_other spots t Element ne = refl
 
 -- ---- a member more, and an element more
+
+pub deepest : (n : ℕ) → nat_le 80 n ≡ true → 80 ≤ n
+deepest n e = grind (arith, nat_tests)
+
+pub not_deepest : (n : ℕ) → nat_le 80 n ≡ false → n < 80
+not_deepest n e = grind (arith, nat_tests)
 
 pub added_past : (nodes : List Node) (spots : List Spot) (t : ℕ) (name : List ℕ) (shape : Shape) (taken : Taken) (span : Option Span) → Holds nodes spots → length nodes ≤ t → added spots t name shape taken span ≡ None
 unfolding added
@@ -326,81 +280,3 @@ element_done nodes nodes2 spots t count old node2 last content taken span holds 
       element_made spots t (shape_of content) taken span k.spot k.spot_is fits ∙ ap (λ (n : ℕ). Some (slice_set spots t (with_element k.spot n) ++ spot_at place (shape_of content) taken span ∷ [], n)) (sym number),
       subst (λ (ns : List Node). Holds ns (slice_set spots t (with_element k.spot count) ++ spot_at place (shape_of content) taken span ∷ [])) (sym made) both,
     )
-
--- ---- members asserted
-
-pub asserted_new : (spots : List Spot) (t : ℕ) (name : List ℕ) (shape : Shape) (taken : Taken) (span : Option Span) → child spots t name ≡ None → asserted spots t name shape taken span ≡ added spots t name shape taken span
-unfolding asserted
-asserted_new spots t name shape taken span e = ap (λ (o : Option ℕ). asserted_at o spots t name shape taken span) e
-
-pub asserted_old : (spots : List Spot) (t j : ℕ) (name : List ℕ) (shape : Shape) (taken : Taken) (span : Option Span) → child spots t name ≡ Some j
-    → asserted spots t name shape taken span ≡ asserted_at (Some j) spots t name shape taken span
-unfolding asserted
-asserted_old spots t j name shape taken span e = ap (λ (o : Option ℕ). asserted_at o spots t name shape taken span) e
-
-pub asserted_refused : (spots : List Spot) (t j place : ℕ) (name : List ℕ) (shape : Shape) (taken : Taken) (span : Option Span) → child spots t name ≡ Some j → place ≡ target_of spots j taken → taken_again spots place taken ≡ None
-    → asserted spots t name shape taken span ≡ None
-asserted_refused spots t j place name shape taken span some is none =
-    asserted_old spots t j name shape taken span some ∙ ap (λ (o : Option (List Spot)). numbered (target_of spots j taken) o) (ap (λ (n : ℕ). taken_again spots n taken) (sym is) ∙ none)
-
-pub asserted_again : (nodes : List Node) (spots : List Spot) (t j place : ℕ) (name : List ℕ) (shape : Shape) (taken : Taken) (span : Option Span) → child spots t name ≡ Some j → place ≡ target_of spots j taken
-    → Adds nodes (taken_again spots place taken) true → Puts nodes (asserted spots t name shape taken span) (Some place)
-asserted_again nodes spots t j place name shape taken span some is (spots2, made, holds) = (
-  spots2,
-  asserted_old spots t j name shape taken span some ∙ ap (λ (n : ℕ). numbered n (taken_again spots n taken)) (sym is) ∙ ap (numbered place) made,
-  holds,
-)
-
--- ---- the front parts of a key
-
--- the parts that are left lead on from a table
-pub record Reaches (nodes : List Node) (total : Option (List Spot × ℕ)) (table : ℕ) (left : List (List ℕ)) (shape : Shape) (taken : Taken) : Type 0 where
-  pub spots : List Spot
-  pub holds : Holds nodes spots
-  pub same : total ≡ reached spots table left shape taken
-
-pub reaches_start : (nodes : List Node) (spots : List Spot) (table : ℕ) (names : List (List ℕ)) (shape : Shape) (taken : Taken) → Holds nodes spots → Reaches nodes (reached spots table names shape taken) table names shape taken
-reaches_start nodes spots table names shape taken holds = record { spots = spots; holds = holds; same = refl }
-
-pub reached_more : (spots : List Spot) (t : ℕ) (name : List ℕ) (names : List (List ℕ)) (shape : Shape) (taken : Taken) → reached spots t (name ∷ names) shape taken ≡ (asserted spots t name shape taken None >>= λ r. reached r.0 r.1 names shape taken)
-unfolding reached
-reached_more spots t name names shape taken = refl
-
-pub reached_none : (spots : List Spot) (t : ℕ) (shape : Shape) (taken : Taken) → reached spots t [] shape taken ≡ Some (spots, t)
-unfolding reached
-reached_none spots t shape taken = refl
-
-pub reaches_turn : (nodes nodes2 : List Node) (total : Option (List Spot × ℕ)) (t next : ℕ) (name : List ℕ) (left : List (List ℕ)) (shape : Shape) (taken : Taken) → (r : Reaches nodes total t (name ∷ left) shape taken)
-    → Puts nodes2 (asserted r.spots t name shape taken None) (Some next) → Reaches nodes2 total next left shape taken
-reaches_turn nodes nodes2 total t next name left shape taken r (spots, made, holds) = record {
-  spots = spots;
-  holds = holds;
-  same = r.same ∙ reached_more r.spots t name left shape taken ∙ ap (λ (o : Option (List Spot × ℕ)). o >>= λ q. reached q.0 q.1 left shape taken) made;
-}
-
-pub reaches_stop : (nodes : List Node) (total : Option (List Spot × ℕ)) (t : ℕ) (name : List ℕ) (left : List (List ℕ)) (shape : Shape) (taken : Taken) → (r : Reaches nodes total t (name ∷ left) shape taken)
-    → asserted r.spots t name shape taken None ≡ None → total ≡ None
-reaches_stop nodes total t name left shape taken r none =
-    r.same ∙ reached_more r.spots t name left shape taken ∙ ap (λ (o : Option (List Spot × ℕ)). o >>= λ q. reached q.0 q.1 left shape taken) none
-
-pub reaches_end : (nodes : List Node) (total : Option (List Spot × ℕ)) (t : ℕ) (shape : Shape) (taken : Taken) → Reaches nodes total t [] shape taken → Puts nodes total (Some t)
-reaches_end nodes total t shape taken r = (r.spots, r.same ∙ reached_none r.spots t shape taken, r.holds)
-
--- a list from one of its elements on
-pub drop_from : {X : Type 0} (xs : List X) (i : ℕ) (x : X) → slice_get xs i ≡ Some x → drop i xs ≡ x ∷ drop (i + 1) xs
-drop_from [] i x e = absurd cc
-drop_from (y ∷ ys) zero x e = let h : y ≡ x = same_Some y x e in ap (λ z. z ∷ ys) h
-drop_from (y ∷ ys) (suc i) x e = let up : suc i + 1 ≡ suc (i + 1) = omega arith in rw up (drop_from ys i x e)
-
-pub slice_get_same : {X : Type 0} (xs : List X) (i : ℕ) (x y : X) → slice_get xs i ≡ Some x → slice_get xs i ≡ Some y → x ≡ y
-slice_get_same xs i x y a b = same_Some x y (sym a ∙ b)
-
--- the next front part
-pub reaches_next : (nodes : List Node) (total : Option (List Spot × ℕ)) (t i : ℕ) (fronts : List (String Global)) (item : String Global) (shape : Shape) (taken : Taken) → i < length fronts → item ≡ get_or fronts i item
-    → Reaches nodes total t (map string_bytes (drop i fronts)) shape taken → Reaches nodes total t (string_bytes item ∷ map string_bytes (drop (i + 1) fronts)) shape taken
-reaches_next nodes total t i fronts item shape taken lt is r =
-    subst (λ (ns : List (String Global)). Reaches nodes total t (map string_bytes ns) shape taken) (drop_from fronts i item (slice_get_read fronts (length fronts) i item refl lt is)) r
-
-pub front_made : (nodes : List Node) (spots : List Spot) (t : ℕ) (seen name : List ℕ) (made shape : Shape) (taken : Taken) (r q : Option ℕ) → seen ≡ name → made ≡ shape → r ≡ q → Puts nodes (asserted spots t seen made taken None) r → Puts nodes (asserted spots t name shape taken None) q
-front_made nodes spots t seen name made shape taken r q a b e h =
-    subst (Puts nodes (asserted spots t name shape taken None)) e (subst (λ (n : List ℕ). Puts nodes (asserted spots t n shape taken None) r) a (subst (λ (s : Shape). Puts nodes (asserted spots t seen s taken None) r) b h))

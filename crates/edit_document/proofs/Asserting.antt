@@ -20,7 +20,9 @@ use Rattle.edit_document.specs.Taking.{taken_of, joins}
 use Rattle.edit_document.specs.Nodes.{Shape, section, Spot, StandsAt, below}
 use Rattle.edit_document.specs.Walk.{last_of, last_table, spot_at, target_of, with_taken, taken_again, with_member, with_element, added, element_added, numbered, asserted}
 use Rattle.edit_document.proofs.SamePlace.{not_root}
-use Rattle.edit_document.proofs.Adding.{get_front, get_last, equal_or, child_is, target_is, target_other, added_long, added_made, element_long, element_made, asserted_new, asserted_old}
+use Rattle.edit_document.proofs.ListElements.{get_front, get_last, equal_or}
+use Rattle.edit_document.proofs.Adding.{child_is, target_is, target_other, added_long, added_made, element_long, element_made}
+use Rattle.edit_document.proofs.Reaching.{asserted_new, asserted_old}
 use Rattle.edit_document.proofs.MoreAssertions.{first_kind, allowed, IsClear, clash_last, short_last, is_element, is_headed, elements_below, elements_none}
 use Rattle.edit_document.proofs.Trees.{Grows, grows_set, Gains}
 use Rattle.edit_document.proofs.Standing.{IsIndexed, noted, shape_of_kind, Stands, was_asserted, nothing_below_spot, nothing_under, stands_again}

@@ -12,7 +12,7 @@ use Rattle.edit_document.specs.DocumentLayout.{shape_of_value, Placed}
 use Rattle.edit_document.specs.Taking.{taken_of}
 use Rattle.edit_document.specs.Nodes.{Shape, section, Spot, StandsAt}
 use Rattle.edit_document.specs.Walk.{asserted, front_shape, reached}
-use Rattle.edit_document.proofs.Adding.{reached_none, reached_more}
+use Rattle.edit_document.proofs.Reaching.{reached_none, reached_more}
 use Rattle.edit_document.proofs.MoreAssertions.{kind_stays, IsClear, clear_front, is_element, elements_below, elements_stay}
 use Rattle.edit_document.proofs.Trees.{Grows, grows_then}
 use Rattle.edit_document.proofs.Standing.{noted, shape_of_kind, Stands}

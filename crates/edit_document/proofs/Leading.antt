@@ -15,7 +15,7 @@ use Rattle.edit_document.specs.Nodes.{Shape, Spot, StandsAt, below}
 use Rattle.edit_document.specs.Walk.{State, last_of, without_last, element_added, asserted, front_shape, reached, settled_state, is_dotted_within, settled, entered_at, closed, walked}
 use Rattle.edit_document.proofs.SamePlace.{both_true, same_place_self, other_place, place_or}
 use Rattle.edit_document.proofs.Ends.{take_length}
-use Rattle.edit_document.proofs.Adding.{OneSet, changed, other, in_set}
+use Rattle.edit_document.proofs.ListElements.{OneSet, changed, other, in_set}
 use Rattle.edit_document.proofs.MoreAssertions.{first_kind, is_headed, allowed, IsClear, clear_front, clash_last}
 use Rattle.edit_document.proofs.Trees.{Grows, grows_then, grows_set, tree_set}
 use Rattle.edit_document.proofs.Standing.{Tells, Stands, nothing_below_spot}

@@ -37,7 +37,9 @@ pub mod LineLaws
 pub mod NotedValues
 pub mod NotedElements
 pub mod NotedLines
+pub mod ListElements
 pub mod Adding
+pub mod Reaching
 pub mod Below
 pub mod MoreAssertions
 pub mod Takings

@@ -19,7 +19,8 @@ use Rattle.edit_document.specs.Walk.{State, said, last_of, without_last, asserte
 use Rattle.edit_document.specs.WalkState.{Puts, Walks, Goes, Settles, SaysAt, is_said, IsToken, KeepsState}
 use Rattle.edit_document.proofs.Below.{all_at}
 use Rattle.edit_document.proofs.Ends.{take_length}
-use Rattle.edit_document.proofs.Adding.{spot_of_node, holds_set, drop_from}
+use Rattle.edit_document.proofs.ListElements.{drop_from}
+use Rattle.edit_document.proofs.Adding.{spot_of_node, holds_set}
 use Rattle.edit_document.proofs.Walks.{walked_first, walked_stops, walked_none}
 
 pub if_ok_map : {A E : Type 0} {P Q : A → Type 0} (r : Result A E) → IfOk r P → ((x : A) → P x → Q x) → IfOk r Q

@@ -4,7 +4,7 @@ use Rattle.std.specs.Prelude.{slice_get}
 use Rattle.edit_document.specs.declared.read.marks.Mark.{Mark}
 use Rattle.edit_document.specs.Reading.{◌>>=◌}
 use Rattle.edit_document.specs.Walk.{State, last_of, step, walked}
-use Rattle.edit_document.proofs.Adding.{get_last}
+use Rattle.edit_document.proofs.ListElements.{get_last}
 
 bind_some : {A : Type 0} (o : Option A) → (o >>= λ x. Some x) ≡ o
 bind_some None = refl

@@ -41,6 +41,7 @@ span_of v after = record { from = length (value v after); to = length after }
 abbrev pub Placed : Type 0
 Placed = Place × Span
 
+-- the place of a value, and where it is written
 abbrev pub placed : Valued → Placed
 placed w = (w.place, span_of w.value w.after)
 
@@ -55,6 +56,7 @@ span_at (w ∷ ws) place = if same_place w.0 place then Some w.1 else span_at ws
 abbrev pub spots_of : List ℕ → Option (List Spot)
 spots_of bytes = form_of bytes >>= λ form. walked bytes (text_marks form) start >>= λ st. Some st.spots
 
+-- what spots show, or nothing where there are none
 abbrev pub nodes_by : Option (List Spot) → List (Place × View)
 nodes_by None = []
 nodes_by (Some spots) = map shown_spot spots
@@ -63,6 +65,7 @@ nodes_by (Some spots) = map shown_spot spots
 unfoldable pub shown_by : List ℕ → Shown
 shown_by bytes = record { bytes = bytes; nodes = nodes_by (spots_of bytes) }
 
+-- what the text of a document shows
 abbrev pub shown_of : Inside → Shown
 shown_of d = shown_by (string_bytes d.text)
 

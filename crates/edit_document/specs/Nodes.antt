@@ -49,11 +49,13 @@ view_of_shape inline names n = inline_table (map key names)
 view_of_shape section names n = table (map key names)
 view_of_shape sections names n = table_array n
 
+-- the place of a spot, and what it shows
 abbrev pub shown_spot : Spot → Place × View
 shown_spot s = (s.place, view_of_shape s.shape (names_of s) (length s.elements))
 
 -- ---- what the table of nodes keeps of each spot
 
+-- what stands at a node's place, but for its members
 abbrev pub shape_of : Content → Shape
 shape_of (content.Text s) = scalar (string (string_bytes s))
 shape_of (content.Truth b) = scalar (truth b)

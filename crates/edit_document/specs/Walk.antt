@@ -80,6 +80,7 @@ unfoldable pub target_of : List Spot → ℕ → Taken → ℕ
 target_of spots number Super = unwrap_or (slice_get spots number >>= λ s. last_table s.shape s.elements) number
 target_of spots number _ = number
 
+-- a spot whose place is taken again
 abbrev pub with_taken : Spot → Taken → Spot
 with_taken s taken = record s { taken = stronger s.taken taken }
 
@@ -88,9 +89,11 @@ unfoldable pub taken_again : List Spot → ℕ → Taken → Option (List Spot)
 taken_again spots number taken = slice_get spots number >>= λ s.
     if joins s.taken taken then Some (slice_set spots number (with_taken s taken)) else None
 
+-- a spot with a member more
 abbrev pub with_member : Spot → List ℕ → ℕ → Spot
 with_member s name number = record s { members = s.members ++ (name, number) ∷ [] }
 
+-- a spot with an element more
 abbrev pub with_element : Spot → ℕ → Spot
 with_element s number = record s { elements = s.elements ++ number ∷ [] }
 
@@ -138,6 +141,7 @@ pub record State : Type 0 where
   pub fronts : List (List ℕ)
   pub name : Option (List ℕ)
 
+-- all numbers but the last
 abbrev pub without_last : List ℕ → List ℕ
 without_last numbers = take (length numbers - 1) numbers
 
@@ -194,6 +198,7 @@ abbrev pub element_headed : State → Option State
 element_headed st = settled st 0 Super sections Array None >>= λ r. element_added r.0.spots r.1 section Element None >>= λ q.
     Some (turned (record r.0 { spots = q.0 }, q.1))
 
+-- the span of a mark's token
 abbrev pub span_of_mark : Mark → Span
 span_of_mark m = record { from = m.from; to = m.to }
 
@@ -201,6 +206,7 @@ span_of_mark m = record { from = m.from; to = m.to }
 abbrev pub worded : List ℕ → Mark → State → Option State
 worded bytes m st = said bytes m >>= λ text. entered st (shape_said m.kind text) (Some (span_of_mark m))
 
+-- the state behind a mark of this kind
 abbrev pub act : MarkKind → List ℕ → Mark → State → Option State
 act kinds.BarePart bytes m st = said bytes m >>= λ name. Some (awaiting st name)
 act kinds.BasicPart bytes m st = said bytes m >>= λ name. Some (awaiting st name)
@@ -221,6 +227,7 @@ act kinds.CloseTable bytes m st = closed st m.to
 act kinds.Header bytes m st = headed st
 act kinds.ElementHeader bytes m st = element_headed st
 
+-- the state behind a mark
 unfoldable pub step : List ℕ → Mark → State → Option State
 step bytes m st = act m.kind bytes m st
 

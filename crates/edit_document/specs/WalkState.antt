@@ -48,6 +48,7 @@ abbrev pub SaysAt : List ℕ → Mark → List ℕ → Type 0
 SaysAt bytes m name =
     (before : List ℕ) × (content : List ℕ) × (rest : List ℕ) × (bytes ≡ before ++ delimited m.kind content rest) × (m.from ≡ length (delimited m.kind content rest)) × (m.to ≡ length rest) × Says m.kind content name
 
+-- a token that says something
 abbrev pub is_said : MarkKind → Bool
 is_said kinds.BarePart = true
 is_said kinds.BasicPart = true

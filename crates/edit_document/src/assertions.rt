@@ -1,5 +1,5 @@
 //! What an assertion makes of the nodes: a new node, or an old one whose place is taken again.
-ghost use Rattle.std.specs.Prelude.{◌≡◌, List, IfOk, IfErr, None, option_and_then, map, string_bytes};
+ghost use Rattle.std.specs.Prelude.{◌≡◌, List, IfOk, IfErr, None, map, nat_le, string_bytes};
 ghost use Rattle.edit_document.specs.Errors.{IsMemory};
 ghost use Rattle.edit_document.specs.Nodes.{Spot, Holds, shape_of};
 ghost use Rattle.edit_document.specs.Taking as taking;
@@ -105,6 +105,13 @@ fn target(nodes: &[Node], number: usize, taken: Taken) -> usize
     }
 }
 
+/// Whether a node has as many steps from the root as a place may have, so that nothing may stand below it.
+fn is_deepest(node: &Node) -> bool
+    ensures { result ≡ nat_le 80 node.now.steps }
+{
+    node.steps >= 80
+}
+
 /// Adds a member to the node of a number, which has none of this name. Answers the number of the new node,
 /// which comes last, or nothing where it would have more than 80 steps.
 fn add(
@@ -125,7 +132,7 @@ fn add(
         return Ok(None);
     }
     let node = &mut nodes[number];
-    if node.steps >= 80 {
+    if is_deepest(node) {
         return Ok(None);
     }
     let steps = node.steps + 1;
@@ -158,7 +165,7 @@ pub(crate) fn add_element(
         return Ok(None);
     }
     let node = &mut nodes[number];
-    if node.steps >= 80 {
+    if is_deepest(node) {
         return Ok(None);
     }
     let steps = node.steps + 1;
