@@ -20,38 +20,33 @@ pub(crate) fn is_read(alloc: Global, text: &str) -> Result<bool, Error> {
     }
 }
 
+/// Whether a text is read, what it is, and the text; a row ends at `@`.
+const DOCUMENTS: &str = "\
+yes|nothing|@\
+yes|an empty header|[a]\n@\
+yes|two headers|[a]\n[b]\n@\
+no|a pair and a header of its name|a = true\n[a]\n@\
+no|a key twice|a = true\na = true\n@\
+no|a key twice, spelled otherwise|a = true\n\"\\u0061\" = true\n@\
+no|a header twice|[a]\n[a]\n@\
+yes|one key in two tables|[a]\nx = true\n[b]\nx = true\n@\
+no|a member twice|a = { x = true, x = false }\n@\
+no|a comma after the last member|a = { x = true, }\n@\
+no|no value|a =\n@\
+yes|a byte order mark alone|\u{feff}@\
+yes|a byte order mark first|\u{feff}[a]\n@\
+no|two byte order marks|\u{feff}\u{feff}[a]\n@\
+no|a byte order mark behind|[a]\n\u{feff}@\
+no|an unknown escape|a = \"\\x\"\n";
+
 #[test]
 fn reads_exactly_documents(rt: HostRuntime) -> Result<(), Fail> {
-    let rows = [
-        ("nothing", "", true),
-        ("a manifest", MANIFEST, true),
-        ("an empty header", "[a]\n", true),
-        ("two headers", "[a]\n[b]\n", true),
-        ("a pair and a header of its name", "a = true\n[a]\n", false),
-        ("a key twice", "a = true\na = true\n", false),
-        (
-            "a key twice, spelled otherwise",
-            "a = true\n\"\\u0061\" = true\n",
-            false,
-        ),
-        ("a header twice", "[a]\n[a]\n", false),
-        (
-            "one key in two tables",
-            "[a]\nx = true\n[b]\nx = true\n",
-            true,
-        ),
-        ("a member twice", "a = { x = true, x = false }\n", false),
-        (
-            "a comma after the last member",
-            "a = { x = true, }\n",
-            false,
-        ),
-        ("no value", "a =\n", false),
-        ("an unknown escape", "a = \"\\x\"\n", false),
-    ];
-    for (row, text, read) in rows {
-        assert_eq!(rt; is_read(rt.alloc(), text)?, read, "{row}");
+    for row in DOCUMENTS.split('@') {
+        let (read, rest) = row.split_once('|').ok_or("row")?;
+        let (name, text) = rest.split_once('|').ok_or("row")?;
+        assert_eq!(rt; is_read(rt.alloc(), text)?, read == "yes", "{name}");
     }
+    assert!(rt; is_read(rt.alloc(), MANIFEST)?);
     Ok(())
 }
 

@@ -22,47 +22,52 @@ fn type_of_a(alloc: Global, text: &str) -> Result<Option<&'static str>, Error> {
     }
 }
 
+/// The type that a value is told to have, none where the text is refused, and the value (TOML 1.0.0, "Integer", "Float",
+/// "Offset Date-Time", "Local Date-Time", "Local Date", "Local Time").
+const NUMBERS: &str = "\
+integer|+99\n\
+integer|0\n\
+integer|-17\n\
+integer|1_2_3_4_5 # a comment\n\
+integer|0xdead_beef\n\
+integer|0o01234567\n\
+integer|0b11010110\n\
+float|+1.0\n\
+float|5e+22\n\
+float|6.626E-34\n\
+float|224_617.445_991_228\n\
+float|-inf\n\
+float|+nan\n\
+datetime|1979-05-27T07:32:00Z\n\
+datetime|1979-05-27 00:32:00.999999-07:00\n\
+datetime|1979-05-27t00:32:00.5\n\
+datetime|1979-05-27 # a date\n\
+datetime|00:32:00.999999\n\
+datetime|9999-99-99\n\
+inline table|{ b = 1 }\n\
+|01\n\
+|+0x1\n\
+|0xg\n\
+|1__0\n\
+|1_\n\
+|1.e5\n\
+|.7\n\
+|7.\n\
+|1e\n\
+|infinite\n\
+|1979-5-27\n\
+|1979-05-27T\n\
+|07:32\n\
+|07:32:00.\n\
+|1979-05-27T07:32:00+7";
+
 #[test]
 fn tells_numbers_and_dates(rt: HostRuntime) -> Result<(), Fail> {
-    let rows = [
-        ("a = +99", Some("integer")),
-        ("a = 0", Some("integer")),
-        ("a = -17", Some("integer")),
-        ("a = 1_2_3_4_5 # a comment", Some("integer")),
-        ("a = 0xdead_beef", Some("integer")),
-        ("a = 0o01234567", Some("integer")),
-        ("a = 0b11010110", Some("integer")),
-        ("a = +1.0", Some("float")),
-        ("a = 5e+22", Some("float")),
-        ("a = 6.626E-34", Some("float")),
-        ("a = 224_617.445_991_228", Some("float")),
-        ("a = -inf", Some("float")),
-        ("a = +nan", Some("float")),
-        ("a = 1979-05-27T07:32:00Z", Some("datetime")),
-        ("a = 1979-05-27 00:32:00.999999-07:00", Some("datetime")),
-        ("a = 1979-05-27t00:32:00.5", Some("datetime")),
-        ("a = 1979-05-27 # a date", Some("datetime")),
-        ("a = 00:32:00.999999", Some("datetime")),
-        ("a = 9999-99-99", Some("datetime")),
-        ("a = { b = 1 }", Some("inline table")),
-        ("a = 01", None),
-        ("a = +0x1", None),
-        ("a = 0xg", None),
-        ("a = 1__0", None),
-        ("a = 1_", None),
-        ("a = 1.e5", None),
-        ("a = .7", None),
-        ("a = 7.", None),
-        ("a = 1e", None),
-        ("a = infinite", None),
-        ("a = 1979-5-27", None),
-        ("a = 1979-05-27T", None),
-        ("a = 07:32", None),
-        ("a = 07:32:00.", None),
-        ("a = 1979-05-27T07:32:00+7", None),
-    ];
-    for (text, name) in rows {
-        assert_eq!(rt; type_of_a(rt.alloc(), text)?, name, "{text}");
+    for row in NUMBERS.lines() {
+        let (name, value) = row.split_once('|').ok_or("row")?;
+        let text = format!(in rt.alloc(); "a = {value}")?;
+        let told = type_of_a(rt.alloc(), text.as_str())?.unwrap_or("");
+        assert_eq!(rt; told, name, "{row}");
     }
     let text = "[a]\nb = { c = 1, d = -2.5 }\ne = 1979-05-27\n";
     let document = Document::read(rt.alloc(), text)?;
@@ -88,48 +93,42 @@ fn string_at_a(alloc: Global, text: &str) -> Result<Option<String>, Error> {
     }
 }
 
+/// Whether a text is read, the string that it says, and the text of the value; a row ends at `@` (TOML 1.0.0, "String").
+const STRINGS: &str = "\
+yes||\"\"\"\"\"\"@\
+yes|Roses are red\nViolets are blue|\"\"\"\nRoses are red\nViolets are blue\"\"\"@\
+yes|Roses\r\nare|\"\"\"\r\nRoses\r\nare\"\"\" # red@\
+yes|\nRoses|\"\"\"\n\nRoses\"\"\"@\
+yes|xy|\"\"\"x\\\n  y\"\"\"@\
+yes|The quick brown.|\"\"\"\\\n  The quick \\\n\n\t\r\n  brown.\\ \n \"\"\"@\
+yes|\u{e9}\t\\|\"\"\"\\u00e9\\t\\\\\"\"\"@\
+yes|\"b\"|\"\"\"\"b\"\"\"\"@\
+yes|\"\"b\"\"|\"\"\"\"\"b\"\"\"\"\"@\
+yes|two: \"\"\".|\"\"\"two: \"\"\\\".\"\"\"@\
+yes||''''''@\
+yes|First\\n\nis 'trimmed'.\n|'''\nFirst\\n\nis 'trimmed'.\n'''@\
+yes|''a \"\"\" b''|'''''a \"\"\" b'''''@\
+no||{ b = \"\"\"\n\"\"\" }@\
+no||\"\"\"b\"\"\"\"\"\"@\
+no||\"\"\"\"\"\"b\"\"\"\"\"\"@\
+no||'''b''''''@\
+no||\"\"\"b@\
+no||\"\"\"b\"\"@\
+no||\"\"\"b\rc\"\"\"@\
+no||\"\"\"b\\ c\"\"\"@\
+no||\"\"\"b\\q\"\"\"@\
+no||'''\u{7}'''";
+
 #[test]
 fn reads_strings_over_several_lines(rt: HostRuntime) -> Result<(), Fail> {
-    let rows = [
-        ("a = \"\"\"\"\"\"", Some("")),
-        (
-            "a = \"\"\"\nRoses are red\nViolets are blue\"\"\"",
-            Some("Roses are red\nViolets are blue"),
-        ),
-        (
-            "a = \"\"\"\r\nRoses\r\nare\"\"\" # red",
-            Some("Roses\r\nare"),
-        ),
-        ("a = \"\"\"\n\nRoses\"\"\"", Some("\nRoses")),
-        ("a = \"\"\"x\\\n  y\"\"\"", Some("xy")),
-        (
-            "a = \"\"\"\\\n  The quick \\\n\n\t\r\n  brown.\\ \n \"\"\"",
-            Some("The quick brown."),
-        ),
-        ("a = \"\"\"\\u00e9\\t\\\\\"\"\"", Some("\u{e9}\t\\")),
-        ("a = \"\"\"\"b\"\"\"\"", Some("\"b\"")),
-        ("a = \"\"\"\"\"b\"\"\"\"\"", Some("\"\"b\"\"")),
-        ("a = \"\"\"two: \"\"\\\".\"\"\"", Some("two: \"\"\".")),
-        ("a = ''''''", Some("")),
-        (
-            "a = '''\nFirst\\n\nis 'trimmed'.\n'''",
-            Some("First\\n\nis 'trimmed'.\n"),
-        ),
-        ("a = '''''a \"\"\" b'''''", Some("''a \"\"\" b''")),
-        ("a = { b = \"\"\"\n\"\"\" }", None),
-        ("a = \"\"\"b\"\"\"\"\"\"", None),
-        ("a = \"\"\"\"\"\"b\"\"\"\"\"\"", None),
-        ("a = '''b''''''", None),
-        ("a = \"\"\"b", None),
-        ("a = \"\"\"b\"\"", None),
-        ("a = \"\"\"b\rc\"\"\"", None),
-        ("a = \"\"\"b\\ c\"\"\"", None),
-        ("a = \"\"\"b\\q\"\"\"", None),
-        ("a = '''\u{7}'''", None),
-    ];
-    for (text, said) in rows {
-        let found = string_at_a(rt.alloc(), text)?;
-        assert_eq!(rt; found.as_ref().map(|s: &String| s.as_str()), said, "{text}");
+    for row in STRINGS.split('@') {
+        let (read, rest) = row.split_once('|').ok_or("row")?;
+        let (said, value) = rest.split_once('|').ok_or("row")?;
+        let text = format!(in rt.alloc(); "a = {value}")?;
+        match string_at_a(rt.alloc(), text.as_str())? {
+            Some(found) => assert!(rt; read == "yes" && found.as_str() == said, "{row}"),
+            None => assert!(rt; read == "no", "{row}"),
+        }
     }
     let text = "a = { b = '''\nc''', d = 1 }\n";
     let place = key_place(rt.alloc(), ["a", "b"].as_slice())?;

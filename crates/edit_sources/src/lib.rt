@@ -21,8 +21,6 @@ pub mod ranking;
 mod ranking_tests;
 pub mod registry;
 mod replace;
-#[cfg(test)]
-mod rows;
 pub mod store;
 #[cfg(test)]
 mod store_tests;

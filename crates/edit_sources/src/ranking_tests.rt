@@ -2,7 +2,6 @@
 use crate::cache::IndexCache;
 use crate::file_index::FileIndex;
 use crate::ranking::Ranked;
-use crate::rows::first_field;
 use edit_record::dependency::Dependency;
 use semver::VersionReq;
 use std::alloc::Global;
@@ -11,12 +10,6 @@ use url::Url;
 
 const FIVE: &[u8] =
     b"{\"name\":\"a\",\"vers\":\"1.0.0+a\"}\n{\"name\":\"a\",\"vers\":\"1.2.0\",\"rust_version\":\"1.70\"}\n{\"name\":\"a\",\"vers\":\"1.0.0+b\"}\n{\"name\":\"a\",\"vers\":\"bad\"}\n{\"name\":\"a\",\"vers\":\"1.3.0\",\"yanked\":true}\n";
-
-// Name, requirement, and what it leads to in `FIVE`.
-const LEADS: &str = "\
-below the greatest|<1.2|a@1.0.0
-the greatest|1|a@1.2.0
-none|2|none";
 
 fn versions(alloc: Global, ranked: Option<&Ranked>) -> Result<String, Fail> {
     let ranked = ranked.ok_or("no ranking")?;
@@ -63,12 +56,6 @@ fn text(alloc: Global, found: Option<Dependency>) -> Result<String, Fail> {
     Ok(format!(in alloc; "{}@{version}", found.name)?)
 }
 
-/// What a requirement leads to.
-fn compatible(alloc: Global, ranked: &Ranked, req: &str) -> Result<String, Fail> {
-    let req = VersionReq::parse(alloc, req).map_err(|_| "no requirement")?;
-    text(alloc, ranked.compatible(alloc, &req, None)?)
-}
-
 #[test]
 fn what_a_ranking_leads_to(rt: HostRuntime) -> Result<(), Fail> {
     let registry = Url::parse(rt.alloc(), "file:///idx").map_err(|_| "no address")?;
@@ -77,11 +64,15 @@ fn what_a_ranking_leads_to(rt: HostRuntime) -> Result<(), Fail> {
     let ranked = cache.shown_ranking(&registry, "a").ok_or("no ranking")?;
     let found = ranked.latest(rt.alloc(), false, None)?;
     assert_eq!(rt; text(rt.alloc(), found)?.as_str(), "a@1.2.0");
-    for row in LEADS.lines() {
-        let (about, row) = first_field(row);
-        let (req, want) = first_field(row);
-        let seen = compatible(rt.alloc(), ranked, req)?;
-        assert_eq!(rt; seen.as_str(), want, "{about}");
+    let rows = [
+        ("below the greatest", "<1.2", "a@1.0.0"),
+        ("the greatest", "1", "a@1.2.0"),
+        ("none", "2", "none"),
+    ];
+    for (row, req, want) in rows {
+        let req = VersionReq::parse(rt.alloc(), req).map_err(|_| "no requirement")?;
+        let found = ranked.compatible(rt.alloc(), &req, None)?;
+        assert_eq!(rt; text(rt.alloc(), found)?.as_str(), want, "{row}");
     }
     Ok(())
 }

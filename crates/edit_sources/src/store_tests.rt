@@ -2,7 +2,6 @@
 use crate::fault_store::FaultStore;
 use crate::host_store::HostStore;
 use crate::memory_store::MemoryStore;
-use crate::rows::first_field;
 use crate::store::{Kind, Store};
 use edit_document::errors::Error;
 use std::alloc::Global;
@@ -11,40 +10,30 @@ use std::os::unix::fs::{MetadataExt, PermissionsExt, symlink};
 use std::test::Fail;
 use std::{fs, process};
 
-// Name, path, and what stands there.
-const KINDS: &str = "\
-the root|/|folder
-a front|/w|folder
-a longer front|/w/a|folder
-a file|/w/Cargo.toml|file
-a part of a name|/w/Cargo|nothing
-below a file|/w/Cargo.toml/x|nothing
-nothing|/w/b|nothing";
-
-fn kind_at<S: Store>(alloc: Global, store: &mut S, path: &str) -> Result<&'static str, Fail> {
-    Ok(match store.kind(alloc, path)? {
-        Kind::File => "file",
-        Kind::Folder => "folder",
-        Kind::Absent => "nothing",
-    })
-}
-
 #[test]
 fn folders_in_memory(rt: HostRuntime) -> Result<(), Fail> {
-    let alloc = rt.alloc();
-    let mut store = MemoryStore::new(alloc);
-    store.write(alloc, "/w/Cargo.toml", b"a")?;
-    store.write(alloc, "/w/a/lib.rs", b"b")?;
-    store.write(alloc, "/w/Cargo.toml", b"cd")?;
-    for row in KINDS.lines() {
-        let (about, row) = first_field(row);
-        let (path, want) = first_field(row);
-        let seen = kind_at(alloc, &mut store, path)?;
-        assert_eq!(rt; seen, want, "{about}");
+    let mut store = MemoryStore::new(rt.alloc());
+    store.write(rt.alloc(), "/w/Cargo.toml", b"a")?;
+    store.write(rt.alloc(), "/w/a/lib.rs", b"b")?;
+    store.write(rt.alloc(), "/w/Cargo.toml", b"cd")?;
+    let rows = [
+        ("the root", "/", Kind::Folder),
+        ("a front", "/w", Kind::Folder),
+        ("a longer front", "/w/a", Kind::Folder),
+        ("a file", "/w/Cargo.toml", Kind::File),
+        ("a part of a name", "/w/Cargo", Kind::Absent),
+        ("below a file", "/w/Cargo.toml/x", Kind::Absent),
+        ("nothing", "/w/b", Kind::Absent),
+    ];
+    for (row, path, kind) in rows {
+        let seen = store.kind(rt.alloc(), path)?;
+        assert_eq!(rt; seen, kind, "{row}");
     }
-    let seen = text_at(alloc, &mut store, "/w/Cargo.toml")?;
-    assert_eq!(rt; seen.as_str(), "cd");
-    assert!(rt; store.read(alloc, "/w")?.is_none());
+    assert_eq!(rt;
+        text_at(rt.alloc(), &mut store, "/w/Cargo.toml")?.as_str(),
+        "cd"
+    );
+    assert!(rt; store.read(rt.alloc(), "/w")?.is_none());
     assert_eq!(rt; store.faults(), 0);
     Ok(())
 }
@@ -54,72 +43,71 @@ fn text_at<S: Store>(alloc: Global, store: &mut S, path: &str) -> Result<String,
     Ok(String::from_utf8(bytes).map_err(|_| "no text")?)
 }
 
-/// The texts at three paths.
-fn texts(alloc: Global, store: &mut MemoryStore) -> Result<String, Fail> {
-    let a = text_at(alloc, store, "/a")?;
-    let b = text_at(alloc, store, "/b")?;
-    let c = text_at(alloc, store, "/c")?;
-    Ok(format!(in alloc; "{a}|{b}|{c}")?)
-}
-
-#[test]
-fn one_write_fails(rt: HostRuntime) -> Result<(), Fail> {
-    let alloc = rt.alloc();
-    let mut inner = MemoryStore::new(alloc);
-    inner.write(alloc, "/b", b"old bytes")?;
-    inner.write(alloc, "/c", b"old")?;
-    let mut store = FaultStore::new(inner, 1, 4);
-    store.write(alloc, "/a", b"new a")?;
-    let error = store.write(alloc, "/b", b"new b").err().ok_or("written")?;
-    let text = format!(in alloc; "{} {error}", error.number())?;
-    assert_eq!(rt; text.as_str(), "3 Failed to write updated Cargo.toml");
-    assert_eq!(rt; store.faults(), 1);
-    assert_eq!(rt; texts(alloc, &mut store.inner)?.as_str(), "new a|new |old");
-    store.write(alloc, "/b", b"new b")?;
-    assert_eq!(rt; text_at(alloc, &mut store, "/b")?.as_str(), "new b");
-    assert_eq!(rt; store.faults(), 1);
-    Ok(())
-}
-
 #[test]
 fn one_call_fails(rt: HostRuntime) -> Result<(), Fail> {
-    let alloc = rt.alloc();
-    let mut store = FaultStore::new(MemoryStore::new(alloc), 0, 9);
-    let error = store.kind(alloc, "/").err().ok_or("told")?;
-    let text = format!(in alloc; "{error}")?;
+    let mut inner = MemoryStore::new(rt.alloc());
+    inner.write(rt.alloc(), "/b", b"old bytes")?;
+    inner.write(rt.alloc(), "/c", b"old")?;
+    let mut store = FaultStore::new(inner, 1, 4);
+    store.write(rt.alloc(), "/a", b"new a")?;
+    let error = store
+        .write(rt.alloc(), "/b", b"new b")
+        .err()
+        .ok_or("written")?;
+    assert_eq!(rt; error.number(), 3);
+    let text = format!(in rt.alloc(); "{error}")?;
+    assert_eq!(rt; text.as_str(), "Failed to write updated Cargo.toml");
+    assert_eq!(rt; store.faults(), 1);
+    assert_eq!(rt;
+        text_at(rt.alloc(), &mut store.inner, "/a")?.as_str(),
+        "new a"
+    );
+    assert_eq!(rt;
+        text_at(rt.alloc(), &mut store.inner, "/b")?.as_str(),
+        "new "
+    );
+    assert_eq!(rt;
+        text_at(rt.alloc(), &mut store.inner, "/c")?.as_str(),
+        "old"
+    );
+    store.write(rt.alloc(), "/b", b"new b")?;
+    assert_eq!(rt; text_at(rt.alloc(), &mut store, "/b")?.as_str(), "new b");
+    assert_eq!(rt; store.kind(rt.alloc(), "/b")?, Kind::File);
+    assert_eq!(rt; store.faults(), 1);
+    let mut store = FaultStore::new(MemoryStore::new(rt.alloc()), 0, 9);
+    let error = store.kind(rt.alloc(), "/").err().ok_or("told")?;
+    let text = format!(in rt.alloc(); "{error}")?;
     assert_eq!(rt; text.as_str(), "Failed to look at a path");
-    assert_eq!(rt; kind_at(alloc, &mut store, "/")?, "folder");
-    let mut store = FaultStore::new(MemoryStore::new(alloc), 0, 9);
-    let error = store.read(alloc, "/").err().ok_or("read")?;
-    let text = format!(in alloc; "{error}")?;
+    let mut store = FaultStore::new(MemoryStore::new(rt.alloc()), 0, 9);
+    let error = store.read(rt.alloc(), "/").err().ok_or("read")?;
+    let text = format!(in rt.alloc(); "{error}")?;
     assert_eq!(rt; text.as_str(), "Failed to read a file");
     Ok(())
 }
 
-/// A new folder of the test's own, and a file in it that says `one`.
-fn real(rt: &HostRuntime, name: &str) -> Result<(String, String), Fail> {
+/// A new folder of the test's own.
+fn folder(rt: &HostRuntime, name: &str) -> Result<String, Fail> {
     let id = process::id(rt.process());
     let folder = format!(in rt.alloc(); "/tmp/edit-sources-{id}-{name}")?;
     fs::create_dir_all(rt, folder.as_str())?;
-    let file = format!(in rt.alloc(); "{folder}/Cargo.toml")?;
-    fs::write(rt, file.as_str(), "one")?;
-    Ok((folder, file))
+    Ok(folder)
 }
 
 #[test]
 fn real_files(rt: HostRuntime) -> Result<(), Fail> {
-    let alloc = rt.alloc();
-    let (folder, file) = real(&rt, "kinds")?;
+    let folder = folder(&rt, "kinds")?;
     let mut store = HostStore::new(rt.clone()?);
-    let new = format!(in alloc; "{folder}/new")?;
-    assert_eq!(rt; kind_at(alloc, &mut store, new.as_str())?, "nothing");
-    assert!(rt; store.read(alloc, new.as_str())?.is_none());
-    store.write(alloc, new.as_str(), b"two")?;
-    assert_eq!(rt; kind_at(alloc, &mut store, new.as_str())?, "file");
-    assert_eq!(rt; text_at(alloc, &mut store, new.as_str())?.as_str(), "two");
-    assert_eq!(rt; text_at(alloc, &mut store, file.as_str())?.as_str(), "one");
-    assert_eq!(rt; kind_at(alloc, &mut store, folder.as_str())?, "folder");
-    assert!(rt; store.read(alloc, folder.as_str())?.is_none());
+    let file = format!(in rt.alloc(); "{folder}/Cargo.toml")?;
+    assert_eq!(rt; store.kind(rt.alloc(), file.as_str())?, Kind::Absent);
+    assert!(rt; store.read(rt.alloc(), file.as_str())?.is_none());
+    assert_eq!(rt; store.kind(rt.alloc(), folder.as_str())?, Kind::Folder);
+    assert!(rt; store.read(rt.alloc(), folder.as_str())?.is_none());
+    store.write(rt.alloc(), file.as_str(), b"one")?;
+    assert_eq!(rt; store.kind(rt.alloc(), file.as_str())?, Kind::File);
+    assert_eq!(rt;
+        text_at(rt.alloc(), &mut store, file.as_str())?.as_str(),
+        "one"
+    );
     assert_eq!(rt; store.faults(), 0);
     fs::remove_dir_all(&rt, folder.as_str())?;
     Ok(())
@@ -127,69 +115,79 @@ fn real_files(rt: HostRuntime) -> Result<(), Fail> {
 
 #[test]
 fn real_files_keep_their_permissions(rt: HostRuntime) -> Result<(), Fail> {
-    let alloc = rt.alloc();
-    let (folder, file) = real(&rt, "permissions")?;
+    let folder = folder(&rt, "permissions")?;
     let mut store = HostStore::new(rt.clone()?);
+    let file = format!(in rt.alloc(); "{folder}/Cargo.toml")?;
+    fs::write(&rt, file.as_str(), "one")?;
     fs::set_permissions(&rt, file.as_str(), Permissions::from_mode(0o640))?;
-    store.write(alloc, file.as_str(), b"two")?;
-    assert_eq!(rt; text_at(alloc, &mut store, file.as_str())?.as_str(), "two");
+    store.write(rt.alloc(), file.as_str(), b"two")?;
+    assert_eq!(rt;
+        text_at(rt.alloc(), &mut store, file.as_str())?.as_str(),
+        "two"
+    );
     assert_eq!(rt; fs::metadata(&rt, file.as_str())?.mode() & 0o777, 0o640);
-    let beside = format!(in alloc; "{file}.new-0")?;
-    assert_eq!(rt; kind_at(alloc, &mut store, beside.as_str())?, "nothing");
+    let beside = format!(in rt.alloc(); "{file}.new-0")?;
+    assert_eq!(rt; store.kind(rt.alloc(), beside.as_str())?, Kind::Absent);
     fs::set_permissions(&rt, file.as_str(), Permissions::from_mode(0o444))?;
     let error = store
-        .write(alloc, file.as_str(), b"three")
+        .write(rt.alloc(), file.as_str(), b"three")
         .err()
         .ok_or("written")?;
     assert_eq!(rt; error.number(), 3);
     assert_eq!(rt; store.faults(), 1);
-    assert_eq!(rt; text_at(alloc, &mut store, file.as_str())?.as_str(), "two");
+    assert_eq!(rt;
+        text_at(rt.alloc(), &mut store, file.as_str())?.as_str(),
+        "two"
+    );
     fs::remove_dir_all(&rt, folder.as_str())?;
     Ok(())
 }
 
 #[test]
 fn real_files_through_a_link(rt: HostRuntime) -> Result<(), Fail> {
-    let alloc = rt.alloc();
-    let (folder, file) = real(&rt, "link")?;
+    let folder = folder(&rt, "link")?;
     let mut store = HostStore::new(rt.clone()?);
-    let link = format!(in alloc; "{folder}/link")?;
+    let file = format!(in rt.alloc(); "{folder}/Cargo.toml")?;
+    let link = format!(in rt.alloc(); "{folder}/link")?;
+    fs::write(&rt, file.as_str(), "one")?;
     symlink(&rt, file.as_str(), link.as_str())?;
-    store.write(alloc, link.as_str(), b"two")?;
-    assert_eq!(rt; text_at(alloc, &mut store, file.as_str())?.as_str(), "two");
+    store.write(rt.alloc(), link.as_str(), b"two")?;
+    assert_eq!(rt;
+        text_at(rt.alloc(), &mut store, file.as_str())?.as_str(),
+        "two"
+    );
     assert!(rt; fs::symlink_metadata(&rt, link.as_str())?.is_symlink());
     fs::remove_dir_all(&rt, folder.as_str())?;
     Ok(())
 }
 
-/// Takes each name beside a file.
-fn take_names(rt: &HostRuntime, file: &str) -> Result<(), Fail> {
-    for n in 0..16u32 {
-        let beside = format!(in rt.alloc(); "{file}.new-{n}")?;
-        fs::write(rt, beside.as_str(), "taken")?;
-    }
-    Ok(())
-}
-
 #[test]
 fn real_files_in_place(rt: HostRuntime) -> Result<(), Fail> {
-    let alloc = rt.alloc();
-    let (folder, file) = real(&rt, "place")?;
+    let folder = folder(&rt, "place")?;
     let mut store = HostStore::new(rt.clone()?);
+    let file = format!(in rt.alloc(); "{folder}/Cargo.toml")?;
+    fs::write(&rt, file.as_str(), "one")?;
     // a folder in which no file can be made
     fs::set_permissions(&rt, folder.as_str(), Permissions::from_mode(0o555))?;
-    store.write(alloc, file.as_str(), b"two")?;
+    store.write(rt.alloc(), file.as_str(), b"two")?;
     fs::set_permissions(&rt, folder.as_str(), Permissions::from_mode(0o755))?;
-    assert_eq!(rt; text_at(alloc, &mut store, file.as_str())?.as_str(), "two");
-    take_names(&rt, file.as_str())?;
-    store.write(alloc, file.as_str(), b"three")?;
     assert_eq!(rt;
-        text_at(alloc, &mut store, file.as_str())?.as_str(),
+        text_at(rt.alloc(), &mut store, file.as_str())?.as_str(),
+        "two"
+    );
+    // each name beside it taken
+    for n in 0..16u32 {
+        let beside = format!(in rt.alloc(); "{file}.new-{n}")?;
+        fs::write(&rt, beside.as_str(), "taken")?;
+    }
+    store.write(rt.alloc(), file.as_str(), b"three")?;
+    assert_eq!(rt;
+        text_at(rt.alloc(), &mut store, file.as_str())?.as_str(),
         "three"
     );
-    let beside = format!(in alloc; "{file}.new-3")?;
+    let beside = format!(in rt.alloc(); "{file}.new-3")?;
     assert_eq!(rt;
-        text_at(alloc, &mut store, beside.as_str())?.as_str(),
+        text_at(rt.alloc(), &mut store, beside.as_str())?.as_str(),
         "taken"
     );
     fs::remove_dir_all(&rt, folder.as_str())?;
