@@ -23,6 +23,7 @@ use Rattle.edit_document.specs.Walk.{State, start, walked, settled_state}
 use Rattle.edit_document.specs.WalkState.{IsToken, KeepsState}
 use Rattle.edit_document.proofs.LineLaws.{read_again}
 use Rattle.edit_document.proofs.Ends.{Ends}
+use Rattle.edit_document.proofs.AllSupported.{all_supported}
 use Rattle.edit_document.proofs.Shallow.{shallow as shallow_form, manifest_form}
 use Rattle.edit_document.proofs.Standing.{Stands}
 use Rattle.edit_document.proofs.WalkedLines.{Walked as Walks, ended, stuck, text_walked, text_even}
@@ -37,7 +38,7 @@ pub record Read (bytes : List ℕ) (form : Text) : Type 0 where
   pub utf8 : IsUtf8 bytes
 
 pub read_of : (bytes : List ℕ) (form : Text) → IsManifest bytes form → IsUtf8 bytes → Read bytes form
-read_of bytes form m u = record { spells = m.document.grammar; supported = m.supported; utf8 = u }
+read_of bytes form m u = record { spells = m.document.grammar; supported = all_supported form; utf8 = u }
 
 ends_all : (bytes : List ℕ) (form : Text) → Read bytes form → Ends bytes (lines form.lines)
 ends_all bytes form r = behind form.marked (lines form.lines) r.spells.spelled
@@ -73,7 +74,7 @@ walked_is bytes form nodes r keeps = go (walk_of bytes form r)
   where
     go : Walks (assertions form) (map placed (values form)) (walked bytes (text_marks form) start) → Walked bytes form nodes
     go (ended now tables e st) =
-        let manifest : IsManifest bytes form = record { document = record { grammar = r.spells; short = st.clear.short; no_clash = st.clear.apart }; supported = r.supported } in
+        let manifest : IsManifest bytes form = record { document = record { grammar = r.spells; short = st.clear.short; no_clash = st.clear.apart } } in
         record {
           spots = now;
           found = ap (λ (o : Option Text). o >>= λ f. walked bytes (text_marks f) start >>= λ s. Some s.spots) (form_is bytes form manifest) ∙ ap (λ (o : Option State). o >>= λ s. Some s.spots) e;

@@ -3,7 +3,7 @@ use Rattle.std.proofs.Common.{◌≡◌, ℕ, suc, true, false, ◌||◌, cond, 
 use Rattle.edit_document.specs.Grammar.{Value, basic, literal, multi_basic, multi_literal, boolean, integer, float, datetime, array, inline, Elements, no_elements, last_element, element, Members, no_members, last_member, member, Statement, pair, header, element_header, empty_line, full_line, Lines, one_line, more_lines, Text, text, IsValue, AreElements, AreMembers, IsMember, IsStatement, AreLines}
 use Rattle.edit_document.specs.Assertions.{Place, Step, at, index, names, named, same_place, leaf, Assertion, of_statement, assertions, prefix_after, NoClash, IsDocument}
 use Rattle.edit_document.specs.Tree.{View, string, view_at, view_of_kind, kind_at}
-use Rattle.edit_document.specs.Supported.{IsSupportedValue, AreSupportedElements, AreSupportedMembers, IsSupportedStatement, AreSupportedLines, IsManifest}
+use Rattle.edit_document.specs.Supported.{IsManifest}
 use Rattle.edit_document.specs.Literals.{literal_of}
 use Rattle.edit_document.specs.Replaces.{Edits, new_text, literal_or, put, replaced_inside, replaced_elements, replaced_members, replaced_statement, replaced_lines, replaced, is_below, is_below_any, written, emptied}
 use Rattle.edit_document.proofs.SamePlaces.{by_test, place_true, place_same}
@@ -78,52 +78,9 @@ replaced_document edits old form document = record {
 
 -- ---- of the part that is read
 
-supported_put : (edits : Edits) (p : Place) (u : Value) → IsSupportedValue u → IsSupportedValue (put edits p u)
-supported_put edits p u h = go (new_text edits p)
-  where
-    go : (o : Option (List ℕ)) → IsSupportedValue (literal_or o u)
-    go None = h
-    go (Some said) = tt
-
-mutual
-  supported_inside : (edits : Edits) (p : Place) (v : Value) → IsSupportedValue v → IsSupportedValue (replaced_inside edits p v)
-  supported_inside edits p (basic ps) h = h
-  supported_inside edits p (literal t) h = h
-  supported_inside edits p (multi_basic ps) h = h
-  supported_inside edits p (multi_literal ps) h = h
-  supported_inside edits p (boolean b) h = h
-  supported_inside edits p (integer n) h = h
-  supported_inside edits p (float f) h = h
-  supported_inside edits p (datetime d) h = h
-  supported_inside edits p (array g es) h = supported_elements edits p 0 es h
-  supported_inside edits p (inline g ms) h = supported_members edits p ms h
-
-  supported_elements : (edits : Edits) (p : Place) (i : ℕ) (es : Elements) → AreSupportedElements es → AreSupportedElements (replaced_elements edits p i es)
-  supported_elements edits p i no_elements h = h
-  supported_elements edits p i (last_element v g) h = supported_put edits (at p (index i)) _ (supported_inside edits (at p (index i)) v h)
-  supported_elements edits p i (element v g x es) h = (supported_put edits (at p (index i)) _ (supported_inside edits (at p (index i)) v h.0), supported_elements edits p (suc i) es h.1)
-
-  supported_members : (edits : Edits) (p : Place) (ms : Members) → AreSupportedMembers ms → AreSupportedMembers (replaced_members edits p ms)
-  supported_members edits p no_members h = h
-  supported_members edits p (last_member k a b v c) h = supported_put edits (named p (names k)) _ (supported_inside edits (named p (names k)) v h)
-  supported_members edits p (member k a b v c d ms) h =
-      (supported_put edits (named p (names k)) _ (supported_inside edits (named p (names k)) v h.0), supported_members edits p ms h.1)
-
-supported_statement : (edits : Edits) (prefix : Place) (s : Statement) → IsSupportedStatement s → IsSupportedStatement (replaced_statement edits prefix s)
-supported_statement edits prefix (pair k a b v) h = supported_put edits (named prefix (names k)) _ (supported_inside edits (named prefix (names k)) v h)
-supported_statement edits prefix (header a k b) h = h
-supported_statement edits prefix (element_header a k b) h = h
-
-supported_lines : (edits : Edits) (earlier : List Assertion) (prefix : Place) (ls : Lines) → AreSupportedLines ls → AreSupportedLines (replaced_lines edits earlier prefix ls)
-supported_lines edits earlier prefix (one_line (empty_line a c)) h = h
-supported_lines edits earlier prefix (one_line (full_line a s b c)) h = supported_statement edits prefix s h
-supported_lines edits earlier prefix (more_lines (empty_line a c) e ls) h = (h.0, supported_lines edits earlier prefix ls h.1)
-supported_lines edits earlier prefix (more_lines (full_line a s b c) e ls) h = (supported_statement edits prefix s h.0, supported_lines edits (earlier ++ of_statement earlier prefix s) (prefix_after earlier prefix s) ls h.1)
-
 pub replaced_manifest : (edits : Edits) (old : List ℕ) (form : Text) → IsManifest old form → IsManifest (text (replaced edits form)) (replaced edits form)
 replaced_manifest edits old form manifest = record {
   document = replaced_document edits old form manifest.document;
-  supported = supported_lines edits [] [] form.lines manifest.supported;
 }
 
 -- ---- the tree

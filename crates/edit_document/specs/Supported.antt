@@ -1,4 +1,4 @@
--- The part of the grammar that is read: a byte order mark, keys, headers, and every value.
+-- What is read: every form of the grammar. The contracts of reading cite the rows one by one, and each of them is read.
 use Rattle.std.specs.Prelude.{ℕ, List, ⊤}
 use Rattle.edit_document.specs.Grammar.{Value, basic, literal, multi_basic, multi_literal, boolean, integer, float, datetime, array, inline, Elements, no_elements, last_element, element, Members, no_members, last_member, member, Statement, pair, header, element_header, Line, empty_line, full_line, Lines, one_line, more_lines, Text}
 use Rattle.edit_document.specs.Assertions.{IsDocument}
@@ -47,7 +47,6 @@ AreSupportedLines (more_lines l e ls) = IsSupportedLine l × AreSupportedLines l
 abbrev pub IsSupported : Text → Type 0
 IsSupported t = AreSupportedLines t.lines
 
--- the bytes are a document with this form, and the form is of the part that is read
+-- the bytes are a document with this form
 pub record IsManifest (bytes : List ℕ) (form : Text) : Type 0 where
   pub document : IsDocument bytes form
-  pub supported : IsSupported form

@@ -55,7 +55,7 @@ pub(crate) enum Seen<'a> {
 }
 
 impl Document {
-    /// Reads a text. What is no document of the part that is read is refused, with a byte near which it goes wrong.
+    /// Reads a text. What is no document is refused, with a byte near which it goes wrong.
     pub fn read(alloc: Global, text: &str) -> CargoResult<Document>
         ensures bytes { IfOk result (λ d. d.bytes ≡ text.now) }
         // The same text shows the same places.
@@ -204,7 +204,7 @@ impl Document {
         Some(number)
     }
 
-    /// The text is a document of the part that is read, and what it shows is the tree of each form that it has.
+    /// The text is a document, and what it shows is the tree of each form that it has.
     pub(crate) fn has_form(&self)
         ensures some { (form : Text) × IsManifest self.now.bytes form }
         ensures shows { (form : Text) → IsManifest self.now.bytes form → ShowsTree self.now form }

@@ -228,7 +228,15 @@ impl Walk {
         else {
             return Ok(false);
         };
-        let Some(element) = add_element(alloc, &mut self.nodes, number, Content::Table, Taken::Element, None)? else {
+        let Some(element) = add_element(
+            alloc,
+            &mut self.nodes,
+            number,
+            Content::Table,
+            Taken::Element,
+            None,
+        )?
+        else {
             return Ok(false);
         };
         self.turn_to(element)?;
