@@ -137,22 +137,16 @@ fn finds_above(rt: HostRuntime) -> Result<(), Fail> {
     let below = ("/w/a/b/x", b"".as_slice());
     let bad_line = ("/w/index.json", b"\n{}\n".as_slice());
     let manifest = ("/w/Cargo.toml", MANIFEST.as_bytes());
-    for (row, given, want) in [
-        (
-            "found",
-            [below, bad_line, manifest].as_slice(),
-            "Error: Invalid index line 2\n",
-        ),
-        (
-            "none",
-            [below, bad_line].as_slice(),
-            "Error: Unable to find Cargo.toml for /w/a/b\n",
-        ),
-    ] {
-        let seen = ran(rt.alloc(), words.as_slice(), given)?;
-        assert_eq!(rt; seen.status, 1, "{row}");
-        assert_eq!(rt; seen.err.as_slice(), want.as_bytes(), "{row}");
-    }
+    let given = [below, bad_line, manifest];
+    let found = ran(rt.alloc(), words.as_slice(), given.as_slice())?;
+    assert_eq!(rt; found.status, 1);
+    let want = "Error: Invalid index line 2\n";
+    assert_eq!(rt; found.err.as_slice(), want.as_bytes());
+    let given = [below, bad_line];
+    let none = ran(rt.alloc(), words.as_slice(), given.as_slice())?;
+    assert_eq!(rt; none.status, 1);
+    let want = "Error: Unable to find Cargo.toml for /w/a/b\n";
+    assert_eq!(rt; none.err.as_slice(), want.as_bytes());
     Ok(())
 }
 
