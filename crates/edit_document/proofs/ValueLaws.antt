@@ -3,7 +3,7 @@ use Rattle.std.proofs.Common.{◌≡◌, ℕ, zero, suc, ◌<◌, ◌≤◌, tru
 use Rattle.edit_document.specs.Characters.{quote, apostrophe, comma, equals, left_brace, right_brace, is_blank, All}
 use Rattle.edit_document.specs.Strings.{key, IsKey}
 use Rattle.edit_document.specs.Grammar.{Between, blank, break, remark, gap, IsBlankGap, Value, basic, literal, boolean, inline, Members, no_members, last_member, member, value, members, IsValue, AreMembers, IsMember}
-use Rattle.edit_document.specs.Supported.{IsOnePart, IsSupportedValue, AreSupportedMembers}
+use Rattle.edit_document.specs.Supported.{IsSupportedValue, AreSupportedMembers}
 use Rattle.edit_document.specs.Depth.{depth, members_depth}
 use Rattle.edit_document.specs.Reading.{◌>>=◌, Read, first, past, blanks, past_blanks, blank_gap, basic_at, literal_at, key_at, scalar_at, starts, Pair, pair_at, members_at, value_at}
 use Rattle.edit_document.proofs.TokenLaws.{bind_some, chosen, tested, some_is, first_is, at_drop, both, past_some, run_parts, run_all, basic_sound, literal_sound, key_sound}
@@ -91,7 +91,6 @@ pair_text p rest = key p.key (p.before ++ (equals ∷ (p.behind ++ value p.value
 
 pub record IsPair (n : ℕ) (p : Pair) : Type 0 where
   pub key : IsKey p.key
-  pub one_part : IsOnePart p.key
   pub before : All is_blank p.before
   pub behind : All is_blank p.behind
   pub value : IsReadable n p.value
@@ -107,7 +106,7 @@ pair_sound n read sound text x e =
     let one : b.0 ≡ blanks b.0 ++ value c.0.0 c.0.1 = blank_parts b.0 (value c.0.0 c.0.1) v.0 in
     let two : a.0.1 ≡ blanks a.0.1 ++ (equals ∷ (blanks b.0 ++ value c.0.0 c.0.1)) = blank_parts a.0.1 (equals ∷ (blanks b.0 ++ value c.0.0 c.0.1)) (past_some equals _ b.0 (omega arith) b.1 ∙ ap (λ (r : List ℕ). equals ∷ r) one) in
     subst (λ (y : Pair × List ℕ). (text ≡ pair_text y.0 y.1) × IsPair n y.0) (some_is (record { key = a.0.0; before = blanks a.0.1; behind = blanks b.0; value = c.0.0 }, c.0.1) x c.2)
-    (k.0 ∙ ap (key a.0.0) two, record { key = k.1; one_part = k.2; before = run_all is_blank a.0.1; behind = run_all is_blank b.0; value = v.1 })
+    (k.0 ∙ ap (key a.0.0) two, record { key = k.1; before = run_all is_blank a.0.1; behind = run_all is_blank b.0; value = v.1 })
 
 -- ---- members
 
@@ -115,14 +114,14 @@ pair_sound n read sound text x e =
 member_readable : (n : ℕ) (p : Pair) (c d : List Between) (ms : Members) → IsPair n p → IsBlankGap c → IsBlankGap d → IsMember ms → AreReadable n ms → AreReadable n (member p.key p.before p.behind p.value c d ms)
 member_readable n p c d ms one hc hd some others = record {
   valid = (one.key, one.before, one.behind, one.value.valid, hc, hd, others.valid, some);
-  supported = (one.one_part, one.value.supported, others.supported);
+  supported = (one.value.supported, others.supported);
   shallow = let k = one.value.shallow in let l = others.shallow in omega arith;
 }
 
 last_readable : (n : ℕ) (p : Pair) (c : List Between) → IsPair n p → IsBlankGap c → AreReadable n (last_member p.key p.before p.behind p.value c)
 last_readable n p c one hc = record {
   valid = (one.key, one.before, one.behind, one.value.valid, hc);
-  supported = (one.one_part, one.value.supported);
+  supported = one.value.supported;
   shallow = one.value.shallow;
 }
 

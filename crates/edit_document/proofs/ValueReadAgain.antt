@@ -5,20 +5,15 @@ use Rattle.std.proofs.lemmas.List.{length-append}
 use Rattle.edit_document.specs.Characters.{quote, apostrophe, comma, equals, left_brace, right_brace, is_blank, is_bare, All}
 use Rattle.edit_document.specs.Strings.{Part, bare, basic_part, literal_part, part, IsPart, Key, Dotted, key, dotted, IsKey}
 use Rattle.edit_document.specs.Grammar.{Between, blank, break, remark, gap, IsBlankGap, Value, basic, literal, multi_basic, multi_literal, boolean, integer, float, datetime, array, inline, Members, no_members, last_member, member, value, members, IsValue, AreMembers, IsMember}
-use Rattle.edit_document.specs.Supported.{IsOnePart, IsSupportedValue, AreSupportedMembers}
+use Rattle.edit_document.specs.Supported.{IsSupportedValue, AreSupportedMembers}
 use Rattle.edit_document.specs.Depth.{depth, members_depth}
 use Rattle.edit_document.specs.Reading.{Read, first, blank_gap, scalar_at, Pair, pair_at, members_at, value_at}
-use Rattle.edit_document.proofs.TokenLaws.{front_again, after_again, basic_again, literal_again, length-pieces, key_again, EndsBare}
+use Rattle.edit_document.proofs.TokenLaws.{front_again, after_again, basic_again, literal_again, length-pieces, part_first, key_again, ends_key}
 use Rattle.edit_document.proofs.ValueLaws.{gap_blanks, blank_gap_is, AreReadable, pair_text, IsPair}
 
 -- the reader reads this value, whatever follows
 abbrev pub Again : (List ℕ → Read Value) → Value → Type 0
 Again read v = (rest : List ℕ) → read (value v rest) ≡ Some (v, rest)
-
--- white space and then this byte ends a bare key
-pub ends_bare : (a : List ℕ) (b : ℕ) (rest : List ℕ) → All is_blank a → is_bare b ≡ false → EndsBare (a ++ (b ∷ rest))
-ends_bare [] b rest h e = e
-ends_bare (c ∷ a) b rest h e = grind (arith, nat_tests, h.0)
 
 pub value_first : (v : Value) (rest : List ℕ) → IsSupportedValue v → is_blank (first (value v rest)) ≡ false
 value_first (basic ps) rest h = refl
@@ -38,7 +33,7 @@ unfolding pair_at
 pair_again n read p rest h again =
     let more = p.behind ++ value p.value rest in
     let begins = value_first p.value rest h.value.supported in
-    let k = key_again p.key (p.before ++ (equals ∷ more)) h.key h.one_part (ends_bare p.before equals more h.before refl) in
+    let k = key_again p.key (p.before ++ (equals ∷ more)) h.key (ends_key p.before equals more h.before refl refl refl) in
     rw (k, after_again is_blank p.before (equals ∷ more) h.before refl, front_again is_blank p.before (equals ∷ more) h.before refl, after_again is_blank p.behind (value p.value rest) h.behind begins, front_again is_blank p.behind (value p.value rest) h.behind begins, again rest) refl
 
 -- ---- lengths: what follows is no longer than the whole
@@ -87,10 +82,10 @@ mutual
 
   members_longer : (ms : Members) (rest : List ℕ) → AreMembers ms → AreSupportedMembers ms → length rest + count ms ≤ length (members ms rest)
   members_longer no_members rest h s = omega arith
-  members_longer (last_member k a b v c) rest h s = omega (arith, pair_longer k a b (value v (gap c rest)), value_longer v (gap c rest) h.3 s.1, gap_longer c rest h.4)
+  members_longer (last_member k a b v c) rest h s = omega (arith, pair_longer k a b (value v (gap c rest)), value_longer v (gap c rest) h.3 s, gap_longer c rest h.4)
   members_longer (member k a b v c d ms) rest h s =
       let more = gap d (members ms rest) in
-      omega (arith, pair_longer k a b (value v (gap c (comma ∷ more))), value_longer v (gap c (comma ∷ more)) h.3 s.1, gap_longer c (comma ∷ more) h.4, gap_longer d (members ms rest) h.5, members_longer ms rest h.6 s.2)
+      omega (arith, pair_longer k a b (value v (gap c (comma ∷ more))), value_longer v (gap c (comma ∷ more)) h.3 s.0, gap_longer c (comma ∷ more) h.4, gap_longer d (members ms rest) h.5, members_longer ms rest h.6 s.1)
 
 -- ---- members
 
@@ -100,16 +95,7 @@ AgainAll read no_members = Unit {0}
 AgainAll read (last_member k a b v c) = Again read v
 AgainAll read (member k a b v c d ms) = Again read v × AgainAll read ms
 
-bare_first : (b : ℕ) → is_bare b ≡ true → (is_blank b ≡ false) × (eqb b right_brace ≡ false)
-bare_first b h = (grind (arith, nat_tests), grind (arith, nat_tests))
-
 -- a key begins with neither white space nor a closing brace
-part_first : (k : Part) (rest : List ℕ) → IsPart k → (is_blank (first (part k rest)) ≡ false) × (eqb (first (part k rest)) right_brace ≡ false)
-part_first (bare []) rest h = absurd (omega (arith, h.0))
-part_first (bare (b ∷ text)) rest h = bare_first b h.1.0
-part_first (basic_part ps) rest h = (refl, refl)
-part_first (literal_part text) rest h = (refl, refl)
-
 pub key_first : (k : Key) (rest : List ℕ) → IsKey k → (is_blank (first (key k rest)) ≡ false) × (eqb (first (key k rest)) right_brace ≡ false)
 key_first k rest h = part_first k.first (dotted k.others rest) h.0
 
@@ -119,8 +105,8 @@ members_first (last_member k a b v c) rest h some = key_first k _ h.0
 members_first (member k a b v c d ms) rest h some = key_first k _ h.0
 
 -- the pair of a member
-pair_of : (n : ℕ) (p : Pair) → IsKey p.key → IsOnePart p.key → All is_blank p.before → All is_blank p.behind → IsValue p.value → IsSupportedValue p.value → depth p.value ≤ n → IsPair n p
-pair_of n p hk one ha hb hv s le = record { key = hk; one_part = one; before = ha; behind = hb; value = record { valid = hv; supported = s; shallow = le } }
+pair_of : (n : ℕ) (p : Pair) → IsKey p.key → All is_blank p.before → All is_blank p.behind → IsValue p.value → IsSupportedValue p.value → depth p.value ≤ n → IsPair n p
+pair_of n p hk ha hb hv s le = record { key = hk; before = ha; behind = hb; value = record { valid = hv; supported = s; shallow = le } }
 
 last_again : (n : ℕ) (read : List ℕ → Read Value) (count : ℕ) (p : Pair) (c rest : List ℕ) → IsPair n p → All is_blank c → Again read p.value
     → members_at read (suc count) (pair_text p (c ++ (right_brace ∷ rest))) ≡ Some (last_member p.key p.before p.behind p.value (blank_gap c), rest)
@@ -143,7 +129,7 @@ members_again n read zero (member k a b v c d ms) rest h some again le = absurd 
 members_again n read (suc few) (last_member k a b v c) rest h some again le =
     let p : Pair = record { key = k; before = a; behind = b; value = v } in
     let hv = h.valid in
-    let one = pair_of n p hv.0 h.supported.0 hv.1 hv.2 hv.3 h.supported.1 h.shallow in
+    let one = pair_of n p hv.0 hv.1 hv.2 hv.3 h.supported h.shallow in
     let g = blank_gap_is c hv.4 in
     let here : members_at read (suc few) (pair_text p (gap (blank_gap g.0) (right_brace ∷ rest))) ≡ Some (last_member k a b v (blank_gap g.0), rest) =
     rw (gap_blanks g.0 (right_brace ∷ rest)) (last_again n read few p g.0 rest one g.2 again) in
@@ -152,8 +138,8 @@ members_again n read (suc few) (member k a b v c d ms) rest h some again le =
     let p : Pair = record { key = k; before = a; behind = b; value = v } in
     let hv = h.valid in
     let hd : depth v ≤ n = let w = h.shallow in omega arith in
-    let hms : AreReadable n ms = record { valid = hv.6; supported = h.supported.2; shallow = let w = h.shallow in omega arith } in
-    let one = pair_of n p hv.0 h.supported.0 hv.1 hv.2 hv.3 h.supported.1 hd in
+    let hms : AreReadable n ms = record { valid = hv.6; supported = h.supported.1; shallow = let w = h.shallow in omega arith } in
+    let one = pair_of n p hv.0 hv.1 hv.2 hv.3 h.supported.0 hd in
     let g = blank_gap_is c hv.4 in
     let i = blank_gap_is d hv.5 in
     let more = members ms (right_brace ∷ rest) in
@@ -229,5 +215,5 @@ mutual
 
   all_again : (ms : Members) (n : ℕ) → AreMembers ms → AreSupportedMembers ms → members_depth ms ≤ n → AgainAll (value_at n) ms
   all_again no_members n h s le = tt
-  all_again (last_member k a b v c) n h s le = value_again v n h.3 s.1 le
-  all_again (member k a b v c d ms) n h s le = (value_again v n h.3 s.1 (omega arith), all_again ms n h.6 s.2 (omega arith))
+  all_again (last_member k a b v c) n h s le = value_again v n h.3 s le
+  all_again (member k a b v c d ms) n h s le = (value_again v n h.3 s.0 (omega arith), all_again ms n h.6 s.1 (omega arith))

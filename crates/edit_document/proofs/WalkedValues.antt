@@ -1,66 +1,41 @@
 -- The walk over the marks of values and of their members.
-use Rattle.std.proofs.Common.{◌≡◌, ℕ, zero, suc, ◌+◌, ◌-◌, ◌<◌, ◌≤◌, Bool, true, false, List, [], ◌∷◌, ◌++◌, length, take, drop, Option, Some, None, refl, sym, ap, subst, ◌∙◌, append_assoc, length-append, arith}
-use Rattle.std.specs.Prelude.{map, slice_get, slice_set, option_map, IsUtf8}
+use Rattle.std.proofs.Common.{◌≡◌, ℕ, ◌+◌, Bool, true, false, List, [], ◌∷◌, ◌++◌, length, map, Option, Some, refl, sym, ap, subst, ◌∙◌, append_assoc, length-append, arith}
+use Rattle.std.specs.Prelude.{IsUtf8}
+use Rattle.std.proofs.lemmas.Bool.Decides.{nat_tests}
 use Rattle.std.proofs.lemmas.List.{append-nil, map-append}
 use Rattle.edit_document.specs.declared.read.marks.Mark.{Mark}
 use Rattle.edit_document.specs.declared.read.marks.MarkKind.TheVariants as kinds
 use Rattle.edit_document.specs.declared.nodes.Span.{Span}
+use Rattle.edit_document.specs.declared.nodes.Taken.TheVariants.{Dotted}
 use Rattle.edit_document.specs.Characters.{quote, comma, equals, right_brace}
-use Rattle.edit_document.specs.Strings.{◌·◌, Piece, says, name, basic_text, literal_text, Key, IsKey}
-use Rattle.edit_document.specs.Strings as strings
+use Rattle.edit_document.specs.Strings.{Piece, says, name, basic_text, literal_text, Dotted as DottedPart, Key}
 use Rattle.edit_document.specs.Grammar.{Between, gap, Value, basic, literal, multi_basic, multi_literal, boolean, integer, float, datetime, array, inline, Members, no_members, last_member, member, value, members, IsValue, AreMembers}
-use Rattle.edit_document.specs.Supported.{IsOnePart, IsSupportedValue, AreSupportedMembers}
-use Rattle.edit_document.specs.Assertions.{key, Place, at}
+use Rattle.edit_document.specs.Supported.{IsSupportedValue, AreSupportedMembers}
+use Rattle.edit_document.specs.Assertions.{Place, Assertion, names, named, of_key, of_value, of_members}
 use Rattle.edit_document.specs.Tree.{string, truth}
+use Rattle.edit_document.specs.Written.{Valued, valued, inside, in_members}
+use Rattle.edit_document.specs.DocumentLayout.{shape_of_value, span_of, Placed, placed}
 use Rattle.edit_document.specs.Reading.{◌>>=◌}
-use Rattle.edit_document.specs.Nodes.{Shape, scalar, Spot}
+use Rattle.edit_document.specs.Nodes.{Shape, scalar, Spot, StandsAt}
 use Rattle.edit_document.specs.Nodes as shapes
-use Rattle.edit_document.specs.DocumentLayout.{Noted, spot_of, root_noted, places_of, spots_in, shape_of_value, span_of, noted, noted_inside, noted_members, noted_value}
-use Rattle.edit_document.specs.Walk.{State, said, last_of, without_last, entered, opened, closed, step, walked}
+use Rattle.edit_document.specs.Walk.{State, said, settled_state, is_dotted_within, entered_at, entered, opened, closed, step, walked}
 use Rattle.edit_document.specs.Marks.{mark, key_marks, value_marks, members_marks}
-use Rattle.edit_document.proofs.Ends.{Ends, ends_one, ends_pair, ends_gap, ends_value, ends_members, take_length}
-use Rattle.edit_document.proofs.Adding.{get_front, get_last}
-use Rattle.edit_document.proofs.Spotting.{Fine, fine_front, Closed, Good, next, spot_in, spots_length}
-use Rattle.edit_document.proofs.WalkedTokens.{walked_one, walked_first, walked_stops, walked_none, walked_append, state, Leads, leads, stops, last_push, entered_leads, said_basic, said_literal, walked_key}
+use Rattle.edit_document.proofs.Ends.{Ends, ends_one, ends_pair, ends_gap, ends_value}
+use Rattle.edit_document.proofs.MoreAssertions.{IsClear, clear_front}
+use Rattle.edit_document.proofs.Trees.{Grows, grows_same, grows_then}
+use Rattle.edit_document.proofs.Standing.{Stands}
+use Rattle.edit_document.proofs.Walks.{walked_one, walked_first, walked_stops, walked_none, walked_append}
+use Rattle.edit_document.proofs.WalkedTokens.{said_basic, said_literal, waits, walked_key}
+use Rattle.edit_document.proofs.Leading.{Leads, leads, stops, leads_along, leads_then, Enters, enters, bars, pair_enters, unwritten, closed_leads}
 
--- ---- one walk and then another
-
-pub leads_then : (bytes : List ℕ) (xs ys : List Mark) (st : State) (made more : List Noted) (tables tables2 : List ℕ) → Leads (walked bytes xs st) made tables
-    → (Good made → Leads (walked bytes ys (state made tables None)) (made ++ more) tables2) → Leads (walked bytes (xs ++ ys) st) (made ++ more) tables2
-leads_then bytes xs ys st made more tables tables2 (leads e g) then = go (then g)
-  where
-    path : walked bytes (xs ++ ys) st ≡ walked bytes ys (state made tables None)
-    path = walked_append bytes xs ys st ∙ ap (λ (o : Option State). o >>= walked bytes ys) e
-
-    go : Leads (walked bytes ys (state made tables None)) (made ++ more) tables2 → Leads (walked bytes (xs ++ ys) st) (made ++ more) tables2
-    go (leads f h) = leads (path ∙ f) h
-    go (stops f h) = stops (path ∙ f) h
-leads_then bytes xs ys st made more tables tables2 (stops e clash) then =
-    stops (walked_append bytes xs ys st ∙ ap (λ (o : Option State). o >>= walked bytes ys) e)
-    (λ fine. clash (fine_front (places_of made) (places_of more) (subst Fine (map-append (λ (m : Noted). m.place) made more) fine)))
-
-pub leads_along : {r s : Option State} (made : List Noted) (tables : List ℕ) → r ≡ s → Leads s made tables → Leads r made tables
-leads_along made tables e (leads f g) = leads (e ∙ f) g
-leads_along made tables e (stops f g) = stops (e ∙ f) g
-
--- an element stays where it is
-pub still : (made more : List Noted) (t : ℕ) (m : Noted) → slice_get (root_noted ∷ made) t ≡ Some m → slice_get (root_noted ∷ (made ++ more)) t ≡ Some m
-still made more t m there = get_more (root_noted ∷ made) more t m there
-  where
-    get_more : (xs ys : List Noted) (i : ℕ) (x : Noted) → slice_get xs i ≡ Some x → slice_get (xs ++ ys) i ≡ Some x
-    get_more [] ys i x e = absurd cc
-    get_more (y ∷ xs) ys zero x e = e
-    get_more (y ∷ xs) ys (suc i) x e = get_more xs ys i x e
+-- where the values of a list are written
+abbrev pub spans : List Valued → List Placed
+spans ws = map placed ws
 
 -- ---- scalars
 
 abbrev pub IsStep : List ℕ → Mark → Shape → Span → Type 0
 IsStep bytes m shape span = (st : State) → step bytes m st ≡ entered st shape (Some span)
-
-scalar_leads : (bytes : List ℕ) (mk : Mark) (shape : Shape) (span : Span) (made : List Noted) (base : List ℕ) (t : ℕ) (m : Noted) (n : List ℕ) → IsStep bytes mk shape span → Good made → slice_get (root_noted ∷ made) t ≡ Some m
-    → Leads (walked bytes (mk ∷ []) (state made (base ++ t ∷ []) (Some n))) (made ++ next m n shape (Some span) ∷ []) (base ++ t ∷ [])
-scalar_leads bytes mk shape span made base t m n act good there =
-    leads_along (made ++ next m n shape (Some span) ∷ []) (base ++ t ∷ []) (walked_one bytes mk (state made (base ++ t ∷ []) (Some n)) ∙ act (state made (base ++ t ∷ []) (Some n))) (entered_leads made base t m n shape (Some span) good there)
 
 basic_step : (bytes : List ℕ) (ps : List Piece) (rest : List ℕ) → IsValue (basic ps) → IsUtf8 bytes → Ends bytes (basic_text ps rest) → IsStep bytes (mark kinds.BasicString (basic_text ps rest) rest) (scalar (string (says quote ps))) (span_of (basic ps) rest)
 unfolding step said
@@ -78,64 +53,56 @@ false_step : (bytes rest : List ℕ) → IsStep bytes (mark kinds.False (value (
 unfolding step
 false_step bytes rest st = refl
 
+-- where a walk stands before a value: the spots, the header and the tables that are open, the innermost with its place, and the key that waits
+pub record Before : Type 0 where
+  pub spots : List Spot
+  pub made : List Assertion
+  pub written : List Placed
+  pub base : List ℕ
+  pub number : ℕ
+  pub place : Place
+  pub within : Bool
+  pub name : List ℕ
+  pub names : List (List ℕ)
+
+pub record IsBefore (b : Before) : Type 0 where
+  pub stands : Stands b.made b.written b.spots
+  pub there : StandsAt b.spots b.number b.place
+  pub in_table : is_dotted_within (length (b.base ++ b.number ∷ [])) Dotted ≡ b.within
+
+-- the place that the key names
+abbrev pub goal_of : Before → Place
+goal_of b = named b.place (b.name ∷ b.names)
+
+abbrev pub tables_of : Before → List ℕ
+tables_of b = b.base ++ b.number ∷ []
+
+-- what the key and the value assert
+abbrev pub made_by : Before → Value → List Assertion
+made_by b v = b.made ++ (of_key b.within (goal_of b) b.place (b.name ∷ b.names) v ++ of_value (goal_of b) v)
+
+abbrev pub waiting : Before → State
+waiting b = waits (settled_state b.spots (tables_of b)) (b.name ∷ b.names)
+
+abbrev pub LeadsBy : Before → Value → List ℕ → Option State → Type 0
+LeadsBy b v rest r = Leads b.spots (made_by b v) (b.written ++ spans (valued (goal_of b) v rest ∷ inside (goal_of b) v rest)) (tables_of b) r
+
+scalar_leads : (bytes : List ℕ) (mk : Mark) (b : Before) (v : Value) (rest : List ℕ) → IsStep bytes mk (shape_of_value v) (span_of v rest) → of_value (goal_of b) v ≡ [] → inside (goal_of b) v rest ≡ [] → IsBefore b → LeadsBy b v rest (walked bytes (mk ∷ []) (waiting b))
+scalar_leads bytes mk b v rest act none empty h =
+    subst (λ (xs : List Assertion). Leads b.spots (b.made ++ (of_key b.within (goal_of b) b.place (b.name ∷ b.names) v ++ xs)) (b.written ++ spans (valued (goal_of b) v rest ∷ inside (goal_of b) v rest)) (tables_of b) (walked bytes (mk ∷ []) (waiting b))) (sym none)
+    (subst (λ (ws : List Valued). Leads b.spots (b.made ++ (of_key b.within (goal_of b) b.place (b.name ∷ b.names) v ++ [])) (b.written ++ spans (valued (goal_of b) v rest ∷ ws)) (tables_of b) (walked bytes (mk ∷ []) (waiting b))) (sym empty)
+    (subst (λ (xs : List Assertion). Leads b.spots (b.made ++ xs) (b.written ++ (goal_of b, span_of v rest) ∷ []) (tables_of b) (walked bytes (mk ∷ []) (waiting b))) (sym (append-nil (of_key b.within (goal_of b) b.place (b.name ∷ b.names) v)))
+    (go (pair_enters b.spots b.base b.number b.place b.name b.names b.within (goal_of b) v (span_of v rest) b.made b.written h.in_table h.stands h.there))))
+  where
+    path : walked bytes (mk ∷ []) (waiting b) ≡ (entered_at (waiting b) (shape_of_value v) (Some (span_of v rest)) >>= λ r. Some r.0)
+    path = walked_one bytes mk (waiting b) ∙ act (waiting b)
+
+    go : Enters b.spots (b.made ++ of_key b.within (goal_of b) b.place (b.name ∷ b.names) v) (b.written ++ (goal_of b, span_of v rest) ∷ []) (tables_of b) (goal_of b) (entered_at (waiting b) (shape_of_value v) (Some (span_of v rest)))
+        → Leads b.spots (b.made ++ of_key b.within (goal_of b) b.place (b.name ∷ b.names) v) (b.written ++ (goal_of b, span_of v rest) ∷ []) (tables_of b) (walked bytes (mk ∷ []) (waiting b))
+    go (enters now j e s p g) = leads now (path ∙ ap (λ (o : Option (State × ℕ)). o >>= λ r. Some r.0) e) s g
+    go (bars e c) = stops (path ∙ ap (λ (o : Option (State × ℕ)). o >>= λ r. Some r.0) e) c
+
 -- ---- inline tables
-
-set_middle : (f : Noted → Spot) (made inside : List Noted) (x y : Noted) → slice_set (map f ((made ++ x ∷ []) ++ inside)) (length made) (f y) ≡ map f (made ++ y ∷ inside)
-set_middle f [] inside x y = refl
-set_middle f (m ∷ made) inside x y = ap (λ (ss : List Spot). f m ∷ ss) (set_middle f made inside x y)
-
-get_middle : (made inside : List Noted) (x : Noted) → slice_get ((made ++ x ∷ []) ++ inside) (length made) ≡ Some x
-get_middle [] inside x = refl
-get_middle (m ∷ made) inside x = get_middle made inside x
-
-same_places : (made inside : List Noted) (x y : Noted) → x.place ≡ y.place → places_of ((made ++ x ∷ []) ++ inside) ≡ places_of (made ++ y ∷ inside)
-same_places [] inside x y e = ap (λ (p : Place). p ∷ places_of inside) e
-same_places (m ∷ made) inside x y e = ap (λ (ps : List Place). m.place ∷ ps) (same_places made inside x y e)
-
--- the end of an inline table's span is known where it closes
-abbrev pub table_noted : Place → Span → Noted
-table_noted place span = record { place = place; shape = shapes.inline; span = Some span }
-
-module _ (made inside : List Noted) (place : Place) (span : Span) (to : ℕ) where
-  abbrev span2 : Span
-  span2 = record { from = span.from; to = to }
-
-  abbrev before : List Noted
-  before = (made ++ table_noted place span ∷ []) ++ inside
-
-  abbrev behind : List Noted
-  behind = made ++ table_noted place (record { from = span.from; to = to }) ∷ inside
-
-  pub places_closed : places_of before ≡ places_of behind
-  places_closed = same_places made inside (table_noted place span) (table_noted place (record { from = span.from; to = to })) refl
-
-  spots_closed : slice_set (spots_in before) (suc (length made)) (spot_of (places_of before) (table_noted place (record { from = span.from; to = to }))) ≡ spots_in behind
-  unfolding spots_in
-  spots_closed =
-      ap (λ (ss : List Spot). spot_of (places_of before) root_noted ∷ ss) (set_middle (spot_of (places_of before)) made inside (table_noted place span) (table_noted place (record { from = span.from; to = to })))
-      ∙ ap (λ (ps : List Place). map (spot_of ps) (root_noted ∷ behind)) places_closed
-
-  pub closed_is : (base : List ℕ) → closed (state before (base ++ suc (length made) ∷ []) None) to ≡ Some (state behind base None)
-  closed_is base =
-      let top = last_push base (suc (length made)) in
-      let spot = spot_in before (suc (length made)) (table_noted place span) (get_middle made inside (table_noted place span)) in
-      let size : length (base ++ suc (length made) ∷ []) ≡ length base + 1 = length-append base (suc (length made) ∷ []) in
-      let n : length (base ++ suc (length made) ∷ []) - 1 ≡ length base = omega arith in
-      let tables : without_last (base ++ suc (length made) ∷ []) ≡ base = ap (λ (k : ℕ). take k (base ++ suc (length made) ∷ [])) n ∙ take_length base (suc (length made) ∷ []) in
-      ap (λ (o : Option ℕ). o >>= λ number. slice_get (spots_in before) number >>= λ s. s.span >>= λ sp. let next : State = record { spots = slice_set (spots_in before) number (record s { span = Some (record { from = sp.from; to = to }) }); tables = without_last (base ++ suc (length made) ∷ []); name = None } in Some next) top
-      ∙ ap (λ (o : Option Spot). o >>= λ s. s.span >>= λ sp. let next : State = record { spots = slice_set (spots_in before) (suc (length made)) (record s { span = Some (record { from = sp.from; to = to }) }); tables = without_last (base ++ suc (length made) ∷ []); name = None } in Some next) spot
-      ∙ ap (λ (ss : List Spot). let next : State = record { spots = ss; tables = without_last (base ++ suc (length made) ∷ []); name = None } in Some next) spots_closed
-      ∙ ap (λ (ts : List ℕ). let next : State = record { spots = spots_in behind; tables = ts; name = None } in Some next) tables
-
-  pub good_closed : Good before → Good behind
-  good_closed g = record { fine = subst Fine places_closed g.fine; closed = subst (λ (ps : List Place). Closed ps) places_closed g.closed }
-
--- what an inline table notes
-opened_some : (st next : State) (span : Option Span) → entered st shapes.inline span ≡ Some next → opened st span ≡ Some (record next { tables = next.tables ++ length st.spots ∷ [] })
-opened_some st next span e = ap (λ (o : Option State). o >>= λ n. Some (record n { tables = n.tables ++ length st.spots ∷ [] })) e
-
-opened_none : (st : State) (span : Option Span) → entered st shapes.inline span ≡ None → opened st span ≡ None
-opened_none st span e = ap (λ (o : Option State). o >>= λ n. Some (record n { tables = n.tables ++ length st.spots ∷ [] })) e
 
 open_step : (bytes from rest : List ℕ) (st : State) → step bytes (mark kinds.OpenTable from rest) st ≡ opened st (Some (record { from = length from; to = length rest }))
 unfolding step
@@ -145,105 +112,120 @@ close_step : (bytes from rest : List ℕ) (st : State) → step bytes (mark kind
 unfolding step
 close_step bytes from rest st = refl
 
-module _ (bytes : List ℕ) (g : List Between) (ms : Members) (rest : List ℕ) (made : List Noted) (base : List ℕ) (t : ℕ) (m : Noted) (n : List ℕ) where
-  abbrev px : Place
-  px = at m.place (key n)
+deeper : (base : List ℕ) (t j : ℕ) → is_dotted_within (length ((base ++ t ∷ []) ++ j ∷ [])) Dotted ≡ true
+deeper base t j =
+    let a : length ((base ++ t ∷ []) ++ j ∷ []) ≡ length (base ++ t ∷ []) + 1 = length-append (base ++ t ∷ []) (j ∷ []) in
+    let b : length (base ++ t ∷ []) ≡ length base + 1 = length-append base (t ∷ []) in
+    grind (arith, nat_tests)
 
+module _ (bytes : List ℕ) (g : List Between) (ms : Members) (rest : List ℕ) (b : Before) (h : IsBefore b) where
   abbrev first_span : Span
   first_span = record { from = length (value (inline g ms) rest); to = length (gap g (members ms (right_brace ∷ rest))) }
 
-  abbrev inner : List Noted
-  inner = noted_members (at m.place (key n)) ms (right_brace ∷ rest)
+  abbrev first_mark : Mark
+  first_mark = mark kinds.OpenTable (value (inline g ms) rest) (gap g (members ms (right_brace ∷ rest)))
 
-  abbrev opens : List Noted
-  opens = made ++ table_noted (at m.place (key n)) first_span ∷ []
+  abbrev last_mark : Mark
+  last_mark = mark kinds.CloseTable (right_brace ∷ rest) rest
 
-  abbrev inside_tables : List ℕ
-  inside_tables = (base ++ t ∷ []) ++ suc (length made) ∷ []
+  abbrev keyed : List Assertion
+  keyed = b.made ++ of_key b.within (goal_of b) b.place (b.name ∷ b.names) (inline g ms)
 
-  abbrev whole : List Noted
-  whole = made ++ noted_value (at m.place (key n)) (inline g ms) rest
+  abbrev inner : List Assertion
+  inner = of_members (goal_of b) ms
 
-  same_whole : places_of (opens ++ inner) ≡ places_of whole
-  same_whole = places_closed made inner (at m.place (key n)) first_span (length rest)
+  abbrev inner_spans : List Placed
+  inner_spans = spans (in_members (goal_of b) ms (right_brace ∷ rest))
 
-  closing : Leads (walked bytes (members_marks ms (right_brace ∷ rest)) (state opens inside_tables None)) (opens ++ inner) inside_tables
-      → Leads (walked bytes (members_marks ms (right_brace ∷ rest) ++ mark kinds.CloseTable (right_brace ∷ rest) rest ∷ []) (state opens inside_tables None)) whole (base ++ t ∷ [])
-  closing (leads e h) =
-      leads
-      (walked_append bytes (members_marks ms (right_brace ∷ rest)) (mark kinds.CloseTable (right_brace ∷ rest) rest ∷ []) (state opens inside_tables None)
-      ∙ ap (λ (o : Option State). o >>= walked bytes (mark kinds.CloseTable (right_brace ∷ rest) rest ∷ [])) e
-      ∙ walked_one bytes (mark kinds.CloseTable (right_brace ∷ rest) rest) (state (opens ++ inner) inside_tables None)
-      ∙ close_step bytes (right_brace ∷ rest) rest (state (opens ++ inner) inside_tables None)
-      ∙ closed_is made inner (at m.place (key n)) first_span (length rest) (base ++ t ∷ []))
-      (good_closed made inner (at m.place (key n)) first_span (length rest) h)
-  closing (stops e clash) =
+  all_made : keyed ++ inner ≡ made_by b (inline g ms)
+  all_made = append_assoc b.made (of_key b.within (goal_of b) b.place (b.name ∷ b.names) (inline g ms)) (of_members (goal_of b) ms)
+
+  -- behind the members comes the closing brace
+  closing : (now : List Spot) (j : ℕ) → Stands (b.made ++ of_key b.within (goal_of b) b.place (b.name ∷ b.names) (inline g ms)) (b.written ++ (goal_of b, record { from = length (value (inline g ms) rest); to = length (gap g (members ms (right_brace ∷ rest))) }) ∷ []) now → StandsAt now j (goal_of b) → Grows b.spots now
+      → Leads now (keyed ++ inner) ((b.written ++ (goal_of b, first_span) ∷ []) ++ inner_spans) (tables_of b ++ j ∷ []) (walked bytes (members_marks ms (right_brace ∷ rest)) (settled_state now (tables_of b ++ j ∷ [])))
+      → LeadsBy b (inline g ms) rest (walked bytes (members_marks ms (right_brace ∷ rest) ++ last_mark ∷ []) (settled_state now (tables_of b ++ j ∷ [])))
+  closing now j opens there grows (leads later e st g2) =
+      let none = unwritten b.made b.written b.spots b.within (goal_of b) b.place b.name b.names (inline g ms) h.stands opens.clear in
+      let st2 : Stands (keyed ++ inner) (b.written ++ (goal_of b, first_span) ∷ inner_spans) later = subst (λ (w : List Placed). Stands (keyed ++ inner) w later) (append_assoc b.written ((goal_of b, first_span) ∷ []) inner_spans) st in
+      let ends = closed_leads b.spots later (keyed ++ inner) b.written inner_spans (goal_of b) first_span (tables_of b) j (length rest) st2 none (g2 j (goal_of b) there) (grows_then b.spots now later grows g2) in
+      let path : walked bytes (members_marks ms (right_brace ∷ rest) ++ last_mark ∷ []) (settled_state now (tables_of b ++ j ∷ [])) ≡ closed (settled_state later (tables_of b ++ j ∷ [])) (length rest) =
+      walked_append bytes (members_marks ms (right_brace ∷ rest)) (last_mark ∷ []) (settled_state now (tables_of b ++ j ∷ []))
+      ∙ ap (λ (o : Option State). o >>= walked bytes (last_mark ∷ [])) e ∙ walked_one bytes last_mark (settled_state later (tables_of b ++ j ∷ [])) ∙ close_step bytes (right_brace ∷ rest) rest (settled_state later (tables_of b ++ j ∷ [])) in
+      subst (λ (xs : List Assertion). Leads b.spots xs (b.written ++ spans (valued (goal_of b) (inline g ms) rest ∷ inside (goal_of b) (inline g ms) rest)) (tables_of b) (walked bytes (members_marks ms (right_brace ∷ rest) ++ last_mark ∷ []) (settled_state now (tables_of b ++ j ∷ [])))) all_made
+      (leads_along path ends)
+  closing now j opens there grows (stops e clash) =
       stops
-      (walked_append bytes (members_marks ms (right_brace ∷ rest)) (mark kinds.CloseTable (right_brace ∷ rest) rest ∷ []) (state opens inside_tables None)
-      ∙ ap (λ (o : Option State). o >>= walked bytes (mark kinds.CloseTable (right_brace ∷ rest) rest ∷ [])) e)
-      (λ fine. clash (subst Fine (sym same_whole) fine))
+      (walked_append bytes (members_marks ms (right_brace ∷ rest)) (last_mark ∷ []) (settled_state now (tables_of b ++ j ∷ [])) ∙ ap (λ (o : Option State). o >>= walked bytes (last_mark ∷ [])) e)
+      (λ clear. clash (subst IsClear (sym all_made) clear))
 
-  pub table_leads : Good made → slice_get (root_noted ∷ made) t ≡ Some m
-      → (Good opens → Leads (walked bytes (members_marks ms (right_brace ∷ rest)) (state opens inside_tables None)) (opens ++ inner) inside_tables)
-      → Leads (walked bytes (value_marks (inline g ms) rest) (state made (base ++ t ∷ []) (Some n))) whole (base ++ t ∷ [])
-  table_leads good there into = go (entered_leads made base t m n shapes.inline (Some first_span) good there)
+  pub table_leads : ((now : List Spot) (j : ℕ) → Stands (b.made ++ of_key b.within (goal_of b) b.place (b.name ∷ b.names) (inline g ms)) (b.written ++ (goal_of b, record { from = length (value (inline g ms) rest); to = length (gap g (members ms (right_brace ∷ rest))) }) ∷ []) now → StandsAt now j (goal_of b)
+      → Leads now (keyed ++ inner) ((b.written ++ (goal_of b, first_span) ∷ []) ++ inner_spans) (tables_of b ++ j ∷ []) (walked bytes (members_marks ms (right_brace ∷ rest)) (settled_state now (tables_of b ++ j ∷ []))))
+      → LeadsBy b (inline g ms) rest (walked bytes (value_marks (inline g ms) rest) (waiting b))
+  table_leads into = go (pair_enters b.spots b.base b.number b.place b.name b.names b.within (goal_of b) (inline g ms) first_span b.made b.written h.in_table h.stands h.there)
     where
-      go : Leads (entered (state made (base ++ t ∷ []) (Some n)) shapes.inline (Some first_span)) opens (base ++ t ∷ []) → Leads (walked bytes (value_marks (inline g ms) rest) (state made (base ++ t ∷ []) (Some n))) whole (base ++ t ∷ [])
-      go (leads e h) =
-          let number : state opens ((base ++ t ∷ []) ++ length (spots_in made) ∷ []) None ≡ state opens inside_tables None = ap (λ (k : ℕ). state opens ((base ++ t ∷ []) ++ k ∷ []) None) (spots_length made) in
-          let first : step bytes (mark kinds.OpenTable (value (inline g ms) rest) (gap g (members ms (right_brace ∷ rest)))) (state made (base ++ t ∷ []) (Some n)) ≡ Some (state opens inside_tables None) =
-          open_step bytes (value (inline g ms) rest) (gap g (members ms (right_brace ∷ rest))) (state made (base ++ t ∷ []) (Some n))
-          ∙ opened_some (state made (base ++ t ∷ []) (Some n)) (state opens (base ++ t ∷ []) None) (Some first_span) e ∙ ap (λ (s : State). Some s) number in
-          leads_along whole (base ++ t ∷ [])
-          (walked_first bytes (mark kinds.OpenTable (value (inline g ms) rest) (gap g (members ms (right_brace ∷ rest)))) (members_marks ms (right_brace ∷ rest) ++ mark kinds.CloseTable (right_brace ∷ rest) rest ∷ []) (state made (base ++ t ∷ []) (Some n)) (state opens inside_tables None) first)
-          (closing (into h))
-      go (stops e clash) =
+      go : Enters b.spots (b.made ++ of_key b.within (goal_of b) b.place (b.name ∷ b.names) (inline g ms)) (b.written ++ (goal_of b, record { from = length (value (inline g ms) rest); to = length (gap g (members ms (right_brace ∷ rest))) }) ∷ []) (tables_of b) (goal_of b)
+          (entered_at (waiting b) shapes.inline (Some (record { from = length (value (inline g ms) rest); to = length (gap g (members ms (right_brace ∷ rest))) })))
+          → LeadsBy b (inline g ms) rest (walked bytes (value_marks (inline g ms) rest) (waiting b))
+      go (enters now j e st there grows) =
+          let first : step bytes first_mark (waiting b) ≡ Some (settled_state now (tables_of b ++ j ∷ [])) =
+          open_step bytes (value (inline g ms) rest) (gap g (members ms (right_brace ∷ rest))) (waiting b)
+          ∙ ap (λ (o : Option (State × ℕ)). o >>= λ r. Some (record r.0 { tables = r.0.tables ++ r.1 ∷ [] })) e in
+          leads_along (walked_first bytes first_mark (members_marks ms (right_brace ∷ rest) ++ last_mark ∷ []) (waiting b) (settled_state now (tables_of b ++ j ∷ [])) first) (closing now j st there grows (into now j st there))
+      go (bars e clash) =
           stops
-          (walked_stops bytes (mark kinds.OpenTable (value (inline g ms) rest) (gap g (members ms (right_brace ∷ rest)))) (members_marks ms (right_brace ∷ rest) ++ mark kinds.CloseTable (right_brace ∷ rest) rest ∷ []) (state made (base ++ t ∷ []) (Some n))
-          (open_step bytes (value (inline g ms) rest) (gap g (members ms (right_brace ∷ rest))) (state made (base ++ t ∷ []) (Some n)) ∙ opened_none (state made (base ++ t ∷ []) (Some n)) (Some first_span) e))
-          (λ fine. clash (fine_front (places_of opens) (places_of inner) (subst Fine (sym same_whole ∙ map-append (λ (x : Noted). x.place) opens inner) fine)))
+          (walked_stops bytes first_mark (members_marks ms (right_brace ∷ rest) ++ last_mark ∷ []) (waiting b)
+          (open_step bytes (value (inline g ms) rest) (gap g (members ms (right_brace ∷ rest))) (waiting b) ∙ ap (λ (o : Option (State × ℕ)). o >>= λ r. Some (record r.0 { tables = r.0.tables ++ r.1 ∷ [] })) e))
+          (λ clear. clash (clear_front keyed inner (subst IsClear (sym all_made) clear)))
 
 -- ---- values and members
 
-mutual
-  pub value_leads : (bytes : List ℕ) (v : Value) (rest : List ℕ) (made : List Noted) (base : List ℕ) (t : ℕ) (m : Noted) (n : List ℕ) → IsValue v → IsSupportedValue v → IsUtf8 bytes → Ends bytes (value v rest) → Good made
-      → slice_get (root_noted ∷ made) t ≡ Some m → Leads (walked bytes (value_marks v rest) (state made (base ++ t ∷ []) (Some n))) (made ++ noted_value (at m.place (key n)) v rest) (base ++ t ∷ [])
-  value_leads bytes (basic ps) rest made base t m n h s u ends good there =
-      scalar_leads bytes (mark kinds.BasicString (basic_text ps rest) rest) (scalar (string (says quote ps))) (span_of (basic ps) rest) made base t m n (basic_step bytes ps rest h u ends) good there
-  value_leads bytes (literal text) rest made base t m n h s u ends good there =
-      scalar_leads bytes (mark kinds.LiteralString (literal_text text rest) rest) (scalar (string text)) (span_of (literal text) rest) made base t m n (literal_step bytes text rest h u ends) good there
-  value_leads bytes (multi_basic ps) rest made base t m n h s u ends good there = absurd s
-  value_leads bytes (multi_literal ps) rest made base t m n h s u ends good there = absurd s
-  value_leads bytes (boolean true) rest made base t m n h s u ends good there =
-      scalar_leads bytes (mark kinds.True (value (boolean true) rest) rest) (scalar (truth true)) (span_of (boolean true) rest) made base t m n (true_step bytes rest) good there
-  value_leads bytes (boolean false) rest made base t m n h s u ends good there =
-      scalar_leads bytes (mark kinds.False (value (boolean false) rest) rest) (scalar (truth false)) (span_of (boolean false) rest) made base t m n (false_step bytes rest) good there
-  value_leads bytes (integer i) rest made base t m n h s u ends good there = absurd s
-  value_leads bytes (float f) rest made base t m n h s u ends good there = absurd s
-  value_leads bytes (datetime d) rest made base t m n h s u ends good there = absurd s
-  value_leads bytes (array g es) rest made base t m n h s u ends good there = absurd s
-  value_leads bytes (inline g ms) rest made base t m n h s u ends good there =
-      let x : Noted = table_noted (at m.place (key n)) (record { from = length (value (inline g ms) rest); to = length (gap g (members ms (right_brace ∷ rest))) }) in
-      let inside : Ends bytes (members ms (right_brace ∷ rest)) = ends_gap bytes g (members ms (right_brace ∷ rest)) (ends_one bytes 123 (gap g (members ms (right_brace ∷ rest))) ends) in
-      table_leads bytes g ms rest made base t m n good there
-      (λ good2. members_lead bytes ms (right_brace ∷ rest) (made ++ x ∷ []) (base ++ t ∷ []) (suc (length made)) x h.1 s u inside good2 (get_last made x))
+-- before the value of a key in an inline table
+abbrev pub member_before : List Spot → List Assertion → List Placed → List ℕ → ℕ → Place → Key → Before
+member_before spots made written base t p k = record { spots = spots; made = made; written = written; base = base; number = t; place = p; within = true; name = name k.first; names = map (λ (d : DottedPart). name d.part) k.others }
 
-  pub members_lead : (bytes : List ℕ) (ms : Members) (rest : List ℕ) (made : List Noted) (base : List ℕ) (t : ℕ) (m : Noted) → AreMembers ms → AreSupportedMembers ms → IsUtf8 bytes → Ends bytes (members ms rest) → Good made
-      → slice_get (root_noted ∷ made) t ≡ Some m → Leads (walked bytes (members_marks ms rest) (state made (base ++ t ∷ []) None)) (made ++ noted_members m.place ms rest) (base ++ t ∷ [])
-  members_lead bytes no_members rest made base t m h s u ends good there =
-      leads (walked_none bytes (state made (base ++ t ∷ []) None) ∙ ap (λ (xs : List Noted). Some (state xs (base ++ t ∷ []) None)) (sym (append-nil made))) (subst Good (sym (append-nil made)) good)
-  members_lead bytes (last_member k a b v c) rest made base t m h s u ends good there =
+mutual
+  pub value_leads : (bytes : List ℕ) (v : Value) (rest : List ℕ) (b : Before) → IsValue v → IsSupportedValue v → IsUtf8 bytes → Ends bytes (value v rest) → IsBefore b → LeadsBy b v rest (walked bytes (value_marks v rest) (waiting b))
+  value_leads bytes (basic ps) rest b h s u ends at_value =
+      scalar_leads bytes (mark kinds.BasicString (basic_text ps rest) rest) b (basic ps) rest (basic_step bytes ps rest h u ends) refl refl at_value
+  value_leads bytes (literal text) rest b h s u ends at_value =
+      scalar_leads bytes (mark kinds.LiteralString (literal_text text rest) rest) b (literal text) rest (literal_step bytes text rest h u ends) refl refl at_value
+  value_leads bytes (multi_basic ps) rest b h s u ends at_value = absurd s
+  value_leads bytes (multi_literal ps) rest b h s u ends at_value = absurd s
+  value_leads bytes (boolean true) rest b h s u ends at_value = scalar_leads bytes (mark kinds.True (value (boolean true) rest) rest) b (boolean true) rest (true_step bytes rest) refl refl at_value
+  value_leads bytes (boolean false) rest b h s u ends at_value = scalar_leads bytes (mark kinds.False (value (boolean false) rest) rest) b (boolean false) rest (false_step bytes rest) refl refl at_value
+  value_leads bytes (integer i) rest b h s u ends at_value = absurd s
+  value_leads bytes (float f) rest b h s u ends at_value = absurd s
+  value_leads bytes (datetime d) rest b h s u ends at_value = absurd s
+  value_leads bytes (array g es) rest b h s u ends at_value = absurd s
+  value_leads bytes (inline g ms) rest b h s u ends at_value =
+      let in_braces : Ends bytes (members ms (right_brace ∷ rest)) = ends_gap bytes g (members ms (right_brace ∷ rest)) (ends_one bytes 123 (gap g (members ms (right_brace ∷ rest))) ends) in
+      let open_span : Span = record { from = length (value (inline g ms) rest); to = length (gap g (members ms (right_brace ∷ rest))) } in
+      table_leads bytes g ms rest b at_value
+      (λ now j st there. members_lead bytes ms (right_brace ∷ rest) now (b.made ++ of_key b.within (goal_of b) b.place (b.name ∷ b.names) (inline g ms)) (b.written ++ (goal_of b, open_span) ∷ []) (tables_of b) j (goal_of b) h.1 s u in_braces st there (deeper b.base b.number j))
+
+  pub members_lead : (bytes : List ℕ) (ms : Members) (rest : List ℕ) (spots : List Spot) (made : List Assertion) (written : List Placed) (base : List ℕ) (t : ℕ) (p : Place) → AreMembers ms → AreSupportedMembers ms → IsUtf8 bytes → Ends bytes (members ms rest)
+      → Stands made written spots → StandsAt spots t p → is_dotted_within (length (base ++ t ∷ [])) Dotted ≡ true
+      → Leads spots (made ++ of_members p ms) (written ++ spans (in_members p ms rest)) (base ++ t ∷ []) (walked bytes (members_marks ms rest) (settled_state spots (base ++ t ∷ [])))
+  members_lead bytes no_members rest spots made written base t p h s u ends st there deep =
+      leads spots (walked_none bytes (settled_state spots (base ++ t ∷ []))) (subst (λ (xs : List Assertion). Stands xs (written ++ []) spots) (sym (append-nil made)) (subst (λ (w : List Placed). Stands made w spots) (sym (append-nil written)) st)) (grows_same spots)
+  members_lead bytes (last_member k a b v c) rest spots made written base t p h s u ends st there deep =
       let after = gap c rest in
-      leads_along (made ++ noted_value (at m.place (key (name k.first))) v after) (base ++ t ∷ []) (walked_key bytes k (a ++ (equals ∷ (b ++ value v after))) (value_marks v after) made (base ++ t ∷ []) h.0 s.0 u ends)
-      (value_leads bytes v after made base t m (name k.first) h.3 s.1 u (ends_pair bytes k a b (value v after) ends) good there)
-  members_lead bytes (member k a b v c d ms) rest made base t m h s u ends good there =
+      leads_along (walked_key bytes k (a ++ (equals ∷ (b ++ value v after))) (value_marks v after) (settled_state spots (base ++ t ∷ [])) h.0 u ends)
+      (value_leads bytes v after (member_before spots made written base t p k) h.3 s u (ends_pair bytes k a b (value v after) ends) (record { stands = st; there = there; in_table = deep }))
+  members_lead bytes (member k a b v c d ms) rest spots made written base t p h s u ends st there deep =
       let after = gap c (comma ∷ gap d (members ms rest)) in
-      let one = noted_value (at m.place (key (name k.first))) v after in
+      let before = member_before spots made written base t p k in
+      let one = valued (goal_of before) v after ∷ inside (goal_of before) v after in
+      let asserted_one = of_key true (goal_of before) p (names k) v ++ of_value (goal_of before) v in
       let value_ends : Ends bytes (value v after) = ends_pair bytes k a b (value v after) ends in
       let more_ends : Ends bytes (members ms rest) = ends_gap bytes d (members ms rest) (ends_one bytes comma (gap d (members ms rest)) (ends_gap bytes c (comma ∷ gap d (members ms rest)) (ends_value bytes v after value_ends))) in
-      let first : Leads (walked bytes (key_marks k (a ++ (equals ∷ (b ++ value v after))) ++ value_marks v after) (state made (base ++ t ∷ []) None)) (made ++ one) (base ++ t ∷ []) =
-      leads_along (made ++ one) (base ++ t ∷ []) (walked_key bytes k (a ++ (equals ∷ (b ++ value v after))) (value_marks v after) made (base ++ t ∷ []) h.0 s.0 u ends)
-      (value_leads bytes v after made base t m (name k.first) h.3 s.1 u value_ends good there) in
-      let all = leads_then bytes (key_marks k (a ++ (equals ∷ (b ++ value v after))) ++ value_marks v after) (members_marks ms rest) (state made (base ++ t ∷ []) None) (made ++ one) (noted_members m.place ms rest) (base ++ t ∷ []) (base ++ t ∷ []) first
-      (λ good2. members_lead bytes ms rest (made ++ one) base t m h.6 s.2 u more_ends good2 (still made one t m there)) in
-      subst (λ (xs : List Noted). Leads (walked bytes (members_marks (member k a b v c d ms) rest) (state made (base ++ t ∷ []) None)) xs (base ++ t ∷ [])) (append_assoc made one (noted_members m.place ms rest)) all
+      let first : Leads spots (made ++ asserted_one) (written ++ spans one) (base ++ t ∷ []) (walked bytes (key_marks k (a ++ (equals ∷ (b ++ value v after))) ++ value_marks v after) (settled_state spots (base ++ t ∷ []))) =
+      leads_along (walked_key bytes k (a ++ (equals ∷ (b ++ value v after))) (value_marks v after) (settled_state spots (base ++ t ∷ [])) h.0 u ends)
+      (value_leads bytes v after before h.3 s.0 u value_ends (record { stands = st; there = there; in_table = deep })) in
+      let all = leads_then bytes (key_marks k (a ++ (equals ∷ (b ++ value v after))) ++ value_marks v after) (members_marks ms rest) (settled_state spots (base ++ t ∷ [])) spots (made ++ asserted_one) (of_members p ms) (written ++ spans one) (spans (in_members p ms rest)) (base ++ t ∷ []) (base ++ t ∷ []) first
+      (λ now st2 grows. members_lead bytes ms rest now (made ++ asserted_one) (written ++ spans one) base t p h.6 s.1 u more_ends st2 (grows t p there) deep) in
+      let same_made : (made ++ asserted_one) ++ of_members p ms ≡ made ++ (asserted_one ++ of_members p ms) = append_assoc made asserted_one (of_members p ms) in
+      let same_spans : (written ++ spans one) ++ spans (in_members p ms rest) ≡ written ++ spans (one ++ in_members p ms rest) =
+      append_assoc written (spans one) (spans (in_members p ms rest)) ∙ ap (λ (w : List Placed). written ++ w) (sym (map-append placed one (in_members p ms rest))) in
+      subst (λ (xs : List Assertion). Leads spots xs (written ++ spans (one ++ in_members p ms rest)) (base ++ t ∷ []) (walked bytes (members_marks (member k a b v c d ms) rest) (settled_state spots (base ++ t ∷ [])))) same_made
+      (subst (λ (w : List Placed). Leads spots ((made ++ asserted_one) ++ of_members p ms) w (base ++ t ∷ []) (walked bytes (members_marks (member k a b v c d ms) rest) (settled_state spots (base ++ t ∷ [])))) same_spans all)

@@ -10,9 +10,9 @@ use Rattle.edit_document.specs.declared.read.marks.MarkKind.TheVariants as kinds
 use Rattle.edit_document.specs.declared.read.marks.ReadError.{ReadError}
 use Rattle.edit_document.specs.declared.read.marks.ReadError.TheVariants.{Memory}
 use Rattle.edit_document.specs.Characters.{equals, right_brace, is_blank, is_ch, is_bare, is_literal_ch, is_unescaped}
-use Rattle.edit_document.specs.Strings.{◌·◌}
+use Rattle.edit_document.specs.Strings.{◌·◌, Part}
 use Rattle.edit_document.specs.Grammar.{Value, basic, literal, multi_basic, multi_literal, boolean, integer, float, datetime, array, inline, value, Members}
-use Rattle.edit_document.specs.Marks.{mark, key_marks, value_marks, members_marks}
+use Rattle.edit_document.specs.Marks.{mark, part_mark, key_marks, value_marks, members_marks}
 use Rattle.edit_document.specs.Reading.{Read, Pair}
 
 -- the bytes of a class
@@ -57,6 +57,10 @@ value_kind (float f) = kinds.Float
 value_kind (datetime d) = kinds.DateTime
 value_kind (array g es) = kinds.OpenArray
 value_kind (inline g ms) = kinds.OpenTable
+
+-- the mark of a part
+abbrev pub part_marks : Part → List ℕ → List Mark
+part_marks p rest = part_mark p rest ∷ []
 
 -- the marks of a pair: its key and its value
 abbrev pub pair_marks : Pair → List ℕ → List Mark

@@ -4,8 +4,8 @@ use Rattle.std.specs.Prelude.{ℕ, zero, suc, ◌+◌, Bool, true, false, ◌&&�
 use Rattle.std.specs.List.{prefix_len, list_all}
 use Rattle.std.specs.Str.Parse.{digits_value}
 use Rattle.edit_document.specs.Characters.{line_feed, carriage_return, quote, hash, apostrophe, comma, equals, left_bracket, backslash, right_bracket, left_brace, right_brace, is_blank, is_ch, is_bare, is_literal_ch, is_basic_ch}
-use Rattle.edit_document.specs.Strings.{LineEnd, lf, crlf, Piece, plain, letter, short, long, is_escape, is_hex, is_scalar, Part, bare, basic_part, literal_part, Key}
-use Rattle.edit_document.specs.Grammar.{Between, blank, Value, basic, literal, boolean, inline, Members, no_members, last_member, member, Statement, pair, header, Line, empty_line, full_line, Lines, one_line, more_lines, Text}
+use Rattle.edit_document.specs.Strings.{LineEnd, lf, crlf, Piece, plain, letter, short, long, is_escape, is_hex, is_scalar, Part, bare, basic_part, literal_part, Dotted, Key}
+use Rattle.edit_document.specs.Grammar.{Between, blank, Value, basic, literal, boolean, inline, Members, no_members, last_member, member, Statement, pair, header, element_header, Line, empty_line, full_line, Lines, one_line, more_lines, Text}
 
 -- what was read and what follows it, or nothing
 abbrev pub Read : Type 0 → Type 0
@@ -91,9 +91,17 @@ part_at text =
     else (if first text == apostrophe then (literal_at (drop 1 text) >>= λ p. Some (literal_part p.0, p.1))
     else (if is_bare (first text) then Some (bare (front is_bare text), after is_bare text) else None))
 
--- a key of one part
+-- the parts behind dots, in fewer than n
+unfoldable pub dotted_at : ℕ → List ℕ → Read (List Dotted)
+dotted_at zero text = None
+dotted_at (suc n) text =
+    if first (past_blanks text) == 46
+    then (part_at (past_blanks (drop 1 (past_blanks text))) >>= λ p. dotted_at n p.1 >>= λ ds. Some (record { before = blanks text; behind = blanks (drop 1 (past_blanks text)); part = p.0 } ∷ ds.0, ds.1))
+    else Some ([], text)
+
+-- a key
 unfoldable pub key_at : List ℕ → Read Key
-key_at text = part_at text >>= λ k. Some (record { first = k.0; others = [] }, k.1)
+key_at text = part_at text >>= λ k. dotted_at (length text) k.1 >>= λ ds. Some (record { first = k.0; others = ds.0 }, ds.1)
 
 -- ---- values
 
@@ -144,11 +152,19 @@ value_at (suc n) text =
 
 -- ---- lines
 
--- a header, or a pair
+-- a header, from its opening bracket on
+unfoldable pub header_at : List ℕ → Read Statement
+header_at text = key_at (past_blanks (drop 1 text)) >>= λ k. past right_bracket (past_blanks k.1) >>= λ rest. Some (header (blanks (drop 1 text)) k.0 (blanks k.1), rest)
+
+-- the header of an element, from its opening brackets on
+unfoldable pub element_header_at : List ℕ → Read Statement
+element_header_at text = key_at (past_blanks (drop 2 text)) >>= λ k. past right_bracket (past_blanks k.1) >>= λ inner. past right_bracket inner >>= λ rest. Some (element_header (blanks (drop 2 text)) k.0 (blanks k.1), rest)
+
+-- a header, the header of an element, or a pair
 unfoldable pub statement_at : ℕ → List ℕ → Read Statement
 statement_at depth text =
     if first text == left_bracket
-    then (key_at (past_blanks (drop 1 text)) >>= λ k. past right_bracket (past_blanks k.1) >>= λ rest. Some (header (blanks (drop 1 text)) k.0 (blanks k.1), rest))
+    then (if slice_index text 1 == left_bracket then element_header_at text else header_at text)
     else (pair_at (value_at depth) text >>= λ p. Some (pair p.0.key p.0.before p.0.behind p.0.value, p.1))
 
 -- the comment at the front, or nothing

@@ -1,15 +1,10 @@
--- The part of the grammar that is read so far: keys of one part, strings on one line, booleans, inline tables,
--- and headers of one part. Every other text is refused.
-use Rattle.std.specs.Prelude.{◌≡◌, ℕ, List, [], ⊤}
-use Rattle.edit_document.specs.Strings.{Key}
+-- The part of the grammar that is read so far: strings on one line, booleans, inline tables,
+-- keys and headers. Every other text is refused.
+use Rattle.std.specs.Prelude.{ℕ, List, ⊤}
 use Rattle.edit_document.specs.Grammar.{Value, basic, literal, multi_basic, multi_literal, boolean, integer, float, datetime, array, inline, Members, no_members, last_member, member, Statement, pair, header, element_header, Line, empty_line, full_line, Lines, one_line, more_lines, Text}
 use Rattle.edit_document.specs.Assertions.{IsDocument}
 
--- a key of one part
-abbrev pub IsOnePart : Key → Type 0
-IsOnePart k = k.others ≡ []
-
--- a string on one line, a boolean, or an inline table of such values under keys of one part
+-- a string on one line, a boolean, or an inline table of such values
 abbrev mutual
   pub IsSupportedValue : Value → Type 0
   IsSupportedValue (basic ps) = ⊤
@@ -25,14 +20,14 @@ abbrev mutual
 
   pub AreSupportedMembers : Members → Type 0
   AreSupportedMembers no_members = ⊤
-  AreSupportedMembers (last_member k a b v c) = IsOnePart k × IsSupportedValue v
-  AreSupportedMembers (member k a b v c d ms) = IsOnePart k × IsSupportedValue v × AreSupportedMembers ms
+  AreSupportedMembers (last_member k a b v c) = IsSupportedValue v
+  AreSupportedMembers (member k a b v c d ms) = IsSupportedValue v × AreSupportedMembers ms
 
--- a pair or a header whose key has one part
+-- a pair or a header
 abbrev pub IsSupportedStatement : Statement → Type 0
-IsSupportedStatement (pair k a b v) = IsOnePart k × IsSupportedValue v
-IsSupportedStatement (header a k b) = IsOnePart k
-IsSupportedStatement (element_header a k b) = ⊥
+IsSupportedStatement (pair k a b v) = IsSupportedValue v
+IsSupportedStatement (header a k b) = ⊤
+IsSupportedStatement (element_header a k b) = ⊤
 
 -- an empty line, or one whose statement is of the part
 abbrev pub IsSupportedLine : Line → Type 0

@@ -47,6 +47,7 @@ pub(crate) enum Seen<'a> {
     Truth(bool),
     Inline,
     Table,
+    Tables,
 }
 
 impl Document {
@@ -85,18 +86,31 @@ impl Document {
             Content::Truth(truth) => Seen::Truth(*truth),
             Content::Inline => Seen::Inline,
             Content::Table => Seen::Table,
+            Content::Tables => Seen::Tables,
         }
     }
 
-    /// How many members a node has.
+    /// How many members or elements a node has.
     pub(crate) fn member_count(&self, number: usize) -> usize
         requires { number < length self.now.nodes }
-        ensures count { result ≡ count_in (view_numbered self.now number) }
-        ensures names { result ≡ length (names_in (view_numbered self.now number)) }
+        ensures { result ≡ count_in (view_numbered self.now number) }
     {
         let node = &self.nodes[number];
         match &node.content {
             Content::Text(_) | Content::Truth(_) => 0,
+            Content::Inline | Content::Table => node.members.len(),
+            Content::Tables => node.elements.len(),
+        }
+    }
+
+    /// How many names of members a node has.
+    pub(crate) fn name_count(&self, number: usize) -> usize
+        requires { number < length self.now.nodes }
+        ensures { result ≡ length (names_in (view_numbered self.now number)) }
+    {
+        let node = &self.nodes[number];
+        match &node.content {
+            Content::Text(_) | Content::Truth(_) | Content::Tables => 0,
             Content::Inline | Content::Table => node.members.len(),
         }
     }
@@ -108,7 +122,7 @@ impl Document {
     {
         let node = &self.nodes[number];
         match &node.content {
-            Content::Text(_) | Content::Truth(_) => None,
+            Content::Text(_) | Content::Truth(_) | Content::Tables => None,
             Content::Inline | Content::Table => {
                 let (name, _) = node.members.get_index(index)?;
                 Some(name.as_str())
@@ -133,12 +147,13 @@ impl Document {
         let _node = &self.nodes[number];
     }
 
-    /// No element stands below a node.
-    pub(crate) fn has_no_element(&self, number: usize, index: usize)
+    /// The number of an element of a node.
+    pub(crate) fn element(&self, number: usize, index: usize) -> Option<usize>
         requires { number < length self.now.nodes }
-        ensures { tree_of self.now (at (place_numbered self.now number) (index_step index)) ≡ None }
+        ensures { Numbers self.now (at (place_numbered self.now number) (index_step index)) result }
     {
-        let _node = &self.nodes[number];
+        let node = &self.nodes[number];
+        node.elements.get(index).copied()
     }
 
     /// Nothing stands below a place where nothing stands, and the root stands first.
@@ -158,10 +173,7 @@ impl Document {
         'steps: for step in place {
             match step {
                 Step::Key(key) => number = self.member(number, key.as_str())?,
-                Step::Index(index) => {
-                    self.has_no_element(number, *index);
-                    return None;
-                }
+                Step::Index(index) => number = self.element(number, *index)?,
             }
         }
         self.stands(number);

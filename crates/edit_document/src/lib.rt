@@ -1,6 +1,7 @@
 //! The lossless manifest document, paths as texts, and the errors of every crate above.
 #![tactic(auto)]
 
+mod assertions;
 pub mod document;
 pub mod errors;
 pub mod item;

@@ -1,5 +1,7 @@
 //! Rows of documents: texts that are read, and texts that are refused.
 
+mod keys;
+
 use crate::document::Document;
 use crate::errors::Error;
 use crate::item::Item;
@@ -45,10 +47,6 @@ fn reads_exactly_documents(rt: HostRuntime) -> Result<(), Fail> {
             false,
         ),
         ("no value", "a =\n", false),
-        ("a byte order mark alone", "\u{feff}", true),
-        ("a byte order mark first", "\u{feff}[a]\n", true),
-        ("two byte order marks", "\u{feff}\u{feff}[a]\n", false),
-        ("a byte order mark behind", "[a]\n\u{feff}", false),
         ("an unknown escape", "a = \"\\x\"\n", false),
     ];
     for (row, text, read) in rows {

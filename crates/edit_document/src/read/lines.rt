@@ -1,6 +1,7 @@
 //! Lines, noted down from left to right.
-ghost use Rattle.std.specs.Prelude.{◌≡◌, ◌<◌, ◌≤◌, IfOk, MatchResult};
+ghost use Rattle.std.specs.Prelude.{◌≡◌, ◌<◌, ◌≤◌, slice_index, IfOk, MatchResult};
 ghost use Rattle.edit_document.specs.declared.read.marks.ReadError.TheVariants.{Memory};
+ghost use Rattle.edit_document.specs.Characters.{left_bracket};
 ghost use Rattle.edit_document.specs.Grammar.{Lines, AreLines, lines};
 ghost use Rattle.edit_document.specs.Supported.{AreSupportedLines};
 ghost use Rattle.edit_document.specs.Depth.{lines_depth};
@@ -13,6 +14,40 @@ use super::marks::{Mark, MarkKind, ReadError};
 use super::values::{key, note, pair};
 use std::alloc::Global;
 
+/// A header, with its brackets.
+#[tactic(auto, unfolding(crate::specs::Reading::header_at))]
+fn header<'a>(out: &mut Vec<Mark>, s: &'a [u8]) -> Result<&'a [u8], ReadError>
+    requires { reading.first s.now ≡ left_bracket }
+    ensures { Notes statement_marks out.old out.new result (reading.header_at s.now) }
+{
+    let after_key = key(out, past_run(skip(s, 1), Class::Blank))?;
+    let end = past_run(after_key, Class::Blank);
+    let Some(rest) = past(end, b']') else {
+        return Err(ReadError::NotToml { left: end.len() });
+    };
+    note(out, MarkKind::Header, s, rest)?;
+    Ok(rest)
+}
+
+/// The header of an element, with its brackets.
+#[tactic(auto, unfolding(crate::specs::Reading::element_header_at))]
+fn element_header<'a>(out: &mut Vec<Mark>, s: &'a [u8]) -> Result<&'a [u8], ReadError>
+    requires first { reading.first s.now ≡ left_bracket }
+    requires second { slice_index s.now 1 ≡ left_bracket }
+    ensures { Notes statement_marks out.old out.new result (reading.element_header_at s.now) }
+{
+    let after_key = key(out, past_run(skip(s, 2), Class::Blank))?;
+    let end = past_run(after_key, Class::Blank);
+    let Some(inner) = past(end, b']') else {
+        return Err(ReadError::NotToml { left: end.len() });
+    };
+    let Some(rest) = past(inner, b']') else {
+        return Err(ReadError::NotToml { left: inner.len() });
+    };
+    note(out, MarkKind::ElementHeader, s, rest)?;
+    Ok(rest)
+}
+
 #[tactic(auto, unfolding(crate::specs::Reading::statement_at))]
 fn statement<'a>(out: &mut Vec<Mark>, s: &'a [u8], depth: usize) -> Result<&'a [u8], ReadError>
     requires { depth < 1000 }
@@ -21,13 +56,10 @@ fn statement<'a>(out: &mut Vec<Mark>, s: &'a [u8], depth: usize) -> Result<&'a [
     if first(s) != b'[' {
         return pair(out, s, depth);
     }
-    let after_key = key(out, past_run(skip(s, 1), Class::Blank))?;
-    let end = past_run(after_key, Class::Blank);
-    let Some(rest) = past(end, b']') else {
-        return Err(ReadError::NotToml { left: end.len() });
-    };
-    note(out, MarkKind::Header, s, rest)?;
-    Ok(rest)
+    if byte_at(s, 1) == b'[' {
+        return element_header(out, s);
+    }
+    header(out, s)
 }
 
 fn past_comment(s: &[u8]) -> &[u8]

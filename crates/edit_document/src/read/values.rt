@@ -2,7 +2,7 @@
 ghost use Rattle.std.specs.Prelude.{◌≡◌, ◌<◌};
 ghost use Rattle.edit_document.specs.Reading as reading;
 ghost use Rattle.edit_document.specs.Marks.{mark, key_marks, value_marks};
-ghost use Rattle.edit_document.specs.Noting.{Notes, Noted, pair_marks, inner_marks};
+ghost use Rattle.edit_document.specs.Noting.{Notes, Noted, part_marks, pair_marks, inner_marks};
 
 use super::bytes::{Class, first, past, past_run, skip};
 use super::marks::{Mark, MarkKind, ReadError};
@@ -25,15 +25,30 @@ pub(crate) fn note(
     Ok(())
 }
 
-/// A key of one part.
-pub(crate) fn key<'a>(out: &mut Vec<Mark>, s: &'a [u8]) -> Result<&'a [u8], ReadError>
-    ensures { Notes key_marks out.old out.new result (reading.key_at s.now) }
+/// A part of a key.
+fn part<'a>(out: &mut Vec<Mark>, s: &'a [u8]) -> Result<&'a [u8], ReadError>
+    ensures { Notes part_marks out.old out.new result (reading.part_at s.now) }
 {
     let Some((kind, rest)) = past_part(s) else {
         return Err(ReadError::NotToml { left: s.len() });
     };
     note(out, kind, s, rest)?;
     Ok(rest)
+}
+
+/// A key: a part, and more of them behind dots.
+pub(crate) fn key<'a>(out: &mut Vec<Mark>, s: &'a [u8]) -> Result<&'a [u8], ReadError>
+    ensures { Notes key_marks out.old out.new result (reading.key_at s.now) }
+{
+    let mut rest = part(out, s)?;
+    'parts: for _part in 0..s.len() {
+        let dot = past_run(rest, Class::Blank);
+        if first(dot) != b'.' {
+            return Ok(rest);
+        }
+        rest = part(out, past_run(skip(dot, 1), Class::Blank))?;
+    }
+    Err(ReadError::NotToml { left: rest.len() })
 }
 
 fn scalar<'a>(out: &mut Vec<Mark>, s: &'a [u8]) -> Result<&'a [u8], ReadError>
