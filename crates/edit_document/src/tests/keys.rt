@@ -324,36 +324,32 @@ fn shows_keys_and_headers(rt: HostRuntime) -> Result<(), Fail> {
     Ok(())
 }
 
-/// What stands before a key, how many parts it has, what stands behind it, and whether that is a document.
-const LONG_KEYS: &str = "\
-[|80|]|true
-[|81|]|false
-|80| = true|true
-|81| = true|false
-[[|79|]]|true
-[[|80|]]|false
-a = { |79| = true }|true
-a = { |80| = true }|false";
+/// `open`, a key of `count` parts, and `close`.
+fn key_of(alloc: Global, open: &str, count: usize, close: &str) -> Result<String, Error> {
+    let mut text = String::from_str(alloc, open)?;
+    text.push_str("a")?;
+    for _part in 1..count {
+        text.push_str(".a")?;
+    }
+    text.push_str(close)?;
+    Ok(text)
+}
 
 #[test]
 fn counts_the_parts_of_a_key(rt: HostRuntime) -> Result<(), Fail> {
-    let alloc = rt.alloc();
-    for row in LONG_KEYS.lines() {
-        let mut fields = row.split('|');
-        let mut text = String::from_str(alloc, fields.next().ok_or("row")?)?;
-        let count: usize = fields.next().ok_or("row")?.parse().unwrap_or(0);
-        text.push_str("a")?;
-        for _part in 1..count {
-            text.push_str(".a")?;
-        }
-        text.push_str(fields.next().ok_or("row")?)?;
-        let want = fields.next().ok_or("row")?;
-        let seen = if is_read(alloc, text.as_str())? {
-            "true"
-        } else {
-            "false"
-        };
-        assert_eq!(rt; seen, want, "{row}");
+    let rows = [
+        ("[", 80, "]", true),
+        ("[", 81, "]", false),
+        ("", 80, " = true", true),
+        ("", 81, " = true", false),
+        ("[[", 79, "]]", true),
+        ("[[", 80, "]]", false),
+        ("a = { ", 79, " = true }", true),
+        ("a = { ", 80, " = true }", false),
+    ];
+    for (open, count, close, read) in rows {
+        let text = key_of(rt.alloc(), open, count, close)?;
+        assert_eq!(rt; is_read(rt.alloc(), text.as_str())?, read, "{open} {count}");
     }
     Ok(())
 }
