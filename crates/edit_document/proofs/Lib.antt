@@ -25,10 +25,12 @@ pub mod Codes
 pub mod TokenLaws
 pub mod NumberLaws
 pub mod NumberReadAgain
+pub mod GapLaws
 pub mod ValueLaws
 pub mod ValueReadAgain
 pub mod LineLaws
 pub mod NotedValues
+pub mod NotedElements
 pub mod NotedLines
 pub mod WrittenSpans
 pub mod Adding

@@ -12,6 +12,7 @@ use Rattle.edit_document.specs.Reading.{◌>>=◌, first, past, blanks, past_bla
 use Rattle.edit_document.proofs.TokenLaws.{bind_some, chosen, tested, some_is, first_is, at_drop, both, past_some, run_parts, run_all, front_again, after_again, key_sound, key_again}
 use Rattle.edit_document.proofs.ValueLaws.{blank_parts, IsPair, pair_sound, value_sound}
 use Rattle.edit_document.proofs.ValueReadAgain.{pair_again, ends_bare, value_again, key_first, pair_longer, key_longer, value_longer}
+use Rattle.edit_document.proofs.GapLaws.{line_end_sound, line_end_again}
 use Rattle.edit_document.proofs.NumberReadAgain.{EndsValue, ends_value, is_stop}
 
 -- ---- what is read is spelled so
@@ -90,18 +91,6 @@ line_sound n bytes x e =
             run_parts is_blank bytes ∙ ap (λ (r : List ℕ). blanks bytes ++ r) (s.0 ∙ ap (statement a.0.0) two),
             record { valid = (run_all is_blank bytes, s.1.valid, run_all is_blank a.0.1, c.1); supported = s.1.supported; shallow = s.1.shallow },
           )
-    ]
-
-pub line_end_sound : (bytes : List ℕ) (x : LineEnd × List ℕ) → line_end_at bytes ≡ Some x → bytes ≡ line_end x.0 x.1
-unfolding line_end_at
-line_end_sound bytes x e =
-    let P : LineEnd × List ℕ → Type 0 = λ y. bytes ≡ line_end y.0 y.1 in
-    elim (chosen (eqb (first bytes) line_feed) _ _ (Some x) e) [
-      | inl h ↦ subst P (some_is _ x h.1) (first_is line_feed bytes (omega arith) h.0)
-      | inr h ↦
-          let t = tested (eqb (first bytes) carriage_return && eqb (slice_index bytes 1) line_feed) _ x h.1 in
-          let w = both (eqb (first bytes) carriage_return) (eqb (slice_index bytes 1) line_feed) t.0 in
-          subst P (some_is _ x t.1) (first_is carriage_return bytes (omega arith) w.0 ∙ ap (λ (r : List ℕ). carriage_return ∷ r) (at_drop 1 line_feed bytes (omega arith) w.1))
     ]
 
 one_good : (n : ℕ) (l : Line) → IsGoodLine n l → AreGoodLines n (one_line l)
@@ -211,11 +200,6 @@ line_again n (full_line a s b c) rest good ends =
 abbrev pub count_lines : Lines → ℕ
 count_lines (one_line l) = 1
 count_lines (more_lines l e ls) = suc (count_lines ls)
-
-line_end_again : (e : LineEnd) (rest : List ℕ) → line_end_at (line_end e rest) ≡ Some (e, rest)
-unfolding line_end_at
-line_end_again lf rest = refl
-line_end_again crlf rest = refl
 
 suc_not_zero : (n : ℕ) → eqb (suc n) 0 ≡ false
 suc_not_zero n = grind (arith, nat_tests)

@@ -18,7 +18,8 @@ use Rattle.edit_document.specs.Marks.{mark, key_marks, statement_marks, line_mar
 use Rattle.edit_document.specs.Noting.{Notes}
 use Rattle.edit_document.proofs.TokenLaws.{past_some, run_parts}
 use Rattle.edit_document.proofs.ValueLaws.{blank_parts}
-use Rattle.edit_document.proofs.LineLaws.{statement_sound, comment_sound, line_sound, line_end_sound, lines_sound, AreGoodLines, lines_read, lines_read_again}
+use Rattle.edit_document.proofs.GapLaws.{line_end_sound}
+use Rattle.edit_document.proofs.LineLaws.{statement_sound, comment_sound, line_sound, lines_sound, AreGoodLines, lines_read, lines_read_again}
 use Rattle.edit_document.proofs.Loops.{rest_of}
 use Rattle.edit_document.proofs.NotedValues.{mapped, unmapped}
 

@@ -1,13 +1,14 @@
 -- What the functions that read keys and values note down.
 use Rattle.std.proofs.Common.{◌≡◌, ℕ, suc, true, false, eqb, List, [], ◌∷◌, ◌++◌, length, drop, Some, None, Result, Ok, Err, refl, sym, ap, subst, ◌∙◌, append_assoc, arith}
 use Rattle.std.specs.Borrow.{Bor}
+use Rattle.std.proofs.lemmas.Bool.Decides.{nat_tests}
 use Rattle.std.specs.Global.{Vec}
 use Rattle.edit_document.specs.declared.read.marks.Mark.{Mark}
 use Rattle.edit_document.specs.declared.read.marks.MarkKind.{MarkKind}
 use Rattle.edit_document.specs.declared.read.marks.MarkKind.TheVariants as kinds
 use Rattle.edit_document.specs.declared.read.marks.ReadError.{ReadError}
 use Rattle.edit_document.specs.declared.read.marks.ReadError.TheVariants.{Memory}
-use Rattle.edit_document.specs.Characters.{comma, equals, left_brace, right_brace}
+use Rattle.edit_document.specs.Characters.{comma, equals, left_bracket, left_brace, right_brace}
 use Rattle.edit_document.specs.Strings.{Part, part, Key, key}
 use Rattle.edit_document.specs.Grammar.{gap, Value, basic, literal, multi_basic, multi_literal, boolean, integer, float, datetime, array, inline, Members, no_members, last_member, member, value, members}
 use Rattle.edit_document.specs.Supported.{IsSupportedValue}
@@ -69,7 +70,7 @@ flat_marks (boolean false) rest s e = refl
 flat_marks (integer n) rest s e = refl
 flat_marks (float f) rest s e = refl
 flat_marks (datetime d) rest s e = refl
-flat_marks (array g es) rest s e = absurd s
+flat_marks (array g es) rest s e = absurd (omega arith)
 flat_marks (inline g ms) rest s e = absurd (omega arith)
 
 pub scalar_noted : (old new : List Mark) (k : MarkKind) (text rest : List ℕ) → Some (k, rest) ≡ told_token value_kind (scalar_at text) → new ≡ old ++ (mark k text rest ∷ [])
@@ -206,6 +207,9 @@ members_failed read total count text old new out e e2 r was same h before =
 
 -- ---- inline tables
 
+brace_no_bracket : (b : ℕ) → eqb b left_brace ≡ true → eqb b left_bracket ≡ false
+brace_no_bracket b h = grind (arith, nat_tests)
+
 pub inline_noted : (n : ℕ) (old mid new : Vec Mark) (text : List ℕ) (r : Result (Bor (List ℕ)) ReadError) → eqb (first text) left_brace ≡ true → eqb (first (past_blanks (drop 1 text))) right_brace ≡ false
     → mid.items ≡ old.items ++ (mark kinds.OpenTable text (drop 1 text) ∷ []) → Notes inner_marks mid new r (members_at (value_at n) (length text) (past_blanks (drop 1 text))) → Notes value_marks old new r (value_at (suc n) text)
 unfolding value_at
@@ -214,14 +218,14 @@ inline_noted n old mid new text (Ok after) opened other noted h =
     let g = blank_gap (blanks inner) in
     let v = inline g h.0 in
     let more = members h.0 (right_brace ∷ after.now) in
-    let here : value_at (suc n) text ≡ Some (v, after.now) = rw (opened, other, h.1) refl in
+    let here : value_at (suc n) text ≡ Some (v, after.now) = rw (brace_no_bracket (first text) opened, opened, other, h.1) refl in
     let sound = value_sound (suc n) text (v, after.now) here in
     let ms = members_sound n (value_at n) (value_sound n) (length text) (past_blanks inner) (h.0, after.now) h.1 in
     let tail : inner ≡ gap g more = gap_parts inner more ms.0 in
     let same : mark kinds.OpenTable text inner ≡ mark kinds.OpenTable (value v after.now) (gap g more) =
     ap (λ (t : List ℕ). mark kinds.OpenTable t inner) sound.0 ∙ ap (λ (t : List ℕ). mark kinds.OpenTable (value v after.now) t) tail in
     (v, here, h.2 ∙ ap (λ (m : List Mark). m ++ inner_marks h.0 after.now) (noted ∙ ap (λ (m : Mark). old.items ++ (m ∷ [])) same) ∙ append_assoc old.items _ (inner_marks h.0 after.now))
-inline_noted n old mid new text (Err e) opened other noted h = λ refused. rw (opened, other, h refused) refl
+inline_noted n old mid new text (Err e) opened other noted h = λ refused. rw (brace_no_bracket (first text) opened, opened, other, h refused) refl
 
 pub empty_noted : (n : ℕ) (old mid new : List Mark) (text : List ℕ) → eqb (first text) left_brace ≡ true → eqb (first (past_blanks (drop 1 text))) right_brace ≡ true
     → mid ≡ old ++ (mark kinds.OpenTable text (drop 1 text) ∷ []) → new ≡ mid ++ (mark kinds.CloseTable (past_blanks (drop 1 text)) (drop 1 (past_blanks (drop 1 text))) ∷ [])
@@ -232,7 +236,7 @@ empty_noted n old mid new text opened closed noted ended =
     let after = drop 1 (past_blanks inner) in
     let g = blank_gap (blanks inner) in
     let v = inline g no_members in
-    let here : value_at (suc n) text ≡ Some (v, after) = rw (opened, closed) refl in
+    let here : value_at (suc n) text ≡ Some (v, after) = rw (brace_no_bracket (first text) opened, opened, closed) refl in
     let sound = value_sound (suc n) text (v, after) here in
     let brace : past_blanks inner ≡ right_brace ∷ after = first_is right_brace (past_blanks inner) (omega arith) closed in
     let tail : inner ≡ gap g (right_brace ∷ after) = gap_parts inner (right_brace ∷ after) brace in

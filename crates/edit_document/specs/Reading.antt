@@ -5,13 +5,44 @@ use Rattle.std.specs.List.{prefix_len, list_all}
 use Rattle.std.specs.Str.Parse.{digits_value}
 use Rattle.edit_document.specs.Characters.{line_feed, carriage_return, quote, hash, apostrophe, comma, equals, left_bracket, backslash, right_bracket, left_brace, right_brace, is_blank, is_ch, is_bare, is_literal_ch, is_basic_ch}
 use Rattle.edit_document.specs.Strings.{LineEnd, lf, crlf, Piece, plain, letter, short, long, is_escape, is_hex, is_scalar, Part, bare, basic_part, literal_part, Key}
-use Rattle.edit_document.specs.Grammar.{Between, blank, Value, basic, literal, boolean, inline, Members, no_members, last_member, member, Statement, pair, header, Line, empty_line, full_line, Lines, one_line, more_lines, Text}
+use Rattle.edit_document.specs.Grammar.{Between, blank, break, remark, Value, basic, literal, boolean, array, inline, Elements, no_elements, last_element, element, Members, no_members, last_member, member, Statement, pair, header, Line, empty_line, full_line, Lines, one_line, more_lines, Text}
 use Rattle.edit_document.specs.ReadingNumbers.{number_at}
 pub use Rattle.edit_document.specs.ReadingSteps.{Read, ◌>>=◌, first, front, after, blanks, past_blanks, past}
 
 -- tabs and spaces, as what stands between values
 abbrev pub blank_gap : List ℕ → List Between
 blank_gap bytes = map blank bytes
+
+-- a newline
+unfoldable pub line_end_at : List ℕ → Read LineEnd
+line_end_at text =
+    if first text == line_feed then Some (lf, drop 1 text)
+    else (if first text == carriage_return && slice_index text 1 == line_feed then Some (crlf, drop 2 text) else None)
+
+-- a tab or a space, a newline, or a comment and its newline
+unfoldable pub between_at : List ℕ → Read Between
+between_at text =
+    if is_blank (first text) then Some (blank (first text), drop 1 text)
+    else (if first text == hash then (line_end_at (after is_ch (drop 1 text)) >>= λ e. Some (remark (front is_ch (drop 1 text)) e.0, e.1))
+    else (line_end_at text >>= λ e. Some (break e.0, e.1)))
+
+-- what was read, and more behind it
+abbrev pub and_more : (List ℕ → List Between × List ℕ) → List ℕ → Read Between → List Between × List ℕ
+and_more more text None = ([], text)
+and_more more text (Some x) = (x.0 ∷ (more x.1).0, (more x.1).1)
+
+-- the longest gap of at most n of these, and what follows it
+unfoldable pub gap_at : ℕ → List ℕ → List Between × List ℕ
+gap_at zero text = ([], text)
+gap_at (suc n) text = and_more (gap_at n) text (between_at text)
+
+-- the gap of an array at the front
+abbrev pub gap_front : List ℕ → List Between
+gap_front text = (gap_at (length text) text).0
+
+-- what follows it
+abbrev pub past_gap : List ℕ → List ℕ
+past_gap text = (gap_at (length text) text).1
 
 -- ---- strings
 
@@ -101,15 +132,27 @@ members_at value_at (suc n) text = pair_at value_at text >>= λ p.
     then (members_at value_at n (past_blanks (drop 1 (past_blanks p.1))) >>= λ ms. Some (member p.0.key p.0.before p.0.behind p.0.value (blank_gap (blanks p.1)) (blank_gap (blanks (drop 1 (past_blanks p.1)))) ms.0, ms.1))
     else (past right_brace (past_blanks p.1) >>= λ rest. Some (last_member p.0.key p.0.before p.0.behind p.0.value (blank_gap (blanks p.1)), rest))
 
--- a value with inline tables at most n deep in one another
+-- from an element or the closing bracket on, in fewer than n elements, up to the closing bracket
+unfoldable pub elements_at : (List ℕ → Read Value) → ℕ → List ℕ → Read Elements
+elements_at value_at zero text = None
+elements_at value_at (suc n) text =
+    if first text == right_bracket then Some (no_elements, drop 1 text)
+    else (value_at text >>= λ v.
+    if first (past_gap v.1) == comma
+    then (elements_at value_at n (past_gap (drop 1 (past_gap v.1))) >>= λ es. Some (element v.0 (gap_front v.1) (gap_front (drop 1 (past_gap v.1))) es.0, es.1))
+    else (past right_bracket (past_gap v.1) >>= λ rest. Some (last_element v.0 (gap_front v.1), rest)))
+
+-- a value with arrays and inline tables at most n deep in one another
 unfoldable pub value_at : ℕ → List ℕ → Read Value
 value_at zero text = scalar_at text
 value_at (suc n) text =
-    if first text == left_brace
+    if first text == left_bracket
+    then (elements_at (value_at n) (length text) (past_gap (drop 1 text)) >>= λ es. Some (array (gap_front (drop 1 text)) es.0, es.1))
+    else (if first text == left_brace
     then (if first (past_blanks (drop 1 text)) == right_brace
     then Some (inline (blank_gap (blanks (drop 1 text))) no_members, drop 1 (past_blanks (drop 1 text)))
     else (members_at (value_at n) (length text) (past_blanks (drop 1 text)) >>= λ ms. Some (inline (blank_gap (blanks (drop 1 text))) ms.0, ms.1)))
-    else scalar_at text
+    else scalar_at text)
 
 -- ---- lines
 
@@ -138,12 +181,6 @@ line_at depth text =
     if is_line_over (first (past_blanks text))
     then Some (empty_line (blanks text) (comment_front (past_blanks text)), past_comment (past_blanks text))
     else (statement_at depth (past_blanks text) >>= λ s. Some (full_line (blanks text) s.0 (blanks s.1) (comment_front (past_blanks s.1)), past_comment (past_blanks s.1)))
-
--- a newline
-unfoldable pub line_end_at : List ℕ → Read LineEnd
-line_end_at text =
-    if first text == line_feed then Some (lf, drop 1 text)
-    else (if first text == carriage_return && slice_index text 1 == line_feed then Some (crlf, drop 2 text) else None)
 
 -- all of the text, in at most n lines
 unfoldable pub lines_at : ℕ → ℕ → List ℕ → Option Lines

@@ -1,15 +1,16 @@
 -- The part of the grammar that is read so far: a byte order mark, keys of one part, strings on one line, booleans,
--- numbers, dates and times, inline tables, and headers of one part. Every other text is refused.
+-- numbers, dates and times, arrays, inline tables, and headers of one part. Every other text is refused.
 use Rattle.std.specs.Prelude.{◌≡◌, ℕ, List, [], ⊤}
 use Rattle.edit_document.specs.Strings.{Key}
-use Rattle.edit_document.specs.Grammar.{Value, basic, literal, multi_basic, multi_literal, boolean, integer, float, datetime, array, inline, Members, no_members, last_member, member, Statement, pair, header, element_header, Line, empty_line, full_line, Lines, one_line, more_lines, Text}
+use Rattle.edit_document.specs.Grammar.{Value, basic, literal, multi_basic, multi_literal, boolean, integer, float, datetime, array, inline, Elements, no_elements, last_element, element, Members, no_members, last_member, member, Statement, pair, header, element_header, Line, empty_line, full_line, Lines, one_line, more_lines, Text}
 use Rattle.edit_document.specs.Assertions.{IsDocument}
 
 -- a key of one part
 abbrev pub IsOnePart : Key → Type 0
 IsOnePart k = k.others ≡ []
 
--- a string on one line, a boolean, a number, a date or time, or an inline table of such values under keys of one part
+-- a string on one line, a boolean, a number, a date or time, an array of such values, or an inline table of such values
+-- under keys of one part
 abbrev mutual
   pub IsSupportedValue : Value → Type 0
   IsSupportedValue (basic ps) = ⊤
@@ -20,8 +21,13 @@ abbrev mutual
   IsSupportedValue (integer n) = ⊤
   IsSupportedValue (float f) = ⊤
   IsSupportedValue (datetime d) = ⊤
-  IsSupportedValue (array g es) = ⊥
+  IsSupportedValue (array g es) = AreSupportedElements es
   IsSupportedValue (inline g ms) = AreSupportedMembers ms
+
+  pub AreSupportedElements : Elements → Type 0
+  AreSupportedElements no_elements = ⊤
+  AreSupportedElements (last_element v g) = IsSupportedValue v
+  AreSupportedElements (element v g h es) = IsSupportedValue v × AreSupportedElements es
 
   pub AreSupportedMembers : Members → Type 0
   AreSupportedMembers no_members = ⊤

@@ -9,6 +9,7 @@ ghost use Rattle.edit_document.specs.Marks.{text_marks, IsReadRefusal};
 
 mod bytes;
 pub(crate) mod decode;
+mod gaps;
 mod lines;
 mod marks;
 mod numbers;

@@ -6,9 +6,10 @@ ghost use Rattle.edit_document.specs.Supported.{AreSupportedLines};
 ghost use Rattle.edit_document.specs.Depth.{lines_depth};
 ghost use Rattle.edit_document.specs.Reading as reading;
 ghost use Rattle.edit_document.specs.Marks.{statement_marks, line_marks, lines_marks};
-ghost use Rattle.edit_document.specs.Noting.{Skips, Notes};
+ghost use Rattle.edit_document.specs.Noting.{Notes};
 
-use super::bytes::{Class, byte_at, first, past, past_run, skip};
+use super::bytes::{Class, first, past, past_run, skip};
+use super::gaps::past_line_end;
 use super::marks::{Mark, MarkKind, ReadError};
 use super::values::{key, note, pair};
 use std::alloc::Global;
@@ -62,20 +63,7 @@ pub(crate) fn line<'a>(
     Ok(past_comment(past_run(rest, Class::Blank)))
 }
 
-#[tactic(auto, unfolding(crate::specs::Reading::line_end_at))]
-pub(crate) fn past_line_end(s: &[u8]) -> Option<&[u8]>
-    ensures { Skips result (reading.line_end_at s.now) }
-{
-    if first(s) == b'\n' {
-        Some(skip(s, 1))
-    } else if first(s) == b'\r' && byte_at(s, 1) == b'\n' {
-        Some(skip(s, 2))
-    } else {
-        None
-    }
-}
-
-/// The marks of lines, with inline tables at most 80 deep in one another.
+/// The marks of lines, with arrays and inline tables at most 80 deep in one another.
 pub(crate) fn lines(alloc: Global, text: &[u8]) -> Result<Vec<Mark>, ReadError>
     ensures found { IfOk result (λ v. (form : Lines) × (text.now ≡ lines form) × AreLines form × AreSupportedLines form × (lines_depth form ≤ 80) × (v.items ≡ lines_marks form)) }
     ensures only { (form : Lines) → text.now ≡ lines form → AreLines form → AreSupportedLines form → lines_depth form ≤ 80 → MatchResult result (λ v. v.items ≡ lines_marks form) (λ e. e ≡ Memory) }
