@@ -14,8 +14,8 @@ use Rattle.indexmap.proofs.CallerLemmas.{insert_entry-new}
 use Rattle.edit_document.specs.declared.nodes.Node.{Node}
 use Rattle.edit_document.specs.declared.nodes.Span.{Span}
 use Rattle.edit_document.specs.declared.nodes.Content.{Content}
-use Rattle.edit_document.specs.Assertions.{key, Place, at}
-use Rattle.edit_document.specs.Nodes.{Shape, Spot, shape_of, StandsAt, Keeps, Holds}
+use Rattle.edit_document.specs.Assertions.{Step, key, index, Place, at}
+use Rattle.edit_document.specs.Nodes.{Shape, Spot, shape_of, shape_with, StandsAt, Keeps, Holds}
 use Rattle.edit_document.specs.Walk.{has_name, with_name, added}
 use Rattle.edit_document.proofs.Views.{names_of_node, spot_at, slice_get_same}
 
@@ -48,7 +48,7 @@ pub data Place3 {X : Type 0} (xs : List X) (t : ℕ) (new last : X) (i : ℕ) (x
   other : (i ≡ t → ⊥) → slice_get xs i ≡ Some x → Place3 xs t new last i x
   newest : i ≡ length xs → x ≡ last → Place3 xs t new last i x
 
-equal_or : (i j : ℕ) → (i ≡ j) ⊎ (i ≡ j → ⊥)
+pub equal_or : (i j : ℕ) → (i ≡ j) ⊎ (i ≡ j → ⊥)
 equal_or i j = elim (cases_lt i j) [ inl a ↦ inr (λ e. absurd (omega arith)) | inr a ↦ elim (cases_lt j i) [ inl b ↦ inr (λ e. absurd (omega arith)) | inr b ↦ inl (omega arith) ] ]
 
 pub locate : {X : Type 0} (xs : List X) (t : ℕ) (new last : X) (i : ℕ) (x : X) → t < length xs → slice_get (slice_set xs t new ++ last ∷ []) i ≡ Some x → Place3 xs t new last i x
@@ -103,18 +103,59 @@ added_made spots t name shape span s e free = rw (e, free) refl
 -- ---- the nodes keep the new spots
 
 -- what stood still stands
-stands_on : (spots : List Spot) (t : ℕ) (s : Spot) (name : List ℕ) (x : Spot) → slice_get spots t ≡ Some s → (n : ℕ) (place : Place) → StandsAt spots n place → StandsAt (slice_set spots t (with_name s name) ++ x ∷ []) n place
-stands_on spots t s name x e n place h =
+pub stands_on : (spots : List Spot) (t : ℕ) (s s2 x : Spot) → slice_get spots t ≡ Some s → s2.place ≡ s.place → (n : ℕ) (place : Place) → StandsAt spots n place → StandsAt (slice_set spots t s2 ++ x ∷ []) n place
+stands_on spots t s s2 x e same_place n place h =
     let lt = slice_get_within spots n h.0 h.1 in
     let lt2 = slice_get_within spots t s e in
-    let size : length (slice_set spots t (with_name s name)) ≡ length spots = length-set spots t (with_name s name) in
-    let front = get_front (slice_set spots t (with_name s name)) (x ∷ []) n (omega arith) in
+    let size : length (slice_set spots t s2) ≡ length spots = length-set spots t s2 in
+    let front = get_front (slice_set spots t s2) (x ∷ []) n (omega arith) in
     elim (equal_or n t) [
       | inl same ↦
           let was : h.0 ≡ s = same_Some h.0 s (sym h.1 ∙ ap (slice_get spots) same ∙ e) in
-          (with_name s name, front ∙ ap (slice_get (slice_set spots t (with_name s name))) same ∙ get_set_same spots t (with_name s name) lt2, ap (λ (y : Spot). y.place) (sym was) ∙ h.2)
-      | inr ne ↦ (h.0, front ∙ get_set_other spots t n (with_name s name) ne ∙ h.1, h.2)
+          (s2, front ∙ ap (slice_get (slice_set spots t s2)) same ∙ get_set_same spots t s2 lt2, same_place ∙ ap (λ (y : Spot). y.place) (sym was) ∙ h.2)
+      | inr ne ↦ (h.0, front ∙ get_set_other spots t n s2 ne ∙ h.1, h.2)
     ]
+
+-- the new spot stands behind them
+pub stands_new : (spots : List Spot) (t n : ℕ) (s2 x : Spot) → n ≡ length spots → (place : Place) → x.place ≡ place → StandsAt (slice_set spots t s2 ++ x ∷ []) n place
+stands_new spots t n s2 x here place is =
+    let size : length (slice_set spots t s2) ≡ length spots = length-set spots t s2 in
+    (x, ap (slice_get (slice_set spots t s2 ++ x ∷ [])) (here ∙ sym size) ∙ get_last (slice_set spots t s2) x, is)
+
+-- a node of which a spot changes and one is added, where the changed one and the new one are kept
+module _ (nodes : List Node) (spots : List Spot) (t : ℕ) (old new last : Node) (s s2 x : Spot)
+    (holds : Holds nodes spots) (at_node : slice_get nodes t ≡ Some old) (at_spot : slice_get spots t ≡ Some s) (same_place : s2.place ≡ s.place)
+    (keeps_new : Keeps (slice_set spots t s2 ++ x ∷ []) new s2) (keeps_last : Keeps (slice_set spots t s2 ++ x ∷ []) last x) where
+  keeps_other : (i : ℕ) (node : Node) (spot : Spot) → slice_get nodes i ≡ Some node → slice_get spots i ≡ Some spot → Keeps (slice_set spots t s2 ++ x ∷ []) node spot
+  keeps_other i node spot a b =
+      let k = holds.each i node spot a b in
+      record {
+        shape = k.shape;
+        names = k.names;
+        steps = k.steps;
+        span = k.span;
+        below = λ q n some. stands_on spots t s s2 x at_spot same_place n (at spot.place (key q)) (k.below q n some);
+        element = λ j n some. stands_on spots t s s2 x at_spot same_place n (at spot.place (index j)) (k.element j n some);
+      }
+
+  keeps_at : (i : ℕ) (node : Node) (spot : Spot) → Place3 nodes t new last i node → Place3 spots t s2 x i spot → Keeps (slice_set spots t s2 ++ x ∷ []) node spot
+  keeps_at i node spot (changed a e) (changed b f) = subst (λ (y : Spot). Keeps (slice_set spots t s2 ++ x ∷ []) node y) (sym f) (subst (λ (y : Node). Keeps (slice_set spots t s2 ++ x ∷ []) y s2) (sym e) keeps_new)
+  keeps_at i node spot (changed a e) (other b f) = absurd (b a)
+  keeps_at i node spot (changed a e) (newest b f) = absurd (let lt = slice_get_within spots t s at_spot in omega arith)
+  keeps_at i node spot (other a e) (changed b f) = absurd (a b)
+  keeps_at i node spot (other a e) (other b f) = keeps_other i node spot e f
+  keeps_at i node spot (other a e) (newest b f) = absurd (let lt = slice_get_within nodes i node e in let l = holds.len in omega arith)
+  keeps_at i node spot (newest a e) (changed b f) = absurd (let lt = slice_get_within nodes t old at_node in omega arith)
+  keeps_at i node spot (newest a e) (other b f) = absurd (let lt = slice_get_within spots i spot f in let l = holds.len in omega arith)
+  keeps_at i node spot (newest a e) (newest b f) = subst (λ (y : Spot). Keeps (slice_set spots t s2 ++ x ∷ []) node y) (sym f) (subst (λ (y : Node). Keeps (slice_set spots t s2 ++ x ∷ []) y x) (sym e) keeps_last)
+
+  pub holds_more : Holds (slice_set nodes t new ++ last ∷ []) (slice_set spots t s2 ++ x ∷ [])
+  holds_more = record {
+    len =
+        length_push (slice_set nodes t new) last ∙ ap (λ (n : ℕ). n + 1) (length-set nodes t new ∙ holds.len ∙ sym (length-set spots t s2))
+        ∙ sym (length_push (slice_set spots t s2) x);
+    each = λ i node spot a b. keeps_at i node spot (locate nodes t new last i node (slice_get_within nodes t old at_node) a) (locate spots t s2 x i spot (slice_get_within spots t s at_spot) b);
+  }
 
 -- a node with a member more
 pub record Gains (old new : Node) (name : List ℕ) (count : ℕ) : Type 0 where
@@ -123,14 +164,28 @@ pub record Gains (old new : Node) (name : List ℕ) (count : ℕ) : Type 0 where
   pub span : new.span ≡ old.span
   pub key : String Global
   pub said : string_bytes key ≡ name
+  pub elements : new.elements.items ≡ old.elements.items
   pub entries : new.members.entries ≡ old.members.entries ++ (key, count) ∷ []
 
--- a node without members, one step below another
+-- a node without members and elements, one step below another
 pub record Starts (new : Node) (content : Content) (steps : ℕ) (span : Option Span) : Type 0 where
   pub content_is : new.content ≡ content
   pub steps_are : new.steps ≡ steps + 1
   pub span_is : new.span ≡ span
   pub empty : new.members.entries ≡ []
+  pub bare : new.elements.items ≡ []
+
+-- a new node keeps a new spot, one step below another
+pub keeps_new_spot : (spots : List Spot) (last : Node) (content : Content) (steps : ℕ) (span : Option Span) (place : Place) (step : Step) → Starts last content steps span → steps ≡ length place
+    → Keeps spots last (record { place = at place step; shape = shape_of content; names = []; span = span })
+keeps_new_spot spots last content steps span place step starts size = record {
+  shape = ap (λ (x : Content). shape_with x (length last.elements.items)) starts.content_is ∙ ap (λ (xs : List ℕ). shape_with content (length xs)) starts.bare;
+  names = ap (map (λ (e : String Global × ℕ). string_bytes e.0)) starts.empty;
+  steps = starts.steps_are ∙ (let l : length (place ++ step ∷ []) ≡ length place + 1 = length_push place step in omega arith);
+  span = starts.span_is;
+  below = λ q n some. absurd (let none : None ≡ Some n = sym (ap (lookup (λ (a : String Global). bytes_eq q (string_bytes a))) starts.empty) ∙ some in cc);
+  element = λ i n some. absurd (let none : None ≡ Some n = sym (ap (λ (xs : List ℕ). slice_get xs i) starts.bare) ∙ some in cc);
+}
 
 lookup_push : {A X : Type 0} (test : A → Bool) (es : List (A × X)) (e : A × X) (v : X) → lookup test (es ++ e ∷ []) ≡ Some v → (lookup test es ≡ Some v) ⊎ ((test e.0 ≡ true) × (e.1 ≡ v))
 lookup_push {A} {X} test [] e v h = go (test e.0) refl h
@@ -157,65 +212,35 @@ module _ (nodes : List Node) (spots : List Spot) (t : ℕ) (old new last : Node)
   below_new : (q : List ℕ) (n : ℕ) → get_by_text new.members q ≡ Some n → StandsAt spots2 n (at s.place (key q))
   below_new q n some =
       elim (lookup_push (λ (a : String Global). bytes_eq q (string_bytes a)) old.members.entries (gains.key, length nodes) n (ap (lookup (λ (a : String Global). bytes_eq q (string_bytes a))) (sym gains.entries) ∙ some)) [
-        | inl was ↦ stands_on spots t s name (new_spot s name (shape_of content) span) at_spot n (at s.place (key q)) (keeps.below q n was)
+        | inl was ↦ stands_on spots t s (with_name s name) (new_spot s name (shape_of content) span) at_spot refl n (at s.place (key q)) (keeps.below q n was)
         | inr h ↦
             let same : q ≡ name = (bytes_eq-Decides q (string_bytes gains.key)).0 h.0 ∙ gains.said in
-            let here : n ≡ length spots = sym h.1 ∙ holds.len in
-            let size : length (slice_set spots t (with_name s name)) ≡ length spots = length-set spots t (with_name s name) in
-            (new_spot s name (shape_of content) span, ap (slice_get spots2) (here ∙ sym size) ∙ get_last (slice_set spots t (with_name s name)) (new_spot s name (shape_of content) span), ap (λ (m : List ℕ). at s.place (key m)) (sym same))
+            stands_new spots t n (with_name s name) (new_spot s name (shape_of content) span) (sym h.1 ∙ holds.len) (at s.place (key q)) (ap (λ (m : List ℕ). at s.place (key m)) (sym same))
       ]
 
   keeps_new : Keeps spots2 new (with_name s name)
   keeps_new = record {
-    shape = ap shape_of gains.content ∙ keeps.shape;
+    shape = ap (λ (c : Content). shape_with c (length new.elements.items)) gains.content ∙ ap (λ (xs : List ℕ). shape_with old.content (length xs)) gains.elements ∙ keeps.shape;
     names =
         ap (map (λ (e : String Global × ℕ). string_bytes e.0)) gains.entries ∙ map-append (λ (e : String Global × ℕ). string_bytes e.0) old.members.entries ((gains.key, length nodes) ∷ [])
         ∙ ap (λ (m : List ℕ). names_of_node old ++ m ∷ []) gains.said ∙ ap (λ (ns : List (List ℕ)). ns ++ name ∷ []) keeps.names;
     steps = gains.steps ∙ keeps.steps;
     span = gains.span ∙ keeps.span;
     below = below_new;
+    element = λ i n some. stands_on spots t s (with_name s name) (new_spot s name (shape_of content) span) at_spot refl n (at s.place (index i)) (keeps.element i n (ap (λ (xs : List ℕ). slice_get xs i) (sym gains.elements) ∙ some));
   }
-
-  keeps_last : Keeps spots2 last (new_spot s name (shape_of content) span)
-  keeps_last = record {
-    shape = ap shape_of starts.content_is;
-    names = ap (map (λ (e : String Global × ℕ). string_bytes e.0)) starts.empty;
-    steps = starts.steps_are ∙ (let l : length (s.place ++ key name ∷ []) ≡ length s.place + 1 = length_push s.place (key name) in let k = keeps.steps in omega arith);
-    span = starts.span_is;
-    below = λ q n some. absurd (let none : None ≡ Some n = sym (ap (lookup (λ (a : String Global). bytes_eq q (string_bytes a))) starts.empty) ∙ some in cc);
-  }
-
-  keeps_other : (i : ℕ) (node : Node) (spot : Spot) → slice_get nodes i ≡ Some node → slice_get spots i ≡ Some spot → Keeps spots2 node spot
-  keeps_other i node spot a b =
-      let k = holds.each i node spot a b in
-      record { shape = k.shape; names = k.names; steps = k.steps; span = k.span; below = λ q n some. stands_on spots t s name (new_spot s name (shape_of content) span) at_spot n (at spot.place (key q)) (k.below q n some) }
-
-  keeps_at : (i : ℕ) (node : Node) (spot : Spot) → Place3 nodes t new last i node → Place3 spots t (with_name s name) (new_spot s name (shape_of content) span) i spot → Keeps spots2 node spot
-  keeps_at i node spot (changed a e) (changed b f) = subst (λ (y : Spot). Keeps spots2 node y) (sym f) (subst (λ (y : Node). Keeps spots2 y (with_name s name)) (sym e) keeps_new)
-  keeps_at i node spot (changed a e) (other b f) = absurd (b a)
-  keeps_at i node spot (changed a e) (newest b f) = absurd (let lt = slice_get_within spots t s at_spot in omega arith)
-  keeps_at i node spot (other a e) (changed b f) = absurd (a b)
-  keeps_at i node spot (other a e) (other b f) = keeps_other i node spot e f
-  keeps_at i node spot (other a e) (newest b f) = absurd (let lt = slice_get_within nodes i node e in let l = holds.len in omega arith)
-  keeps_at i node spot (newest a e) (changed b f) = absurd (let lt = slice_get_within nodes t old at_node in omega arith)
-  keeps_at i node spot (newest a e) (other b f) = absurd (let lt = slice_get_within spots i spot f in let l = holds.len in omega arith)
-  keeps_at i node spot (newest a e) (newest b f) = subst (λ (y : Spot). Keeps spots2 node y) (sym f) (subst (λ (y : Node). Keeps spots2 y (new_spot s name (shape_of content) span)) (sym e) keeps_last)
 
   pub holds_added : Holds (slice_set nodes t new ++ last ∷ []) spots2
-  holds_added = record {
-    len =
-        length_push (slice_set nodes t new) last ∙ ap (λ (n : ℕ). n + 1) (length-set nodes t new ∙ holds.len ∙ sym (length-set spots t (with_name s name)))
-        ∙ sym (length_push (slice_set spots t (with_name s name)) (new_spot s name (shape_of content) span));
-    each = λ i node spot a b. keeps_at i node spot (locate nodes t new last i node (slice_get_within nodes t old at_node) a) (locate spots t (with_name s name) (new_spot s name (shape_of content) span) i spot (slice_get_within spots t s at_spot) b);
-  }
+  holds_added =
+      holds_more nodes spots t old new last s (with_name s name) (new_spot s name (shape_of content) span) holds at_node at_spot refl keeps_new (keeps_new_spot spots2 last content old.steps span s.place (key name) starts keeps.steps)
 
 -- ---- what the code does
 
-not_false : (b : Bool) → not b ≡ false → b ≡ true
+pub not_false : (b : Bool) → not b ≡ false → b ≡ true
 not_false true e = refl
 not_false false e = absurd cc
 
-not_true : (b : Bool) → not b ≡ true → b ≡ false
+pub not_true : (b : Bool) → not b ≡ true → b ≡ false
 not_true true e = absurd cc
 not_true false e = refl
 
@@ -239,9 +264,10 @@ pub record Inserted (old new : Node) (key : String Global) (count : ℕ) : Type 
   pub content : new.content ≡ old.content
   pub steps : new.steps ≡ old.steps
   pub span : new.span ≡ old.span
+  pub elements : new.elements.items ≡ old.elements.items
   pub entries : new.members.entries ≡ insert_entry string_eq old.members.entries key count
 
-or_false : (x y : Bool) → (x || y) ≡ false → x ≡ false
+pub or_false : (x y : Bool) → (x || y) ≡ false → x ≡ false
 or_false true y e = absurd cc
 or_false false y e = refl
 
@@ -258,6 +284,7 @@ gained old new k count nodes i size test =
       span = i.span;
       key = k;
       said = refl;
+      elements = i.elements;
       entries = i.entries ∙ insert_entry-new string_eq old.members k count absent ∙ ap (λ (n : ℕ). old.members.entries ++ (k, n) ∷ []) size;
     }
 

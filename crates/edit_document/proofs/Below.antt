@@ -93,6 +93,14 @@ names_elsewhere q r n ne = go (name_from r (at q (key n))) refl
     go None h = rw h refl
     go (Some x) h = absurd (ne (sym (last_same q r (key n) (key x) (name_from_is r (at q (key n)) x h)).0))
 
+-- an element has no name
+pub names_index : (q r : Place) (i : ℕ) → names_below (at q (index i) ∷ []) r ≡ []
+names_index q r i = go (name_from r (at q (index i))) refl
+  where
+    go : (o : Option (List ℕ)) → name_from r (at q (index i)) ≡ o → names_below (at q (index i) ∷ []) r ≡ []
+    go None h = rw h refl
+    go (Some x) h = absurd (let no_key : index i ≡ key x = (last_same q r (index i) (key x) (name_from_is r (at q (index i)) x h)).1 in cc)
+
 pub names_none : (places : List Place) (q : Place) → ((i : ℕ) (n : List ℕ) → slice_get places i ≡ Some (at q (key n)) → ⊥) → names_below places q ≡ []
 names_none [] q h = refl
 names_none (p ∷ ps) q h = go (name_from q p) refl (names_none ps q (λ i n g. h (suc i) n g))

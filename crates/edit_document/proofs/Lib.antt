@@ -34,8 +34,10 @@ pub mod NotedElements
 pub mod NotedLines
 pub mod WrittenSpans
 pub mod Adding
+pub mod AddingElements
 pub mod Below
 pub mod Spotting
+pub mod SpottingElements
 pub mod Shallow
 pub mod ValueRanges
 pub mod Promised

@@ -7,8 +7,8 @@ use Rattle.std.proofs.lemmas.Bool.Decides.{nat_tests}
 use Rattle.std.proofs.lemmas.List.{map-append, length-map, length_push, append-nil}
 use Rattle.std.proofs.lemmas.Option.{same_Some, slice_get-map, slice_get_within}
 use Rattle.edit_document.specs.declared.nodes.Span.{Span}
-use Rattle.edit_document.specs.Assertions.{Step, key, Place, at}
-use Rattle.edit_document.specs.Nodes.{Shape, section, Spot, StandsAt, IsMember, IsTree}
+use Rattle.edit_document.specs.Assertions.{Step, key, index, Place, at}
+use Rattle.edit_document.specs.Nodes.{Shape, section, element_count, Spot, StandsAt, Lists, IsMember, IsTree}
 use Rattle.edit_document.specs.DocumentLayout.{Noted, names_below, spot_of, root_noted, places_of, spots_in}
 use Rattle.edit_document.specs.Walk.{has_name, with_name, added, State}
 use Rattle.edit_document.proofs.SamePlace.{last_same, not_root, key_same, not_below}
@@ -20,13 +20,18 @@ pub record Fine (places : List Place) : Type 0 where
   pub once : Once ([] ∷ places)
   pub short : AllByRecursion (λ p. length p ≤ 80) places
 
--- each place is a member of the root or of a place that stands
-abbrev pub Closed : List Place → Type 0
-Closed places = (i : ℕ) (p : Place) → slice_get places i ≡ Some p → (j : ℕ) × (q : Place) × (n : List ℕ) × (slice_get ([] ∷ places) j ≡ Some q) × (p ≡ at q (key n))
+-- the number of an element is below the count of its array
+abbrev pub Fits : Shape → Step → Type 0
+Fits shape (key n) = Unit {0}
+Fits shape (index i) = (n : ℕ) × (element_count shape ≡ Some n) × (i < n)
+
+-- each place is a member or an element of the root or of a place that stands
+abbrev pub Closed : List Noted → Type 0
+Closed made = (i : ℕ) (p : Place) → slice_get (places_of made) i ≡ Some p → (j : ℕ) × (q : Noted) × (s : Step) × (slice_get (root_noted ∷ made) j ≡ Some q) × (p ≡ at q.place s) × Fits q.shape s
 
 pub record Good (made : List Noted) : Type 0 where
   pub fine : Fine (places_of made)
-  pub closed : Closed (places_of made)
+  pub closed : Closed made
 
 pub fine_front : (ps qs : List Place) → Fine (ps ++ qs) → Fine ps
 fine_front ps qs h = record { once = once_front ([] ∷ ps) qs h.once; short = all_front (λ p. length p ≤ 80) ps qs h.short }
@@ -93,8 +98,8 @@ module _ (made : List Noted) (t : ℕ) (m : Noted) (name : List ℕ) (shape : Sh
           | inl a ↦
               let old = sym (get_front (places_of made) (at m.place (key name) ∷ []) i a) ∙ e in
               let up = good.closed i (at (at m.place (key name)) (key n)) old in
-              let same = last_same up.1 (at m.place (key name)) (key up.2) (key n) (sym up.4) in
-              fresh up.0 (up.3 ∙ ap (λ (p : Place). Some p) same.0)
+              let same = last_same up.1.place (at m.place (key name)) up.2 (key n) (sym up.4) in
+              fresh up.0 (place_at made up.0 up.1 up.3 ∙ ap (λ (p : Place). Some p) same.0)
           | inr a ↦
               let within = slice_get_within (places_of made ++ at m.place (key name) ∷ []) i (at (at m.place (key name)) (key n)) e in
               let more : length (places_of made ++ at m.place (key name) ∷ []) ≡ length (places_of made) + 1 = length_push (places_of made) (at m.place (key name)) in
@@ -136,19 +141,21 @@ module _ (made : List Noted) (t : ℕ) (m : Noted) (name : List ℕ) (shape : Sh
         let le : length (at m.place (key name)) ≤ 80 = omega arith in
         record {
           fine = subst Fine (sym (places_push made (next m name shape span))) (record { once = once_push ([] ∷ places_of made) (at m.place (key name)) good.fine.once fresh; short = all_push (λ p. length p ≤ 80) (places_of made) (at m.place (key name)) good.fine.short le });
-          closed = subst Closed (sym (places_push made (next m name shape span))) (λ i p e. elim (cases_lt i (length (places_of made))) [
-            | inl a ↦
-                let up = good.closed i p (sym (get_front (places_of made) (at m.place (key name) ∷ []) i a) ∙ e) in
-                let lt = slice_get_within ([] ∷ places_of made) up.0 up.1 up.3 in
-                (up.0, up.1, up.2, get_front ([] ∷ places_of made) (at m.place (key name) ∷ []) up.0 lt ∙ up.3, up.4)
-            | inr a ↦
-                let within = slice_get_within (places_of made ++ at m.place (key name) ∷ []) i p e in
-                let more : length (places_of made ++ at m.place (key name) ∷ []) ≡ length (places_of made) + 1 = length_push (places_of made) (at m.place (key name)) in
-                let here : i ≡ length (places_of made) = omega arith in
-                let last : p ≡ at m.place (key name) = same_Some p (at m.place (key name)) (sym e ∙ ap (slice_get (places_of made ++ at m.place (key name) ∷ [])) here ∙ get_last (places_of made) (at m.place (key name))) in
-                let lt = slice_get_within ([] ∷ places_of made) t m.place place_is in
-                (t, m.place, name, get_front ([] ∷ places_of made) (at m.place (key name) ∷ []) t lt ∙ place_is, last)
-          ]);
+          closed = λ i p e0.
+              let e : slice_get (places_of made ++ at m.place (key name) ∷ []) i ≡ Some p = ap (λ (ps : List Place). slice_get ps i) (sym (places_push made (next m name shape span))) ∙ e0 in
+              elim (cases_lt i (length (places_of made))) [
+                | inl a ↦
+                    let up = good.closed i p (sym (get_front (places_of made) (at m.place (key name) ∷ []) i a) ∙ e) in
+                    let lt = slice_get_within (root_noted ∷ made) up.0 up.1 up.3 in
+                    (up.0, up.1, up.2, get_front (root_noted ∷ made) (next m name shape span ∷ []) up.0 lt ∙ up.3, up.4, up.5)
+                | inr a ↦
+                    let within = slice_get_within (places_of made ++ at m.place (key name) ∷ []) i p e in
+                    let more : length (places_of made ++ at m.place (key name) ∷ []) ≡ length (places_of made) + 1 = length_push (places_of made) (at m.place (key name)) in
+                    let here : i ≡ length (places_of made) = omega arith in
+                    let last : p ≡ at m.place (key name) = same_Some p (at m.place (key name)) (sym e ∙ ap (slice_get (places_of made ++ at m.place (key name) ∷ [])) here ∙ get_last (places_of made) (at m.place (key name))) in
+                    let lt = slice_get_within (root_noted ∷ made) t m there in
+                    (t, m, key name, get_front (root_noted ∷ made) (next m name shape span ∷ []) t lt ∙ there, last, tt)
+              ];
         }
 
   -- where the name stands already, or there are too many steps
@@ -200,22 +207,22 @@ noted_at : (made : List Noted) (i : ℕ) (s : Spot) → slice_get (spots_in made
 unfolding spots_in
 noted_at made i s e = map_get (spot_of (places_of made)) (root_noted ∷ made) i s e
 
+listed_below : (made : List Noted) (q : Noted) (s : Step) (j : ℕ) → slice_get (places_of made) j ≡ Some (at q.place s) → Fits q.shape s → Lists (spot_of (places_of made) q) s
+listed_below made q (key n) j e fits = listed (places_of made) q.place n j e
+listed_below made q (index i) j e fits = fits
+
 member_of : (made : List Noted) → Good made → (j : ℕ) (m : Noted) → slice_get (root_noted ∷ made) j ≡ Some m → (m.place ≡ []) ⊎ IsMember (spots_in made) m.place
 member_of made good zero m e = inl (ap (λ (x : Noted). x.place) (sym (same_Some root_noted m e)))
 member_of made good (suc j) m e =
     let here : slice_get (places_of made) j ≡ Some m.place = slice_get-map (λ (x : Noted). x.place) made j ∙ ap (option_map (λ (x : Noted). x.place)) e in
     let up = good.closed j m.place here in
-    let table = map_get (λ (x : Noted). x.place) (root_noted ∷ made) up.0 up.1 up.3 in
-    let below : m.place ≡ at table.0.place (key up.2) = up.4 ∙ ap (λ (q : Place). at q (key up.2)) (sym table.2) in
-    let position = listed (places_of made) table.0.place up.2 j (here ∙ ap (λ (p : Place). Some p) below) in
     inr (record {
-      table = spot_of (places_of made) table.0;
+      table = spot_of (places_of made) up.1;
       number = up.0;
-      name = up.2;
-      position = position.0;
-      stands = spot_in made up.0 table.0 table.1;
-      below = below;
-      listed = position.1;
+      step = up.2;
+      stands = spot_in made up.0 up.1 up.3;
+      below = up.4;
+      listed = listed_below made up.1 up.2 j (here ∙ ap (λ (p : Place). Some p) up.4) up.5;
     })
 
 pub tree_of_good : (made : List Noted) → Good made → IsTree (spots_in made)

@@ -18,7 +18,7 @@ use Rattle.edit_document.specs.declared.document.Document.TheInside.{Inside}
 use Rattle.edit_document.specs.Assertions.{Step, key, index, Place, at, same_place}
 use Rattle.edit_document.specs.Tree.{View, table}
 use Rattle.edit_document.specs.Shown.{Shown, node_at, tree_of}
-use Rattle.edit_document.specs.Nodes.{Spot, Shape, scalar, inline, section, view_of_shape, shown_spot, shape_of, StandsAt, Keeps, Holds, IsMember, IsTree}
+use Rattle.edit_document.specs.Nodes.{Spot, Shape, scalar, inline, section, view_of_shape, shown_spot, shape_with, shape_of_node, element_count, StandsAt, Keeps, Holds, Lists, IsMember, IsTree}
 use Rattle.edit_document.specs.FormOf.{form_of}
 use Rattle.edit_document.specs.DocumentLayout.{nodes_by, shown_by, shown_of, spots_of, IsRead}
 use Rattle.edit_document.specs.declared.place.Step.{Step as WrittenStep}
@@ -71,7 +71,7 @@ abbrev pub names_of_node : Node → List (List ℕ)
 names_of_node node = map (λ e. string_bytes e.0) node.members.entries
 
 abbrev pub view_of_node : Node → View
-view_of_node node = view_of_shape (shape_of node.content) (names_of_node node)
+view_of_node node = view_of_shape (shape_of_node node) (names_of_node node)
 
 pub record Found (shown : Shown) (nodes : List Node) (spots : List Spot) (n : ℕ) (node : Node) : Type 0 where
   pub spot : Spot
@@ -140,37 +140,43 @@ pub names_scalar : (shown : Shown) (nodes : List Node) (spots : List Spot) (n : 
     → IsScalar node.content → names_in (view_numbered shown n) ≡ []
 names_scalar shown nodes spots n node f t = ap names_in f.view ∙ go node.content t
   where
-    go : (x : Content) → IsScalar x → names_in (view_of_shape (shape_of x) (names_of_node node)) ≡ []
-    go x (inl e) = ap (λ (y : Content). names_in (view_of_shape (shape_of y) (names_of_node node))) e.1
-    go x (inr (inl e)) = ap (λ (y : Content). names_in (view_of_shape (shape_of y) (names_of_node node))) e.1
-    go x (inr (inr (inl e))) = ap (λ (y : Content). names_in (view_of_shape (shape_of y) (names_of_node node))) e.1
-    go x (inr (inr (inr (inl e)))) = ap (λ (y : Content). names_in (view_of_shape (shape_of y) (names_of_node node))) e.1
-    go x (inr (inr (inr (inr e)))) = ap (λ (y : Content). names_in (view_of_shape (shape_of y) (names_of_node node))) e.1
+    go : (x : Content) → IsScalar x → names_in (view_of_shape (shape_with x (length node.elements.items)) (names_of_node node)) ≡ []
+    go x (inl e) = ap (λ (y : Content). names_in (view_of_shape (shape_with y (length node.elements.items)) (names_of_node node))) e.1
+    go x (inr (inl e)) = ap (λ (y : Content). names_in (view_of_shape (shape_with y (length node.elements.items)) (names_of_node node))) e.1
+    go x (inr (inr (inl e))) = ap (λ (y : Content). names_in (view_of_shape (shape_with y (length node.elements.items)) (names_of_node node))) e.1
+    go x (inr (inr (inr (inl e)))) = ap (λ (y : Content). names_in (view_of_shape (shape_with y (length node.elements.items)) (names_of_node node))) e.1
+    go x (inr (inr (inr (inr e)))) = ap (λ (y : Content). names_in (view_of_shape (shape_with y (length node.elements.items)) (names_of_node node))) e.1
 
 pub names_tabular : (shown : Shown) (nodes : List Node) (spots : List Spot) (n : ℕ) (node : Node) → Found shown nodes spots n node
     → (node.content ≡ content.Inline) ⊎ (node.content ≡ content.Table) → names_in (view_numbered shown n) ≡ names_of_node node
-names_tabular shown nodes spots n node f (inl t) = ap names_in f.view ∙ ap (λ (x : Content). names_in (view_of_shape (shape_of x) (names_of_node node))) t ∙ names_keys (names_of_node node)
-names_tabular shown nodes spots n node f (inr t) = ap names_in f.view ∙ ap (λ (x : Content). names_in (view_of_shape (shape_of x) (names_of_node node))) t ∙ names_keys (names_of_node node)
+names_tabular shown nodes spots n node f (inl t) = ap names_in f.view ∙ ap (λ (x : Content). names_in (view_of_shape (shape_with x (length node.elements.items)) (names_of_node node))) t ∙ names_keys (names_of_node node)
+names_tabular shown nodes spots n node f (inr t) = ap names_in f.view ∙ ap (λ (x : Content). names_in (view_of_shape (shape_with x (length node.elements.items)) (names_of_node node))) t ∙ names_keys (names_of_node node)
 
--- how many members a node has
+pub names_array : (shown : Shown) (nodes : List Node) (spots : List Spot) (n : ℕ) (node : Node) → Found shown nodes spots n node → node.content ≡ content.Array → names_in (view_numbered shown n) ≡ []
+names_array shown nodes spots n node f t = ap names_in f.view ∙ ap (λ (x : Content). names_in (view_of_shape (shape_with x (length node.elements.items)) (names_of_node node))) t
+
+-- how many members or elements a node has
+pub count_array : (shown : Shown) (nodes : List Node) (spots : List Spot) (n : ℕ) (node : Node) → Found shown nodes spots n node → node.content ≡ content.Array → count_in (view_numbered shown n) ≡ length node.elements.items
+count_array shown nodes spots n node f t = ap count_in f.view ∙ ap (λ (x : Content). count_in (view_of_shape (shape_with x (length node.elements.items)) (names_of_node node))) t
+
 pub count_scalar : (shown : Shown) (nodes : List Node) (spots : List Spot) (n : ℕ) (node : Node) → Found shown nodes spots n node
     → IsScalar node.content → count_in (view_numbered shown n) ≡ 0
 count_scalar shown nodes spots n node f t = ap count_in f.view ∙ go node.content t
   where
-    go : (x : Content) → IsScalar x → count_in (view_of_shape (shape_of x) (names_of_node node)) ≡ 0
-    go x (inl e) = ap (λ (y : Content). count_in (view_of_shape (shape_of y) (names_of_node node))) e.1
-    go x (inr (inl e)) = ap (λ (y : Content). count_in (view_of_shape (shape_of y) (names_of_node node))) e.1
-    go x (inr (inr (inl e))) = ap (λ (y : Content). count_in (view_of_shape (shape_of y) (names_of_node node))) e.1
-    go x (inr (inr (inr (inl e)))) = ap (λ (y : Content). count_in (view_of_shape (shape_of y) (names_of_node node))) e.1
-    go x (inr (inr (inr (inr e)))) = ap (λ (y : Content). count_in (view_of_shape (shape_of y) (names_of_node node))) e.1
+    go : (x : Content) → IsScalar x → count_in (view_of_shape (shape_with x (length node.elements.items)) (names_of_node node)) ≡ 0
+    go x (inl e) = ap (λ (y : Content). count_in (view_of_shape (shape_with y (length node.elements.items)) (names_of_node node))) e.1
+    go x (inr (inl e)) = ap (λ (y : Content). count_in (view_of_shape (shape_with y (length node.elements.items)) (names_of_node node))) e.1
+    go x (inr (inr (inl e))) = ap (λ (y : Content). count_in (view_of_shape (shape_with y (length node.elements.items)) (names_of_node node))) e.1
+    go x (inr (inr (inr (inl e)))) = ap (λ (y : Content). count_in (view_of_shape (shape_with y (length node.elements.items)) (names_of_node node))) e.1
+    go x (inr (inr (inr (inr e)))) = ap (λ (y : Content). count_in (view_of_shape (shape_with y (length node.elements.items)) (names_of_node node))) e.1
 
 pub count_tabular : (shown : Shown) (nodes : List Node) (spots : List Spot) (n : ℕ) (node : Node) → Found shown nodes spots n node
     → (node.content ≡ content.Inline) ⊎ (node.content ≡ content.Table) → count_in (view_numbered shown n) ≡ length node.members.entries
 count_tabular shown nodes spots n node f (inl t) =
-    ap count_in f.view ∙ ap (λ (x : Content). count_in (view_of_shape (shape_of x) (names_of_node node))) t
+    ap count_in f.view ∙ ap (λ (x : Content). count_in (view_of_shape (shape_with x (length node.elements.items)) (names_of_node node))) t
     ∙ length-map (names_of_node node) key ∙ length-map node.members.entries (λ e. string_bytes e.0)
 count_tabular shown nodes spots n node f (inr t) =
-    ap count_in f.view ∙ ap (λ (x : Content). count_in (view_of_shape (shape_of x) (names_of_node node))) t
+    ap count_in f.view ∙ ap (λ (x : Content). count_in (view_of_shape (shape_with x (length node.elements.items)) (names_of_node node))) t
     ∙ length-map (names_of_node node) key ∙ length-map node.members.entries (λ e. string_bytes e.0)
 
 -- the name of a member by its number
@@ -186,11 +192,11 @@ name_none node k r e is =
     ∙ ap (option_map (λ (e : String Global × ℕ). string_bytes e.0)) (sym e ∙ ap (option_map deref_pair) is)
 
 -- what a node shows
-abbrev pub shows_content : (names : List (List ℕ)) → Content → Seen → Type 0
-shows_content names x s = Shows (view_of_shape (shape_of x) names) s
+abbrev pub shows_content : List (List ℕ) → ℕ → Content → Seen → Type 0
+shows_content names n x s = Shows (view_of_shape (shape_with x n) names) s
 
-pub shows : (shown : Shown) (nodes : List Node) (spots : List Spot) (n : ℕ) (node : Node) (x : Content) (s : Seen) → Found shown nodes spots n node → node.content ≡ x → shows_content (names_of_node node) x s → Shows (view_numbered shown n) s
-shows shown nodes spots n node x s f is h = subst (λ (v : View). Shows v s) (sym f.view) (subst (λ (y : Content). shows_content (names_of_node node) y s) (sym is) h)
+pub shows : (shown : Shown) (nodes : List Node) (spots : List Spot) (n : ℕ) (node : Node) (x : Content) (s : Seen) → Found shown nodes spots n node → node.content ≡ x → shows_content (names_of_node node) (length node.elements.items) x s → Shows (view_numbered shown n) s
+shows shown nodes spots n node x s f is h = subst (λ (v : View). Shows v s) (sym f.view) (subst (λ (y : Content). shows_content (names_of_node node) (length node.elements.items) y s) (sym is) h)
 
 listed_found : {A X : Type 0} (bytes : A → List ℕ) (es : List (A × X)) (k : ℕ) (name : List ℕ) → slice_get (map (λ e. bytes e.0) es) k ≡ Some name → lookup (λ a. bytes_eq name (bytes a)) es ≡ None → ⊥
 listed_found bytes [] k name e none = cc
@@ -212,11 +218,12 @@ absent shown nodes n node name opens f none i t g p =
     elim (opens.tree.member i t g) [
       | inl root ↦ not_root f.spot.place (key name) (sym p ∙ root)
       | inr m ↦
-          let same = last_same m.table.place f.spot.place (key m.name) (key name) (sym m.below ∙ p) in
+          let same = last_same m.table.place f.spot.place m.step (key name) (sym m.below ∙ p) in
           let number : m.number ≡ n = opens.tree.unique m.number n m.table f.spot m.stands f.stands same.0 in
           let spot : m.table ≡ f.spot = slice_get_same opens.spots n m.table f.spot (ap (slice_get opens.spots) (sym number) ∙ m.stands) f.stands in
-          let names : slice_get f.spot.names m.position ≡ Some name = ap (λ (s : Spot). slice_get s.names m.position) (sym spot) ∙ m.listed ∙ ap Some (key_same m.name name same.1) in
-          listed_found string_bytes node.members.entries m.position name (rw f.keeps.names names) none
+          let listed : Lists m.table (key name) = subst (Lists m.table) same.1 m.listed in
+          let names : slice_get f.spot.names listed.0 ≡ Some name = ap (λ (s : Spot). slice_get s.names listed.0) (sym spot) ∙ listed.1 in
+          listed_found string_bytes node.members.entries listed.0 name (rw f.keeps.names names) none
     ]
 
 pub member_none : (shown : Shown) (nodes : List Node) (n : ℕ) (node : Node) (name : List ℕ) → (opens : Opened shown nodes) → Found shown nodes opens.spots n node → get_by_text node.members name ≡ None
@@ -224,35 +231,63 @@ pub member_none : (shown : Shown) (nodes : List Node) (n : ℕ) (node : Node) (n
 member_none shown nodes n node name opens f none =
     rw (f.place, opens.nodes_are) (node_none opens.spots (at f.spot.place (key name)) (absent shown nodes n node name opens f none))
 
-pub member_some : (shown : Shown) (nodes : List Node) (n m : ℕ) (node : Node) (name : List ℕ) → (opens : Opened shown nodes) → Found shown nodes opens.spots n node → get_by_text node.members name ≡ Some m
-    → Numbers shown (at (place_numbered shown n) (key name)) (Some m)
-member_some shown nodes n m node name opens f some =
-    let s = f.keeps.below name m some in
-    let place : s.0.place ≡ at (place_numbered shown n) (key name) = s.2 ∙ ap (λ (p : Place). at p (key name)) (sym f.place) in
+-- what stands at a number
+stands_numbered : (shown : Shown) (nodes : List Node) (m : ℕ) (place : Place) → (opens : Opened shown nodes) → StandsAt opens.spots m place → Numbers shown place (Some m)
+stands_numbered shown nodes m place opens s =
     let tree = tree_spot shown opens.spots m s.0 opens.nodes_are opens.tree s.1 in
     let view = view_spot shown opens.spots m s.0 opens.nodes_are opens.tree s.1 in
     let lt = slice_get_within opens.spots m s.0 s.1 in
     let l : length shown.nodes ≡ length opens.spots = ap length opens.nodes_are ∙ length-map opens.spots shown_spot in
-    (ap (tree_of shown) (sym place) ∙ tree ∙ ap (λ (v : View). Some v) (sym view), place_spot shown opens.spots m s.0 opens.nodes_are s.1 ∙ place, omega arith)
+    (ap (tree_of shown) (sym s.2) ∙ tree ∙ ap (λ (v : View). Some v) (sym view), place_spot shown opens.spots m s.0 opens.nodes_are s.1 ∙ s.2, omega arith)
+
+pub member_some : (shown : Shown) (nodes : List Node) (n m : ℕ) (node : Node) (name : List ℕ) → (opens : Opened shown nodes) → Found shown nodes opens.spots n node → get_by_text node.members name ≡ Some m
+    → Numbers shown (at (place_numbered shown n) (key name)) (Some m)
+member_some shown nodes n m node name opens f some =
+    subst (λ (p : Place). Numbers shown (at p (key name)) (Some m)) (sym f.place) (stands_numbered shown nodes m (at f.spot.place (key name)) opens (f.keeps.below name m some))
 
 pub member_here : (shown : Shown) (nodes : List Node) (n : ℕ) (node : Node) (name : List ℕ) (r : Option ℕ) → (opens : Opened shown nodes) → Found shown nodes opens.spots n node → r ≡ get_by_text node.members name
     → Numbers shown (at (place_numbered shown n) (key name)) r
 member_here shown nodes n node name None opens f e = member_none shown nodes n node name opens f (sym e)
 member_here shown nodes n node name (Some m) opens f e = member_some shown nodes n m node name opens f (sym e)
 
--- no element stands below a node
-index_absent : (shown : Shown) (nodes : List Node) (place : Place) (i : ℕ) → (opens : Opened shown nodes) → (j : ℕ) (t : Spot) → slice_get opens.spots j ≡ Some t → t.place ≡ at place (index i) → ⊥
-index_absent shown nodes place i opens j t g p =
+-- what has elements is an array, and has as many as its node
+pub array_counts : (x : Content) (len n : ℕ) → element_count (shape_with x len) ≡ Some n → (x ≡ content.Array) × (len ≡ n)
+array_counts (content.Text s) len n e = absurd cc
+array_counts (content.Truth b) len n e = absurd cc
+array_counts (content.Integer s) len n e = absurd cc
+array_counts (content.Float s) len n e = absurd cc
+array_counts (content.DateTime s) len n e = absurd cc
+array_counts content.Array len n e = (refl, same_Some len n e)
+array_counts content.Inline len n e = absurd cc
+array_counts content.Table len n e = absurd cc
+
+within_some : (xs : List ℕ) (i : ℕ) → i < length xs → slice_get xs i ≡ None → ⊥
+within_some [] i lt e = absurd (omega arith)
+within_some (x ∷ xs) zero lt e = absurd cc
+within_some (x ∷ xs) (suc i) lt e = within_some xs i (omega arith) e
+
+-- nothing stands at a number past the elements
+element_absent : (shown : Shown) (nodes : List Node) (n : ℕ) (node : Node) (i : ℕ) → (opens : Opened shown nodes) → (f : Found shown nodes opens.spots n node) → slice_get node.elements.items i ≡ None
+    → (j : ℕ) (t : Spot) → slice_get opens.spots j ≡ Some t → t.place ≡ at f.spot.place (index i) → ⊥
+element_absent shown nodes n node i opens f none j t g p =
     elim (opens.tree.member j t g) [
-      | inl root ↦ not_root place (index i) (sym p ∙ root)
+      | inl root ↦ not_root f.spot.place (index i) (sym p ∙ root)
       | inr m ↦
-          let same = last_same m.table.place place (key m.name) (index i) (sym m.below ∙ p) in
-          let no : key m.name ≡ index i = same.1 in
-          absurd cc
+          let same = last_same m.table.place f.spot.place m.step (index i) (sym m.below ∙ p) in
+          let number : m.number ≡ n = opens.tree.unique m.number n m.table f.spot m.stands f.stands same.0 in
+          let spot : m.table ≡ f.spot = slice_get_same opens.spots n m.table f.spot (ap (slice_get opens.spots) (sym number) ∙ m.stands) f.stands in
+          let listed : Lists m.table (index i) = subst (Lists m.table) same.1 m.listed in
+          let count : element_count (shape_of_node node) ≡ Some listed.0 = ap element_count f.keeps.shape ∙ ap (λ (s : Spot). element_count s.shape) (sym spot) ∙ listed.1 in
+          let whole = array_counts node.content (length node.elements.items) listed.0 count in
+          within_some node.elements.items i (omega (arith, whole.1, listed.2)) none
     ]
 
-pub element_none : (shown : Shown) (nodes : List Node) (place : Place) (i : ℕ) → Opened shown nodes → tree_of shown (at place (index i)) ≡ None
-element_none shown nodes place i opens = rw opens.nodes_are (node_none opens.spots (at place (index i)) (index_absent shown nodes place i opens))
+pub element_here : (shown : Shown) (nodes : List Node) (n : ℕ) (node : Node) (i : ℕ) (r : Option ℕ) → (opens : Opened shown nodes) → Found shown nodes opens.spots n node → r ≡ slice_get node.elements.items i
+    → Numbers shown (at (place_numbered shown n) (index i)) r
+element_here shown nodes n node i None opens f e =
+    rw (f.place, opens.nodes_are) (node_none opens.spots (at f.spot.place (index i)) (element_absent shown nodes n node i opens f (sym e)))
+element_here shown nodes n node i (Some m) opens f e =
+    subst (λ (p : Place). Numbers shown (at p (index i)) (Some m)) (sym f.place) (stands_numbered shown nodes m (at f.spot.place (index i)) opens (f.keeps.element i m (sym e)))
 
 -- a node stands at its place
 pub node_stands : (shown : Shown) (nodes : List Node) (n : ℕ) (node : Node) (opens : Opened shown nodes) → Found shown nodes opens.spots n node → tree_of shown (place_numbered shown n) ≡ Some (view_numbered shown n)
@@ -263,7 +298,7 @@ step_none : (shown : Shown) (nodes : List Node) (place : Place) (x : Step) → O
 step_none shown nodes place x opens none = rw opens.nodes_are (node_none opens.spots (at place x) (λ j t g p. elim (opens.tree.member j t g) [
   | inl root ↦ not_root place x (sym p ∙ root)
   | inr m ↦
-      let same = last_same m.table.place place (key m.name) x (sym m.below ∙ p) in
+      let same = last_same m.table.place place m.step x (sym m.below ∙ p) in
       let some = tree_spot shown opens.spots m.number m.table opens.nodes_are opens.tree m.stands in
       let no : None ≡ Some (view_of_shape m.table.shape m.table.names) = sym none ∙ ap (tree_of shown) (sym same.0) ∙ some in
       absurd cc

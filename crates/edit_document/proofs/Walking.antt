@@ -15,7 +15,7 @@ use Rattle.edit_document.specs.declared.read.marks.MarkKind.TheVariants as kinds
 use Rattle.edit_document.proofs.Ends.{take_length}
 use Rattle.edit_document.specs.Nodes.{Shape, shape_said, scalar, section, Spot, StandsAt, Keeps, Holds}
 use Rattle.edit_document.specs.Nodes as shapes
-use Rattle.edit_document.specs.Walk.{State, added, said, last_of, without_last, entered, opened, closed, headed, span_of_mark, worded, act, step, start, walked}
+use Rattle.edit_document.specs.Walk.{State, added, put_below, said, last_of, without_last, entered, opened, closed, headed, span_of_mark, worded, act, step, start, walked}
 use Rattle.edit_document.specs.WalkState.{Adds, Walks, Goes, SaysAt, is_said, IsToken, KeepsState}
 use Rattle.edit_document.proofs.Views.{spot_at, slice_get_same, drop_from}
 use Rattle.edit_document.proofs.Below.{all_at}
@@ -36,15 +36,17 @@ goes_made walk tables made true ts n (spots, e, holds) =
     (record { spots = spots; tables = tables; name = None }, ap (λ (o : Option (List Spot)). o >>= with_spots tables) e, record { holds = holds; tables = ts; name = ap (option_map string_bytes) n })
 goes_made walk tables made false ts n e = ap (λ (o : Option (List Spot)). o >>= with_spots tables) e
 
-entered_is : (st : State) (shape : Shape) (span : Option Span) (name : List ℕ) (number : ℕ) → st.name ≡ Some name → last_of st.tables ≡ Some number → entered st shape span ≡ (added st.spots number name shape span >>= with_spots st.tables)
-entered_is st shape span name number n t =
-    ap (λ (o : Option (List ℕ)). o >>= λ x. last_of st.tables >>= λ k. added st.spots k x shape span >>= with_spots st.tables) n
-    ∙ ap (λ (o : Option ℕ). o >>= λ k. added st.spots k name shape span >>= with_spots st.tables) t
+entered_is : (st : State) (shape : Shape) (span : Option Span) (number : ℕ) → last_of st.tables ≡ Some number → entered st shape span ≡ (put_below st.name st.spots number shape span >>= with_spots st.tables)
+entered_is st shape span number t = ap (λ (o : Option ℕ). o >>= λ k. put_below st.name st.spots k shape span >>= with_spots st.tables) t
 
-pub goes_entered : (walk : Walk) (st : State) (shape : Shape) (span : Option Span) (name : List ℕ) (number : ℕ) (b : Bool) → st.name ≡ Some name → last_of st.tables ≡ Some number → walk.tables.items ≡ st.tables → walk.name ≡ None
-    → Adds walk.nodes.items (added st.spots number name shape span) b → Goes walk (entered st shape span) b
+pub goes_entered : (walk : Walk) (st : State) (shape : Shape) (span : Option Span) (name : Option (List ℕ)) (number : ℕ) (b : Bool) → st.name ≡ name → last_of st.tables ≡ Some number → walk.tables.items ≡ st.tables → walk.name ≡ None
+    → Adds walk.nodes.items (put_below name st.spots number shape span) b → Goes walk (entered st shape span) b
 goes_entered walk st shape span name number b n t ts none adds =
-    subst (λ (o : Option State). Goes walk o b) (sym (entered_is st shape span name number n t)) (goes_made walk st.tables (added st.spots number name shape span) b ts none adds)
+    subst (λ (o : Option State). Goes walk o b) (sym (entered_is st shape span number t))
+    (goes_made walk st.tables (put_below st.name st.spots number shape span) b ts none (subst (λ (m : Option (List ℕ)). Adds walk.nodes.items (put_below m st.spots number shape span) b) (sym n) adds))
+
+pub entered_nowhere : (st : State) (shape : Shape) (span : Option Span) → last_of st.tables ≡ None → entered st shape span ≡ None
+entered_nowhere st shape span t = ap (λ (o : Option ℕ). o >>= λ k. put_below st.name st.spots k shape span >>= with_spots st.tables) t
 
 pub goes_headed : (walk : Walk) (st : State) (name : List ℕ) (count : ℕ) (b : Bool) → st.name ≡ Some name → count ≡ length st.spots → walk.tables.items ≡ count ∷ [] → walk.name ≡ None → Adds walk.nodes.items (added st.spots 0 name section None) b → Goes walk (headed st) b
 goes_headed walk st name count b n size ts none adds =
@@ -55,10 +57,10 @@ pub headed_none : (st : State) (name : List ℕ) → st.name ≡ Some name → a
 headed_none st name n e =
     ap (λ (o : Option (List ℕ)). o >>= λ x. added st.spots 0 x section None >>= with_spots (length st.spots ∷ [])) n ∙ ap (λ (o : Option (List Spot)). o >>= with_spots (length st.spots ∷ [])) e
 
--- an inline table is innermost
-pub goes_opened : (middle walk : Walk) (st : State) (span : Option Span) (count : ℕ) → count ≡ length st.spots → Goes middle (entered st shapes.inline span) true → walk.nodes.items ≡ middle.nodes.items → walk.tables.items ≡ middle.tables.items ++ count ∷ [] → walk.name ≡ middle.name
-    → Goes walk (opened st span) true
-goes_opened middle walk st span count size (next, e, w) ns ts n = (
+-- an array or an inline table is innermost
+pub goes_opened : (middle walk : Walk) (st : State) (shape : Shape) (span : Option Span) (count : ℕ) → count ≡ length st.spots → Goes middle (entered st shape span) true → walk.nodes.items ≡ middle.nodes.items → walk.tables.items ≡ middle.tables.items ++ count ∷ [] → walk.name ≡ middle.name
+    → Goes walk (opened st shape span) true
+goes_opened middle walk st shape span count size (next, e, w) ns ts n = (
   record next { tables = next.tables ++ length st.spots ∷ [] },
   ap (λ (o : Option State). o >>= λ x. Some (record x { tables = x.tables ++ length st.spots ∷ [] })) e,
   record {
@@ -68,8 +70,8 @@ goes_opened middle walk st span count size (next, e, w) ns ts n = (
   },
 )
 
-pub opened_refused : (middle : Walk) (st : State) (span : Option Span) → Goes middle (entered st shapes.inline span) false → opened st span ≡ None
-opened_refused middle st span e = ap (λ (o : Option State). o >>= λ x. Some (record x { tables = x.tables ++ length st.spots ∷ [] })) e
+pub opened_refused : (middle : Walk) (st : State) (shape : Shape) (span : Option Span) → Goes middle (entered st shape span) false → opened st shape span ≡ None
+opened_refused middle st shape span e = ap (λ (o : Option State). o >>= λ x. Some (record x { tables = x.tables ++ length st.spots ∷ [] })) e
 
 -- ---- spans
 
@@ -101,11 +103,11 @@ holds_spanned nodes spots t old s span holds a b = record {
         let is_node : record old { span = span } ≡ node = same_Some _ node (sym (get_set_same nodes t (record old { span = span }) lt) ∙ ap (slice_get (slice_set nodes t (record old { span = span }))) (sym same) ∙ g) in
         let is_spot : spanned s span ≡ spot = same_Some _ spot (sym (get_set_same spots t (spanned s span) lt2) ∙ ap (slice_get (slice_set spots t (spanned s span))) (sym same) ∙ h) in
         let keeps : Keeps (slice_set spots t (spanned s span)) (record old { span = span }) (spanned s span) =
-        record { shape = k.shape; names = k.names; steps = k.steps; span = refl; below = λ q m some. stands_spanned spots t s span b m _ (k.below q m some) } in
+        record { shape = k.shape; names = k.names; steps = k.steps; span = refl; below = λ q m some. stands_spanned spots t s span b m _ (k.below q m some); element = λ i m some. stands_spanned spots t s span b m _ (k.element i m some) } in
         subst (λ (y : Spot). Keeps (slice_set spots t (spanned s span)) node y) is_spot (subst (λ (y : Node). Keeps (slice_set spots t (spanned s span)) y (spanned s span)) is_node keeps)
     | inr ne ↦
         let k = holds.each n node spot (sym (get_set_other nodes t n (record old { span = span }) ne) ∙ g) (sym (get_set_other spots t n (spanned s span) ne) ∙ h) in
-        record { shape = k.shape; names = k.names; steps = k.steps; span = k.span; below = λ q m some. stands_spanned spots t s span b m _ (k.below q m some) }
+        record { shape = k.shape; names = k.names; steps = k.steps; span = k.span; below = λ q m some. stands_spanned spots t s span b m _ (k.below q m some); element = λ i m some. stands_spanned spots t s span b m _ (k.element i m some) }
   ];
 }
 
@@ -115,7 +117,7 @@ closed_is st to number s t e =
     ap (λ (o : Option ℕ). o >>= λ k. slice_get st.spots k >>= λ x. x.span >>= λ span. let next : State = record { spots = slice_set st.spots k (spanned x (Some (record { from = span.from; to = to }))); tables = without_last st.tables; name = st.name } in Some next) t
     ∙ ap (λ (o : Option Spot). o >>= λ x. x.span >>= λ span. let next : State = record { spots = slice_set st.spots number (spanned x (Some (record { from = span.from; to = to }))); tables = without_last st.tables; name = st.name } in Some next) e
 
--- the innermost table has a span, and ends
+-- the innermost array or table has a span, and ends
 pub goes_closed : (old walk : Walk) (st : State) (to number : ℕ) (node : Node) (span : Span) → Walks old st → last_of old.tables.items ≡ Some number → number < length old.nodes.items → node ≡ get_or old.nodes.items number node → node.span ≡ Some span
     → walk.nodes.items ≡ slice_set old.nodes.items number (record node { span = Some (record { from = span.from; to = to }) }) → walk.tables.items ≡ without_last old.tables.items → walk.name ≡ old.name → Goes walk (closed st to) true
 goes_closed old walk st to number node span w top lt is has ns ts n =
@@ -153,6 +155,11 @@ without_push base t =
 pub step_is : (bytes : List ℕ) (m : Mark) (st : State) (k : MarkKind) → m.kind ≡ k → step bytes m st ≡ act k bytes m st
 unfolding step
 step_is bytes m st k e = ap (λ (j : MarkKind). act j bytes m st) e
+
+-- an array or an inline table ends
+pub close_step : (bytes : List ℕ) (m : Mark) (st : State) → (m.kind ≡ kinds.CloseArray) ⊎ (m.kind ≡ kinds.CloseTable) → step bytes m st ≡ closed st m.to
+close_step bytes m st (inl e) = step_is bytes m st kinds.CloseArray e
+close_step bytes m st (inr e) = step_is bytes m st kinds.CloseTable e
 
 -- a name waits
 named_by : (walk old : Walk) (bytes : List ℕ) (m : Mark) (st : State) (s : String Global) (k : MarkKind) → m.kind ≡ k → is_said k ≡ true → act k bytes m st ≡ (said bytes m >>= λ n. Some (record st { name = Some n })) → Walks old st → IsToken bytes m
@@ -195,29 +202,29 @@ word_step bytes m st s (inr (inr (inr (inl e)))) = word_by bytes m st s kinds.Fl
 word_step bytes m st s (inr (inr (inr (inr e)))) = word_by bytes m st s kinds.DateTime e refl refl
 
 pub other_step : (bytes : List ℕ) (m : Mark) (st : State) (k : MarkKind) → m.kind ≡ k → (k ≡ kinds.BarePart → ⊥) → (k ≡ kinds.BasicPart → ⊥) → (k ≡ kinds.LiteralPart → ⊥) → (k ≡ kinds.BasicString → ⊥) → (k ≡ kinds.LiteralString → ⊥) → (k ≡ kinds.True → ⊥)
-    → (k ≡ kinds.False → ⊥) → (k ≡ kinds.OpenTable → ⊥) → (k ≡ kinds.CloseTable → ⊥) → (k ≡ kinds.Header → ⊥) → (k ≡ kinds.Integer → ⊥) → (k ≡ kinds.Float → ⊥) → (k ≡ kinds.DateTime → ⊥) → step bytes m st ≡ None
-other_step bytes m st k kind a b c d e f g h i j l n o = step_is bytes m st k kind ∙ nothing k a b c d e f g h i j l n o
+    → (k ≡ kinds.False → ⊥) → (k ≡ kinds.OpenTable → ⊥) → (k ≡ kinds.CloseTable → ⊥) → (k ≡ kinds.Header → ⊥) → (k ≡ kinds.Integer → ⊥) → (k ≡ kinds.Float → ⊥) → (k ≡ kinds.DateTime → ⊥) → (k ≡ kinds.OpenArray → ⊥) → (k ≡ kinds.CloseArray → ⊥) → step bytes m st ≡ None
+other_step bytes m st k kind a b c d e f g h i j l n o p q = step_is bytes m st k kind ∙ nothing k a b c d e f g h i j l n o p q
   where
     nothing : (x : MarkKind) → (x ≡ kinds.BarePart → ⊥) → (x ≡ kinds.BasicPart → ⊥) → (x ≡ kinds.LiteralPart → ⊥) → (x ≡ kinds.BasicString → ⊥) → (x ≡ kinds.LiteralString → ⊥) → (x ≡ kinds.True → ⊥)
-        → (x ≡ kinds.False → ⊥) → (x ≡ kinds.OpenTable → ⊥) → (x ≡ kinds.CloseTable → ⊥) → (x ≡ kinds.Header → ⊥) → (x ≡ kinds.Integer → ⊥) → (x ≡ kinds.Float → ⊥) → (x ≡ kinds.DateTime → ⊥) → act x bytes m st ≡ None
-    nothing kinds.BarePart a b c d e f g h i j l n o = absurd (a refl)
-    nothing kinds.BasicPart a b c d e f g h i j l n o = absurd (b refl)
-    nothing kinds.LiteralPart a b c d e f g h i j l n o = absurd (c refl)
-    nothing kinds.BasicString a b c d e f g h i j l n o = absurd (d refl)
-    nothing kinds.LiteralString a b c d e f g h i j l n o = absurd (e refl)
-    nothing kinds.True a b c d e f g h i j l n o = absurd (f refl)
-    nothing kinds.False a b c d e f g h i j l n o = absurd (g refl)
-    nothing kinds.OpenTable a b c d e f g h i j l n o = absurd (h refl)
-    nothing kinds.CloseTable a b c d e f g h i j l n o = absurd (i refl)
-    nothing kinds.Header a b c d e f g h i j l n o = absurd (j refl)
-    nothing kinds.ElementHeader a b c d e f g h i j l n o = refl
-    nothing kinds.MultiBasicString a b c d e f g h i j l n o = refl
-    nothing kinds.MultiLiteralString a b c d e f g h i j l n o = refl
-    nothing kinds.Integer a b c d e f g h i j l n o = absurd (l refl)
-    nothing kinds.Float a b c d e f g h i j l n o = absurd (n refl)
-    nothing kinds.DateTime a b c d e f g h i j l n o = absurd (o refl)
-    nothing kinds.OpenArray a b c d e f g h i j l n o = refl
-    nothing kinds.CloseArray a b c d e f g h i j l n o = refl
+        → (x ≡ kinds.False → ⊥) → (x ≡ kinds.OpenTable → ⊥) → (x ≡ kinds.CloseTable → ⊥) → (x ≡ kinds.Header → ⊥) → (x ≡ kinds.Integer → ⊥) → (x ≡ kinds.Float → ⊥) → (x ≡ kinds.DateTime → ⊥) → (x ≡ kinds.OpenArray → ⊥) → (x ≡ kinds.CloseArray → ⊥) → act x bytes m st ≡ None
+    nothing kinds.BarePart a b c d e f g h i j l n o p q = absurd (a refl)
+    nothing kinds.BasicPart a b c d e f g h i j l n o p q = absurd (b refl)
+    nothing kinds.LiteralPart a b c d e f g h i j l n o p q = absurd (c refl)
+    nothing kinds.BasicString a b c d e f g h i j l n o p q = absurd (d refl)
+    nothing kinds.LiteralString a b c d e f g h i j l n o p q = absurd (e refl)
+    nothing kinds.True a b c d e f g h i j l n o p q = absurd (f refl)
+    nothing kinds.False a b c d e f g h i j l n o p q = absurd (g refl)
+    nothing kinds.OpenTable a b c d e f g h i j l n o p q = absurd (h refl)
+    nothing kinds.CloseTable a b c d e f g h i j l n o p q = absurd (i refl)
+    nothing kinds.Header a b c d e f g h i j l n o p q = absurd (j refl)
+    nothing kinds.ElementHeader a b c d e f g h i j l n o p q = refl
+    nothing kinds.MultiBasicString a b c d e f g h i j l n o p q = refl
+    nothing kinds.MultiLiteralString a b c d e f g h i j l n o p q = refl
+    nothing kinds.Integer a b c d e f g h i j l n o p q = absurd (l refl)
+    nothing kinds.Float a b c d e f g h i j l n o p q = absurd (n refl)
+    nothing kinds.DateTime a b c d e f g h i j l n o p q = absurd (o refl)
+    nothing kinds.OpenArray a b c d e f g h i j l n o p q = absurd (p refl)
+    nothing kinds.CloseArray a b c d e f g h i j l n o p q = absurd (q refl)
 
 -- ---- all marks
 

@@ -1,12 +1,12 @@
 -- What a document keeps of its text, and what it shows.
-use Rattle.std.specs.Prelude.{◌≡◌, ℕ, List, [], ◌∷◌, ◌++◌, length, map, Option, Some, None, string_bytes}
+use Rattle.std.specs.Prelude.{◌≡◌, ℕ, suc, List, [], ◌∷◌, ◌++◌, length, map, Option, Some, None, string_bytes}
 use Rattle.std.specs.List.{filter_map}
 use Rattle.edit_document.specs.declared.nodes.Span.{Span}
 use Rattle.edit_document.specs.declared.document.Document.TheInside.{Inside}
-use Rattle.edit_document.specs.Characters.{quote, apostrophe, comma, right_brace}
+use Rattle.edit_document.specs.Characters.{quote, apostrophe, comma, right_bracket, right_brace}
 use Rattle.edit_document.specs.Strings.{◌·◌, line_end, says, says_multi, name}
 use Rattle.edit_document.specs.Numbers.{integer_text, float_text, datetime_text}
-use Rattle.edit_document.specs.Grammar.{Value, basic, literal, multi_basic, multi_literal, boolean, integer, float, datetime, array, inline, Members, no_members, last_member, member, gap, value, members, Statement, pair, header, element_header, comment, Line, empty_line, full_line, Lines, one_line, more_lines, lines, Text}
+use Rattle.edit_document.specs.Grammar.{Value, basic, literal, multi_basic, multi_literal, boolean, integer, float, datetime, array, inline, Elements, no_elements, last_element, element, Members, no_members, last_member, member, gap, value, elements, members, Statement, pair, header, element_header, comment, Line, empty_line, full_line, Lines, one_line, more_lines, lines, Text}
 use Rattle.edit_document.specs.Assertions.{Step, key, index, Place, at}
 use Rattle.edit_document.specs.Tree.{View, string, truth, whole, fractional, moment, static_array, step_from, count_elements}
 use Rattle.edit_document.specs.Supported.{IsManifest}
@@ -40,7 +40,7 @@ span_of v after = record { from = length (value v after); to = length after }
 abbrev pub noted : Place → Value → List ℕ → Noted
 noted place v after = record { place = place; shape = shape_of_value v; span = Some (span_of v after) }
 
--- what the members of a value note, of keys with one part
+-- what the elements and members of a value note, of keys with one part
 abbrev mutual
   pub noted_inside : Place → Value → List ℕ → List Noted
   noted_inside place (basic ps) after = []
@@ -51,8 +51,15 @@ abbrev mutual
   noted_inside place (integer n) after = []
   noted_inside place (float f) after = []
   noted_inside place (datetime d) after = []
-  noted_inside place (array g es) after = []
+  noted_inside place (array g es) after = noted_elements place 0 es (right_bracket ∷ after)
   noted_inside place (inline g ms) after = noted_members place ms (right_brace ∷ after)
+
+  pub noted_elements : Place → ℕ → Elements → List ℕ → List Noted
+  noted_elements place i no_elements rest = []
+  noted_elements place i (last_element v g) rest = noted (at place (index i)) v (gap g rest) ∷ noted_inside (at place (index i)) v (gap g rest)
+  noted_elements place i (element v g h es) rest =
+      let after = gap g (comma ∷ gap h (elements es rest)) in
+      (noted (at place (index i)) v after ∷ noted_inside (at place (index i)) v after) ++ noted_elements place (suc i) es rest
 
   pub noted_members : Place → Members → List ℕ → List Noted
   noted_members place no_members rest = []

@@ -97,6 +97,7 @@ Shows (truth b) (seen.Truth c) = c ≡ b
 Shows (whole digits) seen.Integer = ⊤
 Shows (fractional digits) seen.Float = ⊤
 Shows (moment digits) seen.DateTime = ⊤
+Shows (static_array n) seen.Array = ⊤
 Shows (inline_table members) seen.Inline = ⊤
 Shows (table members) seen.Table = ⊤
 Shows _ _ = ⊥

@@ -1,6 +1,6 @@
 -- How the spots of a text come from its marks, one after the other. The contracts of the private functions cite this;
 -- what it has to do with the assertions of a form is proved in proofs/.
-use Rattle.std.specs.Prelude.{◌≡◌, ℕ, ◌+◌, ◌-◌, Bool, true, false, ◌||◌, nat_le, if◌then◌else◌, List, [], ◌∷◌, ◌++◌, length, take, drop, slice_get, slice_set, Option, Some, None, option_map, string_bytes}
+use Rattle.std.specs.Prelude.{◌≡◌, ℕ, suc, ◌+◌, ◌-◌, Bool, true, false, ◌||◌, nat_le, if◌then◌else◌, List, [], ◌∷◌, ◌++◌, length, take, drop, slice_get, slice_set, Option, Some, None, option_map, string_bytes}
 use Rattle.std.specs.List.{list_any}
 use Rattle.std.specs.Str.{bytes_eq, is_utf8}
 use Rattle.edit_document.specs.declared.read.marks.Mark.{Mark}
@@ -10,9 +10,9 @@ use Rattle.edit_document.specs.declared.nodes.Span.{Span}
 use Rattle.edit_document.specs.Characters.{quote}
 use Rattle.edit_document.specs.Strings.{says}
 use Rattle.edit_document.specs.Reading.{◌>>=◌, basic_at, literal_at}
-use Rattle.edit_document.specs.Assertions.{key, at}
-use Rattle.edit_document.specs.Tree.{string, truth}
-use Rattle.edit_document.specs.Nodes.{Shape, shape_said, scalar, inline, section, Spot}
+use Rattle.edit_document.specs.Assertions.{key, index, at}
+use Rattle.edit_document.specs.Tree.{string, truth, static_array}
+use Rattle.edit_document.specs.Nodes.{Shape, shape_said, scalar, inline, section, element_count, Spot}
 
 -- ---- what tokens say
 
@@ -63,9 +63,24 @@ added spots number name shape span = slice_get spots number >>= λ s.
     if has_name s.names name || nat_le 80 (length s.place) then None
     else Some (slice_set spots number (with_name s name) ++ record { place = at s.place (key name); shape = shape; names = []; span = span } ∷ [])
 
+-- an array with so many elements
+abbrev pub with_count : Spot → ℕ → Spot
+with_count s n = record s { shape = scalar (static_array n) }
+
+-- an element more of the spot of a number, refused where it is no array, and past 80 steps
+unfoldable pub element_added : List Spot → ℕ → Shape → Option Span → Option (List Spot)
+element_added spots number shape span = slice_get spots number >>= λ s. element_count s.shape >>= λ n.
+    if nat_le 80 (length s.place) then None
+    else Some (slice_set spots number (with_count s (suc n)) ++ record { place = at s.place (index n); shape = shape; names = []; span = span } ∷ [])
+
+-- a member of the waiting name, or an element where none waits
+abbrev pub put_below : Option (List ℕ) → List Spot → ℕ → Shape → Option Span → Option (List Spot)
+put_below (Some name) spots number shape span = added spots number name shape span
+put_below None spots number shape span = element_added spots number shape span
+
 -- ---- the walk
 
--- the spots so far; the numbers of the header and of the inline tables that are open, the innermost last; the name that waits for its value
+-- the spots so far; the numbers of the header and of the arrays and inline tables that are open, the innermost last; the name that waits for its value
 pub record State : Type 0 where
   pub spots : List Spot
   pub tables : List ℕ
@@ -77,16 +92,16 @@ last_of numbers = slice_get numbers (length numbers - 1)
 abbrev pub without_last : List ℕ → List ℕ
 without_last numbers = take (length numbers - 1) numbers
 
--- the waiting name becomes a member of the innermost table
+-- the waiting name becomes a member of the innermost table, or an element stands in the innermost array
 abbrev pub entered : State → Shape → Option Span → Option State
-entered st shape span = st.name >>= λ name. last_of st.tables >>= λ number. added st.spots number name shape span >>= λ spots.
+entered st shape span = last_of st.tables >>= λ number. put_below st.name st.spots number shape span >>= λ spots.
     Some (record { spots = spots; tables = st.tables; name = None })
 
--- an inline table opens
-abbrev pub opened : State → Option Span → Option State
-opened st span = entered st inline span >>= λ next. Some (record next { tables = next.tables ++ length st.spots ∷ [] })
+-- an array or an inline table opens
+abbrev pub opened : State → Shape → Option Span → Option State
+opened st shape span = entered st shape span >>= λ next. Some (record next { tables = next.tables ++ length st.spots ∷ [] })
 
--- the innermost table ends before so many bytes
+-- the innermost array or table ends before so many bytes
 abbrev pub closed : State → ℕ → Option State
 closed st to = last_of st.tables >>= λ number. slice_get st.spots number >>= λ s. s.span >>= λ span.
     Some (record st { spots = slice_set st.spots number (record s { span = Some (record { from = span.from; to = to }) }); tables = without_last st.tables })
@@ -114,7 +129,9 @@ act kinds.Float bytes m st = worded bytes m st
 act kinds.DateTime bytes m st = worded bytes m st
 act kinds.True bytes m st = entered st (scalar (truth true)) (Some (span_of_mark m))
 act kinds.False bytes m st = entered st (scalar (truth false)) (Some (span_of_mark m))
-act kinds.OpenTable bytes m st = opened st (Some (span_of_mark m))
+act kinds.OpenArray bytes m st = opened st (scalar (static_array 0)) (Some (span_of_mark m))
+act kinds.CloseArray bytes m st = closed st m.to
+act kinds.OpenTable bytes m st = opened st inline (Some (span_of_mark m))
 act kinds.CloseTable bytes m st = closed st m.to
 act kinds.Header bytes m st = headed st
 act _ bytes m st = None

@@ -48,6 +48,7 @@ pub(crate) enum Seen<'a> {
     Integer,
     Float,
     DateTime,
+    Array,
     Inline,
     Table,
 }
@@ -89,16 +90,16 @@ impl Document {
             Content::Integer(_) => Seen::Integer,
             Content::Float(_) => Seen::Float,
             Content::DateTime(_) => Seen::DateTime,
+            Content::Array => Seen::Array,
             Content::Inline => Seen::Inline,
             Content::Table => Seen::Table,
         }
     }
 
-    /// How many members a node has.
-    pub(crate) fn member_count(&self, number: usize) -> usize
+    /// How many elements or members a node has.
+    pub(crate) fn count(&self, number: usize) -> usize
         requires { number < length self.now.nodes }
-        ensures count { result ≡ count_in (view_numbered self.now number) }
-        ensures names { result ≡ length (names_in (view_numbered self.now number)) }
+        ensures { result ≡ count_in (view_numbered self.now number) }
     {
         let node = &self.nodes[number];
         match &node.content {
@@ -107,6 +108,24 @@ impl Document {
             | Content::Integer(_)
             | Content::Float(_)
             | Content::DateTime(_) => 0,
+            Content::Array => node.elements.len(),
+            Content::Inline | Content::Table => node.members.len(),
+        }
+    }
+
+    /// How many members a node has.
+    pub(crate) fn member_count(&self, number: usize) -> usize
+        requires { number < length self.now.nodes }
+        ensures { result ≡ length (names_in (view_numbered self.now number)) }
+    {
+        let node = &self.nodes[number];
+        match &node.content {
+            Content::Text(_)
+            | Content::Truth(_)
+            | Content::Integer(_)
+            | Content::Float(_)
+            | Content::DateTime(_)
+            | Content::Array => 0,
             Content::Inline | Content::Table => node.members.len(),
         }
     }
@@ -122,7 +141,8 @@ impl Document {
             | Content::Truth(_)
             | Content::Integer(_)
             | Content::Float(_)
-            | Content::DateTime(_) => None,
+            | Content::DateTime(_)
+            | Content::Array => None,
             Content::Inline | Content::Table => {
                 let (name, _) = node.members.get_index(index)?;
                 Some(name.as_str())
@@ -147,12 +167,13 @@ impl Document {
         let _node = &self.nodes[number];
     }
 
-    /// No element stands below a node.
-    pub(crate) fn has_no_element(&self, number: usize, index: usize)
+    /// The number of an element of a node.
+    pub(crate) fn element(&self, number: usize, index: usize) -> Option<usize>
         requires { number < length self.now.nodes }
-        ensures { tree_of self.now (at (place_numbered self.now number) (index_step index)) ≡ None }
+        ensures { Numbers self.now (at (place_numbered self.now number) (index_step index)) result }
     {
-        let _node = &self.nodes[number];
+        let node = &self.nodes[number];
+        node.elements.get(index).copied()
     }
 
     /// Nothing stands below a place where nothing stands, and the root stands first.
@@ -172,10 +193,7 @@ impl Document {
         'steps: for step in place {
             match step {
                 Step::Key(key) => number = self.member(number, key.as_str())?,
-                Step::Index(index) => {
-                    self.has_no_element(number, *index);
-                    return None;
-                }
+                Step::Index(index) => number = self.element(number, *index)?,
             }
         }
         self.stands(number);

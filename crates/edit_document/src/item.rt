@@ -46,7 +46,7 @@ impl<'a> Item<'a> {
         match self.seen() {
             Seen::Text(text) => Some(text),
             Seen::Truth(_) | Seen::Inline | Seen::Table => None,
-            Seen::Integer | Seen::Float | Seen::DateTime => None,
+            Seen::Integer | Seen::Float | Seen::DateTime | Seen::Array => None,
         }
     }
 
@@ -56,7 +56,7 @@ impl<'a> Item<'a> {
         match self.seen() {
             Seen::Truth(truth) => Some(truth),
             Seen::Text(_) | Seen::Inline | Seen::Table => None,
-            Seen::Integer | Seen::Float | Seen::DateTime => None,
+            Seen::Integer | Seen::Float | Seen::DateTime | Seen::Array => None,
         }
     }
 
@@ -67,6 +67,7 @@ impl<'a> Item<'a> {
         match self.seen() {
             Seen::Text(_) | Seen::Truth(_) | Seen::Inline | Seen::Table => None,
             Seen::Integer | Seen::Float | Seen::DateTime => None,
+            Seen::Array => Some(self),
         }
     }
 
@@ -85,15 +86,18 @@ impl<'a> Item<'a> {
     pub fn at(self, index: usize) -> Option<Item<'a>>
         ensures { Finds (document_of self.entry) (below (place_of self.entry) (index_step index)) result }
     {
-        self.document.has_no_element(self.node, index);
-        None
+        let document = self.document;
+        match document.element(self.node, index) {
+            Some(node) => Some(Item { document, node }),
+            None => None,
+        }
     }
 
     /// How many members or elements there are.
     pub fn len(self) -> usize
         ensures { result ≡ count_in (view_of self.entry) }
     {
-        self.document.member_count(self.node)
+        self.document.count(self.node)
     }
 
     /// The keys of a table, in the order of their first statements.
@@ -113,7 +117,7 @@ impl<'a> Item<'a> {
         match self.seen() {
             Seen::Text(_) => true,
             Seen::Truth(_) | Seen::Inline | Seen::Table => false,
-            Seen::Integer | Seen::Float | Seen::DateTime => false,
+            Seen::Integer | Seen::Float | Seen::DateTime | Seen::Array => false,
         }
     }
 
@@ -123,7 +127,7 @@ impl<'a> Item<'a> {
     {
         match self.seen() {
             Seen::Text(_) | Seen::Truth(_) => false,
-            Seen::Integer | Seen::Float | Seen::DateTime => false,
+            Seen::Integer | Seen::Float | Seen::DateTime | Seen::Array => false,
             Seen::Inline | Seen::Table => true,
         }
     }
@@ -134,7 +138,7 @@ impl<'a> Item<'a> {
         match self.seen() {
             Seen::Inline => true,
             Seen::Text(_) | Seen::Truth(_) | Seen::Table => false,
-            Seen::Integer | Seen::Float | Seen::DateTime => false,
+            Seen::Integer | Seen::Float | Seen::DateTime | Seen::Array => false,
         }
     }
 
@@ -149,6 +153,7 @@ impl<'a> Item<'a> {
             Seen::Integer => "integer",
             Seen::Float => "float",
             Seen::DateTime => "datetime",
+            Seen::Array => "array",
             Seen::Inline => "inline table",
             Seen::Table => "table",
         }

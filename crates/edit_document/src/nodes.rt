@@ -20,6 +20,8 @@ pub(crate) enum Content {
     Integer(String),
     Float(String),
     DateTime(String),
+    /// An array that was written as a value.
+    Array,
     Inline,
     Table,
 }
@@ -34,4 +36,6 @@ pub(crate) struct Node {
     pub(crate) span: Option<Span>,
     /// The numbers of its members by their names, in the order of their first assertions.
     pub(crate) members: IndexMap<String, usize>,
+    /// The numbers of its elements, where it is an array.
+    pub(crate) elements: Vec<usize>,
 }

@@ -1,10 +1,10 @@
 //! The walk over the marks of a text, which makes its nodes.
-ghost use Rattle.std.specs.Prelude.{◌≡◌, ◌<◌, ◌≤◌, ℕ, List, IfOk, IfErr, MatchResult, not, ◌||◌, nat_le, is_some, length, string_bytes, Some, None};
+ghost use Rattle.std.specs.Prelude.{◌≡◌, ◌<◌, ◌≤◌, ℕ, List, IfOk, IfErr, MatchResult, not, ◌||◌, ◌&&◌, nat_le, is_some, length, string_bytes, Some, None};
 ghost use Rattle.indexmap.specs.IndexMap.{get_by_text};
 ghost use Rattle.edit_document.specs.Errors.{IsMemory};
-ghost use Rattle.edit_document.specs.Nodes.{Spot, Holds, shape_of, shape_said};
+ghost use Rattle.edit_document.specs.Nodes.{Spot, Holds, shape_of, shape_of_node, element_count, shape_said};
 ghost use Rattle.edit_document.specs.Nodes as shapes;
-ghost use Rattle.edit_document.specs.Walk.{State, added, entered, opened, closed, headed, start, step, walked};
+ghost use Rattle.edit_document.specs.Walk.{State, added, element_added, entered, opened, closed, headed, start, step, walked};
 ghost use Rattle.edit_document.specs.WalkState.{Adds, Walks, Goes, SaysAt, IsToken, KeepsState};
 ghost use Rattle.edit_document.specs.Marks.{IsReadRefusal};
 ghost use Rattle.std.specs.List.{AllByRecursion};
@@ -16,7 +16,7 @@ use crate::read::{Mark, MarkKind};
 use indexmap::IndexMap;
 use std::alloc::Global;
 
-/// The nodes so far; the numbers of the header and of the inline tables that are open, the innermost last; and the
+/// The nodes so far; the numbers of the header and of the arrays and inline tables that are open, the innermost last; and the
 /// name that waits for its value.
 #[derive(Drop)]
 pub(crate) struct Walk {
@@ -59,6 +59,54 @@ fn add(
         steps,
         span,
         members: IndexMap::new(alloc),
+        elements: Vec::new(alloc),
+    })?;
+    Ok(true)
+}
+
+/// Whether an element may stand below a node.
+fn takes_element(node: &Node) -> bool
+    ensures { result ≡ (is_some (element_count (shape_of_node node.now)) && not (nat_le 80 node.now.steps)) }
+{
+    match &node.content {
+        Content::Text(_)
+        | Content::Truth(_)
+        | Content::Integer(_)
+        | Content::Float(_)
+        | Content::DateTime(_)
+        | Content::Inline
+        | Content::Table => false,
+        Content::Array => node.steps < 80,
+    }
+}
+
+/// Adds an element to the node of a number. The new node comes last. Answers whether it may stand there.
+fn add_element(
+    alloc: Global,
+    nodes: &mut Vec<Node>,
+    number: usize,
+    content: Content,
+    span: Option<Span>,
+) -> CargoResult<bool>
+    ensures added { (spots : List Spot) → Holds nodes.old.items spots → IfOk result (Adds nodes.new.items (element_added spots number (shape_of content) span)) }
+    ensures refused { IfErr result IsMemory }
+{
+    let count = nodes.len();
+    if number >= count {
+        return Ok(false);
+    }
+    if !takes_element(&nodes[number]) {
+        return Ok(false);
+    }
+    let node = &mut nodes[number];
+    let steps = node.steps + 1;
+    node.elements.push(count)?;
+    nodes.push(Node {
+        content,
+        steps,
+        span,
+        members: IndexMap::new(alloc),
+        elements: Vec::new(alloc),
     })?;
     Ok(true)
 }
@@ -95,6 +143,7 @@ impl Walk {
             steps: 0,
             span: None,
             members: IndexMap::new(alloc),
+            elements: Vec::new(alloc),
         })?;
         let mut tables = Vec::new(alloc);
         tables.push(0)?;
@@ -116,34 +165,34 @@ impl Walk {
         nodes
     }
 
-    /// The waiting name becomes a member of the innermost table.
+    /// The waiting name becomes a member of the innermost table, or an element stands in the innermost array.
     fn enter(&mut self, alloc: Global, content: Content, span: Option<Span>) -> CargoResult<bool>
         ensures goes { (st : State) → Walks self.old st → IfOk result (Goes self.new (entered st (shape_of content) span)) }
         ensures refused { IfErr result IsMemory }
     {
-        let Some(name) = self.name.take() else {
-            return Ok(false);
-        };
         let Some(number) = self.tables.last().copied() else {
             return Ok(false);
         };
-        add(alloc, &mut self.nodes, number, name, content, span)
+        match self.name.take() {
+            Some(name) => add(alloc, &mut self.nodes, number, name, content, span),
+            None => add_element(alloc, &mut self.nodes, number, content, span),
+        }
     }
 
-    /// An inline table opens.
-    fn open(&mut self, alloc: Global, span: Span) -> CargoResult<bool>
-        ensures goes { (st : State) → Walks self.old st → IfOk result (Goes self.new (opened st (Some span))) }
+    /// An array or an inline table opens.
+    fn open(&mut self, alloc: Global, content: Content, span: Span) -> CargoResult<bool>
+        ensures goes { (st : State) → Walks self.old st → IfOk result (Goes self.new (opened st (shape_of content) (Some span))) }
         ensures refused { IfErr result IsMemory }
     {
         let number = self.nodes.len();
-        if !self.enter(alloc, Content::Inline, Some(span))? {
+        if !self.enter(alloc, content, Some(span))? {
             return Ok(false);
         }
         self.tables.push(number)?;
         Ok(true)
     }
 
-    /// The innermost table ends before so many bytes.
+    /// The innermost array or table ends before so many bytes.
     fn close(&mut self, to: usize) -> bool
         ensures { (st : State) → Walks self.old st → Goes self.new (closed st to) result }
     {
@@ -205,8 +254,9 @@ impl Walk {
             }
             MarkKind::True => self.enter(alloc, Content::Truth(true), Some(span)),
             MarkKind::False => self.enter(alloc, Content::Truth(false), Some(span)),
-            MarkKind::OpenTable => self.open(alloc, span),
-            MarkKind::CloseTable => Ok(self.close(mark.to)),
+            MarkKind::OpenArray => self.open(alloc, Content::Array, span),
+            MarkKind::OpenTable => self.open(alloc, Content::Inline, span),
+            MarkKind::CloseArray | MarkKind::CloseTable => Ok(self.close(mark.to)),
             MarkKind::Header => self.head(alloc),
             _ => Ok(false),
         }

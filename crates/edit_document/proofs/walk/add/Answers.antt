@@ -16,8 +16,8 @@ returns-then-not-takes-clause-added c spots holds =
 
 pub returns-clause-added : goal.returns-clause-added
 returns-clause-added c spots holds =
-    add_done c.args.nodes.now.items c.push.new.self.items spots c.args.number c.len-count.result c.index.result.now c.index_mut-node.result.now (record c.index_mut-node.result.now { members = c.insert.new.self }) (record { content = c.args.content; steps = c.index_mut-node.result.now.steps + 1; span = c.args.span; members = c.new.result }) c.args.name c.as_str.result.now c.args.content c.args.span holds
+    add_done c.args.nodes.now.items c.push.new.self.items spots c.args.number c.len-count.result c.index.result.now c.index_mut-node.result.now (record c.index_mut-node.result.now { members = c.insert.new.self }) (record { content = c.args.content; steps = c.index_mut-node.result.now.steps + 1; span = c.args.span; members = c.new.result; elements = c.new-2.result }) c.args.name c.as_str.result.now c.args.content c.args.span holds
     c.if-number-count.false (c.len-count.ensures ∙ c.args.nodes.now.ok.0) c.index.ensures c.index_mut-node.ensures.value c.as_str.ensures.value (sym c.takes.ensures ∙ c.if-not-takes.false)
-    (record { content = refl; steps = refl; span = refl; entries = (c.in_ok-insert.ensures {u = tt}).entries })
-    (record { content_is = refl; steps_are = refl; span_is = refl; empty = c.new.ensures.empty })
+    (record { content = refl; steps = refl; span = refl; elements = refl; entries = (c.in_ok-insert.ensures {u = tt}).entries })
+    (record { content_is = refl; steps_are = refl; span_is = refl; empty = c.new.ensures.empty; bare = c.new-2.ensures.items })
     (c.in_ok-push.ensures {u = tt}).items
