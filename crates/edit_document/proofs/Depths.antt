@@ -1,15 +1,15 @@
--- Where every place has at most 80 steps, inline tables are at most 80 deep in one another.
+-- Where every place has at most 80 steps, arrays and inline tables are at most 80 deep in one another.
 use Rattle.std.proofs.Common.{◌≡◌, ℕ, zero, suc, ◌+◌, ◌≤◌, List, [], ◌∷◌, ◌++◌, length, subst, arith}
 use Rattle.std.specs.Prelude.{map, max}
 use Rattle.std.specs.List.{AllByRecursion}
 use Rattle.std.proofs.lemmas.List.{length_push, map-append}
-use Rattle.edit_document.specs.Characters.{comma, right_brace}
+use Rattle.edit_document.specs.Characters.{comma, right_bracket, right_brace}
 use Rattle.edit_document.specs.Strings.{◌·◌, line_end, name}
-use Rattle.edit_document.specs.Grammar.{gap, Value, basic, literal, multi_basic, multi_literal, boolean, integer, float, datetime, array, inline, Members, no_members, last_member, member, members, Statement, pair, header, element_header, comment, empty_line, full_line, Lines, one_line, more_lines, lines}
-use Rattle.edit_document.specs.Supported.{IsSupportedValue, AreSupportedMembers, IsSupportedStatement, AreSupportedLines}
-use Rattle.edit_document.specs.Assertions.{key, Place, at}
-use Rattle.edit_document.specs.Depth.{depth, members_depth, statement_depth, lines_depth}
-use Rattle.edit_document.specs.DocumentLayout.{Noted, places_of, noted_inside, noted_members, noted_value, noted_statement, header_after, noted_lines}
+use Rattle.edit_document.specs.Grammar.{gap, Value, basic, literal, multi_basic, multi_literal, boolean, integer, float, datetime, array, inline, Elements, no_elements, last_element, element, elements, Members, no_members, last_member, member, members, Statement, pair, header, element_header, comment, empty_line, full_line, Lines, one_line, more_lines, lines}
+use Rattle.edit_document.specs.Supported.{IsSupportedValue, AreSupportedElements, AreSupportedMembers, IsSupportedStatement, AreSupportedLines}
+use Rattle.edit_document.specs.Assertions.{key, index, Place, at}
+use Rattle.edit_document.specs.Depth.{depth, elements_depth, members_depth, statement_depth, lines_depth}
+use Rattle.edit_document.specs.DocumentLayout.{Noted, places_of, noted_inside, noted_elements, noted_members, noted_value, noted_statement, header_after, noted_lines}
 use Rattle.edit_document.proofs.Below.{all_front}
 
 abbrev Short : List Noted → Type 0
@@ -38,8 +38,22 @@ mutual
   value_deep p (integer n) after s le h = omega arith
   value_deep p (float f) after s le h = omega arith
   value_deep p (datetime d) after s le h = omega arith
-  value_deep p (array g es) after s le h = absurd s
+  value_deep p (array g es) after s le h = let m = elements_deep p 0 es (right_bracket ∷ after) s le h in omega arith
   value_deep p (inline g ms) after s le h = let m = members_deep p ms (right_brace ∷ after) s le h in omega arith
+
+  elements_deep : (p : Place) (i : ℕ) (es : Elements) (rest : List ℕ) → AreSupportedElements es → length p ≤ 80 → Short (noted_elements p i es rest) → length p + elements_depth es ≤ 80
+  elements_deep p i no_elements rest s le h = omega arith
+  elements_deep p i (last_element v g) rest s le h =
+      let m = value_deep (at p (index i)) v (gap g rest) s h.0 h.1 in
+      let size : length (p ++ index i ∷ []) ≡ length p + 1 = length_push p (index i) in
+      omega arith
+  elements_deep p i (element v g h2 es) rest s le h =
+      let after = gap g (comma ∷ gap h2 (elements es rest)) in
+      let first = short_front (noted_value (at p (index i)) v after) (noted_elements p (suc i) es rest) h in
+      let m = value_deep (at p (index i)) v after s.0 first.0 first.1 in
+      let size : length (p ++ index i ∷ []) ≡ length p + 1 = length_push p (index i) in
+      let more = elements_deep p (suc i) es rest s.1 le (short_back (noted_value (at p (index i)) v after) (noted_elements p (suc i) es rest) h) in
+      omega arith
 
   members_deep : (p : Place) (ms : Members) (rest : List ℕ) → AreSupportedMembers ms → length p ≤ 80 → Short (noted_members p ms rest) → length p + members_depth ms ≤ 80
   members_deep p no_members rest s le h = omega arith

@@ -4,16 +4,16 @@ use Rattle.std.specs.Prelude.{map, option_map, slice_get, ⊤, if◌then◌else�
 use Rattle.std.specs.List.{AllByRecursion, filter, filter_map}
 use Rattle.std.proofs.lemmas.List.{append-nil}
 use Rattle.std.proofs.lemmas.Option.{same_Some}
-use Rattle.edit_document.specs.Characters.{comma, right_brace}
+use Rattle.edit_document.specs.Characters.{comma, right_bracket, right_brace}
 use Rattle.edit_document.specs.Strings.{◌·◌, line_end, name, Dotted, Key}
-use Rattle.edit_document.specs.Grammar.{gap, Value, basic, literal, multi_basic, multi_literal, boolean, integer, float, datetime, array, inline, Members, no_members, last_member, member, members, Statement, pair, header, element_header, comment, empty_line, full_line, Lines, one_line, more_lines, lines, Text}
-use Rattle.edit_document.specs.Supported.{IsOnePart, IsSupportedValue, AreSupportedMembers, IsSupportedStatement, AreSupportedLines}
-use Rattle.edit_document.specs.Assertions.{Step, key, index, Place, at, same_step, same_place, Kind, dotted, leaf, super, header_kind, array_kind, element_kind, Assertion, asserts, names, named, of_key, of_value, of_members, of_pair, header_place, fronts, prefix_after, of_statement, of_lines, assertions, together, NoClash, AreShort}
+use Rattle.edit_document.specs.Grammar.{gap, Value, basic, literal, multi_basic, multi_literal, boolean, integer, float, datetime, array, inline, Elements, no_elements, last_element, element, elements, Members, no_members, last_member, member, members, Statement, pair, header, element_header, comment, empty_line, full_line, Lines, one_line, more_lines, lines, Text}
+use Rattle.edit_document.specs.Supported.{IsOnePart, IsSupportedValue, AreSupportedElements, AreSupportedMembers, IsSupportedStatement, AreSupportedLines}
+use Rattle.edit_document.specs.Assertions.{Step, key, index, Place, at, same_step, same_place, Kind, dotted, leaf, super, header_kind, array_kind, element_kind, Assertion, asserts, names, named, of_key, of_value, of_elements, of_members, of_pair, header_place, fronts, prefix_after, of_statement, of_lines, assertions, together, NoClash, AreShort}
 use Rattle.edit_document.specs.Tree.{step_from, once, members_of, View, string, truth, inline_table, table, view_of_kind, kind_at, view_in}
 use Rattle.edit_document.specs.Shown.{node_at}
 use Rattle.edit_document.specs.Nodes.{Shape, scalar, section, view_of_shape, shown_spot, Spot}
 use Rattle.edit_document.specs.Nodes as shapes
-use Rattle.edit_document.specs.DocumentLayout.{Noted, names_below, name_of_step, spot_of, root_noted, places_of, spots_in, shape_of_value, noted, noted_inside, noted_members, noted_value, noted_statement, header_after, noted_lines, noted_text}
+use Rattle.edit_document.specs.DocumentLayout.{Noted, names_below, name_of_step, spot_of, root_noted, places_of, spots_in, shape_of_value, noted, noted_inside, noted_elements, noted_members, noted_value, noted_statement, header_after, noted_lines, noted_text}
 use Rattle.edit_document.proofs.SamePlace.{same_step_self, same_step_is, same_place_is, not_root}
 use Rattle.edit_document.proofs.Below.{step_from_is, step_from_at, name_from, Once}
 use Rattle.edit_document.proofs.Spotting.{Fine, Closed, Good}
@@ -54,14 +54,14 @@ others_names ds = map (λ d. name d.part) ds
 one_part : (P : List (List ℕ) → Type 0) (k : Key) → IsOnePart k → P (name k.first ∷ []) → P (names k)
 one_part P k one h = subst (λ (ds : List Dotted). P (name k.first ∷ others_names ds)) (sym one) h
 
-leaf_noted : (place : Place) (n : List ℕ) (v : Value) (after : List ℕ) → IsSupportedValue v → IsNoted (asserts (at place (key n)) (at place (key n)) (leaf v)) (noted (at place (key n)) v after)
-leaf_noted place n v after s = record { place = refl; kind = (refl, s); below = not_root place (key n) }
+leaf_noted : (place : Place) (s : Step) (v : Value) (after : List ℕ) → IsSupportedValue v → IsNoted (asserts (at place s) (at place s) (leaf v)) (noted (at place s) v after)
+leaf_noted place s v after sup = record { place = refl; kind = (refl, sup); below = not_root place s }
 
 pair_matched : (within : Bool) (place : Place) (k : Key) (v : Value) (after : List ℕ) → IsOnePart k → IsSupportedValue v → Matched (of_value (at place (key (name k.first))) v) (noted_inside (at place (key (name k.first))) v after)
     → Matched (of_key within (named place (names k)) place (names k) v ++ of_value (named place (names k)) v) (noted_value (at place (key (name k.first))) v after)
 pair_matched within place k v after one s inside =
     one_part (λ ns. Matched (of_key within (named place ns) place ns v ++ of_value (named place ns) v) (noted_value (at place (key (name k.first))) v after)) k one
-    (leaf_noted place (name k.first) v after s, inside)
+    (leaf_noted place (key (name k.first)) v after s, inside)
 
 mutual
   pub value_matched : (place : Place) (v : Value) (after : List ℕ) → IsSupportedValue v → Matched (of_value place v) (noted_inside place v after)
@@ -73,8 +73,16 @@ mutual
   value_matched place (integer n) after s = tt
   value_matched place (float f) after s = tt
   value_matched place (datetime d) after s = tt
-  value_matched place (array g es) after s = absurd s
+  value_matched place (array g es) after s = elements_matched place 0 es (right_bracket ∷ after) s
   value_matched place (inline g ms) after s = members_matched place ms (right_brace ∷ after) s
+
+  elements_matched : (place : Place) (i : ℕ) (es : Elements) (rest : List ℕ) → AreSupportedElements es → Matched (of_elements place i es) (noted_elements place i es rest)
+  elements_matched place i no_elements rest s = tt
+  elements_matched place i (last_element v g) rest s = (leaf_noted place (index i) v (gap g rest) s, value_matched (at place (index i)) v (gap g rest) s)
+  elements_matched place i (element v g h es) rest s =
+      let after = gap g (comma ∷ gap h (elements es rest)) in
+      (leaf_noted place (index i) v after s.0, matched_append (of_value (at place (index i)) v) (of_elements place (suc i) es) (noted_inside (at place (index i)) v after) (noted_elements place (suc i) es rest)
+      (value_matched (at place (index i)) v after s.0) (elements_matched place (suc i) es rest s.1))
 
   pub members_matched : (place : Place) (ms : Members) (rest : List ℕ) → AreSupportedMembers ms → Matched (of_members place ms) (noted_members place ms rest)
   members_matched place no_members rest s = tt

@@ -6,7 +6,7 @@ use Rattle.edit_document.specs.Strings.{Key}
 use Rattle.edit_document.specs.Grammar.{Value, basic, literal, multi_basic, multi_literal, boolean, integer, float, datetime, array, inline, Elements, no_elements, last_element, element, Members, no_members, last_member, member, Statement, pair, header, element_header, Line, empty_line, full_line, Lines, one_line, more_lines, Text, text, IsValue, AreElements, AreMembers, IsMember, IsStatement, AreLines}
 use Rattle.edit_document.specs.Assertions.{Place, Step, at, key, index, names, named, same_place, Kind, dotted, leaf, super, header_kind, array_kind, element_kind, Assertion, of_statement, assertions, prefix_after, NoClash, IsDocument}
 use Rattle.edit_document.specs.Tree.{View, string, view_in, view_at, view_of_kind, view_of_value, kind_at, is_value_at}
-use Rattle.edit_document.specs.Supported.{IsSupportedValue, AreSupportedMembers, IsSupportedStatement, AreSupportedLines, IsSupported, IsManifest}
+use Rattle.edit_document.specs.Supported.{IsSupportedValue, AreSupportedElements, AreSupportedMembers, IsSupportedStatement, AreSupportedLines, IsSupported, IsManifest}
 use Rattle.edit_document.specs.Literals.{literal_of, literal_piece}
 use Rattle.edit_document.specs.Replaces.{Edits, new_text, literal_or, put, replaced_inside, replaced_elements, replaced_members, replaced_statement, replaced_lines, replaced, is_below, is_below_any, written, emptied}
 use Rattle.edit_document.proofs.SamePlaces.{by_test, place_true, place_same, not_below_itself}
@@ -98,8 +98,13 @@ mutual
   supported_inside edits p (integer n) h = h
   supported_inside edits p (float f) h = h
   supported_inside edits p (datetime d) h = h
-  supported_inside edits p (array g es) h = absurd h
+  supported_inside edits p (array g es) h = supported_elements edits p 0 es h
   supported_inside edits p (inline g ms) h = supported_members edits p ms h
+
+  supported_elements : (edits : Edits) (p : Place) (i : ℕ) (es : Elements) → AreSupportedElements es → AreSupportedElements (replaced_elements edits p i es)
+  supported_elements edits p i no_elements h = h
+  supported_elements edits p i (last_element v g) h = supported_put edits (at p (index i)) _ (supported_inside edits (at p (index i)) v h)
+  supported_elements edits p i (element v g x es) h = (supported_put edits (at p (index i)) _ (supported_inside edits (at p (index i)) v h.0), supported_elements edits p (suc i) es h.1)
 
   supported_members : (edits : Edits) (p : Place) (ms : Members) → AreSupportedMembers ms → AreSupportedMembers (replaced_members edits p ms)
   supported_members edits p no_members h = h

@@ -4,30 +4,17 @@ use Rattle.std.specs.Prelude.{slice_get, option_map}
 use Rattle.std.proofs.lemmas.Option.{slice_get-map, same_Some}
 use Rattle.edit_document.specs.declared.document.Document.TheInside.{Inside}
 use Rattle.edit_document.specs.Grammar.{Text}
-use Rattle.edit_document.specs.Assertions.{Place, key, at, assertions}
+use Rattle.edit_document.specs.Assertions.{Step, key, index, Place, at, assertions}
 use Rattle.edit_document.specs.Tree.{View, view_at}
 use Rattle.edit_document.specs.Supported.{IsManifest}
 use Rattle.edit_document.specs.Shown.{Shown, node_at, tree_of, ShowsTree}
-use Rattle.edit_document.specs.Nodes.{Spot, shown_spot, IsTree, IsMember}
+use Rattle.edit_document.specs.Nodes.{Spot, shown_spot, element_count, Lists, IsTree, IsMember}
 use Rattle.edit_document.specs.DocumentLayout.{Noted, root_noted, places_of, spot_of, spots_in, spots_of, noted_text, shown_of, IsRead}
 use Rattle.edit_document.proofs.Below.{all_at}
-use Rattle.edit_document.proofs.Spotting.{Fine, Closed, Good}
+use Rattle.edit_document.proofs.Spotting.{Fine, Fits, Closed, Good, noted_at}
 use Rattle.edit_document.proofs.Matched.{text_matched, fine_of}
 use Rattle.edit_document.proofs.ShownTrees.{tree_shown}
 use Rattle.edit_document.proofs.ValueRanges.{form_same, open_spots}
-
-places_map : (made : List Noted) → map (λ (s : Spot). s.place) (map (spot_of (places_of made)) (root_noted ∷ made)) ≡ [] ∷ places_of made
-places_map made = ap (λ (l : List Place). [] ∷ l) (go made)
-  where
-    go : (ms : List Noted) → map (λ (s : Spot). s.place) (map (spot_of (places_of made)) ms) ≡ places_of ms
-    go [] = refl
-    go (m ∷ ms) = ap (λ (l : List Place). m.place ∷ l) (go ms)
-
--- the place of a spot by its number
-spot_place : (made : List Noted) (n : ℕ) (s : Spot) → slice_get (spots_in made) n ≡ Some s → slice_get ([] ∷ places_of made) n ≡ Some s.place
-unfolding spots_in
-spot_place made n s e =
-    ap (λ (l : List Place). slice_get l n) (sym (places_map made)) ∙ slice_get-map (λ (z : Spot). z.place) (map (spot_of (places_of made)) (root_noted ∷ made)) n ∙ ap (option_map (λ (z : Spot). z.place)) e
 
 place_spot : (made ms : List Noted) (i : ℕ) (p : Place) → slice_get (places_of ms) i ≡ Some p → (s : Spot) × (slice_get (map (spot_of (places_of made)) ms) i ≡ Some s) × (s.place ≡ p)
 place_spot made [] i p e = absurd cc
@@ -38,12 +25,18 @@ spotted : (made : List Noted) (i : ℕ) (p : Place) → slice_get (places_of mad
 unfolding spots_in
 spotted made i p e = place_spot made made i p e
 
-closed_from : (made : List Noted) → Fine (places_of made) → IsTree (spots_in made) → Closed (places_of made)
+fits_of : (places : List Place) (q : Noted) (t : Spot) (s : Step) → spot_of places q ≡ t → Lists t s → Fits q.shape s
+fits_of places q t (key n) same l = tt
+fits_of places q t (index i) same l = (l.0, ap (λ (z : Spot). element_count z.shape) same ∙ l.1, l.2)
+
+closed_from : (made : List Noted) → Fine (places_of made) → IsTree (spots_in made) → Closed made
 closed_from made fine tree i p e =
     let s = spotted made i p e in
     ⊎_elim
     (λ root. absurd (all_at (λ (q : Place). [] ≡ q → ⊥) (places_of made) i p fine.once.0 e (sym root ∙ s.2)))
-    (λ m. (m.number, m.table.place, m.name, spot_place made m.number m.table m.stands, sym s.2 ∙ m.below))
+    (λ m.
+    let q = noted_at made m.number m.table m.stands in
+    (m.number, q.0, m.step, q.1, sym s.2 ∙ m.below ∙ ap (λ (z : Spot). at z.place m.step) (sym q.2), fits_of (places_of made) q.0 m.table m.step q.2 m.listed))
     (tree.member (suc i) s.0 s.1)
 
 pub shows_tree : (inside : Inside) (shown : Shown) (form : Text) → IsRead inside → shown_of inside ≡ shown → IsManifest shown.bytes form → ShowsTree shown form

@@ -203,7 +203,7 @@ listed (p ∷ ps) q n (suc i) e = go (name_from q p) refl (listed ps q n i e)
     go None h r = (r.0, rw h r.1)
     go (Some x) h r = (suc r.0, rw h r.1)
 
-noted_at : (made : List Noted) (i : ℕ) (s : Spot) → slice_get (spots_in made) i ≡ Some s → (m : Noted) × (slice_get (root_noted ∷ made) i ≡ Some m) × (spot_of (places_of made) m ≡ s)
+pub noted_at : (made : List Noted) (i : ℕ) (s : Spot) → slice_get (spots_in made) i ≡ Some s → (m : Noted) × (slice_get (root_noted ∷ made) i ≡ Some m) × (spot_of (places_of made) m ≡ s)
 unfolding spots_in
 noted_at made i s e = map_get (spot_of (places_of made)) (root_noted ∷ made) i s e
 

@@ -7,9 +7,9 @@ use Rattle.edit_document.specs.declared.read.marks.MarkKind.TheVariants as kinds
 use Rattle.edit_document.specs.Characters.{quote, apostrophe, comma, equals, left_bracket, right_bracket, right_brace, is_literal_ch, All}
 use Rattle.edit_document.specs.Strings.{◌·◌, line_end, Piece, pieces, says, IsBasicPiece, Part, bare, basic_part, literal_part, part, IsPart, name, basic_text, literal_text, Dotted, dotted, Key, IsKey}
 use Rattle.edit_document.specs.Strings as strings
-use Rattle.edit_document.specs.Grammar.{Between, gap, Value, basic, literal, multi_basic, multi_literal, boolean, integer, float, datetime, array, inline, value, IsValue, Members, no_members, last_member, member, members, AreMembers, Statement, pair, header, element_header, statement, IsStatement, comment, empty_line, full_line, Lines, one_line, more_lines, lines, AreLines, Text}
-use Rattle.edit_document.specs.Supported.{IsOnePart, IsSupportedValue, AreSupportedMembers, IsSupportedStatement, AreSupportedLines}
-use Rattle.edit_document.specs.Marks.{mark, part_mark, dotted_marks, key_marks, value_marks, members_marks, statement_marks, line_marks, lines_marks, text_marks}
+use Rattle.edit_document.specs.Grammar.{Between, gap, Value, basic, literal, multi_basic, multi_literal, boolean, integer, float, datetime, array, inline, value, IsValue, Elements, no_elements, last_element, element, elements, AreElements, Members, no_members, last_member, member, members, AreMembers, Statement, pair, header, element_header, statement, IsStatement, comment, empty_line, full_line, Lines, one_line, more_lines, lines, AreLines, Text}
+use Rattle.edit_document.specs.Supported.{IsOnePart, IsSupportedValue, AreSupportedElements, AreSupportedMembers, IsSupportedStatement, AreSupportedLines}
+use Rattle.edit_document.specs.Marks.{mark, part_mark, dotted_marks, key_marks, value_marks, elements_marks, members_marks, statement_marks, line_marks, lines_marks, text_marks}
 use Rattle.edit_document.specs.Walk.{said}
 use Rattle.edit_document.specs.WalkState.{SaysAt, IsToken}
 use Rattle.edit_document.proofs.Fronts.{Relation, IsKept, pieces_before}
@@ -71,10 +71,20 @@ mutual
   value_tokens bytes (integer n) rest h s u ends = (number_token bytes (integer n) rest h tt ends, tt)
   value_tokens bytes (float f) rest h s u ends = (number_token bytes (float f) rest h tt ends, tt)
   value_tokens bytes (datetime d) rest h s u ends = (number_token bytes (datetime d) rest h tt ends, tt)
-  value_tokens bytes (array g es) rest h s u ends = absurd s
+  value_tokens bytes (array g es) rest h s u ends =
+      let inside : Ends bytes (elements es (right_bracket ∷ rest)) = ends_gap bytes g (elements es (right_bracket ∷ rest)) (ends_one bytes 91 (gap g (elements es (right_bracket ∷ rest))) ends) in
+      ((λ e. absurd cc), tokens_append bytes (elements_marks es (right_bracket ∷ rest)) (mark kinds.CloseArray (right_bracket ∷ rest) rest ∷ []) (elements_tokens bytes es (right_bracket ∷ rest) h.1 s u inside) ((λ e. absurd cc), tt))
   value_tokens bytes (inline g ms) rest h s u ends =
       let inside : Ends bytes (members ms (right_brace ∷ rest)) = ends_gap bytes g (members ms (right_brace ∷ rest)) (ends_one bytes 123 (gap g (members ms (right_brace ∷ rest))) ends) in
       ((λ e. absurd cc), tokens_append bytes (members_marks ms (right_brace ∷ rest)) (mark kinds.CloseTable (right_brace ∷ rest) rest ∷ []) (members_tokens bytes ms (right_brace ∷ rest) h.1 s u inside) ((λ e. absurd cc), tt))
+
+  elements_tokens : (bytes : List ℕ) (es : Elements) (rest : List ℕ) → AreElements es → AreSupportedElements es → IsUtf8 bytes → Ends bytes (elements es rest) → AreTokens bytes (elements_marks es rest)
+  elements_tokens bytes no_elements rest h s u ends = tt
+  elements_tokens bytes (last_element v g) rest h s u ends = value_tokens bytes v (gap g rest) h.0 s u ends
+  elements_tokens bytes (element v g h2 es) rest h s u ends =
+      let after = gap g (comma ∷ gap h2 (elements es rest)) in
+      let more_ends : Ends bytes (elements es rest) = ends_gap bytes h2 (elements es rest) (ends_one bytes comma (gap h2 (elements es rest)) (ends_gap bytes g (comma ∷ gap h2 (elements es rest)) (ends_value bytes v after ends))) in
+      tokens_append bytes (value_marks v after) (elements_marks es rest) (value_tokens bytes v after h.0 s.0 u ends) (elements_tokens bytes es rest h.3 s.1 u more_ends)
 
   members_tokens : (bytes : List ℕ) (ms : Members) (rest : List ℕ) → AreMembers ms → AreSupportedMembers ms → IsUtf8 bytes → Ends bytes (members ms rest) → AreTokens bytes (members_marks ms rest)
   members_tokens bytes no_members rest h s u ends = tt

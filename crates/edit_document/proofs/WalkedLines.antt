@@ -18,7 +18,7 @@ use Rattle.edit_document.specs.Marks.{mark, key_marks, value_marks, statement_ma
 use Rattle.edit_document.proofs.Ends.{Ends, ends_past, ends_one, ends_key, ends_pair, ends_statement, ends_line, ends_line_end}
 use Rattle.edit_document.proofs.Adding.{get_last}
 use Rattle.edit_document.proofs.Spotting.{Fine, Good, good_none, next, Noting, noted_more, refused, add_note, places_push, spots_length}
-use Rattle.edit_document.proofs.WalkedTokens.{walked_one, walked_none, state, Leads, leads, stops, walked_key}
+use Rattle.edit_document.proofs.WalkedTokens.{walked_one, walked_none, state, Leads, leads, stops, member_enters, walked_key}
 use Rattle.edit_document.proofs.WalkedValues.{leads_then, leads_along, still, value_leads}
 
 header_step : (bytes from rest : List ℕ) (st : State) → step bytes (mark kinds.Header from rest) st ≡ headed st
@@ -53,7 +53,7 @@ statement_leads bytes (pair k a b v) rest made t m h s u ends good there = recor
   place = refl;
   on =
       leads_along (made ++ noted_value (at m.place (key (name k.first))) v rest) (t ∷ []) (walked_key bytes k (a ++ (equals ∷ (b ++ value v rest))) (value_marks v rest) made (t ∷ []) h.0 s.0 u ends)
-      (value_leads bytes v rest made [] t m (name k.first) h.3 s.1 u (ends_pair bytes k a b (value v rest) ends) good there);
+      (value_leads bytes v rest made made (at m.place (key (name k.first))) (t ∷ []) (Some (name k.first)) h.3 s.1 u (ends_pair bytes k a b (value v rest) ends) (member_enters made [] t m (name k.first) good there) refl);
 }
 statement_leads bytes (header a k b) rest made t m h s u ends good there =
     let x : Noted = next root_noted (name k.first) section None in

@@ -13,16 +13,17 @@ use Rattle.edit_document.specs.Characters.{quote, apostrophe, is_bare, is_litera
 use Rattle.edit_document.specs.Strings.{Piece, pieces, says, IsBasicPiece, Part, bare, basic_part, literal_part, part, IsPart, name, basic_text, literal_text, Dotted, dotted, Key, IsKey}
 use Rattle.edit_document.specs.Strings as strings
 use Rattle.edit_document.specs.Supported.{IsOnePart}
-use Rattle.edit_document.specs.Assertions.{key, at}
+use Rattle.edit_document.specs.Assertions.{key, index, Place, at}
 use Rattle.edit_document.specs.Reading.{◌>>=◌, basic_at, literal_at}
 use Rattle.edit_document.specs.Nodes.{Shape, Spot}
 use Rattle.edit_document.specs.DocumentLayout.{Noted, root_noted, places_of, spots_in}
-use Rattle.edit_document.specs.Walk.{suffix, basic_said, literal_said, told, as_text, said, added, State, last_of, entered, step, act, walked}
+use Rattle.edit_document.specs.Walk.{suffix, basic_said, literal_said, told, as_text, said, put_below, State, last_of, entered, step, act, walked}
 use Rattle.edit_document.specs.Marks.{mark, part_kind, part_mark, dotted_marks, key_marks}
 use Rattle.edit_document.proofs.TokenLaws.{basic_again, literal_again}
 use Rattle.edit_document.proofs.Ends.{Ends, ends_one, suffix_is, take_length, text_before, text_behind, ascii_text, bare_small, says_text}
 use Rattle.edit_document.proofs.Adding.{get_last}
-use Rattle.edit_document.proofs.Spotting.{Fine, Good, next, Noting, noted_more, refused, add_note, places_push}
+use Rattle.edit_document.proofs.Spotting.{Fine, Good, Noting, noted_more, refused, add_note, places_push}
+use Rattle.edit_document.proofs.SpottingElements.{array_noted, add_element_note}
 
 -- ---- walks
 
@@ -71,20 +72,33 @@ last_push base t =
     let n : length (base ++ t ∷ []) - 1 ≡ length base = omega arith in
     ap (slice_get (base ++ t ∷ [])) n ∙ get_last base t
 
-pub entered_leads : (made : List Noted) (base : List ℕ) (t : ℕ) (m : Noted) (n : List ℕ) (shape : Shape) (span : Option Span) → Good made → slice_get (root_noted ∷ made) t ≡ Some m
-    → Leads (entered (state made (base ++ t ∷ []) (Some n)) shape span) (made ++ next m n shape span ∷ []) (base ++ t ∷ [])
-entered_leads made base t m n shape span good there = go (add_note made t m n shape span good there)
+-- a value enters a place, behind notes that stand for those before
+abbrev pub Enters : List Noted → List Noted → Place → List ℕ → Option (List ℕ) → Type 0
+Enters made made2 place tables name =
+    (shape : Shape) (span : Option Span) → Leads (entered (state made tables name) shape span) (made2 ++ record { place = place; shape = shape; span = span } ∷ []) tables
+
+put_leads : (made made2 : List Noted) (place : Place) (base : List ℕ) (t : ℕ) (name : Option (List ℕ)) (shape : Shape) (span : Option Span) → Noting made2 (record { place = place; shape = shape; span = span }) (put_below name (spots_in made) t shape span)
+    → Leads (entered (state made (base ++ t ∷ []) name) shape span) (made2 ++ record { place = place; shape = shape; span = span } ∷ []) (base ++ t ∷ [])
+put_leads made made2 place base t name shape span note = go note
   where
-    after : Option (List Spot) → Option State
-    after o = o >>= λ spots. Some (record { spots = spots; tables = base ++ t ∷ []; name = None })
+    first : entered (state made (base ++ t ∷ []) name) shape span ≡ (put_below name (spots_in made) t shape span >>= λ spots. Some (record { spots = spots; tables = base ++ t ∷ []; name = None }))
+    first = ap (λ (o : Option ℕ). o >>= λ number. put_below name (spots_in made) number shape span >>= λ spots. Some (record { spots = spots; tables = base ++ t ∷ []; name = None })) (last_push base t)
 
-    first : entered (state made (base ++ t ∷ []) (Some n)) shape span ≡ (added (spots_in made) t n shape span >>= λ spots. Some (record { spots = spots; tables = base ++ t ∷ []; name = None }))
-    first = ap (λ (o : Option ℕ). o >>= λ number. added (spots_in made) number n shape span >>= λ spots. Some (record { spots = spots; tables = base ++ t ∷ []; name = None })) (last_push base t)
-
-    go : Noting made (next m n shape span) (added (spots_in made) t n shape span) → Leads (entered (state made (base ++ t ∷ []) (Some n)) shape span) (made ++ next m n shape span ∷ []) (base ++ t ∷ [])
+    go : Noting made2 (record { place = place; shape = shape; span = span }) (put_below name (spots_in made) t shape span)
+        → Leads (entered (state made (base ++ t ∷ []) name) shape span) (made2 ++ record { place = place; shape = shape; span = span } ∷ []) (base ++ t ∷ [])
     go (noted_more e g) = leads (first ∙ ap (λ (o : Option (List Spot)). o >>= λ spots. Some (record { spots = spots; tables = base ++ t ∷ []; name = None })) e) g
-    go (refused e no2) = stops (first ∙ ap (λ (o : Option (List Spot)). o >>= λ spots. Some (record { spots = spots; tables = base ++ t ∷ []; name = None })) e)
-        (λ fine. no2 (subst Fine (places_push made (next m n shape span)) fine))
+    go (refused e clash) = stops (first ∙ ap (λ (o : Option (List Spot)). o >>= λ spots. Some (record { spots = spots; tables = base ++ t ∷ []; name = None })) e)
+        (λ fine. clash (subst Fine (places_push made2 (record { place = place; shape = shape; span = span })) fine))
+
+-- as a member of the waiting name
+pub member_enters : (made : List Noted) (base : List ℕ) (t : ℕ) (m : Noted) (n : List ℕ) → Good made → slice_get (root_noted ∷ made) t ≡ Some m → Enters made made (at m.place (key n)) (base ++ t ∷ []) (Some n)
+member_enters made base t m n good there shape span = put_leads made made (at m.place (key n)) base t (Some n) shape span (add_note made t m n shape span good there)
+
+-- as an element of the innermost array
+pub element_enters : (made inside : List Noted) (place : Place) (k : ℕ) (own : Option Span) (base : List ℕ) → Good (made ++ array_noted place k own ∷ inside)
+    → Enters (made ++ array_noted place k own ∷ inside) (made ++ array_noted place (suc k) own ∷ inside) (at place (index k)) (base ++ suc (length made) ∷ []) None
+element_enters made inside place k own base good shape span =
+    put_leads (made ++ array_noted place k own ∷ inside) (made ++ array_noted place (suc k) own ∷ inside) (at place (index k)) base (suc (length made)) None shape span (add_element_note made inside place k own shape span good)
 
 -- ---- what tokens say
 

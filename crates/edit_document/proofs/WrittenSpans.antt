@@ -3,13 +3,13 @@ use Rattle.std.proofs.Common.{◌≡◌, ℕ, suc, Bool, true, false, List, [], 
 use Rattle.std.proofs.lemmas.List.Elements.{filter_map-append}
 use Rattle.std.specs.List.{filter_map, cons_option}
 use Rattle.edit_document.specs.declared.nodes.Span.{Span}
-use Rattle.edit_document.specs.Characters.{comma, right_brace}
+use Rattle.edit_document.specs.Characters.{comma, right_bracket, right_brace}
 use Rattle.edit_document.specs.Strings.{Part, Dotted, Key, name, line_end}
-use Rattle.edit_document.specs.Grammar.{gap, Value, basic, literal, multi_basic, multi_literal, boolean, integer, float, datetime, array, inline, value, Members, no_members, last_member, member, members, Statement, pair, header, element_header, empty_line, full_line, comment, Lines, one_line, more_lines, lines, Text}
-use Rattle.edit_document.specs.Assertions.{Place, key, at, names, named, Assertion, of_statement, header_place, prefix_after}
-use Rattle.edit_document.specs.Supported.{IsOnePart, IsSupportedValue, AreSupportedMembers, IsSupportedStatement, AreSupportedLines, IsSupported}
-use Rattle.edit_document.specs.DocumentLayout.{Noted, span_of, noted, noted_inside, noted_members, noted_value, noted_statement, header_after, noted_lines, noted_text}
-use Rattle.edit_document.specs.Written.{Valued, valued, inside, in_members, in_statement, in_lines, values}
+use Rattle.edit_document.specs.Grammar.{gap, Value, basic, literal, multi_basic, multi_literal, boolean, integer, float, datetime, array, inline, value, Elements, no_elements, last_element, element, elements, Members, no_members, last_member, member, members, Statement, pair, header, element_header, empty_line, full_line, comment, Lines, one_line, more_lines, lines, Text}
+use Rattle.edit_document.specs.Assertions.{Place, key, index, at, names, named, Assertion, of_statement, header_place, prefix_after}
+use Rattle.edit_document.specs.Supported.{IsOnePart, IsSupportedValue, AreSupportedElements, AreSupportedMembers, IsSupportedStatement, AreSupportedLines, IsSupported}
+use Rattle.edit_document.specs.DocumentLayout.{Noted, span_of, noted, noted_inside, noted_elements, noted_members, noted_value, noted_statement, header_after, noted_lines, noted_text}
+use Rattle.edit_document.specs.Written.{Valued, valued, inside, in_elements, in_members, in_statement, in_lines, values}
 
 -- a place and the span of what is written there
 abbrev pub Placed : Type 0
@@ -48,8 +48,17 @@ mutual
   value_spans p (integer n) after h = refl
   value_spans p (float f) after h = refl
   value_spans p (datetime d) after h = refl
-  value_spans p (array g es) after h = absurd h
+  value_spans p (array g es) after h = elements_spans p 0 es (right_bracket ∷ after) h
   value_spans p (inline g ms) after h = members_spans p ms (right_brace ∷ after) h
+
+  elements_spans : (p : Place) (i : ℕ) (es : Elements) (rest : List ℕ) → AreSupportedElements es → notes (noted_elements p i es rest) ≡ spans (in_elements p i es rest)
+  elements_spans p i no_elements rest h = refl
+  elements_spans p i (last_element v g) rest h = ap (λ (l : List Placed). (at p (index i), span_of v (gap g rest)) ∷ l) (value_spans (at p (index i)) v (gap g rest) h)
+  elements_spans p i (element v g x es) rest h =
+      let after = gap g (comma ∷ gap x (elements es rest)) in
+      let q = at p (index i) in
+      both (noted_value q v after) (noted_elements p (suc i) es rest) (valued q v after ∷ inside q v after) (in_elements p (suc i) es rest)
+      (ap (λ (l : List Placed). (q, span_of v after) ∷ l) (value_spans q v after h.0)) (elements_spans p (suc i) es rest h.1)
 
   members_spans : (p : Place) (ms : Members) (rest : List ℕ) → AreSupportedMembers ms → notes (noted_members p ms rest) ≡ spans (in_members p ms rest)
   members_spans p no_members rest h = refl
