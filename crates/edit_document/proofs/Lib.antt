@@ -54,6 +54,7 @@ pub mod Decoded
 pub mod Contents
 pub mod StandardFacts
 pub mod NumberFacts
+pub mod ArrayFacts
 pub mod ShownForms
 pub mod ReplacedDocuments
 pub mod Walking

@@ -80,9 +80,11 @@ mutual
   elements_matched place i no_elements rest s = tt
   elements_matched place i (last_element v g) rest s = (leaf_noted place (index i) v (gap g rest) s, value_matched (at place (index i)) v (gap g rest) s)
   elements_matched place i (element v g h es) rest s =
-      let after = gap g (comma ∷ gap h (elements es rest)) in
-      (leaf_noted place (index i) v after s.0, matched_append (of_value (at place (index i)) v) (of_elements place (suc i) es) (noted_inside (at place (index i)) v after) (noted_elements place (suc i) es rest)
-      (value_matched (at place (index i)) v after s.0) (elements_matched place (suc i) es rest s.1))
+      let after = gap g (comma ∷ gap h (elements es rest)) in (
+        leaf_noted place (index i) v after s.0,
+        matched_append (of_value (at place (index i)) v) (of_elements place (suc i) es) (noted_inside (at place (index i)) v after) (noted_elements place (suc i) es rest)
+            (value_matched (at place (index i)) v after s.0) (elements_matched place (suc i) es rest s.1),
+      )
 
   pub members_matched : (place : Place) (ms : Members) (rest : List ℕ) → AreSupportedMembers ms → Matched (of_members place ms) (noted_members place ms rest)
   members_matched place no_members rest s = tt

@@ -1,7 +1,9 @@
 -- What the table of nodes tells of a document.
-use Rattle.std.proofs.Common.{◌≡◌, ℕ, zero, suc, ◌+◌, ◌<◌, Bool, true, false, cond, List, [], ◌∷◌, ◌++◌, length, get_or, take, drop, Option, Some, None, refl, sym, ap, subst, ◌∙◌, ◌⊎◌, inl, inr, arith, append_assoc, append-nil, String, Global}
+use Rattle.std.proofs.Common.{◌≡◌, ℕ, zero, suc, ◌+◌, ◌<◌, Bool, true, false, cond, List, [], ◌∷◌, ◌++◌, length, get_or, take, drop, ltb, is_some, IfSome, Option, Some, None, refl, sym, ap, subst, ◌∙◌, ◌⊎◌, inl, inr, arith, append_assoc, append-nil, String, Global}
 use Rattle.std.specs.Prelude.{map, slice_get, option_map, unwrap_or, MatchOption, string_bytes}
 use Rattle.std.specs.List.{filter_map}
+use Rattle.std.specs.Option.{option_copied}
+use Rattle.std.proofs.lemmas.Bool.Decides.{nat_tests}
 use Rattle.std.specs.Map.{lookup}
 use Rattle.std.specs.Str.{bytes_eq}
 use Rattle.std.specs.Borrow.{Bor}
@@ -10,7 +12,7 @@ use Rattle.edit_document.specs.declared.nodes.Content.{Content}
 use Rattle.edit_document.specs.declared.nodes.Content.TheVariants as content
 use Rattle.edit_document.specs.declared.document.Seen.{Seen}
 use Rattle.std.proofs.lemmas.Slice.Eq.{bytes_eq-Decides}
-use Rattle.std.proofs.lemmas.Option.{slice_get-map, slice_get_within, slice_get_read, same_Some}
+use Rattle.std.proofs.lemmas.Option.{slice_get-map, slice_get_within, slice_get_read, slice_get_past, same_Some}
 use Rattle.std.proofs.lemmas.List.{length-map, map-append, take_more, take-append-drop}
 use Rattle.indexmap.specs.IndexMap.{get_by_text}
 use Rattle.edit_document.specs.declared.nodes.Node.{Node}
@@ -135,25 +137,29 @@ IsScalar x =
     ((s : String Global) × (x ≡ content.Text s)) ⊎ (((b : Bool) × (x ≡ content.Truth b))
     ⊎ (((s : String Global) × (x ≡ content.Integer s)) ⊎ (((s : String Global) × (x ≡ content.Float s)) ⊎ ((s : String Global) × (x ≡ content.DateTime s)))))
 
+-- one of these, or an array
+abbrev pub IsNameless : Content → Type 0
+IsNameless x =
+    ((s : String Global) × (x ≡ content.Text s)) ⊎ (((b : Bool) × (x ≡ content.Truth b))
+    ⊎ (((s : String Global) × (x ≡ content.Integer s)) ⊎ (((s : String Global) × (x ≡ content.Float s)) ⊎ (((s : String Global) × (x ≡ content.DateTime s)) ⊎ (x ≡ content.Array)))))
+
 -- a node without members, and one with them
-pub names_scalar : (shown : Shown) (nodes : List Node) (spots : List Spot) (n : ℕ) (node : Node) → Found shown nodes spots n node
-    → IsScalar node.content → names_in (view_numbered shown n) ≡ []
-names_scalar shown nodes spots n node f t = ap names_in f.view ∙ go node.content t
+pub names_nameless : (shown : Shown) (nodes : List Node) (spots : List Spot) (n : ℕ) (node : Node) → Found shown nodes spots n node
+    → IsNameless node.content → names_in (view_numbered shown n) ≡ []
+names_nameless shown nodes spots n node f t = ap names_in f.view ∙ go node.content t
   where
-    go : (x : Content) → IsScalar x → names_in (view_of_shape (shape_with x (length node.elements.items)) (names_of_node node)) ≡ []
+    go : (x : Content) → IsNameless x → names_in (view_of_shape (shape_with x (length node.elements.items)) (names_of_node node)) ≡ []
     go x (inl e) = ap (λ (y : Content). names_in (view_of_shape (shape_with y (length node.elements.items)) (names_of_node node))) e.1
     go x (inr (inl e)) = ap (λ (y : Content). names_in (view_of_shape (shape_with y (length node.elements.items)) (names_of_node node))) e.1
     go x (inr (inr (inl e))) = ap (λ (y : Content). names_in (view_of_shape (shape_with y (length node.elements.items)) (names_of_node node))) e.1
     go x (inr (inr (inr (inl e)))) = ap (λ (y : Content). names_in (view_of_shape (shape_with y (length node.elements.items)) (names_of_node node))) e.1
-    go x (inr (inr (inr (inr e)))) = ap (λ (y : Content). names_in (view_of_shape (shape_with y (length node.elements.items)) (names_of_node node))) e.1
+    go x (inr (inr (inr (inr (inl e))))) = ap (λ (y : Content). names_in (view_of_shape (shape_with y (length node.elements.items)) (names_of_node node))) e.1
+    go x (inr (inr (inr (inr (inr e))))) = ap (λ (y : Content). names_in (view_of_shape (shape_with y (length node.elements.items)) (names_of_node node))) e
 
 pub names_tabular : (shown : Shown) (nodes : List Node) (spots : List Spot) (n : ℕ) (node : Node) → Found shown nodes spots n node
     → (node.content ≡ content.Inline) ⊎ (node.content ≡ content.Table) → names_in (view_numbered shown n) ≡ names_of_node node
 names_tabular shown nodes spots n node f (inl t) = ap names_in f.view ∙ ap (λ (x : Content). names_in (view_of_shape (shape_with x (length node.elements.items)) (names_of_node node))) t ∙ names_keys (names_of_node node)
 names_tabular shown nodes spots n node f (inr t) = ap names_in f.view ∙ ap (λ (x : Content). names_in (view_of_shape (shape_with x (length node.elements.items)) (names_of_node node))) t ∙ names_keys (names_of_node node)
-
-pub names_array : (shown : Shown) (nodes : List Node) (spots : List Spot) (n : ℕ) (node : Node) → Found shown nodes spots n node → node.content ≡ content.Array → names_in (view_numbered shown n) ≡ []
-names_array shown nodes spots n node f t = ap names_in f.view ∙ ap (λ (x : Content). names_in (view_of_shape (shape_with x (length node.elements.items)) (names_of_node node))) t
 
 -- how many members or elements a node has
 pub count_array : (shown : Shown) (nodes : List Node) (spots : List Spot) (n : ℕ) (node : Node) → Found shown nodes spots n node → node.content ≡ content.Array → count_in (view_numbered shown n) ≡ length node.elements.items
@@ -265,6 +271,11 @@ within_some : (xs : List ℕ) (i : ℕ) → i < length xs → slice_get xs i ≡
 within_some [] i lt e = absurd (omega arith)
 within_some (x ∷ xs) zero lt e = absurd cc
 within_some (x ∷ xs) (suc i) lt e = within_some xs i (omega arith) e
+
+-- a number that was read, or none past the end
+pub read_at : (xs : List ℕ) (i : ℕ) (r : Option (Bor ℕ)) → is_some r ≡ ltb i (length xs) → IfSome r (λ x. x.now ≡ get_or xs i x.now) → option_copied r ≡ slice_get xs i
+read_at xs i None e h = sym (slice_get_past xs i (grind (arith, nat_tests)))
+read_at xs i (Some x) e h = let lt : i < length xs = grind (arith, nat_tests) in sym (slice_get_read xs (length xs) i x.now refl lt h)
 
 -- nothing stands at a number past the elements
 element_absent : (shown : Shown) (nodes : List Node) (n : ℕ) (node : Node) (i : ℕ) → (opens : Opened shown nodes) → (f : Found shown nodes opens.spots n node) → slice_get node.elements.items i ≡ None

@@ -88,7 +88,10 @@ impl<'a> Item<'a> {
     {
         let document = self.document;
         match document.element(self.node, index) {
-            Some(node) => Some(Item { document, node }),
+            Some(element) => Some(Item {
+                document,
+                node: element,
+            }),
             None => None,
         }
     }

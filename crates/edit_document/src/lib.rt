@@ -18,4 +18,6 @@ pub use item::{Item, Keys};
 pub use place::{Place, Step};
 
 #[cfg(test)]
+mod array_tests;
+#[cfg(test)]
 mod tests;

@@ -10,7 +10,7 @@ use std::test::Fail;
 /// A manifest with one dependency as an inline table.
 const MANIFEST: &str = "[dependencies]\nserde = { version = '1.0', optional = true } # keep\n";
 
-fn is_read(alloc: Global, text: &str) -> Result<bool, Error> {
+pub(crate) fn is_read(alloc: Global, text: &str) -> Result<bool, Error> {
     match Document::read(alloc, text) {
         Ok(_) => Ok(true),
         Err(Error::NotToml { .. }) => Ok(false),
@@ -233,7 +233,7 @@ fn key_place(alloc: Global, names: &[&str]) -> Result<Vec<Step>, Error> {
 }
 
 /// The text of a document with another string at a place, where a value was written there.
-fn with_string(
+pub(crate) fn with_string(
     alloc: Global,
     text: &str,
     place: &[Step],

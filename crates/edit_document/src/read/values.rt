@@ -1,5 +1,5 @@
 //! Keys, values and pairs, noted down from left to right.
-ghost use Rattle.std.specs.Prelude.{◌≡◌, ◌+◌, ◌<◌};
+ghost use Rattle.std.specs.Prelude.{◌≡◌, ◌+◌, ◌<◌, drop};
 ghost use Rattle.edit_document.specs.Characters.{left_bracket};
 ghost use Rattle.edit_document.specs.Reading as reading;
 ghost use Rattle.edit_document.specs.Marks.{mark, key_marks, value_marks};
@@ -92,6 +92,13 @@ fn members<'a>(
     Err(ReadError::NotToml { left: rest.len() })
 }
 
+/// What follows a comma and the gap behind it.
+fn past_comma(s: &[u8]) -> &[u8]
+    ensures { result.now ≡ reading.past_gap (drop 1 s.now) }
+{
+    past_gap(skip(s, 1))
+}
+
 #[cycle(values)]
 fn elements<'a>(
     out: &mut Vec<Mark>,
@@ -118,7 +125,7 @@ fn elements<'a>(
             note(out, MarkKind::CloseArray, end, after)?;
             return Ok(after);
         }
-        rest = past_gap(skip(end, 1));
+        rest = past_comma(end);
     }
     Err(ReadError::NotToml { left: rest.len() })
 }

@@ -4,7 +4,7 @@ use Rattle.std.specs.Borrow.{Bor}
 use Rattle.std.specs.Prelude.{string_bytes}
 use Rattle.edit_document.specs.declared.nodes.Content.TheVariants as content
 use Rattle.edit_document.specs.declared.document.Seen.TheVariants as seen
-use Rattle.edit_document.proofs.Views.{opened, within, found, member_here, names_scalar, names_tabular, names_of_node, name_some, name_none, shows}
+use Rattle.edit_document.proofs.Views.{opened, within, found, member_here}
 use Rattle.edit_document.proofs.document.Document.member.Goals as goal
 
 pub index-node-requires : goal.index-node-requires

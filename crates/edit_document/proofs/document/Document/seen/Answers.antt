@@ -4,7 +4,7 @@ use Rattle.std.specs.Borrow.{Bor}
 use Rattle.std.specs.Prelude.{string_bytes}
 use Rattle.edit_document.specs.declared.nodes.Content.TheVariants as content
 use Rattle.edit_document.specs.declared.document.Seen.TheVariants as seen
-use Rattle.edit_document.proofs.Views.{opened, within, found, member_here, names_scalar, names_tabular, names_of_node, name_some, name_none, shows}
+use Rattle.edit_document.proofs.Views.{opened, within, found, member_here, names_nameless, names_tabular, names_of_node, name_some, name_none, shows}
 use Rattle.edit_document.proofs.document.Document.seen.Goals as goal
 
 pub index-node-requires : goal.index-node-requires
@@ -44,3 +44,8 @@ pub returns-in-DateTime : goal.returns-in-DateTime
 returns-in-DateTime c =
     let f = found c.args.self.now c.self.inside.nodes.items c.args.number c.index-node.result.now (opened c.self.inside c.args.self.now c.self.invariant c.self.view_is) c.requires c.index-node.ensures in
     shows c.args.self.now c.self.inside.nodes.items (opened c.self.inside c.args.self.now c.self.invariant c.self.view_is).spots c.args.number c.index-node.result.now (content.DateTime c.in-DateTime.field-0) seen.DateTime f c.in-DateTime.is tt
+
+pub returns-in-Array : goal.returns-in-Array
+returns-in-Array c =
+    let f = found c.args.self.now c.self.inside.nodes.items c.args.number c.index-node.result.now (opened c.self.inside c.args.self.now c.self.invariant c.self.view_is) c.requires c.index-node.ensures in
+    shows c.args.self.now c.self.inside.nodes.items (opened c.self.inside c.args.self.now c.self.invariant c.self.view_is).spots c.args.number c.index-node.result.now content.Array seen.Array f c.in-Array.is tt

@@ -169,7 +169,7 @@ elements-elements-preserved t c =
     let end : c.past_gap-end.result.now ≡ past_gap r = c.past_gap-end.ensures in
     let test : eqb (first c.past_gap-end.result.now) comma ≡ true = grind (arith, nat_tests) in
     let sign : eqb (first (past_gap r)) comma ≡ true = rw (← end) test in
-    let next : c.past_gap-rest.result.now ≡ past_gap (drop 1 (past_gap r)) = c.past_gap-rest.ensures ∙ ap past_gap (c.skip.ensures ∙ ap (drop 1) end) in
+    let next : c.past_comma-rest.result.now ≡ past_gap (drop 1 (past_gap r)) = c.past_comma-rest.ensures ∙ ap (λ (x : List ℕ). past_gap (drop 1 x)) end in
     subst (λ (x : List ℕ). Fills read (elements_at read c.args.count c.args.s.now) (c.args.count - (c.elements._element + 1)) x c.args.out.now.items c.value.new.out.items) (sym next)
     (elements_turn c.args.depth read (value_sound c.args.depth) (elements_at read c.args.count c.args.s.now) (c.args.count - (c.elements._element + 1)) c.elements.rest.now r v.0 c.args.out.now.items c.elements.out.items c.value.new.out.items unclosed v.1 sign v.2 (rw k at c.elements.invariant))
 
