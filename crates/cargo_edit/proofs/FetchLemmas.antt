@@ -1,13 +1,10 @@
 -- What a look leaves in a cache, over the answers as a plan sees them.
-use Rattle.std.proofs.Common.{◌≡◌, ◌≢◌, List, ℕ, Option, Some, None, Bool, true, false, refl, ap, ◌∙◌, sym, subst, inl, inr, ◌⊎◌}
-use Rattle.std.specs.Prelude.{◌&&◌, IsSome, IfSome, Result, Ok, Err, OnOk, IfErr, option_map}
+use Rattle.std.proofs.Common.{◌≡◌, ◌≢◌, List, ℕ, Option, Some, None, false, ap, sym, subst, inl, inr, ◌⊎◌}
+use Rattle.std.specs.Prelude.{◌&&◌, IsSome, option_map}
 use Rattle.std.proofs.lemmas.Bool.{cases_Bool}
 use Rattle.std.specs.Str.{bytes_eq}
-use Rattle.edit_document.specs.Errors.{IsMemory, number_of}
-use Rattle.edit_document.specs.declared.errors.Error.{Error}
 use Rattle.edit_sources.specs.Index.{answer_of}
 use Rattle.edit_sources.specs.declared.index.IndexKrate.{IndexKrate}
-use Rattle.url.specs.Parts as url
 use Rattle.cargo_edit.specs.Looks.{Answer}
 use Rattle.cargo_edit.proofs.Bytes.{apart, both-true, same-eq}
 

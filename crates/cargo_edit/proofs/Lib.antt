@@ -10,3 +10,4 @@ pub mod WriteLemmas
 pub mod Literals
 pub mod ListLemmas
 pub mod PlanLemmas
+mod DecisionFacts

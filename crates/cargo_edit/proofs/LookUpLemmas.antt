@@ -1,6 +1,6 @@
 -- A walk over names that looks each up, a step further.
-use Rattle.std.proofs.Common.{◌≡◌, ◌∷◌, ◌++◌, [], List, ℕ, Option, Some, None, Bool, true, false, map, refl, ap, ◌∙◌, sym, subst, inl, inr, ◌⊎◌, ◌<◌, ◌≤◌, ◌-◌, ◌^◌, arith}
-use Rattle.std.specs.Prelude.{◌&&◌, ◌↔◌, if◌then◌else◌, All, Contains, IsSome, Result, Ok, Err, find, is_some, string_bytes}
+use Rattle.std.proofs.Common.{◌≡◌, ◌∷◌, ◌++◌, [], List, ℕ, Option, Some, None, Bool, true, false, refl, ap, ◌∙◌, sym, subst, inl, inr, ◌⊎◌, ◌≤◌, arith}
+use Rattle.std.specs.Prelude.{◌&&◌, if◌then◌else◌, Contains, IsSome, Ok, Err, find, is_some, string_bytes}
 use Rattle.std.specs.Option.{option_or}
 use Rattle.std.specs.Str.{bytes_eq}
 use Rattle.std.proofs.lemmas.Bool.{cases_Bool, cases_lt}

@@ -1,6 +1,6 @@
 -- What the looks that were made one after another are.
-use Rattle.std.proofs.Common.{◌≡◌, ◌∷◌, ◌++◌, [], List, ℕ, Option, Some, None, Bool, true, false, map, refl, ap, ◌∙◌, sym, subst, inl, inr, ◌⊎◌, ◌<◌, arith}
-use Rattle.std.specs.Prelude.{◌&&◌, ◌||◌, if◌then◌else◌, All, Contains, IsSome, Result, Ok, find, is_some, string_bytes}
+use Rattle.std.proofs.Common.{◌≡◌, ◌∷◌, ◌++◌, [], List, ℕ, Option, Some, None, Bool, true, false, refl, ap, ◌∙◌, sym, subst, inl, inr, ◌⊎◌, ◌<◌, arith}
+use Rattle.std.specs.Prelude.{◌&&◌, if◌then◌else◌, All, Contains, IsSome, Ok, find, string_bytes}
 use Rattle.std.specs.Option.{option_or}
 use Rattle.std.specs.Str.{bytes_eq}
 use Rattle.std.proofs.lemmas.Bool.{cases_Bool}
@@ -11,7 +11,7 @@ use Rattle.url.specs.Parts.{serialize}
 use Rattle.cargo_edit.specs.Looked.{IsLook, Looked, start, again, more}
 use Rattle.cargo_edit.specs.Looks.{AreApart, Kept, is_look_at, look_at}
 use Rattle.cargo_edit.specs.declared.upgrade.Look.{Look}
-use Rattle.cargo_edit.proofs.Bytes.{same-refl, same-eq, same-swap, both-true}
+use Rattle.cargo_edit.proofs.Bytes.{same-refl, same-swap}
 
 -- ---- a look more
 

@@ -1,7 +1,6 @@
 -- The rows and looks of a manifest, from those of its entries.
-use Rattle.std.proofs.Common.{◌≡◌, ◌∷◌, ◌++◌, [], List, ℕ, Option, Some, None, map, refl, ap, ◌∙◌, sym, subst, inl, inr, ◌⊎◌, ◌<◌, get_or, length}
+use Rattle.std.proofs.Common.{◌≡◌, ◌∷◌, [], List, ℕ, Option, map, refl, ap, ◌∙◌, sym, subst, inl, inr, ◌⊎◌, ◌<◌, get_or, length}
 use Rattle.std.specs.Prelude.{All, Contains, IsSome, IsUtf8, option_map, string_bytes}
-use Rattle.std.specs.List.{AllZip}
 use Rattle.std.proofs.lemmas.List.{get_or-map, length-map}
 use Rattle.std.proofs.lemmas.Slice.Zip.{AllZip-long}
 use Rattle.std.proofs.lemmas.List.Elements.{All-head, All-tail, All-weaker, Contains-get_or}
@@ -17,12 +16,11 @@ use Rattle.semver.specs.Parse.{Parts}
 use Rattle.url.specs.Parts as url
 use Rattle.url.specs.Parts.{serialize}
 use Rattle.cargo_edit.specs.Address.{default_address}
-use Rattle.cargo_edit.specs.Causes.{IsBadLook, IsBadManifest, IsCause}
-use Rattle.cargo_edit.specs.Entries.{Tree}
+use Rattle.cargo_edit.specs.Causes.{IsCause}
 use Rattle.cargo_edit.specs.Found.{name_of, seen_of}
 use Rattle.cargo_edit.specs.Lines.{line_of}
 use Rattle.cargo_edit.specs.Looked.{IsFailedLook, Looked}
-use Rattle.cargo_edit.specs.Looks.{Answer, AreLooks, Kept, kept_setting, look_at, told, told_setting, versions_in}
+use Rattle.cargo_edit.specs.Looks.{AreLooks, Kept, kept_setting, look_at, told, told_setting, versions_in}
 use Rattle.cargo_edit.specs.PlannedView.{IsShown}
 use Rattle.cargo_edit.specs.Records.{Seen, seen}
 use Rattle.cargo_edit.specs.Rows.{AreDecided, IsDecided, Line, Setting}

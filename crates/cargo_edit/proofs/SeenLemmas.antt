@@ -1,12 +1,12 @@
 -- What an entry's view says of whether it is seen.
-use Rattle.std.proofs.Common.{◌≡◌, ◌∷◌, ◌++◌, [], List, ℕ, Option, Some, None, Bool, true, false, map, refl, ap, ◌∙◌, sym}
-use Rattle.std.specs.Prelude.{◌&&◌, if◌then◌else◌}
-use Rattle.std.specs.List.{filter_map, list_all}
+use Rattle.std.proofs.Common.{◌≡◌, List, ℕ, Option, Some, None, Bool, true, false, refl, ap, ◌∙◌, sym}
+use Rattle.std.specs.Prelude.{◌&&◌}
+use Rattle.std.specs.List.{list_all}
 use Rattle.edit_document.specs.Assertions.{Place}
 use Rattle.edit_document.specs.Tree.{View, string, truth, whole, fractional, moment, static_array, table_array, inline_table, table}
 use Rattle.edit_document.specs.Items.{is_tabular, names_in, string_in}
 use Rattle.cargo_edit.specs.Entries.{Tree, entry_place}
-use Rattle.cargo_edit.specs.Records.{Seen, is_known, seen_at, seen_view, seen_with, version_place}
+use Rattle.cargo_edit.specs.Records.{is_known, seen_at, seen_view, seen_with, version_place}
 
 -- an entry that is a string
 view-string : (t : Tree) (name : List ℕ) (p : Place) (v : View) (text : List ℕ) → string_in v ≡ Some text

@@ -1,5 +1,5 @@
 -- One step more of a loop that keeps what a function gives of each item.
-use Rattle.std.proofs.Common.{◌≡◌, ◌∷◌, ◌++◌, ◌<◌, ◌+◌, suc, length, get_or, take, drop, drop-cons, [], List, ℕ, Option, Some, None, map, refl, ap, ◌∙◌, sym, append-nil}
+use Rattle.std.proofs.Common.{◌≡◌, ◌∷◌, ◌++◌, ◌<◌, ◌+◌, suc, length, get_or, take, drop, drop-cons, [], List, ℕ, Option, Some, None, map, ap, ◌∙◌, sym, append-nil}
 use Rattle.std.specs.List.{cons_option, filter_map}
 use Rattle.std.proofs.lemmas.List.{map-append, take-append-drop, take_more}
 use Rattle.std.proofs.lemmas.List.Elements.{filter_map-append}

@@ -8,6 +8,7 @@ use Rattle.cargo_edit.specs.declared.upgrade.Reason.{Reason}
 use Rattle.cargo_edit.specs.declared.upgrade.Reason.TheVariants as reason
 use Rattle.cargo_edit.specs.declared.decide.Decided.{Decided}
 
+-- what the decision rests on, as the program has it (own)
 abbrev pub case_view : Bool → Bool → Option (List ℕ) → List ℕ → Option Version → Option Version → Case
 case_view excluded renamed selected old compatible latest = record {
   excluded = excluded;
@@ -18,12 +19,15 @@ case_view excluded renamed selected old compatible latest = record {
   latest = option_map parts_of latest;
 }
 
+-- what is decided, by its text (own)
 abbrev pub choice_view : Decided → Choice
 choice_view d = record { new = string_bytes d.new; change = d.change; reason = d.reason }
 
+-- `held_back`, from the text that could be written for the latest version (own)
 abbrev pub held_by : Bool → Bool → Option (List ℕ) → Option Reason
 held_by jumps pinned far = when (is_some far && not jumps) (Some (if pinned then reason.Pinned else reason.Incompatible))
 
+-- `row_reason`, from the texts that could be written (own)
 abbrev pub reason_by : Bool → Bool → Option (List ℕ) → Option (List ℕ) → Outcome → Option Reason
 reason_by jumps pinned far near left_out = Some reason.Excluded
 reason_by jumps pinned far near (given text) = None

@@ -37,6 +37,7 @@ is_pin op.LessEq = true
 is_pin op.Wildcard = true
 is_pin o = false
 
+-- one of the comparators that were read pins its entry (own)
 abbrev pub has_pin_read : Result (List Held) Error → Bool
 has_pin_read (Ok cs) = list_any (λ c. is_pin c.0) cs
 has_pin_read (Err e) = false
@@ -47,6 +48,7 @@ is_pinned c = c.renamed || has_pin_read (req_of c.old)
 
 -- ---- the texts that could be written
 
+-- the two texts are the same
 abbrev pub same_text : List ℕ → List ℕ → Bool
 same_text a b = pointwise nat_eq a b
 
@@ -77,10 +79,12 @@ compatible_text c = option_and_then (λ v. text_or c.old (raise c.old v)) c.comp
 abbrev pub is_set_aside : Options → Case → Bool
 is_set_aside o c = is_some c.selected && is_pinned c && not o.pinned
 
+-- nothing where the test holds
 abbrev pub unless : {A : Type 0} → Bool → Option A → Option A
 unless true a = None
 unless false a = a
 
+-- nothing where the test does not hold
 abbrev pub when : {A : Type 0} → Bool → Option A → Option A
 when true a = a
 when false a = None
@@ -89,6 +93,7 @@ when false a = None
 abbrev pub may_jump : Options → Case → Bool
 may_jump o c = if is_pinned c then o.pinned else o.incompatible
 
+-- which text an entry gets: its own for being left out, unreadable or kept, or one of the others (own)
 pub data Outcome : Type 0 where
   left_out : Outcome
   given : List ℕ → Outcome
@@ -106,6 +111,7 @@ first_row false None true (Some text) near = to_latest text
 first_row false None true None (Some text) = to_compatible text
 first_row false None true None None = kept
 
+-- which text the entry gets (own)
 abbrev pub row_of : Options → Case → Outcome
 row_of o c = first_row c.excluded (unless (is_set_aside o c) c.selected) (is_ok (req_of c.old))
     (when (may_jump o c) (latest_text c)) (when o.compatible (compatible_text c))
@@ -117,6 +123,7 @@ row_text old (to_latest text) = text
 row_text old (to_compatible text) = text
 row_text old row = old
 
+-- this kind of change, unless the text is the old one
 abbrev pub unless_old : List ℕ → List ℕ → Change → Option Change
 unless_old old text kind = if same_text text old then None else Some kind
 
@@ -131,13 +138,16 @@ row_change old row = None
 abbrev pub is_held_back : Options → Case → Bool
 is_held_back o c = is_some (latest_text c) && not (may_jump o c)
 
+-- why a later version is not written: the entry is pinned, or its requirement does not admit it (own)
 abbrev pub held_back : Options → Case → Option Reason
 held_back o c = when (is_held_back o c) (Some (if is_pinned c then reason.Pinned else reason.Incompatible))
 
+-- the second where there is no first
 abbrev pub or_else : {A : Type 0} → Option A → Option A → Option A
 or_else (Some a) b = Some a
 or_else None b = b
 
+-- the reason that goes with the text that the entry gets (own)
 abbrev pub row_reason : Options → Case → Outcome → Option Reason
 row_reason o c left_out = Some reason.Excluded
 row_reason o c (given text) = None
@@ -146,6 +156,7 @@ row_reason o c (to_latest text) = None
 row_reason o c (to_compatible text) = held_back o c
 row_reason o c kept = or_else (held_back o c) (when (is_some (compatible_text c)) (Some reason.Compatible))
 
+-- what is decided: the requirement that stands then, the kind of change, and why there is no newer one (own)
 pub record Choice : Type 0 where
   pub new : List ℕ
   pub change : Option Change
@@ -159,6 +170,7 @@ first_reason row false (Some why) same = Some why
 first_reason row false None true = Some reason.Latest
 first_reason row false None false = None
 
+-- the decision for an entry (own)
 abbrev pub decision : Options → Case → Choice
 decision o c =
     let row = row_of o c in

@@ -1,7 +1,7 @@
 -- The entries of a manifest that a plan looks at: the members, in order, of the root table `dependencies`
 -- (Cargo reference, "Specifying Dependencies").
-use Rattle.std.specs.Prelude.{ℕ, List, [], ◌∷◌, map, Option, Some, codes}
-use Rattle.edit_document.specs.Assertions.{Step, key, index, Place, at}
+use Rattle.std.specs.Prelude.{ℕ, List, [], ◌∷◌, Option, Some, codes}
+use Rattle.edit_document.specs.Assertions.{key, Place, at}
 use Rattle.edit_document.specs.Tree.{View}
 use Rattle.edit_document.specs.Items.{names_in}
 

@@ -1,5 +1,5 @@
 -- How looks are made, one after another.
-use Rattle.std.specs.Prelude.{◌≡◌, ◌⊎◌, ◌↔◌, ℕ, List, [], ◌∷◌, ◌++◌, Bool, false, ◌&&◌, IsSome, Option, Some, None, Result, Ok, Err, All, is_some, string_bytes}
+use Rattle.std.specs.Prelude.{◌≡◌, ◌⊎◌, ℕ, List, [], ◌∷◌, ◌++◌, Bool, false, ◌&&◌, IsSome, Some, None, Ok, Err, All, is_some, string_bytes}
 use Rattle.std.specs.Str.{bytes_eq}
 use Rattle.edit_document.specs.Errors.{number_of}
 use Rattle.edit_document.specs.declared.errors.Error.{Error}

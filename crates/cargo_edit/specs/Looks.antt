@@ -1,5 +1,5 @@
 -- The looks of a plan: what was looked up, and what each look answered.
-use Rattle.std.specs.Prelude.{◌≡◌, ℕ, List, [], ◌∷◌, Bool, true, ◌&&◌, All, Contains, ◌⊎◌, IsSome, Option, Some, None, Result, Ok, find, map, string_bytes, option_and_then, option_map, ⊤}
+use Rattle.std.specs.Prelude.{◌≡◌, ℕ, List, [], ◌∷◌, Bool, ◌&&◌, All, ◌⊎◌, IsSome, Option, Some, None, Ok, find, string_bytes, option_map, ⊤}
 use Rattle.std.specs.Str.{bytes_eq}
 use Rattle.edit_record.specs.IndexEntry.{IndexEntry}
 use Rattle.edit_record.specs.Admissible.{admissible_in}

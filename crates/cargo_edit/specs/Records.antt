@@ -1,6 +1,6 @@
 -- Which entries a plan sees, and what they say. An entry that is a string gives its requirement; an entry that
 -- is a table has it as its member `version` (Cargo reference, "Specifying Dependencies").
-use Rattle.std.specs.Prelude.{ℕ, List, [], ◌∷◌, Bool, false, ◌||◌, if◌then◌else◌, Option, Some, None, codes}
+use Rattle.std.specs.Prelude.{ℕ, List, Bool, ◌||◌, if◌then◌else◌, Option, Some, None, codes}
 use Rattle.std.specs.List.{filter_map, list_all}
 use Rattle.edit_document.specs.Assertions.{key, Place, at, same_bytes}
 use Rattle.edit_document.specs.Tree.{View, string, inline_table, table}

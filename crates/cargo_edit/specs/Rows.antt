@@ -1,5 +1,5 @@
 -- The rows of a manifest's seen entries, and what is written of them.
-use Rattle.std.specs.Prelude.{◌≡◌, ℕ, List, [], ◌∷◌, ◌++◌, Bool, false, Option, Some, None, is_some, option_map}
+use Rattle.std.specs.Prelude.{◌≡◌, ℕ, List, [], ◌∷◌, false, Option, Some, None, is_some, option_map}
 use Rattle.std.specs.List.{AllZip}
 use Rattle.edit_document.specs.Assertions.{Place}
 use Rattle.semver.specs.Parse.{Parts}
@@ -77,6 +77,7 @@ write_at literal line = write_of line.change line.new
     write_of (Some kind) (Some text) = Some (literal, text)
     write_of kind text = None
 
+-- one more write, where there is one
 abbrev pub with_write : Option (Place × List ℕ) → List (Place × List ℕ) → List (Place × List ℕ)
 with_write None ws = ws
 with_write (Some w) ws = w ∷ ws

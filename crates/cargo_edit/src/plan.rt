@@ -1,7 +1,5 @@
 //! The plan of an upgrade.
-ghost use Rattle.std.specs.Prelude.{◌≡◌, [], All, IfErr, IfOk, IfSome, IsUtf8, MatchOption, ℕ, List, length, map, option_map, slice_get, string_bytes};
-ghost use Rattle.std.specs.List.{list_any};
-ghost use Rattle.std.specs.Str.{bytes_eq};
+ghost use Rattle.std.specs.Prelude.{◌≡◌, [], All, IfErr, IfOk, IfSome, IsUtf8, MatchOption, length, map, option_map, slice_get, string_bytes};
 ghost use Rattle.edit_document.specs.Errors.{IsMemory};
 ghost use Rattle.edit_record.specs.RustVersions.{numbers_of};
 ghost use Rattle.edit_sources.specs.IndexCache.{index_of};

@@ -1,5 +1,5 @@
 //! What is planned for one manifest.
-ghost use Rattle.std.specs.Prelude.{◌≡◌, ◌⊎◌, IfErr, IfOk, IsUtf8, OnOk, map, option_map};
+ghost use Rattle.std.specs.Prelude.{◌≡◌, IfErr, IfOk, IsUtf8, OnOk, map, option_map};
 ghost use Rattle.edit_document.specs.Grammar.{Text};
 ghost use Rattle.edit_document.specs.Shown.{ShowsTree};
 ghost use Rattle.edit_document.specs.Supported.{IsManifest};

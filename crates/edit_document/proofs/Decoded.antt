@@ -1,21 +1,20 @@
 -- What stands between delimiters may be cut out of a text, and what it says.
-use Rattle.std.proofs.Common.{◌≡◌, ℕ, suc, ◌+◌, ◌-◌, ◌<◌, ◌≤◌, Bool, true, false, cond, List, [], ◌∷◌, ◌++◌, length, get_or, Option, Some, None, refl, sym, ap, subst, ◌∙◌, append_assoc, arith}
+use Rattle.std.proofs.Common.{◌≡◌, ℕ, ◌+◌, ◌-◌, ◌<◌, ◌≤◌, true, List, [], ◌∷◌, ◌++◌, length, get_or, Option, Some, None, refl, sym, ap, subst, ◌∙◌, append_assoc, arith}
 use Rattle.std.specs.Borrow.{Bor}
 use Rattle.std.specs.Prelude.{slice_range, unwrap_or}
-use Rattle.std.specs.List.{prefix_len, AllByRecursion}
+use Rattle.std.specs.List.{AllByRecursion}
 use Rattle.std.specs.Str.{IsUtf8, IsCharBoundary}
 use Rattle.std.specs.Str.Pattern.{GetsRange}
 use Rattle.std.proofs.lemmas.Bool.Decides.{nat_tests}
 use Rattle.std.proofs.lemmas.List.{take_at, drop_at, length-append}
 use Rattle.std.proofs.lemmas.Str.{encode_ascii, IsUtf8-past_char, IsUtf8-drop, IsCharBoundary-before_ascii, IsCharBoundary-at_seam}
 use Rattle.edit_document.specs.declared.read.marks.MarkKind.{MarkKind}
-use Rattle.edit_document.specs.declared.read.marks.MarkKind.TheVariants.{BarePart, BasicPart, LiteralPart, BasicString, LiteralString, Integer, Float, DateTime}
-use Rattle.edit_document.specs.Characters.{quote, apostrophe, backslash, is_bare, is_ascii, is_unescaped, All}
-use Rattle.edit_document.specs.Strings.{Piece, plain, letter, short, long, feed, fold, delimiter, pieces, said, says}
+use Rattle.edit_document.specs.declared.read.marks.MarkKind.TheVariants.{BarePart, BasicPart, LiteralPart, BasicString, LiteralString, MultiBasicString, MultiLiteralString, Integer, Float, DateTime}
+use Rattle.edit_document.specs.Characters.{quote, apostrophe, is_bare, is_ascii, All}
+use Rattle.edit_document.specs.Strings.{said}
 use Rattle.edit_document.specs.Decoding as decoding
 use Rattle.edit_document.specs.Decoding.{delimited, BasicSays, Says}
 use Rattle.edit_document.specs.Reading.{front}
-use Rattle.edit_document.proofs.TokenLaws.{AreBasic}
 
 -- ---- where a text may be cut
 
@@ -57,6 +56,13 @@ quoted_utf8 q before content rest lt u =
     let inner = utf8_behind (q ∷ []) (content ++ (q ∷ rest)) (lt, tt) one in
     (inner, utf8_from content rest q inner lt)
 
+tripled_utf8 : (q : ℕ) (before content rest : List ℕ) → q < 128 → IsUtf8 (before ++ (q ∷ (q ∷ (q ∷ (content ++ (q ∷ (q ∷ (q ∷ rest)))))))) → IsUtf8 (content ++ (q ∷ (q ∷ (q ∷ rest)))) × IsUtf8 (q ∷ (q ∷ (q ∷ rest)))
+tripled_utf8 q before content rest lt u =
+    let tail = q ∷ (q ∷ (q ∷ rest)) in
+    let one = utf8_from before (q ∷ (q ∷ (content ++ tail))) q u lt in
+    let inner = utf8_behind (q ∷ (q ∷ (q ∷ []))) (content ++ tail) (lt, (lt, (lt, tt))) one in
+    (inner, utf8_from content (q ∷ (q ∷ rest)) q inner lt)
+
 bare_utf8 : (before content rest : List ℕ) → 0 < length content → All is_bare content → IsUtf8 (before ++ (content ++ rest)) → IsUtf8 (content ++ rest) × IsUtf8 rest
 bare_utf8 before [] rest some h u = absurd (omega arith)
 bare_utf8 before (b ∷ content) rest some h u =
@@ -82,6 +88,8 @@ parts_utf8 BasicPart before content rest said h u = quoted_utf8 quote before con
 parts_utf8 LiteralPart before content rest said h u = quoted_utf8 apostrophe before content rest (omega arith) u
 parts_utf8 BasicString before content rest said h u = quoted_utf8 quote before content rest (omega arith) u
 parts_utf8 LiteralString before content rest said h u = quoted_utf8 apostrophe before content rest (omega arith) u
+parts_utf8 MultiBasicString before content rest said h u = tripled_utf8 quote before content rest (omega arith) u
+parts_utf8 MultiLiteralString before content rest said h u = tripled_utf8 apostrophe before content rest (omega arith) u
 parts_utf8 Integer before content rest said h u = word_utf8 before content rest h.0 h.1 u
 parts_utf8 Float before content rest said h u = word_utf8 before content rest h.0 h.1 u
 parts_utf8 DateTime before content rest said h u = word_utf8 before content rest h.0 h.1 u
@@ -135,30 +143,3 @@ content_range kind before content rest n from to width e f g h =
 pub got_content : (bytes content : List ℕ) (i j : ℕ) (r : Option (Bor (List ℕ))) (d : Bor (List ℕ)) → IsContentAt bytes content i j → GetsRange bytes i j r → (unwrap_or r d).now ≡ content
 got_content bytes content i j (Some x) d at gets = gets.0 ∙ at.cut
 got_content bytes content i j None d at gets = absurd (gets at.ordered at.from at.to)
-
--- ---- contents without escapes
-
-run_whole : (class : ℕ → Bool) (b : ℕ) (bytes : List ℕ) → prefix_len class (b ∷ bytes) ≡ suc (length bytes) → (class b ≡ true) × (prefix_len class bytes ≡ length bytes)
-run_whole class b bytes e = go (class b) refl e
-  where
-    go : (t : Bool) → class b ≡ t → cond t (1 + prefix_len class bytes) 0 ≡ suc (length bytes) → (class b ≡ true) × (prefix_len class bytes ≡ length bytes)
-    go true k f = (k, omega arith)
-    go false k f = absurd (omega arith)
-
-no_escape : {A : Type 0} (bytes : List ℕ) → prefix_len is_unescaped (backslash ∷ bytes) ≡ suc (length bytes) → A
-no_escape bytes e = absurd (omega arith)
-
-pub plain_says : (ps : List Piece) → AreBasic ps → prefix_len is_unescaped (pieces quote ps []) ≡ length (pieces quote ps []) → says quote ps ≡ pieces quote ps []
-plain_says [] h e = refl
-plain_says (plain b ∷ ps) h e = ap (λ (r : List ℕ). b ∷ r) (plain_says ps h.1 (run_whole is_unescaped b (pieces quote ps []) e).1)
-plain_says (letter c ∷ ps) h e = no_escape (c ∷ pieces quote ps []) e
-plain_says (short digits ∷ ps) h e = no_escape (117 ∷ (digits ++ pieces quote ps [])) e
-plain_says (long digits ∷ ps) h e = no_escape (85 ∷ (digits ++ pieces quote ps [])) e
-plain_says (feed end ∷ ps) h e = absurd h.0
-plain_says (fold ws end more ∷ ps) h e = absurd h.0
-plain_says (delimiter ∷ ps) h e = absurd h.0
-
-pub plain_content : (content said : List ℕ) → BasicSays content said → prefix_len is_unescaped content ≡ length content → said ≡ content
-plain_content content said h e =
-    let k : prefix_len is_unescaped (pieces quote h.0 []) ≡ length (pieces quote h.0 []) = ap (prefix_len is_unescaped) (sym h.2) ∙ e ∙ ap length h.2 in
-    h.3 ∙ plain_says h.0 h.1 k ∙ sym h.2

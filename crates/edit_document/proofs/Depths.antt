@@ -1,10 +1,10 @@
 -- Where every place has at most 80 steps, arrays and inline tables are at most 80 deep in one another.
-use Rattle.std.proofs.Common.{◌≡◌, ℕ, zero, suc, ◌+◌, ◌≤◌, List, [], ◌∷◌, ◌++◌, length, subst, arith}
-use Rattle.std.specs.Prelude.{map, max}
+use Rattle.std.proofs.Common.{◌≡◌, ℕ, suc, ◌+◌, ◌≤◌, List, [], ◌∷◌, ◌++◌, length, subst, arith}
+use Rattle.std.specs.Prelude.{max}
 use Rattle.std.specs.List.{AllByRecursion}
 use Rattle.std.proofs.lemmas.List.{length_push, map-append}
 use Rattle.edit_document.specs.Characters.{comma, right_bracket, right_brace}
-use Rattle.edit_document.specs.Strings.{◌·◌, line_end, name}
+use Rattle.edit_document.specs.Strings.{line_end, name}
 use Rattle.edit_document.specs.Grammar.{gap, Value, basic, literal, multi_basic, multi_literal, boolean, integer, float, datetime, array, inline, Elements, no_elements, last_element, element, elements, Members, no_members, last_member, member, members, Statement, pair, header, element_header, comment, empty_line, full_line, Lines, one_line, more_lines, lines}
 use Rattle.edit_document.specs.Supported.{IsSupportedValue, AreSupportedElements, AreSupportedMembers, IsSupportedStatement, AreSupportedLines}
 use Rattle.edit_document.specs.Assertions.{key, index, Place, at}
@@ -32,8 +32,8 @@ mutual
   value_deep : (p : Place) (v : Value) (after : List ℕ) → IsSupportedValue v → length p ≤ 80 → Short (noted_inside p v after) → length p + depth v ≤ 81
   value_deep p (basic ps) after s le h = omega arith
   value_deep p (literal text) after s le h = omega arith
-  value_deep p (multi_basic ps) after s le h = absurd s
-  value_deep p (multi_literal ps) after s le h = absurd s
+  value_deep p (multi_basic ps) after s le h = omega arith
+  value_deep p (multi_literal ps) after s le h = omega arith
   value_deep p (boolean b) after s le h = omega arith
   value_deep p (integer n) after s le h = omega arith
   value_deep p (float f) after s le h = omega arith

@@ -1,28 +1,27 @@
 -- What the nodes of a text tell of it.
-use Rattle.std.proofs.Common.{◌≡◌, ℕ, ◌≤◌, Bool, true, false, List, [], ◌∷◌, ◌++◌, length, Option, Some, None, Result, Ok, Err, refl, sym, ap, subst, ◌∙◌, ◌⊎◌, inl, inr, arith}
-use Rattle.std.specs.Prelude.{map, IsUtf8, MatchResult, string_bytes}
+use Rattle.std.proofs.Common.{◌≡◌, ℕ, ◌≤◌, Bool, true, false, List, [], ◌∷◌, Option, Some, None, Result, Err, refl, sym, ap, subst, ◌∙◌, ◌⊎◌, inl, inr, arith}
+use Rattle.std.specs.Prelude.{IsUtf8, MatchResult, string_bytes}
 use Rattle.std.specs.List.{AllByRecursion}
 use Rattle.edit_document.specs.declared.read.marks.Mark.{Mark}
 use Rattle.edit_document.specs.declared.nodes.Node.{Node}
 use Rattle.edit_document.specs.declared.document.Document.TheInside.{Inside}
-use Rattle.edit_document.specs.Grammar.{Text, text, lines, byte_order_mark, AreLines, Spells}
+use Rattle.edit_document.specs.Grammar.{Text, lines, byte_order_mark, Spells}
 use Rattle.edit_document.specs.Supported.{IsSupported, IsManifest}
-use Rattle.edit_document.specs.Assertions.{Place, assertions, NoClash, AreShort, IsDocument}
+use Rattle.edit_document.specs.Assertions.{assertions}
 use Rattle.edit_document.specs.Depth.{text_depth}
 use Rattle.edit_document.specs.Marks.{text_marks, IsReadRefusal}
 use Rattle.edit_document.specs.Errors.{IsMemory}
 use Rattle.edit_document.specs.declared.errors.Error.{Error}
 use Rattle.edit_document.specs.declared.errors.Error.TheVariants.{NotToml, Memory}
-use Rattle.edit_document.specs.Tree.{View, view_at}
 use Rattle.edit_document.specs.Shown.{Shown, ShowsTree, node_at}
-use Rattle.edit_document.specs.Nodes.{Spot, Holds, shown_spot}
+use Rattle.edit_document.specs.Nodes.{Holds}
 use Rattle.edit_document.specs.FormOf.{form_of}
-use Rattle.edit_document.specs.DocumentLayout.{Noted, places_of, noted_text, spots_in, spots_of, nodes_by, shown_by, IsRead}
+use Rattle.edit_document.specs.DocumentLayout.{Noted, noted_text, spots_in, spots_of, nodes_by, shown_by, IsRead}
 use Rattle.edit_document.specs.Walk.{State, start, walked}
 use Rattle.edit_document.specs.WalkState.{IsToken, KeepsState}
-use Rattle.edit_document.proofs.LineLaws.{IsReadText, read_again}
+use Rattle.edit_document.proofs.LineLaws.{read_again}
 use Rattle.edit_document.proofs.Ends.{Ends}
-use Rattle.edit_document.proofs.Spotting.{Fine, Good, tree_of_good}
+use Rattle.edit_document.proofs.Spotting.{Good, tree_of_good}
 use Rattle.edit_document.proofs.WalkedTokens.{state, Leads, leads, stops}
 use Rattle.edit_document.proofs.WalkedLines.{text_leads}
 use Rattle.edit_document.proofs.Matched.{Matched, text_matched, fine_of, no_clash_of, short_of}

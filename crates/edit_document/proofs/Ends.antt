@@ -1,18 +1,13 @@
 -- What stands at the end of a text, and what its tokens say.
-use Rattle.std.proofs.Common.{◌≡◌, ℕ, zero, suc, ◌+◌, ◌-◌, ◌<◌, ◌≤◌, Bool, true, false, cond, List, [], ◌∷◌, ◌++◌, length, take, drop, get_or, Option, Some, None, refl, sym, ap, subst, ◌∙◌, append_assoc, length-append, lit<, arith}
-use Rattle.std.specs.Prelude.{map, option_map, encode_utf8, IsUtf8}
-use Rattle.std.specs.List.{AllByRecursion, flat_map}
-use Rattle.std.specs.Str.{is_utf8}
+use Rattle.std.proofs.Common.{◌≡◌, ℕ, zero, suc, ◌+◌, ◌-◌, ◌<◌, Bool, true, List, [], ◌∷◌, ◌++◌, length, take, drop, get_or, refl, sym, ap, subst, ◌∙◌, append_assoc, length-append, lit<, arith}
+use Rattle.std.specs.Prelude.{encode_utf8, IsUtf8}
+use Rattle.std.specs.List.{AllByRecursion}
 use Rattle.std.specs.Str.Parse.{digits_value}
 use Rattle.std.proofs.lemmas.List.{append-nil}
-use Rattle.std.proofs.lemmas.Str.{IsUtf8-append, IsUtf8-nil, IsUtf8-encode, IsUtf8-take, IsUtf8-drop, IsUtf8-from_ascii, IsCharBoundary-before_ascii, IsCharBoundary-after_ascii, is_utf8-from_IsUtf8}
-use Rattle.edit_document.specs.declared.read.marks.Mark.{Mark}
-use Rattle.edit_document.specs.declared.read.marks.MarkKind.{MarkKind}
-use Rattle.edit_document.specs.declared.read.marks.MarkKind.TheVariants as kinds
-use Rattle.edit_document.specs.Characters.{quote, apostrophe, backslash, comma, equals, right_brace, is_blank, is_bare, is_literal_ch, All}
-use Rattle.edit_document.specs.Strings.{◌·◌, Piece, plain, letter, short, long, feed, fold, delimiter, piece, pieces, said, says, IsBasicPiece, Part, bare, basic_part, literal_part, part, IsPart, basic_text, literal_text, LineEnd, line_end, lf, crlf, Key, key, dotted, is_escape, escaped, is_hex, is_scalar}
-use Rattle.edit_document.specs.Grammar.{Between, blank, break, remark, gap, Value, basic, literal, multi_basic, multi_literal, boolean, integer, float, datetime, array, inline, Members, no_members, last_member, member, value, members, Statement, statement, Line, line}
-use Rattle.edit_document.specs.Supported.{IsOnePart, IsSupportedValue, AreSupportedMembers}
+use Rattle.std.proofs.lemmas.Str.{IsUtf8-append, IsUtf8-nil, IsUtf8-encode, IsUtf8-take, IsUtf8-drop, IsUtf8-from_ascii, IsCharBoundary-before_ascii, IsCharBoundary-after_ascii}
+use Rattle.edit_document.specs.Characters.{quote, backslash, equals, is_bare, All}
+use Rattle.edit_document.specs.Strings.{Piece, plain, letter, short, long, feed, fold, delimiter, pieces, says, IsBasicPiece, LineEnd, line_end, lf, crlf, Key, key, is_escape, escaped, is_hex, is_scalar}
+use Rattle.edit_document.specs.Grammar.{Between, gap, Value, Members, value, members, Statement, statement, Line, line}
 use Rattle.std.specs.Char.{IsScalar}
 use Rattle.std.proofs.lemmas.Bool.Decides.{nat_tests}
 use Rattle.edit_document.specs.Walk.{suffix}
@@ -99,7 +94,7 @@ text_behind xs ys c small u =
     let here : get_or (xs ++ (c ∷ ys)) (length xs) 0 ≡ c = get_seam xs ys c in
     subst IsUtf8 (drop_seam xs ys c) (IsUtf8-drop (xs ++ (c ∷ ys)) (length xs + 1) u (IsCharBoundary-after_ascii (xs ++ (c ∷ ys)) (length xs) u (omega arith) (omega arith)))
 
-one_text : (x : ℕ) → x < 128 → IsUtf8 (x ∷ [])
+pub one_text : (x : ℕ) → x < 128 → IsUtf8 (x ∷ [])
 one_text x small = IsUtf8-from_ascii (x ∷ []) one
   where
     one : (i : ℕ) → get_or (x ∷ []) i 0 < 128
@@ -114,23 +109,23 @@ pub ascii_text : (class : ℕ → Bool) → Small class → (xs : List ℕ) → 
 ascii_text class small [] h = IsUtf8-nil
 ascii_text class small (x ∷ xs) h = IsUtf8-append (x ∷ []) xs (one_text x (small x h.0)) (ascii_text class small xs h.1)
 
-past_ascii : (class : ℕ → Bool) → Small class → (xs ys : List ℕ) → All class xs → IsUtf8 (xs ++ ys) → IsUtf8 ys
+pub past_ascii : (class : ℕ → Bool) → Small class → (xs ys : List ℕ) → All class xs → IsUtf8 (xs ++ ys) → IsUtf8 ys
 past_ascii class small [] ys h u = u
 past_ascii class small (x ∷ xs) ys h u = past_ascii class small xs ys h.1 (text_behind [] (xs ++ ys) x (small x h.0) u)
 
-hex_small : Small is_hex
+pub hex_small : Small is_hex
 hex_small b e = grind (arith, nat_tests)
 
 pub bare_small : Small is_bare
 bare_small b e = grind (arith, nat_tests)
 
-escape_small : Small is_escape
+pub escape_small : Small is_escape
 escape_small b e = grind (arith, nat_tests)
 
-escaped_small : (c : ℕ) → c < 128 → escaped c < 128
+pub escaped_small : (c : ℕ) → c < 128 → escaped c < 128
 escaped_small c h = grind (arith, nat_tests)
 
-scalar_is : (c : ℕ) → is_scalar c ≡ true → IsScalar c
+pub scalar_is : (c : ℕ) → is_scalar c ≡ true → IsScalar c
 scalar_is c e = grind (arith, nat_tests)
 
 -- what a basic string says is a text, where the string stands in one

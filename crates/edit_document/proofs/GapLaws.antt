@@ -1,33 +1,15 @@
 -- The laws of the gaps of arrays: what is read is spelled so, and what is spelled so is read.
-use Rattle.std.proofs.Common.{◌≡◌, ℕ, zero, suc, ◌+◌, ◌≤◌, not, Bool, true, false, ◌&&◌, ◌||◌, ◌==◌, eqb, List, [], ◌∷◌, ◌++◌, length, slice_index, drop, Option, Some, None, refl, sym, ap, subst, ◌∙◌, inl, inr, arith}
+use Rattle.std.proofs.Common.{◌≡◌, ℕ, zero, suc, ◌+◌, ◌≤◌, Bool, true, false, ◌||◌, ◌==◌, eqb, List, [], ◌∷◌, ◌++◌, length, drop, Some, None, refl, ap, subst, ◌∙◌, inl, inr, arith}
 use Rattle.std.proofs.lemmas.Bool.Decides.{nat_tests}
 use Rattle.std.proofs.lemmas.List.{length-append}
-use Rattle.edit_document.specs.Characters.{line_feed, carriage_return, hash, right_bracket, is_blank, is_ch, All}
+use Rattle.edit_document.specs.Characters.{line_feed, carriage_return, hash, is_blank, is_ch}
 use Rattle.edit_document.specs.Strings.{LineEnd, lf, crlf, line_end}
 use Rattle.edit_document.specs.Numbers.{is_decimal}
 use Rattle.edit_document.specs.Grammar.{Between, blank, break, remark, gap, IsBetween, IsGap}
-use Rattle.edit_document.specs.Reading.{◌>>=◌, Read, first, front, after, line_end_at, between_at, and_more, gap_at, gap_front, past_gap}
-use Rattle.edit_document.proofs.TokenLaws.{bind_some, chosen, tested, some_is, first_is, at_drop, both, first_of, run_parts, run_all, front_again, after_again}
+use Rattle.edit_document.specs.Reading.{Read, first, front, after, line_end_at, between_at, and_more, gap_at, gap_front, past_gap}
+use Rattle.edit_document.proofs.TokenLaws.{bind_some, chosen, some_is, first_is, first_of, run_parts, run_all, front_again, after_again}
+use Rattle.edit_document.proofs.MultiLaws.{line_end_sound, line_end_again}
 use Rattle.edit_document.proofs.NumberReadAgain.{is_stop, EndsValue, blank_ends, stop_ends, stop_other, blank_other}
-
--- ---- newlines
-
-pub line_end_sound : (bytes : List ℕ) (x : LineEnd × List ℕ) → line_end_at bytes ≡ Some x → bytes ≡ line_end x.0 x.1
-unfolding line_end_at
-line_end_sound bytes x e =
-    let P : LineEnd × List ℕ → Type 0 = λ y. bytes ≡ line_end y.0 y.1 in
-    elim (chosen (eqb (first bytes) line_feed) _ _ (Some x) e) [
-      | inl h ↦ subst P (some_is _ x h.1) (first_is line_feed bytes (omega arith) h.0)
-      | inr h ↦
-          let t = tested (eqb (first bytes) carriage_return && eqb (slice_index bytes 1) line_feed) _ x h.1 in
-          let w = both (eqb (first bytes) carriage_return) (eqb (slice_index bytes 1) line_feed) t.0 in
-          subst P (some_is _ x t.1) (first_is carriage_return bytes (omega arith) w.0 ∙ ap (λ (r : List ℕ). carriage_return ∷ r) (at_drop 1 line_feed bytes (omega arith) w.1))
-    ]
-
-pub line_end_again : (e : LineEnd) (rest : List ℕ) → line_end_at (line_end e rest) ≡ Some (e, rest)
-unfolding line_end_at
-line_end_again lf rest = refl
-line_end_again crlf rest = refl
 
 -- ---- what is read is spelled so
 

@@ -9,6 +9,7 @@ pub mod ReplacedStrings
 pub mod LiteralBytes
 pub mod SwappedTexts
 pub mod Escapes
+pub mod LineContents
 pub mod Enclosed
 pub mod SplicedTexts
 pub mod Members
@@ -21,10 +22,14 @@ pub mod SortedRewrites
 pub mod SamePlace
 pub mod Views
 pub mod Loops
+pub mod MultiLoops
 pub mod Codes
 pub mod TokenLaws
+pub mod MultiLaws
+pub mod MultiReadAgain
 pub mod NumberLaws
 pub mod NumberReadAgain
+pub mod DateReadAgain
 pub mod GapLaws
 pub mod ValueLaws
 pub mod ValueReadAgain
@@ -45,6 +50,7 @@ pub mod Fronts
 pub mod Ends
 pub mod WalkedTokens
 pub mod NumberTokens
+pub mod MultiTokens
 pub mod WalkedValues
 pub mod WalkedLines
 pub mod Matched
@@ -54,6 +60,7 @@ pub mod Decoded
 pub mod Contents
 pub mod StandardFacts
 pub mod NumberFacts
+pub mod MultiFacts
 pub mod ArrayFacts
 pub mod ShownForms
 pub mod ReplacedDocuments

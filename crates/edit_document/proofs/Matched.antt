@@ -1,22 +1,18 @@
 -- What is noted of a text of the part that is read, against its assertions.
-use Rattle.std.proofs.Common.{◌≡◌, ℕ, zero, suc, ◌<◌, ◌≤◌, Bool, true, false, not, cond, List, [], ◌∷◌, ◌++◌, length, Option, Some, None, refl, sym, ap, subst, ◌∙◌, append_assoc, arith}
-use Rattle.std.specs.Prelude.{map, option_map, slice_get, ⊤, if◌then◌else◌}
-use Rattle.std.specs.List.{AllByRecursion, filter, filter_map}
+use Rattle.std.proofs.Common.{◌≡◌, ℕ, suc, ◌≤◌, Bool, true, false, List, [], ◌∷◌, ◌++◌, length, refl, sym, ap, subst, ◌∙◌, append_assoc}
+use Rattle.std.specs.Prelude.{map, ⊤}
+use Rattle.std.specs.List.{AllByRecursion}
 use Rattle.std.proofs.lemmas.List.{append-nil}
-use Rattle.std.proofs.lemmas.Option.{same_Some}
 use Rattle.edit_document.specs.Characters.{comma, right_bracket, right_brace}
-use Rattle.edit_document.specs.Strings.{◌·◌, line_end, name, Dotted, Key}
+use Rattle.edit_document.specs.Strings.{line_end, name, Dotted, Key}
 use Rattle.edit_document.specs.Grammar.{gap, Value, basic, literal, multi_basic, multi_literal, boolean, integer, float, datetime, array, inline, Elements, no_elements, last_element, element, elements, Members, no_members, last_member, member, members, Statement, pair, header, element_header, comment, empty_line, full_line, Lines, one_line, more_lines, lines, Text}
 use Rattle.edit_document.specs.Supported.{IsOnePart, IsSupportedValue, AreSupportedElements, AreSupportedMembers, IsSupportedStatement, AreSupportedLines}
-use Rattle.edit_document.specs.Assertions.{Step, key, index, Place, at, same_step, same_place, Kind, dotted, leaf, super, header_kind, array_kind, element_kind, Assertion, asserts, names, named, of_key, of_value, of_elements, of_members, of_pair, header_place, fronts, prefix_after, of_statement, of_lines, assertions, together, NoClash, AreShort}
-use Rattle.edit_document.specs.Tree.{step_from, once, members_of, View, string, truth, inline_table, table, view_of_kind, kind_at, view_in}
-use Rattle.edit_document.specs.Shown.{node_at}
-use Rattle.edit_document.specs.Nodes.{Shape, scalar, section, view_of_shape, shown_spot, Spot}
-use Rattle.edit_document.specs.Nodes as shapes
-use Rattle.edit_document.specs.DocumentLayout.{Noted, names_below, name_of_step, spot_of, root_noted, places_of, spots_in, shape_of_value, noted, noted_inside, noted_elements, noted_members, noted_value, noted_statement, header_after, noted_lines, noted_text}
-use Rattle.edit_document.proofs.SamePlace.{same_step_self, same_step_is, same_place_is, not_root}
-use Rattle.edit_document.proofs.Below.{step_from_is, step_from_at, name_from, Once}
-use Rattle.edit_document.proofs.Spotting.{Fine, Closed, Good}
+use Rattle.edit_document.specs.Assertions.{Step, key, index, Place, at, Kind, dotted, leaf, super, header_kind, array_kind, element_kind, Assertion, asserts, names, named, of_key, of_value, of_elements, of_members, header_place, fronts, prefix_after, of_statement, of_lines, assertions, together, NoClash, AreShort}
+use Rattle.edit_document.specs.Nodes.{Shape, section}
+use Rattle.edit_document.specs.DocumentLayout.{Noted, places_of, shape_of_value, noted, noted_inside, noted_elements, noted_members, noted_value, noted_statement, header_after, noted_lines, noted_text}
+use Rattle.edit_document.proofs.SamePlace.{not_root}
+use Rattle.edit_document.proofs.Below.{Once}
+use Rattle.edit_document.proofs.Spotting.{Fine}
 
 -- ---- each note is an assertion
 

@@ -63,8 +63,8 @@ key_refused text told = rw (untold part_kind (part_at text) told) refl
 flat_marks : (v : Value) (rest : List ℕ) → IsSupportedValue v → depth v ≡ 0 → value_marks v rest ≡ mark (value_kind v) (value v rest) rest ∷ []
 flat_marks (basic ps) rest s e = refl
 flat_marks (literal text) rest s e = refl
-flat_marks (multi_basic ps) rest s e = absurd s
-flat_marks (multi_literal ps) rest s e = absurd s
+flat_marks (multi_basic ps) rest s e = refl
+flat_marks (multi_literal ps) rest s e = refl
 flat_marks (boolean true) rest s e = refl
 flat_marks (boolean false) rest s e = refl
 flat_marks (integer n) rest s e = refl

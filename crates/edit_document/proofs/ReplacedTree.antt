@@ -1,19 +1,16 @@
 -- A document with strings written at places is a document again, of the same part of the grammar, with the tree that is meant.
-use Rattle.std.proofs.Common.{◌≡◌, ℕ, zero, suc, Bool, true, false, not, ◌&&◌, ◌||◌, ◌==◌, if◌then◌else◌, cond, List, [], ◌∷◌, ◌++◌, map, Option, None, Some, option_map, refl, sym, ap, ap₂, ◌∙◌, subst, ◌⊎◌, inl, inr, ⊎_elim, true≢false}
-use Rattle.std.proofs.lemmas.Bool.{and_parts}
-use Rattle.std.specs.List.{AllByRecursion}
-use Rattle.edit_document.specs.Strings.{Key}
-use Rattle.edit_document.specs.Grammar.{Value, basic, literal, multi_basic, multi_literal, boolean, integer, float, datetime, array, inline, Elements, no_elements, last_element, element, Members, no_members, last_member, member, Statement, pair, header, element_header, Line, empty_line, full_line, Lines, one_line, more_lines, Text, text, IsValue, AreElements, AreMembers, IsMember, IsStatement, AreLines}
-use Rattle.edit_document.specs.Assertions.{Place, Step, at, key, index, names, named, same_place, Kind, dotted, leaf, super, header_kind, array_kind, element_kind, Assertion, of_statement, assertions, prefix_after, NoClash, IsDocument}
-use Rattle.edit_document.specs.Tree.{View, string, view_in, view_at, view_of_kind, view_of_value, kind_at, is_value_at}
-use Rattle.edit_document.specs.Supported.{IsSupportedValue, AreSupportedElements, AreSupportedMembers, IsSupportedStatement, AreSupportedLines, IsSupported, IsManifest}
-use Rattle.edit_document.specs.Literals.{literal_of, literal_piece}
+use Rattle.std.proofs.Common.{◌≡◌, ℕ, suc, true, false, ◌||◌, cond, List, [], ◌∷◌, ◌++◌, Option, None, Some, option_map, refl, sym, ap, ◌∙◌, inl, inr, true≢false}
+use Rattle.edit_document.specs.Grammar.{Value, basic, literal, multi_basic, multi_literal, boolean, integer, float, datetime, array, inline, Elements, no_elements, last_element, element, Members, no_members, last_member, member, Statement, pair, header, element_header, empty_line, full_line, Lines, one_line, more_lines, Text, text, IsValue, AreElements, AreMembers, IsMember, IsStatement, AreLines}
+use Rattle.edit_document.specs.Assertions.{Place, Step, at, index, names, named, same_place, leaf, Assertion, of_statement, assertions, prefix_after, NoClash, IsDocument}
+use Rattle.edit_document.specs.Tree.{View, string, view_at, view_of_kind, kind_at}
+use Rattle.edit_document.specs.Supported.{IsSupportedValue, AreSupportedElements, AreSupportedMembers, IsSupportedStatement, AreSupportedLines, IsManifest}
+use Rattle.edit_document.specs.Literals.{literal_of}
 use Rattle.edit_document.specs.Replaces.{Edits, new_text, literal_or, put, replaced_inside, replaced_elements, replaced_members, replaced_statement, replaced_lines, replaced, is_below, is_below_any, written, emptied}
-use Rattle.edit_document.proofs.SamePlaces.{by_test, place_true, place_same, not_below_itself}
+use Rattle.edit_document.proofs.SamePlaces.{by_test, place_true, place_same}
 use Rattle.edit_document.proofs.LiteralLaws.{literal_is_value, literal_says}
 use Rattle.edit_document.proofs.Thinned.{Thin, none, thin_lines, thin_short, thin_no_clash}
-use Rattle.edit_document.proofs.ThinnedViews.{Untouched, thin_view, thin_literal}
-use Rattle.edit_document.proofs.NothingBelow.{HasLeaf, opens, shut_below, leaf_there, Rooted, done, next, rooted}
+use Rattle.edit_document.proofs.ThinnedViews.{thin_view, thin_literal}
+use Rattle.edit_document.proofs.NothingBelow.{HasLeaf, opens, shut_below, Rooted, done, next, rooted}
 
 -- ---- well formed
 

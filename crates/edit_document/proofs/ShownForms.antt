@@ -1,15 +1,15 @@
 -- A document shows the tree of its form.
-use Rattle.std.proofs.Common.{◌≡◌, ℕ, zero, suc, List, [], ◌∷◌, map, Option, Some, refl, sym, ap, ◌∙◌, subst, ◌⊎◌, inl, inr, ⊎_elim}
-use Rattle.std.specs.Prelude.{slice_get, option_map}
-use Rattle.std.proofs.lemmas.Option.{slice_get-map, same_Some}
+use Rattle.std.proofs.Common.{◌≡◌, ℕ, zero, suc, List, [], ◌∷◌, map, Some, refl, sym, ap, ◌∙◌, subst, ⊎_elim}
+use Rattle.std.specs.Prelude.{slice_get}
+use Rattle.std.proofs.lemmas.Option.{same_Some}
 use Rattle.edit_document.specs.declared.document.Document.TheInside.{Inside}
 use Rattle.edit_document.specs.Grammar.{Text}
 use Rattle.edit_document.specs.Assertions.{Step, key, index, Place, at, assertions}
-use Rattle.edit_document.specs.Tree.{View, view_at}
+use Rattle.edit_document.specs.Tree.{view_at}
 use Rattle.edit_document.specs.Supported.{IsManifest}
-use Rattle.edit_document.specs.Shown.{Shown, node_at, tree_of, ShowsTree}
-use Rattle.edit_document.specs.Nodes.{Spot, shown_spot, element_count, Lists, IsTree, IsMember}
-use Rattle.edit_document.specs.DocumentLayout.{Noted, root_noted, places_of, spot_of, spots_in, spots_of, noted_text, shown_of, IsRead}
+use Rattle.edit_document.specs.Shown.{Shown, node_at, ShowsTree}
+use Rattle.edit_document.specs.Nodes.{Spot, element_count, Lists, IsTree}
+use Rattle.edit_document.specs.DocumentLayout.{Noted, places_of, spot_of, spots_in, noted_text, shown_of, IsRead}
 use Rattle.edit_document.proofs.Below.{all_at}
 use Rattle.edit_document.proofs.Spotting.{Fine, Fits, Closed, Good, noted_at}
 use Rattle.edit_document.proofs.Matched.{text_matched, fine_of}

@@ -1,22 +1,19 @@
 -- What is noted of a text shows its tree.
-use Rattle.std.proofs.Common.{◌≡◌, ℕ, zero, suc, ◌<◌, ◌≤◌, Bool, true, false, not, cond, List, [], ◌∷◌, ◌++◌, length, Option, Some, None, refl, sym, ap, subst, ◌∙◌, arith}
+use Rattle.std.proofs.Common.{◌≡◌, ℕ, suc, Bool, true, false, not, List, [], ◌∷◌, Option, Some, None, refl, sym, ap, subst, ◌∙◌}
 use Rattle.std.specs.Prelude.{map, option_map, slice_get}
 use Rattle.std.specs.List.{AllByRecursion, filter, filter_map, cons_option}
 use Rattle.std.proofs.lemmas.Option.{same_Some}
-use Rattle.edit_document.specs.Characters.{quote}
-use Rattle.edit_document.specs.Strings.{says}
 use Rattle.edit_document.specs.Grammar.{Value, basic, literal, multi_basic, multi_literal, boolean, integer, float, datetime, array, inline}
 use Rattle.edit_document.specs.Supported.{IsSupportedValue}
 use Rattle.edit_document.specs.Assertions.{Step, key, index, Place, at, same_step, same_place, Kind, dotted, leaf, super, header_kind, array_kind, element_kind, Assertion}
-use Rattle.edit_document.specs.Tree.{step_from, once, members_of, View, string, truth, inline_table, table, view_of_value, view_of_kind, kind_at, view_in}
+use Rattle.edit_document.specs.Tree.{step_from, once, members_of, View, inline_table, table, view_of_value, view_of_kind, kind_at, view_in}
 use Rattle.edit_document.specs.Shown.{node_at}
-use Rattle.edit_document.specs.Nodes.{Shape, scalar, section, element_count, view_of_shape, shown_spot, Spot}
-use Rattle.edit_document.specs.Nodes as shapes
-use Rattle.edit_document.specs.DocumentLayout.{Noted, names_below, name_of_step, spot_of, root_noted, places_of, spots_in, shape_of_value}
-use Rattle.edit_document.proofs.SamePlace.{same_step_self, same_step_is, same_place_is, last_same}
-use Rattle.edit_document.proofs.Below.{step_from_is, step_from_at, Once, once_same}
-use Rattle.edit_document.proofs.Spotting.{Fine, Fits, Good, place_at}
-use Rattle.edit_document.proofs.Matched.{SameKind, IsNoted, Matched}
+use Rattle.edit_document.specs.Nodes.{Shape, element_count, view_of_shape, shown_spot}
+use Rattle.edit_document.specs.DocumentLayout.{Noted, names_below, spot_of, root_noted, places_of, spots_in, shape_of_value}
+use Rattle.edit_document.proofs.SamePlace.{same_step_is, same_place_is, last_same}
+use Rattle.edit_document.proofs.Below.{step_from_is, Once, once_same}
+use Rattle.edit_document.proofs.Spotting.{Fits, Good, place_at}
+use Rattle.edit_document.proofs.Matched.{SameKind, Matched}
 
 -- ---- the members of a place
 
@@ -74,8 +71,8 @@ members_are made ms p h o k = ap once (steps_matched made ms p h) ∙ steps_once
 value_view : (made : List Assertion) (p : Place) (v : Value) (names : List (List ℕ)) → IsSupportedValue v → (element_count (shape_of_value v) ≡ None → members_of made p ≡ map key names) → view_of_shape (shape_of_value v) names ≡ view_of_value made p v
 value_view made p (basic ps) names s e = refl
 value_view made p (literal text) names s e = refl
-value_view made p (multi_basic ps) names s e = absurd s
-value_view made p (multi_literal ps) names s e = absurd s
+value_view made p (multi_basic ps) names s e = refl
+value_view made p (multi_literal ps) names s e = refl
 value_view made p (boolean b) names s e = refl
 value_view made p (integer n) names s e = refl
 value_view made p (float f) names s e = refl

@@ -1,5 +1,5 @@
 -- The spots of what is noted, and one note more.
-use Rattle.std.proofs.Common.{◌≡◌, ℕ, zero, suc, ◌+◌, ◌<◌, ◌≤◌, Bool, true, false, ◌||◌, List, [], ◌∷◌, ◌++◌, length, Option, Some, None, refl, sym, ap, subst, ◌∙◌, ◌⊎◌, inl, inr, arith}
+use Rattle.std.proofs.Common.{◌≡◌, ℕ, zero, suc, ◌+◌, ◌<◌, ◌≤◌, Bool, true, false, List, [], ◌∷◌, ◌++◌, length, Option, Some, None, refl, sym, ap, subst, ◌∙◌, ◌⊎◌, inl, inr, arith}
 use Rattle.std.specs.Prelude.{map, slice_get, slice_set, option_map, nat_le}
 use Rattle.std.specs.List.{AllByRecursion}
 use Rattle.std.proofs.lemmas.Bool.{cases_lt}
@@ -8,12 +8,12 @@ use Rattle.std.proofs.lemmas.List.{map-append, length-map, length_push, append-n
 use Rattle.std.proofs.lemmas.Option.{same_Some, slice_get-map, slice_get_within}
 use Rattle.edit_document.specs.declared.nodes.Span.{Span}
 use Rattle.edit_document.specs.Assertions.{Step, key, index, Place, at}
-use Rattle.edit_document.specs.Nodes.{Shape, section, element_count, Spot, StandsAt, Lists, IsMember, IsTree}
+use Rattle.edit_document.specs.Nodes.{Shape, element_count, Spot, Lists, IsMember, IsTree}
 use Rattle.edit_document.specs.DocumentLayout.{Noted, names_below, spot_of, root_noted, places_of, spots_in}
-use Rattle.edit_document.specs.Walk.{has_name, with_name, added, State}
-use Rattle.edit_document.proofs.SamePlace.{last_same, not_root, key_same, not_below}
+use Rattle.edit_document.specs.Walk.{has_name, with_name, added}
+use Rattle.edit_document.proofs.SamePlace.{last_same, not_root, not_below}
 use Rattle.edit_document.proofs.Adding.{get_front, get_last, new_spot, added_made, added_refused}
-use Rattle.edit_document.proofs.Below.{name_from, name_from_at, named_there, named_nowhere, names_more, names_here, names_elsewhere, names_none, Once, all_at, all_from, all_front, all_push, all_last, once_front, once_push, once_last, once_same}
+use Rattle.edit_document.proofs.Below.{name_from, name_from_at, named_there, named_nowhere, names_more, names_here, names_elsewhere, names_none, Once, all_at, all_front, all_push, all_last, once_front, once_push, once_last, once_same}
 
 -- each place stands once, the root too, and has at most 80 steps
 pub record Fine (places : List Place) : Type 0 where

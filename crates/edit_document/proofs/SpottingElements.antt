@@ -1,7 +1,6 @@
 -- The spots of what is noted, and an element more: the count of its array changes in its place.
-use Rattle.std.proofs.Common.{◌≡◌, ℕ, zero, suc, ◌+◌, ◌<◌, ◌≤◌, Bool, true, false, List, [], ◌∷◌, ◌++◌, length, Option, Some, None, refl, sym, ap, subst, ◌∙◌, ◌⊎◌, inl, inr, arith}
-use Rattle.std.specs.Prelude.{map, slice_get, slice_set, option_map, nat_le}
-use Rattle.std.specs.List.{AllByRecursion}
+use Rattle.std.proofs.Common.{◌≡◌, ℕ, zero, suc, ◌+◌, ◌<◌, ◌≤◌, Bool, true, false, List, [], ◌∷◌, ◌++◌, length, Option, Some, refl, sym, ap, subst, ◌∙◌, inl, inr, arith}
+use Rattle.std.specs.Prelude.{map, slice_get, slice_set, nat_le}
 use Rattle.std.proofs.lemmas.Bool.{cases_lt}
 use Rattle.std.proofs.lemmas.Bool.Decides.{nat_tests}
 use Rattle.std.proofs.lemmas.List.{map-append, length_push, append-nil}
@@ -15,8 +14,8 @@ use Rattle.edit_document.specs.Walk.{with_count, element_added}
 use Rattle.edit_document.proofs.SamePlace.{last_same, not_root, not_below}
 use Rattle.edit_document.proofs.Adding.{get_front, get_last}
 use Rattle.edit_document.proofs.AddingElements.{new_element, element_made, element_refused}
-use Rattle.edit_document.proofs.Below.{names_more, names_index, names_none, Once, all_push, all_last, once_push, once_same}
-use Rattle.edit_document.proofs.Spotting.{Fine, Fits, Closed, Good, place_at, spot_in, places_push, Noting, noted_more, refused}
+use Rattle.edit_document.proofs.Below.{names_more, names_index, names_none, all_push, all_last, once_push, once_same}
+use Rattle.edit_document.proofs.Spotting.{Fine, Fits, Good, place_at, spot_in, places_push, Noting, noted_more, refused}
 
 -- ---- a note in place of another
 

@@ -1,21 +1,22 @@
 -- The marks of a text are marks of its tokens.
-use Rattle.std.proofs.Common.{◌≡◌, ℕ, zero, suc, ◌<◌, Bool, true, false, List, [], ◌∷◌, ◌++◌, length, Option, Some, None, refl, sym, ap, subst, ◌∙◌}
+use Rattle.std.proofs.Common.{◌≡◌, ℕ, true, false, List, [], ◌∷◌, ◌++◌, length, refl, sym, ap, subst, ◌∙◌}
 use Rattle.std.specs.Prelude.{IsUtf8}
 use Rattle.std.specs.List.{AllByRecursion}
 use Rattle.edit_document.specs.declared.read.marks.Mark.{Mark}
 use Rattle.edit_document.specs.declared.read.marks.MarkKind.TheVariants as kinds
-use Rattle.edit_document.specs.Characters.{quote, apostrophe, comma, equals, left_bracket, right_bracket, right_brace, is_literal_ch, All}
+use Rattle.edit_document.specs.Characters.{quote, comma, equals, left_bracket, right_bracket, right_brace, is_literal_ch, All}
 use Rattle.edit_document.specs.Strings.{◌·◌, line_end, Piece, pieces, says, IsBasicPiece, Part, bare, basic_part, literal_part, part, IsPart, name, basic_text, literal_text, Dotted, dotted, Key, IsKey}
 use Rattle.edit_document.specs.Strings as strings
-use Rattle.edit_document.specs.Grammar.{Between, gap, Value, basic, literal, multi_basic, multi_literal, boolean, integer, float, datetime, array, inline, value, IsValue, Elements, no_elements, last_element, element, elements, AreElements, Members, no_members, last_member, member, members, AreMembers, Statement, pair, header, element_header, statement, IsStatement, comment, empty_line, full_line, Lines, one_line, more_lines, lines, AreLines, Text}
+use Rattle.edit_document.specs.Grammar.{gap, Value, basic, literal, multi_basic, multi_literal, boolean, integer, float, datetime, array, inline, value, IsValue, Elements, no_elements, last_element, element, elements, AreElements, Members, no_members, last_member, member, members, AreMembers, Statement, pair, header, element_header, statement, IsStatement, comment, empty_line, full_line, Lines, one_line, more_lines, lines, AreLines, Text}
 use Rattle.edit_document.specs.Supported.{IsOnePart, IsSupportedValue, AreSupportedElements, AreSupportedMembers, IsSupportedStatement, AreSupportedLines}
-use Rattle.edit_document.specs.Marks.{mark, part_mark, dotted_marks, key_marks, value_marks, elements_marks, members_marks, statement_marks, line_marks, lines_marks, text_marks}
+use Rattle.edit_document.specs.Marks.{mark, part_mark, dotted_marks, key_marks, value_marks, elements_marks, members_marks, statement_marks, lines_marks, text_marks}
 use Rattle.edit_document.specs.Walk.{said}
-use Rattle.edit_document.specs.WalkState.{SaysAt, IsToken}
+use Rattle.edit_document.specs.WalkState.{IsToken}
 use Rattle.edit_document.proofs.Fronts.{Relation, IsKept, pieces_before}
-use Rattle.edit_document.proofs.Ends.{Ends, ends_past, ends_one, ends_pair, ends_gap, ends_value, ends_statement, ends_line, ends_line_end}
+use Rattle.edit_document.proofs.Ends.{Ends, ends_past, ends_one, ends_pair, ends_gap, ends_value, ends_line, ends_line_end}
 use Rattle.edit_document.proofs.WalkedTokens.{said_basic, said_literal, said_part}
 use Rattle.edit_document.proofs.NumberTokens.{number_token}
+use Rattle.edit_document.proofs.MultiTokens.{multi_basic_token, multi_literal_token}
 
 abbrev AreTokens : List ℕ → List Mark → Type 0
 AreTokens bytes marks = AllByRecursion (IsToken bytes) marks
@@ -64,8 +65,8 @@ mutual
   value_tokens : (bytes : List ℕ) (v : Value) (rest : List ℕ) → IsValue v → IsSupportedValue v → IsUtf8 bytes → Ends bytes (value v rest) → AreTokens bytes (value_marks v rest)
   value_tokens bytes (basic ps) rest h s u ends = (basic_token bytes ps rest h u ends, tt)
   value_tokens bytes (literal text) rest h s u ends = (literal_token bytes text rest h u ends, tt)
-  value_tokens bytes (multi_basic ps) rest h s u ends = absurd s
-  value_tokens bytes (multi_literal ps) rest h s u ends = absurd s
+  value_tokens bytes (multi_basic ps) rest h s u ends = (multi_basic_token bytes ps rest h u ends, tt)
+  value_tokens bytes (multi_literal ps) rest h s u ends = (multi_literal_token bytes ps rest h u ends, tt)
   value_tokens bytes (boolean true) rest h s u ends = ((λ e. absurd cc), tt)
   value_tokens bytes (boolean false) rest h s u ends = ((λ e. absurd cc), tt)
   value_tokens bytes (integer n) rest h s u ends = (number_token bytes (integer n) rest h tt ends, tt)

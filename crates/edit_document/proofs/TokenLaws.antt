@@ -53,7 +53,7 @@ pub run_all : (class : ℕ → Bool) (text : List ℕ) → All class (front clas
 run_all class [] = tt
 run_all class (b ∷ text) = run_step class b text (class b) refl (run_all class text)
 
-prefix_len_run : (class : ℕ → Bool) (run rest : List ℕ) → All class run → class (first rest) ≡ false → prefix_len class (run ++ rest) ≡ length run
+pub prefix_len_run : (class : ℕ → Bool) (run rest : List ℕ) → All class run → class (first rest) ≡ false → prefix_len class (run ++ rest) ≡ length run
 prefix_len_run class [] [] all stops = refl
 prefix_len_run class [] (b ∷ rest) all stops = rw stops refl
 prefix_len_run class (b ∷ run) rest all stops = rw (all.0, prefix_len_run class run rest all.1 stops) (omega arith)
@@ -116,7 +116,7 @@ coded_again made n digits rest h =
 
 -- ---- pieces
 
-escape_sound : (text : List ℕ) (x : Piece × List ℕ) → eqb (first text) backslash ≡ true → escape_at text ≡ Some x → (text ≡ piece quote x.0 x.1) × IsBasicPiece x.0
+pub escape_sound : (text : List ℕ) (x : Piece × List ℕ) → eqb (first text) backslash ≡ true → escape_at text ≡ Some x → (text ≡ piece quote x.0 x.1) × IsBasicPiece x.0
 unfolding escape_at
 escape_sound text x opened e =
     let P : Piece × List ℕ → Type 0 = λ y. (text ≡ piece quote y.0 y.1) × IsBasicPiece y.0 in
@@ -153,7 +153,7 @@ piece_again (feed e) rest h = absurd h
 piece_again (fold ws e more) rest h = absurd h
 piece_again delimiter rest h = absurd h
 
-piece_first : (p : Piece) (rest : List ℕ) → IsBasicPiece p → eqb (first (piece quote p rest)) quote ≡ false
+pub piece_first : (p : Piece) (rest : List ℕ) → IsBasicPiece p → eqb (first (piece quote p rest)) quote ≡ false
 piece_first (plain b) rest h = (basic_ch_not b h).0
 piece_first (letter c) rest h = refl
 piece_first (short digits) rest h = refl

@@ -1,13 +1,15 @@
 -- The laws of values: what is read is spelled so, and what is spelled so is read.
-use Rattle.std.proofs.Common.{◌≡◌, ℕ, zero, suc, ◌<◌, ◌≤◌, true, false, ◌&&◌, eqb, List, [], ◌∷◌, ◌++◌, length, slice_index, drop, Some, refl, sym, ap, subst, ◌∙◌, inl, inr, arith}
+use Rattle.std.proofs.Common.{◌≡◌, ℕ, if◌then◌else◌, zero, suc, ◌<◌, ◌≤◌, true, false, ◌&&◌, eqb, List, [], ◌∷◌, ◌++◌, length, slice_index, drop, Some, refl, sym, ap, subst, ◌∙◌, inl, inr, arith}
 use Rattle.edit_document.specs.Characters.{quote, apostrophe, comma, equals, left_bracket, right_bracket, left_brace, right_brace, is_blank, All}
 use Rattle.edit_document.specs.Strings.{key, IsKey}
-use Rattle.edit_document.specs.Grammar.{Between, blank, break, remark, gap, IsGap, IsBlankGap, Value, basic, literal, multi_basic, multi_literal, boolean, integer, float, datetime, array, inline, Elements, no_elements, last_element, element, Members, no_members, last_member, member, value, elements, members, IsValue, AreElements, AreMembers, IsMember}
+use Rattle.edit_document.specs.Grammar.{three, Between, blank, break, remark, gap, IsGap, IsBlankGap, Value, basic, literal, multi_basic, multi_literal, boolean, integer, float, datetime, array, inline, Elements, no_elements, last_element, element, Members, no_members, last_member, member, value, elements, members, IsValue, AreElements, AreMembers, IsMember}
 use Rattle.edit_document.specs.Supported.{IsOnePart, IsSupportedValue, AreSupportedElements, AreSupportedMembers}
 use Rattle.edit_document.specs.Depth.{depth, elements_depth, members_depth}
-use Rattle.edit_document.specs.Reading.{◌>>=◌, Read, first, past, blanks, past_blanks, blank_gap, gap_front, past_gap, basic_at, literal_at, key_at, scalar_at, starts, Pair, pair_at, members_at, elements_at, value_at}
-use Rattle.edit_document.proofs.TokenLaws.{bind_some, chosen, tested, some_is, first_is, at_drop, both, past_some, run_parts, run_all, basic_sound, literal_sound, key_sound}
-use Rattle.edit_document.proofs.NumberLaws.{IsNumber, number_sound}
+use Rattle.edit_document.specs.ReadingNumbers.{begins, number_at}
+use Rattle.edit_document.specs.Reading.{◌>>=◌, Read, multi_at, first, past, blanks, past_blanks, blank_gap, gap_front, past_gap, basic_at, literal_at, key_at, scalar_at, starts, Pair, pair_at, members_at, elements_at, value_at}
+use Rattle.edit_document.proofs.TokenLaws.{bind_some, chosen, some_is, first_is, at_drop, both, past_some, run_parts, run_all, basic_sound, literal_sound, key_sound}
+use Rattle.edit_document.proofs.NumberLaws.{IsNumber, begins_is, number_sound}
+use Rattle.edit_document.proofs.MultiLaws.{multi_basic_sound, multi_literal_sound}
 use Rattle.edit_document.proofs.GapLaws.{front_parts, front_gap}
 
 -- ---- gaps of tabs and spaces
@@ -77,9 +79,17 @@ number_readable n (boolean b) h s = absurd s
 number_readable n (array g es) h s = absurd s
 number_readable n (inline g ms) h s = absurd s
 
-pub scalar_sound : (n : ℕ) → Sound n scalar_at
-unfolding scalar_at
-scalar_sound n text x e =
+-- a value that is one token on one line
+abbrev token_at : List ℕ → Read Value
+token_at text =
+    if eqb (first text) quote then (basic_at (drop 1 text) >>= λ p. Some (basic p.0, p.1))
+    else (if eqb (first text) apostrophe then (literal_at (drop 1 text) >>= λ p. Some (literal p.0, p.1))
+    else (if starts 116 114 117 101 text then Some (boolean true, drop 4 text)
+    else (if starts 102 97 108 115 text && eqb (slice_index text 4) 101 then Some (boolean false, drop 5 text)
+    else number_at text)))
+
+token_sound : (n : ℕ) → Sound n token_at
+token_sound n text x e =
     let P : Value × List ℕ → Type 0 = λ y. (text ≡ value y.0 y.1) × IsReadable n y.0 in
     elim (chosen (eqb (first text) quote) _ _ (Some x) e) [
       | inl h ↦
@@ -101,6 +111,24 @@ scalar_sound n text x e =
             | inr m ↦ let f = number_sound text x m.1 in (f.0, number_readable n x.0 f.1 f.2)
           ]
         ]
+      ]
+    ]
+
+pub scalar_sound : (n : ℕ) → Sound n scalar_at
+unfolding scalar_at
+scalar_sound n text x e =
+    let P : Value × List ℕ → Type 0 = λ y. (text ≡ value y.0 y.1) × IsReadable n y.0 in
+    elim (chosen (begins quote quote quote text) _ _ (Some x) e) [
+      | inl h ↦
+          let a = bind_some (multi_at quote (drop 3 text)) (λ p. Some (multi_basic p.0, p.1)) x h.1 in
+          let b = multi_basic_sound (drop 3 text) a.0 a.1 in
+          subst P (some_is _ x a.2) (begins_is quote quote quote text (omega arith) (omega arith) (omega arith) h.0 ∙ ap (three quote) b.spelled, flat n (multi_basic a.0.0) (b.fine, b.runs, b.folds) tt refl)
+      | inr g ↦ elim (chosen (begins apostrophe apostrophe apostrophe text) _ _ (Some x) g.1) [
+        | inl h ↦
+            let a = bind_some (multi_at apostrophe (drop 3 text)) (λ p. Some (multi_literal p.0, p.1)) x h.1 in
+            let b = multi_literal_sound (drop 3 text) a.0 a.1 in
+            subst P (some_is _ x a.2) (begins_is apostrophe apostrophe apostrophe text (omega arith) (omega arith) (omega arith) h.0 ∙ ap (three apostrophe) b.spelled, flat n (multi_literal a.0.0) (b.fine, b.runs) tt refl)
+        | inr f ↦ token_sound n text x f.1
       ]
     ]
 

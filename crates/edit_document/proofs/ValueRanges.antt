@@ -1,21 +1,19 @@
 -- The span of a node tells where the value of its place is written.
-use Rattle.std.proofs.Common.{◌≡◌, ℕ, zero, suc, ◌+◌, ◌-◌, ◌<◌, Bool, true, false, List, [], ◌∷◌, ◌++◌, map, length, get_or, Option, None, Some, option_map, refl, sym, ap, ◌∙◌, subst, ◌⊎◌, inl, inr, ⊎_elim, true≢false, arith}
+use Rattle.std.proofs.Common.{◌≡◌, ℕ, zero, suc, ◌-◌, ◌<◌, true, false, List, [], ◌∷◌, map, length, get_or, Option, None, Some, option_map, sym, ap, ◌∙◌, subst, inl, inr}
 use Rattle.std.specs.Prelude.{slice_get, string_bytes}
-use Rattle.std.specs.List.{filter_map, cons_option, list_any}
 use Rattle.edit_document.specs.declared.nodes.Node.{Node}
 use Rattle.edit_document.specs.declared.nodes.Span.{Span}
 use Rattle.edit_document.specs.declared.document.Document.TheInside.{Inside}
-use Rattle.edit_document.specs.Grammar.{Value, value, Text, text}
-use Rattle.edit_document.specs.Assertions.{Place, Assertion, Kind, leaf, assertions, same_place, NoClash}
+use Rattle.edit_document.specs.Grammar.{Text, text}
+use Rattle.edit_document.specs.Assertions.{Place}
 use Rattle.edit_document.specs.Tree.{View, is_value_at}
 use Rattle.edit_document.specs.Supported.{IsManifest}
-use Rattle.edit_document.specs.Shown.{Shown, tree_of, node_at}
-use Rattle.edit_document.specs.Nodes.{Spot, shown_spot, IsTree, Holds, Keeps}
-use Rattle.edit_document.specs.FormOf.{form_of}
+use Rattle.edit_document.specs.Shown.{Shown, tree_of}
+use Rattle.edit_document.specs.Nodes.{Spot, shown_spot}
 use Rattle.edit_document.specs.DocumentLayout.{Noted, span_of, root_noted, places_of, spot_of, spots_of, spots_in, noted_text, shown_of, shown_by, nodes_by, IsRead}
 use Rattle.edit_document.specs.Items.{place_numbered}
-use Rattle.edit_document.specs.Written.{Valued, values, start_of, end_of, IsWrittenAt}
-use Rattle.edit_document.proofs.SamePlaces.{by_test, place_same}
+use Rattle.edit_document.specs.Written.{values, IsWrittenAt}
+use Rattle.edit_document.proofs.SamePlaces.{by_test}
 use Rattle.edit_document.proofs.Members.{Among, among_contained, among_map, map_among, among_filter, filter_among}
 use Rattle.edit_document.proofs.Shallow.{manifest_form}
 use Rattle.edit_document.proofs.UniqueValues.{value_listed}

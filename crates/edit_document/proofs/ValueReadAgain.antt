@@ -1,19 +1,25 @@
 -- What is spelled so is read, however the text was split.
-use Rattle.std.proofs.Common.{◌≡◌, ℕ, zero, suc, ◌+◌, ◌≤◌, not, true, false, ◌&&◌, ◌||◌, ◌==◌, eqb, Bool, List, [], ◌∷◌, ◌++◌, length, Some, refl, sym, ap, subst, ◌∙◌, arith}
+use Rattle.std.proofs.Common.{◌≡◌, ℕ, zero, suc, ◌+◌, ◌≤◌, not, true, false, ◌&&◌, ◌==◌, eqb, Bool, List, [], ◌∷◌, ◌++◌, length, Some, refl, sym, ap, subst, ◌∙◌, arith}
 use Rattle.std.proofs.lemmas.Bool.Decides.{nat_tests}
 use Rattle.std.proofs.lemmas.List.{length-append}
 use Rattle.edit_document.specs.Characters.{quote, apostrophe, comma, equals, left_bracket, right_bracket, left_brace, right_brace, is_blank, is_bare, All}
 use Rattle.edit_document.specs.Strings.{Part, bare, basic_part, literal_part, part, IsPart, Key, Dotted, key, dotted, IsKey}
-use Rattle.edit_document.specs.Grammar.{Between, blank, break, remark, gap, IsGap, IsBlankGap, Value, basic, literal, multi_basic, multi_literal, boolean, integer, float, datetime, array, inline, Elements, no_elements, last_element, element, Members, no_members, last_member, member, value, elements, members, IsValue, AreElements, AreMembers, IsMember}
+use Rattle.edit_document.specs.Grammar.{Between, gap, IsGap, IsBlankGap, Value, basic, literal, multi_basic, multi_literal, boolean, integer, float, datetime, array, inline, Elements, no_elements, last_element, element, Members, no_members, last_member, member, value, elements, members, IsValue, AreElements, AreMembers, IsMember}
 use Rattle.edit_document.specs.Supported.{IsOnePart, IsSupportedValue, AreSupportedElements, AreSupportedMembers}
 use Rattle.edit_document.specs.Depth.{depth, elements_depth, members_depth}
-use Rattle.edit_document.specs.Reading.{Read, first, blank_gap, gap_front, past_gap, scalar_at, Pair, pair_at, members_at, elements_at, value_at}
+use Rattle.edit_document.specs.Reading.{Read, first, blank_gap, scalar_at, Pair, pair_at, members_at, elements_at, value_at}
 use Rattle.edit_document.proofs.TokenLaws.{front_again, after_again, basic_again, literal_again, length-pieces, key_again, EndsBare}
 use Rattle.edit_document.proofs.ValueLaws.{gap_blanks, blank_gap_is, AreReadable, AreReadableElements, pair_text, IsPair}
 use Rattle.edit_document.proofs.GapLaws.{opens_gap, gap_longer, front_gap_again, past_gap_again, gap_ends}
 use Rattle.edit_document.specs.Numbers.{integer_text, float_text, datetime_text}
-use Rattle.edit_document.specs.ReadingNumbers.{number_at}
-use Rattle.edit_document.proofs.NumberReadAgain.{EndsValue, ends_value, is_start, integer_start, float_start, datetime_start, integer_again, float_again, datetime_again}
+use Rattle.edit_document.specs.ReadingNumbers.{begins, number_at}
+use Rattle.std.specs.List.{AllByRecursion}
+use Rattle.edit_document.specs.Strings.{Piece, pieces, IsBasicPiece, basic_text, literal_text}
+use Rattle.edit_document.specs.Characters.{is_literal_ch}
+use Rattle.edit_document.proofs.TokenLaws.{piece_first}
+use Rattle.edit_document.proofs.MultiReadAgain.{multi_basic_again, multi_literal_again}
+use Rattle.edit_document.proofs.NumberReadAgain.{EndsValue, ends_value, is_start, integer_start, float_start, integer_again, float_again}
+use Rattle.edit_document.proofs.DateReadAgain.{datetime_start, datetime_again}
 use Rattle.edit_document.proofs.Enclosed.{value_rest}
 
 -- the reader reads this value, under what may follow it
@@ -255,12 +261,24 @@ number_scalar : (text : List ℕ) → is_start (first text) ≡ true → scalar_
 unfolding scalar_at
 number_scalar text h = let n = number_first (first text) h in rw (n.no_quote, n.no_apostrophe, n.no_t, n.no_f) refl
 
+-- a string on one line begins with one delimiter, or is empty
+one_quote : (ps : List Piece) (rest : List ℕ) → AllByRecursion IsBasicPiece ps → eqb (first rest) quote ≡ false → begins quote quote quote (basic_text ps rest) ≡ false
+one_quote [] rest h ends = rw ends refl
+one_quote (p ∷ ps) rest h ends = let other = piece_first p (pieces quote ps (quote ∷ rest)) h.0 in rw other refl
+
+literal_other : (b : ℕ) → is_literal_ch b ≡ true → eqb b apostrophe ≡ false
+literal_other b h = grind (arith, nat_tests)
+
+one_apostrophe : (text rest : List ℕ) → All is_literal_ch text → eqb (first rest) apostrophe ≡ false → begins apostrophe apostrophe apostrophe (literal_text text rest) ≡ false
+one_apostrophe [] rest h ends = rw ends refl
+one_apostrophe (b ∷ text) rest h ends = rw (literal_other b h.0) refl
+
 scalar_again : (v : Value) (rest : List ℕ) → IsValue v → IsSupportedValue v → depth v ≡ 0 → EndsValue rest → scalar_at (value v rest) ≡ Some (v, rest)
 unfolding scalar_at
-scalar_again (basic ps) rest h s e ends = rw (basic_again ps rest h) refl
-scalar_again (literal text) rest h s e ends = rw (literal_again text rest h) refl
-scalar_again (multi_basic ps) rest h s e ends = absurd s
-scalar_again (multi_literal ps) rest h s e ends = absurd s
+scalar_again (basic ps) rest h s e ends = rw (one_quote ps rest h ends.no_quote, basic_again ps rest h) refl
+scalar_again (literal text) rest h s e ends = rw (one_apostrophe text rest h ends.no_apostrophe, literal_again text rest h) refl
+scalar_again (multi_basic ps) rest h s e ends = rw (multi_basic_again ps rest h.0 h.1 h.2 ends.no_quote) refl
+scalar_again (multi_literal ps) rest h s e ends = rw (multi_literal_again ps rest h.0 h.1 ends.no_apostrophe) refl
 scalar_again (boolean true) rest h s e ends = refl
 scalar_again (boolean false) rest h s e ends = refl
 scalar_again (integer n) rest h s e ends = number_scalar (integer_text n rest) (integer_start n rest h) ∙ integer_again n rest h ends
@@ -320,8 +338,8 @@ mutual
   pub value_again : (v : Value) (n : ℕ) → IsValue v → IsSupportedValue v → depth v ≤ n → Again (value_at n) v
   value_again (basic ps) n h s le rest ends = flat_again n (basic ps) rest h s refl ends (record { no_bracket = refl; no_brace = refl })
   value_again (literal text) n h s le rest ends = flat_again n (literal text) rest h s refl ends (record { no_bracket = refl; no_brace = refl })
-  value_again (multi_basic ps) n h s le rest ends = absurd s
-  value_again (multi_literal ps) n h s le rest ends = absurd s
+  value_again (multi_basic ps) n h s le rest ends = flat_again n (multi_basic ps) rest h s refl ends (record { no_bracket = refl; no_brace = refl })
+  value_again (multi_literal ps) n h s le rest ends = flat_again n (multi_literal ps) rest h s refl ends (record { no_bracket = refl; no_brace = refl })
   value_again (boolean true) n h s le rest ends = flat_again n (boolean true) rest h s refl ends (record { no_bracket = refl; no_brace = refl })
   value_again (boolean false) n h s le rest ends = flat_again n (boolean false) rest h s refl ends (record { no_bracket = refl; no_brace = refl })
   value_again (integer i) n h s le rest ends = flat_again n (integer i) rest h s refl ends (flat_first (first (integer_text i rest)) (integer_start i rest h))

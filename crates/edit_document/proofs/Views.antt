@@ -1,7 +1,6 @@
 -- What the table of nodes tells of a document.
-use Rattle.std.proofs.Common.{◌≡◌, ℕ, zero, suc, ◌+◌, ◌<◌, Bool, true, false, cond, List, [], ◌∷◌, ◌++◌, length, get_or, take, drop, ltb, is_some, IfSome, Option, Some, None, refl, sym, ap, subst, ◌∙◌, ◌⊎◌, inl, inr, arith, append_assoc, append-nil, String, Global}
-use Rattle.std.specs.Prelude.{map, slice_get, option_map, unwrap_or, MatchOption, string_bytes}
-use Rattle.std.specs.List.{filter_map}
+use Rattle.std.proofs.Common.{◌≡◌, ℕ, zero, suc, ◌+◌, ◌<◌, Bool, true, false, List, [], ◌∷◌, ◌++◌, length, get_or, take, drop, ltb, is_some, IfSome, Option, Some, None, refl, sym, ap, subst, ◌∙◌, ◌⊎◌, inl, inr, arith, append_assoc, append-nil, String, Global}
+use Rattle.std.specs.Prelude.{map, slice_get, option_map, unwrap_or, string_bytes}
 use Rattle.std.specs.Option.{option_copied}
 use Rattle.std.proofs.lemmas.Bool.Decides.{nat_tests}
 use Rattle.std.specs.Map.{lookup}
@@ -20,12 +19,12 @@ use Rattle.edit_document.specs.declared.document.Document.TheInside.{Inside}
 use Rattle.edit_document.specs.Assertions.{Step, key, index, Place, at, same_place}
 use Rattle.edit_document.specs.Tree.{View, table}
 use Rattle.edit_document.specs.Shown.{Shown, node_at, tree_of}
-use Rattle.edit_document.specs.Nodes.{Spot, Shape, scalar, inline, section, view_of_shape, shown_spot, shape_with, shape_of_node, element_count, StandsAt, Keeps, Holds, Lists, IsMember, IsTree}
+use Rattle.edit_document.specs.Nodes.{Spot, Shape, view_of_shape, shown_spot, shape_with, shape_of_node, element_count, StandsAt, Keeps, Holds, Lists, IsTree}
 use Rattle.edit_document.specs.FormOf.{form_of}
 use Rattle.edit_document.specs.DocumentLayout.{nodes_by, shown_by, shown_of, spots_of, IsRead}
 use Rattle.edit_document.specs.declared.place.Step.{Step as WrittenStep}
 use Rattle.edit_document.specs.Items.{step_seen, place_seen, viewed, place_numbered, view_numbered, key_names, names_in, count_in, Numbers, Shows}
-use Rattle.edit_document.proofs.SamePlace.{same_place_self, same_place_is, other_place, last_same, not_root, key_same}
+use Rattle.edit_document.proofs.SamePlace.{same_place_self, same_place_is, other_place, last_same, not_root}
 
 -- a document that is open: its spots, and the nodes that keep them
 pub record Opened (shown : Shown) (nodes : List Node) : Type 0 where

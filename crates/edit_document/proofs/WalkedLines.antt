@@ -1,21 +1,20 @@
 -- The walk over the marks of a text.
-use Rattle.std.proofs.Common.{◌≡◌, ℕ, zero, suc, ◌+◌, ◌<◌, ◌≤◌, List, [], ◌∷◌, ◌++◌, length, Option, Some, None, refl, sym, ap, subst, ◌∙◌, append_assoc, arith}
+use Rattle.std.proofs.Common.{◌≡◌, ℕ, suc, List, [], ◌∷◌, ◌++◌, length, Option, Some, None, refl, sym, ap, subst, ◌∙◌, append_assoc}
 use Rattle.std.specs.Prelude.{slice_get, IsUtf8}
 use Rattle.std.proofs.lemmas.List.{append-nil}
-use Rattle.edit_document.specs.declared.read.marks.Mark.{Mark}
 use Rattle.edit_document.specs.declared.read.marks.MarkKind.TheVariants as kinds
 use Rattle.edit_document.specs.Characters.{equals, left_bracket, right_bracket}
 use Rattle.edit_document.specs.Strings.{◌·◌, LineEnd, line_end, name, Key}
 use Rattle.edit_document.specs.Strings as strings
-use Rattle.edit_document.specs.Grammar.{Value, value, Statement, pair, header, element_header, statement, IsStatement, comment, Line, empty_line, full_line, line, IsLine, Lines, one_line, more_lines, lines, AreLines, Text}
+use Rattle.edit_document.specs.Grammar.{value, Statement, pair, header, element_header, statement, IsStatement, comment, empty_line, full_line, Lines, one_line, more_lines, lines, AreLines, Text}
 use Rattle.edit_document.specs.Supported.{IsSupportedStatement, AreSupportedLines}
 use Rattle.edit_document.specs.Assertions.{key, Place, at}
 use Rattle.edit_document.specs.Reading.{◌>>=◌}
 use Rattle.edit_document.specs.Nodes.{section, Spot}
-use Rattle.edit_document.specs.DocumentLayout.{Noted, root_noted, places_of, spots_in, noted_value, noted_statement, header_after, noted_lines, noted_text}
+use Rattle.edit_document.specs.DocumentLayout.{Noted, root_noted, spots_in, noted_value, noted_statement, header_after, noted_lines, noted_text}
 use Rattle.edit_document.specs.Walk.{State, added, headed, step, start, walked}
-use Rattle.edit_document.specs.Marks.{mark, key_marks, value_marks, statement_marks, line_marks, lines_marks, text_marks}
-use Rattle.edit_document.proofs.Ends.{Ends, ends_past, ends_one, ends_key, ends_pair, ends_statement, ends_line, ends_line_end}
+use Rattle.edit_document.specs.Marks.{mark, value_marks, statement_marks, lines_marks, text_marks}
+use Rattle.edit_document.proofs.Ends.{Ends, ends_past, ends_one, ends_pair, ends_line, ends_line_end}
 use Rattle.edit_document.proofs.Adding.{get_last}
 use Rattle.edit_document.proofs.Spotting.{Fine, Good, good_none, next, Noting, noted_more, refused, add_note, places_push, spots_length}
 use Rattle.edit_document.proofs.WalkedTokens.{walked_one, walked_none, state, Leads, leads, stops, member_enters, walked_key}

@@ -1,26 +1,22 @@
 -- The walk over the marks of one token.
-use Rattle.std.proofs.Common.{◌≡◌, ℕ, zero, suc, ◌+◌, ◌-◌, ◌<◌, ◌≤◌, Bool, true, false, cond, List, [], ◌∷◌, ◌++◌, length, take, drop, Option, Some, None, refl, sym, ap, subst, ◌∙◌, append_assoc, length-append, lit<, arith}
-use Rattle.std.specs.Prelude.{map, slice_get, slice_set, option_map, IsUtf8}
+use Rattle.std.proofs.Common.{◌≡◌, ℕ, suc, ◌+◌, ◌-◌, ◌<◌, List, [], ◌∷◌, ◌++◌, length, take, drop, Option, Some, None, refl, ap, subst, ◌∙◌, length-append, lit<, arith}
+use Rattle.std.specs.Prelude.{slice_get, option_map, IsUtf8}
 use Rattle.std.specs.List.{AllByRecursion}
-use Rattle.std.specs.Str.{is_utf8}
-use Rattle.std.proofs.lemmas.List.{append-nil}
 use Rattle.std.proofs.lemmas.Str.{is_utf8-from_IsUtf8}
 use Rattle.edit_document.specs.declared.read.marks.Mark.{Mark}
-use Rattle.edit_document.specs.declared.read.marks.MarkKind.{MarkKind}
-use Rattle.edit_document.specs.declared.read.marks.MarkKind.TheVariants as kinds
 use Rattle.edit_document.specs.declared.nodes.Span.{Span}
 use Rattle.edit_document.specs.Characters.{quote, apostrophe, is_bare, is_literal_ch, All}
 use Rattle.edit_document.specs.Strings.{Piece, pieces, says, IsBasicPiece, Part, bare, basic_part, literal_part, part, IsPart, name, basic_text, literal_text, Dotted, dotted, Key, IsKey}
 use Rattle.edit_document.specs.Strings as strings
 use Rattle.edit_document.specs.Supported.{IsOnePart}
 use Rattle.edit_document.specs.Assertions.{key, index, Place, at}
-use Rattle.edit_document.specs.Reading.{◌>>=◌, basic_at, literal_at}
+use Rattle.edit_document.specs.Reading.{◌>>=◌}
 use Rattle.edit_document.specs.Nodes.{Shape, Spot}
 use Rattle.edit_document.specs.DocumentLayout.{Noted, root_noted, places_of, spots_in}
-use Rattle.edit_document.specs.Walk.{suffix, basic_said, literal_said, told, as_text, said, put_below, State, last_of, entered, step, act, walked}
-use Rattle.edit_document.specs.Marks.{mark, part_kind, part_mark, dotted_marks, key_marks}
+use Rattle.edit_document.specs.Walk.{suffix, basic_said, literal_said, as_text, said, put_below, State, last_of, entered, step, walked}
+use Rattle.edit_document.specs.Marks.{part_mark, dotted_marks, key_marks}
 use Rattle.edit_document.proofs.TokenLaws.{basic_again, literal_again}
-use Rattle.edit_document.proofs.Ends.{Ends, ends_one, suffix_is, take_length, text_before, text_behind, ascii_text, bare_small, says_text}
+use Rattle.edit_document.proofs.Ends.{Ends, suffix_is, take_length, text_before, text_behind, ascii_text, bare_small, says_text}
 use Rattle.edit_document.proofs.Adding.{get_last}
 use Rattle.edit_document.proofs.Spotting.{Fine, Good, Noting, noted_more, refused, add_note, places_push}
 use Rattle.edit_document.proofs.SpottingElements.{array_noted, add_element_note}
@@ -102,7 +98,7 @@ element_enters made inside place k own base good shape span =
 
 -- ---- what tokens say
 
-text_is : (bytes : List ℕ) → IsUtf8 bytes → as_text bytes ≡ Some bytes
+pub text_is : (bytes : List ℕ) → IsUtf8 bytes → as_text bytes ≡ Some bytes
 text_is bytes u = rw (is_utf8-from_IsUtf8 bytes u) refl
 
 behind_mark : (bytes : List ℕ) (c : ℕ) (s : List ℕ) → c < 128 → IsUtf8 bytes → Ends bytes (c ∷ s) → IsUtf8 s

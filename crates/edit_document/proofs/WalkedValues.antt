@@ -1,29 +1,29 @@
 -- The walk over the marks of values and of their members.
-use Rattle.std.proofs.Common.{◌≡◌, ℕ, zero, suc, ◌+◌, ◌-◌, ◌<◌, ◌≤◌, Bool, true, false, List, [], ◌∷◌, ◌++◌, length, take, drop, Option, Some, None, refl, sym, ap, subst, ◌∙◌, append_assoc, length-append, arith}
-use Rattle.std.specs.Prelude.{map, slice_get, slice_set, option_map, IsUtf8}
+use Rattle.std.proofs.Common.{◌≡◌, ℕ, zero, suc, ◌+◌, ◌-◌, true, false, List, [], ◌∷◌, ◌++◌, length, take, Option, Some, None, refl, sym, ap, subst, ◌∙◌, append_assoc, length-append, arith}
+use Rattle.std.specs.Prelude.{map, slice_get, slice_set, IsUtf8}
 use Rattle.std.proofs.lemmas.List.{append-nil, map-append}
 use Rattle.edit_document.specs.declared.read.marks.Mark.{Mark}
 use Rattle.edit_document.specs.declared.read.marks.MarkKind.TheVariants as kinds
 use Rattle.edit_document.specs.declared.nodes.Span.{Span}
 use Rattle.edit_document.specs.Characters.{quote, comma, equals, right_bracket, right_brace}
-use Rattle.edit_document.specs.Strings.{◌·◌, Piece, says, name, basic_text, literal_text, Key, IsKey}
-use Rattle.edit_document.specs.Strings as strings
-use Rattle.edit_document.specs.Grammar.{Between, gap, Value, basic, literal, multi_basic, multi_literal, boolean, integer, float, datetime, array, inline, Elements, no_elements, last_element, element, Members, no_members, last_member, member, value, elements, members, IsValue, AreElements, AreMembers}
-use Rattle.edit_document.specs.Supported.{IsOnePart, IsSupportedValue, AreSupportedElements, AreSupportedMembers}
+use Rattle.edit_document.specs.Strings.{Piece, says, name, basic_text, literal_text}
+use Rattle.edit_document.specs.Grammar.{gap, Value, basic, literal, multi_basic, multi_literal, boolean, integer, float, datetime, array, inline, Elements, no_elements, last_element, element, Members, no_members, last_member, member, value, elements, members, IsValue, AreElements, AreMembers}
+use Rattle.edit_document.specs.Supported.{IsSupportedValue, AreSupportedElements, AreSupportedMembers}
 use Rattle.edit_document.specs.Assertions.{key, index, Place, at}
 use Rattle.edit_document.specs.Tree.{string, truth, static_array, count_elements}
 use Rattle.edit_document.specs.Reading.{◌>>=◌}
 use Rattle.edit_document.specs.Nodes.{Shape, scalar, Spot}
 use Rattle.edit_document.specs.Nodes as shapes
-use Rattle.edit_document.specs.DocumentLayout.{Noted, spot_of, root_noted, places_of, spots_in, shape_of_value, span_of, noted, noted_inside, noted_elements, noted_members, noted_value}
-use Rattle.edit_document.specs.Walk.{State, said, last_of, without_last, entered, opened, closed, step, walked}
+use Rattle.edit_document.specs.DocumentLayout.{Noted, spot_of, root_noted, places_of, spots_in, shape_of_value, span_of, noted_elements, noted_members, noted_value}
+use Rattle.edit_document.specs.Walk.{State, said, without_last, entered, opened, closed, step, walked}
 use Rattle.edit_document.specs.Marks.{mark, key_marks, value_marks, elements_marks, members_marks}
-use Rattle.edit_document.proofs.Ends.{Ends, ends_one, ends_pair, ends_gap, ends_value, ends_members, take_length}
-use Rattle.edit_document.proofs.Adding.{get_front, get_last}
+use Rattle.edit_document.proofs.Ends.{Ends, ends_one, ends_pair, ends_gap, ends_value, take_length}
+use Rattle.edit_document.proofs.Adding.{get_last}
 use Rattle.edit_document.proofs.Spotting.{Fine, fine_front, Good, spot_in, spots_length}
 use Rattle.edit_document.proofs.SpottingElements.{array_noted, same_places, front_places, same_length, get_middle, set_middle, good_swapped}
 use Rattle.edit_document.proofs.WalkedTokens.{walked_one, walked_first, walked_stops, walked_none, walked_append, state, Leads, leads, stops, last_push, Enters, member_enters, element_enters, said_basic, said_literal, walked_key}
 use Rattle.edit_document.proofs.NumberTokens.{number_step}
+use Rattle.edit_document.proofs.MultiTokens.{multi_basic_step, multi_literal_step}
 
 -- ---- one walk and then another
 
@@ -218,8 +218,10 @@ mutual
       scalar_leads bytes (mark kinds.BasicString (basic_text ps rest) rest) (scalar (string (says quote ps))) (span_of (basic ps) rest) made made2 q tables name (basic_step bytes ps rest h u ends) enters
   value_leads bytes (literal text) rest made made2 q tables name h s u ends enters size =
       scalar_leads bytes (mark kinds.LiteralString (literal_text text rest) rest) (scalar (string text)) (span_of (literal text) rest) made made2 q tables name (literal_step bytes text rest h u ends) enters
-  value_leads bytes (multi_basic ps) rest made made2 q tables name h s u ends enters size = absurd s
-  value_leads bytes (multi_literal ps) rest made made2 q tables name h s u ends enters size = absurd s
+  value_leads bytes (multi_basic ps) rest made made2 q tables name h s u ends enters size =
+      scalar_leads bytes (mark kinds.MultiBasicString (value (multi_basic ps) rest) rest) (shape_of_value (multi_basic ps)) (span_of (multi_basic ps) rest) made made2 q tables name (multi_basic_step bytes ps rest h u ends) enters
+  value_leads bytes (multi_literal ps) rest made made2 q tables name h s u ends enters size =
+      scalar_leads bytes (mark kinds.MultiLiteralString (value (multi_literal ps) rest) rest) (shape_of_value (multi_literal ps)) (span_of (multi_literal ps) rest) made made2 q tables name (multi_literal_step bytes ps rest h u ends) enters
   value_leads bytes (boolean true) rest made made2 q tables name h s u ends enters size =
       scalar_leads bytes (mark kinds.True (value (boolean true) rest) rest) (scalar (truth true)) (span_of (boolean true) rest) made made2 q tables name (true_step bytes rest) enters
   value_leads bytes (boolean false) rest made made2 q tables name h s u ends enters size =

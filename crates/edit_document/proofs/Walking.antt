@@ -1,5 +1,5 @@
 -- The steps of the walk over marks, as the code takes them.
-use Rattle.std.proofs.Common.{◌≡◌, ℕ, zero, suc, ◌+◌, ◌-◌, ◌<◌, ◌≤◌, Bool, true, false, not, List, [], ◌∷◌, ◌++◌, length, take, drop, get_or, Option, Some, None, Result, Ok, Err, refl, sym, ap, subst, ◌∙◌, ◌⊎◌, inl, inr, length-append, arith, String, Global}
+use Rattle.std.proofs.Common.{◌≡◌, ℕ, ◌+◌, ◌-◌, ◌<◌, Bool, true, false, List, [], ◌∷◌, ◌++◌, length, take, drop, get_or, Option, Some, None, Result, Ok, Err, refl, sym, ap, subst, ◌∙◌, ◌⊎◌, inl, inr, length-append, arith, String, Global}
 use Rattle.std.specs.Prelude.{IfOk, option_map, slice_get, slice_set, string_bytes}
 use Rattle.std.proofs.lemmas.Bool.{cases_lt}
 use Rattle.std.proofs.lemmas.List.{length-set}
@@ -13,15 +13,14 @@ use Rattle.edit_document.specs.declared.read.marks.Mark.{Mark}
 use Rattle.edit_document.specs.declared.read.marks.MarkKind.{MarkKind}
 use Rattle.edit_document.specs.declared.read.marks.MarkKind.TheVariants as kinds
 use Rattle.edit_document.proofs.Ends.{take_length}
-use Rattle.edit_document.specs.Nodes.{Shape, shape_said, scalar, section, Spot, StandsAt, Keeps, Holds}
-use Rattle.edit_document.specs.Nodes as shapes
+use Rattle.edit_document.specs.Nodes.{Shape, shape_said, section, Spot, StandsAt, Keeps, Holds}
 use Rattle.edit_document.specs.Walk.{State, added, put_below, said, last_of, without_last, entered, opened, closed, headed, span_of_mark, worded, act, step, start, walked}
 use Rattle.edit_document.specs.WalkState.{Adds, Walks, Goes, SaysAt, is_said, IsToken, KeepsState}
-use Rattle.edit_document.proofs.Views.{spot_at, slice_get_same, drop_from}
+use Rattle.edit_document.proofs.Views.{spot_at, drop_from}
 use Rattle.edit_document.proofs.Below.{all_at}
 use Rattle.std.specs.List.{AllByRecursion}
 use Rattle.edit_document.proofs.Adding.{get_set_same, get_set_other}
-use Rattle.edit_document.proofs.WalkedTokens.{last_push, walked_first, walked_stops, walked_none}
+use Rattle.edit_document.proofs.WalkedTokens.{walked_first, walked_stops, walked_none}
 
 pub if_ok_map : {A E : Type 0} {P Q : A → Type 0} (r : Result A E) → IfOk r P → ((x : A) → P x → Q x) → IfOk r Q
 if_ok_map (Ok x) h f = f x h
@@ -191,40 +190,44 @@ word_by bytes m st s k kind says does token told =
 
 -- a mark of a string, a number, a date or a time
 abbrev pub IsWorded : MarkKind → Type 0
-IsWorded k = (k ≡ kinds.BasicString) ⊎ ((k ≡ kinds.LiteralString) ⊎ ((k ≡ kinds.Integer) ⊎ ((k ≡ kinds.Float) ⊎ (k ≡ kinds.DateTime))))
+IsWorded k =
+    (k ≡ kinds.BasicString) ⊎ ((k ≡ kinds.LiteralString) ⊎ ((k ≡ kinds.MultiBasicString) ⊎ ((k ≡ kinds.MultiLiteralString)
+    ⊎ ((k ≡ kinds.Integer) ⊎ ((k ≡ kinds.Float) ⊎ (k ≡ kinds.DateTime))))))
 
 pub word_step : (bytes : List ℕ) (m : Mark) (st : State) (s : String Global) → IsWorded m.kind → IsToken bytes m → ((n : List ℕ) → SaysAt bytes m n → string_bytes s ≡ n)
     → step bytes m st ≡ entered st (shape_said m.kind (string_bytes s)) (Some (span_of_mark m))
 word_step bytes m st s (inl e) = word_by bytes m st s kinds.BasicString e refl refl
 word_step bytes m st s (inr (inl e)) = word_by bytes m st s kinds.LiteralString e refl refl
-word_step bytes m st s (inr (inr (inl e))) = word_by bytes m st s kinds.Integer e refl refl
-word_step bytes m st s (inr (inr (inr (inl e)))) = word_by bytes m st s kinds.Float e refl refl
-word_step bytes m st s (inr (inr (inr (inr e)))) = word_by bytes m st s kinds.DateTime e refl refl
+word_step bytes m st s (inr (inr (inl e))) = word_by bytes m st s kinds.MultiBasicString e refl refl
+word_step bytes m st s (inr (inr (inr (inl e)))) = word_by bytes m st s kinds.MultiLiteralString e refl refl
+word_step bytes m st s (inr (inr (inr (inr (inl e))))) = word_by bytes m st s kinds.Integer e refl refl
+word_step bytes m st s (inr (inr (inr (inr (inr (inl e)))))) = word_by bytes m st s kinds.Float e refl refl
+word_step bytes m st s (inr (inr (inr (inr (inr (inr e)))))) = word_by bytes m st s kinds.DateTime e refl refl
 
 pub other_step : (bytes : List ℕ) (m : Mark) (st : State) (k : MarkKind) → m.kind ≡ k → (k ≡ kinds.BarePart → ⊥) → (k ≡ kinds.BasicPart → ⊥) → (k ≡ kinds.LiteralPart → ⊥) → (k ≡ kinds.BasicString → ⊥) → (k ≡ kinds.LiteralString → ⊥) → (k ≡ kinds.True → ⊥)
-    → (k ≡ kinds.False → ⊥) → (k ≡ kinds.OpenTable → ⊥) → (k ≡ kinds.CloseTable → ⊥) → (k ≡ kinds.Header → ⊥) → (k ≡ kinds.Integer → ⊥) → (k ≡ kinds.Float → ⊥) → (k ≡ kinds.DateTime → ⊥) → (k ≡ kinds.OpenArray → ⊥) → (k ≡ kinds.CloseArray → ⊥) → step bytes m st ≡ None
-other_step bytes m st k kind a b c d e f g h i j l n o p q = step_is bytes m st k kind ∙ nothing k a b c d e f g h i j l n o p q
+    → (k ≡ kinds.False → ⊥) → (k ≡ kinds.OpenTable → ⊥) → (k ≡ kinds.CloseTable → ⊥) → (k ≡ kinds.Header → ⊥) → (k ≡ kinds.Integer → ⊥) → (k ≡ kinds.Float → ⊥) → (k ≡ kinds.DateTime → ⊥) → (k ≡ kinds.MultiBasicString → ⊥) → (k ≡ kinds.MultiLiteralString → ⊥) → (k ≡ kinds.OpenArray → ⊥) → (k ≡ kinds.CloseArray → ⊥) → step bytes m st ≡ None
+other_step bytes m st k kind a b c d e f g h i j l n o p q r s = step_is bytes m st k kind ∙ nothing k a b c d e f g h i j l n o p q r s
   where
     nothing : (x : MarkKind) → (x ≡ kinds.BarePart → ⊥) → (x ≡ kinds.BasicPart → ⊥) → (x ≡ kinds.LiteralPart → ⊥) → (x ≡ kinds.BasicString → ⊥) → (x ≡ kinds.LiteralString → ⊥) → (x ≡ kinds.True → ⊥)
-        → (x ≡ kinds.False → ⊥) → (x ≡ kinds.OpenTable → ⊥) → (x ≡ kinds.CloseTable → ⊥) → (x ≡ kinds.Header → ⊥) → (x ≡ kinds.Integer → ⊥) → (x ≡ kinds.Float → ⊥) → (x ≡ kinds.DateTime → ⊥) → (x ≡ kinds.OpenArray → ⊥) → (x ≡ kinds.CloseArray → ⊥) → act x bytes m st ≡ None
-    nothing kinds.BarePart a b c d e f g h i j l n o p q = absurd (a refl)
-    nothing kinds.BasicPart a b c d e f g h i j l n o p q = absurd (b refl)
-    nothing kinds.LiteralPart a b c d e f g h i j l n o p q = absurd (c refl)
-    nothing kinds.BasicString a b c d e f g h i j l n o p q = absurd (d refl)
-    nothing kinds.LiteralString a b c d e f g h i j l n o p q = absurd (e refl)
-    nothing kinds.True a b c d e f g h i j l n o p q = absurd (f refl)
-    nothing kinds.False a b c d e f g h i j l n o p q = absurd (g refl)
-    nothing kinds.OpenTable a b c d e f g h i j l n o p q = absurd (h refl)
-    nothing kinds.CloseTable a b c d e f g h i j l n o p q = absurd (i refl)
-    nothing kinds.Header a b c d e f g h i j l n o p q = absurd (j refl)
-    nothing kinds.ElementHeader a b c d e f g h i j l n o p q = refl
-    nothing kinds.MultiBasicString a b c d e f g h i j l n o p q = refl
-    nothing kinds.MultiLiteralString a b c d e f g h i j l n o p q = refl
-    nothing kinds.Integer a b c d e f g h i j l n o p q = absurd (l refl)
-    nothing kinds.Float a b c d e f g h i j l n o p q = absurd (n refl)
-    nothing kinds.DateTime a b c d e f g h i j l n o p q = absurd (o refl)
-    nothing kinds.OpenArray a b c d e f g h i j l n o p q = absurd (p refl)
-    nothing kinds.CloseArray a b c d e f g h i j l n o p q = absurd (q refl)
+        → (x ≡ kinds.False → ⊥) → (x ≡ kinds.OpenTable → ⊥) → (x ≡ kinds.CloseTable → ⊥) → (x ≡ kinds.Header → ⊥) → (x ≡ kinds.Integer → ⊥) → (x ≡ kinds.Float → ⊥) → (x ≡ kinds.DateTime → ⊥) → (x ≡ kinds.MultiBasicString → ⊥) → (x ≡ kinds.MultiLiteralString → ⊥) → (x ≡ kinds.OpenArray → ⊥) → (x ≡ kinds.CloseArray → ⊥) → act x bytes m st ≡ None
+    nothing kinds.BarePart a b c d e f g h i j l n o p q r s = absurd (a refl)
+    nothing kinds.BasicPart a b c d e f g h i j l n o p q r s = absurd (b refl)
+    nothing kinds.LiteralPart a b c d e f g h i j l n o p q r s = absurd (c refl)
+    nothing kinds.BasicString a b c d e f g h i j l n o p q r s = absurd (d refl)
+    nothing kinds.LiteralString a b c d e f g h i j l n o p q r s = absurd (e refl)
+    nothing kinds.True a b c d e f g h i j l n o p q r s = absurd (f refl)
+    nothing kinds.False a b c d e f g h i j l n o p q r s = absurd (g refl)
+    nothing kinds.OpenTable a b c d e f g h i j l n o p q r s = absurd (h refl)
+    nothing kinds.CloseTable a b c d e f g h i j l n o p q r s = absurd (i refl)
+    nothing kinds.Header a b c d e f g h i j l n o p q r s = absurd (j refl)
+    nothing kinds.ElementHeader a b c d e f g h i j l n o p q r s = refl
+    nothing kinds.MultiBasicString a b c d e f g h i j l n o p q r s = absurd (p refl)
+    nothing kinds.MultiLiteralString a b c d e f g h i j l n o p q r s = absurd (q refl)
+    nothing kinds.Integer a b c d e f g h i j l n o p q r s = absurd (l refl)
+    nothing kinds.Float a b c d e f g h i j l n o p q r s = absurd (n refl)
+    nothing kinds.DateTime a b c d e f g h i j l n o p q r s = absurd (o refl)
+    nothing kinds.OpenArray a b c d e f g h i j l n o p q r s = absurd (r refl)
+    nothing kinds.CloseArray a b c d e f g h i j l n o p q r s = absurd (s refl)
 
 -- ---- all marks
 

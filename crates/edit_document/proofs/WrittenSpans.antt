@@ -1,14 +1,14 @@
 -- The spans that are noted of a text of the part that is read are those of its values.
-use Rattle.std.proofs.Common.{◌≡◌, ℕ, suc, Bool, true, false, List, [], ◌∷◌, ◌++◌, map, length, Option, None, Some, option_map, refl, sym, ap, ap₂, ◌∙◌, subst}
+use Rattle.std.proofs.Common.{◌≡◌, ℕ, suc, List, [], ◌∷◌, ◌++◌, map, Option, option_map, refl, sym, ap, ap₂, ◌∙◌, subst}
 use Rattle.std.proofs.lemmas.List.Elements.{filter_map-append}
-use Rattle.std.specs.List.{filter_map, cons_option}
+use Rattle.std.specs.List.{filter_map}
 use Rattle.edit_document.specs.declared.nodes.Span.{Span}
 use Rattle.edit_document.specs.Characters.{comma, right_bracket, right_brace}
-use Rattle.edit_document.specs.Strings.{Part, Dotted, Key, name, line_end}
-use Rattle.edit_document.specs.Grammar.{gap, Value, basic, literal, multi_basic, multi_literal, boolean, integer, float, datetime, array, inline, value, Elements, no_elements, last_element, element, elements, Members, no_members, last_member, member, members, Statement, pair, header, element_header, empty_line, full_line, comment, Lines, one_line, more_lines, lines, Text}
+use Rattle.edit_document.specs.Strings.{Dotted, Key, name, line_end}
+use Rattle.edit_document.specs.Grammar.{gap, Value, basic, literal, multi_basic, multi_literal, boolean, integer, float, datetime, array, inline, Elements, no_elements, last_element, element, elements, Members, no_members, last_member, member, members, Statement, pair, header, element_header, empty_line, full_line, comment, Lines, one_line, more_lines, lines, Text}
 use Rattle.edit_document.specs.Assertions.{Place, key, index, at, names, named, Assertion, of_statement, header_place, prefix_after}
 use Rattle.edit_document.specs.Supported.{IsOnePart, IsSupportedValue, AreSupportedElements, AreSupportedMembers, IsSupportedStatement, AreSupportedLines, IsSupported}
-use Rattle.edit_document.specs.DocumentLayout.{Noted, span_of, noted, noted_inside, noted_elements, noted_members, noted_value, noted_statement, header_after, noted_lines, noted_text}
+use Rattle.edit_document.specs.DocumentLayout.{Noted, span_of, noted_inside, noted_elements, noted_members, noted_value, noted_statement, header_after, noted_lines, noted_text}
 use Rattle.edit_document.specs.Written.{Valued, valued, inside, in_elements, in_members, in_statement, in_lines, values}
 
 -- a place and the span of what is written there

@@ -6,7 +6,7 @@ use Rattle.edit_document.specs.declared.document.Document.TheInside.{Inside}
 use Rattle.edit_document.specs.Characters.{quote, apostrophe, comma, right_bracket, right_brace}
 use Rattle.edit_document.specs.Strings.{◌·◌, line_end, says, says_multi, name}
 use Rattle.edit_document.specs.Numbers.{integer_text, float_text, datetime_text}
-use Rattle.edit_document.specs.Grammar.{Value, basic, literal, multi_basic, multi_literal, boolean, integer, float, datetime, array, inline, Elements, no_elements, last_element, element, Members, no_members, last_member, member, gap, value, elements, members, Statement, pair, header, element_header, comment, Line, empty_line, full_line, Lines, one_line, more_lines, lines, Text}
+use Rattle.edit_document.specs.Grammar.{Value, basic, literal, multi_basic, multi_literal, boolean, integer, float, datetime, array, inline, Elements, no_elements, last_element, element, Members, no_members, last_member, member, gap, value, elements, members, Statement, pair, header, element_header, comment, empty_line, full_line, Lines, one_line, more_lines, lines, Text}
 use Rattle.edit_document.specs.Assertions.{Step, key, index, Place, at}
 use Rattle.edit_document.specs.Tree.{View, string, truth, whole, fractional, moment, static_array, step_from, count_elements}
 use Rattle.edit_document.specs.Supported.{IsManifest}

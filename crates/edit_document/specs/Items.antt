@@ -1,5 +1,5 @@
 -- What the views of a document's places show.
-use Rattle.std.specs.Prelude.{◌≡◌, ℕ, ◌<◌, Bool, true, false, List, [], ◌∷◌, length, map, drop, slice_get, unwrap_or, Option, Some, None, MatchOption, string_bytes, codes, ⊤}
+use Rattle.std.specs.Prelude.{◌≡◌, ℕ, ◌<◌, Bool, true, false, List, [], length, map, slice_get, unwrap_or, Option, Some, None, MatchOption, string_bytes, codes, ⊤}
 use Rattle.std.specs.List.{filter_map}
 use Rattle.edit_document.specs.declared.place.Step.{Step as WrittenStep}
 use Rattle.edit_document.specs.declared.place.Step.TheVariants.{Key, Index}

@@ -3,7 +3,7 @@ use Rattle.std.specs.Prelude.{◌≡◌, ℕ, Bool, true, false, List, [], ◌�
 use Rattle.std.specs.Borrow.{Bor}
 use Rattle.std.specs.Global.{Vec}
 use Rattle.edit_document.specs.declared.read.bytes.Class.{Class}
-use Rattle.edit_document.specs.declared.read.bytes.Class.TheVariants.{Blank, Comment, Bare, Literal, Unescaped, Decimal, Hexadecimal, Octal, Binary}
+use Rattle.edit_document.specs.declared.read.bytes.Class.TheVariants.{Blank, Comment, Bare, Literal, Unescaped, Spacing, Decimal, Hexadecimal, Octal, Binary}
 use Rattle.edit_document.specs.declared.read.marks.Mark.{Mark}
 use Rattle.edit_document.specs.declared.read.marks.MarkKind.{MarkKind}
 use Rattle.edit_document.specs.declared.read.marks.MarkKind.TheVariants as kinds
@@ -11,6 +11,7 @@ use Rattle.edit_document.specs.declared.read.marks.ReadError.{ReadError}
 use Rattle.edit_document.specs.declared.read.marks.ReadError.TheVariants.{Memory}
 use Rattle.edit_document.specs.Characters.{equals, right_bracket, right_brace, is_blank, is_ch, is_bare, is_literal_ch, is_unescaped}
 use Rattle.edit_document.specs.Strings.{◌·◌}
+use Rattle.edit_document.specs.Decoding.{is_spacing}
 use Rattle.edit_document.specs.Numbers.{is_decimal, hexadecimal, octal, binary, base_digit}
 use Rattle.edit_document.specs.Grammar.{Value, basic, literal, multi_basic, multi_literal, boolean, integer, float, datetime, array, inline, value, Elements, Members}
 use Rattle.edit_document.specs.Marks.{mark, key_marks, value_marks, elements_marks, members_marks}
@@ -23,6 +24,7 @@ class_test Comment = is_ch
 class_test Bare = is_bare
 class_test Literal = is_literal_ch
 class_test Unescaped = is_unescaped
+class_test Spacing = is_spacing
 class_test Decimal = is_decimal
 class_test Hexadecimal = base_digit hexadecimal
 class_test Octal = base_digit octal

@@ -1,12 +1,13 @@
 -- Reading from left to right: a part of the grammar and the text behind it, or nothing. The contracts of the
 -- private functions cite these; what they have to do with the grammar is proved in proofs/.
-use Rattle.std.specs.Prelude.{ℕ, zero, suc, ◌+◌, Bool, true, false, ◌&&◌, ◌||◌, ◌==◌, if◌then◌else◌, List, [], ◌∷◌, length, map, take, drop, slice_index, Option, Some, None, option_and_then}
-use Rattle.std.specs.List.{prefix_len, list_all}
+use Rattle.std.specs.Prelude.{ℕ, zero, suc, ◌+◌, Bool, true, false, not, ◌&&◌, ◌||◌, ◌==◌, if◌then◌else◌, List, [], ◌∷◌, length, map, take, drop, slice_index, Option, Some, None}
+use Rattle.std.specs.List.{list_all}
 use Rattle.std.specs.Str.Parse.{digits_value}
 use Rattle.edit_document.specs.Characters.{line_feed, carriage_return, quote, hash, apostrophe, comma, equals, left_bracket, backslash, right_bracket, left_brace, right_brace, is_blank, is_ch, is_bare, is_literal_ch, is_basic_ch}
-use Rattle.edit_document.specs.Strings.{LineEnd, lf, crlf, Piece, plain, letter, short, long, is_escape, is_hex, is_scalar, Part, bare, basic_part, literal_part, Key}
-use Rattle.edit_document.specs.Grammar.{Between, blank, break, remark, Value, basic, literal, boolean, array, inline, Elements, no_elements, last_element, element, Members, no_members, last_member, member, Statement, pair, header, Line, empty_line, full_line, Lines, one_line, more_lines, Text}
-use Rattle.edit_document.specs.ReadingNumbers.{number_at}
+use Rattle.edit_document.specs.Strings.{LineEnd, lf, crlf, Space, Piece, plain, letter, short, long, feed, fold, delimiter, is_escape, is_hex, is_scalar, Part, bare, basic_part, literal_part, Key}
+use Rattle.edit_document.specs.Strings as strings
+use Rattle.edit_document.specs.Grammar.{Between, blank, break, remark, Value, basic, literal, multi_basic, multi_literal, boolean, array, inline, Elements, no_elements, last_element, element, Members, no_members, last_member, member, Statement, pair, header, Line, empty_line, full_line, Lines, one_line, more_lines, Text}
+use Rattle.edit_document.specs.ReadingNumbers.{begins, number_at}
 pub use Rattle.edit_document.specs.ReadingSteps.{Read, ◌>>=◌, first, front, after, blanks, past_blanks, past}
 
 -- tabs and spaces, as what stands between values
@@ -82,6 +83,76 @@ basic_at text = pieces_at (length text) text
 unfoldable pub literal_at : List ℕ → Read (List ℕ)
 literal_at text = past apostrophe (after is_literal_ch text) >>= λ rest. Some (front is_literal_ch text, rest)
 
+-- ---- strings over several lines ("String", multi-line strings)
+
+-- a tab, a space or a newline comes first (own)
+abbrev pub begins_space : List ℕ → Bool
+begins_space text = is_blank (first text) || first text == line_feed || (first text == carriage_return && slice_index text 1 == line_feed)
+
+-- a tab, a space or a newline
+unfoldable pub space_at : List ℕ → Read Space
+space_at text =
+    if is_blank (first text) then Some (strings.blank (first text), drop 1 text)
+    else (line_end_at text >>= λ e. Some (strings.break e.0, e.1))
+
+-- all of these that come, in fewer than n
+unfoldable pub spaces_at : ℕ → List ℕ → Read (List Space)
+spaces_at zero text = None
+spaces_at (suc n) text =
+    if begins_space text then (space_at text >>= λ s. spaces_at n s.1 >>= λ more. Some (s.0 ∷ more.0, more.1))
+    else Some ([], text)
+
+-- a backslash at the end of a line, and all white space and newlines that follow
+unfoldable pub fold_at : List ℕ → Read Piece
+fold_at text = line_end_at (past_blanks (drop 1 text)) >>= λ e. spaces_at (length e.1 + 1) e.1 >>= λ more. Some (fold (blanks (drop 1 text)) e.0 more.0, more.1)
+
+-- LF or CR, where a newline may stand (own)
+abbrev pub is_line_break : ℕ → Bool
+is_line_break b = b == line_feed || b == carriage_return
+
+-- a newline, as it is written
+unfoldable pub feed_at : List ℕ → Read Piece
+feed_at text = line_end_at text >>= λ e. Some (feed e.0, e.1)
+
+-- in a basic string: a newline, an escape or a fold, or a byte that stands for itself
+unfoldable pub spot_at : List ℕ → Read Piece
+spot_at text =
+    if is_line_break (first text) then feed_at text
+    else (if first text == backslash
+    then (if is_line_break (first (past_blanks (drop 1 text))) then fold_at text else escape_at text)
+    else (if is_basic_ch (first text) then Some (plain (first text), drop 1 text) else None))
+
+-- in a literal string: a newline, or a byte that stands for itself
+unfoldable pub raw_at : List ℕ → Read Piece
+raw_at text =
+    if is_line_break (first text) then feed_at text
+    else (if is_literal_ch (first text) then Some (plain (first text), drop 1 text) else None)
+
+-- one piece but a delimiter
+unfoldable pub line_piece_at : ℕ → List ℕ → Read Piece
+line_piece_at mark text = if mark == quote then spot_at text else raw_at text
+
+-- three delimiters and no fourth come first: up to two may stand before the closing ones
+abbrev pub closes : ℕ → List ℕ → Bool
+closes mark text = begins mark mark mark text && not (slice_index text 3 == mark)
+
+-- a delimiter that is text, where one more may stand
+abbrev pub delimiter_at : (ℕ → List ℕ → Read (List Piece)) → ℕ → List ℕ → Read (List Piece)
+delimiter_at body zero text = None
+delimiter_at body (suc few) text = body few (drop 1 text) >>= λ ps. Some (delimiter ∷ ps.0, ps.1)
+
+-- up to the closing delimiters, in fewer than n pieces, where so many delimiters may come first
+unfoldable pub body_at : ℕ → ℕ → ℕ → List ℕ → Read (List Piece)
+body_at mark zero few text = None
+body_at mark (suc n) few text =
+    if closes mark text then Some ([], drop 3 text)
+    else (if first text == mark then delimiter_at (body_at mark n) few text
+    else (line_piece_at mark text >>= λ p. body_at mark n 2 p.1 >>= λ ps. Some (p.0 ∷ ps.0, ps.1)))
+
+-- behind the opening delimiters
+unfoldable pub multi_at : ℕ → List ℕ → Read (List Piece)
+multi_at mark text = body_at mark (length text) 2 text
+
 -- ---- keys
 
 -- a part of a key
@@ -104,11 +175,13 @@ starts a b c d text = first text == a && slice_index text 1 == b && slice_index 
 -- a value that is one token
 unfoldable pub scalar_at : List ℕ → Read Value
 scalar_at text =
-    if first text == quote then (basic_at (drop 1 text) >>= λ p. Some (basic p.0, p.1))
+    if begins quote quote quote text then (multi_at quote (drop 3 text) >>= λ p. Some (multi_basic p.0, p.1))
+    else (if begins apostrophe apostrophe apostrophe text then (multi_at apostrophe (drop 3 text) >>= λ p. Some (multi_literal p.0, p.1))
+    else (if first text == quote then (basic_at (drop 1 text) >>= λ p. Some (basic p.0, p.1))
     else (if first text == apostrophe then (literal_at (drop 1 text) >>= λ p. Some (literal p.0, p.1))
     else (if starts 116 114 117 101 text then Some (boolean true, drop 4 text)
     else (if starts 102 97 108 115 text && slice_index text 4 == 101 then Some (boolean false, drop 5 text)
-    else number_at text)))
+    else number_at text)))))
 
 -- a key, an equals sign and a value, with the white space beside the sign
 pub record Pair : Type 0 where

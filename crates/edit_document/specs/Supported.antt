@@ -1,5 +1,5 @@
--- The part of the grammar that is read so far: a byte order mark, keys of one part, strings on one line, booleans,
--- numbers, dates and times, arrays, inline tables, and headers of one part. Every other text is refused.
+-- The part of the grammar that is read so far: a byte order mark, keys of one part, every value, and headers of one
+-- part. Every other text is refused.
 use Rattle.std.specs.Prelude.{◌≡◌, ℕ, List, [], ⊤}
 use Rattle.edit_document.specs.Strings.{Key}
 use Rattle.edit_document.specs.Grammar.{Value, basic, literal, multi_basic, multi_literal, boolean, integer, float, datetime, array, inline, Elements, no_elements, last_element, element, Members, no_members, last_member, member, Statement, pair, header, element_header, Line, empty_line, full_line, Lines, one_line, more_lines, Text}
@@ -9,14 +9,13 @@ use Rattle.edit_document.specs.Assertions.{IsDocument}
 abbrev pub IsOnePart : Key → Type 0
 IsOnePart k = k.others ≡ []
 
--- a string on one line, a boolean, a number, a date or time, an array of such values, or an inline table of such values
--- under keys of one part
+-- every value: of inline tables, those whose keys have one part
 abbrev mutual
   pub IsSupportedValue : Value → Type 0
   IsSupportedValue (basic ps) = ⊤
   IsSupportedValue (literal text) = ⊤
-  IsSupportedValue (multi_basic ps) = ⊥
-  IsSupportedValue (multi_literal ps) = ⊥
+  IsSupportedValue (multi_basic ps) = ⊤
+  IsSupportedValue (multi_literal ps) = ⊤
   IsSupportedValue (boolean b) = ⊤
   IsSupportedValue (integer n) = ⊤
   IsSupportedValue (float f) = ⊤

@@ -1,17 +1,17 @@
 -- How the spots of a text come from its marks, one after the other. The contracts of the private functions cite this;
 -- what it has to do with the assertions of a form is proved in proofs/.
-use Rattle.std.specs.Prelude.{◌≡◌, ℕ, suc, ◌+◌, ◌-◌, Bool, true, false, ◌||◌, nat_le, if◌then◌else◌, List, [], ◌∷◌, ◌++◌, length, take, drop, slice_get, slice_set, Option, Some, None, option_map, string_bytes}
+use Rattle.std.specs.Prelude.{ℕ, suc, ◌-◌, Bool, true, false, ◌||◌, nat_le, if◌then◌else◌, List, [], ◌∷◌, ◌++◌, length, take, drop, slice_get, slice_set, Option, Some, None, option_map}
 use Rattle.std.specs.List.{list_any}
 use Rattle.std.specs.Str.{bytes_eq, is_utf8}
 use Rattle.edit_document.specs.declared.read.marks.Mark.{Mark}
 use Rattle.edit_document.specs.declared.read.marks.MarkKind.{MarkKind}
 use Rattle.edit_document.specs.declared.read.marks.MarkKind.TheVariants as kinds
 use Rattle.edit_document.specs.declared.nodes.Span.{Span}
-use Rattle.edit_document.specs.Characters.{quote}
-use Rattle.edit_document.specs.Strings.{says}
-use Rattle.edit_document.specs.Reading.{◌>>=◌, basic_at, literal_at}
+use Rattle.edit_document.specs.Characters.{quote, apostrophe}
+use Rattle.edit_document.specs.Strings.{says, says_multi}
+use Rattle.edit_document.specs.Reading.{◌>>=◌, basic_at, literal_at, multi_at}
 use Rattle.edit_document.specs.Assertions.{key, index, at}
-use Rattle.edit_document.specs.Tree.{string, truth, static_array}
+use Rattle.edit_document.specs.Tree.{truth, static_array}
 use Rattle.edit_document.specs.Nodes.{Shape, shape_said, scalar, inline, section, element_count, Spot}
 
 -- ---- what tokens say
@@ -28,6 +28,10 @@ basic_said text = option_map (λ p. says quote p.0) (basic_at text)
 abbrev pub literal_said : List ℕ → Option (List ℕ)
 literal_said text = option_map (λ p. p.0) (literal_at text)
 
+-- what a string over several lines says, from behind its opening delimiters up to its end
+abbrev pub multi_said : ℕ → List ℕ → Option (List ℕ)
+multi_said mark text = option_map (λ p. says_multi mark p.0) (multi_at mark text)
+
 -- what a token of this kind says that begins a text, and is so long
 abbrev pub told : MarkKind → List ℕ → ℕ → Option (List ℕ)
 told kinds.BarePart text n = Some (take n text)
@@ -35,6 +39,8 @@ told kinds.BasicPart text n = basic_said (drop 1 text)
 told kinds.LiteralPart text n = literal_said (drop 1 text)
 told kinds.BasicString text n = basic_said (drop 1 text)
 told kinds.LiteralString text n = literal_said (drop 1 text)
+told kinds.MultiBasicString text n = multi_said quote (drop 3 (take n text))
+told kinds.MultiLiteralString text n = multi_said apostrophe (drop 3 (take n text))
 told kinds.Integer text n = Some (take n text)
 told kinds.Float text n = Some (take n text)
 told kinds.DateTime text n = Some (take n text)
@@ -124,6 +130,8 @@ act kinds.BasicPart bytes m st = said bytes m >>= λ name. Some (record st { nam
 act kinds.LiteralPart bytes m st = said bytes m >>= λ name. Some (record st { name = Some name })
 act kinds.BasicString bytes m st = worded bytes m st
 act kinds.LiteralString bytes m st = worded bytes m st
+act kinds.MultiBasicString bytes m st = worded bytes m st
+act kinds.MultiLiteralString bytes m st = worded bytes m st
 act kinds.Integer bytes m st = worded bytes m st
 act kinds.Float bytes m st = worded bytes m st
 act kinds.DateTime bytes m st = worded bytes m st

@@ -8,11 +8,12 @@ use crate::tests::{is_read, with_string};
 use std::alloc::Global;
 use std::test::Fail;
 
-/// The arrays of the standard's section, but for the one with strings over several lines.
+/// The arrays of the standard's section, in its order.
 const ARRAYS: &str = "integers = [ 1, 2, 3 ]
 colors = [ \"red\", \"yellow\", \"green\" ]
 nested_arrays_of_ints = [ [ 1, 2 ], [3, 4, 5] ]
 nested_mixed_array = [ [ 1, 2 ], [\"a\", \"b\", \"c\"] ]
+string_array = [ \"all\", 'strings', \"\"\"are the same\"\"\", '''type''' ]
 
 # Mixed-type arrays are allowed
 numbers = [ 0.1, 0.2, 0.5, 1, 2, 5 ]
@@ -30,6 +31,11 @@ integers3 = [
 ]
 ";
 
+/// Each of these arrays: its name, how many elements it has, and the type of the first one.
+const SHOWN: &str = "\
+integers|3|integer@colors|3|string@nested_arrays_of_ints|2|array@nested_mixed_array|2|array@\
+string_array|4|string@numbers|6|float@contributors|2|string@integers2|3|integer@integers3|2|integer";
+
 /// The place of a key and of elements in one another below it.
 fn element_place(alloc: Global, name: &str, indexes: &[usize]) -> Result<Vec<Step>, Error> {
     let mut place = Vec::new(alloc);
@@ -45,27 +51,19 @@ fn shows_the_arrays_of_the_standard(rt: HostRuntime) -> Result<(), Fail> {
     let document = Document::read(rt.alloc(), ARRAYS)?;
     assert_eq!(rt; document.as_str(), ARRAYS);
     let root = document.item(&[]).ok_or("no root")?;
-    let rows = [
-        ("integers", 3, "integer"),
-        ("colors", 3, "string"),
-        ("nested_arrays_of_ints", 2, "array"),
-        ("nested_mixed_array", 2, "array"),
-        ("numbers", 6, "float"),
-        ("contributors", 2, "string"),
-        ("integers2", 3, "integer"),
-        ("integers3", 2, "integer"),
-    ];
-    for (name, count, first) in rows {
+    for row in SHOWN.split('@') {
+        let (name, rest) = row.split_once('|').ok_or("row")?;
+        let (count, first) = rest.split_once('|').ok_or("row")?;
+        let count = count.parse::<usize>().ok().ok_or("row")?;
         let array = root
             .get(name)
             .and_then(|item: Item<'_>| item.as_array())
             .ok_or("no array")?;
         assert_eq!(rt; array.type_name(), "array", "{name}");
         assert_eq!(rt; array.len(), count, "{name}");
-        assert_eq!(rt; array.keys().count(), 0, "{name}");
-        let kind = array.at(0).map(|item: Item<'_>| item.type_name());
-        assert_eq!(rt; kind.ok_or("no element")?, first, "{name}");
-        assert_eq!(rt; array.at(count).is_none(), true, "{name}");
+        let element = array.at(0).ok_or("no element")?;
+        assert_eq!(rt; element.type_name(), first, "{name}");
+        assert!(rt; array.at(count).is_none(), "{name}");
     }
     Ok(())
 }
@@ -79,43 +77,44 @@ fn shows_what_stands_in_arrays(rt: HostRuntime) -> Result<(), Fail> {
     assert_eq!(rt; item.as_str(), Some("c"));
     let entry = element_place(alloc, "contributors", [1].as_slice())?;
     let table = document.item(&entry).ok_or("no table")?;
-    assert_eq!(rt; table.is_inline_table(), true);
     let name = table.get("name").ok_or("no name")?;
     assert_eq!(rt; name.as_str(), Some("Baz Qux"));
     let past = element_place(alloc, "contributors", [2].as_slice())?;
-    assert_eq!(rt; document.item(&past).is_none(), true);
+    assert!(rt; document.item(&past).is_none());
     Ok(())
 }
 
+/// Whether a text is read, and the text; a row ends at `@`.
+const ROWS: &str = "\
+yes|a = []@\
+yes|a = [ # nothing\r\n]@\
+yes|a = [1]@\
+yes|a = [1,]@\
+yes|a = [1 , ]@\
+yes|a = [\n1\t,\n# one\n\n2 # two\n] # all@\
+yes|a = [{ b = [1] }, []]@\
+yes|a = { b = [\n] }@\
+no|a = [,]@\
+no|a = [1 2]@\
+no|a = [1,,2]@\
+no|a = [1,,]@\
+no|a = [@\
+no|a = [1@\
+no|a = [1,@\
+no|a = ]@\
+no|a = [1]]@\
+no|a = [ # ]@\
+no|a = [1\r2]@\
+no|a = [1] 2@\
+no|a = { b = []\n}@\
+no|a = [1]\n[a]\n@\
+no|a = [1]\na = [2]\n";
+
 #[test]
 fn reads_exactly_arrays(rt: HostRuntime) -> Result<(), Fail> {
-    let rows = [
-        ("a = []", true),
-        ("a = [ # nothing\r\n]", true),
-        ("a = [1]", true),
-        ("a = [1,]", true),
-        ("a = [1 , ]", true),
-        ("a = [\n1\t,\n# one\n\n2 # two\n] # all", true),
-        ("a = [{ b = [1] }, []]", true),
-        ("a = [,]", false),
-        ("a = [1 2]", false),
-        ("a = [1,,2]", false),
-        ("a = [1,,]", false),
-        ("a = [", false),
-        ("a = [1", false),
-        ("a = [1,", false),
-        ("a = ]", false),
-        ("a = [1]]", false),
-        ("a = [ # ]", false),
-        ("a = [1\r2]", false),
-        ("a = [1] 2", false),
-        ("a = { b = [\n] }", true),
-        ("a = { b = []\n}", false),
-        ("a = [1]\n[a]\n", false),
-        ("a = [1]\na = [2]\n", false),
-    ];
-    for (text, read) in rows {
-        assert_eq!(rt; is_read(rt.alloc(), text)?, read, "{text}");
+    for row in ROWS.split('@') {
+        let (read, text) = row.split_once('|').ok_or("row")?;
+        assert_eq!(rt; is_read(rt.alloc(), text)?, read == "yes", "{text}");
     }
     Ok(())
 }
@@ -135,16 +134,12 @@ fn nested(alloc: Global, count: usize, inner: &str) -> Result<String, Error> {
 
 #[test]
 fn counts_the_steps_of_an_element(rt: HostRuntime) -> Result<(), Fail> {
-    let rows = [
-        ("the eightieth step", 79, "1", true),
-        ("one more", 80, "1", false),
-        ("eighty arrays", 80, "", true),
-        ("one more array", 81, "", false),
-    ];
-    for (row, count, inner, read) in rows {
-        let text = nested(rt.alloc(), count, inner)?;
-        assert_eq!(rt; is_read(rt.alloc(), text.as_str())?, read, "{row}");
-    }
+    let last = nested(rt.alloc(), 79, "1")?;
+    assert!(rt; is_read(rt.alloc(), last.as_str())?, "the eightieth step");
+    let more = nested(rt.alloc(), 80, "1")?;
+    assert!(rt; !is_read(rt.alloc(), more.as_str())?, "one more");
+    let empty = nested(rt.alloc(), 80, "")?;
+    assert!(rt; is_read(rt.alloc(), empty.as_str())?, "eighty arrays");
     Ok(())
 }
 

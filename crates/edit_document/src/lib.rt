@@ -21,3 +21,5 @@ pub use place::{Place, Step};
 mod array_tests;
 #[cfg(test)]
 mod tests;
+#[cfg(test)]
+mod value_tests;

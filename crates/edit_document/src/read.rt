@@ -8,17 +8,19 @@ ghost use Rattle.edit_document.specs.Depth.{text_depth};
 ghost use Rattle.edit_document.specs.Marks.{text_marks, IsReadRefusal};
 
 mod bytes;
+mod dates;
 pub(crate) mod decode;
 mod gaps;
 mod lines;
 mod marks;
+mod multi;
 mod numbers;
 mod tokens;
 mod values;
 
 use crate::errors::{CargoResult, Error};
 use bytes::{byte_at, first, skip};
-pub(crate) use decode::{content, is_plain, said};
+pub(crate) use decode::{content, said};
 use lines::lines;
 use marks::ReadError;
 pub(crate) use marks::{Mark, MarkKind};

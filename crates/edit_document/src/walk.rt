@@ -246,6 +246,8 @@ impl Walk {
             }
             MarkKind::BasicString
             | MarkKind::LiteralString
+            | MarkKind::MultiBasicString
+            | MarkKind::MultiLiteralString
             | MarkKind::Integer
             | MarkKind::Float
             | MarkKind::DateTime => {

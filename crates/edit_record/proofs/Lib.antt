@@ -22,3 +22,4 @@ pub mod PinLemmas
 pub mod Entries
 pub mod Steps
 mod Joined
+mod WorkedFacts

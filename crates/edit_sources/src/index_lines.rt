@@ -112,7 +112,7 @@ fn read_each(alloc: Global, lines: &[&[u8]]) -> CargoResult<Vec<IndexVersion>>
     ensures entries { IfOk result (λ v. LinesSay (map (λ x. x.now) lines.now) (map entry_of v.items)) }
     ensures refused { IfErr result (RefusesLines (map (λ x. x.now) lines.now)) }
 {
-    let mut entries = Vec::new(alloc);
+    let mut entries = Vec::with_capacity(alloc, lines.len())?;
     for (i, line) in lines.iter().enumerate() {
         if blank(line) {
             continue;

@@ -5,10 +5,12 @@ ghost use Rattle.edit_document.specs.Errors.{IsMemory};
 ghost use Rattle.edit_document.specs.Characters.{quote};
 ghost use Rattle.std.specs.Str.Parse.{digits_value};
 ghost use Rattle.edit_document.specs.Strings as strings;
-ghost use Rattle.edit_document.specs.Strings.{Piece, piece, IsBasicPiece, NamesScalar};
-ghost use Rattle.edit_document.specs.Decoding.{delimiter, delimited, IsEscape, BasicSays, Says};
+ghost use Rattle.edit_document.specs.Strings.{Piece, piece, IsBasicPiece, IsMultiPiece, NamesScalar};
+ghost use Rattle.edit_document.specs.ReadingSteps as reading;
+ghost use Rattle.edit_document.specs.Decoding as decoding;
+ghost use Rattle.edit_document.specs.Decoding.{delimiter, delimited, IsEscape, IsMarked, FoldStops, LineSays, Says};
 
-use super::bytes::{Class, byte_at, run_len, skip};
+use super::bytes::{Class, byte_at, first, is_in, run_len, skip};
 use super::marks::{Mark, MarkKind};
 use super::tokens::scalar;
 use crate::errors::CargoResult;
@@ -37,20 +39,6 @@ pub(crate) fn content(text: &str, mark: Mark) -> &str
     let start = text.len().saturating_sub(mark.from) + width;
     let end = text.len().saturating_sub(mark.to).saturating_sub(width);
     text.get(start..end).unwrap_or("")
-}
-
-/// Whether a content of this kind stands for itself.
-pub(crate) fn is_plain(kind: MarkKind, content: &str) -> bool
-    ensures plain { IsTrue result → (said : List ℕ) → Says kind content.now said → said ≡ content.now }
-    ensures escaped { result ≡ false → (said : List ℕ) → Says kind content.now said → BasicSays content.now said }
-{
-    match kind {
-        MarkKind::BasicPart | MarkKind::BasicString => {
-            run_len(content.as_bytes(), Class::Unescaped) == content.len()
-        }
-        MarkKind::MultiBasicString | MarkKind::MultiLiteralString => false,
-        _ => true,
-    }
 }
 
 /// The character that the letter of an escape names.
@@ -116,9 +104,24 @@ fn behind(s: &str, n: usize) -> &str
     }
 }
 
-/// What the content of a basic string says.
+/// Takes the escape or the fold at the front, and tells how many bytes it has.
+fn push_piece(out: &mut String, bytes: &[u8]) -> CargoResult<usize>
+    ensures says { (p : Piece) (rest : List ℕ) → IsMarked p → IsMultiPiece p → FoldStops p (reading.first rest) → bytes.now ≡ piece quote p rest →
+        IfOk result (λ n. (string_bytes out.new ≡ string_bytes out.old ++ strings.said quote p) × (n ≡ length (piece quote p []))) }
+    ensures some { IfOk result (λ n. 1 ≤ n) }
+    ensures refused { IfErr result IsMemory }
+{
+    if is_in(Class::Spacing, byte_at(bytes, 1)) {
+        return Ok(1 + run_len(skip(bytes, 1), Class::Spacing));
+    }
+    let (named, len) = escape(bytes);
+    out.push(named)?;
+    Ok(len)
+}
+
+/// What the content of a basic string says, but for a newline that is left out.
 fn decoded(alloc: Global, content: &str) -> CargoResult<String>
-    ensures text { (said : List ℕ) → BasicSays content.now said → IfOk result (λ s. string_bytes s ≡ said) }
+    ensures text { (said : List ℕ) → LineSays content.now said → IfOk result (λ s. string_bytes s ≡ said) }
     ensures refused { IfErr result IsMemory }
 {
     let mut out = String::new(alloc);
@@ -130,11 +133,24 @@ fn decoded(alloc: Global, content: &str) -> CargoResult<String>
         if tail.is_empty() {
             return Ok(out);
         }
-        let (named, len) = escape(tail.as_bytes());
-        out.push(named)?;
+        let len = push_piece(&mut out, tail.as_bytes())?;
         rest = behind(tail, len);
     }
     Ok(out)
+}
+
+/// What follows a newline that comes first.
+fn past_break(content: &str) -> &str
+    ensures { result.now ≡ decoding.past_break content.now }
+{
+    let bytes = content.as_bytes();
+    if first(bytes) == b'\n' {
+        return behind(content, 1);
+    }
+    if first(bytes) == b'\r' && byte_at(bytes, 1) == b'\n' {
+        return behind(content, 2);
+    }
+    content
 }
 
 /// What a content of this kind says.
@@ -142,8 +158,10 @@ pub(crate) fn said(alloc: Global, kind: MarkKind, content: &str) -> CargoResult<
     ensures text { (said : List ℕ) → Says kind content.now said → IfOk result (λ s. string_bytes s ≡ said) }
     ensures refused { IfErr result IsMemory }
 {
-    if is_plain(kind, content) {
-        return Ok(String::from_str(alloc, content)?);
+    match kind {
+        MarkKind::BasicPart | MarkKind::BasicString => decoded(alloc, content),
+        MarkKind::MultiBasicString => decoded(alloc, past_break(content)),
+        MarkKind::MultiLiteralString => Ok(String::from_str(alloc, past_break(content))?),
+        _ => Ok(String::from_str(alloc, content)?),
     }
-    decoded(alloc, content)
 }

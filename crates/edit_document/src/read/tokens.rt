@@ -7,7 +7,8 @@ ghost use Rattle.edit_document.specs.Marks.{part_kind};
 
 use super::bytes::{Class, byte_at, first, is_bare, is_basic_ch, past, past_run, skip};
 use super::marks::MarkKind;
-use super::numbers::past_number;
+use super::multi::past_multi;
+use super::numbers::{begins, past_number};
 
 /// The scalar value that these hexadecimal digits name.
 pub(crate) fn scalar(digits: &[u8]) -> Option<char>
@@ -35,7 +36,7 @@ fn past_code(s: &[u8], n: usize) -> Option<&[u8]>
 
 /// What follows an escape, from its backslash on.
 #[tactic(auto, unfolding(crate::specs::Reading::escape_at))]
-fn past_escape(s: &[u8]) -> Option<&[u8]>
+pub(crate) fn past_escape(s: &[u8]) -> Option<&[u8]>
     ensures { Skips result (reading.escape_at s.now) }
 {
     match byte_at(s, 1) {
@@ -117,6 +118,14 @@ fn starts(s: &[u8], word: [u8; 4]) -> bool
 pub(crate) fn past_scalar(s: &[u8]) -> Option<(MarkKind, &[u8])>
     ensures { seen_token result ≡ told_token value_kind (reading.scalar_at s.now) }
 {
+    if begins(s, *b"\"\"\"") {
+        let rest = past_multi(skip(s, 3), b'"')?;
+        return Some((MarkKind::MultiBasicString, rest));
+    }
+    if begins(s, *b"'''") {
+        let rest = past_multi(skip(s, 3), b'\'')?;
+        return Some((MarkKind::MultiLiteralString, rest));
+    }
     if first(s) == b'"' {
         let rest = past_basic(skip(s, 1))?;
         return Some((MarkKind::BasicString, rest));

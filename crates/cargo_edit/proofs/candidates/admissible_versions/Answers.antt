@@ -1,4 +1,4 @@
-use Rattle.std.proofs.Common.{◌≡◌, ◌∙◌, ap, map, take, sym}
+use Rattle.std.proofs.Common.{◌∙◌, ap, map, take, sym}
 use Rattle.std.specs.Prelude.{option_map}
 use Rattle.std.specs.List.{filter_map}
 use Rattle.edit_record.specs.Admissible.{admissible}

@@ -1,4 +1,4 @@
-use Rattle.std.proofs.Common.{◌≡◌, ◌∙◌, ◌∷◌, ◌++◌, [], List, ℕ, ap, map, take, drop, suc, subst, sym, arith, rules}
+use Rattle.std.proofs.Common.{◌∙◌, ◌∷◌, ◌++◌, [], List, ℕ, ap, map, take, drop, suc, subst, sym, arith, rules}
 use Rattle.std.specs.BTreeSet.{contains_text}
 use Rattle.edit_sources.specs.IndexCache.{index_of}
 use Rattle.url.specs.Parts.{serialize}

@@ -1,7 +1,4 @@
-use Rattle.std.proofs.Common.{◌∙◌, ap, Bool, List, ℕ, true}
-use Rattle.std.specs.Prelude.{if◌then◌else◌}
-use Rattle.std.specs.BTreeSet.{contains_text}
-use Rattle.std.specs.Str.{bytes_eq}
+use Rattle.std.proofs.Common.{true}
 use Rattle.std.proofs.lemmas.Map.Text.{btree_set_updates_text}
 use Rattle.cargo_edit.proofs.names.add_name.Goals as goal
 

@@ -1,4 +1,4 @@
-use Rattle.std.proofs.Common.{◌≡◌, ◌∙◌, List, ℕ, ap, subst}
+use Rattle.std.proofs.Common.{◌∙◌, List, ℕ, ap, subst}
 use Rattle.std.specs.Prelude.{map, option_copied, option_map}
 use Rattle.edit_record.specs.Selection.{IsCompatible, IsLatest}
 use Rattle.semver.specs.Identifiers.{parts_of}

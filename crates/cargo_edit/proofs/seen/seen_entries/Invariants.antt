@@ -1,8 +1,6 @@
-use Rattle.std.proofs.Common.{◌≡◌, ◌++◌, map}
+use Rattle.std.proofs.Common.{◌≡◌, map}
 use Rattle.std.specs.List.{filter_map}
-use Rattle.edit_document.specs.ItemViews.{keys_left, view_of}
 use Rattle.edit_document.specs.Shown.{tree_of}
-use Rattle.edit_document.specs.Items.{names_in}
 use Rattle.cargo_edit.specs.Found.{seen_of}
 use Rattle.cargo_edit.specs.Records.{seen_at}
 use Rattle.cargo_edit.proofs.seen.seen_entries.Given as goal

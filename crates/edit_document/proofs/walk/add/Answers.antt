@@ -1,7 +1,7 @@
-use Rattle.std.proofs.Common.{◌≡◌, ℕ, ◌<◌, ◌≤◌, ◌+◌, List, length, get_or, sym, ap, ◌∙◌, refl, arith}
+use Rattle.std.proofs.Common.{◌≡◌, ◌<◌, ◌≤◌, ◌+◌, length, sym, ◌∙◌, refl, arith}
 use Rattle.std.specs.Prelude.{string_bytes}
 use Rattle.edit_document.specs.Nodes.{shape_of}
-use Rattle.edit_document.proofs.Adding.{add_outside, add_stopped, add_done, may_take}
+use Rattle.edit_document.proofs.Adding.{add_outside, add_stopped, add_done}
 use Rattle.edit_document.proofs.walk.add.Goals as goal
 
 pub returns-then-number-count-clause-added : goal.returns-then-number-count-clause-added

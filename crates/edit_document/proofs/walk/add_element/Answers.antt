@@ -1,4 +1,4 @@
-use Rattle.std.proofs.Common.{◌≡◌, ℕ, ◌<◌, ◌≤◌, ◌+◌, List, length, get_or, sym, ap, ◌∙◌, refl, arith}
+use Rattle.std.proofs.Common.{◌≡◌, ◌<◌, ◌≤◌, ◌+◌, length, sym, ◌∙◌, refl, arith}
 use Rattle.edit_document.specs.Nodes.{shape_of}
 use Rattle.edit_document.proofs.AddingElements.{element_outside, element_stopped, element_done}
 use Rattle.edit_document.proofs.walk.add_element.Goals as goal

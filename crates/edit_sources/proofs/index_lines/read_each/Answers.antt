@@ -14,7 +14,7 @@ more : (xs : List (Bor (List ℕ))) (i : ℕ) (d : Bor (List ℕ)) → i < lengt
 more xs i d h = rw (take_more xs i d h) (map-append (λ (x : Bor (List ℕ)). x.now) (take i xs) (get_or xs i d ∷ []))
 
 pub loop-i-init : goal.loop-i-init
-loop-i-init c = subst (λ zs. LinesSay [] (map entry_of zs)) (sym c.new-entries.ensures.items) none
+loop-i-init c = subst (λ zs. LinesSay [] (map entry_of zs)) (sym c.in_ok-entries.ensures.items) none
 
 pub loop-i-preserved-then-blank : goal.loop-i-preserved-then-blank
 loop-i-preserved-then-blank c =

@@ -1,4 +1,4 @@
-use Rattle.std.proofs.Common.{◌≡◌, ℕ, List, ap, sym, ◌∙◌, length}
+use Rattle.std.proofs.Common.{sym, ◌∙◌}
 use Rattle.edit_document.proofs.Views.{opened, within, found, count_scalar, count_array, count_tabular}
 use Rattle.edit_document.proofs.document.Document.count.Goals as goal
 

@@ -1,4 +1,4 @@
-use Rattle.std.proofs.Common.{◌≡◌, ℕ, List, ap, ◌∙◌}
+use Rattle.std.proofs.Common.{ℕ, List, ap, ◌∙◌}
 use Rattle.std.specs.Prelude.{slice_get}
 use Rattle.edit_document.proofs.Views.{opened, within, found, element_here, read_at}
 use Rattle.edit_document.proofs.document.Document.element.Goals as goal

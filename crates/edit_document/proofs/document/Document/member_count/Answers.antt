@@ -1,4 +1,4 @@
-use Rattle.std.proofs.Common.{◌≡◌, ℕ, List, ap, sym, ◌∙◌, length}
+use Rattle.std.proofs.Common.{ap, sym, ◌∙◌, length}
 use Rattle.std.proofs.lemmas.List.{length-map}
 use Rattle.std.specs.Prelude.{string_bytes}
 use Rattle.edit_document.proofs.Views.{opened, within, found, names_nameless, names_tabular}

@@ -1,9 +1,8 @@
-use Rattle.std.proofs.Common.{◌≡◌, ℕ, List, Option, None, length, take, ap, sym, ◌∙◌, subst, arith}
+use Rattle.std.proofs.Common.{◌≡◌, ℕ, List, Option, None, ap, sym, ◌∙◌, subst}
 use Rattle.std.proofs.lemmas.List.{take_all}
 use Rattle.edit_document.specs.declared.place.Step.{Step as WrittenStep}
-use Rattle.edit_document.specs.Assertions.{Step, key, Place, at}
+use Rattle.edit_document.specs.Assertions.{key, at}
 use Rattle.edit_document.specs.Shown.{tree_of}
-use Rattle.edit_document.specs.Tree.{View}
 use Rattle.edit_document.specs.Items.{place_numbered, place_seen, step_seen, Numbers}
 use Rattle.edit_document.proofs.Views.{walk_none}
 use Rattle.edit_document.proofs.document.Document.number.Goals as goal

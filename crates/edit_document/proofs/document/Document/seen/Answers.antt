@@ -1,10 +1,7 @@
-use Rattle.std.proofs.Common.{◌≡◌, ℕ, List, [], Bool, ap, sym, ◌∙◌, refl, Some, None, length, option_map, slice_get, arith}
-use Rattle.std.proofs.lemmas.List.{length-map}
-use Rattle.std.specs.Borrow.{Bor}
-use Rattle.std.specs.Prelude.{string_bytes}
+use Rattle.std.proofs.Common.{refl}
 use Rattle.edit_document.specs.declared.nodes.Content.TheVariants as content
 use Rattle.edit_document.specs.declared.document.Seen.TheVariants as seen
-use Rattle.edit_document.proofs.Views.{opened, within, found, member_here, names_nameless, names_tabular, names_of_node, name_some, name_none, shows}
+use Rattle.edit_document.proofs.Views.{opened, within, found, shows}
 use Rattle.edit_document.proofs.document.Document.seen.Goals as goal
 
 pub index-node-requires : goal.index-node-requires

@@ -1,4 +1,4 @@
-use Rattle.std.proofs.Common.{◌≡◌, ℕ, ◌<◌, List, Some, None, ap, sym, ◌∙◌, refl, length, arith}
+use Rattle.std.proofs.Common.{◌≡◌, ◌<◌, Some, ap, sym, ◌∙◌, refl, length, arith}
 use Rattle.edit_document.specs.Walk.{last_of, without_last}
 use Rattle.edit_document.proofs.WalkedTokens.{last_push}
 use Rattle.edit_document.proofs.Walking.{without_push, goes_closed, closed_bare}

@@ -1,4 +1,4 @@
-use Rattle.std.proofs.Common.{◌≡◌, ℕ, List, Some, None, ap, sym, ◌∙◌, refl, length, slice_get}
+use Rattle.std.proofs.Common.{Some, None, ap, sym, ◌∙◌}
 use Rattle.std.specs.Prelude.{string_bytes, option_map}
 use Rattle.edit_document.specs.Nodes.{shape_of}
 use Rattle.edit_document.specs.Walk.{last_of}

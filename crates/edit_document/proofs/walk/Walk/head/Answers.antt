@@ -1,4 +1,4 @@
-use Rattle.std.proofs.Common.{◌≡◌, ℕ, List, Bool, true, Some, None, ap, sym, ◌∙◌, refl, subst, length, ◌++◌, ◌∷◌, [], arith}
+use Rattle.std.proofs.Common.{◌≡◌, ℕ, List, Bool, true, None, ap, sym, ◌∙◌, subst, length, ◌++◌, ◌∷◌, []}
 use Rattle.std.specs.Prelude.{string_bytes, option_map}
 use Rattle.edit_document.specs.Nodes.{section}
 use Rattle.edit_document.specs.Walk.{added}

@@ -1,4 +1,4 @@
-use Rattle.std.proofs.Common.{◌≡◌, ℕ, List, Bool, true, Some, None, ap, sym, ◌∙◌, refl, subst, length, arith}
+use Rattle.std.proofs.Common.{◌≡◌, Bool, Some, ◌∙◌, refl, subst, length}
 use Rattle.edit_document.specs.Nodes.{shape_of}
 use Rattle.edit_document.specs.Walk.{entered}
 use Rattle.edit_document.specs.WalkState.{Goes}

@@ -1,4 +1,4 @@
-use Rattle.std.proofs.Common.{◌≡◌, ℕ, List, true, Option, Some, None, ap, sym, ◌∙◌, refl, subst}
+use Rattle.std.proofs.Common.{◌≡◌, Option, Some, ap, sym, ◌∙◌, refl, subst}
 use Rattle.std.specs.Prelude.{IfOk, string_bytes}
 use Rattle.edit_document.specs.declared.read.marks.MarkKind.TheVariants as kinds
 use Rattle.edit_document.specs.Nodes.{Shape, shape_of, shape_said}
@@ -43,4 +43,4 @@ returns-in-CloseArray-clause-goes c st w token =
 
 pub returns-in_default-clause-goes : goal.returns-in_default-clause-goes
 returns-in_default-clause-goes c st w token =
-    other_step c.args.text.now c.args.mark st c.args.mark.kind refl c.in_default.not-BarePart c.in_default.not-BasicPart c.in_default.not-LiteralPart c.in_default.not-BasicString c.in_default.not-LiteralString c.in_default.not-True c.in_default.not-False c.in_default.not-OpenTable c.in_default.not-CloseTable c.in_default.not-Header c.in_default.not-Integer c.in_default.not-Float c.in_default.not-DateTime c.in_default.not-OpenArray c.in_default.not-CloseArray
+    other_step c.args.text.now c.args.mark st c.args.mark.kind refl c.in_default.not-BarePart c.in_default.not-BasicPart c.in_default.not-LiteralPart c.in_default.not-BasicString c.in_default.not-LiteralString c.in_default.not-True c.in_default.not-False c.in_default.not-OpenTable c.in_default.not-CloseTable c.in_default.not-Header c.in_default.not-Integer c.in_default.not-Float c.in_default.not-DateTime c.in_default.not-MultiBasicString c.in_default.not-MultiLiteralString c.in_default.not-OpenArray c.in_default.not-CloseArray
