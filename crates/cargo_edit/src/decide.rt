@@ -239,14 +239,7 @@ fn decide_by(
             if options.compatible {
                 return Ok(take(old, text, Change::Compatible, held));
             }
-            keep(
-                alloc,
-                old,
-                match held {
-                    Some(why) => why,
-                    None => Reason::Compatible,
-                },
-            )
+            keep(alloc, old, held.unwrap_or(Reason::Compatible))
         }
         None => keep(alloc, old, why_same(held)),
     }
