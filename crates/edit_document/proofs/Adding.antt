@@ -1,279 +1,282 @@
--- A member more, in the spots and in the nodes that keep them.
-use Rattle.std.proofs.Common.{◌≡◌, ℕ, zero, suc, ◌+◌, ◌-◌, ◌<◌, ◌≤◌, ◌≢◌, Bool, true, false, cond, ◌||◌, not, List, [], ◌∷◌, ◌++◌, length, get_or, Option, Some, None, is_some, refl, sym, ap, subst, ◌∙◌, ◌⊎◌, inl, inr, arith, String, Global}
-use Rattle.std.specs.Prelude.{map, slice_get, slice_set, option_map, string_bytes, nat_le, nat_eq}
-use Rattle.std.specs.List.{list_any}
+-- What assertions make of spots and of the nodes that keep them.
+use Rattle.std.proofs.Common.{◌≡◌, ℕ, zero, suc, ◌+◌, ◌<◌, ◌≤◌, true, false, cond, List, [], ◌∷◌, ◌++◌, length, drop, get_or, Option, Some, None, refl, sym, ap, subst, ◌∙◌, ◌⊎◌, inl, inr, arith, String, Global}
+use Rattle.std.specs.Prelude.{map, slice_get, slice_set, string_bytes, nat_le, unwrap_or}
 use Rattle.std.specs.Map.{lookup}
 use Rattle.std.specs.Str.{bytes_eq}
 use Rattle.std.proofs.lemmas.Bool.{cases_lt}
+use Rattle.std.proofs.lemmas.Bool.Decides.{nat_tests}
 use Rattle.std.proofs.lemmas.List.{length-set, length_push, map-append}
 use Rattle.std.proofs.lemmas.Option.{slice_get_past, slice_get_read, slice_get_within, same_Some}
-use Rattle.std.proofs.lemmas.Slice.Eq.{bytes_eq-Decides}
 use Rattle.std.specs.String.{string_eq}
 use Rattle.indexmap.specs.IndexMap.{get_by_text, insert_entry}
 use Rattle.indexmap.proofs.CallerLemmas.{insert_entry-new}
 use Rattle.edit_document.specs.declared.nodes.Node.{Node}
 use Rattle.edit_document.specs.declared.nodes.Span.{Span}
 use Rattle.edit_document.specs.declared.nodes.Content.{Content}
-use Rattle.edit_document.specs.Assertions.{key, Place, at}
-use Rattle.edit_document.specs.Nodes.{Shape, Spot, shape_of, StandsAt, Keeps, Holds}
-use Rattle.edit_document.specs.Walk.{has_name, with_name, added}
-use Rattle.edit_document.proofs.Views.{names_of_node, spot_at, slice_get_same}
+use Rattle.edit_document.specs.declared.nodes.Taken.{Taken}
+use Rattle.edit_document.specs.declared.nodes.Taken.TheVariants.{Dotted, Value, Super, Header, Array, Element}
+use Rattle.edit_document.specs.Assertions.{key, index, Place, at}
+use Rattle.edit_document.specs.Reading.{◌>>=◌}
+use Rattle.edit_document.specs.Taking.{joins, stronger}
+use Rattle.edit_document.specs.Nodes.{Shape, section, Spot, shape_of, Keeps, Holds, below}
+use Rattle.edit_document.specs.Walk.{last_table, spot_at, child, target_of, with_taken, taken_again, with_member, with_element, added, element_added, asserted_at, asserted, numbered, reached}
+use Rattle.edit_document.specs.WalkState.{Adds, Puts}
+use Rattle.edit_document.proofs.ListElements.{OneMore, OneSet, changed, drop_from, equal_or, get_front, get_last, get_set_other, get_set_same, in_push, in_set, newest, other, slice_get_same, stood}
 
--- ---- elements of lists
+-- ---- nodes and spots
 
-pub get_front : {X : Type 0} (xs ys : List X) (i : ℕ) → i < length xs → slice_get (xs ++ ys) i ≡ slice_get xs i
-get_front [] ys i lt = absurd (omega arith)
-get_front (x ∷ xs) ys zero lt = refl
-get_front (x ∷ xs) ys (suc i) lt = get_front xs ys i (omega arith)
-
-pub get_last : {X : Type 0} (xs : List X) (y : X) → slice_get (xs ++ y ∷ []) (length xs) ≡ Some y
-get_last [] y = refl
-get_last (x ∷ xs) y = get_last xs y
-
-pub get_set_same : {X : Type 0} (xs : List X) (i : ℕ) (y : X) → i < length xs → slice_get (slice_set xs i y) i ≡ Some y
-get_set_same [] i y lt = absurd (omega arith)
-get_set_same (x ∷ xs) zero y lt = refl
-get_set_same (x ∷ xs) (suc i) y lt = get_set_same xs i y (omega arith)
-
-pub get_set_other : {X : Type 0} (xs : List X) (i j : ℕ) (y : X) → (j ≡ i → ⊥) → slice_get (slice_set xs i y) j ≡ slice_get xs j
-get_set_other [] i j y ne = refl
-get_set_other (x ∷ xs) zero zero y ne = absurd (ne refl)
-get_set_other (x ∷ xs) zero (suc j) y ne = refl
-get_set_other (x ∷ xs) (suc i) zero y ne = refl
-get_set_other (x ∷ xs) (suc i) (suc j) y ne = get_set_other xs i j y (λ e. ne (ap suc e))
-
--- an element of a list with one changed and one more: the changed one, another one, or the last
-pub data Place3 {X : Type 0} (xs : List X) (t : ℕ) (new last : X) (i : ℕ) (x : X) : Type 0 where
-  changed : i ≡ t → x ≡ new → Place3 xs t new last i x
-  other : (i ≡ t → ⊥) → slice_get xs i ≡ Some x → Place3 xs t new last i x
-  newest : i ≡ length xs → x ≡ last → Place3 xs t new last i x
-
-equal_or : (i j : ℕ) → (i ≡ j) ⊎ (i ≡ j → ⊥)
-equal_or i j = elim (cases_lt i j) [ inl a ↦ inr (λ e. absurd (omega arith)) | inr a ↦ elim (cases_lt j i) [ inl b ↦ inr (λ e. absurd (omega arith)) | inr b ↦ inl (omega arith) ] ]
-
-pub locate : {X : Type 0} (xs : List X) (t : ℕ) (new last : X) (i : ℕ) (x : X) → t < length xs → slice_get (slice_set xs t new ++ last ∷ []) i ≡ Some x → Place3 xs t new last i x
-locate xs t new last i x lt e =
-    let size : length (slice_set xs t new) ≡ length xs = length-set xs t new in
-    elim (cases_lt i (length xs)) [
-      | inl a ↦
-          let front = get_front (slice_set xs t new) (last ∷ []) i (omega arith) in
-          elim (equal_or i t) [
-            | inl same ↦ changed same (same_Some x new (sym e ∙ front ∙ ap (slice_get (slice_set xs t new)) same ∙ get_set_same xs t new lt))
-            | inr ne ↦ other ne (sym (get_set_other xs t i new ne) ∙ sym front ∙ e)
-          ]
-      | inr a ↦
-          let within = slice_get_within (slice_set xs t new ++ last ∷ []) i x e in
-          let more : length (slice_set xs t new ++ last ∷ []) ≡ length (slice_set xs t new) + 1 = length_push (slice_set xs t new) last in
-          let here : i ≡ length xs = omega arith in
-          newest here (same_Some x last (sym e ∙ ap (slice_get (slice_set xs t new ++ last ∷ [])) (here ∙ sym size) ∙ get_last (slice_set xs t new) last))
-    ]
-
--- ---- whether a member may be added
-
-pub has_names : {A X : Type 0} (bytes : A → List ℕ) (es : List (A × X)) (name : List ℕ) → list_any (λ n. bytes_eq name n) (map (λ e. bytes e.0) es) ≡ is_some (lookup (λ a. bytes_eq name (bytes a)) es)
-has_names bytes [] name = refl
-has_names bytes (e ∷ es) name = go (bytes_eq name (bytes e.0)) (has_names bytes es name)
+pub holds_set : (nodes : List Node) (spots : List Spot) (t : ℕ) (new : Node) (s : Spot) → Holds nodes spots → t < length nodes → Keeps new s → Holds (slice_set nodes t new) (slice_set spots t s)
+holds_set nodes spots t new s holds lt keeps = record {
+  len = length-set nodes t new ∙ holds.len ∙ sym (length-set spots t s);
+  each = λ i node spot a b. go i node spot (in_set nodes t new i node lt a) (in_set spots t s i spot (let l = holds.len in omega arith) b);
+}
   where
-    go : (b : Bool) → list_any (λ n. bytes_eq name n) (map (λ e. bytes e.0) es) ≡ is_some (lookup (λ a. bytes_eq name (bytes a)) es)
-        → (b || list_any (λ n. bytes_eq name n) (map (λ e. bytes e.0) es)) ≡ is_some (cond b (Some e.1) (lookup (λ a. bytes_eq name (bytes a)) es))
-    go true ih = refl
-    go false ih = ih
+    go : (i : ℕ) (node : Node) (spot : Spot) → OneSet nodes t new i node → OneSet spots t s i spot → Keeps node spot
+    go i node spot (changed a e) (changed b f) = subst (λ (y : Spot). Keeps node y) (sym f) (subst (λ (y : Node). Keeps y s) (sym e) keeps)
+    go i node spot (changed a e) (other b f) = absurd (b a)
+    go i node spot (other a e) (changed b f) = absurd (a b)
+    go i node spot (other a e) (other b f) = holds.each i node spot e f
 
-pub refused_at : {spots : List Spot} {node : Node} {s : Spot} (name : List ℕ) → Keeps spots node s → (has_name s.names name || nat_le 80 (length s.place)) ≡ (is_some (get_by_text node.members name) || nat_le 80 node.steps)
-refused_at {spots} {node} {s} name k =
-    ap (λ (b : Bool). b || nat_le 80 (length s.place)) (ap (λ (ns : List (List ℕ)). has_name ns name) (sym k.names) ∙ has_names string_bytes node.members.entries name)
-    ∙ ap (λ (n : ℕ). is_some (get_by_text node.members name) || nat_le 80 n) (sym k.steps)
+pub holds_push : (nodes : List Node) (spots : List Spot) (last : Node) (s : Spot) → Holds nodes spots → Keeps last s → Holds (nodes ++ last ∷ []) (spots ++ s ∷ [])
+holds_push nodes spots last s holds keeps = record {
+  len = length_push nodes last ∙ ap (λ (n : ℕ). n + 1) holds.len ∙ sym (length_push spots s);
+  each = λ i node spot a b. go i node spot (in_push nodes last i node a) (in_push spots s i spot b);
+}
+  where
+    go : (i : ℕ) (node : Node) (spot : Spot) → OneMore nodes last i node → OneMore spots s i spot → Keeps node spot
+    go i node spot (stood a e) (stood b f) = holds.each i node spot e f
+    go i node spot (stood a e) (newest b f) = absurd (let l = holds.len in omega arith)
+    go i node spot (newest a e) (stood b f) = absurd (let l = holds.len in omega arith)
+    go i node spot (newest a e) (newest b f) = subst (λ (y : Spot). Keeps node y) (sym f) (subst (λ (y : Node). Keeps y s) (sym e) keeps)
 
-pub added_past : (spots : List Spot) (t : ℕ) (name : List ℕ) (shape : Shape) (span : Option Span) → length spots ≤ t → added spots t name shape span ≡ None
+pub spot_of_node : (nodes : List Node) (spots : List Spot) (n : ℕ) (node : Node) → length nodes ≡ length spots → slice_get nodes n ≡ Some node → (s : Spot) × (slice_get spots n ≡ Some s)
+spot_of_node [] [] n node l e = absurd cc
+spot_of_node [] (s ∷ ss) n node l e = absurd cc
+spot_of_node (x ∷ xs) [] n node l e = absurd (omega arith)
+spot_of_node (x ∷ xs) (s ∷ ss) zero node l e = (s, refl)
+spot_of_node (x ∷ xs) (s ∷ ss) (suc n) node l e = spot_of_node xs ss n node (omega arith) e
+
+-- the node of a number that is read, and its spot
+pub record Kept (nodes : List Node) (spots : List Spot) (t : ℕ) (node : Node) : Type 0 where
+  pub stands : slice_get nodes t ≡ Some node
+  pub spot : Spot
+  pub spot_is : slice_get spots t ≡ Some spot
+  pub keeps : Keeps node spot
+
+pub kept_at : (nodes : List Node) (spots : List Spot) (t : ℕ) (node : Node) → Holds nodes spots → t < length nodes → node ≡ get_or nodes t node → Kept nodes spots t node
+kept_at nodes spots t node holds lt is =
+    let there = slice_get_read nodes (length nodes) t node refl lt is in
+    let s = spot_of_node nodes spots t node holds.len there in
+    record { stands = there; spot = s.0; spot_is = s.1; keeps = holds.each t node s.0 there s.1 }
+
+-- ---- a place that is taken again
+
+pub again_past : (nodes : List Node) (spots : List Spot) (t : ℕ) (taken : Taken) → Holds nodes spots → length nodes ≤ t → taken_again spots t taken ≡ None
+unfolding taken_again
+again_past nodes spots t taken holds le = rw (slice_get_past spots t (let l = holds.len in omega arith)) refl
+
+pub again_stopped : (nodes : List Node) (spots : List Spot) (t : ℕ) (node : Node) (taken : Taken) → Holds nodes spots → t < length nodes → node ≡ get_or nodes t node → joins node.taken taken ≡ false → taken_again spots t taken ≡ None
+unfolding taken_again
+again_stopped nodes spots t node taken holds lt is refusal =
+    let k = kept_at nodes spots t node holds lt is in
+    let test : joins k.spot.taken taken ≡ false = ap (λ (b : Taken). joins b taken) (sym k.keeps.taken) ∙ refusal in
+    rw (k.spot_is, test) refl
+
+pub again_done : (nodes : List Node) (spots : List Spot) (t : ℕ) (node old : Node) (taken now : Taken) → Holds nodes spots → t < length nodes → node ≡ get_or nodes t node → old ≡ get_or nodes t old → joins node.taken taken ≡ true → now ≡ stronger node.taken taken
+    → Adds (slice_set nodes t (record old { taken = now })) (taken_again spots t taken) true
+unfolding taken_again
+again_done nodes spots t node old taken now holds lt is was granted strong =
+    let k = kept_at nodes spots t node holds lt is in
+    let one : old ≡ node = same_Some old node (sym (slice_get_read nodes (length nodes) t old refl lt was) ∙ k.stands) in
+    let test : joins k.spot.taken taken ≡ true = ap (λ (b : Taken). joins b taken) (sym k.keeps.taken) ∙ granted in
+    let keeps : Keeps (record old { taken = now }) (with_taken k.spot taken) =
+    subst (λ (n : Node). Keeps (record n { taken = now }) (with_taken k.spot taken)) (sym one)
+    (record { shape = k.keeps.shape; taken = strong ∙ ap (λ (b : Taken). stronger b taken) k.keeps.taken; steps = k.keeps.steps; members = k.keeps.members; elements = k.keeps.elements; span = k.keeps.span }) in
+    (slice_set spots t (with_taken k.spot taken), rw (k.spot_is, test) refl, holds_set nodes spots t (record old { taken = now }) (with_taken k.spot taken) holds lt keeps)
+
+-- ---- members by name
+
+lookup_seen : {X : Type 0} (es : List (String Global × X)) (name : List ℕ) → lookup (λ n. bytes_eq name n) (map (λ e. (string_bytes e.0, e.1)) es) ≡ lookup (λ a. bytes_eq name (string_bytes a)) es
+lookup_seen [] name = refl
+lookup_seen {X} (e ∷ es) name = ap (λ (o : Option X). cond (bytes_eq name (string_bytes e.0)) (Some e.1) o) (lookup_seen es name)
+
+pub below_node : (node : Node) (s : Spot) (name : List ℕ) → Keeps node s → below s (key name) ≡ get_by_text node.members name
+below_node node s name k = ap (lookup (λ n. bytes_eq name n)) (sym k.members) ∙ lookup_seen node.members.entries name
+
+pub child_past : (nodes : List Node) (spots : List Spot) (t : ℕ) (name : List ℕ) → Holds nodes spots → length nodes ≤ t → child spots t name ≡ None
+unfolding child
+child_past nodes spots t name holds le = rw (slice_get_past spots t (let l = holds.len in omega arith)) refl
+
+pub child_is : (spots : List Spot) (t : ℕ) (s : Spot) (name : List ℕ) → slice_get spots t ≡ Some s → child spots t name ≡ below s (key name)
+unfolding child
+child_is spots t s name e = rw e refl
+
+pub child_found : (nodes : List Node) (spots : List Spot) (t : ℕ) (node : Node) (name : List ℕ) → Holds nodes spots → t < length nodes → node ≡ get_or nodes t node → child spots t name ≡ get_by_text node.members name
+child_found nodes spots t node name holds lt is =
+    let k = kept_at nodes spots t node holds lt is in
+    child_is spots t k.spot name k.spot_is ∙ below_node node k.spot name k.keeps
+
+-- ---- targets
+
+pub target_past : (nodes : List Node) (spots : List Spot) (t : ℕ) → Holds nodes spots → length nodes ≤ t → target_of spots t Super ≡ t
+unfolding target_of
+target_past nodes spots t holds le = rw (slice_get_past spots t (let l = holds.len in omega arith)) refl
+
+pub target_is : (spots : List Spot) (t : ℕ) (s : Spot) → slice_get spots t ≡ Some s → target_of spots t Super ≡ unwrap_or (last_table s.shape s.elements) t
+unfolding target_of
+target_is spots t s e = rw e refl
+
+pub target_found : (nodes : List Node) (spots : List Spot) (t : ℕ) (node : Node) → Holds nodes spots → t < length nodes → node ≡ get_or nodes t node → target_of spots t Super ≡ unwrap_or (last_table (shape_of node.content) node.elements.items) t
+target_found nodes spots t node holds lt is =
+    let k = kept_at nodes spots t node holds lt is in
+    target_is spots t k.spot k.spot_is ∙ ap (λ (x : Shape). unwrap_or (last_table x k.spot.elements) t) (sym k.keeps.shape) ∙ ap (λ (ns : List ℕ). unwrap_or (last_table (shape_of node.content) ns) t) (sym k.keeps.elements)
+
+pub target_other : (spots : List Spot) (t : ℕ) (taken : Taken) → (taken ≡ Super → ⊥) → target_of spots t taken ≡ t
+unfolding target_of
+target_other spots t Super ne = absurd (ne refl)
+target_other spots t Dotted ne = refl
+target_other spots t Value ne = refl
+target_other spots t Header ne = refl
+target_other spots t Array ne = refl
+target_other spots t Element ne = refl
+
+-- ---- a member more, and an element more
+
+pub deepest : (n : ℕ) → nat_le 80 n ≡ true → 80 ≤ n
+deepest n e = grind (arith, nat_tests)
+
+pub not_deepest : (n : ℕ) → nat_le 80 n ≡ false → n < 80
+not_deepest n e = grind (arith, nat_tests)
+
+pub added_past : (nodes : List Node) (spots : List Spot) (t : ℕ) (name : List ℕ) (shape : Shape) (taken : Taken) (span : Option Span) → Holds nodes spots → length nodes ≤ t → added spots t name shape taken span ≡ None
 unfolding added
-added_past spots t name shape span le = rw (slice_get_past spots t le) refl
+added_past nodes spots t name shape taken span holds le = rw (slice_get_past spots t (let l = holds.len in omega arith)) refl
 
-abbrev pub new_spot : Spot → List ℕ → Shape → Option Span → Spot
-new_spot s name shape span = record { place = at s.place (key name); shape = shape; names = []; span = span }
-
-pub added_refused : (spots : List Spot) (t : ℕ) (name : List ℕ) (shape : Shape) (span : Option Span) (s : Spot) → slice_get spots t ≡ Some s → (has_name s.names name || nat_le 80 (length s.place)) ≡ true → added spots t name shape span ≡ None
+pub added_long : (spots : List Spot) (t : ℕ) (name : List ℕ) (shape : Shape) (taken : Taken) (span : Option Span) (s : Spot) → slice_get spots t ≡ Some s → 80 ≤ length s.place → added spots t name shape taken span ≡ None
 unfolding added
-added_refused spots t name shape span s e clash = rw (e, clash) refl
+added_long spots t name shape taken span s e le = let test : nat_le 80 (length s.place) ≡ true = grind (arith, nat_tests) in rw (e, test) refl
 
-pub added_made : (spots : List Spot) (t : ℕ) (name : List ℕ) (shape : Shape) (span : Option Span) (s : Spot) → slice_get spots t ≡ Some s → (has_name s.names name || nat_le 80 (length s.place)) ≡ false
-    → added spots t name shape span ≡ Some (slice_set spots t (with_name s name) ++ new_spot s name shape span ∷ [])
+pub added_made : (spots : List Spot) (t : ℕ) (name : List ℕ) (shape : Shape) (taken : Taken) (span : Option Span) (s : Spot) → slice_get spots t ≡ Some s → length s.place < 80
+    → added spots t name shape taken span ≡ Some (slice_set spots t (with_member s name (length spots)) ++ spot_at (at s.place (key name)) shape taken span ∷ [], length spots)
 unfolding added
-added_made spots t name shape span s e free = rw (e, free) refl
+added_made spots t name shape taken span s e lt = let test : nat_le 80 (length s.place) ≡ false = grind (arith, nat_tests) in rw (e, test) refl
 
--- ---- the nodes keep the new spots
+pub add_stopped : (nodes : List Node) (spots : List Spot) (t : ℕ) (node : Node) (name : List ℕ) (shape : Shape) (taken : Taken) (span : Option Span) → Holds nodes spots → t < length nodes → node ≡ get_or nodes t node → 80 ≤ node.steps
+    → added spots t name shape taken span ≡ None
+add_stopped nodes spots t node name shape taken span holds lt is le =
+    let k = kept_at nodes spots t node holds lt is in
+    added_long spots t name shape taken span k.spot k.spot_is (let e = k.keeps.steps in omega arith)
 
--- what stood still stands
-stands_on : (spots : List Spot) (t : ℕ) (s : Spot) (name : List ℕ) (x : Spot) → slice_get spots t ≡ Some s → (n : ℕ) (place : Place) → StandsAt spots n place → StandsAt (slice_set spots t (with_name s name) ++ x ∷ []) n place
-stands_on spots t s name x e n place h =
-    let lt = slice_get_within spots n h.0 h.1 in
-    let lt2 = slice_get_within spots t s e in
-    let size : length (slice_set spots t (with_name s name)) ≡ length spots = length-set spots t (with_name s name) in
-    let front = get_front (slice_set spots t (with_name s name)) (x ∷ []) n (omega arith) in
-    elim (equal_or n t) [
-      | inl same ↦
-          let was : h.0 ≡ s = same_Some h.0 s (sym h.1 ∙ ap (slice_get spots) same ∙ e) in
-          (with_name s name, front ∙ ap (slice_get (slice_set spots t (with_name s name))) same ∙ get_set_same spots t (with_name s name) lt2, ap (λ (y : Spot). y.place) (sym was) ∙ h.2)
-      | inr ne ↦ (h.0, front ∙ get_set_other spots t n (with_name s name) ne ∙ h.1, h.2)
-    ]
-
--- a node with a member more
-pub record Gains (old new : Node) (name : List ℕ) (count : ℕ) : Type 0 where
+-- a node into whose members a key was inserted, where none of its name was
+pub record Inserted (old new : Node) (key : String Global) (count : ℕ) : Type 0 where
   pub content : new.content ≡ old.content
+  pub taken : new.taken ≡ old.taken
   pub steps : new.steps ≡ old.steps
   pub span : new.span ≡ old.span
-  pub key : String Global
-  pub said : string_bytes key ≡ name
-  pub entries : new.members.entries ≡ old.members.entries ++ (key, count) ∷ []
+  pub elements : new.elements ≡ old.elements
+  pub entries : new.members.entries ≡ insert_entry string_eq old.members.entries key count
 
 -- a node without members, one step below another
-pub record Starts (new : Node) (content : Content) (steps : ℕ) (span : Option Span) : Type 0 where
+pub record Starts (new : Node) (content : Content) (taken : Taken) (steps : ℕ) (span : Option Span) : Type 0 where
   pub content_is : new.content ≡ content
+  pub taken_is : new.taken ≡ taken
   pub steps_are : new.steps ≡ steps + 1
   pub span_is : new.span ≡ span
   pub empty : new.members.entries ≡ []
+  pub none : new.elements.items ≡ []
 
-lookup_push : {A X : Type 0} (test : A → Bool) (es : List (A × X)) (e : A × X) (v : X) → lookup test (es ++ e ∷ []) ≡ Some v → (lookup test es ≡ Some v) ⊎ ((test e.0 ≡ true) × (e.1 ≡ v))
-lookup_push {A} {X} test [] e v h = go (test e.0) refl h
-  where
-    go : (b : Bool) → test e.0 ≡ b → cond b (Some e.1) None ≡ Some v → (lookup {X = X} test [] ≡ Some v) ⊎ ((test e.0 ≡ true) × (e.1 ≡ v))
-    go true t k = inr (t, same_Some e.1 v k)
-    go false t k = absurd cc
-lookup_push {A} {X} test (d ∷ es) e v h = go (test d.0) h (lookup_push test es e v)
-  where
-    go : (b : Bool) → cond b (Some d.1) (lookup test (es ++ e ∷ [])) ≡ Some v → (lookup test (es ++ e ∷ []) ≡ Some v → (lookup test es ≡ Some v) ⊎ ((test e.0 ≡ true) × (e.1 ≡ v)))
-        → (cond b (Some d.1) (lookup test es) ≡ Some v) ⊎ ((test e.0 ≡ true) × (e.1 ≡ v))
-    go true k ih = inl k
-    go false k ih = ih k
+starts_keeps : (new : Node) (content : Content) (taken : Taken) (steps : ℕ) (span : Option Span) (place : Place) → Starts new content taken steps span → length place ≡ steps + 1 → Keeps new (spot_at place (shape_of content) taken span)
+starts_keeps new content taken steps span place h e = record {
+  shape = ap shape_of h.content_is;
+  taken = h.taken_is;
+  steps = h.steps_are ∙ sym e;
+  members = ap (map (λ (e : String Global × ℕ). (string_bytes e.0, e.1))) h.empty;
+  elements = h.none;
+  span = h.span_is;
+}
 
-module _ (nodes : List Node) (spots : List Spot) (t : ℕ) (old new last : Node) (s : Spot) (name : List ℕ) (content : Content) (span : Option Span)
-    (holds : Holds nodes spots) (at_node : slice_get nodes t ≡ Some old) (at_spot : slice_get spots t ≡ Some s)
-    (gains : Gains old new name (length nodes)) (starts : Starts last content old.steps span) where
-  abbrev spots2 : List Spot
-  spots2 = slice_set spots t (with_name s name) ++ new_spot s name (shape_of content) span ∷ []
-
-  keeps : Keeps spots old s
-  keeps = holds.each t old s at_node at_spot
-
-  below_new : (q : List ℕ) (n : ℕ) → get_by_text new.members q ≡ Some n → StandsAt spots2 n (at s.place (key q))
-  below_new q n some =
-      elim (lookup_push (λ (a : String Global). bytes_eq q (string_bytes a)) old.members.entries (gains.key, length nodes) n (ap (lookup (λ (a : String Global). bytes_eq q (string_bytes a))) (sym gains.entries) ∙ some)) [
-        | inl was ↦ stands_on spots t s name (new_spot s name (shape_of content) span) at_spot n (at s.place (key q)) (keeps.below q n was)
-        | inr h ↦
-            let same : q ≡ name = (bytes_eq-Decides q (string_bytes gains.key)).0 h.0 ∙ gains.said in
-            let here : n ≡ length spots = sym h.1 ∙ holds.len in
-            let size : length (slice_set spots t (with_name s name)) ≡ length spots = length-set spots t (with_name s name) in
-            (new_spot s name (shape_of content) span, ap (slice_get spots2) (here ∙ sym size) ∙ get_last (slice_set spots t (with_name s name)) (new_spot s name (shape_of content) span), ap (λ (m : List ℕ). at s.place (key m)) (sym same))
-      ]
-
-  keeps_new : Keeps spots2 new (with_name s name)
-  keeps_new = record {
-    shape = ap shape_of gains.content ∙ keeps.shape;
-    names =
-        ap (map (λ (e : String Global × ℕ). string_bytes e.0)) gains.entries ∙ map-append (λ (e : String Global × ℕ). string_bytes e.0) old.members.entries ((gains.key, length nodes) ∷ [])
-        ∙ ap (λ (m : List ℕ). names_of_node old ++ m ∷ []) gains.said ∙ ap (λ (ns : List (List ℕ)). ns ++ name ∷ []) keeps.names;
-    steps = gains.steps ∙ keeps.steps;
-    span = gains.span ∙ keeps.span;
-    below = below_new;
-  }
-
-  keeps_last : Keeps spots2 last (new_spot s name (shape_of content) span)
-  keeps_last = record {
-    shape = ap shape_of starts.content_is;
-    names = ap (map (λ (e : String Global × ℕ). string_bytes e.0)) starts.empty;
-    steps = starts.steps_are ∙ (let l : length (s.place ++ key name ∷ []) ≡ length s.place + 1 = length_push s.place (key name) in let k = keeps.steps in omega arith);
-    span = starts.span_is;
-    below = λ q n some. absurd (let none : None ≡ Some n = sym (ap (lookup (λ (a : String Global). bytes_eq q (string_bytes a))) starts.empty) ∙ some in cc);
-  }
-
-  keeps_other : (i : ℕ) (node : Node) (spot : Spot) → slice_get nodes i ≡ Some node → slice_get spots i ≡ Some spot → Keeps spots2 node spot
-  keeps_other i node spot a b =
-      let k = holds.each i node spot a b in
-      record { shape = k.shape; names = k.names; steps = k.steps; span = k.span; below = λ q n some. stands_on spots t s name (new_spot s name (shape_of content) span) at_spot n (at spot.place (key q)) (k.below q n some) }
-
-  keeps_at : (i : ℕ) (node : Node) (spot : Spot) → Place3 nodes t new last i node → Place3 spots t (with_name s name) (new_spot s name (shape_of content) span) i spot → Keeps spots2 node spot
-  keeps_at i node spot (changed a e) (changed b f) = subst (λ (y : Spot). Keeps spots2 node y) (sym f) (subst (λ (y : Node). Keeps spots2 y (with_name s name)) (sym e) keeps_new)
-  keeps_at i node spot (changed a e) (other b f) = absurd (b a)
-  keeps_at i node spot (changed a e) (newest b f) = absurd (let lt = slice_get_within spots t s at_spot in omega arith)
-  keeps_at i node spot (other a e) (changed b f) = absurd (a b)
-  keeps_at i node spot (other a e) (other b f) = keeps_other i node spot e f
-  keeps_at i node spot (other a e) (newest b f) = absurd (let lt = slice_get_within nodes i node e in let l = holds.len in omega arith)
-  keeps_at i node spot (newest a e) (changed b f) = absurd (let lt = slice_get_within nodes t old at_node in omega arith)
-  keeps_at i node spot (newest a e) (other b f) = absurd (let lt = slice_get_within spots i spot f in let l = holds.len in omega arith)
-  keeps_at i node spot (newest a e) (newest b f) = subst (λ (y : Spot). Keeps spots2 node y) (sym f) (subst (λ (y : Node). Keeps spots2 y (new_spot s name (shape_of content) span)) (sym e) keeps_last)
-
-  pub holds_added : Holds (slice_set nodes t new ++ last ∷ []) spots2
-  holds_added = record {
-    len =
-        length_push (slice_set nodes t new) last ∙ ap (λ (n : ℕ). n + 1) (length-set nodes t new ∙ holds.len ∙ sym (length-set spots t (with_name s name)))
-        ∙ sym (length_push (slice_set spots t (with_name s name)) (new_spot s name (shape_of content) span));
-    each = λ i node spot a b. keeps_at i node spot (locate nodes t new last i node (slice_get_within nodes t old at_node) a) (locate spots t (with_name s name) (new_spot s name (shape_of content) span) i spot (slice_get_within spots t s at_spot) b);
-  }
-
--- ---- what the code does
-
-not_false : (b : Bool) → not b ≡ false → b ≡ true
-not_false true e = refl
-not_false false e = absurd cc
-
-not_true : (b : Bool) → not b ≡ true → b ≡ false
-not_true true e = absurd cc
-not_true false e = refl
-
-abbrev pub may_take : Node → List ℕ → Bool
-may_take node name = not (is_some (get_by_text node.members name) || nat_le 80 node.steps)
-
-pub add_outside : (nodes : List Node) (spots : List Spot) (t : ℕ) (name : List ℕ) (shape : Shape) (span : Option Span) → Holds nodes spots → length nodes ≤ t → added spots t name shape span ≡ None
-add_outside nodes spots t name shape span holds le = added_past spots t name shape span (let l = holds.len in omega arith)
-
-pub add_stopped : (nodes : List Node) (spots : List Spot) (t : ℕ) (node : Node) (name seen : List ℕ) (shape : Shape) (span : Option Span) → Holds nodes spots → t < length nodes → node ≡ get_or nodes t node
-    → seen ≡ name → may_take node seen ≡ false → added spots t name shape span ≡ None
-add_stopped nodes spots t node name seen shape span holds lt is same test =
-    let there = slice_get_read nodes (length nodes) t node refl lt is in
-    let s = spot_at nodes spots t node holds.len there in
-    let keeps = holds.each t node s.0 there s.1 in
-    let clash : (is_some (get_by_text node.members name) || nat_le 80 node.steps) ≡ true = not_false _ (ap (may_take node) (sym same) ∙ test) in
-    added_refused spots t name shape span s.0 s.1 (refused_at name keeps ∙ clash)
-
--- a node into whose members a key was inserted
-pub record Inserted (old new : Node) (key : String Global) (count : ℕ) : Type 0 where
-  pub content : new.content ≡ old.content
-  pub steps : new.steps ≡ old.steps
-  pub span : new.span ≡ old.span
-  pub entries : new.members.entries ≡ insert_entry string_eq old.members.entries key count
-
-or_false : (x y : Bool) → (x || y) ≡ false → x ≡ false
-or_false true y e = absurd cc
-or_false false y e = refl
-
-none_of : {X : Type 0} (o : Option X) → is_some o ≡ false → o ≡ None
-none_of (Some x) e = absurd cc
-none_of None e = refl
-
-gained : (old new : Node) (key : String Global) (count : ℕ) (nodes : List Node) → Inserted old new key count → count ≡ length nodes → may_take old (string_bytes key) ≡ true → Gains old new (string_bytes key) (length nodes)
-gained old new k count nodes i size test =
-    let absent : get_by_text old.members (string_bytes k) ≡ None = none_of _ (or_false _ (nat_le 80 old.steps) (not_true _ test)) in
+gained_keeps : (old new : Node) (k : String Global) (count : ℕ) (s : Spot) → Keeps old s → Inserted old new k count → get_by_text old.members (string_bytes k) ≡ None → Keeps new (with_member s (string_bytes k) count)
+gained_keeps old new k count s keeps i absent =
+    let entries : new.members.entries ≡ old.members.entries ++ (k, count) ∷ [] = i.entries ∙ insert_entry-new string_eq old.members k count absent in
     record {
-      content = i.content;
-      steps = i.steps;
-      span = i.span;
-      key = k;
-      said = refl;
-      entries = i.entries ∙ insert_entry-new string_eq old.members k count absent ∙ ap (λ (n : ℕ). old.members.entries ++ (k, n) ∷ []) size;
+      shape = ap shape_of i.content ∙ keeps.shape;
+      taken = i.taken ∙ keeps.taken;
+      steps = i.steps ∙ keeps.steps;
+      members =
+          ap (map (λ (e : String Global × ℕ). (string_bytes e.0, e.1))) entries ∙ map-append (λ (e : String Global × ℕ). (string_bytes e.0, e.1)) old.members.entries ((k, count) ∷ [])
+          ∙ ap (λ (ms : List (List ℕ × ℕ)). ms ++ (string_bytes k, count) ∷ []) keeps.members;
+      elements = ap (λ v. v.items) i.elements ∙ keeps.elements;
+      span = i.span ∙ keeps.span;
     }
 
-pub add_done : (nodes nodes2 : List Node) (spots : List Spot) (t count : ℕ) (node old node2 last : Node) (name : String Global) (seen : List ℕ) (content : Content) (span : Option Span) → Holds nodes spots → t < count → count ≡ length nodes
-    → node ≡ get_or nodes t node → old ≡ get_or nodes t old → seen ≡ string_bytes name → may_take node seen ≡ true → Inserted old node2 name count → Starts last content old.steps span → nodes2 ≡ slice_set nodes t node2 ++ last ∷ []
-    → (made : List Spot) × (added spots t (string_bytes name) (shape_of content) span ≡ Some made) × Holds nodes2 made
-add_done nodes nodes2 spots t count node old node2 last name seen content span holds lt size is was same test inserted starts made =
-    let there = slice_get_read nodes (length nodes) t node refl (omega arith) is in
-    let there2 = slice_get_read nodes (length nodes) t old refl (omega arith) was in
-    let s = spot_at nodes spots t node holds.len there in
-    let keeps = holds.each t node s.0 there s.1 in
-    let test2 : may_take node (string_bytes name) ≡ true = ap (may_take node) (sym same) ∙ test in
-    let one : node ≡ old = slice_get_same nodes t node old there there2 in
-    let gains = gained old node2 name count nodes inserted size (ap (λ (x : Node). may_take x (string_bytes name)) (sym one) ∙ test2) in
-    let spots2 = slice_set spots t (with_name s.0 (string_bytes name)) ++ new_spot s.0 (string_bytes name) (shape_of content) span ∷ [] in (
-      spots2,
-      added_made spots t (string_bytes name) (shape_of content) span s.0 s.1 (refused_at (string_bytes name) keeps ∙ not_true _ test2),
-      subst (λ (ns : List Node). Holds ns spots2) (sym made) (holds_added nodes spots t old node2 last s.0 (string_bytes name) content span holds there2 s.1 gains starts),
+pub add_done : (nodes nodes2 : List Node) (spots : List Spot) (t count : ℕ) (old node2 last : Node) (name : String Global) (content : Content) (taken : Taken) (span : Option Span) → Holds nodes spots → t < count → count ≡ length nodes
+    → old ≡ get_or nodes t old → old.steps < 80 → child spots t (string_bytes name) ≡ None → Inserted old node2 name count → Starts last content taken old.steps span → nodes2 ≡ slice_set nodes t node2 ++ last ∷ []
+    → (made : List Spot) × (added spots t (string_bytes name) (shape_of content) taken span ≡ Some (made, count)) × Holds nodes2 made
+add_done nodes nodes2 spots t count old node2 last name content taken span holds lt size was few none inserted starts made =
+    let lt2 : t < length nodes = omega arith in
+    let k = kept_at nodes spots t old holds lt2 was in
+    let number : count ≡ length spots = size ∙ holds.len in
+    let absent : get_by_text old.members (string_bytes name) ≡ None = sym (child_found nodes spots t old (string_bytes name) holds lt2 was) ∙ none in
+    let long : length (at k.spot.place (key (string_bytes name))) ≡ old.steps + 1 = length_push k.spot.place (key (string_bytes name)) ∙ ap (λ (n : ℕ). n + 1) (sym k.keeps.steps) in
+    let first = holds_set nodes spots t node2 (with_member k.spot (string_bytes name) count) holds lt2 (gained_keeps old node2 name count k.spot k.keeps inserted absent) in
+    let both = holds_push (slice_set nodes t node2) (slice_set spots t (with_member k.spot (string_bytes name) count)) last (spot_at (at k.spot.place (key (string_bytes name))) (shape_of content) taken span) first (starts_keeps last content taken old.steps span (at k.spot.place (key (string_bytes name))) starts long) in
+    let fits : length k.spot.place < 80 = (let e = k.keeps.steps in omega arith) in (
+      slice_set spots t (with_member k.spot (string_bytes name) count) ++ spot_at (at k.spot.place (key (string_bytes name))) (shape_of content) taken span ∷ [],
+      added_made spots t (string_bytes name) (shape_of content) taken span k.spot k.spot_is fits
+          ∙ ap (λ (n : ℕ). Some (slice_set spots t (with_member k.spot (string_bytes name) n) ++ spot_at (at k.spot.place (key (string_bytes name))) (shape_of content) taken span ∷ [], n)) (sym number),
+      subst (λ (ns : List Node). Holds ns (slice_set spots t (with_member k.spot (string_bytes name) count) ++ spot_at (at k.spot.place (key (string_bytes name))) (shape_of content) taken span ∷ [])) (sym made) both,
+    )
+
+pub element_past : (nodes : List Node) (spots : List Spot) (t : ℕ) (shape : Shape) (taken : Taken) (span : Option Span) → Holds nodes spots → length nodes ≤ t → element_added spots t shape taken span ≡ None
+unfolding element_added
+element_past nodes spots t shape taken span holds le = rw (slice_get_past spots t (let l = holds.len in omega arith)) refl
+
+pub element_long : (spots : List Spot) (t : ℕ) (shape : Shape) (taken : Taken) (span : Option Span) (s : Spot) → slice_get spots t ≡ Some s → 80 ≤ length s.place → element_added spots t shape taken span ≡ None
+unfolding element_added
+element_long spots t shape taken span s e le = let test : nat_le 80 (length s.place) ≡ true = grind (arith, nat_tests) in rw (e, test) refl
+
+pub element_made : (spots : List Spot) (t : ℕ) (shape : Shape) (taken : Taken) (span : Option Span) (s : Spot) → slice_get spots t ≡ Some s → length s.place < 80
+    → element_added spots t shape taken span ≡ Some (slice_set spots t (with_element s (length spots)) ++ spot_at (at s.place (index (length s.elements))) shape taken span ∷ [], length spots)
+unfolding element_added
+element_made spots t shape taken span s e lt = let test : nat_le 80 (length s.place) ≡ false = grind (arith, nat_tests) in rw (e, test) refl
+
+pub element_stopped : (nodes : List Node) (spots : List Spot) (t : ℕ) (node : Node) (shape : Shape) (taken : Taken) (span : Option Span) → Holds nodes spots → t < length nodes → node ≡ get_or nodes t node → 80 ≤ node.steps → element_added spots t shape taken span ≡ None
+element_stopped nodes spots t node shape taken span holds lt is le =
+    let k = kept_at nodes spots t node holds lt is in
+    element_long spots t shape taken span k.spot k.spot_is (let e = k.keeps.steps in omega arith)
+
+-- a node with an element more
+pub record Extended (old new : Node) (count : ℕ) : Type 0 where
+  pub content : new.content ≡ old.content
+  pub taken : new.taken ≡ old.taken
+  pub steps : new.steps ≡ old.steps
+  pub span : new.span ≡ old.span
+  pub members : new.members ≡ old.members
+  pub elements : new.elements.items ≡ old.elements.items ++ count ∷ []
+
+extended_keeps : (old new : Node) (count : ℕ) (s : Spot) → Keeps old s → Extended old new count → Keeps new (with_element s count)
+extended_keeps old new count s keeps i = record {
+  shape = ap shape_of i.content ∙ keeps.shape;
+  taken = i.taken ∙ keeps.taken;
+  steps = i.steps ∙ keeps.steps;
+  members = ap (λ m. map (λ (e : String Global × ℕ). (string_bytes e.0, e.1)) m.entries) i.members ∙ keeps.members;
+  elements = i.elements ∙ ap (λ (ns : List ℕ). ns ++ count ∷ []) keeps.elements;
+  span = i.span ∙ keeps.span;
+}
+
+pub element_done : (nodes nodes2 : List Node) (spots : List Spot) (t count : ℕ) (old node2 last : Node) (content : Content) (taken : Taken) (span : Option Span) → Holds nodes spots → t < count → count ≡ length nodes → old ≡ get_or nodes t old → old.steps < 80 → Extended old node2 count
+    → Starts last content taken old.steps span → nodes2 ≡ slice_set nodes t node2 ++ last ∷ [] → (made : List Spot) × (element_added spots t (shape_of content) taken span ≡ Some (made, count)) × Holds nodes2 made
+element_done nodes nodes2 spots t count old node2 last content taken span holds lt size was few extended starts made =
+    let lt2 : t < length nodes = omega arith in
+    let k = kept_at nodes spots t old holds lt2 was in
+    let number : count ≡ length spots = size ∙ holds.len in
+    let place = at k.spot.place (index (length k.spot.elements)) in
+    let long : length (at k.spot.place (index (length k.spot.elements))) ≡ old.steps + 1 = length_push k.spot.place (index (length k.spot.elements)) ∙ ap (λ (n : ℕ). n + 1) (sym k.keeps.steps) in
+    let first = holds_set nodes spots t node2 (with_element k.spot count) holds lt2 (extended_keeps old node2 count k.spot k.keeps extended) in
+    let keeps : Keeps last (spot_at place (shape_of content) taken span) = starts_keeps last content taken old.steps span place starts long in
+    let both = holds_push (slice_set nodes t node2) (slice_set spots t (with_element k.spot count)) last (spot_at place (shape_of content) taken span) first keeps in
+    let fits : length k.spot.place < 80 = (let e = k.keeps.steps in omega arith) in (
+      slice_set spots t (with_element k.spot count) ++ spot_at place (shape_of content) taken span ∷ [],
+      element_made spots t (shape_of content) taken span k.spot k.spot_is fits ∙ ap (λ (n : ℕ). Some (slice_set spots t (with_element k.spot n) ++ spot_at place (shape_of content) taken span ∷ [], n)) (sym number),
+      subst (λ (ns : List Node). Holds ns (slice_set spots t (with_element k.spot count) ++ spot_at place (shape_of content) taken span ∷ [])) (sym made) both,
     )

@@ -1,33 +1,34 @@
 -- What the nodes of a text tell of it.
-use Rattle.std.proofs.Common.{◌≡◌, ℕ, ◌≤◌, Bool, true, false, List, [], ◌∷◌, ◌++◌, length, Option, Some, None, Result, Ok, Err, refl, sym, ap, subst, ◌∙◌, ◌⊎◌, inl, inr, arith}
+use Rattle.std.proofs.Common.{◌≡◌, ℕ, ◌≤◌, Bool, true, false, List, [], ◌∷◌, Option, Some, None, Result, Err, refl, sym, ap, subst, ◌∙◌, ◌⊎◌, inl, inr, arith}
 use Rattle.std.specs.Prelude.{map, IsUtf8, MatchResult, string_bytes}
 use Rattle.std.specs.List.{AllByRecursion}
 use Rattle.edit_document.specs.declared.read.marks.Mark.{Mark}
 use Rattle.edit_document.specs.declared.nodes.Node.{Node}
 use Rattle.edit_document.specs.declared.document.Document.TheInside.{Inside}
-use Rattle.edit_document.specs.Grammar.{Text, text, lines, byte_order_mark, AreLines, Spells}
+use Rattle.edit_document.specs.Grammar.{array, Text, lines, byte_order_mark, Spells}
 use Rattle.edit_document.specs.Supported.{IsSupported, IsManifest}
-use Rattle.edit_document.specs.Assertions.{Place, assertions, NoClash, AreShort, IsDocument}
+use Rattle.edit_document.specs.Assertions.{index, at, assertions}
 use Rattle.edit_document.specs.Depth.{text_depth}
 use Rattle.edit_document.specs.Marks.{text_marks, IsReadRefusal}
 use Rattle.edit_document.specs.Errors.{IsMemory}
 use Rattle.edit_document.specs.declared.errors.Error.{Error}
 use Rattle.edit_document.specs.declared.errors.Error.TheVariants.{NotToml, Memory}
-use Rattle.edit_document.specs.Tree.{View, view_at}
 use Rattle.edit_document.specs.Shown.{Shown, ShowsTree, node_at}
-use Rattle.edit_document.specs.Nodes.{Spot, Holds, shown_spot}
+use Rattle.edit_document.specs.Nodes.{Spot, Holds}
 use Rattle.edit_document.specs.FormOf.{form_of}
-use Rattle.edit_document.specs.DocumentLayout.{Noted, places_of, noted_text, spots_in, spots_of, nodes_by, shown_by, IsRead}
-use Rattle.edit_document.specs.Walk.{State, start, walked}
+use Rattle.edit_document.specs.Written.{values}
+use Rattle.edit_document.specs.DocumentLayout.{placed, spots_of, nodes_by, shown_by, IsRead}
+use Rattle.edit_document.specs.Reading.{◌>>=◌}
+use Rattle.edit_document.specs.Walk.{State, start, walked, settled_state}
 use Rattle.edit_document.specs.WalkState.{IsToken, KeepsState}
-use Rattle.edit_document.proofs.LineLaws.{IsReadText, read_again}
+use Rattle.edit_document.proofs.LineLaws.{read_again}
 use Rattle.edit_document.proofs.Ends.{Ends}
-use Rattle.edit_document.proofs.Spotting.{Fine, Good, tree_of_good}
-use Rattle.edit_document.proofs.WalkedTokens.{state, Leads, leads, stops}
-use Rattle.edit_document.proofs.WalkedLines.{text_leads}
-use Rattle.edit_document.proofs.Matched.{Matched, text_matched, fine_of, no_clash_of, short_of}
-use Rattle.edit_document.proofs.ShownTrees.{tree_shown}
-use Rattle.edit_document.proofs.Depths.{lines_deep}
+use Rattle.edit_document.proofs.AllSupported.{all_supported}
+use Rattle.edit_document.proofs.Shallow.{shallow as shallow_form, manifest_form}
+use Rattle.edit_document.proofs.Standing.{Stands}
+use Rattle.edit_document.proofs.WalkedLines.{Walked as Walks, ended, stuck, text_walked, text_even}
+use Rattle.edit_document.proofs.ShownTrees.{AreFull, tree_shown}
+use Rattle.edit_document.proofs.Parts.{any_stands, has_kind, text_whole}
 use Rattle.edit_document.proofs.TextTokens.{text_tokens}
 
 -- a text in the grammar, with a form of the part that is read
@@ -37,7 +38,7 @@ pub record Read (bytes : List ℕ) (form : Text) : Type 0 where
   pub utf8 : IsUtf8 bytes
 
 pub read_of : (bytes : List ℕ) (form : Text) → IsManifest bytes form → IsUtf8 bytes → Read bytes form
-read_of bytes form m u = record { spells = m.document.grammar; supported = m.supported; utf8 = u }
+read_of bytes form m u = record { spells = m.document.grammar; supported = all_supported form; utf8 = u }
 
 ends_all : (bytes : List ℕ) (form : Text) → Read bytes form → Ends bytes (lines form.lines)
 ends_all bytes form r = behind form.marked (lines form.lines) r.spells.spelled
@@ -49,65 +50,56 @@ ends_all bytes form r = behind form.marked (lines form.lines) r.spells.spelled
 pub tokens_of : (bytes : List ℕ) (form : Text) → Read bytes form → AllByRecursion (IsToken bytes) (text_marks form)
 tokens_of bytes form r = text_tokens bytes form r.spells.well_formed r.supported r.utf8 (ends_all bytes form r)
 
-walk_of : (bytes : List ℕ) (form : Text) → Read bytes form → (tables : List ℕ) × Leads (walked bytes (text_marks form) start) (noted_text form) tables
-walk_of bytes form r = text_leads bytes form r.spells.well_formed r.supported r.utf8 (ends_all bytes form r)
+walk_of : (bytes : List ℕ) (form : Text) → Read bytes form → Walks (assertions form) (map placed (values form)) (walked bytes (text_marks form) start)
+walk_of bytes form r = text_walked bytes form r.spells.well_formed r.supported r.utf8 (ends_all bytes form r)
 
-matched_of : (bytes : List ℕ) (form : Text) → Read bytes form → Matched (assertions form) (noted_text form)
-matched_of bytes form r = text_matched form r.supported
+-- ---- the form of a text, and what it shows
+
+pub shallow : (bytes : List ℕ) (form : Text) → IsManifest bytes form → text_depth form ≤ 80
+shallow bytes form m = shallow_form bytes form m.document
+
+pub form_is : (bytes : List ℕ) (form : Text) → IsManifest bytes form → form_of bytes ≡ Some form
+form_is bytes form m = manifest_form bytes form m
 
 -- what is walked over is a document
 pub record Walked (bytes : List ℕ) (form : Text) (nodes : List Node) : Type 0 where
-  pub good : Good (noted_text form)
-  pub holds : Holds nodes (spots_of form)
+  pub spots : List Spot
+  pub found : spots_of bytes ≡ Some spots
+  pub stands : Stands (assertions form) (map placed (values form)) spots
+  pub holds : Holds nodes spots
   pub manifest : IsManifest bytes form
-
-kept_state : (nodes : List Node) (o : Option State) (made : List Noted) (tables : List ℕ) → o ≡ Some (state made tables None) → KeepsState nodes o → Holds nodes (spots_in made)
-kept_state nodes o made tables e h = subst (KeepsState nodes) e h
-
-kept_none : (nodes : List Node) (o : Option State) → o ≡ None → KeepsState nodes o → ⊥
-kept_none nodes o e h = subst (KeepsState nodes) e h
 
 pub walked_is : (bytes : List ℕ) (form : Text) (nodes : List Node) → Read bytes form → KeepsState nodes (walked bytes (text_marks form) start) → Walked bytes form nodes
 walked_is bytes form nodes r keeps = go (walk_of bytes form r)
   where
-    go : (tables : List ℕ) × Leads (walked bytes (text_marks form) start) (noted_text form) tables → Walked bytes form nodes
-    go (tables, leads e g) =
-        let m = matched_of bytes form r in
+    go : Walks (assertions form) (map placed (values form)) (walked bytes (text_marks form) start) → Walked bytes form nodes
+    go (ended now tables e st) =
+        let manifest : IsManifest bytes form = record { document = record { grammar = r.spells; short = st.clear.short; no_clash = st.clear.apart } } in
         record {
-          good = g;
-          holds = kept_state nodes (walked bytes (text_marks form) start) (noted_text form) tables e keeps;
-          manifest = record {
-            document = record { grammar = r.spells; short = short_of (assertions form) (noted_text form) m g.fine; no_clash = no_clash_of (assertions form) (noted_text form) m g.fine };
-            supported = r.supported;
-          };
+          spots = now;
+          found = ap (λ (o : Option Text). o >>= λ f. walked bytes (text_marks f) start >>= λ s. Some s.spots) (form_is bytes form manifest) ∙ ap (λ (o : Option State). o >>= λ s. Some s.spots) e;
+          stands = st;
+          holds = subst (KeepsState nodes) e keeps;
+          manifest = manifest;
         }
-    go (tables, stops e clash) = absurd (kept_none nodes (walked bytes (text_marks form) start) e keeps)
+    go (stuck e clash) = absurd (subst (KeepsState nodes) e keeps)
 
 -- what is no document is not walked over
 pub refused_is : (bytes : List ℕ) (form : Text) → IsManifest bytes form → IsUtf8 bytes → walked bytes (text_marks form) start ≡ None → ⊥
 refused_is bytes form m u none = go (walk_of bytes form (read_of bytes form m u))
   where
-    go : (tables : List ℕ) × Leads (walked bytes (text_marks form) start) (noted_text form) tables → ⊥
-    go (tables, leads e g) = let no : None ≡ Some (state (noted_text form) tables None) = sym none ∙ e in cc
-    go (tables, stops e clash) = clash (fine_of (assertions form) (noted_text form) (matched_of bytes form (read_of bytes form m u)) m.document.no_clash m.document.short)
+    go : Walks (assertions form) (map placed (values form)) (walked bytes (text_marks form) start) → ⊥
+    go (ended now tables e st) = let clash : None ≡ Some (settled_state now tables) = sym none ∙ e in cc
+    go (stuck e clash) = clash (record { apart = m.document.no_clash; short = m.document.short })
 
--- ---- depths
-
-pub shallow : (bytes : List ℕ) (form : Text) → IsManifest bytes form → text_depth form ≤ 80
-shallow bytes form m =
-    let fine = fine_of (assertions form) (noted_text form) (text_matched form m.supported) m.document.no_clash m.document.short in
-    lines_deep form.lines [] m.supported fine.short
-
--- ---- the form of a text, and what it shows
-
-pub form_is : (bytes : List ℕ) (form : Text) → IsManifest bytes form → form_of bytes ≡ Some form
-form_is bytes form m = read_again 80 bytes form (record { spells = m.document.grammar; supported = m.supported; shallow = shallow bytes form m })
+-- and each of its arrays has all of its elements
+text_full : (form : Text) → AreFull (assertions form)
+text_full form p g es i kind lt none = any_stands (at p (index i)) (assertions form) (text_whole form p g es i (has_kind p (array g es) (assertions form) kind) lt) none
 
 pub shows_form : (bytes : List ℕ) (form : Text) (nodes : List Node) → Walked bytes form nodes → ShowsTree (shown_by bytes) form
 unfolding shown_by
 shows_form bytes form nodes w place =
-    let m = w.manifest in
-    ap (λ (o : Option Text). node_at (nodes_by o) place) (form_is bytes form m) ∙ tree_shown (assertions form) (noted_text form) place (text_matched form m.supported) w.good
+    ap (λ (o : Option (List Spot)). node_at (nodes_by o) place) w.found ∙ tree_shown (assertions form) (map placed (values form)) w.spots place w.stands (text_even form) (text_full form)
 
 -- two forms of one text
 pub one_form : (bytes : List ℕ) (f g : Text) → IsManifest bytes f → IsManifest bytes g → f ≡ g
@@ -115,11 +107,14 @@ one_form bytes f g a b = let same : Some f ≡ Some g = sym (form_is bytes f a) 
 
 pub read_is : (inside : Inside) (form : Text) → Walked (string_bytes inside.text) form inside.nodes.items → IsRead inside
 read_is inside form w = record {
+  spots = w.spots;
+  found = w.found;
   form = form;
-  found = form_is (string_bytes inside.text) form w.manifest;
   manifest = w.manifest;
   holds = w.holds;
-  tree = tree_of_good (noted_text form) w.good;
+  tree = w.stands.tree;
+  views = λ place. tree_shown (assertions form) (map placed (values form)) w.spots place w.stands (text_even form) (text_full form);
+  spans = λ n s e. (w.stands.tells n s e).span;
 }
 
 -- ---- what reading answers

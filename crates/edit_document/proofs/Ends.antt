@@ -12,7 +12,6 @@ use Rattle.edit_document.specs.declared.read.marks.MarkKind.TheVariants as kinds
 use Rattle.edit_document.specs.Characters.{quote, apostrophe, backslash, comma, equals, right_brace, is_blank, is_bare, is_literal_ch, All}
 use Rattle.edit_document.specs.Strings.{◌·◌, Piece, plain, letter, short, long, feed, fold, delimiter, piece, pieces, said, says, IsBasicPiece, Part, bare, basic_part, literal_part, part, IsPart, basic_text, literal_text, LineEnd, line_end, lf, crlf, Key, key, dotted, is_escape, escaped, is_hex, is_scalar}
 use Rattle.edit_document.specs.Grammar.{Between, blank, break, remark, gap, Value, basic, literal, multi_basic, multi_literal, boolean, integer, float, datetime, array, inline, Members, no_members, last_member, member, value, members, Statement, statement, Line, line}
-use Rattle.edit_document.specs.Supported.{IsOnePart, IsSupportedValue, AreSupportedMembers}
 use Rattle.std.specs.Char.{IsScalar}
 use Rattle.std.proofs.lemmas.Bool.Decides.{nat_tests}
 use Rattle.edit_document.specs.Walk.{suffix}
@@ -58,6 +57,9 @@ ends_tail bytes whole rest h t = ends_past bytes t.0 rest (h.0, h.1 ∙ ap (λ (
 
 pub ends_key : (bytes : List ℕ) (k : Key) (rest : List ℕ) → Ends bytes (key k rest) → Ends bytes rest
 ends_key bytes k rest h = ends_tail bytes (key k rest) rest h (key_before (Tail rest) (tail_one rest) k rest rest (tail_end rest))
+
+pub ends_part : (bytes : List ℕ) (p : Part) (rest : List ℕ) → Ends bytes (part p rest) → Ends bytes rest
+ends_part bytes p rest h = ends_key bytes (record { first = p; others = [] }) rest h
 
 pub ends_pair : (bytes : List ℕ) (k : Key) (a b rest : List ℕ) → Ends bytes (key k (a ++ (equals ∷ (b ++ rest)))) → Ends bytes rest
 ends_pair bytes k a b rest h = ends_tail bytes (key k (a ++ (equals ∷ (b ++ rest)))) rest h (pair_before (Tail rest) (tail_one rest) k a b rest rest (tail_end rest))

@@ -8,11 +8,11 @@ use Rattle.edit_document.specs.Strings.{LineEnd, lf, crlf, line_end, Part, bare,
 use Rattle.edit_document.specs.Grammar.{value, Statement, pair, header, element_header, statement, IsStatement, comment, IsComment, Line, empty_line, full_line, line, IsLine, Lines, one_line, more_lines, lines, AreLines, Text, text, byte_order_mark, Spells}
 use Rattle.edit_document.specs.Supported.{IsSupportedStatement, IsSupportedLine, AreSupportedLines, IsSupported}
 use Rattle.edit_document.specs.Depth.{statement_depth, line_depth, lines_depth, text_depth}
-use Rattle.edit_document.specs.Reading.{◌>>=◌, first, past, blanks, past_blanks, key_at, Pair, pair_at, value_at, statement_at, comment_front, past_comment, is_line_over, line_at, line_end_at, lines_at, is_marked, past_mark, read_text}
-use Rattle.edit_document.proofs.TokenLaws.{bind_some, chosen, tested, some_is, first_is, at_drop, both, past_some, run_parts, run_all, front_again, after_again, key_sound, key_again}
+use Rattle.edit_document.specs.Reading.{◌>>=◌, first, past, blanks, past_blanks, key_at, Pair, pair_at, value_at, header_at, element_header_at, statement_at, comment_front, past_comment, is_line_over, line_at, line_end_at, lines_at, is_marked, past_mark, read_text}
+use Rattle.edit_document.proofs.TokenLaws.{bind_some, chosen, tested, some_is, first_is, at_drop, both, past_some, run_parts, run_all, front_again, after_again, key_sound, key_again, ends_key}
 use Rattle.edit_document.proofs.ValueLaws.{blank_parts, IsPair, pair_sound, value_sound}
 use Rattle.edit_document.proofs.MultiLaws.{line_end_sound, line_end_again}
-use Rattle.edit_document.proofs.ValueReadAgain.{pair_again, ends_bare, value_again, key_first, pair_longer, key_longer, value_longer}
+use Rattle.edit_document.proofs.ValueReadAgain.{pair_again, value_again, key_first, pair_longer, key_longer, value_longer}
 use Rattle.edit_document.proofs.NumberReadAgain.{EndsValue, ends_value, is_stop}
 
 -- ---- what is read is spelled so
@@ -36,26 +36,55 @@ pub record AreGoodLines (n : ℕ) (ls : Lines) : Type 0 where
 pair_good : (n : ℕ) (p : Pair) → IsPair n p → IsGoodStatement n (pair p.key p.before p.behind p.value)
 pair_good n p h = record {
   valid = (h.key, h.before, h.behind, h.value.valid);
-  supported = (h.one_part, h.value.supported);
+  supported = h.value.supported;
   shallow = h.value.shallow;
 }
+
+header_good : (n : ℕ) (a : List ℕ) (k : Key) (b : List ℕ) → All is_blank a → IsKey k → All is_blank b → IsGoodStatement n (header a k b)
+header_good n a k b ha hk hb = record { valid = (ha, hk, hb); supported = tt; shallow = omega arith }
+
+element_good : (n : ℕ) (a : List ℕ) (k : Key) (b : List ℕ) → All is_blank a → IsKey k → All is_blank b → IsGoodStatement n (element_header a k b)
+element_good n a k b ha hk hb = record { valid = (ha, hk, hb); supported = tt; shallow = omega arith }
+
+pub header_sound : (n : ℕ) (bytes : List ℕ) (x : Statement × List ℕ) → eqb (first bytes) left_bracket ≡ true → header_at bytes ≡ Some x → (bytes ≡ statement x.0 x.1) × IsGoodStatement n x.0
+unfolding header_at
+header_sound n bytes x opened e =
+    let P : Statement × List ℕ → Type 0 = λ y. (bytes ≡ statement y.0 y.1) × IsGoodStatement n y.0 in
+    let inner = drop 1 bytes in
+    let a = bind_some (key_at (past_blanks inner)) _ x e in
+    let b = bind_some (past right_bracket (past_blanks a.0.1)) _ x a.2 in
+    let k = key_sound (past_blanks inner) a.0 a.1 in
+    let two : a.0.1 ≡ blanks a.0.1 ++ (right_bracket ∷ b.0) = blank_parts a.0.1 (right_bracket ∷ b.0) (past_some right_bracket _ b.0 (omega arith) b.1) in
+    let one : inner ≡ blanks inner ++ key a.0.0 (blanks a.0.1 ++ (right_bracket ∷ b.0)) = blank_parts inner (key a.0.0 (blanks a.0.1 ++ (right_bracket ∷ b.0))) (k.0 ∙ ap (key a.0.0) two) in
+    subst P (some_is _ x b.2) (first_is left_bracket bytes (omega arith) opened ∙ ap (λ (r : List ℕ). left_bracket ∷ r) one, header_good n (blanks inner) a.0.0 (blanks a.0.1) (run_all is_blank inner) k.1 (run_all is_blank a.0.1))
+
+pub element_sound : (n : ℕ) (bytes : List ℕ) (x : Statement × List ℕ) → eqb (first bytes) left_bracket ≡ true → eqb (slice_index bytes 1) left_bracket ≡ true → element_header_at bytes ≡ Some x → (bytes ≡ statement x.0 x.1) × IsGoodStatement n x.0
+unfolding element_header_at
+element_sound n bytes x opened again e =
+    let P : Statement × List ℕ → Type 0 = λ y. (bytes ≡ statement y.0 y.1) × IsGoodStatement n y.0 in
+    let inner = drop 2 bytes in
+    let a = bind_some (key_at (past_blanks inner)) _ x e in
+    let b = bind_some (past right_bracket (past_blanks a.0.1)) _ x a.2 in
+    let c = bind_some (past right_bracket b.0) _ x b.2 in
+    let k = key_sound (past_blanks inner) a.0 a.1 in
+    let end = right_bracket ∷ (right_bracket ∷ c.0) in
+    let close : past_blanks a.0.1 ≡ end = past_some right_bracket _ b.0 (omega arith) b.1 ∙ ap (λ (r : List ℕ). right_bracket ∷ r) (past_some right_bracket b.0 c.0 (omega arith) c.1) in
+    let two : a.0.1 ≡ blanks a.0.1 ++ end = blank_parts a.0.1 end close in
+    let one : inner ≡ blanks inner ++ key a.0.0 (blanks a.0.1 ++ end) = blank_parts inner (key a.0.0 (blanks a.0.1 ++ end)) (k.0 ∙ ap (key a.0.0) two) in
+    subst P (some_is _ x c.2) (
+      first_is left_bracket bytes (omega arith) opened ∙ ap (λ (r : List ℕ). left_bracket ∷ r) (at_drop 1 left_bracket bytes (omega arith) again ∙ ap (λ (r : List ℕ). left_bracket ∷ r) one),
+      element_good n (blanks inner) a.0.0 (blanks a.0.1) (run_all is_blank inner) k.1 (run_all is_blank a.0.1),
+    )
 
 pub statement_sound : (n : ℕ) (bytes : List ℕ) (x : Statement × List ℕ) → statement_at n bytes ≡ Some x → (bytes ≡ statement x.0 x.1) × IsGoodStatement n x.0
 unfolding statement_at
 statement_sound n bytes x e =
     let P : Statement × List ℕ → Type 0 = λ y. (bytes ≡ statement y.0 y.1) × IsGoodStatement n y.0 in
-    let inner = drop 1 bytes in
     elim (chosen (eqb (first bytes) left_bracket) _ _ (Some x) e) [
-      | inl h ↦
-          let a = bind_some (key_at (past_blanks inner)) _ x h.1 in
-          let b = bind_some (past right_bracket (past_blanks a.0.1)) _ x a.2 in
-          let k = key_sound (past_blanks inner) a.0 a.1 in
-          let two : a.0.1 ≡ blanks a.0.1 ++ (right_bracket ∷ b.0) = blank_parts a.0.1 (right_bracket ∷ b.0) (past_some right_bracket _ b.0 (omega arith) b.1) in
-          let one : inner ≡ blanks inner ++ key a.0.0 (blanks a.0.1 ++ (right_bracket ∷ b.0)) = blank_parts inner (key a.0.0 (blanks a.0.1 ++ (right_bracket ∷ b.0))) (k.0 ∙ ap (key a.0.0) two) in
-          subst P (some_is _ x b.2) (
-            first_is left_bracket bytes (omega arith) h.0 ∙ ap (λ (r : List ℕ). left_bracket ∷ r) one,
-            record { valid = (run_all is_blank inner, k.1, run_all is_blank a.0.1); supported = k.2; shallow = omega arith },
-          )
+      | inl h ↦ elim (chosen (eqb (slice_index bytes 1) left_bracket) _ _ (Some x) h.1) [
+        | inl k ↦ element_sound n bytes x h.0 k.0 k.1
+        | inr k ↦ header_sound n bytes x h.0 k.1
+      ]
       | inr h ↦
           let a = bind_some (pair_at (value_at n) bytes) _ x h.1 in
           let p = pair_sound n (value_at n) (value_sound n) bytes a.0 a.1 in
@@ -165,21 +194,41 @@ statement_first (pair k a b v) rest h = ((key_first k _ h.0).0, (key_starts k _ 
 statement_first (header a k b) rest h = (refl, refl)
 statement_first (element_header a k b) rest h = (refl, refl)
 
+-- white space or a key stands behind the bracket of a header
+not_double : (a tail : List ℕ) → All is_blank a → eqb (first tail) left_bracket ≡ false → eqb (first (a ++ tail)) left_bracket ≡ false
+not_double [] tail h e = e
+not_double (c ∷ a) tail h e = grind (arith, nat_tests, h.0)
+
+header_again : (a : List ℕ) (k : Key) (b rest : List ℕ) → All is_blank a → IsKey k → All is_blank b → header_at (statement (header a k b) rest) ≡ Some (header a k b, rest)
+unfolding header_at
+header_again a k b rest ha hk hb =
+    let end = right_bracket ∷ rest in
+    let one = key_again k (b ++ end) hk (ends_key b right_bracket rest hb refl refl refl) in
+    let begins = (key_first k (b ++ end) hk).0 in
+    rw (after_again is_blank a (key k (b ++ end)) ha begins, front_again is_blank a (key k (b ++ end)) ha begins, one, after_again is_blank b end hb refl, front_again is_blank b end hb refl) refl
+
+element_again : (a : List ℕ) (k : Key) (b rest : List ℕ) → All is_blank a → IsKey k → All is_blank b → element_header_at (statement (element_header a k b) rest) ≡ Some (element_header a k b, rest)
+unfolding element_header_at
+element_again a k b rest ha hk hb =
+    let end = right_bracket ∷ (right_bracket ∷ rest) in
+    let one = key_again k (b ++ end) hk (ends_key b right_bracket (right_bracket ∷ rest) hb refl refl refl) in
+    let begins = (key_first k (b ++ end) hk).0 in
+    rw (after_again is_blank a (key k (b ++ end)) ha begins, front_again is_blank a (key k (b ++ end)) ha begins, one, after_again is_blank b end hb refl, front_again is_blank b end hb refl) refl
+
 pub statement_again : (n : ℕ) (s : Statement) (rest : List ℕ) → IsGoodStatement n s → EndsValue rest → statement_at n (statement s rest) ≡ Some (s, rest)
 unfolding statement_at
 statement_again n (pair k a b v) rest good ends =
     let h = good.valid in
     let p : Pair = record { key = k; before = a; behind = b; value = v } in
-    let hp : IsPair n p = record { key = h.0; one_part = good.supported.0; before = h.1; behind = h.2; value = record { valid = h.3; supported = good.supported.1; shallow = good.shallow } } in
-    let one = pair_again n (value_at n) p rest hp (value_again v n h.3 good.supported.1 good.shallow) ends in
+    let hp : IsPair n p = record { key = h.0; before = h.1; behind = h.2; value = record { valid = h.3; supported = good.supported; shallow = good.shallow } } in
+    let one = pair_again n (value_at n) p rest hp (value_again v n h.3 good.supported good.shallow) ends in
     rw ((key_starts k (a ++ (equals ∷ (b ++ value v rest))) h.0).1, one) refl
 statement_again n (header a k b) rest good ends =
     let h = good.valid in
-    let end = right_bracket ∷ rest in
-    let one = key_again k (b ++ end) h.1 good.supported (ends_bare b right_bracket rest h.2 refl) in
-    let begins = (key_first k (b ++ end) h.1).0 in
-    rw (after_again is_blank a (key k (b ++ end)) h.0 begins, front_again is_blank a (key k (b ++ end)) h.0 begins, one, after_again is_blank b end h.2 refl, front_again is_blank b end h.2 refl) refl
-statement_again n (element_header a k b) rest good ends = absurd good.supported
+    let tail = key k (b ++ (right_bracket ∷ rest)) in
+    let single : eqb (slice_index (left_bracket ∷ (a ++ tail)) 1) left_bracket ≡ false = not_double a tail h.0 (key_starts k (b ++ (right_bracket ∷ rest)) h.1).1 in
+    rw (single, header_again a k b rest h.0 h.1 h.2) refl
+statement_again n (element_header a k b) rest good ends = let h = good.valid in rw (element_again a k b rest h.0 h.1 h.2) refl
 
 pub line_again : (n : ℕ) (l : Line) (rest : List ℕ) → IsGoodLine n l → EndsLine rest → line_at n (line l rest) ≡ Some (l, rest)
 unfolding line_at
@@ -227,9 +276,11 @@ comment_longer None rest = omega arith
 comment_longer (Some text) rest = omega (arith, length-append text rest)
 
 statement_longer : (n : ℕ) (s : Statement) (rest : List ℕ) → IsGoodStatement n s → length rest ≤ length (statement s rest)
-statement_longer n (pair k a b v) rest h = omega (arith, pair_longer k a b (value v rest), value_longer v rest h.valid.3 h.supported.1)
+statement_longer n (pair k a b v) rest h = omega (arith, pair_longer k a b (value v rest), value_longer v rest h.valid.3 h.supported)
 statement_longer n (header a k b) rest h = omega (arith, length-append a (key k (b ++ (right_bracket ∷ rest))), key_longer k (b ++ (right_bracket ∷ rest)), length-append b (right_bracket ∷ rest))
-statement_longer n (element_header a k b) rest h = absurd h.supported
+statement_longer n (element_header a k b) rest h =
+    let end = right_bracket ∷ (right_bracket ∷ rest) in
+    omega (arith, length-append a (key k (b ++ end)), key_longer k (b ++ end), length-append b end)
 
 line_longer : (n : ℕ) (l : Line) (rest : List ℕ) → IsGoodLine n l → length rest ≤ length (line l rest)
 line_longer n (empty_line a c) rest h = omega (arith, length-append a (comment c rest), comment_longer c rest)

@@ -3,7 +3,8 @@ use Rattle.std.proofs.Common.{◌≡◌, ℕ, suc, ◌+◌, ◌-◌, ◌<◌, tr
 use Rattle.std.specs.Prelude.{option_map}
 use Rattle.edit_document.specs.Characters.{quote}
 use Rattle.edit_document.specs.Strings.{Piece}
-use Rattle.edit_document.specs.Reading.{◌>>=◌, Read, first, piece_at, pieces_at}
+use Rattle.edit_document.specs.Grammar.{Between}
+use Rattle.edit_document.specs.Reading.{◌>>=◌, Read, first, piece_at, pieces_at, between_at, and_more, gap_at}
 
 abbrev pub rest_of : {A : Type 0} → Read A → Option (List ℕ)
 rest_of read = option_map (λ p. p.1) read
@@ -39,3 +40,25 @@ pieces_none text = refl
 -- one turn of a loop that counts up
 pub one_less : (count i : ℕ) → i < count → count - i ≡ suc (count - (i + 1))
 one_less count i lt = omega arith
+
+-- ---- gaps
+
+pub gap_turn : (n : ℕ) (text next : List ℕ) → Some next ≡ rest_of (between_at text) → (gap_at (suc n) text).1 ≡ (gap_at n next).1
+unfolding gap_at
+gap_turn n text next e = go (between_at text) e
+  where
+    go : (read : Read Between) → Some next ≡ rest_of read → (and_more (gap_at n) text read).1 ≡ (gap_at n next).1
+    go (Some x) e = let same : next ≡ x.1 = cc in rw same refl
+    go None e = absurd cc
+
+pub gap_stop : (n : ℕ) (text : List ℕ) → None ≡ rest_of (between_at text) → (gap_at (suc n) text).1 ≡ text
+unfolding gap_at
+gap_stop n text e = go (between_at text) e
+  where
+    go : (read : Read Between) → None ≡ rest_of read → (and_more (gap_at n) text read).1 ≡ text
+    go (Some x) e = absurd cc
+    go None e = refl
+
+pub gap_none : (text : List ℕ) → (gap_at 0 text).1 ≡ text
+unfolding gap_at
+gap_none text = refl

@@ -1,62 +1,101 @@
 -- What the functions that read lines note down.
-use Rattle.std.proofs.Common.{◌≡◌, ℕ, suc, ◌+◌, ◌≤◌, true, false, eqb, List, [], ◌∷◌, ◌++◌, length, drop, Option, Some, None, Result, Err, refl, sym, ap, subst, ◌∙◌, append_assoc, arith}
+use Rattle.std.proofs.Common.{◌≡◌, ℕ, suc, ◌+◌, ◌≤◌, true, false, eqb, List, [], ◌∷◌, ◌++◌, length, drop, slice_index, Option, Some, None, Result, Err, refl, sym, ap, subst, ◌∙◌, append_assoc, arith}
 use Rattle.std.specs.Prelude.{MatchResult}
 use Rattle.std.specs.Borrow.{Bor}
 use Rattle.std.specs.Global.{Vec}
 use Rattle.std.proofs.lemmas.List.{append-nil, nil_from_length}
 use Rattle.edit_document.specs.declared.read.marks.Mark.{Mark}
+use Rattle.edit_document.specs.declared.read.marks.MarkKind.{MarkKind}
 use Rattle.edit_document.specs.declared.read.marks.MarkKind.TheVariants as kinds
 use Rattle.edit_document.specs.declared.read.marks.ReadError.{ReadError}
 use Rattle.edit_document.specs.declared.read.marks.ReadError.TheVariants.{Memory, NotToml}
 use Rattle.edit_document.specs.Characters.{left_bracket, right_bracket, is_blank}
 use Rattle.edit_document.specs.Strings.{LineEnd, line_end, Key, key}
-use Rattle.edit_document.specs.Grammar.{Statement, header, statement, comment, Line, empty_line, full_line, Lines, one_line, more_lines, lines, Text, Spells, AreLines}
+use Rattle.edit_document.specs.Grammar.{Statement, header, statement, comment, Line, empty_line, full_line, Lines, one_line, more_lines, lines, Text, Spells, element_header, AreLines}
 use Rattle.edit_document.specs.Supported.{AreSupportedLines}
 use Rattle.edit_document.specs.Depth.{lines_depth}
-use Rattle.edit_document.specs.Reading.{◌>>=◌, first, blanks, past_blanks, past, key_at, statement_at, comment_front, past_comment, is_line_over, line_at, line_end_at, lines_at}
+use Rattle.edit_document.specs.Reading.{◌>>=◌, first, blanks, past_blanks, past, key_at, header_at, element_header_at, statement_at, comment_front, past_comment, is_line_over, line_at, line_end_at, lines_at}
 use Rattle.edit_document.specs.Marks.{mark, key_marks, statement_marks, line_marks, lines_marks}
 use Rattle.edit_document.specs.Noting.{Notes}
 use Rattle.edit_document.proofs.TokenLaws.{past_some, run_parts}
 use Rattle.edit_document.proofs.ValueLaws.{blank_parts}
-use Rattle.edit_document.proofs.LineLaws.{statement_sound, comment_sound, line_sound, lines_sound, AreGoodLines, lines_read, lines_read_again}
+use Rattle.edit_document.proofs.LineLaws.{header_sound, element_sound, statement_sound, comment_sound, line_sound, lines_sound, AreGoodLines, lines_read, lines_read_again}
 use Rattle.edit_document.proofs.MultiLaws.{line_end_sound}
 use Rattle.edit_document.proofs.Loops.{rest_of}
 use Rattle.edit_document.proofs.NotedValues.{mapped, unmapped}
 
-header_here : (n : ℕ) (bytes key_end rest : List ℕ) (k : Key) → eqb (first bytes) left_bracket ≡ true → key_at (past_blanks (drop 1 bytes)) ≡ Some (k, key_end) → Some rest ≡ past right_bracket (past_blanks key_end)
-    → statement_at n bytes ≡ Some (header (blanks (drop 1 bytes)) k (blanks key_end), rest)
-unfolding statement_at
-header_here n bytes key_end rest k opened key closed = rw (opened, key, ← closed) refl
+header_here : (bytes key_end rest : List ℕ) (k : Key) → key_at (past_blanks (drop 1 bytes)) ≡ Some (k, key_end) → Some rest ≡ past right_bracket (past_blanks key_end)
+    → header_at bytes ≡ Some (header (blanks (drop 1 bytes)) k (blanks key_end), rest)
+unfolding header_at
+header_here bytes key_end rest k key closed = rw (key, ← closed) refl
 
-pub header_noted : (n : ℕ) (old mid new : List Mark) (bytes key_end rest : List ℕ) (k : Key) → eqb (first bytes) left_bracket ≡ true → key_at (past_blanks (drop 1 bytes)) ≡ Some (k, key_end)
+-- the marks of a key and of the header behind it
+header_marks : (kind : MarkKind) (old mid new : List Mark) (bytes key_end rest tail : List ℕ) (k : Key) (s : Statement) → mid ≡ old ++ key_marks k key_end → new ≡ mid ++ (mark kind bytes rest ∷ []) → key_end ≡ tail → bytes ≡ statement s rest
+    → new ≡ old ++ (key_marks k tail ++ (mark kind (statement s rest) rest ∷ []))
+header_marks kind old mid new bytes key_end rest tail k s noted ended e f =
+    ended ∙ ap (λ (m : List Mark). m ++ (mark kind bytes rest ∷ [])) noted ∙ append_assoc old (key_marks k key_end) (mark kind bytes rest ∷ [])
+    ∙ ap (λ (t : List ℕ). old ++ (key_marks k t ++ (mark kind bytes rest ∷ []))) e ∙ ap (λ (t : List ℕ). old ++ (key_marks k tail ++ (mark kind t rest ∷ []))) f
+
+pub header_noted : (old mid new : List Mark) (bytes key_end rest : List ℕ) (k : Key) → eqb (first bytes) left_bracket ≡ true → key_at (past_blanks (drop 1 bytes)) ≡ Some (k, key_end)
     → mid ≡ old ++ key_marks k key_end → Some rest ≡ past right_bracket (past_blanks key_end) → new ≡ mid ++ (mark kinds.Header bytes rest ∷ [])
-    → (s : Statement) × (statement_at n bytes ≡ Some (s, rest)) × (new ≡ old ++ statement_marks s rest)
-header_noted n old mid new bytes key_end rest k opened key noted closed ended =
+    → (s : Statement) × (header_at bytes ≡ Some (s, rest)) × (new ≡ old ++ statement_marks s rest)
+header_noted old mid new bytes key_end rest k opened key noted closed ended =
     let s = header (blanks (drop 1 bytes)) k (blanks key_end) in
-    let here = header_here n bytes key_end rest k opened key closed in
-    let sound = statement_sound n bytes (s, rest) here in
+    let here = header_here bytes key_end rest k key closed in
+    let sound = header_sound 0 bytes (s, rest) opened here in
     let tail : key_end ≡ blanks key_end ++ (right_bracket ∷ rest) = blank_parts key_end (right_bracket ∷ rest) (past_some right_bracket _ rest (omega arith) (sym closed)) in
-    let one : key_marks k key_end ≡ key_marks k (blanks key_end ++ (right_bracket ∷ rest)) = ap (key_marks k) tail in
-    let two : mark kinds.Header bytes rest ≡ mark kinds.Header (statement s rest) rest = ap (λ (t : List ℕ). mark kinds.Header t rest) sound.0 in (
-      s,
-      here,
-      ended ∙ ap (λ (m : List Mark). m ++ (mark kinds.Header bytes rest ∷ [])) noted ∙ append_assoc old (key_marks k key_end) (mark kinds.Header bytes rest ∷ [])
-          ∙ ap (λ (m : List Mark). old ++ (m ++ (mark kinds.Header bytes rest ∷ []))) one ∙ ap (λ (m : Mark). old ++ (key_marks k (blanks key_end ++ (right_bracket ∷ rest)) ++ (m ∷ []))) two,
-    )
+    (s, here, header_marks kinds.Header old mid new bytes key_end rest (blanks key_end ++ (right_bracket ∷ rest)) k s noted ended tail sound.0)
 
-pub header_keyless : (n : ℕ) (bytes : List ℕ) → eqb (first bytes) left_bracket ≡ true → key_at (past_blanks (drop 1 bytes)) ≡ None → statement_at n bytes ≡ None
-unfolding statement_at
-header_keyless n bytes opened key = rw (opened, key) refl
+pub header_keyless : (bytes : List ℕ) → key_at (past_blanks (drop 1 bytes)) ≡ None → header_at bytes ≡ None
+unfolding header_at
+header_keyless bytes key = rw key refl
 
-pub header_open : (n : ℕ) (bytes key_end : List ℕ) (k : Key) → eqb (first bytes) left_bracket ≡ true → key_at (past_blanks (drop 1 bytes)) ≡ Some (k, key_end) → None ≡ past right_bracket (past_blanks key_end) → statement_at n bytes ≡ None
-unfolding statement_at
-header_open n bytes key_end k opened key closed = rw (opened, key, ← closed) refl
+pub header_open : (bytes key_end : List ℕ) (k : Key) → key_at (past_blanks (drop 1 bytes)) ≡ Some (k, key_end) → None ≡ past right_bracket (past_blanks key_end) → header_at bytes ≡ None
+unfolding header_at
+header_open bytes key_end k key closed = rw (key, ← closed) refl
 
 -- the exit of a header's key that was not read
-pub header_failed : (n : ℕ) (bytes : List ℕ) (old new : Vec Mark) (e e2 : ReadError) (r : Result (Bor (List ℕ)) ReadError) → r ≡ Err e2 → e2 ≡ e → eqb (first bytes) left_bracket ≡ true
-    → ((e ≡ Memory → ⊥) → key_at (past_blanks (drop 1 bytes)) ≡ None) → Notes statement_marks old new r (statement_at n bytes)
-header_failed n bytes old new e e2 r was same opened h =
-    subst (λ (x : Result (Bor (List ℕ)) ReadError). Notes statement_marks old new x (statement_at n bytes)) (sym was) (λ other. header_keyless n bytes opened (h (λ m. other (same ∙ m))))
+pub header_failed : (bytes : List ℕ) (old new : Vec Mark) (e e2 : ReadError) (r : Result (Bor (List ℕ)) ReadError) → r ≡ Err e2 → e2 ≡ e
+    → ((e ≡ Memory → ⊥) → key_at (past_blanks (drop 1 bytes)) ≡ None) → Notes statement_marks old new r (header_at bytes)
+header_failed bytes old new e e2 r was same h =
+    subst (λ (x : Result (Bor (List ℕ)) ReadError). Notes statement_marks old new x (header_at bytes)) (sym was) (λ other. header_keyless bytes (h (λ m. other (same ∙ m))))
+
+-- ---- headers of elements
+
+element_here : (bytes key_end inner rest : List ℕ) (k : Key) → key_at (past_blanks (drop 2 bytes)) ≡ Some (k, key_end) → Some inner ≡ past right_bracket (past_blanks key_end) → Some rest ≡ past right_bracket inner
+    → element_header_at bytes ≡ Some (element_header (blanks (drop 2 bytes)) k (blanks key_end), rest)
+unfolding element_header_at
+element_here bytes key_end inner rest k key one two = rw (key, ← one, ← two) refl
+
+pub element_noted : (old mid new : List Mark) (bytes key_end inner rest : List ℕ) (k : Key) → eqb (first bytes) left_bracket ≡ true → eqb (slice_index bytes 1) left_bracket ≡ true → key_at (past_blanks (drop 2 bytes)) ≡ Some (k, key_end)
+    → mid ≡ old ++ key_marks k key_end → Some inner ≡ past right_bracket (past_blanks key_end) → Some rest ≡ past right_bracket inner → new ≡ mid ++ (mark kinds.ElementHeader bytes rest ∷ [])
+    → (s : Statement) × (element_header_at bytes ≡ Some (s, rest)) × (new ≡ old ++ statement_marks s rest)
+element_noted old mid new bytes key_end inner rest k opened again key noted one two ended =
+    let s = element_header (blanks (drop 2 bytes)) k (blanks key_end) in
+    let here = element_here bytes key_end inner rest k key one two in
+    let sound = element_sound 0 bytes (s, rest) opened again here in
+    let end = right_bracket ∷ (right_bracket ∷ rest) in
+    let close : past_blanks key_end ≡ end = past_some right_bracket _ inner (omega arith) (sym one) ∙ ap (λ (r : List ℕ). right_bracket ∷ r) (past_some right_bracket inner rest (omega arith) (sym two)) in
+    (s, here, header_marks kinds.ElementHeader old mid new bytes key_end rest (blanks key_end ++ end) k s noted ended (blank_parts key_end end close) sound.0)
+
+pub element_keyless : (bytes : List ℕ) → key_at (past_blanks (drop 2 bytes)) ≡ None → element_header_at bytes ≡ None
+unfolding element_header_at
+element_keyless bytes key = rw key refl
+
+pub element_open : (bytes key_end : List ℕ) (k : Key) → key_at (past_blanks (drop 2 bytes)) ≡ Some (k, key_end) → None ≡ past right_bracket (past_blanks key_end) → element_header_at bytes ≡ None
+unfolding element_header_at
+element_open bytes key_end k key one = rw (key, ← one) refl
+
+pub element_half : (bytes key_end inner : List ℕ) (k : Key) → key_at (past_blanks (drop 2 bytes)) ≡ Some (k, key_end) → Some inner ≡ past right_bracket (past_blanks key_end) → None ≡ past right_bracket inner → element_header_at bytes ≡ None
+unfolding element_header_at
+element_half bytes key_end inner k key one two = rw (key, ← one, ← two) refl
+
+pub element_failed : (bytes : List ℕ) (old new : Vec Mark) (e e2 : ReadError) (r : Result (Bor (List ℕ)) ReadError) → r ≡ Err e2 → e2 ≡ e
+    → ((e ≡ Memory → ⊥) → key_at (past_blanks (drop 2 bytes)) ≡ None) → Notes statement_marks old new r (element_header_at bytes)
+element_failed bytes old new e e2 r was same h =
+    subst (λ (x : Result (Bor (List ℕ)) ReadError). Notes statement_marks old new x (element_header_at bytes)) (sym was) (λ other. element_keyless bytes (h (λ m. other (same ∙ m))))
+
+-- ---- lines
 
 pub empty_noted : (n : ℕ) (old : List Mark) (bytes : List ℕ) → is_line_over (first (past_blanks bytes)) ≡ true
     → (l : Line) × (line_at n bytes ≡ Some (l, past_comment (past_blanks bytes))) × (old ≡ old ++ line_marks l (past_comment (past_blanks bytes)))

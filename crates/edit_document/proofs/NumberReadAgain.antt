@@ -28,7 +28,7 @@ pub record EndsValue (rest : List ℕ) : Type 0 where
   pub no_quote : eqb (first rest) 34 ≡ false
   pub no_apostrophe : eqb (first rest) 39 ≡ false
 
-blank_ends : (b : ℕ) (rest : List ℕ) → is_blank b ≡ true → is_decimal (first rest) ≡ false → EndsValue (b ∷ rest)
+pub blank_ends : (b : ℕ) (rest : List ℕ) → is_blank b ≡ true → is_decimal (first rest) ≡ false → EndsValue (b ∷ rest)
 blank_ends b rest h other = record {
   no_word = grind (arith, nat_tests);
   no_time = rw other (and_false (eqb b 32));
@@ -40,7 +40,7 @@ blank_ends b rest h other = record {
     and_false true = refl
     and_false false = refl
 
-stop_ends : (rest : List ℕ) → is_stop (first rest) ≡ true → EndsValue rest
+pub stop_ends : (rest : List ℕ) → is_stop (first rest) ≡ true → EndsValue rest
 stop_ends rest h = record {
   no_word = grind (arith, nat_tests);
   no_time = let other : eqb (first rest) 32 ≡ false = grind (arith, nat_tests) in rw other refl;
@@ -48,10 +48,10 @@ stop_ends rest h = record {
   no_apostrophe = grind (arith, nat_tests);
 }
 
-stop_other : (b : ℕ) → is_stop b ≡ true → is_decimal b ≡ false
+pub stop_other : (b : ℕ) → is_stop b ≡ true → is_decimal b ≡ false
 stop_other b h = grind (arith, nat_tests)
 
-blank_other : (b : ℕ) → is_blank b ≡ true → is_decimal b ≡ false
+pub blank_other : (b : ℕ) → is_blank b ≡ true → is_decimal b ≡ false
 blank_other b h = grind (arith, nat_tests)
 
 -- white space and then such a byte, or the end

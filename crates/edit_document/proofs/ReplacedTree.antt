@@ -1,19 +1,16 @@
 -- A document with strings written at places is a document again, of the same part of the grammar, with the tree that is meant.
-use Rattle.std.proofs.Common.{◌≡◌, ℕ, zero, suc, Bool, true, false, not, ◌&&◌, ◌||◌, ◌==◌, if◌then◌else◌, cond, List, [], ◌∷◌, ◌++◌, map, Option, None, Some, option_map, refl, sym, ap, ap₂, ◌∙◌, subst, ◌⊎◌, inl, inr, ⊎_elim, true≢false}
-use Rattle.std.proofs.lemmas.Bool.{and_parts}
-use Rattle.std.specs.List.{AllByRecursion}
-use Rattle.edit_document.specs.Strings.{Key}
-use Rattle.edit_document.specs.Grammar.{Value, basic, literal, multi_basic, multi_literal, boolean, integer, float, datetime, array, inline, Elements, no_elements, last_element, element, Members, no_members, last_member, member, Statement, pair, header, element_header, Line, empty_line, full_line, Lines, one_line, more_lines, Text, text, IsValue, AreElements, AreMembers, IsMember, IsStatement, AreLines}
-use Rattle.edit_document.specs.Assertions.{Place, Step, at, key, index, names, named, same_place, Kind, dotted, leaf, super, header_kind, array_kind, element_kind, Assertion, of_statement, assertions, prefix_after, NoClash, IsDocument}
-use Rattle.edit_document.specs.Tree.{View, string, view_in, view_at, view_of_kind, view_of_value, kind_at, is_value_at}
-use Rattle.edit_document.specs.Supported.{IsSupportedValue, AreSupportedMembers, IsSupportedStatement, AreSupportedLines, IsSupported, IsManifest}
-use Rattle.edit_document.specs.Literals.{literal_of, literal_piece}
+use Rattle.std.proofs.Common.{◌≡◌, ℕ, suc, true, false, ◌||◌, cond, List, [], ◌∷◌, ◌++◌, Option, None, Some, option_map, refl, sym, ap, ◌∙◌, inl, inr, true≢false}
+use Rattle.edit_document.specs.Grammar.{Value, basic, literal, multi_basic, multi_literal, boolean, integer, float, datetime, array, inline, Elements, no_elements, last_element, element, Members, no_members, last_member, member, Statement, pair, header, element_header, empty_line, full_line, Lines, one_line, more_lines, Text, text, IsValue, AreElements, AreMembers, IsMember, IsStatement, AreLines}
+use Rattle.edit_document.specs.Assertions.{Place, Step, at, index, names, named, same_place, leaf, Assertion, of_statement, assertions, prefix_after, NoClash, IsDocument}
+use Rattle.edit_document.specs.Tree.{View, string, view_at, view_of_kind, kind_at}
+use Rattle.edit_document.specs.Supported.{IsManifest}
+use Rattle.edit_document.specs.Literals.{literal_of}
 use Rattle.edit_document.specs.Replaces.{Edits, new_text, literal_or, put, replaced_inside, replaced_elements, replaced_members, replaced_statement, replaced_lines, replaced, is_below, is_below_any, written, emptied}
-use Rattle.edit_document.proofs.SamePlaces.{by_test, place_true, place_same, not_below_itself}
+use Rattle.edit_document.proofs.SamePlaces.{by_test, place_true, place_same}
 use Rattle.edit_document.proofs.LiteralLaws.{literal_is_value, literal_says}
 use Rattle.edit_document.proofs.Thinned.{Thin, none, thin_lines, thin_short, thin_no_clash}
-use Rattle.edit_document.proofs.ThinnedViews.{Untouched, thin_view, thin_literal}
-use Rattle.edit_document.proofs.NothingBelow.{HasLeaf, opens, shut_below, leaf_there, Rooted, done, next, rooted}
+use Rattle.edit_document.proofs.ThinnedViews.{thin_view, thin_literal}
+use Rattle.edit_document.proofs.NothingBelow.{HasLeaf, opens, shut_below, Rooted, done, next, rooted}
 
 -- ---- well formed
 
@@ -81,47 +78,9 @@ replaced_document edits old form document = record {
 
 -- ---- of the part that is read
 
-supported_put : (edits : Edits) (p : Place) (u : Value) → IsSupportedValue u → IsSupportedValue (put edits p u)
-supported_put edits p u h = go (new_text edits p)
-  where
-    go : (o : Option (List ℕ)) → IsSupportedValue (literal_or o u)
-    go None = h
-    go (Some said) = tt
-
-mutual
-  supported_inside : (edits : Edits) (p : Place) (v : Value) → IsSupportedValue v → IsSupportedValue (replaced_inside edits p v)
-  supported_inside edits p (basic ps) h = h
-  supported_inside edits p (literal t) h = h
-  supported_inside edits p (multi_basic ps) h = h
-  supported_inside edits p (multi_literal ps) h = h
-  supported_inside edits p (boolean b) h = h
-  supported_inside edits p (integer n) h = h
-  supported_inside edits p (float f) h = h
-  supported_inside edits p (datetime d) h = h
-  supported_inside edits p (array g es) h = absurd h
-  supported_inside edits p (inline g ms) h = supported_members edits p ms h
-
-  supported_members : (edits : Edits) (p : Place) (ms : Members) → AreSupportedMembers ms → AreSupportedMembers (replaced_members edits p ms)
-  supported_members edits p no_members h = h
-  supported_members edits p (last_member k a b v c) h = (h.0, supported_put edits (named p (names k)) _ (supported_inside edits (named p (names k)) v h.1))
-  supported_members edits p (member k a b v c d ms) h =
-      (h.0, supported_put edits (named p (names k)) _ (supported_inside edits (named p (names k)) v h.1), supported_members edits p ms h.2)
-
-supported_statement : (edits : Edits) (prefix : Place) (s : Statement) → IsSupportedStatement s → IsSupportedStatement (replaced_statement edits prefix s)
-supported_statement edits prefix (pair k a b v) h = (h.0, supported_put edits (named prefix (names k)) _ (supported_inside edits (named prefix (names k)) v h.1))
-supported_statement edits prefix (header a k b) h = h
-supported_statement edits prefix (element_header a k b) h = h
-
-supported_lines : (edits : Edits) (earlier : List Assertion) (prefix : Place) (ls : Lines) → AreSupportedLines ls → AreSupportedLines (replaced_lines edits earlier prefix ls)
-supported_lines edits earlier prefix (one_line (empty_line a c)) h = h
-supported_lines edits earlier prefix (one_line (full_line a s b c)) h = supported_statement edits prefix s h
-supported_lines edits earlier prefix (more_lines (empty_line a c) e ls) h = (h.0, supported_lines edits earlier prefix ls h.1)
-supported_lines edits earlier prefix (more_lines (full_line a s b c) e ls) h = (supported_statement edits prefix s h.0, supported_lines edits (earlier ++ of_statement earlier prefix s) (prefix_after earlier prefix s) ls h.1)
-
 pub replaced_manifest : (edits : Edits) (old : List ℕ) (form : Text) → IsManifest old form → IsManifest (text (replaced edits form)) (replaced edits form)
 replaced_manifest edits old form manifest = record {
   document = replaced_document edits old form manifest.document;
-  supported = supported_lines edits [] [] form.lines manifest.supported;
 }
 
 -- ---- the tree

@@ -1,5 +1,5 @@
 -- Places are the same where their steps are.
-use Rattle.std.proofs.Common.{◌≡◌, ℕ, Bool, true, false, ◌&&◌, eqb, List, [], ◌∷◌, ◌++◌, refl, sym, ap, subst, ◌∙◌, eq-eqb, arith}
+use Rattle.std.proofs.Common.{◌≡◌, ℕ, Bool, true, false, ◌&&◌, eqb, List, [], ◌∷◌, refl, ap, ◌∙◌, ◌⊎◌, inl, inr, eq-eqb}
 use Rattle.std.proofs.lemmas.Bool.{eqb-true}
 use Rattle.edit_document.specs.Assertions.{Step, key, index, Place, at, same_bytes, same_step, same_place}
 
@@ -77,3 +77,10 @@ key_same a b e = cc
 pub not_below : (p : Place) (s : Step) → at p s ≡ p → ⊥
 not_below [] s e = cc
 not_below (x ∷ p) s e = not_below p s (let t : at p s ≡ p = cc in t)
+
+pub place_or : (p q : Place) → (p ≡ q) ⊎ (p ≡ q → ⊥)
+place_or p q = go (same_place p q) refl
+  where
+    go : (b : Bool) → same_place p q ≡ b → (p ≡ q) ⊎ (p ≡ q → ⊥)
+    go true e = inl (same_place_is p q e)
+    go false e = inr (λ same. let t : same_place p q ≡ true = ap (λ (r : Place). same_place r q) same ∙ same_place_self q in cc)

@@ -1,56 +1,34 @@
 -- A document shows the tree of its form.
-use Rattle.std.proofs.Common.{◌≡◌, ℕ, zero, suc, List, [], ◌∷◌, map, Option, Some, refl, sym, ap, ◌∙◌, subst, ◌⊎◌, inl, inr, ⊎_elim}
-use Rattle.std.specs.Prelude.{slice_get, option_map}
-use Rattle.std.proofs.lemmas.Option.{slice_get-map, same_Some}
+use Rattle.std.proofs.Common.{◌≡◌, ℕ, List, map, Some, sym, ap, ◌∙◌, subst}
+use Rattle.std.specs.Prelude.{string_bytes}
 use Rattle.edit_document.specs.declared.document.Document.TheInside.{Inside}
 use Rattle.edit_document.specs.Grammar.{Text}
-use Rattle.edit_document.specs.Assertions.{Place, key, at, assertions}
+use Rattle.edit_document.specs.Assertions.{Place}
 use Rattle.edit_document.specs.Tree.{View, view_at}
 use Rattle.edit_document.specs.Supported.{IsManifest}
-use Rattle.edit_document.specs.Shown.{Shown, node_at, tree_of, ShowsTree}
-use Rattle.edit_document.specs.Nodes.{Spot, shown_spot, IsTree, IsMember}
-use Rattle.edit_document.specs.DocumentLayout.{Noted, root_noted, places_of, spot_of, spots_in, spots_of, noted_text, shown_of, IsRead}
-use Rattle.edit_document.proofs.Below.{all_at}
-use Rattle.edit_document.proofs.Spotting.{Fine, Closed, Good}
-use Rattle.edit_document.proofs.Matched.{text_matched, fine_of}
-use Rattle.edit_document.proofs.ShownTrees.{tree_shown}
-use Rattle.edit_document.proofs.ValueRanges.{form_same, open_spots}
+use Rattle.edit_document.specs.Shown.{Shown, node_at, ShowsTree}
+use Rattle.edit_document.specs.Nodes.{shown_spot}
+use Rattle.edit_document.specs.DocumentLayout.{nodes_by, shown_of, shown_by, IsRead}
+use Rattle.edit_document.proofs.Shallow.{manifest_form}
 
-places_map : (made : List Noted) → map (λ (s : Spot). s.place) (map (spot_of (places_of made)) (root_noted ∷ made)) ≡ [] ∷ places_of made
-places_map made = ap (λ (l : List Place). [] ∷ l) (go made)
-  where
-    go : (ms : List Noted) → map (λ (s : Spot). s.place) (map (spot_of (places_of made)) ms) ≡ places_of ms
-    go [] = refl
-    go (m ∷ ms) = ap (λ (l : List Place). m.place ∷ l) (go ms)
+-- ---- the form that was read is the only one
 
--- the place of a spot by its number
-spot_place : (made : List Noted) (n : ℕ) (s : Spot) → slice_get (spots_in made) n ≡ Some s → slice_get ([] ∷ places_of made) n ≡ Some s.place
-unfolding spots_in
-spot_place made n s e =
-    ap (λ (l : List Place). slice_get l n) (sym (places_map made)) ∙ slice_get-map (λ (z : Spot). z.place) (map (spot_of (places_of made)) (root_noted ∷ made)) n ∙ ap (option_map (λ (z : Spot). z.place)) e
+same_some : (a b : Text) → Some a ≡ Some b → a ≡ b
+same_some a b e = cc
 
-place_spot : (made ms : List Noted) (i : ℕ) (p : Place) → slice_get (places_of ms) i ≡ Some p → (s : Spot) × (slice_get (map (spot_of (places_of made)) ms) i ≡ Some s) × (s.place ≡ p)
-place_spot made [] i p e = absurd cc
-place_spot made (m ∷ ms) zero p e = (spot_of (places_of made) m, refl, same_Some m.place p e)
-place_spot made (m ∷ ms) (suc i) p e = place_spot made ms i p e
+pub shown_bytes : (inside : Inside) (shown : Shown) → shown_of inside ≡ shown → string_bytes inside.text ≡ shown.bytes
+unfolding shown_by
+shown_bytes inside shown view = ap (λ (s : Shown). s.bytes) view
 
-spotted : (made : List Noted) (i : ℕ) (p : Place) → slice_get (places_of made) i ≡ Some p → (s : Spot) × (slice_get (spots_in made) (suc i) ≡ Some s) × (s.place ≡ p)
-unfolding spots_in
-spotted made i p e = place_spot made made i p e
+pub form_same : (inside : Inside) (shown : Shown) (form : Text) → (read : IsRead inside) → shown_of inside ≡ shown → IsManifest shown.bytes form → form ≡ read.form
+form_same inside shown form read view manifest =
+    let here : IsManifest (string_bytes inside.text) form = subst (λ (b : List ℕ). IsManifest b form) (sym (shown_bytes inside shown view)) manifest in
+    same_some form read.form (sym (manifest_form (string_bytes inside.text) form here) ∙ manifest_form (string_bytes inside.text) read.form read.manifest)
 
-closed_from : (made : List Noted) → Fine (places_of made) → IsTree (spots_in made) → Closed (places_of made)
-closed_from made fine tree i p e =
-    let s = spotted made i p e in
-    ⊎_elim
-    (λ root. absurd (all_at (λ (q : Place). [] ≡ q → ⊥) (places_of made) i p fine.once.0 e (sym root ∙ s.2)))
-    (λ m. (m.number, m.table.place, m.name, spot_place made m.number m.table m.stands, sym s.2 ∙ m.below))
-    (tree.member (suc i) s.0 s.1)
+pub open_spots : (inside : Inside) (shown : Shown) → (read : IsRead inside) → shown_of inside ≡ shown → shown.nodes ≡ map shown_spot read.spots
+unfolding shown_by
+open_spots inside shown read view = ap (λ (s : Shown). s.nodes) (sym view) ∙ ap nodes_by read.found
 
 pub shows_tree : (inside : Inside) (shown : Shown) (form : Text) → IsRead inside → shown_of inside ≡ shown → IsManifest shown.bytes form → ShowsTree shown form
 shows_tree inside shown form read view manifest place =
-    let same = form_same inside shown form read view manifest in
-    let m = subst (λ t. IsManifest shown.bytes t) same manifest in
-    let matched = text_matched read.form m.supported in
-    let fine = fine_of (assertions read.form) (noted_text read.form) matched m.document.no_clash m.document.short in
-    let good : Good (noted_text read.form) = record { fine = fine; closed = closed_from (noted_text read.form) fine read.tree } in
-    ap (λ ns. node_at ns place) (open_spots inside shown read view) ∙ tree_shown (assertions read.form) (noted_text read.form) place matched good ∙ ap (λ t. view_at t place) (sym same)
+    ap (λ (ns : List (Place × View)). node_at ns place) (open_spots inside shown read view) ∙ read.views place ∙ ap (λ (t : Text). view_at t place) (sym (form_same inside shown form read view manifest))

@@ -1,132 +1,151 @@
--- What is noted of a text shows its tree.
-use Rattle.std.proofs.Common.{◌≡◌, ℕ, zero, suc, ◌<◌, ◌≤◌, Bool, true, false, not, cond, List, [], ◌∷◌, ◌++◌, length, Option, Some, None, refl, sym, ap, subst, ◌∙◌, arith}
+-- The spots that stand for the assertions of a text show its tree.
+use Rattle.std.proofs.Common.{◌≡◌, ℕ, ◌<◌, Bool, true, false, cond, not, ◌||◌, List, [], ◌∷◌, length, Option, Some, None, is_some, refl, sym, ap, subst, ◌∙◌}
 use Rattle.std.specs.Prelude.{map, option_map, slice_get}
-use Rattle.std.specs.List.{AllByRecursion, filter, filter_map, cons_option}
-use Rattle.std.proofs.lemmas.Option.{same_Some}
-use Rattle.edit_document.specs.Characters.{quote}
-use Rattle.edit_document.specs.Strings.{says}
-use Rattle.edit_document.specs.Grammar.{Value, basic, literal, multi_basic, multi_literal, boolean, integer, float, datetime, array, inline}
-use Rattle.edit_document.specs.Supported.{IsSupportedValue}
-use Rattle.edit_document.specs.Assertions.{Step, key, index, Place, at, same_step, same_place, Kind, dotted, leaf, super, header_kind, array_kind, element_kind, Assertion}
-use Rattle.edit_document.specs.Tree.{step_from, once, members_of, View, string, truth, inline_table, table, view_of_value, view_of_kind, kind_at, view_in}
+use Rattle.std.specs.List.{AllByRecursion, filter}
+use Rattle.edit_document.specs.Grammar.{Value, basic, literal, multi_basic, multi_literal, boolean, integer, float, datetime, array, inline, Between, Elements}
+use Rattle.edit_document.specs.Assertions.{Step, key, index, Place, at, same_step, Kind, dotted, leaf, super, header_kind, array_kind, element_kind, Assertion, elements_at}
+use Rattle.edit_document.specs.Tree.{once, members_of, View, static_array, count_elements, inline_table, table, table_array, view_of_value, view_of_kind, kind_at, view_in}
 use Rattle.edit_document.specs.Shown.{node_at}
-use Rattle.edit_document.specs.Nodes.{Shape, scalar, section, view_of_shape, shown_spot, Spot}
-use Rattle.edit_document.specs.Nodes as shapes
-use Rattle.edit_document.specs.DocumentLayout.{Noted, names_below, name_of_step, spot_of, root_noted, places_of, spots_in, shape_of_value}
-use Rattle.edit_document.proofs.SamePlace.{same_step_self, same_step_is, same_place_is}
-use Rattle.edit_document.proofs.Below.{step_from_is, step_from_at, Once}
-use Rattle.edit_document.proofs.Spotting.{Fine, Closed, Good}
-use Rattle.edit_document.proofs.Matched.{SameKind, IsNoted, Matched}
+use Rattle.edit_document.specs.Items.{key_names}
+use Rattle.edit_document.specs.DocumentLayout.{shape_of_value, Placed}
+use Rattle.edit_document.specs.Nodes.{Spot, names_of, view_of_shape, shown_spot}
+use Rattle.edit_document.proofs.SamePlace.{same_step_self}
+use Rattle.edit_document.proofs.MoreAssertions.{first_kind, first_is, is_headed, steps, has, has_step}
+use Rattle.edit_document.proofs.Standing.{Lists, shape_of_kind, Tells, Stands}
+use Rattle.edit_document.proofs.Arrays.{elements_full}
+use Rattle.edit_document.proofs.Evens.{IsEven}
+use Rattle.edit_document.proofs.Views.{node_first, node_none}
 
--- ---- the members of a place
+-- ---- the members of a table are keys
 
-abbrev steps_below : List Place → Place → List Step
-steps_below places p = filter_map (λ q. step_from p q) places
+abbrev IsKeyStep : Step → Type 0
+IsKeyStep (key n) = Unit {0}
+IsKeyStep (index i) = ⊥
 
-steps_matched : (made : List Assertion) (ms : List Noted) (p : Place) → Matched made ms → filter_map (λ a. step_from p a.place) made ≡ steps_below (places_of ms) p
-steps_matched [] [] p h = refl
-steps_matched [] (m ∷ ms) p h = absurd h
-steps_matched (a ∷ made) [] p h = absurd h
-steps_matched (a ∷ made) (m ∷ ms) p h =
-    ap (λ (q : Place). cons_option (step_from p q) (filter_map (λ b. step_from p b.place) made)) h.0.place ∙ ap (cons_option (step_from p m.place)) (steps_matched made ms p h.1)
-
--- each place ends in a key
-abbrev EndInKeys : List Place → Type 0
-EndInKeys places = AllByRecursion (λ q. (r : Place) × (n : List ℕ) × (q ≡ at r (key n))) places
-
-step_is_key : (p q r : Place) (n : List ℕ) (i : ℕ) → q ≡ at r (key n) → step_from p q ≡ Some (index i) → ⊥
-step_is_key p q r n i e s = last_key p r (sym (step_from_is p q (index i) s) ∙ e)
+all_filter : (test : Step → Bool) (xs : List Step) → AllByRecursion IsKeyStep xs → AllByRecursion IsKeyStep (filter test xs)
+all_filter test [] h = tt
+all_filter test (x ∷ xs) h = go (test x) (all_filter test xs h.1)
   where
-    last_key : (a b : Place) → at a (index i) ≡ at b (key n) → ⊥
-    last_key [] [] h = cc
-    last_key [] (y ∷ []) h = cc
-    last_key [] (y ∷ z ∷ b) h = cc
-    last_key (x ∷ []) [] h = cc
-    last_key (x ∷ w ∷ a) [] h = cc
-    last_key (x ∷ a) (y ∷ b) h = last_key a b (let t : at a (index i) ≡ at b (key n) = cc in t)
+    go : (b : Bool) → AllByRecursion IsKeyStep (filter test xs) → AllByRecursion IsKeyStep (cond b (x ∷ filter test xs) (filter test xs))
+    go true ih = (h.0, ih)
+    go false ih = ih
 
-steps_names : (places : List Place) (p : Place) → EndInKeys places → steps_below places p ≡ map key (names_below places p)
-steps_names [] p h = refl
-steps_names (q ∷ qs) p h = go (step_from p q) refl (steps_names qs p h.1)
+all_once : (xs : List Step) → AllByRecursion IsKeyStep xs → AllByRecursion IsKeyStep (once xs)
+all_once [] h = tt
+all_once (x ∷ xs) h = (h.0, all_filter (λ t. not (same_step x t)) (once xs) (all_once xs h.1))
+
+or_left : (x y : Bool) → (x || y) ≡ false → (x ≡ false) × (y ≡ false)
+or_left true y e = absurd cc
+or_left false y e = (refl, e)
+
+all_keys : (xs : List Step) → ((i : ℕ) → has (index i) xs ≡ false) → AllByRecursion IsKeyStep xs
+all_keys [] h = tt
+all_keys (key n ∷ xs) h = (tt, all_keys xs (λ i. (or_left (same_step (key n) (index i)) (has (index i) xs) (h i)).1))
+all_keys (index j ∷ xs) h =
+    let self : same_step (index j) (index j) ≡ true = same_step_self (index j) in
+    let clash : true ≡ false = sym self ∙ (or_left (same_step (index j) (index j)) (has (index j) xs) (h j)).0 in
+    absurd cc
+
+keys_back : (xs : List Step) → AllByRecursion IsKeyStep xs → xs ≡ map key (key_names xs)
+keys_back [] h = refl
+keys_back (key n ∷ xs) h = ap (λ (ys : List Step). key n ∷ ys) (keys_back xs h.1)
+keys_back (index i ∷ xs) h = absurd h.0
+
+-- of what has no elements
+members_keys : (made : List Assertion) (written : List Placed) (spots : List Spot) (p : Place) (k : Kind) → Stands made written spots → first_kind made p ≡ Some k → ((i : ℕ) → Lists k i → ⊥) → members_of made p ≡ map key (key_names (members_of made p))
+members_keys made written spots p k st first other = keys_back (members_of made p) (all_once (steps made p) (all_keys (steps made p) (λ i. has_step made p (index i) ∙ none i (kind_at made (at p (index i))) refl)))
   where
-    go : (o : Option Step) → step_from p q ≡ o → steps_below qs p ≡ map key (names_below qs p) → steps_below (q ∷ qs) p ≡ map key (names_below (q ∷ qs) p)
-    go None e ih = rw e ih
-    go (Some (key n)) e ih = rw e (ap (λ (ss : List Step). key n ∷ ss) ih)
-    go (Some (index i)) e ih = absurd (step_is_key p q h.0.0 h.0.1 i h.0.2 e)
-
-others_stay : (p q : Place) (s : Step) (qs : List Place) → step_from p q ≡ Some s → AllByRecursion (λ r. q ≡ r → ⊥) qs → filter (λ t. not (same_step s t)) (steps_below qs p) ≡ steps_below qs p
-others_stay p q s [] e h = refl
-others_stay p q s (r ∷ qs) e h = go (step_from p r) refl (others_stay p q s qs e h.1)
-  where
-    test : (t : Step) (b : Bool) → same_step s t ≡ b → step_from p r ≡ Some t → filter (λ x. not (same_step s x)) (steps_below qs p) ≡ steps_below qs p
-        → filter (λ x. not (same_step s x)) (t ∷ steps_below qs p) ≡ t ∷ steps_below qs p
-    test t true k f ih =
-        let same : s ≡ t = same_step_is s t k in
-        absurd (h.0 (step_from_is p q s e ∙ ap (at p) same ∙ sym (step_from_is p r t f)))
-    test t false k f ih = rw k (ap (λ (ss : List Step). t ∷ ss) ih)
-
-    go : (o : Option Step) → step_from p r ≡ o → filter (λ t. not (same_step s t)) (steps_below qs p) ≡ steps_below qs p → filter (λ t. not (same_step s t)) (steps_below (r ∷ qs) p) ≡ steps_below (r ∷ qs) p
-    go None f ih = rw f ih
-    go (Some t) f ih = rw f (test t (same_step s t) refl f ih)
-
-steps_once : (places : List Place) (p : Place) → Once places → once (steps_below places p) ≡ steps_below places p
-steps_once [] p h = refl
-steps_once (q ∷ qs) p h = go (step_from p q) refl (steps_once qs p h.1)
-  where
-    go : (o : Option Step) → step_from p q ≡ o → once (steps_below qs p) ≡ steps_below qs p → once (steps_below (q ∷ qs) p) ≡ steps_below (q ∷ qs) p
-    go None e ih = rw e ih
-    go (Some s) e ih = rw e (ap (λ (ss : List Step). s ∷ filter (λ t. not (same_step s t)) ss) ih ∙ ap (λ (ss : List Step). s ∷ ss) (others_stay p q s qs e h.0))
-
-pub members_are : (made : List Assertion) (ms : List Noted) (p : Place) → Matched made ms → Once (places_of ms) → EndInKeys (places_of ms) → members_of made p ≡ map key (names_below (places_of ms) p)
-members_are made ms p h o k = ap once (steps_matched made ms p h) ∙ steps_once (places_of ms) p o ∙ steps_names (places_of ms) p k
+    none : (i : ℕ) (o : Option Kind) → kind_at made (at p (index i)) ≡ o → is_some (kind_at made (at p (index i))) ≡ false
+    none i None e = ap is_some e
+    none i (Some j) e =
+        let l = st.indexed p i j e in
+        let same : l.kind ≡ k = (let both : Some l.kind ≡ Some k = sym l.first ∙ first in cc) in
+        absurd (other i (subst (λ (x : Kind). Lists x i) same l.lists))
 
 -- ---- views
 
-value_view : (made : List Assertion) (p : Place) (v : Value) (names : List (List ℕ)) → IsSupportedValue v → members_of made p ≡ map key names → view_of_shape (shape_of_value v) names ≡ view_of_value made p v
-value_view made p (basic ps) names s e = refl
-value_view made p (literal text) names s e = refl
-value_view made p (multi_basic ps) names s e = refl
-value_view made p (multi_literal ps) names s e = refl
-value_view made p (boolean b) names s e = refl
-value_view made p (integer n) names s e = refl
-value_view made p (float f) names s e = refl
-value_view made p (datetime d) names s e = refl
-value_view made p (array g es) names s e = absurd s
-value_view made p (inline g ms) names s e = ap inline_table (sym e)
+-- so many elements
+abbrev IsCount : Value → ℕ → Type 0
+IsCount (array g es) n = n ≡ count_elements es
+IsCount v n = Unit {0}
 
-kind_view : (made : List Assertion) (p : Place) (k : Kind) (shape : Shape) (names : List (List ℕ)) → SameKind k shape → members_of made p ≡ map key names → view_of_shape shape names ≡ view_of_kind made p k
-kind_view made p (leaf v) shape names h e = ap (λ (s : Shape). view_of_shape s names) h.0 ∙ value_view made p v names h.1 e
-kind_view made p header_kind shape names h e = ap (λ (s : Shape). view_of_shape s names) h ∙ ap table (sym e)
-kind_view made p (dotted b) shape names h e = absurd h
-kind_view made p super shape names h e = absurd h
-kind_view made p array_kind shape names h e = absurd h
-kind_view made p element_kind shape names h e = absurd h
+value_view : (made : List Assertion) (p : Place) (v : Value) (names : List (List ℕ)) (n : ℕ) → (((i : ℕ) → Lists (leaf v) i → ⊥) → members_of made p ≡ map key names) → IsCount v n → view_of_shape (shape_of_value v) names n ≡ view_of_value made p v
+value_view made p (basic ps) names n e c = refl
+value_view made p (literal text) names n e c = refl
+value_view made p (multi_basic ps) names n e c = refl
+value_view made p (multi_literal ps) names n e c = refl
+value_view made p (boolean b) names n e c = refl
+value_view made p (integer i) names n e c = refl
+value_view made p (float f) names n e c = refl
+value_view made p (datetime d) names n e c = refl
+value_view made p (array g es) names n e c = ap static_array c
+value_view made p (inline g ms) names n e c = ap (λ (ss : List Step). inline_table ss) (sym (e (λ i h. h)))
 
-nodes_are : (made : List Assertion) (places : List Place) (p : Place) (some : List Assertion) (ms : List Noted) → members_of made p ≡ map key (names_below places p) → Matched some ms
-    → node_at (map shown_spot (map (spot_of places) ms)) p ≡ option_map (view_of_kind made p) (kind_at some p)
-nodes_are made places p [] [] e h = refl
-nodes_are made places p [] (m ∷ ms) e h = absurd h
-nodes_are made places p (a ∷ some) [] e h = absurd h
-nodes_are made places p (a ∷ some) (m ∷ ms) e h = go (same_place m.place p) refl (nodes_are made places p some ms e h.1)
+abbrev IsCounted : List Assertion → Place → Kind → ℕ → Type 0
+IsCounted made p (leaf v) n = IsCount v n
+IsCounted made p k n = n ≡ elements_at made p
+
+kind_view : (made : List Assertion) (p : Place) (k : Kind) (names : List (List ℕ)) (n : ℕ) → (((i : ℕ) → Lists k i → ⊥) → members_of made p ≡ map key names) → IsCounted made p k n → view_of_shape (shape_of_kind k) names n ≡ view_of_kind made p k
+kind_view made p (leaf v) names n e c = value_view made p v names n e c
+kind_view made p (dotted true) names n e c = ap (λ (ss : List Step). inline_table ss) (sym (e (λ i h. h)))
+kind_view made p (dotted false) names n e c = ap (λ (ss : List Step). table ss) (sym (e (λ i h. h)))
+kind_view made p super names n e c = ap (λ (ss : List Step). table ss) (sym (e (λ i h. h)))
+kind_view made p header_kind names n e c = ap (λ (ss : List Step). table ss) (sym (e (λ i h. h)))
+kind_view made p element_kind names n e c = ap (λ (ss : List Step). table ss) (sym (e (λ i h. h)))
+kind_view made p array_kind names n e c = ap (λ (m : ℕ). table_array m) c
+
+-- each array has all of its elements
+abbrev pub AreFull : List Assertion → Type 0
+AreFull made = (p : Place) (g : List Between) (es : Elements) (i : ℕ) → kind_at made p ≡ Some (leaf (array g es)) → i < count_elements es → kind_at made (at p (index i)) ≡ None → ⊥
+
+spot_view : (made : List Assertion) (written : List Placed) (spots : List Spot) (n : ℕ) (s : Spot) → Stands made written spots → IsEven made → AreFull made → slice_get spots n ≡ Some s → (t : Tells made written s) → view_of_shape s.shape (names_of s) (length s.elements) ≡ view_of_kind made s.place t.kind
+spot_view made written spots n s st even full e t =
+    ap (λ x. view_of_shape x (names_of s) (length s.elements)) t.shape
+    ∙ kind_view made s.place t.kind (names_of s) (length s.elements) (λ other. members_keys made written spots s.place t.kind st t.first other ∙ ap (map key) (sym t.names)) (counted t.kind refl)
   where
-    go : (b : Bool) → same_place m.place p ≡ b → node_at (map shown_spot (map (spot_of places) ms)) p ≡ option_map (view_of_kind made p) (kind_at some p)
-        → node_at (map shown_spot (map (spot_of places) (m ∷ ms))) p ≡ option_map (view_of_kind made p) (kind_at (a ∷ some) p)
-    go true t ih =
-        let here : m.place ≡ p = same_place_is m.place p t in
-        let there : same_place a.place p ≡ true = ap (λ (q : Place). same_place q p) h.0.place ∙ t in
-        rw (t, there) (ap (λ (q : Place). Some (view_of_shape m.shape (names_below places q))) here ∙ ap (λ (v : View). Some v) (kind_view made p a.kind m.shape (names_below places p) h.0.kind e))
-    go false t ih =
-        let there : same_place a.place p ≡ false = ap (λ (q : Place). same_place q p) h.0.place ∙ t in
-        rw (t, there) ih
+    listed : (v : Value) → t.kind ≡ leaf v → IsCount v (length s.elements)
+    listed (array g es) k =
+        let first : first_kind made s.place ≡ Some (leaf (array g es)) = t.first ∙ ap (λ (x : Kind). Some x) k in
+        let inner : s.place ≡ [] → ⊥ = λ root. let clash : Some header_kind ≡ Some (leaf (array g es)) = ap (first_kind made) (sym root) ∙ first in cc in
+        elements_full made written spots n s g es st e first (λ i lt none. full s.place g es i (sym (first_is made s.place inner) ∙ first) lt none)
+    listed (basic ps) k = tt
+    listed (literal text) k = tt
+    listed (multi_basic ps) k = tt
+    listed (multi_literal ps) k = tt
+    listed (boolean b) k = tt
+    listed (integer i) k = tt
+    listed (float f) k = tt
+    listed (datetime d) k = tt
+    listed (inline g ms) k = tt
 
-end_in_keys : (places : List Place) → Closed places → EndInKeys places
-end_in_keys places closed = go places (λ i p e. let c = closed i p e in (c.1, c.2, c.4))
+    counted : (k : Kind) → t.kind ≡ k → IsCounted made s.place k (length s.elements)
+    counted (leaf v) same = listed v same
+    counted (dotted b) same = t.count (ap is_headed same) ∙ sym (even s.place)
+    counted super same = t.count (ap is_headed same) ∙ sym (even s.place)
+    counted header_kind same = t.count (ap is_headed same) ∙ sym (even s.place)
+    counted array_kind same = t.count (ap is_headed same) ∙ sym (even s.place)
+    counted element_kind same = t.count (ap is_headed same) ∙ sym (even s.place)
+
+pub tree_shown : (made : List Assertion) (written : List Placed) (spots : List Spot) (p : Place) → Stands made written spots → IsEven made → AreFull made → node_at (map shown_spot spots) p ≡ view_in made p
+tree_shown made written spots [] st even full =
+    let r = st.tree.root in
+    let t = st.tells 0 r.0 r.1 in
+    let kind : header_kind ≡ t.kind = (let same : Some header_kind ≡ Some t.kind = ap (first_kind made) (sym r.2) ∙ t.first in cc) in
+    ap (node_at (map shown_spot spots)) (sym r.2) ∙ node_first spots 0 r.0 r.1 (λ i u g same. st.tree.unique i 0 u r.0 g r.1 same)
+    ∙ ap (λ (v : View). Some v) (spot_view made written spots 0 r.0 st even full r.1 t ∙ ap (view_of_kind made r.0.place) (sym kind) ∙ ap (λ (q : Place). view_of_kind made q header_kind) r.2)
+tree_shown made written spots (x ∷ xs) st even full = go (kind_at made (x ∷ xs)) refl
   where
-    go : (qs : List Place) → ((i : ℕ) (p : Place) → slice_get qs i ≡ Some p → (r : Place) × (n : List ℕ) × (p ≡ at r (key n))) → EndInKeys qs
-    go [] h = tt
-    go (q ∷ qs) h = (h 0 q refl, go qs (λ i p e. h (suc i) p e))
-
-pub tree_shown : (made : List Assertion) (ms : List Noted) (p : Place) → Matched made ms → Good ms → node_at (map shown_spot (spots_in ms)) p ≡ view_in made p
-unfolding spots_in
-tree_shown made ms [] h good = ap (λ (ss : List Step). Some (table ss)) (sym (members_are made ms [] h good.fine.once.1 (end_in_keys (places_of ms) good.closed)))
-tree_shown made ms (s ∷ ss) h good = nodes_are made (places_of ms) (s ∷ ss) made ms (members_are made ms (s ∷ ss) h good.fine.once.1 (end_in_keys (places_of ms) good.closed)) h
+    go : (o : Option Kind) → kind_at made (x ∷ xs) ≡ o → node_at (map shown_spot spots) (x ∷ xs) ≡ option_map (view_of_kind made (x ∷ xs)) (kind_at made (x ∷ xs))
+    go (Some k) e =
+        let c = st.covers (x ∷ xs) k e in
+        let s = c.1.0 in
+        let t = st.tells c.0 s c.1.1 in
+        let kind : t.kind ≡ k = (let same : Some t.kind ≡ Some k = sym t.first ∙ ap (first_kind made) c.1.2 ∙ e in cc) in
+        ap (node_at (map shown_spot spots)) (sym c.1.2) ∙ node_first spots c.0 s c.1.1 (λ i u g same. st.tree.unique i c.0 u s g c.1.1 same)
+        ∙ ap (λ (v : View). Some v) (spot_view made written spots c.0 s st even full c.1.1 t ∙ ap (view_of_kind made s.place) kind ∙ ap (λ (q : Place). view_of_kind made q k) c.1.2)
+        ∙ sym (ap (option_map (view_of_kind made (x ∷ xs))) e)
+    go None e = node_none spots (x ∷ xs) (λ i u g same.
+        let t = st.tells i u g in
+        let some : kind_at made (x ∷ xs) ≡ Some t.kind = ap (first_kind made) (sym same) ∙ t.first in
+        let clash : None ≡ Some t.kind = sym e ∙ some in
+        cc) ∙ sym (ap (option_map (view_of_kind made (x ∷ xs))) e)

@@ -1,19 +1,19 @@
 -- The marks of a text are marks of its tokens.
-use Rattle.std.proofs.Common.{◌≡◌, ℕ, zero, suc, ◌<◌, Bool, true, false, List, [], ◌∷◌, ◌++◌, length, Option, Some, None, refl, sym, ap, subst, ◌∙◌}
+use Rattle.std.proofs.Common.{◌≡◌, ℕ, true, false, List, [], ◌∷◌, ◌++◌, length, refl, ap, ◌∙◌}
 use Rattle.std.specs.Prelude.{IsUtf8}
 use Rattle.std.specs.List.{AllByRecursion}
 use Rattle.edit_document.specs.declared.read.marks.Mark.{Mark}
 use Rattle.edit_document.specs.declared.read.marks.MarkKind.TheVariants as kinds
-use Rattle.edit_document.specs.Characters.{quote, apostrophe, comma, equals, left_bracket, right_bracket, right_brace, is_literal_ch, All}
+use Rattle.edit_document.specs.Characters.{quote, comma, equals, left_bracket, right_bracket, right_brace, is_blank, is_literal_ch, All}
 use Rattle.edit_document.specs.Strings.{◌·◌, line_end, Piece, pieces, says, IsBasicPiece, Part, bare, basic_part, literal_part, part, IsPart, name, basic_text, literal_text, Dotted, dotted, Key, IsKey}
 use Rattle.edit_document.specs.Strings as strings
-use Rattle.edit_document.specs.Grammar.{Between, gap, Value, basic, literal, multi_basic, multi_literal, boolean, integer, float, datetime, array, inline, value, IsValue, Members, no_members, last_member, member, members, AreMembers, Statement, pair, header, element_header, statement, IsStatement, comment, empty_line, full_line, Lines, one_line, more_lines, lines, AreLines, Text}
-use Rattle.edit_document.specs.Supported.{IsOnePart, IsSupportedValue, AreSupportedMembers, IsSupportedStatement, AreSupportedLines}
-use Rattle.edit_document.specs.Marks.{mark, part_mark, dotted_marks, key_marks, value_marks, members_marks, statement_marks, line_marks, lines_marks, text_marks}
+use Rattle.edit_document.specs.Grammar.{gap, Value, basic, literal, multi_basic, multi_literal, boolean, integer, float, datetime, array, inline, value, IsValue, Elements, no_elements, last_element, element, elements, AreElements, Members, no_members, last_member, member, members, AreMembers, Statement, pair, header, element_header, statement, IsStatement, comment, empty_line, full_line, Lines, one_line, more_lines, lines, AreLines, Text}
+use Rattle.edit_document.specs.Supported.{IsSupportedValue, AreSupportedElements, AreSupportedMembers, IsSupportedStatement, AreSupportedLines}
+use Rattle.edit_document.specs.Marks.{mark, part_mark, dotted_marks, key_marks, value_marks, elements_marks, members_marks, statement_marks, lines_marks, text_marks}
 use Rattle.edit_document.specs.Walk.{said}
-use Rattle.edit_document.specs.WalkState.{SaysAt, IsToken}
+use Rattle.edit_document.specs.WalkState.{IsToken}
 use Rattle.edit_document.proofs.Fronts.{Relation, IsKept, pieces_before}
-use Rattle.edit_document.proofs.Ends.{Ends, ends_past, ends_one, ends_pair, ends_gap, ends_value, ends_statement, ends_line, ends_line_end}
+use Rattle.edit_document.proofs.Ends.{Ends, ends_past, ends_one, ends_part, ends_pair, ends_gap, ends_value, ends_line, ends_line_end}
 use Rattle.edit_document.proofs.WalkedTokens.{said_basic, said_literal, said_part}
 use Rattle.edit_document.proofs.NumberTokens.{number_token}
 use Rattle.edit_document.proofs.MultiTokens.{multi_basic_token, multi_literal_token}
@@ -54,10 +54,14 @@ literal_token : (bytes text rest : List ℕ) → All is_literal_ch text → IsUt
 unfolding said
 literal_token bytes text rest h u ends e = (text, said_literal bytes text rest 0 h u ends, (ends.0, text, rest, ends.1, refl, refl, (h, refl)))
 
-key_tokens : (bytes : List ℕ) (k : Key) (rest : List ℕ) → IsKey k → IsOnePart k → IsUtf8 bytes → Ends bytes (strings.key k rest) → AreTokens bytes (key_marks k rest)
-key_tokens bytes k rest h one u ends =
-    let ends2 : Ends bytes (part k.first rest) = subst (λ (ds : List Dotted). Ends bytes (part k.first (dotted ds rest))) one ends in
-    subst (λ (ds : List Dotted). AreTokens bytes (part_mark k.first (dotted ds rest) ∷ dotted_marks ds rest)) (sym one) (part_token bytes k.first rest h.0 u ends2, tt)
+dotted_tokens : (bytes : List ℕ) (ds : List Dotted) (rest : List ℕ) → AllByRecursion (λ d. All is_blank d.before × All is_blank d.behind × IsPart d.part) ds → IsUtf8 bytes → Ends bytes (dotted ds rest) → AreTokens bytes (dotted_marks ds rest)
+dotted_tokens bytes [] rest h u ends = tt
+dotted_tokens bytes (d ∷ ds) rest h u ends =
+    let here : Ends bytes (part d.part (dotted ds rest)) = ends_past bytes d.behind (part d.part (dotted ds rest)) (ends_one bytes 46 (d.behind ++ part d.part (dotted ds rest)) (ends_past bytes d.before (46 ∷ (d.behind ++ part d.part (dotted ds rest))) ends)) in
+    (part_token bytes d.part (dotted ds rest) h.0.2 u here, dotted_tokens bytes ds rest h.1 u (ends_part bytes d.part (dotted ds rest) here))
+
+key_tokens : (bytes : List ℕ) (k : Key) (rest : List ℕ) → IsKey k → IsUtf8 bytes → Ends bytes (strings.key k rest) → AreTokens bytes (key_marks k rest)
+key_tokens bytes k rest h u ends = (part_token bytes k.first (dotted k.others rest) h.0 u ends, dotted_tokens bytes k.others rest h.1 u (ends_part bytes k.first (dotted k.others rest) ends))
 
 -- ---- values and members
 
@@ -72,35 +76,48 @@ mutual
   value_tokens bytes (integer n) rest h s u ends = (number_token bytes (integer n) rest h tt ends, tt)
   value_tokens bytes (float f) rest h s u ends = (number_token bytes (float f) rest h tt ends, tt)
   value_tokens bytes (datetime d) rest h s u ends = (number_token bytes (datetime d) rest h tt ends, tt)
-  value_tokens bytes (array g es) rest h s u ends = absurd s
+  value_tokens bytes (array g es) rest h s u ends =
+      let inside : Ends bytes (elements es (right_bracket ∷ rest)) = ends_gap bytes g (elements es (right_bracket ∷ rest)) (ends_one bytes 91 (gap g (elements es (right_bracket ∷ rest))) ends) in
+      ((λ e. absurd cc), tokens_append bytes (elements_marks es (right_bracket ∷ rest)) (mark kinds.CloseArray (right_bracket ∷ rest) rest ∷ []) (elements_tokens bytes es (right_bracket ∷ rest) h.1 s u inside) ((λ e. absurd cc), tt))
   value_tokens bytes (inline g ms) rest h s u ends =
       let inside : Ends bytes (members ms (right_brace ∷ rest)) = ends_gap bytes g (members ms (right_brace ∷ rest)) (ends_one bytes 123 (gap g (members ms (right_brace ∷ rest))) ends) in
       ((λ e. absurd cc), tokens_append bytes (members_marks ms (right_brace ∷ rest)) (mark kinds.CloseTable (right_brace ∷ rest) rest ∷ []) (members_tokens bytes ms (right_brace ∷ rest) h.1 s u inside) ((λ e. absurd cc), tt))
+
+  elements_tokens : (bytes : List ℕ) (es : Elements) (rest : List ℕ) → AreElements es → AreSupportedElements es → IsUtf8 bytes → Ends bytes (elements es rest) → AreTokens bytes (elements_marks es rest)
+  elements_tokens bytes no_elements rest h s u ends = tt
+  elements_tokens bytes (last_element v g) rest h s u ends = value_tokens bytes v (gap g rest) h.0 s u ends
+  elements_tokens bytes (element v g h2 es) rest h s u ends =
+      let after = gap g (comma ∷ gap h2 (elements es rest)) in
+      let more_ends : Ends bytes (elements es rest) = ends_gap bytes h2 (elements es rest) (ends_one bytes comma (gap h2 (elements es rest)) (ends_gap bytes g (comma ∷ gap h2 (elements es rest)) (ends_value bytes v after ends))) in
+      tokens_append bytes (value_marks v after) (elements_marks es rest) (value_tokens bytes v after h.0 s.0 u ends) (elements_tokens bytes es rest h.3 s.1 u more_ends)
 
   members_tokens : (bytes : List ℕ) (ms : Members) (rest : List ℕ) → AreMembers ms → AreSupportedMembers ms → IsUtf8 bytes → Ends bytes (members ms rest) → AreTokens bytes (members_marks ms rest)
   members_tokens bytes no_members rest h s u ends = tt
   members_tokens bytes (last_member k a b v c) rest h s u ends =
       let after = gap c rest in
-      tokens_append bytes (key_marks k (a ++ (equals ∷ (b ++ value v after)))) (value_marks v after) (key_tokens bytes k (a ++ (equals ∷ (b ++ value v after))) h.0 s.0 u ends)
-      (value_tokens bytes v after h.3 s.1 u (ends_pair bytes k a b (value v after) ends))
+      tokens_append bytes (key_marks k (a ++ (equals ∷ (b ++ value v after)))) (value_marks v after) (key_tokens bytes k (a ++ (equals ∷ (b ++ value v after))) h.0 u ends)
+      (value_tokens bytes v after h.3 s u (ends_pair bytes k a b (value v after) ends))
   members_tokens bytes (member k a b v c d ms) rest h s u ends =
       let after = gap c (comma ∷ gap d (members ms rest)) in
       let value_ends : Ends bytes (value v after) = ends_pair bytes k a b (value v after) ends in
       let more_ends : Ends bytes (members ms rest) = ends_gap bytes d (members ms rest) (ends_one bytes comma (gap d (members ms rest)) (ends_gap bytes c (comma ∷ gap d (members ms rest)) (ends_value bytes v after value_ends))) in
       tokens_append bytes (key_marks k (a ++ (equals ∷ (b ++ value v after))) ++ value_marks v after) (members_marks ms rest)
-      (tokens_append bytes (key_marks k (a ++ (equals ∷ (b ++ value v after)))) (value_marks v after) (key_tokens bytes k (a ++ (equals ∷ (b ++ value v after))) h.0 s.0 u ends) (value_tokens bytes v after h.3 s.1 u value_ends))
-      (members_tokens bytes ms rest h.6 s.2 u more_ends)
+      (tokens_append bytes (key_marks k (a ++ (equals ∷ (b ++ value v after)))) (value_marks v after) (key_tokens bytes k (a ++ (equals ∷ (b ++ value v after))) h.0 u ends) (value_tokens bytes v after h.3 s.0 u value_ends))
+      (members_tokens bytes ms rest h.6 s.1 u more_ends)
 
 -- ---- statements and lines
 
 statement_tokens : (bytes : List ℕ) (s : Statement) (rest : List ℕ) → IsStatement s → IsSupportedStatement s → IsUtf8 bytes → Ends bytes (statement s rest) → AreTokens bytes (statement_marks s rest)
 statement_tokens bytes (pair k a b v) rest h s u ends =
-    tokens_append bytes (key_marks k (a ++ (equals ∷ (b ++ value v rest)))) (value_marks v rest) (key_tokens bytes k (a ++ (equals ∷ (b ++ value v rest))) h.0 s.0 u ends)
-    (value_tokens bytes v rest h.3 s.1 u (ends_pair bytes k a b (value v rest) ends))
+    tokens_append bytes (key_marks k (a ++ (equals ∷ (b ++ value v rest)))) (value_marks v rest) (key_tokens bytes k (a ++ (equals ∷ (b ++ value v rest))) h.0 u ends)
+    (value_tokens bytes v rest h.3 s u (ends_pair bytes k a b (value v rest) ends))
 statement_tokens bytes (header a k b) rest h s u ends =
     let key_ends : Ends bytes (strings.key k (b ++ (right_bracket ∷ rest))) = ends_past bytes a (strings.key k (b ++ (right_bracket ∷ rest))) (ends_one bytes left_bracket (a ++ strings.key k (b ++ (right_bracket ∷ rest))) ends) in
-    tokens_append bytes (key_marks k (b ++ (right_bracket ∷ rest))) (mark kinds.Header (statement (header a k b) rest) rest ∷ []) (key_tokens bytes k (b ++ (right_bracket ∷ rest)) h.1 s u key_ends) ((λ e. absurd cc), tt)
-statement_tokens bytes (element_header a k b) rest h s u ends = absurd s
+    tokens_append bytes (key_marks k (b ++ (right_bracket ∷ rest))) (mark kinds.Header (statement (header a k b) rest) rest ∷ []) (key_tokens bytes k (b ++ (right_bracket ∷ rest)) h.1 u key_ends) ((λ e. absurd cc), tt)
+statement_tokens bytes (element_header a k b) rest h s u ends =
+    let end = b ++ (right_bracket ∷ (right_bracket ∷ rest)) in
+    let key_ends : Ends bytes (strings.key k end) = ends_past bytes a (strings.key k end) (ends_one bytes left_bracket (a ++ strings.key k end) (ends_one bytes left_bracket (left_bracket ∷ (a ++ strings.key k end)) ends)) in
+    tokens_append bytes (key_marks k end) (mark kinds.ElementHeader (statement (element_header a k b) rest) rest ∷ []) (key_tokens bytes k end h.1 u key_ends) ((λ e. absurd cc), tt)
 
 lines_tokens : (bytes : List ℕ) (ls : Lines) → AreLines ls → AreSupportedLines ls → IsUtf8 bytes → Ends bytes (lines ls) → AreTokens bytes (lines_marks ls)
 lines_tokens bytes (one_line (empty_line a c)) h s u ends = tt

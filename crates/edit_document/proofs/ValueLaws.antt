@@ -1,15 +1,16 @@
 -- The laws of values: what is read is spelled so, and what is spelled so is read.
 use Rattle.std.proofs.Common.{◌≡◌, ℕ, if◌then◌else◌, zero, suc, ◌<◌, ◌≤◌, true, false, ◌&&◌, eqb, List, [], ◌∷◌, ◌++◌, length, slice_index, drop, Some, refl, sym, ap, subst, ◌∙◌, inl, inr, arith}
-use Rattle.edit_document.specs.Characters.{quote, apostrophe, comma, equals, left_brace, right_brace, is_blank, All}
+use Rattle.edit_document.specs.Characters.{quote, apostrophe, comma, equals, left_bracket, right_bracket, left_brace, right_brace, is_blank, All}
 use Rattle.edit_document.specs.Strings.{key, IsKey}
-use Rattle.edit_document.specs.Grammar.{three, Between, blank, break, remark, gap, IsBlankGap, Value, basic, literal, multi_basic, multi_literal, boolean, integer, float, datetime, array, inline, Members, no_members, last_member, member, value, members, IsValue, AreMembers, IsMember}
-use Rattle.edit_document.specs.Supported.{IsOnePart, IsSupportedValue, AreSupportedMembers}
-use Rattle.edit_document.specs.Depth.{depth, members_depth}
+use Rattle.edit_document.specs.Grammar.{three, Between, blank, break, remark, gap, IsGap, IsBlankGap, Value, basic, literal, multi_basic, multi_literal, boolean, integer, float, datetime, array, inline, Elements, no_elements, last_element, element, Members, no_members, last_member, member, value, elements, members, IsValue, AreElements, AreMembers, IsMember}
+use Rattle.edit_document.specs.Supported.{IsSupportedValue, AreSupportedElements, AreSupportedMembers}
+use Rattle.edit_document.specs.Depth.{depth, elements_depth, members_depth}
 use Rattle.edit_document.specs.ReadingNumbers.{begins, number_at}
-use Rattle.edit_document.specs.Reading.{◌>>=◌, Read, multi_at, first, past, blanks, past_blanks, blank_gap, basic_at, literal_at, key_at, scalar_at, starts, Pair, pair_at, members_at, value_at}
+use Rattle.edit_document.specs.Reading.{◌>>=◌, Read, multi_at, first, past, blanks, past_blanks, blank_gap, gap_front, past_gap, basic_at, literal_at, key_at, scalar_at, starts, Pair, pair_at, members_at, elements_at, value_at}
 use Rattle.edit_document.proofs.TokenLaws.{bind_some, chosen, tested, some_is, first_is, at_drop, both, past_some, run_parts, run_all, basic_sound, literal_sound, key_sound}
 use Rattle.edit_document.proofs.NumberLaws.{IsNumber, begins_is, number_sound}
 use Rattle.edit_document.proofs.MultiLaws.{multi_basic_sound, multi_literal_sound}
+use Rattle.edit_document.proofs.GapLaws.{front_parts, front_gap}
 
 -- ---- gaps of tabs and spaces
 
@@ -46,6 +47,11 @@ pub record AreReadable (n : ℕ) (ms : Members) : Type 0 where
   pub valid : AreMembers ms
   pub supported : AreSupportedMembers ms
   pub shallow : members_depth ms ≤ n
+
+pub record AreReadableElements (n : ℕ) (es : Elements) : Type 0 where
+  pub valid : AreElements es
+  pub supported : AreSupportedElements es
+  pub shallow : elements_depth es ≤ n
 
 -- a reader of values reads nothing that is not spelled so
 abbrev pub Sound : ℕ → (List ℕ → Read Value) → Type 0
@@ -134,7 +140,6 @@ pair_text p rest = key p.key (p.before ++ (equals ∷ (p.behind ++ value p.value
 
 pub record IsPair (n : ℕ) (p : Pair) : Type 0 where
   pub key : IsKey p.key
-  pub one_part : IsOnePart p.key
   pub before : All is_blank p.before
   pub behind : All is_blank p.behind
   pub value : IsReadable n p.value
@@ -150,7 +155,7 @@ pair_sound n read sound text x e =
     let one : b.0 ≡ blanks b.0 ++ value c.0.0 c.0.1 = blank_parts b.0 (value c.0.0 c.0.1) v.0 in
     let two : a.0.1 ≡ blanks a.0.1 ++ (equals ∷ (blanks b.0 ++ value c.0.0 c.0.1)) = blank_parts a.0.1 (equals ∷ (blanks b.0 ++ value c.0.0 c.0.1)) (past_some equals _ b.0 (omega arith) b.1 ∙ ap (λ (r : List ℕ). equals ∷ r) one) in
     subst (λ (y : Pair × List ℕ). (text ≡ pair_text y.0 y.1) × IsPair n y.0) (some_is (record { key = a.0.0; before = blanks a.0.1; behind = blanks b.0; value = c.0.0 }, c.0.1) x c.2)
-    (k.0 ∙ ap (key a.0.0) two, record { key = k.1; one_part = k.2; before = run_all is_blank a.0.1; behind = run_all is_blank b.0; value = v.1 })
+    (k.0 ∙ ap (key a.0.0) two, record { key = k.1; before = run_all is_blank a.0.1; behind = run_all is_blank b.0; value = v.1 })
 
 -- ---- members
 
@@ -158,14 +163,14 @@ pair_sound n read sound text x e =
 member_readable : (n : ℕ) (p : Pair) (c d : List Between) (ms : Members) → IsPair n p → IsBlankGap c → IsBlankGap d → IsMember ms → AreReadable n ms → AreReadable n (member p.key p.before p.behind p.value c d ms)
 member_readable n p c d ms one hc hd some others = record {
   valid = (one.key, one.before, one.behind, one.value.valid, hc, hd, others.valid, some);
-  supported = (one.one_part, one.value.supported, others.supported);
+  supported = (one.value.supported, others.supported);
   shallow = let k = one.value.shallow in let l = others.shallow in omega arith;
 }
 
 last_readable : (n : ℕ) (p : Pair) (c : List Between) → IsPair n p → IsBlankGap c → AreReadable n (last_member p.key p.before p.behind p.value c)
 last_readable n p c one hc = record {
   valid = (one.key, one.before, one.behind, one.value.valid, hc);
-  supported = (one.one_part, one.value.supported);
+  supported = one.value.supported;
   shallow = one.value.shallow;
 }
 
@@ -194,6 +199,55 @@ members_sound n read sound (suc count) text x e =
           subst P (some_is _ x b.2) (one.0 ∙ ap (pair_text p) two, last_readable n p (blank_gap (blanks r)) one.1 (is_blank_gap (blanks r) (run_all is_blank r)), tt)
     ]
 
+-- ---- elements
+
+none_readable : (n : ℕ) → AreReadableElements n no_elements
+none_readable n = record { valid = tt; supported = tt; shallow = omega arith }
+
+last_element_readable : (n : ℕ) (v : Value) (g : List Between) → IsReadable n v → IsGap g → AreReadableElements n (last_element v g)
+last_element_readable n v g one hg = record { valid = (one.valid, hg); supported = one.supported; shallow = one.shallow }
+
+element_readable : (n : ℕ) (v : Value) (g h : List Between) (es : Elements) → IsReadable n v → IsGap g → IsGap h → AreReadableElements n es → AreReadableElements n (element v g h es)
+element_readable n v g h es one hg hh others = record {
+  valid = (one.valid, hg, hh, others.valid);
+  supported = (one.supported, others.supported);
+  shallow = let k = one.shallow in let l = others.shallow in omega arith;
+}
+
+pub elements_sound : (n : ℕ) (read : List ℕ → Read Value) → Sound n read → (count : ℕ) (text : List ℕ) (x : Elements × List ℕ) → elements_at read count text ≡ Some x → (text ≡ elements x.0 (right_bracket ∷ x.1)) × AreReadableElements n x.0
+unfolding elements_at
+elements_sound n read sound zero text x e = absurd cc
+elements_sound n read sound (suc count) text x e =
+    let P : Elements × List ℕ → Type 0 = λ y. (text ≡ elements y.0 (right_bracket ∷ y.1)) × AreReadableElements n y.0 in
+    elim (chosen (eqb (first text) right_bracket) _ _ (Some x) e) [
+      | inl h ↦ subst P (some_is _ x h.1) (first_is right_bracket text (omega arith) h.0, none_readable n)
+      | inr h ↦
+          let a = bind_some (read text) _ x h.1 in
+          let v = a.0.0 in
+          let r = a.0.1 in
+          let one = sound text a.0 a.1 in
+          elim (chosen (eqb (first (past_gap r)) comma) _ _ (Some x) a.2) [
+            | inl k ↦
+                let next = drop 1 (past_gap r) in
+                let b = bind_some (elements_at read count (past_gap next)) _ x k.1 in
+                let others = elements_sound n read sound count (past_gap next) b.0 b.1 in
+                let more = elements b.0.0 (right_bracket ∷ b.0.1) in
+                let two : next ≡ gap (gap_front next) more = front_parts next more others.0 in
+                let three : r ≡ gap (gap_front r) (comma ∷ gap (gap_front next) more) =
+                front_parts r (comma ∷ gap (gap_front next) more) (first_is comma (past_gap r) (omega arith) k.0 ∙ ap (λ (t : List ℕ). comma ∷ t) two) in
+                subst P (some_is _ x b.2) (one.0 ∙ ap (value v) three, element_readable n v (gap_front r) (gap_front next) b.0.0 one.1 (front_gap r) (front_gap next) others.1)
+            | inr k ↦
+                let b = bind_some (past right_bracket (past_gap r)) _ x k.1 in
+                let two : r ≡ gap (gap_front r) (right_bracket ∷ b.0) = front_parts r (right_bracket ∷ b.0) (past_some right_bracket (past_gap r) b.0 (omega arith) b.1) in
+                subst P (some_is _ x b.2) (one.0 ∙ ap (value v) two, last_element_readable n v (gap_front r) one.1 (front_gap r))
+          ]
+    ]
+
+array_readable : (n : ℕ) (g : List Between) (es : Elements) → IsGap g → AreReadableElements n es → IsReadable (suc n) (array g es)
+array_readable n g es hg h = record { valid = (hg, h.valid); supported = h.supported; shallow = let k = h.shallow in omega arith }
+
+-- ---- inline tables
+
 inline_readable : (n : ℕ) (g : List Between) (ms : Members) → IsBlankGap g → AreReadable n ms → IsReadable (suc n) (inline g ms)
 inline_readable n g ms hg h = record { valid = (hg, h.valid); supported = h.supported; shallow = let k = h.shallow in omega arith }
 
@@ -208,18 +262,25 @@ value_sound (suc n) text x e =
     let inner = drop 1 text in
     let g = blank_gap (blanks inner) in
     let hg = is_blank_gap (blanks inner) (run_all is_blank inner) in
-    elim (chosen (eqb (first text) left_brace) _ _ (Some x) e) [
+    elim (chosen (eqb (first text) left_bracket) _ _ (Some x) e) [
       | inl h ↦
-          let opened = first_is left_brace text (omega arith) h.0 in
-          elim (chosen (eqb (first (past_blanks inner)) right_brace) _ _ (Some x) h.1) [
-            | inl k ↦
-                let tail : inner ≡ gap g (right_brace ∷ drop 1 (past_blanks inner)) = gap_parts inner (right_brace ∷ drop 1 (past_blanks inner)) (first_is right_brace (past_blanks inner) (omega arith) k.0) in
-                subst P (some_is _ x k.1) (opened ∙ ap (λ (t : List ℕ). left_brace ∷ t) tail, inline_readable n g no_members hg (empty_readable n))
-            | inr k ↦
-                let b = bind_some (members_at (value_at n) (length text) (past_blanks inner)) _ x k.1 in
-                let ms = members_sound n (value_at n) (value_sound n) (length text) (past_blanks inner) b.0 b.1 in
-                let tail : inner ≡ gap g (members b.0.0 (right_brace ∷ b.0.1)) = gap_parts inner (members b.0.0 (right_brace ∷ b.0.1)) ms.0 in
-                subst P (some_is _ x b.2) (opened ∙ ap (λ (t : List ℕ). left_brace ∷ t) tail, inline_readable n g b.0.0 hg ms.1)
-          ]
-      | inr h ↦ scalar_sound (suc n) text x h.1
+          let b = bind_some (elements_at (value_at n) (length text) (past_gap inner)) _ x h.1 in
+          let es = elements_sound n (value_at n) (value_sound n) (length text) (past_gap inner) b.0 b.1 in
+          let tail : inner ≡ gap (gap_front inner) (elements b.0.0 (right_bracket ∷ b.0.1)) = front_parts inner (elements b.0.0 (right_bracket ∷ b.0.1)) es.0 in
+          subst P (some_is _ x b.2) (first_is left_bracket text (omega arith) h.0 ∙ ap (λ (t : List ℕ). left_bracket ∷ t) tail, array_readable n (gap_front inner) b.0.0 (front_gap inner) es.1)
+      | inr other ↦ elim (chosen (eqb (first text) left_brace) _ _ (Some x) other.1) [
+        | inl h ↦
+            let opened = first_is left_brace text (omega arith) h.0 in
+            elim (chosen (eqb (first (past_blanks inner)) right_brace) _ _ (Some x) h.1) [
+              | inl k ↦
+                  let tail : inner ≡ gap g (right_brace ∷ drop 1 (past_blanks inner)) = gap_parts inner (right_brace ∷ drop 1 (past_blanks inner)) (first_is right_brace (past_blanks inner) (omega arith) k.0) in
+                  subst P (some_is _ x k.1) (opened ∙ ap (λ (t : List ℕ). left_brace ∷ t) tail, inline_readable n g no_members hg (empty_readable n))
+              | inr k ↦
+                  let b = bind_some (members_at (value_at n) (length text) (past_blanks inner)) _ x k.1 in
+                  let ms = members_sound n (value_at n) (value_sound n) (length text) (past_blanks inner) b.0 b.1 in
+                  let tail : inner ≡ gap g (members b.0.0 (right_brace ∷ b.0.1)) = gap_parts inner (members b.0.0 (right_brace ∷ b.0.1)) ms.0 in
+                  subst P (some_is _ x b.2) (opened ∙ ap (λ (t : List ℕ). left_brace ∷ t) tail, inline_readable n g b.0.0 hg ms.1)
+            ]
+        | inr h ↦ scalar_sound (suc n) text x h.1
+      ]
     ]

@@ -1,29 +1,27 @@
 -- What the table of nodes tells of a document.
-use Rattle.std.proofs.Common.{◌≡◌, ℕ, zero, suc, ◌+◌, ◌<◌, Bool, true, false, cond, List, [], ◌∷◌, ◌++◌, length, get_or, take, drop, Option, Some, None, refl, sym, ap, subst, ◌∙◌, ◌⊎◌, inl, inr, arith, append_assoc, append-nil, String, Global}
-use Rattle.std.specs.Prelude.{map, slice_get, option_map, unwrap_or, MatchOption, string_bytes}
-use Rattle.std.specs.List.{filter_map}
-use Rattle.std.specs.Map.{lookup}
-use Rattle.std.specs.Str.{bytes_eq}
+use Rattle.std.proofs.Common.{◌≡◌, ℕ, zero, suc, ◌+◌, ◌<◌, ◌≤◌, Bool, true, false, List, [], ◌∷◌, ◌++◌, length, get_or, take, drop, Option, Some, None, refl, sym, ap, subst, ◌∙◌, ◌⊎◌, inl, inr, arith, append_assoc, append-nil, String, Global}
+use Rattle.std.specs.Prelude.{map, slice_get, option_map, unwrap_or, MatchOption, IfSome, string_bytes}
+use Rattle.std.specs.Option.{option_copied}
 use Rattle.std.specs.Borrow.{Bor}
 use Rattle.std.specs.Map.Iter.{deref_pair}
-use Rattle.edit_document.specs.declared.nodes.Content.{Content}
-use Rattle.edit_document.specs.declared.nodes.Content.TheVariants as content
-use Rattle.edit_document.specs.declared.document.Seen.{Seen}
-use Rattle.std.proofs.lemmas.Slice.Eq.{bytes_eq-Decides}
-use Rattle.std.proofs.lemmas.Option.{slice_get-map, slice_get_within, slice_get_read, same_Some}
+use Rattle.std.proofs.lemmas.Option.{slice_get-map, slice_get_past, slice_get_within, slice_get_read, same_Some}
 use Rattle.std.proofs.lemmas.List.{length-map, map-append, take_more, take-append-drop}
 use Rattle.indexmap.specs.IndexMap.{get_by_text}
+use Rattle.edit_document.specs.declared.nodes.Content.{Content}
+use Rattle.edit_document.specs.declared.nodes.Content.TheVariants as content
 use Rattle.edit_document.specs.declared.nodes.Node.{Node}
+use Rattle.edit_document.specs.declared.document.Seen.{Seen}
 use Rattle.edit_document.specs.declared.document.Document.TheInside.{Inside}
+use Rattle.edit_document.specs.declared.place.Step.{Step as WrittenStep}
 use Rattle.edit_document.specs.Assertions.{Step, key, index, Place, at, same_place}
 use Rattle.edit_document.specs.Tree.{View, table}
 use Rattle.edit_document.specs.Shown.{Shown, node_at, tree_of}
-use Rattle.edit_document.specs.Nodes.{Spot, Shape, scalar, inline, section, view_of_shape, shown_spot, shape_of, StandsAt, Keeps, Holds, IsMember, IsTree}
-use Rattle.edit_document.specs.FormOf.{form_of}
-use Rattle.edit_document.specs.DocumentLayout.{nodes_by, shown_by, shown_of, spots_of, IsRead}
-use Rattle.edit_document.specs.declared.place.Step.{Step as WrittenStep}
+use Rattle.edit_document.specs.Nodes.{Spot, Shape, names_of, view_of_shape, shown_spot, shape_of, Keeps, Holds, below, IsTree}
+use Rattle.edit_document.specs.DocumentLayout.{spots_of, nodes_by, shown_by, shown_of, IsRead}
 use Rattle.edit_document.specs.Items.{step_seen, place_seen, viewed, place_numbered, view_numbered, key_names, names_in, count_in, Numbers, Shows}
-use Rattle.edit_document.proofs.SamePlace.{same_place_self, same_place_is, other_place, last_same, not_root, key_same}
+use Rattle.edit_document.proofs.SamePlace.{same_place_self, same_place_is, other_place, last_same, not_root}
+use Rattle.edit_document.proofs.ListElements.{slice_get_same}
+use Rattle.edit_document.proofs.Adding.{spot_of_node, below_node}
 
 -- a document that is open: its spots, and the nodes that keep them
 pub record Opened (shown : Shown) (nodes : List Node) : Type 0 where
@@ -35,18 +33,17 @@ pub record Opened (shown : Shown) (nodes : List Node) : Type 0 where
 pub opened : (inside : Inside) (shown : Shown) → IsRead inside → shown_of inside ≡ shown → Opened shown inside.nodes.items
 unfolding shown_by
 opened inside shown read view =
-    let seen : shown.nodes ≡ nodes_by (form_of (string_bytes inside.text)) = ap (λ (s : Shown). s.nodes) (sym view) in
-    record { spots = spots_of read.form; nodes_are = seen ∙ ap nodes_by read.found; holds = read.holds; tree = read.tree }
+    let seen : shown.nodes ≡ nodes_by (spots_of (string_bytes inside.text)) = ap (λ (s : Shown). s.nodes) (sym view) in
+    record { spots = read.spots; nodes_are = seen ∙ ap nodes_by read.found; holds = read.holds; tree = read.tree }
 
--- ---- lists
+-- what a spot shows
+abbrev pub view_of_spot : Spot → View
+view_of_spot s = view_of_shape s.shape (names_of s) (length s.elements)
 
-pub slice_get_same : {X : Type 0} (xs : List X) (i : ℕ) (x y : X) → slice_get xs i ≡ Some x → slice_get xs i ≡ Some y → x ≡ y
-slice_get_same xs i x y a b = same_Some x y (sym a ∙ b)
+-- what stands at a place
 
--- ---- what stands at a place
-
-node_first : (spots : List Spot) (n : ℕ) (s : Spot) → slice_get spots n ≡ Some s → ((i : ℕ) (t : Spot) → slice_get spots i ≡ Some t → t.place ≡ s.place → i ≡ n)
-    → node_at (map shown_spot spots) s.place ≡ Some (view_of_shape s.shape s.names)
+pub node_first : (spots : List Spot) (n : ℕ) (s : Spot) → slice_get spots n ≡ Some s → ((i : ℕ) (t : Spot) → slice_get spots i ≡ Some t → t.place ≡ s.place → i ≡ n)
+    → node_at (map shown_spot spots) s.place ≡ Some (view_of_spot s)
 node_first [] n s e one = absurd cc
 node_first (t ∷ ts) zero s e one =
     let here : t ≡ s = same_Some t s e in
@@ -56,11 +53,11 @@ node_first (t ∷ ts) (suc n) s e one = go (same_place t.place s.place) refl (no
     down : {i : ℕ} → suc i ≡ suc n → i ≡ n
     down h = cc
 
-    go : (b : Bool) → same_place t.place s.place ≡ b → node_at (map shown_spot ts) s.place ≡ Some (view_of_shape s.shape s.names) → node_at (map shown_spot (t ∷ ts)) s.place ≡ Some (view_of_shape s.shape s.names)
+    go : (b : Bool) → same_place t.place s.place ≡ b → node_at (map shown_spot ts) s.place ≡ Some (view_of_spot s) → node_at (map shown_spot (t ∷ ts)) s.place ≡ Some (view_of_spot s)
     go true h ih = absurd (let z : 0 ≡ suc n = one 0 t refl (same_place_is t.place s.place h) in cc)
     go false h ih = rw h ih
 
-node_none : (spots : List Spot) (place : Place) → ((i : ℕ) (t : Spot) → slice_get spots i ≡ Some t → t.place ≡ place → ⊥) → node_at (map shown_spot spots) place ≡ None
+pub node_none : (spots : List Spot) (place : Place) → ((i : ℕ) (t : Spot) → slice_get spots i ≡ Some t → t.place ≡ place → ⊥) → node_at (map shown_spot spots) place ≡ None
 node_none [] place none = refl
 node_none (t ∷ ts) place none =
     rw (other_place t.place place (none 0 t refl)) (node_none ts place (λ i x g. none (suc i) x g))
@@ -71,26 +68,26 @@ abbrev pub names_of_node : Node → List (List ℕ)
 names_of_node node = map (λ e. string_bytes e.0) node.members.entries
 
 abbrev pub view_of_node : Node → View
-view_of_node node = view_of_shape (shape_of node.content) (names_of_node node)
+view_of_node node = view_of_shape (shape_of node.content) (names_of_node node) (length node.elements.items)
 
 pub record Found (shown : Shown) (nodes : List Node) (spots : List Spot) (n : ℕ) (node : Node) : Type 0 where
   pub spot : Spot
   pub stands : slice_get spots n ≡ Some spot
-  pub keeps : Keeps spots node spot
+  pub keeps : Keeps node spot
   pub place : place_numbered shown n ≡ spot.place
-  pub here : tree_of shown spot.place ≡ Some (view_of_shape spot.shape spot.names)
+  pub here : tree_of shown spot.place ≡ Some (view_of_spot spot)
   pub view : view_numbered shown n ≡ view_of_node node
 
 stand : (shown : Shown) (spots : List Spot) (n : ℕ) (s : Spot) → shown.nodes ≡ map shown_spot spots → slice_get spots n ≡ Some s → slice_get shown.nodes n ≡ Some (shown_spot s)
 stand shown spots n s e g = rw e (slice_get-map shown_spot spots n ∙ ap (option_map shown_spot) g)
 
-pub tree_spot : (shown : Shown) (spots : List Spot) (n : ℕ) (s : Spot) → shown.nodes ≡ map shown_spot spots → IsTree spots → slice_get spots n ≡ Some s → tree_of shown s.place ≡ Some (view_of_shape s.shape s.names)
+pub tree_spot : (shown : Shown) (spots : List Spot) (n : ℕ) (s : Spot) → shown.nodes ≡ map shown_spot spots → IsTree spots → slice_get spots n ≡ Some s → tree_of shown s.place ≡ Some (view_of_spot s)
 tree_spot shown spots n s e tree g = rw e (node_first spots n s g (λ i t h p. tree.unique i n t s h g p))
 
 pub place_spot : (shown : Shown) (spots : List Spot) (n : ℕ) (s : Spot) → shown.nodes ≡ map shown_spot spots → slice_get spots n ≡ Some s → place_numbered shown n ≡ s.place
 place_spot shown spots n s e g = ap (λ (o : Option (Place × View)). (unwrap_or o ([], table [])).0) (stand shown spots n s e g)
 
-pub view_spot : (shown : Shown) (spots : List Spot) (n : ℕ) (s : Spot) → shown.nodes ≡ map shown_spot spots → IsTree spots → slice_get spots n ≡ Some s → view_numbered shown n ≡ view_of_shape s.shape s.names
+pub view_spot : (shown : Shown) (spots : List Spot) (n : ℕ) (s : Spot) → shown.nodes ≡ map shown_spot spots → IsTree spots → slice_get spots n ≡ Some s → view_numbered shown n ≡ view_of_spot s
 view_spot shown spots n s e tree g = ap (λ (p : Place). viewed (tree_of shown p)) (place_spot shown spots n s e g) ∙ ap viewed (tree_spot shown spots n s e tree g)
 
 pub within : (shown : Shown) (nodes : List Node) (len n : ℕ) → Opened shown nodes → len ≡ length nodes → n < length shown.nodes → n < len
@@ -99,20 +96,20 @@ within shown nodes len n opens size lt =
     let m : length shown.nodes ≡ length opens.spots = ap length opens.nodes_are ∙ length-map opens.spots shown_spot in
     omega arith
 
-pub spot_at : (nodes : List Node) (spots : List Spot) (n : ℕ) (node : Node) → length nodes ≡ length spots → slice_get nodes n ≡ Some node → (s : Spot) × (slice_get spots n ≡ Some s)
-spot_at [] [] n node l e = absurd cc
-spot_at [] (s ∷ ss) n node l e = absurd cc
-spot_at (x ∷ xs) [] n node l e = absurd (omega arith)
-spot_at (x ∷ xs) (s ∷ ss) zero node l e = (s, refl)
-spot_at (x ∷ xs) (s ∷ ss) (suc n) node l e = spot_at xs ss n node (omega arith) e
+names_kept : (es : List (String Global × ℕ)) → map (λ (e : List ℕ × ℕ). e.0) (map (λ (e : String Global × ℕ). (string_bytes e.0, e.1)) es) ≡ map (λ (e : String Global × ℕ). string_bytes e.0) es
+names_kept [] = refl
+names_kept (e ∷ es) = ap (λ (ns : List (List ℕ)). string_bytes e.0 ∷ ns) (names_kept es)
 
-kept : {spots : List Spot} {node : Node} {spot : Spot} → Keeps spots node spot → view_of_node node ≡ view_of_shape spot.shape spot.names
-kept {spots} {node} {spot} k = ap (λ (s : Shape). view_of_shape s (names_of_node node)) k.shape ∙ ap (view_of_shape spot.shape) k.names
+kept : {node : Node} {spot : Spot} → Keeps node spot → view_of_node node ≡ view_of_spot spot
+kept {node} {spot} k =
+    ap (λ (s : Shape). view_of_shape s (names_of_node node) (length node.elements.items)) k.shape
+    ∙ ap (λ (ns : List (List ℕ)). view_of_shape spot.shape ns (length node.elements.items)) (sym (names_kept node.members.entries) ∙ ap (map (λ (e : List ℕ × ℕ). e.0)) k.members)
+    ∙ ap (λ (es : List ℕ). view_of_shape spot.shape (names_of spot) (length es)) k.elements
 
 pub found : (shown : Shown) (nodes : List Node) (n : ℕ) (node : Node) → (opens : Opened shown nodes) → n < length shown.nodes → node ≡ get_or nodes n node → Found shown nodes opens.spots n node
 found shown nodes n node opens lt is =
     let e = slice_get_read nodes (length nodes) n node refl (within shown nodes (length nodes) n opens refl lt) is in
-    let s = spot_at nodes opens.spots n node opens.holds.len e in
+    let s = spot_of_node nodes opens.spots n node opens.holds.len e in
     record {
       spot = s.0;
       stands = s.1;
@@ -129,45 +126,65 @@ pub names_keys : (names : List (List ℕ)) → key_names (map key names) ≡ nam
 names_keys [] = refl
 names_keys (n ∷ ns) = ap (λ (m : List (List ℕ)). n ∷ m) (names_keys ns)
 
+-- how many members there are
+pub count_members : (node : Node) → length (map key (names_of_node node)) ≡ length node.members.entries
+count_members node = length-map (names_of_node node) key ∙ length-map node.members.entries (λ e. string_bytes e.0)
+
+abbrev pub IsText : Content → Type 0
+IsText x = (s : String Global) × (x ≡ content.Text s)
+
+abbrev pub IsTruth : Content → Type 0
+IsTruth x = (b : Bool) × (x ≡ content.Truth b)
+
+abbrev pub IsInteger : Content → Type 0
+IsInteger x = (s : String Global) × (x ≡ content.Integer s)
+
+abbrev pub IsFloat : Content → Type 0
+IsFloat x = (s : String Global) × (x ≡ content.Float s)
+
+abbrev pub IsDateTime : Content → Type 0
+IsDateTime x = (s : String Global) × (x ≡ content.DateTime s)
+
 -- a string, a boolean, a number, a date or a time
 abbrev pub IsScalar : Content → Type 0
-IsScalar x =
-    ((s : String Global) × (x ≡ content.Text s)) ⊎ (((b : Bool) × (x ≡ content.Truth b))
-    ⊎ (((s : String Global) × (x ≡ content.Integer s)) ⊎ (((s : String Global) × (x ≡ content.Float s)) ⊎ ((s : String Global) × (x ≡ content.DateTime s)))))
+IsScalar x = IsText x ⊎ (IsTruth x ⊎ (IsInteger x ⊎ (IsFloat x ⊎ IsDateTime x)))
 
-bare : (x : Content) (names : List (List ℕ)) → IsScalar x → (names_in (view_of_shape (shape_of x) names) ≡ []) × (count_in (view_of_shape (shape_of x) names) ≡ 0)
-bare x names t = go t
-  where
-    go : IsScalar x → (names_in (view_of_shape (shape_of x) names) ≡ []) × (count_in (view_of_shape (shape_of x) names) ≡ 0)
-    go (inl e) = rw e.1 (refl, refl)
-    go (inr (inl e)) = rw e.1 (refl, refl)
-    go (inr (inr (inl e))) = rw e.1 (refl, refl)
-    go (inr (inr (inr (inl e)))) = rw e.1 (refl, refl)
-    go (inr (inr (inr (inr e)))) = rw e.1 (refl, refl)
+names_of_content : (shown : Shown) (nodes : List Node) (spots : List Spot) (n : ℕ) (node : Node) (x : Content) → Found shown nodes spots n node → node.content ≡ x → names_in (view_numbered shown n) ≡ names_in (view_of_shape (shape_of x) (names_of_node node) (length node.elements.items))
+names_of_content shown nodes spots n node x f is = ap names_in f.view ∙ ap (λ (y : Content). names_in (view_of_shape (shape_of y) (names_of_node node) (length node.elements.items))) is
 
--- a node without members, and one with them
-pub names_scalar : (shown : Shown) (nodes : List Node) (spots : List Spot) (n : ℕ) (node : Node) → Found shown nodes spots n node
-    → IsScalar node.content → names_in (view_numbered shown n) ≡ []
-names_scalar shown nodes spots n node f t = ap names_in f.view ∙ (bare node.content (names_of_node node) t).0
+-- what shows no names, and what does
+pub names_none : (shown : Shown) (nodes : List Node) (spots : List Spot) (n : ℕ) (node : Node) → Found shown nodes spots n node → IsText node.content ⊎ (IsTruth node.content ⊎ (IsInteger node.content ⊎ (IsFloat node.content ⊎ (IsDateTime node.content ⊎ ((node.content ≡ content.Array) ⊎ (node.content ≡ content.Tables))))))
+    → names_in (view_numbered shown n) ≡ []
+names_none shown nodes spots n node f (inl t) = names_of_content shown nodes spots n node (content.Text t.0) f t.1
+names_none shown nodes spots n node f (inr (inl t)) = names_of_content shown nodes spots n node (content.Truth t.0) f t.1
+names_none shown nodes spots n node f (inr (inr (inl t))) = names_of_content shown nodes spots n node (content.Integer t.0) f t.1
+names_none shown nodes spots n node f (inr (inr (inr (inl t)))) = names_of_content shown nodes spots n node (content.Float t.0) f t.1
+names_none shown nodes spots n node f (inr (inr (inr (inr (inl t))))) = names_of_content shown nodes spots n node (content.DateTime t.0) f t.1
+names_none shown nodes spots n node f (inr (inr (inr (inr (inr (inl t)))))) = names_of_content shown nodes spots n node content.Array f t
+names_none shown nodes spots n node f (inr (inr (inr (inr (inr (inr t)))))) = names_of_content shown nodes spots n node content.Tables f t
 
-pub names_tabular : (shown : Shown) (nodes : List Node) (spots : List Spot) (n : ℕ) (node : Node) → Found shown nodes spots n node
-    → (node.content ≡ content.Inline) ⊎ (node.content ≡ content.Table) → names_in (view_numbered shown n) ≡ names_of_node node
-names_tabular shown nodes spots n node f (inl t) = ap names_in f.view ∙ ap (λ (x : Content). names_in (view_of_shape (shape_of x) (names_of_node node))) t ∙ names_keys (names_of_node node)
-names_tabular shown nodes spots n node f (inr t) = ap names_in f.view ∙ ap (λ (x : Content). names_in (view_of_shape (shape_of x) (names_of_node node))) t ∙ names_keys (names_of_node node)
+pub names_tabular : (shown : Shown) (nodes : List Node) (spots : List Spot) (n : ℕ) (node : Node) → Found shown nodes spots n node → (node.content ≡ content.Inline) ⊎ (node.content ≡ content.Table) → names_in (view_numbered shown n) ≡ names_of_node node
+names_tabular shown nodes spots n node f (inl t) = names_of_content shown nodes spots n node content.Inline f t ∙ names_keys (names_of_node node)
+names_tabular shown nodes spots n node f (inr t) = names_of_content shown nodes spots n node content.Table f t ∙ names_keys (names_of_node node)
 
--- how many members a node has
-pub count_scalar : (shown : Shown) (nodes : List Node) (spots : List Spot) (n : ℕ) (node : Node) → Found shown nodes spots n node
-    → IsScalar node.content → count_in (view_numbered shown n) ≡ 0
-count_scalar shown nodes spots n node f t = ap count_in f.view ∙ (bare node.content (names_of_node node) t).1
+-- a node of this content has so many parts
+pub count_shown : (shown : Shown) (nodes : List Node) (spots : List Spot) (n : ℕ) (node : Node) (x : Content) → Found shown nodes spots n node → node.content ≡ x → count_in (view_numbered shown n) ≡ count_in (view_of_shape (shape_of x) (names_of_node node) (length node.elements.items))
+count_shown shown nodes spots n node x f is = ap count_in f.view ∙ ap (λ (y : Content). count_in (view_of_shape (shape_of y) (names_of_node node) (length node.elements.items))) is
 
-pub count_tabular : (shown : Shown) (nodes : List Node) (spots : List Spot) (n : ℕ) (node : Node) → Found shown nodes spots n node
-    → (node.content ≡ content.Inline) ⊎ (node.content ≡ content.Table) → count_in (view_numbered shown n) ≡ length node.members.entries
-count_tabular shown nodes spots n node f (inl t) =
-    ap count_in f.view ∙ ap (λ (x : Content). count_in (view_of_shape (shape_of x) (names_of_node node))) t
-    ∙ length-map (names_of_node node) key ∙ length-map node.members.entries (λ e. string_bytes e.0)
-count_tabular shown nodes spots n node f (inr t) =
-    ap count_in f.view ∙ ap (λ (x : Content). count_in (view_of_shape (shape_of x) (names_of_node node))) t
-    ∙ length-map (names_of_node node) key ∙ length-map node.members.entries (λ e. string_bytes e.0)
+pub count_scalar : (shown : Shown) (nodes : List Node) (spots : List Spot) (n : ℕ) (node : Node) → Found shown nodes spots n node → IsScalar node.content → count_in (view_numbered shown n) ≡ 0
+count_scalar shown nodes spots n node f (inl t) = count_shown shown nodes spots n node (content.Text t.0) f t.1
+count_scalar shown nodes spots n node f (inr (inl t)) = count_shown shown nodes spots n node (content.Truth t.0) f t.1
+count_scalar shown nodes spots n node f (inr (inr (inl t))) = count_shown shown nodes spots n node (content.Integer t.0) f t.1
+count_scalar shown nodes spots n node f (inr (inr (inr (inl t)))) = count_shown shown nodes spots n node (content.Float t.0) f t.1
+count_scalar shown nodes spots n node f (inr (inr (inr (inr t)))) = count_shown shown nodes spots n node (content.DateTime t.0) f t.1
+
+pub count_elements : (shown : Shown) (nodes : List Node) (spots : List Spot) (n : ℕ) (node : Node) → Found shown nodes spots n node → (node.content ≡ content.Array) ⊎ (node.content ≡ content.Tables) → count_in (view_numbered shown n) ≡ length node.elements.items
+count_elements shown nodes spots n node f (inl t) = count_shown shown nodes spots n node content.Array f t
+count_elements shown nodes spots n node f (inr t) = count_shown shown nodes spots n node content.Tables f t
+
+pub count_tabular : (shown : Shown) (nodes : List Node) (spots : List Spot) (n : ℕ) (node : Node) → Found shown nodes spots n node → (node.content ≡ content.Inline) ⊎ (node.content ≡ content.Table) → count_in (view_numbered shown n) ≡ length node.members.entries
+count_tabular shown nodes spots n node f (inl t) = count_shown shown nodes spots n node content.Inline f t ∙ count_members node
+count_tabular shown nodes spots n node f (inr t) = count_shown shown nodes spots n node content.Table f t ∙ count_members node
 
 -- the name of a member by its number
 pub name_some : (node : Node) (k : ℕ) (name : Bor (String Global)) (number : Bor ℕ) (r : Option (Bor (String Global) × Bor ℕ)) → option_map deref_pair r ≡ slice_get node.members.entries k
@@ -182,49 +199,37 @@ name_none node k r e is =
     ∙ ap (option_map (λ (e : String Global × ℕ). string_bytes e.0)) (sym e ∙ ap (option_map deref_pair) is)
 
 -- what a node shows
-abbrev pub shows_content : (names : List (List ℕ)) → Content → Seen → Type 0
-shows_content names x s = Shows (view_of_shape (shape_of x) names) s
+abbrev pub shows_content : Node → Content → Seen → Type 0
+shows_content node x s = Shows (view_of_shape (shape_of x) (names_of_node node) (length node.elements.items)) s
 
-pub shows : (shown : Shown) (nodes : List Node) (spots : List Spot) (n : ℕ) (node : Node) (x : Content) (s : Seen) → Found shown nodes spots n node → node.content ≡ x → shows_content (names_of_node node) x s → Shows (view_numbered shown n) s
-shows shown nodes spots n node x s f is h = subst (λ (v : View). Shows v s) (sym f.view) (subst (λ (y : Content). shows_content (names_of_node node) y s) (sym is) h)
+pub shows : (shown : Shown) (nodes : List Node) (spots : List Spot) (n : ℕ) (node : Node) (x : Content) (s : Seen) → Found shown nodes spots n node → node.content ≡ x → shows_content node x s → Shows (view_numbered shown n) s
+shows shown nodes spots n node x s f is h = subst (λ (v : View). Shows v s) (sym f.view) (subst (λ (y : Content). shows_content node y s) (sym is) h)
 
-listed_found : {A X : Type 0} (bytes : A → List ℕ) (es : List (A × X)) (k : ℕ) (name : List ℕ) → slice_get (map (λ e. bytes e.0) es) k ≡ Some name → lookup (λ a. bytes_eq name (bytes a)) es ≡ None → ⊥
-listed_found bytes [] k name e none = cc
-listed_found bytes (x ∷ es) zero name e none =
-    let same : name ≡ bytes x.0 = sym (same_Some (bytes x.0) name e) in
-    let yes : bytes_eq name (bytes x.0) ≡ true = (bytes_eq-Decides name (bytes x.0)).1 same in
-    let no : Some x.1 ≡ None = rw yes at none in
-    cc
-listed_found {A} {X} bytes (x ∷ es) (suc k) name e none = go (bytes_eq name (bytes x.0)) refl (listed_found bytes es k name e)
-  where
-    go : (b : Bool) → bytes_eq name (bytes x.0) ≡ b → (lookup (λ a. bytes_eq name (bytes a)) es ≡ None → ⊥) → ⊥
-    go true h ih = let no : Some x.1 ≡ None = rw h at none in cc
-    go false h ih = ih (rw h at none)
+-- what a slice gives at an index
+pub got : (xs : List ℕ) (i : ℕ) (Q : Bor ℕ → Type 0) (r : Option (Bor ℕ)) → MatchOption r (length xs ≤ i) (λ x. (i < length xs) × Q x) → IfSome r (λ x. x.now ≡ get_or xs i x.now) → option_copied r ≡ slice_get xs i
+got xs i Q None h k = sym (slice_get_past xs i h)
+got xs i Q (Some x) h k = sym (slice_get_read xs (length xs) i x.now refl h.0 k)
 
--- nothing stands at a name that is no member
-absent : (shown : Shown) (nodes : List Node) (n : ℕ) (node : Node) (name : List ℕ) → (opens : Opened shown nodes) → (f : Found shown nodes opens.spots n node) → get_by_text node.members name ≡ None
-    → (i : ℕ) (t : Spot) → slice_get opens.spots i ≡ Some t → t.place ≡ at f.spot.place (key name) → ⊥
-absent shown nodes n node name opens f none i t g p =
-    elim (opens.tree.member i t g) [
-      | inl root ↦ not_root f.spot.place (key name) (sym p ∙ root)
+-- nothing stands one step below a node that has no such part
+absent : (spots : List Spot) (tree : IsTree spots) (n : ℕ) (s : Spot) (x : Step) → slice_get spots n ≡ Some s → below s x ≡ None → (i : ℕ) (t : Spot) → slice_get spots i ≡ Some t → t.place ≡ at s.place x → ⊥
+absent spots tree n s x stands none i t g p =
+    elim (tree.up i t g) [
+      | inl root ↦ not_root s.place x (sym p ∙ root)
       | inr m ↦
-          let same = last_same m.table.place f.spot.place (key m.name) (key name) (sym m.below ∙ p) in
-          let number : m.number ≡ n = opens.tree.unique m.number n m.table f.spot m.stands f.stands same.0 in
-          let spot : m.table ≡ f.spot = slice_get_same opens.spots n m.table f.spot (ap (slice_get opens.spots) (sym number) ∙ m.stands) f.stands in
-          let names : slice_get f.spot.names m.position ≡ Some name = ap (λ (s : Spot). slice_get s.names m.position) (sym spot) ∙ m.listed ∙ ap Some (key_same m.name name same.1) in
-          listed_found string_bytes node.members.entries m.position name (rw f.keeps.names names) none
+          let same = last_same m.upper.place s.place m.step x (sym m.place_is ∙ p) in
+          let number : m.above ≡ n = tree.unique m.above n m.upper s m.stands stands same.0 in
+          let spot : m.upper ≡ s = slice_get_same spots n m.upper s (ap (slice_get spots) (sym number) ∙ m.stands) stands in
+          let some : below s x ≡ Some i = ap (λ (u : Spot). below u x) (sym spot) ∙ ap (below m.upper) (sym same.1) ∙ m.listed in
+          let clash : None ≡ Some i = sym none ∙ some in
+          absurd cc
     ]
 
-pub member_none : (shown : Shown) (nodes : List Node) (n : ℕ) (node : Node) (name : List ℕ) → (opens : Opened shown nodes) → Found shown nodes opens.spots n node → get_by_text node.members name ≡ None
-    → tree_of shown (at (place_numbered shown n) (key name)) ≡ None
-member_none shown nodes n node name opens f none =
-    rw (f.place, opens.nodes_are) (node_none opens.spots (at f.spot.place (key name)) (absent shown nodes n node name opens f none))
-
-pub member_some : (shown : Shown) (nodes : List Node) (n m : ℕ) (node : Node) (name : List ℕ) → (opens : Opened shown nodes) → Found shown nodes opens.spots n node → get_by_text node.members name ≡ Some m
-    → Numbers shown (at (place_numbered shown n) (key name)) (Some m)
-member_some shown nodes n m node name opens f some =
-    let s = f.keeps.below name m some in
-    let place : s.0.place ≡ at (place_numbered shown n) (key name) = s.2 ∙ ap (λ (p : Place). at p (key name)) (sym f.place) in
+-- the number of what stands one step below a node
+pub part_here : (shown : Shown) (nodes : List Node) (n : ℕ) (node : Node) (x : Step) (r : Option ℕ) → (opens : Opened shown nodes) → (f : Found shown nodes opens.spots n node) → r ≡ below f.spot x → Numbers shown (at (place_numbered shown n) x) r
+part_here shown nodes n node x None opens f e = rw (f.place, opens.nodes_are) (node_none opens.spots (at f.spot.place x) (absent opens.spots opens.tree n f.spot x f.stands (sym e)))
+part_here shown nodes n node x (Some m) opens f e =
+    let s = opens.tree.down n m f.spot x f.stands (sym e) in
+    let place : s.0.place ≡ at (place_numbered shown n) x = s.2 ∙ ap (λ (p : Place). at p x) (sym f.place) in
     let tree = tree_spot shown opens.spots m s.0 opens.nodes_are opens.tree s.1 in
     let view = view_spot shown opens.spots m s.0 opens.nodes_are opens.tree s.1 in
     let lt = slice_get_within opens.spots m s.0 s.1 in
@@ -233,22 +238,11 @@ member_some shown nodes n m node name opens f some =
 
 pub member_here : (shown : Shown) (nodes : List Node) (n : ℕ) (node : Node) (name : List ℕ) (r : Option ℕ) → (opens : Opened shown nodes) → Found shown nodes opens.spots n node → r ≡ get_by_text node.members name
     → Numbers shown (at (place_numbered shown n) (key name)) r
-member_here shown nodes n node name None opens f e = member_none shown nodes n node name opens f (sym e)
-member_here shown nodes n node name (Some m) opens f e = member_some shown nodes n m node name opens f (sym e)
+member_here shown nodes n node name r opens f e = part_here shown nodes n node (key name) r opens f (e ∙ sym (below_node node f.spot name f.keeps))
 
--- no element stands below a node
-index_absent : (shown : Shown) (nodes : List Node) (place : Place) (i : ℕ) → (opens : Opened shown nodes) → (j : ℕ) (t : Spot) → slice_get opens.spots j ≡ Some t → t.place ≡ at place (index i) → ⊥
-index_absent shown nodes place i opens j t g p =
-    elim (opens.tree.member j t g) [
-      | inl root ↦ not_root place (index i) (sym p ∙ root)
-      | inr m ↦
-          let same = last_same m.table.place place (key m.name) (index i) (sym m.below ∙ p) in
-          let no : key m.name ≡ index i = same.1 in
-          absurd cc
-    ]
-
-pub element_none : (shown : Shown) (nodes : List Node) (place : Place) (i : ℕ) → Opened shown nodes → tree_of shown (at place (index i)) ≡ None
-element_none shown nodes place i opens = rw opens.nodes_are (node_none opens.spots (at place (index i)) (index_absent shown nodes place i opens))
+pub element_here : (shown : Shown) (nodes : List Node) (n : ℕ) (node : Node) (i : ℕ) (r : Option ℕ) → (opens : Opened shown nodes) → Found shown nodes opens.spots n node → r ≡ slice_get node.elements.items i
+    → Numbers shown (at (place_numbered shown n) (index i)) r
+element_here shown nodes n node i r opens f e = part_here shown nodes n node (index i) r opens f (e ∙ ap (λ (es : List ℕ). slice_get es i) f.keeps.elements)
 
 -- a node stands at its place
 pub node_stands : (shown : Shown) (nodes : List Node) (n : ℕ) (node : Node) (opens : Opened shown nodes) → Found shown nodes opens.spots n node → tree_of shown (place_numbered shown n) ≡ Some (view_numbered shown n)
@@ -256,12 +250,12 @@ node_stands shown nodes n node opens f = ap (tree_of shown) f.place ∙ f.here �
 
 -- nothing stands below a place where nothing stands
 step_none : (shown : Shown) (nodes : List Node) (place : Place) (x : Step) → Opened shown nodes → tree_of shown place ≡ None → tree_of shown (at place x) ≡ None
-step_none shown nodes place x opens none = rw opens.nodes_are (node_none opens.spots (at place x) (λ j t g p. elim (opens.tree.member j t g) [
+step_none shown nodes place x opens none = rw opens.nodes_are (node_none opens.spots (at place x) (λ j t g p. elim (opens.tree.up j t g) [
   | inl root ↦ not_root place x (sym p ∙ root)
   | inr m ↦
-      let same = last_same m.table.place place (key m.name) x (sym m.below ∙ p) in
-      let some = tree_spot shown opens.spots m.number m.table opens.nodes_are opens.tree m.stands in
-      let no : None ≡ Some (view_of_shape m.table.shape m.table.names) = sym none ∙ ap (tree_of shown) (sym same.0) ∙ some in
+      let same = last_same m.upper.place place m.step x (sym m.place_is ∙ p) in
+      let some = tree_spot shown opens.spots m.above m.upper opens.nodes_are opens.tree m.stands in
+      let no : None ≡ Some (view_of_spot m.upper) = sym none ∙ ap (tree_of shown) (sym same.0) ∙ some in
       absurd cc
 ]))
 
@@ -276,12 +270,6 @@ root_stands shown nodes opens =
     let l : length shown.nodes ≡ length opens.spots = ap length opens.nodes_are ∙ length-map opens.spots shown_spot in
     let lt = slice_get_within opens.spots 0 r.0 r.1 in
     (omega arith, place_spot shown opens.spots 0 r.0 opens.nodes_are r.1 ∙ r.2)
-
--- a list from one of its elements on
-pub drop_from : {X : Type 0} (xs : List X) (i : ℕ) (x : X) → slice_get xs i ≡ Some x → drop i xs ≡ x ∷ drop (i + 1) xs
-drop_from [] i x e = absurd cc
-drop_from (y ∷ ys) zero x e = let h : y ≡ x = same_Some y x e in ap (λ z. z ∷ ys) h
-drop_from (y ∷ ys) (suc i) x e = let up : suc i + 1 ≡ suc (i + 1) = omega arith in rw up (drop_from ys i x e)
 
 -- ---- the walk along a place
 

@@ -1,90 +1,21 @@
--- The walk over the marks of one token.
-use Rattle.std.proofs.Common.{◌≡◌, ℕ, zero, suc, ◌+◌, ◌-◌, ◌<◌, ◌≤◌, Bool, true, false, cond, List, [], ◌∷◌, ◌++◌, length, take, drop, Option, Some, None, refl, sym, ap, subst, ◌∙◌, append_assoc, length-append, lit<, arith}
-use Rattle.std.specs.Prelude.{map, slice_get, slice_set, option_map, IsUtf8}
+-- What tokens say, and the walk over the marks of a key.
+use Rattle.std.proofs.Common.{◌≡◌, ℕ, ◌+◌, ◌-◌, ◌<◌, List, [], ◌∷◌, ◌++◌, length, take, drop, Option, Some, refl, sym, ap, subst, ◌∙◌, append_assoc, length-append, lit<, arith}
+use Rattle.std.specs.Prelude.{map, option_map, IsUtf8}
 use Rattle.std.specs.List.{AllByRecursion}
-use Rattle.std.specs.Str.{is_utf8}
 use Rattle.std.proofs.lemmas.List.{append-nil}
 use Rattle.std.proofs.lemmas.Str.{is_utf8-from_IsUtf8}
 use Rattle.edit_document.specs.declared.read.marks.Mark.{Mark}
-use Rattle.edit_document.specs.declared.read.marks.MarkKind.{MarkKind}
-use Rattle.edit_document.specs.declared.read.marks.MarkKind.TheVariants as kinds
-use Rattle.edit_document.specs.declared.nodes.Span.{Span}
-use Rattle.edit_document.specs.Characters.{quote, apostrophe, is_bare, is_literal_ch, All}
+use Rattle.edit_document.specs.Characters.{quote, apostrophe, is_blank, is_bare, is_literal_ch, All}
 use Rattle.edit_document.specs.Strings.{Piece, pieces, says, IsBasicPiece, Part, bare, basic_part, literal_part, part, IsPart, name, basic_text, literal_text, Dotted, dotted, Key, IsKey}
 use Rattle.edit_document.specs.Strings as strings
-use Rattle.edit_document.specs.Supported.{IsOnePart}
-use Rattle.edit_document.specs.Assertions.{key, at}
-use Rattle.edit_document.specs.Reading.{◌>>=◌, basic_at, literal_at}
-use Rattle.edit_document.specs.Nodes.{Shape, Spot}
-use Rattle.edit_document.specs.DocumentLayout.{Noted, root_noted, places_of, spots_in}
-use Rattle.edit_document.specs.Walk.{suffix, basic_said, literal_said, told, as_text, said, added, State, last_of, entered, step, act, walked}
-use Rattle.edit_document.specs.Marks.{mark, part_kind, part_mark, dotted_marks, key_marks}
+use Rattle.edit_document.specs.Assertions.{names}
+use Rattle.edit_document.specs.Reading.{◌>>=◌}
+use Rattle.edit_document.specs.Nodes.{Spot}
+use Rattle.edit_document.specs.Walk.{suffix, basic_said, literal_said, as_text, said, State, awaiting, settled_state, step, walked}
+use Rattle.edit_document.specs.Marks.{part_mark, dotted_marks, key_marks}
 use Rattle.edit_document.proofs.TokenLaws.{basic_again, literal_again}
-use Rattle.edit_document.proofs.Ends.{Ends, ends_one, suffix_is, take_length, text_before, text_behind, ascii_text, bare_small, says_text}
-use Rattle.edit_document.proofs.Adding.{get_last}
-use Rattle.edit_document.proofs.Spotting.{Fine, Good, next, Noting, noted_more, refused, add_note, places_push}
-
--- ---- walks
-
-bind_some : {A : Type 0} (o : Option A) → (o >>= λ x. Some x) ≡ o
-bind_some None = refl
-bind_some (Some x) = refl
-
-pub walked_one : (bytes : List ℕ) (m : Mark) (st : State) → walked bytes (m ∷ []) st ≡ step bytes m st
-unfolding walked
-walked_one bytes m st = bind_some (step bytes m st)
-
-pub walked_first : (bytes : List ℕ) (m : Mark) (ms : List Mark) (st next : State) → step bytes m st ≡ Some next → walked bytes (m ∷ ms) st ≡ walked bytes ms next
-unfolding walked
-walked_first bytes m ms st next e = ap (λ (o : Option State). o >>= walked bytes ms) e
-
-pub walked_stops : (bytes : List ℕ) (m : Mark) (ms : List Mark) (st : State) → step bytes m st ≡ None → walked bytes (m ∷ ms) st ≡ None
-unfolding walked
-walked_stops bytes m ms st e = ap (λ (o : Option State). o >>= walked bytes ms) e
-
-pub walked_none : (bytes : List ℕ) (st : State) → walked bytes [] st ≡ Some st
-unfolding walked
-walked_none bytes st = refl
-
-pub walked_append : (bytes : List ℕ) (xs ys : List Mark) (st : State) → walked bytes (xs ++ ys) st ≡ (walked bytes xs st >>= walked bytes ys)
-unfolding walked
-walked_append bytes [] ys st = refl
-walked_append bytes (x ∷ xs) ys st = go (step bytes x st) (λ next. walked_append bytes xs ys next)
-  where
-    go : (o : Option State) → ((next : State) → walked bytes (xs ++ ys) next ≡ (walked bytes xs next >>= walked bytes ys)) → (o >>= walked bytes (xs ++ ys)) ≡ ((o >>= walked bytes xs) >>= walked bytes ys)
-    go None ih = refl
-    go (Some n) ih = ih n
-
--- ---- states
-
-abbrev pub state : List Noted → List ℕ → Option (List ℕ) → State
-state made tables name = record { spots = spots_in made; tables = tables; name = name }
-
--- the walk goes on with these notes, or the places clash
-pub data Leads (r : Option State) (made : List Noted) (tables : List ℕ) : Type 0 where
-  leads : r ≡ Some (state made tables None) → Good made → Leads r made tables
-  stops : r ≡ None → (Fine (places_of made) → ⊥) → Leads r made tables
-
-pub last_push : (base : List ℕ) (t : ℕ) → last_of (base ++ t ∷ []) ≡ Some t
-last_push base t =
-    let size : length (base ++ t ∷ []) ≡ length base + 1 = length-append base (t ∷ []) in
-    let n : length (base ++ t ∷ []) - 1 ≡ length base = omega arith in
-    ap (slice_get (base ++ t ∷ [])) n ∙ get_last base t
-
-pub entered_leads : (made : List Noted) (base : List ℕ) (t : ℕ) (m : Noted) (n : List ℕ) (shape : Shape) (span : Option Span) → Good made → slice_get (root_noted ∷ made) t ≡ Some m
-    → Leads (entered (state made (base ++ t ∷ []) (Some n)) shape span) (made ++ next m n shape span ∷ []) (base ++ t ∷ [])
-entered_leads made base t m n shape span good there = go (add_note made t m n shape span good there)
-  where
-    after : Option (List Spot) → Option State
-    after o = o >>= λ spots. Some (record { spots = spots; tables = base ++ t ∷ []; name = None })
-
-    first : entered (state made (base ++ t ∷ []) (Some n)) shape span ≡ (added (spots_in made) t n shape span >>= λ spots. Some (record { spots = spots; tables = base ++ t ∷ []; name = None }))
-    first = ap (λ (o : Option ℕ). o >>= λ number. added (spots_in made) number n shape span >>= λ spots. Some (record { spots = spots; tables = base ++ t ∷ []; name = None })) (last_push base t)
-
-    go : Noting made (next m n shape span) (added (spots_in made) t n shape span) → Leads (entered (state made (base ++ t ∷ []) (Some n)) shape span) (made ++ next m n shape span ∷ []) (base ++ t ∷ [])
-    go (noted_more e g) = leads (first ∙ ap (λ (o : Option (List Spot)). o >>= λ spots. Some (record { spots = spots; tables = base ++ t ∷ []; name = None })) e) g
-    go (refused e no2) = stops (first ∙ ap (λ (o : Option (List Spot)). o >>= λ spots. Some (record { spots = spots; tables = base ++ t ∷ []; name = None })) e)
-        (λ fine. no2 (subst Fine (places_push made (next m n shape span)) fine))
+use Rattle.edit_document.proofs.Ends.{Ends, ends_past, ends_one, ends_part, suffix_is, take_length, text_before, text_behind, ascii_text, bare_small, says_text}
+use Rattle.edit_document.proofs.Walks.{walked_first}
 
 -- ---- what tokens say
 
@@ -120,16 +51,50 @@ said_part bytes (bare text) rest h u ends = said_word bytes text rest (ascii_tex
 said_part bytes (basic_part ps) rest h u ends = said_basic bytes ps rest 0 h u ends
 said_part bytes (literal_part text) rest h u ends = said_literal bytes text rest 0 h u ends
 
-named_step : (bytes : List ℕ) (p : Part) (rest : List ℕ) (st : State) → IsPart p → IsUtf8 bytes → Ends bytes (part p rest) → step bytes (part_mark p rest) st ≡ Some (record st { name = Some (name p) })
-unfolding step
-named_step bytes (bare text) rest st h u ends = ap (λ (o : Option (List ℕ)). o >>= λ n. Some (record st { name = Some n })) (said_part bytes (bare text) rest h u ends)
-named_step bytes (basic_part ps) rest st h u ends = ap (λ (o : Option (List ℕ)). o >>= λ n. Some (record st { name = Some n })) (said_part bytes (basic_part ps) rest h u ends)
-named_step bytes (literal_part text) rest st h u ends = ap (λ (o : Option (List ℕ)). o >>= λ n. Some (record st { name = Some n })) (said_part bytes (literal_part text) rest h u ends)
+-- ---- keys
 
--- the marks of a key leave its name waiting
-pub walked_key : (bytes : List ℕ) (k : Key) (rest : List ℕ) (ms : List Mark) (made : List Noted) (tables : List ℕ) → IsKey k → IsOnePart k → IsUtf8 bytes → Ends bytes (strings.key k rest)
-    → walked bytes (key_marks k rest ++ ms) (state made tables None) ≡ walked bytes ms (state made tables (Some (name k.first)))
-walked_key bytes k rest ms made tables h one u ends =
-    let marks : key_marks k rest ++ ms ≡ part_mark k.first rest ∷ ms = ap (λ (ds : List Dotted). (part_mark k.first (dotted ds rest) ∷ dotted_marks ds rest) ++ ms) one in
-    let ends2 : Ends bytes (part k.first rest) = subst (λ (ds : List Dotted). Ends bytes (part k.first (dotted ds rest))) one ends in
-    ap (λ (xs : List Mark). walked bytes xs (state made tables None)) marks ∙ walked_first bytes (part_mark k.first rest) ms (state made tables None) (state made tables (Some (name k.first))) (named_step bytes k.first rest (state made tables None) h.0 u ends2)
+part_step : (bytes : List ℕ) (p : Part) (rest : List ℕ) (st : State) → IsPart p → IsUtf8 bytes → Ends bytes (part p rest) → step bytes (part_mark p rest) st ≡ Some (awaiting st (name p))
+unfolding step
+part_step bytes (bare text) rest st h u ends = ap (λ (o : Option (List ℕ)). o >>= λ n. Some (awaiting st n)) (said_part bytes (bare text) rest h u ends)
+part_step bytes (basic_part ps) rest st h u ends = ap (λ (o : Option (List ℕ)). o >>= λ n. Some (awaiting st n)) (said_part bytes (basic_part ps) rest h u ends)
+part_step bytes (literal_part text) rest st h u ends = ap (λ (o : Option (List ℕ)). o >>= λ n. Some (awaiting st n)) (said_part bytes (literal_part text) rest h u ends)
+
+-- the names wait one behind the other
+abbrev pub waits : State → List (List ℕ) → State
+waits st [] = st
+waits st (n ∷ ns) = waits (awaiting st n) ns
+
+abbrev IsDotted : Dotted → Type 0
+IsDotted d = All is_blank d.before × All is_blank d.behind × IsPart d.part
+
+walked_dotted : (bytes : List ℕ) (ds : List Dotted) (rest : List ℕ) (ms : List Mark) (st : State) → AllByRecursion IsDotted ds → IsUtf8 bytes → Ends bytes (dotted ds rest)
+    → walked bytes (dotted_marks ds rest ++ ms) st ≡ walked bytes ms (waits st (map (λ (d : Dotted). name d.part) ds))
+walked_dotted bytes [] rest ms st h u ends = refl
+walked_dotted bytes (d ∷ ds) rest ms st h u ends =
+    let here : Ends bytes (part d.part (dotted ds rest)) = ends_past bytes d.behind (part d.part (dotted ds rest)) (ends_one bytes 46 (d.behind ++ part d.part (dotted ds rest)) (ends_past bytes d.before (46 ∷ (d.behind ++ part d.part (dotted ds rest))) ends)) in
+    walked_first bytes (part_mark d.part (dotted ds rest)) (dotted_marks ds rest ++ ms) st (awaiting st (name d.part)) (part_step bytes d.part (dotted ds rest) st h.0.2 u here)
+    ∙ walked_dotted bytes ds rest ms (awaiting st (name d.part)) h.1 u (ends_part bytes d.part (dotted ds rest) here)
+
+-- the marks of a key leave its names waiting
+pub walked_key : (bytes : List ℕ) (k : Key) (rest : List ℕ) (ms : List Mark) (st : State) → IsKey k → IsUtf8 bytes → Ends bytes (strings.key k rest) → walked bytes (key_marks k rest ++ ms) st ≡ walked bytes ms (waits st (names k))
+walked_key bytes k rest ms st h u ends =
+    walked_first bytes (part_mark k.first (dotted k.others rest)) (dotted_marks k.others rest ++ ms) st (awaiting st (name k.first)) (part_step bytes k.first (dotted k.others rest) st h.0 u ends)
+    ∙ walked_dotted bytes k.others rest ms (awaiting st (name k.first)) h.1 u (ends_part bytes k.first (dotted k.others rest) ends)
+
+-- the names before the last one, and the last one
+abbrev pub fore : List ℕ → List (List ℕ) → List (List ℕ)
+fore n [] = []
+fore n (m ∷ ns) = n ∷ fore m ns
+
+abbrev pub rear : List ℕ → List (List ℕ) → List ℕ
+rear n [] = n
+rear n (m ∷ ns) = rear m ns
+
+waits_behind : (spots : List Spot) (tables : List ℕ) (fs : List (List ℕ)) (n : List ℕ) (ns : List (List ℕ)) → waits (record { spots = spots; tables = tables; fronts = fs; name = Some n }) ns ≡ record { spots = spots; tables = tables; fronts = fs ++ fore n ns; name = Some (rear n ns) }
+waits_behind spots tables fs n [] = ap (λ (xs : List (List ℕ)). let st : State = record { spots = spots; tables = tables; fronts = xs; name = Some n } in st) (sym (append-nil fs))
+waits_behind spots tables fs n (m ∷ ns) =
+    waits_behind spots tables (fs ++ n ∷ []) m ns
+    ∙ ap (λ (xs : List (List ℕ)). let st : State = record { spots = spots; tables = tables; fronts = xs; name = Some (rear m ns) } in st) (append_assoc fs (n ∷ []) (fore m ns))
+
+pub waits_are : (spots : List Spot) (tables : List ℕ) (n : List ℕ) (ns : List (List ℕ)) → waits (settled_state spots tables) (n ∷ ns) ≡ record { spots = spots; tables = tables; fronts = fore n ns; name = Some (rear n ns) }
+waits_are spots tables n ns = waits_behind spots tables [] n ns

@@ -1,68 +1,48 @@
 -- The walk over the marks of values and of their members.
-use Rattle.std.proofs.Common.{◌≡◌, ℕ, zero, suc, ◌+◌, ◌-◌, ◌<◌, ◌≤◌, Bool, true, false, List, [], ◌∷◌, ◌++◌, length, take, drop, Option, Some, None, refl, sym, ap, subst, ◌∙◌, append_assoc, length-append, arith}
-use Rattle.std.specs.Prelude.{map, slice_get, slice_set, option_map, IsUtf8}
-use Rattle.std.proofs.lemmas.List.{append-nil, map-append}
+use Rattle.std.proofs.Common.{◌≡◌, ℕ, suc, ◌+◌, ◌<◌, ◌≤◌, Bool, true, false, cond, List, [], ◌∷◌, ◌++◌, length, map, Option, Some, None, refl, sym, ap, subst, ◌∙◌, inl, inr, append_assoc, length-append, arith}
+use Rattle.std.specs.Prelude.{IsUtf8}
+use Rattle.std.proofs.lemmas.Bool.Decides.{nat_tests}
+use Rattle.std.proofs.lemmas.List.{append-nil, length_push, map-append}
+use Rattle.std.proofs.lemmas.Option.{slice_get_past}
 use Rattle.edit_document.specs.declared.read.marks.Mark.{Mark}
 use Rattle.edit_document.specs.declared.read.marks.MarkKind.TheVariants as kinds
 use Rattle.edit_document.specs.declared.nodes.Span.{Span}
-use Rattle.edit_document.specs.Characters.{quote, comma, equals, right_brace}
-use Rattle.edit_document.specs.Strings.{◌·◌, Piece, says, name, basic_text, literal_text, Key, IsKey}
-use Rattle.edit_document.specs.Strings as strings
-use Rattle.edit_document.specs.Grammar.{Between, gap, Value, basic, literal, multi_basic, multi_literal, boolean, integer, float, datetime, array, inline, Members, no_members, last_member, member, value, members, IsValue, AreMembers}
-use Rattle.edit_document.specs.Supported.{IsOnePart, IsSupportedValue, AreSupportedMembers}
-use Rattle.edit_document.specs.Assertions.{key, Place, at}
-use Rattle.edit_document.specs.Tree.{string, truth}
+use Rattle.edit_document.specs.declared.nodes.Taken.TheVariants.{Dotted}
+use Rattle.edit_document.specs.Characters.{quote, comma, equals, right_bracket, right_brace}
+use Rattle.edit_document.specs.Strings.{Piece, says, name, basic_text, literal_text, Dotted as DottedPart, Key}
+use Rattle.edit_document.specs.Grammar.{Between, gap, Value, basic, literal, multi_basic, multi_literal, boolean, integer, float, datetime, array, inline, Elements, no_elements, last_element, element, Members, no_members, last_member, member, value, elements, members, IsValue, AreElements, AreMembers}
+use Rattle.edit_document.specs.Supported.{IsSupportedValue, AreSupportedElements, AreSupportedMembers}
+use Rattle.edit_document.specs.Assertions.{key, index, Place, at, Kind, dotted, leaf, Assertion, asserts, names, named, of_key, of_value, of_elements, of_members}
+use Rattle.edit_document.specs.Tree.{string, truth, kind_at, count_elements}
+use Rattle.edit_document.specs.Written.{Valued, valued, inside, in_elements, in_members}
+use Rattle.edit_document.specs.DocumentLayout.{shape_of_value, span_of, Placed, placed, span_at}
 use Rattle.edit_document.specs.Reading.{◌>>=◌}
-use Rattle.edit_document.specs.Nodes.{Shape, scalar, Spot}
+use Rattle.edit_document.specs.Nodes.{Shape, scalar, Spot, StandsAt}
 use Rattle.edit_document.specs.Nodes as shapes
-use Rattle.edit_document.specs.DocumentLayout.{Noted, spot_of, root_noted, places_of, spots_in, shape_of_value, span_of, noted, noted_inside, noted_members, noted_value}
-use Rattle.edit_document.specs.Walk.{State, said, last_of, without_last, entered, opened, closed, step, walked}
-use Rattle.edit_document.specs.Marks.{mark, key_marks, value_marks, members_marks}
-use Rattle.edit_document.proofs.Ends.{Ends, ends_one, ends_pair, ends_gap, ends_value, ends_members, take_length}
-use Rattle.edit_document.proofs.Adding.{get_front, get_last}
-use Rattle.edit_document.proofs.Spotting.{Fine, fine_front, Closed, Good, next, spot_in, spots_length}
-use Rattle.edit_document.proofs.WalkedTokens.{walked_one, walked_first, walked_stops, walked_none, walked_append, state, Leads, leads, stops, last_push, entered_leads, said_basic, said_literal, walked_key}
+use Rattle.edit_document.specs.Walk.{State, said, settled_state, is_dotted_within, entered_at, entered, opened, closed, step, walked}
+use Rattle.edit_document.specs.Marks.{mark, key_marks, value_marks, elements_marks, members_marks}
+use Rattle.edit_document.proofs.Ends.{Ends, ends_one, ends_pair, ends_gap, ends_value}
+use Rattle.edit_document.proofs.SamePlace.{same_place_self, other_place, last_same, not_root, not_below}
+use Rattle.edit_document.proofs.MoreAssertions.{kind_stays, first_kind, first_stays, first_is, IsClear, clear_front}
+use Rattle.edit_document.proofs.Trees.{Grows, grows_same, grows_then}
+use Rattle.edit_document.proofs.Standing.{Stands, nothing_below_spot, nothing_under}
+use Rattle.edit_document.proofs.NothingBelow.{HasLeaf, leaf_there}
+use Rattle.edit_document.proofs.Parts.{deep_value, kind_deep, kind_append}
+use Rattle.edit_document.proofs.Arrays.{elements_are, elements_none_at}
+use Rattle.edit_document.proofs.Walks.{walked_one, walked_first, walked_stops, walked_none, walked_append}
+use Rattle.edit_document.proofs.WalkedTokens.{said_basic, said_literal, waits, walked_key}
 use Rattle.edit_document.proofs.NumberTokens.{number_step}
 use Rattle.edit_document.proofs.MultiTokens.{multi_basic_step, multi_literal_step}
+use Rattle.edit_document.proofs.Leading.{Leads, leads, stops, leads_along, leads_then, Enters, enters, bars, pair_enters, element_enters, element_vacant, vacant, closed_leads}
 
--- ---- one walk and then another
-
-pub leads_then : (bytes : List ℕ) (xs ys : List Mark) (st : State) (made more : List Noted) (tables tables2 : List ℕ) → Leads (walked bytes xs st) made tables
-    → (Good made → Leads (walked bytes ys (state made tables None)) (made ++ more) tables2) → Leads (walked bytes (xs ++ ys) st) (made ++ more) tables2
-leads_then bytes xs ys st made more tables tables2 (leads e g) then = go (then g)
-  where
-    path : walked bytes (xs ++ ys) st ≡ walked bytes ys (state made tables None)
-    path = walked_append bytes xs ys st ∙ ap (λ (o : Option State). o >>= walked bytes ys) e
-
-    go : Leads (walked bytes ys (state made tables None)) (made ++ more) tables2 → Leads (walked bytes (xs ++ ys) st) (made ++ more) tables2
-    go (leads f h) = leads (path ∙ f) h
-    go (stops f h) = stops (path ∙ f) h
-leads_then bytes xs ys st made more tables tables2 (stops e clash) then =
-    stops (walked_append bytes xs ys st ∙ ap (λ (o : Option State). o >>= walked bytes ys) e)
-    (λ fine. clash (fine_front (places_of made) (places_of more) (subst Fine (map-append (λ (m : Noted). m.place) made more) fine)))
-
-pub leads_along : {r s : Option State} (made : List Noted) (tables : List ℕ) → r ≡ s → Leads s made tables → Leads r made tables
-leads_along made tables e (leads f g) = leads (e ∙ f) g
-leads_along made tables e (stops f g) = stops (e ∙ f) g
-
--- an element stays where it is
-pub still : (made more : List Noted) (t : ℕ) (m : Noted) → slice_get (root_noted ∷ made) t ≡ Some m → slice_get (root_noted ∷ (made ++ more)) t ≡ Some m
-still made more t m there = get_more (root_noted ∷ made) more t m there
-  where
-    get_more : (xs ys : List Noted) (i : ℕ) (x : Noted) → slice_get xs i ≡ Some x → slice_get (xs ++ ys) i ≡ Some x
-    get_more [] ys i x e = absurd cc
-    get_more (y ∷ xs) ys zero x e = e
-    get_more (y ∷ xs) ys (suc i) x e = get_more xs ys i x e
+-- where the values of a list are written
+abbrev pub spans : List Valued → List Placed
+spans ws = map placed ws
 
 -- ---- scalars
 
 abbrev pub IsStep : List ℕ → Mark → Shape → Span → Type 0
 IsStep bytes m shape span = (st : State) → step bytes m st ≡ entered st shape (Some span)
-
-scalar_leads : (bytes : List ℕ) (mk : Mark) (shape : Shape) (span : Span) (made : List Noted) (base : List ℕ) (t : ℕ) (m : Noted) (n : List ℕ) → IsStep bytes mk shape span → Good made → slice_get (root_noted ∷ made) t ≡ Some m
-    → Leads (walked bytes (mk ∷ []) (state made (base ++ t ∷ []) (Some n))) (made ++ next m n shape (Some span) ∷ []) (base ++ t ∷ [])
-scalar_leads bytes mk shape span made base t m n act good there =
-    leads_along (made ++ next m n shape (Some span) ∷ []) (base ++ t ∷ []) (walked_one bytes mk (state made (base ++ t ∷ []) (Some n)) ∙ act (state made (base ++ t ∷ []) (Some n))) (entered_leads made base t m n shape (Some span) good there)
 
 basic_step : (bytes : List ℕ) (ps : List Piece) (rest : List ℕ) → IsValue (basic ps) → IsUtf8 bytes → Ends bytes (basic_text ps rest) → IsStep bytes (mark kinds.BasicString (basic_text ps rest) rest) (scalar (string (says quote ps))) (span_of (basic ps) rest)
 unfolding step said
@@ -80,177 +60,348 @@ false_step : (bytes rest : List ℕ) → IsStep bytes (mark kinds.False (value (
 unfolding step
 false_step bytes rest st = refl
 
--- ---- inline tables
+-- where a walk stands before a value: the spots, what was asserted and written, the tables that are open, the place of the
+-- value, and what is asserted there for a value
+pub record Before : Type 0 where
+  pub spots : List Spot
+  pub made : List Assertion
+  pub written : List Placed
+  pub tables : List ℕ
+  pub place : Place
+  pub waiting : State
+  pub keyed : Value → List Assertion
 
-set_middle : (f : Noted → Spot) (made inside : List Noted) (x y : Noted) → slice_set (map f ((made ++ x ∷ []) ++ inside)) (length made) (f y) ≡ map f (made ++ y ∷ inside)
-set_middle f [] inside x y = refl
-set_middle f (m ∷ made) inside x y = ap (λ (ss : List Spot). f m ∷ ss) (set_middle f made inside x y)
+pub record IsBefore (b : Before) : Type 0 where
+  pub enters_at : (v : Value) (span : Span) → Enters b.spots (b.made ++ b.keyed v) (b.written ++ (b.place, span) ∷ []) b.tables b.place (entered_at b.waiting (shape_of_value v) (Some span))
+  pub vacant_at : (v : Value) → IsClear (b.made ++ b.keyed v) → kind_at b.made b.place ≡ None
+  pub low : (v : Value) → kind_at (b.keyed v) (at b.place (index 0)) ≡ None
+  pub told : (v : Value) → HasLeaf b.place v (b.keyed v)
+  pub stands : Stands b.made b.written b.spots
+  pub inner : b.place ≡ [] → ⊥
+  pub deep : (j : ℕ) → is_dotted_within (length (b.tables ++ j ∷ [])) Dotted ≡ true
 
-get_middle : (made inside : List Noted) (x : Noted) → slice_get ((made ++ x ∷ []) ++ inside) (length made) ≡ Some x
-get_middle [] inside x = refl
-get_middle (m ∷ made) inside x = get_middle made inside x
+unwritten_at : (b : Before) (v : Value) → IsBefore b → IsClear (b.made ++ b.keyed v) → span_at b.written b.place ≡ None
+unwritten_at b v h clear = go (span_at b.written b.place) refl
+  where
+    go : (o : Option Span) → span_at b.written b.place ≡ o → span_at b.written b.place ≡ None
+    go None e = e
+    go (Some s) e = let k = h.stands.spans b.place s e in absurd (let clash : None ≡ Some k.0 = sym (h.vacant_at v clear) ∙ k.1 in cc)
 
-same_places : (made inside : List Noted) (x y : Noted) → x.place ≡ y.place → places_of ((made ++ x ∷ []) ++ inside) ≡ places_of (made ++ y ∷ inside)
-same_places [] inside x y e = ap (λ (p : Place). p ∷ places_of inside) e
-same_places (m ∷ made) inside x y e = ap (λ (ps : List Place). m.place ∷ ps) (same_places made inside x y e)
+-- nothing stands below the value yet
+bare_at : (b : Before) (v : Value) → IsBefore b → IsClear (b.made ++ b.keyed v) → kind_at (b.made ++ b.keyed v) (at b.place (index 0)) ≡ None
+bare_at b v h clear = kind_append b.made (b.keyed v) (at b.place (index 0)) (nothing_under b.made b.written b.spots b.place (index 0) h.stands h.inner (h.vacant_at v clear)) ∙ h.low v
 
--- the end of an inline table's span is known where it closes
-abbrev pub table_noted : Place → Span → Noted
-table_noted place span = record { place = place; shape = shapes.inline; span = Some span }
+-- what the value asserts
+abbrev pub made_by : Before → Value → List Assertion
+made_by b v = b.made ++ (b.keyed v ++ of_value b.place v)
 
-module _ (made inside : List Noted) (place : Place) (span : Span) (to : ℕ) where
-  abbrev span2 : Span
-  span2 = record { from = span.from; to = to }
+abbrev pub written_by : Before → Value → List ℕ → List Placed
+written_by b v rest = b.written ++ spans (valued b.place v rest ∷ inside b.place v rest)
 
-  abbrev before : List Noted
-  before = (made ++ table_noted place span ∷ []) ++ inside
+abbrev pub LeadsBy : Before → Value → List ℕ → Option State → Type 0
+LeadsBy b v rest r = Leads b.spots (made_by b v) (written_by b v rest) b.tables r
 
-  abbrev behind : List Noted
-  behind = made ++ table_noted place (record { from = span.from; to = to }) ∷ inside
+scalar_leads : (bytes : List ℕ) (mk : Mark) (b : Before) (v : Value) (rest : List ℕ) → IsStep bytes mk (shape_of_value v) (span_of v rest) → of_value b.place v ≡ [] → inside b.place v rest ≡ [] → IsBefore b → LeadsBy b v rest (walked bytes (mk ∷ []) b.waiting)
+scalar_leads bytes mk b v rest act none empty h =
+    subst (λ (xs : List Assertion). Leads b.spots (b.made ++ (b.keyed v ++ xs)) (b.written ++ spans (valued b.place v rest ∷ inside b.place v rest)) b.tables (walked bytes (mk ∷ []) b.waiting)) (sym none)
+    (subst (λ (ws : List Valued). Leads b.spots (b.made ++ (b.keyed v ++ [])) (b.written ++ spans (valued b.place v rest ∷ ws)) b.tables (walked bytes (mk ∷ []) b.waiting)) (sym empty)
+    (subst (λ (xs : List Assertion). Leads b.spots (b.made ++ xs) (b.written ++ (b.place, span_of v rest) ∷ []) b.tables (walked bytes (mk ∷ []) b.waiting)) (sym (append-nil (b.keyed v)))
+    (go (h.enters_at v (span_of v rest)))))
+  where
+    path : walked bytes (mk ∷ []) b.waiting ≡ (entered_at b.waiting (shape_of_value v) (Some (span_of v rest)) >>= λ r. Some r.0)
+    path = walked_one bytes mk b.waiting ∙ act b.waiting
 
-  pub places_closed : places_of before ≡ places_of behind
-  places_closed = same_places made inside (table_noted place span) (table_noted place (record { from = span.from; to = to })) refl
+    go : Enters b.spots (b.made ++ b.keyed v) (b.written ++ (b.place, span_of v rest) ∷ []) b.tables b.place (entered_at b.waiting (shape_of_value v) (Some (span_of v rest)))
+        → Leads b.spots (b.made ++ b.keyed v) (b.written ++ (b.place, span_of v rest) ∷ []) b.tables (walked bytes (mk ∷ []) b.waiting)
+    go (enters now j e s p g) = leads now (path ∙ ap (λ (o : Option (State × ℕ)). o >>= λ r. Some r.0) e) s g
+    go (bars e c) = stops (path ∙ ap (λ (o : Option (State × ℕ)). o >>= λ r. Some r.0) e) c
 
-  spots_closed : slice_set (spots_in before) (suc (length made)) (spot_of (places_of before) (table_noted place (record { from = span.from; to = to }))) ≡ spots_in behind
-  unfolding spots_in
-  spots_closed =
-      ap (λ (ss : List Spot). spot_of (places_of before) root_noted ∷ ss) (set_middle (spot_of (places_of before)) made inside (table_noted place span) (table_noted place (record { from = span.from; to = to })))
-      ∙ ap (λ (ps : List Place). map (spot_of ps) (root_noted ∷ behind)) places_closed
+-- ---- arrays and inline tables
 
-  pub closed_is : (base : List ℕ) → closed (state before (base ++ suc (length made) ∷ []) None) to ≡ Some (state behind base None)
-  closed_is base =
-      let top = last_push base (suc (length made)) in
-      let spot = spot_in before (suc (length made)) (table_noted place span) (get_middle made inside (table_noted place span)) in
-      let size : length (base ++ suc (length made) ∷ []) ≡ length base + 1 = length-append base (suc (length made) ∷ []) in
-      let n : length (base ++ suc (length made) ∷ []) - 1 ≡ length base = omega arith in
-      let tables : without_last (base ++ suc (length made) ∷ []) ≡ base = ap (λ (k : ℕ). take k (base ++ suc (length made) ∷ [])) n ∙ take_length base (suc (length made) ∷ []) in
-      ap (λ (o : Option ℕ). o >>= λ number. slice_get (spots_in before) number >>= λ s. s.span >>= λ sp. let next : State = record { spots = slice_set (spots_in before) number (record s { span = Some (record { from = sp.from; to = to }) }); tables = without_last (base ++ suc (length made) ∷ []); name = None } in Some next) top
-      ∙ ap (λ (o : Option Spot). o >>= λ s. s.span >>= λ sp. let next : State = record { spots = slice_set (spots_in before) (suc (length made)) (record s { span = Some (record { from = sp.from; to = to }) }); tables = without_last (base ++ suc (length made) ∷ []); name = None } in Some next) spot
-      ∙ ap (λ (ss : List Spot). let next : State = record { spots = ss; tables = without_last (base ++ suc (length made) ∷ []); name = None } in Some next) spots_closed
-      ∙ ap (λ (ts : List ℕ). let next : State = record { spots = spots_in behind; tables = ts; name = None } in Some next) tables
-
-  pub good_closed : Good before → Good behind
-  good_closed g = record { fine = subst Fine places_closed g.fine; closed = subst (λ (ps : List Place). Closed ps) places_closed g.closed }
-
--- what an inline table notes
-opened_some : (st next : State) (span : Option Span) → entered st shapes.inline span ≡ Some next → opened st span ≡ Some (record next { tables = next.tables ++ length st.spots ∷ [] })
-opened_some st next span e = ap (λ (o : Option State). o >>= λ n. Some (record n { tables = n.tables ++ length st.spots ∷ [] })) e
-
-opened_none : (st : State) (span : Option Span) → entered st shapes.inline span ≡ None → opened st span ≡ None
-opened_none st span e = ap (λ (o : Option State). o >>= λ n. Some (record n { tables = n.tables ++ length st.spots ∷ [] })) e
-
-open_step : (bytes from rest : List ℕ) (st : State) → step bytes (mark kinds.OpenTable from rest) st ≡ opened st (Some (record { from = length from; to = length rest }))
+open_array : (bytes from rest : List ℕ) (st : State) → step bytes (mark kinds.OpenArray from rest) st ≡ opened st shapes.listed (Some (record { from = length from; to = length rest }))
 unfolding step
-open_step bytes from rest st = refl
+open_array bytes from rest st = refl
 
-close_step : (bytes from rest : List ℕ) (st : State) → step bytes (mark kinds.CloseTable from rest) st ≡ closed st (length rest)
+close_array : (bytes from rest : List ℕ) (st : State) → step bytes (mark kinds.CloseArray from rest) st ≡ closed st (length rest)
 unfolding step
-close_step bytes from rest st = refl
+close_array bytes from rest st = refl
 
-module _ (bytes : List ℕ) (g : List Between) (ms : Members) (rest : List ℕ) (made : List Noted) (base : List ℕ) (t : ℕ) (m : Noted) (n : List ℕ) where
-  abbrev px : Place
-  px = at m.place (key n)
+open_table : (bytes from rest : List ℕ) (st : State) → step bytes (mark kinds.OpenTable from rest) st ≡ opened st shapes.inline (Some (record { from = length from; to = length rest }))
+unfolding step
+open_table bytes from rest st = refl
 
+close_table : (bytes from rest : List ℕ) (st : State) → step bytes (mark kinds.CloseTable from rest) st ≡ closed st (length rest)
+unfolding step
+close_table bytes from rest st = refl
+
+deeper : (base : List ℕ) (t j : ℕ) → is_dotted_within (length ((base ++ t ∷ []) ++ j ∷ [])) Dotted ≡ true
+deeper base t j =
+    let a : length ((base ++ t ∷ []) ++ j ∷ []) ≡ length (base ++ t ∷ []) + 1 = length-append (base ++ t ∷ []) (j ∷ []) in
+    let b : length (base ++ t ∷ []) ≡ length base + 1 = length-append base (t ∷ []) in
+    grind (arith, nat_tests)
+
+-- a value that holds others: its first mark opens it, its last mark ends it
+module _ (bytes : List ℕ) (v : Value) (rest behind : List ℕ) (first_mark last_mark : Mark) (marks : List Mark) (b : Before) (h : IsBefore b)
+    (opens : (st : State) → step bytes first_mark st ≡ opened st (shape_of_value v) (Some (record { from = length (value v rest); to = length behind })))
+    (ends_here : (st : State) → step bytes last_mark st ≡ closed st (length rest)) where
   abbrev first_span : Span
-  first_span = record { from = length (value (inline g ms) rest); to = length (gap g (members ms (right_brace ∷ rest))) }
+  first_span = record { from = length (value v rest); to = length behind }
 
-  abbrev inner : List Noted
-  inner = noted_members (at m.place (key n)) ms (right_brace ∷ rest)
+  abbrev keyed_made : List Assertion
+  keyed_made = b.made ++ b.keyed v
 
-  abbrev opens : List Noted
-  opens = made ++ table_noted (at m.place (key n)) first_span ∷ []
+  abbrev inner : List Assertion
+  inner = of_value b.place v
 
-  abbrev inside_tables : List ℕ
-  inside_tables = (base ++ t ∷ []) ++ suc (length made) ∷ []
+  abbrev inner_spans : List Placed
+  inner_spans = spans (inside b.place v rest)
 
-  abbrev whole : List Noted
-  whole = made ++ noted_value (at m.place (key n)) (inline g ms) rest
+  all_made : keyed_made ++ inner ≡ made_by b v
+  all_made = append_assoc b.made (b.keyed v) (of_value b.place v)
 
-  same_whole : places_of (opens ++ inner) ≡ places_of whole
-  same_whole = places_closed made inner (at m.place (key n)) first_span (length rest)
-
-  closing : Leads (walked bytes (members_marks ms (right_brace ∷ rest)) (state opens inside_tables None)) (opens ++ inner) inside_tables
-      → Leads (walked bytes (members_marks ms (right_brace ∷ rest) ++ mark kinds.CloseTable (right_brace ∷ rest) rest ∷ []) (state opens inside_tables None)) whole (base ++ t ∷ [])
-  closing (leads e h) =
-      leads
-      (walked_append bytes (members_marks ms (right_brace ∷ rest)) (mark kinds.CloseTable (right_brace ∷ rest) rest ∷ []) (state opens inside_tables None)
-      ∙ ap (λ (o : Option State). o >>= walked bytes (mark kinds.CloseTable (right_brace ∷ rest) rest ∷ [])) e
-      ∙ walked_one bytes (mark kinds.CloseTable (right_brace ∷ rest) rest) (state (opens ++ inner) inside_tables None)
-      ∙ close_step bytes (right_brace ∷ rest) rest (state (opens ++ inner) inside_tables None)
-      ∙ closed_is made inner (at m.place (key n)) first_span (length rest) (base ++ t ∷ []))
-      (good_closed made inner (at m.place (key n)) first_span (length rest) h)
-  closing (stops e clash) =
+  -- behind what it holds comes its last mark
+  closing : (now : List Spot) (j : ℕ) → Stands (b.made ++ b.keyed v) (b.written ++ (b.place, record { from = length (value v rest); to = length behind }) ∷ []) now → StandsAt now j b.place → Grows b.spots now
+      → Leads now (keyed_made ++ inner) ((b.written ++ (b.place, first_span) ∷ []) ++ inner_spans) (b.tables ++ j ∷ []) (walked bytes marks (settled_state now (b.tables ++ j ∷ [])))
+      → LeadsBy b v rest (walked bytes (marks ++ last_mark ∷ []) (settled_state now (b.tables ++ j ∷ [])))
+  closing now j st_open there grows (leads later e st g2) =
+      let none = unwritten_at b v h st_open.clear in
+      let st2 : Stands (keyed_made ++ inner) (b.written ++ (b.place, first_span) ∷ inner_spans) later = subst (λ (w : List Placed). Stands (keyed_made ++ inner) w later) (append_assoc b.written ((b.place, first_span) ∷ []) inner_spans) st in
+      let done = closed_leads b.spots later (keyed_made ++ inner) b.written inner_spans b.place first_span b.tables j (length rest) st2 none (g2 j b.place there) (grows_then b.spots now later grows g2) in
+      let path : walked bytes (marks ++ last_mark ∷ []) (settled_state now (b.tables ++ j ∷ [])) ≡ closed (settled_state later (b.tables ++ j ∷ [])) (length rest) =
+      walked_append bytes marks (last_mark ∷ []) (settled_state now (b.tables ++ j ∷ []))
+      ∙ ap (λ (o : Option State). o >>= walked bytes (last_mark ∷ [])) e ∙ walked_one bytes last_mark (settled_state later (b.tables ++ j ∷ [])) ∙ ends_here (settled_state later (b.tables ++ j ∷ [])) in
+      subst (λ (xs : List Assertion). Leads b.spots xs (b.written ++ spans (valued b.place v rest ∷ inside b.place v rest)) b.tables (walked bytes (marks ++ last_mark ∷ []) (settled_state now (b.tables ++ j ∷ [])))) all_made
+      (leads_along path done)
+  closing now j st_open there grows (stops e clash) =
       stops
-      (walked_append bytes (members_marks ms (right_brace ∷ rest)) (mark kinds.CloseTable (right_brace ∷ rest) rest ∷ []) (state opens inside_tables None)
-      ∙ ap (λ (o : Option State). o >>= walked bytes (mark kinds.CloseTable (right_brace ∷ rest) rest ∷ [])) e)
-      (λ fine. clash (subst Fine (sym same_whole) fine))
+      (walked_append bytes marks (last_mark ∷ []) (settled_state now (b.tables ++ j ∷ [])) ∙ ap (λ (o : Option State). o >>= walked bytes (last_mark ∷ [])) e)
+      (λ clear. clash (subst IsClear (sym all_made) clear))
 
-  pub table_leads : Good made → slice_get (root_noted ∷ made) t ≡ Some m
-      → (Good opens → Leads (walked bytes (members_marks ms (right_brace ∷ rest)) (state opens inside_tables None)) (opens ++ inner) inside_tables)
-      → Leads (walked bytes (value_marks (inline g ms) rest) (state made (base ++ t ∷ []) (Some n))) whole (base ++ t ∷ [])
-  table_leads good there into = go (entered_leads made base t m n shapes.inline (Some first_span) good there)
+  pub holder_leads : ((now : List Spot) (j : ℕ) → Stands (b.made ++ b.keyed v) (b.written ++ (b.place, record { from = length (value v rest); to = length behind }) ∷ []) now → StandsAt now j b.place → Grows b.spots now
+      → Leads now ((b.made ++ b.keyed v) ++ of_value b.place v) ((b.written ++ (b.place, record { from = length (value v rest); to = length behind }) ∷ []) ++ spans (inside b.place v rest)) (b.tables ++ j ∷ []) (walked bytes marks (settled_state now (b.tables ++ j ∷ []))))
+      → LeadsBy b v rest (walked bytes (first_mark ∷ (marks ++ last_mark ∷ [])) b.waiting)
+  holder_leads into = go (h.enters_at v first_span)
     where
-      go : Leads (entered (state made (base ++ t ∷ []) (Some n)) shapes.inline (Some first_span)) opens (base ++ t ∷ []) → Leads (walked bytes (value_marks (inline g ms) rest) (state made (base ++ t ∷ []) (Some n))) whole (base ++ t ∷ [])
-      go (leads e h) =
-          let number : state opens ((base ++ t ∷ []) ++ length (spots_in made) ∷ []) None ≡ state opens inside_tables None = ap (λ (k : ℕ). state opens ((base ++ t ∷ []) ++ k ∷ []) None) (spots_length made) in
-          let first : step bytes (mark kinds.OpenTable (value (inline g ms) rest) (gap g (members ms (right_brace ∷ rest)))) (state made (base ++ t ∷ []) (Some n)) ≡ Some (state opens inside_tables None) =
-          open_step bytes (value (inline g ms) rest) (gap g (members ms (right_brace ∷ rest))) (state made (base ++ t ∷ []) (Some n))
-          ∙ opened_some (state made (base ++ t ∷ []) (Some n)) (state opens (base ++ t ∷ []) None) (Some first_span) e ∙ ap (λ (s : State). Some s) number in
-          leads_along whole (base ++ t ∷ [])
-          (walked_first bytes (mark kinds.OpenTable (value (inline g ms) rest) (gap g (members ms (right_brace ∷ rest)))) (members_marks ms (right_brace ∷ rest) ++ mark kinds.CloseTable (right_brace ∷ rest) rest ∷ []) (state made (base ++ t ∷ []) (Some n)) (state opens inside_tables None) first)
-          (closing (into h))
-      go (stops e clash) =
+      go : Enters b.spots (b.made ++ b.keyed v) (b.written ++ (b.place, record { from = length (value v rest); to = length behind }) ∷ []) b.tables b.place (entered_at b.waiting (shape_of_value v) (Some (record { from = length (value v rest); to = length behind })))
+          → LeadsBy b v rest (walked bytes (first_mark ∷ (marks ++ last_mark ∷ [])) b.waiting)
+      go (enters now j e st there grows) =
+          let first : step bytes first_mark b.waiting ≡ Some (settled_state now (b.tables ++ j ∷ [])) =
+          opens b.waiting ∙ ap (λ (o : Option (State × ℕ)). o >>= λ r. Some (record r.0 { tables = r.0.tables ++ r.1 ∷ [] })) e in
+          leads_along (walked_first bytes first_mark (marks ++ last_mark ∷ []) b.waiting (settled_state now (b.tables ++ j ∷ [])) first) (closing now j st there grows (into now j st there grows))
+      go (bars e clash) =
           stops
-          (walked_stops bytes (mark kinds.OpenTable (value (inline g ms) rest) (gap g (members ms (right_brace ∷ rest)))) (members_marks ms (right_brace ∷ rest) ++ mark kinds.CloseTable (right_brace ∷ rest) rest ∷ []) (state made (base ++ t ∷ []) (Some n))
-          (open_step bytes (value (inline g ms) rest) (gap g (members ms (right_brace ∷ rest))) (state made (base ++ t ∷ []) (Some n)) ∙ opened_none (state made (base ++ t ∷ []) (Some n)) (Some first_span) e))
-          (λ fine. clash (fine_front (places_of opens) (places_of inner) (subst Fine (sym same_whole ∙ map-append (λ (x : Noted). x.place) opens inner) fine)))
+          (walked_stops bytes first_mark (marks ++ last_mark ∷ []) b.waiting
+          (opens b.waiting ∙ ap (λ (o : Option (State × ℕ)). o >>= λ r. Some (record r.0 { tables = r.0.tables ++ r.1 ∷ [] })) e))
+          (λ clear. clash (clear_front keyed_made inner (subst IsClear (sym all_made) clear)))
+
+-- ---- before a value
+
+-- behind the key of a pair
+abbrev pub pair_before : List Spot → List Assertion → List Placed → List ℕ → ℕ → Place → Bool → List ℕ → List (List ℕ) → Before
+pair_before spots made written base t p within n ns = record {
+  spots = spots;
+  made = made;
+  written = written;
+  tables = base ++ t ∷ [];
+  place = named p (n ∷ ns);
+  waiting = waits (settled_state spots (base ++ t ∷ [])) (n ∷ ns);
+  keyed = λ v. of_key within (named p (n ∷ ns)) p (n ∷ ns) v;
+}
+
+key_low : (within : Bool) (by p : Place) (n : List ℕ) (ns : List (List ℕ)) (v : Value) (r : Place) → length (named p (n ∷ ns)) < length r → kind_at (of_key within by p (n ∷ ns) v) r ≡ None
+key_low within by p n [] v r lt = ap (λ (b : Bool). cond b (Some (leaf v)) None) (other_place (at p (key n)) r (λ e. let l : length (at p (key n)) ≡ length r = ap length e in omega arith))
+key_low within by p n (m ∷ ns) v r lt =
+    let whole : length (named (at p (key n)) (m ∷ ns)) ≡ length (named p (n ∷ m ∷ ns)) = ap length (append_assoc p (key n ∷ []) (map key (m ∷ ns))) in
+    let size = length-append (at p (key n)) (map key (m ∷ ns)) in
+    ap (λ (b : Bool). cond b (Some (dotted within)) (kind_at (of_key within by (at p (key n)) (m ∷ ns) v) r)) (other_place (at p (key n)) r (λ e. let l : length (at p (key n)) ≡ length r = ap length e in omega arith))
+    ∙ key_low within by (at p (key n)) m ns v r (omega arith)
+
+key_has : (within : Bool) (by p : Place) (n : List ℕ) (ns : List (List ℕ)) (v : Value) → HasLeaf (named p (n ∷ ns)) v (of_key within by p (n ∷ ns) v)
+key_has within by p n [] v = inl (refl, refl)
+key_has within by p n (m ∷ ns) v = inr (subst (λ (q : Place). HasLeaf q v (of_key within by (at p (key n)) (m ∷ ns) v)) (append_assoc p (key n ∷ []) (map key (m ∷ ns))) (key_has within by (at p (key n)) m ns v))
+
+named_inner : (p : Place) (n : List ℕ) (ns : List (List ℕ)) → named p (n ∷ ns) ≡ [] → ⊥
+named_inner p n ns e = let l : length (named p (n ∷ ns)) ≡ 0 = ap length e in let size = length-append p (map key (n ∷ ns)) in omega arith
+
+pub pair_is_before : (spots : List Spot) (made : List Assertion) (written : List Placed) (base : List ℕ) (t : ℕ) (p : Place) (within : Bool) (n : List ℕ) (ns : List (List ℕ)) → Stands made written spots → StandsAt spots t p
+    → is_dotted_within (length (base ++ t ∷ [])) Dotted ≡ within → IsBefore (pair_before spots made written base t p within n ns)
+pair_is_before spots made written base t p within n ns st there in_table = record {
+  enters_at = λ v span. pair_enters spots base t p n ns within (named p (n ∷ ns)) v span made written in_table st there;
+  vacant_at = λ v clear. vacant made within (named p (n ∷ ns)) p n ns v clear;
+  low = λ v. key_low within (named p (n ∷ ns)) p n ns v (at (named p (n ∷ ns)) (index 0)) (let l = length_push (named p (n ∷ ns)) (index 0) in omega arith);
+  told = λ v. key_has within (named p (n ∷ ns)) p n ns v;
+  stands = st;
+  inner = named_inner p n ns;
+  deep = λ j. deeper base t j;
+}
+
+-- before an element of an array
+abbrev pub element_before : List Spot → List Assertion → List Placed → List ℕ → ℕ → Place → ℕ → Before
+element_before spots made written base t p i = record {
+  spots = spots;
+  made = made;
+  written = written;
+  tables = base ++ t ∷ [];
+  place = at p (index i);
+  waiting = settled_state spots (base ++ t ∷ []);
+  keyed = λ v. asserts (at p (index i)) (at p (index i)) (leaf v) ∷ [];
+}
+
+-- the array at a place, of which so many elements stand
+pub record IsArrayAt (spots : List Spot) (made : List Assertion) (t : ℕ) (p : Place) (i total : ℕ) : Type 0 where
+  pub there : StandsAt spots t p
+  pub size : length there.0.elements ≡ i
+  pub gap_of : List Between
+  pub all : Elements
+  pub first : first_kind made p ≡ Some (leaf (array gap_of all))
+  pub whole : total ≡ count_elements all
+
+pub element_is_before : (spots : List Spot) (made : List Assertion) (written : List Placed) (base : List ℕ) (t : ℕ) (p : Place) (i total : ℕ) → Stands made written spots → IsArrayAt spots made t p i total → i < total → IsBefore (element_before spots made written base t p i)
+element_is_before spots made written base t p i total st a lt =
+    let few : i < count_elements a.all = let w = a.whole in omega arith in
+    record {
+      enters_at = λ v span. element_enters spots base t p i a.gap_of a.all v span made written st a.there a.size a.first few;
+      vacant_at = λ v clear. element_vacant spots t p i made written st a.there a.size;
+      low = λ v. ap (λ (b : Bool). cond b (Some (leaf v)) None) (other_place (at p (index i)) (at (at p (index i)) (index 0)) (λ e. not_below (at p (index i)) (index 0) (sym e)));
+      told = λ v. inl (refl, refl);
+      stands = st;
+      inner = not_root p (index i);
+      deep = λ j. deeper base t j;
+    }
+
+first_front : (made more : List Assertion) (p : Place) (k : Kind) → first_kind made p ≡ Some k → first_kind (made ++ more) p ≡ Some k
+first_front made [] p k e = ap (λ (xs : List Assertion). first_kind xs p) (append-nil made) ∙ e
+first_front made (a ∷ more) p k e = ap (λ (xs : List Assertion). first_kind xs p) (sym (append_assoc made (a ∷ []) more)) ∙ first_front (made ++ a ∷ []) more p k (first_stays made a p k e)
+
+-- one element more stands
+array_more : (spots now : List Spot) (made : List Assertion) (written written2 : List Placed) (t : ℕ) (p : Place) (i total : ℕ) (v : Value) → Stands made written spots → IsArrayAt spots made t p i total
+    → Stands (made ++ (asserts (at p (index i)) (at p (index i)) (leaf v) ∷ of_value (at p (index i)) v)) written2 now → Grows spots now
+    → IsArrayAt now (made ++ (asserts (at p (index i)) (at p (index i)) (leaf v) ∷ of_value (at p (index i)) v)) t p (suc i) total
+array_more spots now made written written2 t p i total v st a st2 grows =
+    let q = at p (index i) in
+    let r = at p (index (suc i)) in
+    let one : Assertion = asserts (at p (index i)) (at p (index i)) (leaf v) in
+    let block = asserts (at p (index i)) (at p (index i)) (leaf v) ∷ of_value (at p (index i)) v in
+    let all = made ++ (asserts (at p (index i)) (at p (index i)) (leaf v) ∷ of_value (at p (index i)) v) in
+    let s = a.there.0 in
+    let u = grows t p a.there in
+    let bare : (j : ℕ) → i ≤ j → kind_at made (at p (index j)) ≡ None = λ j le.
+    ap (λ (z : Place). kind_at made (at z (index j))) (sym a.there.2) ∙ nothing_below_spot made written spots t s (index j) st a.there.1 (slice_get_past s.elements j (let e = a.size in omega arith)) in
+    let here : kind_at all q ≡ Some (leaf v) = kind_append made block q (bare i (omega arith)) ∙ ap (λ (b : Bool). cond b (Some (leaf v)) (kind_at (of_value q v) q)) (same_place_self q) in
+    let off : q ≡ r → ⊥ = λ e. let same : index i ≡ index (suc i) = (last_same p p (index i) (index (suc i)) e).1 in let n : i ≡ suc i = cc in omega arith in
+    let long : length r ≡ length q = length_push p (index (suc i)) ∙ sym (length_push p (index i)) in
+    let none : kind_at all r ≡ None =
+    kind_append made block r (bare (suc i) (omega arith)) ∙ ap (λ (b : Bool). cond b (Some (leaf v)) (kind_at (of_value q v) r)) (other_place q r off) ∙ kind_deep (length q) (of_value q v) r (deep_value q v) (omega arith) in
+    record {
+      there = u;
+      size = elements_are all written2 now t u.0 i (leaf v) st2 u.1 (ap (λ (z : Place). kind_at all (at z (index i))) u.2 ∙ here) (ap (λ (z : Place). kind_at all (at z (index (suc i)))) u.2 ∙ none);
+      gap_of = a.gap_of;
+      all = a.all;
+      first = first_front made block p (leaf (array a.gap_of a.all)) a.first;
+      whole = a.whole;
+    }
+
+has_right : (p : Place) (v : Value) (xs ys : List Assertion) → HasLeaf p v ys → HasLeaf p v (xs ++ ys)
+has_right p v [] ys h = h
+has_right p v (x ∷ xs) ys h = inr (has_right p v xs ys h)
+
+-- an array that was just entered has no element
+array_new : (b : Before) (now : List Spot) (written : List Placed) (j : ℕ) (g : List Between) (es : Elements) → IsBefore b → Stands (b.made ++ b.keyed (array g es)) written now → StandsAt now j b.place
+    → IsArrayAt now (b.made ++ b.keyed (array g es)) j b.place 0 (count_elements es)
+array_new b now written j g es h st there =
+    let v : Value = array g es in
+    let all = b.made ++ b.keyed (array g es) in
+    let kind : kind_at all b.place ≡ Some (leaf (array g es)) = leaf_there b.place v all st.clear.apart (has_right b.place v b.made (b.keyed v) (h.told v)) in
+    let none : kind_at all (at there.0.place (index 0)) ≡ None = ap (λ (q : Place). kind_at all (at q (index 0))) there.2 ∙ bare_at b v h st.clear in
+    record { there = there; size = elements_none_at all written now j there.0 st there.1 none; gap_of = g; all = es; first = first_is all b.place h.inner ∙ kind; whole = refl }
 
 -- ---- values and members
 
-mutual
-  pub value_leads : (bytes : List ℕ) (v : Value) (rest : List ℕ) (made : List Noted) (base : List ℕ) (t : ℕ) (m : Noted) (n : List ℕ) → IsValue v → IsSupportedValue v → IsUtf8 bytes → Ends bytes (value v rest) → Good made
-      → slice_get (root_noted ∷ made) t ≡ Some m → Leads (walked bytes (value_marks v rest) (state made (base ++ t ∷ []) (Some n))) (made ++ noted_value (at m.place (key n)) v rest) (base ++ t ∷ [])
-  value_leads bytes (basic ps) rest made base t m n h s u ends good there =
-      scalar_leads bytes (mark kinds.BasicString (basic_text ps rest) rest) (scalar (string (says quote ps))) (span_of (basic ps) rest) made base t m n (basic_step bytes ps rest h u ends) good there
-  value_leads bytes (literal text) rest made base t m n h s u ends good there =
-      scalar_leads bytes (mark kinds.LiteralString (literal_text text rest) rest) (scalar (string text)) (span_of (literal text) rest) made base t m n (literal_step bytes text rest h u ends) good there
-  value_leads bytes (multi_basic ps) rest made base t m n h s u ends good there =
-      scalar_leads bytes (mark kinds.MultiBasicString (value (multi_basic ps) rest) rest) (shape_of_value (multi_basic ps)) (span_of (multi_basic ps) rest) made base t m n (multi_basic_step bytes ps rest h u ends) good there
-  value_leads bytes (multi_literal ps) rest made base t m n h s u ends good there =
-      scalar_leads bytes (mark kinds.MultiLiteralString (value (multi_literal ps) rest) rest) (shape_of_value (multi_literal ps)) (span_of (multi_literal ps) rest) made base t m n (multi_literal_step bytes ps rest h u ends) good there
-  value_leads bytes (boolean true) rest made base t m n h s u ends good there =
-      scalar_leads bytes (mark kinds.True (value (boolean true) rest) rest) (scalar (truth true)) (span_of (boolean true) rest) made base t m n (true_step bytes rest) good there
-  value_leads bytes (boolean false) rest made base t m n h s u ends good there =
-      scalar_leads bytes (mark kinds.False (value (boolean false) rest) rest) (scalar (truth false)) (span_of (boolean false) rest) made base t m n (false_step bytes rest) good there
-  value_leads bytes (integer i) rest made base t m n h s u ends good there =
-      scalar_leads bytes (mark kinds.Integer (value (integer i) rest) rest) (shape_of_value (integer i)) (span_of (integer i) rest) made base t m n (number_step bytes (integer i) rest h tt ends) good there
-  value_leads bytes (float f) rest made base t m n h s u ends good there =
-      scalar_leads bytes (mark kinds.Float (value (float f) rest) rest) (shape_of_value (float f)) (span_of (float f) rest) made base t m n (number_step bytes (float f) rest h tt ends) good there
-  value_leads bytes (datetime d) rest made base t m n h s u ends good there =
-      scalar_leads bytes (mark kinds.DateTime (value (datetime d) rest) rest) (shape_of_value (datetime d)) (span_of (datetime d) rest) made base t m n (number_step bytes (datetime d) rest h tt ends) good there
-  value_leads bytes (array g es) rest made base t m n h s u ends good there = absurd s
-  value_leads bytes (inline g ms) rest made base t m n h s u ends good there =
-      let x : Noted = table_noted (at m.place (key n)) (record { from = length (value (inline g ms) rest); to = length (gap g (members ms (right_brace ∷ rest))) }) in
-      let inside : Ends bytes (members ms (right_brace ∷ rest)) = ends_gap bytes g (members ms (right_brace ∷ rest)) (ends_one bytes 123 (gap g (members ms (right_brace ∷ rest))) ends) in
-      table_leads bytes g ms rest made base t m n good there
-      (λ good2. members_lead bytes ms (right_brace ∷ rest) (made ++ x ∷ []) (base ++ t ∷ []) (suc (length made)) x h.1 s u inside good2 (get_last made x))
+-- before the value of a key in an inline table
+abbrev member_before : List Spot → List Assertion → List Placed → List ℕ → ℕ → Place → Key → Before
+member_before spots made written base t p k = pair_before spots made written base t p true (name k.first) (map (λ (d : DottedPart). name d.part) k.others)
 
-  pub members_lead : (bytes : List ℕ) (ms : Members) (rest : List ℕ) (made : List Noted) (base : List ℕ) (t : ℕ) (m : Noted) → AreMembers ms → AreSupportedMembers ms → IsUtf8 bytes → Ends bytes (members ms rest) → Good made
-      → slice_get (root_noted ∷ made) t ≡ Some m → Leads (walked bytes (members_marks ms rest) (state made (base ++ t ∷ []) None)) (made ++ noted_members m.place ms rest) (base ++ t ∷ [])
-  members_lead bytes no_members rest made base t m h s u ends good there =
-      leads (walked_none bytes (state made (base ++ t ∷ []) None) ∙ ap (λ (xs : List Noted). Some (state xs (base ++ t ∷ []) None)) (sym (append-nil made))) (subst Good (sym (append-nil made)) good)
-  members_lead bytes (last_member k a b v c) rest made base t m h s u ends good there =
+member_is_before : (spots : List Spot) (made : List Assertion) (written : List Placed) (base : List ℕ) (t : ℕ) (p : Place) (k : Key) → Stands made written spots → StandsAt spots t p → is_dotted_within (length (base ++ t ∷ [])) Dotted ≡ true → IsBefore (member_before spots made written base t p k)
+member_is_before spots made written base t p k st there deep = pair_is_before spots made written base t p true (name k.first) (map (λ (d : DottedPart). name d.part) k.others) st there deep
+
+mutual
+  pub value_leads : (bytes : List ℕ) (v : Value) (rest : List ℕ) (b : Before) → IsValue v → IsSupportedValue v → IsUtf8 bytes → Ends bytes (value v rest) → IsBefore b → LeadsBy b v rest (walked bytes (value_marks v rest) b.waiting)
+  value_leads bytes (basic ps) rest b h s u ends at_value =
+      scalar_leads bytes (mark kinds.BasicString (basic_text ps rest) rest) b (basic ps) rest (basic_step bytes ps rest h u ends) refl refl at_value
+  value_leads bytes (literal text) rest b h s u ends at_value =
+      scalar_leads bytes (mark kinds.LiteralString (literal_text text rest) rest) b (literal text) rest (literal_step bytes text rest h u ends) refl refl at_value
+  value_leads bytes (multi_basic ps) rest b h s u ends at_value =
+      scalar_leads bytes (mark kinds.MultiBasicString (value (multi_basic ps) rest) rest) b (multi_basic ps) rest (multi_basic_step bytes ps rest h u ends) refl refl at_value
+  value_leads bytes (multi_literal ps) rest b h s u ends at_value =
+      scalar_leads bytes (mark kinds.MultiLiteralString (value (multi_literal ps) rest) rest) b (multi_literal ps) rest (multi_literal_step bytes ps rest h u ends) refl refl at_value
+  value_leads bytes (boolean true) rest b h s u ends at_value = scalar_leads bytes (mark kinds.True (value (boolean true) rest) rest) b (boolean true) rest (true_step bytes rest) refl refl at_value
+  value_leads bytes (boolean false) rest b h s u ends at_value = scalar_leads bytes (mark kinds.False (value (boolean false) rest) rest) b (boolean false) rest (false_step bytes rest) refl refl at_value
+  value_leads bytes (integer i) rest b h s u ends at_value =
+      scalar_leads bytes (mark kinds.Integer (value (integer i) rest) rest) b (integer i) rest (number_step bytes (integer i) rest h tt ends) refl refl at_value
+  value_leads bytes (float f) rest b h s u ends at_value =
+      scalar_leads bytes (mark kinds.Float (value (float f) rest) rest) b (float f) rest (number_step bytes (float f) rest h tt ends) refl refl at_value
+  value_leads bytes (datetime d) rest b h s u ends at_value =
+      scalar_leads bytes (mark kinds.DateTime (value (datetime d) rest) rest) b (datetime d) rest (number_step bytes (datetime d) rest h tt ends) refl refl at_value
+  value_leads bytes (array g es) rest b h s u ends at_value =
+      let end = right_bracket ∷ rest in
+      let in_brackets : Ends bytes (elements es (right_bracket ∷ rest)) = ends_gap bytes g (elements es (right_bracket ∷ rest)) (ends_one bytes 91 (gap g (elements es (right_bracket ∷ rest))) ends) in
+      let open_span : Span = record { from = length (value (array g es) rest); to = length (gap g (elements es (right_bracket ∷ rest))) } in
+      holder_leads bytes (array g es) rest (gap g (elements es (right_bracket ∷ rest))) (mark kinds.OpenArray (value (array g es) rest) (gap g (elements es (right_bracket ∷ rest)))) (mark kinds.CloseArray (right_bracket ∷ rest) rest) (elements_marks es (right_bracket ∷ rest)) b at_value
+      (open_array bytes (value (array g es) rest) (gap g (elements es (right_bracket ∷ rest)))) (close_array bytes (right_bracket ∷ rest) rest)
+      (λ now j st there grows. elements_lead bytes es (right_bracket ∷ rest) now (b.made ++ b.keyed (array g es)) (b.written ++ (b.place, open_span) ∷ []) b.tables j b.place 0 (count_elements es) h.1 s u in_brackets st (array_new b now (b.written ++ (b.place, open_span) ∷ []) j g es at_value st there) (omega arith))
+  value_leads bytes (inline g ms) rest b h s u ends at_value =
+      let in_braces : Ends bytes (members ms (right_brace ∷ rest)) = ends_gap bytes g (members ms (right_brace ∷ rest)) (ends_one bytes 123 (gap g (members ms (right_brace ∷ rest))) ends) in
+      let open_span : Span = record { from = length (value (inline g ms) rest); to = length (gap g (members ms (right_brace ∷ rest))) } in
+      holder_leads bytes (inline g ms) rest (gap g (members ms (right_brace ∷ rest))) (mark kinds.OpenTable (value (inline g ms) rest) (gap g (members ms (right_brace ∷ rest)))) (mark kinds.CloseTable (right_brace ∷ rest) rest) (members_marks ms (right_brace ∷ rest)) b at_value
+      (open_table bytes (value (inline g ms) rest) (gap g (members ms (right_brace ∷ rest)))) (close_table bytes (right_brace ∷ rest) rest)
+      (λ now j st there grows. members_lead bytes ms (right_brace ∷ rest) now (b.made ++ b.keyed (inline g ms)) (b.written ++ (b.place, open_span) ∷ []) b.tables j b.place h.1 s u in_braces st there (at_value.deep j))
+
+  pub elements_lead : (bytes : List ℕ) (es : Elements) (rest : List ℕ) (spots : List Spot) (made : List Assertion) (written : List Placed) (base : List ℕ) (t : ℕ) (p : Place) (i total : ℕ) → AreElements es → AreSupportedElements es → IsUtf8 bytes → Ends bytes (elements es rest)
+      → Stands made written spots → IsArrayAt spots made t p i total → i + count_elements es ≡ total
+      → Leads spots (made ++ of_elements p i es) (written ++ spans (in_elements p i es rest)) (base ++ t ∷ []) (walked bytes (elements_marks es rest) (settled_state spots (base ++ t ∷ [])))
+  elements_lead bytes no_elements rest spots made written base t p i total h s u ends st a count =
+      leads spots (walked_none bytes (settled_state spots (base ++ t ∷ []))) (subst (λ (xs : List Assertion). Stands xs (written ++ []) spots) (sym (append-nil made)) (subst (λ (w : List Placed). Stands made w spots) (sym (append-nil written)) st)) (grows_same spots)
+  elements_lead bytes (last_element v g) rest spots made written base t p i total h s u ends st a count =
+      value_leads bytes v (gap g rest) (element_before spots made written base t p i) h.0 s u ends (element_is_before spots made written base t p i total st a (omega arith))
+  elements_lead bytes (element v g h2 es) rest spots made written base t p i total h s u ends st a count =
+      let after = gap g (comma ∷ gap h2 (elements es rest)) in
+      let before = element_before spots made written base t p i in
+      let one = valued (at p (index i)) v after ∷ inside (at p (index i)) v after in
+      let asserted_one = asserts (at p (index i)) (at p (index i)) (leaf v) ∷ of_value (at p (index i)) v in
+      let more_ends : Ends bytes (elements es rest) = ends_gap bytes h2 (elements es rest) (ends_one bytes comma (gap h2 (elements es rest)) (ends_gap bytes g (comma ∷ gap h2 (elements es rest)) (ends_value bytes v after ends))) in
+      let first : Leads spots (made ++ asserted_one) (written ++ spans one) (base ++ t ∷ []) (walked bytes (value_marks v after) (settled_state spots (base ++ t ∷ []))) =
+      value_leads bytes v after before h.0 s.0 u ends (element_is_before spots made written base t p i total st a (omega arith)) in
+      let all = leads_then bytes (value_marks v after) (elements_marks es rest) (settled_state spots (base ++ t ∷ [])) spots (made ++ asserted_one) (of_elements p (suc i) es) (written ++ spans one) (spans (in_elements p (suc i) es rest)) (base ++ t ∷ []) (base ++ t ∷ []) first
+      (λ now st2 grows. elements_lead bytes es rest now (made ++ asserted_one) (written ++ spans one) base t p (suc i) total h.3 s.1 u more_ends st2 (array_more spots now made written (written ++ spans one) t p i total v st a st2 grows) (let c = count in omega arith)) in
+      let same_made : (made ++ asserted_one) ++ of_elements p (suc i) es ≡ made ++ (asserted_one ++ of_elements p (suc i) es) = append_assoc made asserted_one (of_elements p (suc i) es) in
+      let same_spans : (written ++ spans one) ++ spans (in_elements p (suc i) es rest) ≡ written ++ spans (one ++ in_elements p (suc i) es rest) =
+      append_assoc written (spans one) (spans (in_elements p (suc i) es rest)) ∙ ap (λ (w : List Placed). written ++ w) (sym (map-append placed one (in_elements p (suc i) es rest))) in
+      subst (λ (xs : List Assertion). Leads spots xs (written ++ spans (one ++ in_elements p (suc i) es rest)) (base ++ t ∷ []) (walked bytes (elements_marks (element v g h2 es) rest) (settled_state spots (base ++ t ∷ [])))) same_made
+      (subst (λ (w : List Placed). Leads spots ((made ++ asserted_one) ++ of_elements p (suc i) es) w (base ++ t ∷ []) (walked bytes (elements_marks (element v g h2 es) rest) (settled_state spots (base ++ t ∷ [])))) same_spans all)
+
+  pub members_lead : (bytes : List ℕ) (ms : Members) (rest : List ℕ) (spots : List Spot) (made : List Assertion) (written : List Placed) (base : List ℕ) (t : ℕ) (p : Place) → AreMembers ms → AreSupportedMembers ms → IsUtf8 bytes → Ends bytes (members ms rest)
+      → Stands made written spots → StandsAt spots t p → is_dotted_within (length (base ++ t ∷ [])) Dotted ≡ true
+      → Leads spots (made ++ of_members p ms) (written ++ spans (in_members p ms rest)) (base ++ t ∷ []) (walked bytes (members_marks ms rest) (settled_state spots (base ++ t ∷ [])))
+  members_lead bytes no_members rest spots made written base t p h s u ends st there deep =
+      leads spots (walked_none bytes (settled_state spots (base ++ t ∷ []))) (subst (λ (xs : List Assertion). Stands xs (written ++ []) spots) (sym (append-nil made)) (subst (λ (w : List Placed). Stands made w spots) (sym (append-nil written)) st)) (grows_same spots)
+  members_lead bytes (last_member k a b v c) rest spots made written base t p h s u ends st there deep =
       let after = gap c rest in
-      leads_along (made ++ noted_value (at m.place (key (name k.first))) v after) (base ++ t ∷ []) (walked_key bytes k (a ++ (equals ∷ (b ++ value v after))) (value_marks v after) made (base ++ t ∷ []) h.0 s.0 u ends)
-      (value_leads bytes v after made base t m (name k.first) h.3 s.1 u (ends_pair bytes k a b (value v after) ends) good there)
-  members_lead bytes (member k a b v c d ms) rest made base t m h s u ends good there =
+      leads_along (walked_key bytes k (a ++ (equals ∷ (b ++ value v after))) (value_marks v after) (settled_state spots (base ++ t ∷ [])) h.0 u ends)
+      (value_leads bytes v after (member_before spots made written base t p k) h.3 s u (ends_pair bytes k a b (value v after) ends) (member_is_before spots made written base t p k st there deep))
+  members_lead bytes (member k a b v c d ms) rest spots made written base t p h s u ends st there deep =
       let after = gap c (comma ∷ gap d (members ms rest)) in
-      let one = noted_value (at m.place (key (name k.first))) v after in
+      let before = member_before spots made written base t p k in
+      let one = valued (named p (names k)) v after ∷ inside (named p (names k)) v after in
+      let asserted_one = of_key true (named p (names k)) p (names k) v ++ of_value (named p (names k)) v in
       let value_ends : Ends bytes (value v after) = ends_pair bytes k a b (value v after) ends in
       let more_ends : Ends bytes (members ms rest) = ends_gap bytes d (members ms rest) (ends_one bytes comma (gap d (members ms rest)) (ends_gap bytes c (comma ∷ gap d (members ms rest)) (ends_value bytes v after value_ends))) in
-      let first : Leads (walked bytes (key_marks k (a ++ (equals ∷ (b ++ value v after))) ++ value_marks v after) (state made (base ++ t ∷ []) None)) (made ++ one) (base ++ t ∷ []) =
-      leads_along (made ++ one) (base ++ t ∷ []) (walked_key bytes k (a ++ (equals ∷ (b ++ value v after))) (value_marks v after) made (base ++ t ∷ []) h.0 s.0 u ends)
-      (value_leads bytes v after made base t m (name k.first) h.3 s.1 u value_ends good there) in
-      let all = leads_then bytes (key_marks k (a ++ (equals ∷ (b ++ value v after))) ++ value_marks v after) (members_marks ms rest) (state made (base ++ t ∷ []) None) (made ++ one) (noted_members m.place ms rest) (base ++ t ∷ []) (base ++ t ∷ []) first
-      (λ good2. members_lead bytes ms rest (made ++ one) base t m h.6 s.2 u more_ends good2 (still made one t m there)) in
-      subst (λ (xs : List Noted). Leads (walked bytes (members_marks (member k a b v c d ms) rest) (state made (base ++ t ∷ []) None)) xs (base ++ t ∷ [])) (append_assoc made one (noted_members m.place ms rest)) all
+      let first : Leads spots (made ++ asserted_one) (written ++ spans one) (base ++ t ∷ []) (walked bytes (key_marks k (a ++ (equals ∷ (b ++ value v after))) ++ value_marks v after) (settled_state spots (base ++ t ∷ []))) =
+      leads_along (walked_key bytes k (a ++ (equals ∷ (b ++ value v after))) (value_marks v after) (settled_state spots (base ++ t ∷ [])) h.0 u ends)
+      (value_leads bytes v after before h.3 s.0 u value_ends (member_is_before spots made written base t p k st there deep)) in
+      let all = leads_then bytes (key_marks k (a ++ (equals ∷ (b ++ value v after))) ++ value_marks v after) (members_marks ms rest) (settled_state spots (base ++ t ∷ [])) spots (made ++ asserted_one) (of_members p ms) (written ++ spans one) (spans (in_members p ms rest)) (base ++ t ∷ []) (base ++ t ∷ []) first
+      (λ now st2 grows. members_lead bytes ms rest now (made ++ asserted_one) (written ++ spans one) base t p h.6 s.1 u more_ends st2 (grows t p there) deep) in
+      let same_made : (made ++ asserted_one) ++ of_members p ms ≡ made ++ (asserted_one ++ of_members p ms) = append_assoc made asserted_one (of_members p ms) in
+      let same_spans : (written ++ spans one) ++ spans (in_members p ms rest) ≡ written ++ spans (one ++ in_members p ms rest) =
+      append_assoc written (spans one) (spans (in_members p ms rest)) ∙ ap (λ (w : List Placed). written ++ w) (sym (map-append placed one (in_members p ms rest))) in
+      subst (λ (xs : List Assertion). Leads spots xs (written ++ spans (one ++ in_members p ms rest)) (base ++ t ∷ []) (walked bytes (members_marks (member k a b v c d ms) rest) (settled_state spots (base ++ t ∷ [])))) same_made
+      (subst (λ (w : List Placed). Leads spots ((made ++ asserted_one) ++ of_members p ms) w (base ++ t ∷ []) (walked bytes (members_marks (member k a b v c d ms) rest) (settled_state spots (base ++ t ∷ [])))) same_spans all)

@@ -1,136 +1,214 @@
 -- The steps of the walk over marks, as the code takes them.
-use Rattle.std.proofs.Common.{◌≡◌, ℕ, zero, suc, ◌+◌, ◌-◌, ◌<◌, ◌≤◌, Bool, true, false, not, List, [], ◌∷◌, ◌++◌, length, take, drop, get_or, Option, Some, None, Result, Ok, Err, refl, sym, ap, subst, ◌∙◌, ◌⊎◌, inl, inr, length-append, arith, String, Global}
-use Rattle.std.specs.Prelude.{IfOk, option_map, slice_get, slice_set, string_bytes}
-use Rattle.std.proofs.lemmas.Bool.{cases_lt}
-use Rattle.std.proofs.lemmas.List.{length-set}
-use Rattle.std.proofs.lemmas.Option.{same_Some, slice_get_read, slice_get-get_or, slice_get_within}
+use Rattle.std.proofs.Common.{◌≡◌, ℕ, ◌+◌, ◌-◌, ◌<◌, Bool, true, false, List, [], ◌∷◌, ◌++◌, length, take, drop, get_or, Option, Some, None, is_some, Result, Ok, Err, refl, sym, ap, ap₂, subst, ◌∙◌, ◌⊎◌, inl, inr, length-append, arith, String, Global}
+use Rattle.std.specs.Prelude.{IfOk, option_map, option_to_list, map, slice_get, slice_set, string_bytes}
+use Rattle.std.specs.List.{AllByRecursion}
+use Rattle.std.proofs.lemmas.List.{map-append}
+use Rattle.std.proofs.lemmas.Option.{slice_get_read, slice_get-get_or, slice_get_within}
 use Rattle.edit_document.specs.declared.nodes.Node.{Node}
 use Rattle.edit_document.specs.declared.nodes.Span.{Span}
+use Rattle.edit_document.specs.declared.nodes.Taken.{Taken}
+use Rattle.edit_document.specs.declared.nodes.Taken.TheVariants.{Dotted, Value, Super, Header, Array, Element}
 use Rattle.edit_document.specs.declared.walk.Walk.{Walk}
-use Rattle.edit_document.specs.Assertions.{Place}
-use Rattle.edit_document.specs.Reading.{◌>>=◌}
 use Rattle.edit_document.specs.declared.read.marks.Mark.{Mark}
 use Rattle.edit_document.specs.declared.read.marks.MarkKind.{MarkKind}
 use Rattle.edit_document.specs.declared.read.marks.MarkKind.TheVariants as kinds
-use Rattle.edit_document.proofs.Ends.{take_length}
-use Rattle.edit_document.specs.Nodes.{Shape, shape_said, scalar, section, Spot, StandsAt, Keeps, Holds}
+use Rattle.edit_document.specs.Reading.{◌>>=◌}
+use Rattle.edit_document.specs.Nodes.{Shape, shape_said, scalar, section, sections, Spot, Holds}
 use Rattle.edit_document.specs.Nodes as shapes
-use Rattle.edit_document.specs.Walk.{State, added, said, last_of, without_last, entered, opened, closed, headed, span_of_mark, worded, act, step, start, walked}
-use Rattle.edit_document.specs.WalkState.{Adds, Walks, Goes, SaysAt, is_said, IsToken, KeepsState}
-use Rattle.edit_document.proofs.Views.{spot_at, slice_get_same, drop_from}
+use Rattle.edit_document.specs.Walk.{State, said, last_of, without_last, asserted, element_added, front_shape, reached, awaiting, settled_state, is_dotted_within, settled, entered_below, entered_at, entered, opened, closed, turned, headed, element_headed, span_of_mark, worded, act, step, start, walked}
+use Rattle.edit_document.specs.WalkState.{Puts, Walks, Goes, Settles, SaysAt, is_said, IsToken, KeepsState}
 use Rattle.edit_document.proofs.Below.{all_at}
-use Rattle.std.specs.List.{AllByRecursion}
-use Rattle.edit_document.proofs.Adding.{get_set_same, get_set_other}
-use Rattle.edit_document.proofs.WalkedTokens.{last_push, walked_first, walked_stops, walked_none}
+use Rattle.edit_document.proofs.Ends.{take_length}
+use Rattle.edit_document.proofs.ListElements.{drop_from}
+use Rattle.edit_document.proofs.Adding.{spot_of_node, holds_set}
+use Rattle.edit_document.proofs.Walks.{walked_first, walked_stops, walked_none}
 
 pub if_ok_map : {A E : Type 0} {P Q : A → Type 0} (r : Result A E) → IfOk r P → ((x : A) → P x → Q x) → IfOk r Q
 if_ok_map (Ok x) h f = f x h
 if_ok_map (Err e) h f = tt
 
--- a state behind spots that were made
-abbrev pub with_spots : List ℕ → List Spot → Option State
-with_spots tables spots = Some (record { spots = spots; tables = tables; name = None })
+-- ---- names and keys
 
-pub goes_made : (walk : Walk) (tables : List ℕ) (made : Option (List Spot)) (b : Bool) → walk.tables.items ≡ tables → walk.name ≡ None → Adds walk.nodes.items made b → Goes walk (made >>= with_spots tables) b
-goes_made walk tables made true ts n (spots, e, holds) =
-    (record { spots = spots; tables = tables; name = None }, ap (λ (o : Option (List Spot)). o >>= with_spots tables) e, record { holds = holds; tables = ts; name = ap (option_map string_bytes) n })
-goes_made walk tables made false ts n e = ap (λ (o : Option (List Spot)). o >>= with_spots tables) e
+-- the names of the front parts are those behind the ones that waited
+pub awaits : (old walk : Walk) (st : State) (name : String Global) → Walks old st → walk.nodes.items ≡ old.nodes.items → walk.tables.items ≡ old.tables.items → walk.fronts.items ≡ old.fronts.items ++ option_to_list old.name → walk.name ≡ Some name
+    → Walks walk (awaiting st (string_bytes name))
+awaits old walk st name w ns ts fs n = record {
+  holds = subst (λ (xs : List Node). Holds xs st.spots) (sym ns) w.holds;
+  tables = ts ∙ w.tables;
+  fronts =
+      ap (map string_bytes) fs ∙ map-append string_bytes old.fronts.items (option_to_list old.name)
+      ∙ ap₂ (λ (a : List (List ℕ)) (b : List (List ℕ)). a ++ b) w.fronts (listed old.name ∙ ap option_to_list w.name);
+  name = ap (option_map string_bytes) n;
+}
+  where
+    listed : (o : Option (String Global)) → map string_bytes (option_to_list o) ≡ option_to_list (option_map string_bytes o)
+    listed None = refl
+    listed (Some s) = refl
 
-entered_is : (st : State) (shape : Shape) (span : Option Span) (name : List ℕ) (number : ℕ) → st.name ≡ Some name → last_of st.tables ≡ Some number → entered st shape span ≡ (added st.spots number name shape span >>= with_spots st.tables)
-entered_is st shape span name number n t =
-    ap (λ (o : Option (List ℕ)). o >>= λ x. last_of st.tables >>= λ k. added st.spots k x shape span >>= with_spots st.tables) n
-    ∙ ap (λ (o : Option ℕ). o >>= λ k. added st.spots k name shape span >>= with_spots st.tables) t
+pub settled_is : (st : State) (number : ℕ) (front : Taken) (shape : Shape) (taken : Taken) (span : Option Span) (name : List ℕ) → st.name ≡ Some name
+    → settled st number front shape taken span
+    ≡ (reached st.spots number st.fronts (front_shape (is_dotted_within (length st.tables) front)) front >>= λ r. asserted r.0 r.1 name shape taken span >>= λ q. Some (settled_state q.0 st.tables, q.1))
+unfolding settled
+settled_is st number front shape taken span name n =
+    ap (λ (o : Option (List ℕ)). o >>= λ x. reached st.spots number st.fronts (front_shape (is_dotted_within (length st.tables) front)) front >>= λ r. asserted r.0 r.1 x shape taken span >>= λ q. Some (settled_state q.0 st.tables, q.1)) n
 
-pub goes_entered : (walk : Walk) (st : State) (shape : Shape) (span : Option Span) (name : List ℕ) (number : ℕ) (b : Bool) → st.name ≡ Some name → last_of st.tables ≡ Some number → walk.tables.items ≡ st.tables → walk.name ≡ None
-    → Adds walk.nodes.items (added st.spots number name shape span) b → Goes walk (entered st shape span) b
-goes_entered walk st shape span name number b n t ts none adds =
-    subst (λ (o : Option State). Goes walk o b) (sym (entered_is st shape span name number n t)) (goes_made walk st.tables (added st.spots number name shape span) b ts none adds)
+pub settled_unnamed : (st : State) (number : ℕ) (front : Taken) (shape : Shape) (taken : Taken) (span : Option Span) → st.name ≡ None → settled st number front shape taken span ≡ None
+unfolding settled
+settled_unnamed st number front shape taken span n = rw n refl
 
-pub goes_headed : (walk : Walk) (st : State) (name : List ℕ) (count : ℕ) (b : Bool) → st.name ≡ Some name → count ≡ length st.spots → walk.tables.items ≡ count ∷ [] → walk.name ≡ None → Adds walk.nodes.items (added st.spots 0 name section None) b → Goes walk (headed st) b
-goes_headed walk st name count b n size ts none adds =
-    let here : headed st ≡ (added st.spots 0 name section None >>= with_spots (length st.spots ∷ [])) = ap (λ (o : Option (List ℕ)). o >>= λ x. added st.spots 0 x section None >>= with_spots (length st.spots ∷ [])) n in
-    subst (λ (o : Option State). Goes walk o b) (sym here) (goes_made walk (length st.spots ∷ []) (added st.spots 0 name section None) b (ts ∙ ap (λ (k : ℕ). k ∷ []) size) none adds)
+-- the table of a key is reached, or it is not
+pub reach_of : (nodes : List Node) (st : State) (number : ℕ) (names : List (List ℕ)) (within : Bool) (front : Taken) (r : Option ℕ) → names ≡ st.fronts → within ≡ is_dotted_within (length st.tables) front
+    → Puts nodes (reached st.spots number names (front_shape within) front) r → Puts nodes (reached st.spots number st.fronts (front_shape (is_dotted_within (length st.tables) front)) front) r
+reach_of nodes st number names within front r a b h =
+    subst (λ (ns : List (List ℕ)). Puts nodes (reached st.spots number ns (front_shape (is_dotted_within (length st.tables) front)) front) r) a
+    (subst (λ (x : Bool). Puts nodes (reached st.spots number names (front_shape x) front) r) b h)
 
-pub headed_none : (st : State) (name : List ℕ) → st.name ≡ Some name → added st.spots 0 name section None ≡ None → headed st ≡ None
-headed_none st name n e =
-    ap (λ (o : Option (List ℕ)). o >>= λ x. added st.spots 0 x section None >>= with_spots (length st.spots ∷ [])) n ∙ ap (λ (o : Option (List Spot)). o >>= with_spots (length st.spots ∷ [])) e
+pub settled_unreached : (st : State) (number : ℕ) (front : Taken) (shape : Shape) (taken : Taken) (span : Option Span) (name : List ℕ) → st.name ≡ Some name
+    → reached st.spots number st.fronts (front_shape (is_dotted_within (length st.tables) front)) front ≡ None → settled st number front shape taken span ≡ None
+settled_unreached st number front shape taken span name n none =
+    settled_is st number front shape taken span name n ∙ ap (λ (o : Option (List Spot × ℕ)). o >>= λ r. asserted r.0 r.1 name shape taken span >>= λ q. Some (settled_state q.0 st.tables, q.1)) none
 
--- an inline table is innermost
-pub goes_opened : (middle walk : Walk) (st : State) (span : Option Span) (count : ℕ) → count ≡ length st.spots → Goes middle (entered st shapes.inline span) true → walk.nodes.items ≡ middle.nodes.items → walk.tables.items ≡ middle.tables.items ++ count ∷ [] → walk.name ≡ middle.name
-    → Goes walk (opened st span) true
-goes_opened middle walk st span count size (next, e, w) ns ts n = (
-  record next { tables = next.tables ++ length st.spots ∷ [] },
-  ap (λ (o : Option State). o >>= λ x. Some (record x { tables = x.tables ++ length st.spots ∷ [] })) e,
+pub settles : (walk : Walk) (st : State) (number : ℕ) (front : Taken) (shape : Shape) (taken : Taken) (span : Option Span) (name : List ℕ) (spots : List Spot) (table : ℕ) (r : Option ℕ) → st.name ≡ Some name
+    → reached st.spots number st.fronts (front_shape (is_dotted_within (length st.tables) front)) front ≡ Some (spots, table) → walk.tables.items ≡ st.tables → walk.fronts.items ≡ [] → walk.name ≡ None
+    → Puts walk.nodes.items (asserted spots table name shape taken span) r → Settles walk (settled st number front shape taken span) r
+settles walk st number front shape taken span name spots table r n reach ts fs none puts =
+    let first : settled st number front shape taken span ≡ (asserted spots table name shape taken span >>= λ q. Some (settled_state q.0 st.tables, q.1)) =
+    settled_is st number front shape taken span name n ∙ ap (λ (o : Option (List Spot × ℕ)). o >>= λ x. asserted x.0 x.1 name shape taken span >>= λ q. Some (settled_state q.0 st.tables, q.1)) reach in
+    subst (λ (o : Option (State × ℕ)). Settles walk o r) (sym first) (go r puts)
+  where
+    go : (r : Option ℕ) → Puts walk.nodes.items (asserted spots table name shape taken span) r → Settles walk (asserted spots table name shape taken span >>= λ q. Some (settled_state q.0 st.tables, q.1)) r
+    go None e = ap (λ (o : Option (List Spot × ℕ)). o >>= λ q. Some (settled_state q.0 st.tables, q.1)) e
+    go (Some k) (made, e, holds) = (
+      settled_state made st.tables,
+      ap (λ (o : Option (List Spot × ℕ)). o >>= λ q. Some (settled_state q.0 st.tables, q.1)) e,
+      record { holds = holds; tables = ts; fronts = ap (map string_bytes) fs; name = ap (option_map string_bytes) none },
+    )
+
+pub entered_is : (st : State) (shape : Shape) (span : Option Span) (number : ℕ) (name : List ℕ) → last_of st.tables ≡ Some number → st.name ≡ Some name → entered_at st shape span ≡ settled st number Dotted shape Value span
+entered_is st shape span number name t n = ap (λ (o : Option ℕ). o >>= λ k. entered_below st.name st k shape span) t ∙ ap (λ (o : Option (List ℕ)). entered_below o st number shape span) n
+
+pub unentered : (st : State) (shape : Shape) (span : Option Span) → last_of st.tables ≡ None → entered_at st shape span ≡ None
+unentered st shape span t = ap (λ (o : Option ℕ). o >>= λ k. entered_below st.name st k shape span) t
+
+abbrev spots_of_state : State → List Spot × ℕ → Option (State × ℕ)
+spots_of_state st q = Some (record st { spots = q.0 }, q.1)
+
+-- where no key waits an element stands in the innermost array
+pub enters_element : (st : State) (shape : Shape) (span : Option Span) (number : ℕ) → last_of st.tables ≡ Some number → st.name ≡ None → entered_at st shape span ≡ (element_added st.spots number shape Value span >>= λ q. spots_of_state st q)
+enters_element st shape span number t n = ap (λ (o : Option ℕ). o >>= λ k. entered_below st.name st k shape span) t ∙ ap (λ (o : Option (List ℕ)). entered_below o st number shape span) n
+
+pub settles_element : (old walk : Walk) (st : State) (shape : Shape) (span : Option Span) (number : ℕ) (r : Option ℕ) → Walks old st → last_of old.tables.items ≡ Some number → old.name ≡ None → Puts walk.nodes.items (element_added st.spots number shape Value span) r
+    → walk.tables.items ≡ old.tables.items → walk.fronts.items ≡ old.fronts.items → walk.name ≡ old.name → Settles walk (entered_at st shape span) r
+settles_element old walk st shape span number r w top bare puts ts fs n =
+    let name : st.name ≡ None = sym w.name ∙ ap (option_map string_bytes) bare in
+    subst (λ (o : Option (State × ℕ)). Settles walk o r) (sym (enters_element st shape span number (ap last_of (sym w.tables) ∙ top) name)) (go r puts)
+  where
+    go : (r : Option ℕ) → Puts walk.nodes.items (element_added st.spots number shape Value span) r → Settles walk (element_added st.spots number shape Value span >>= λ q. spots_of_state st q) r
+    go None e = ap (λ (o : Option (List Spot × ℕ)). o >>= λ q. spots_of_state st q) e
+    go (Some k) (made, e, holds) = (
+      record st { spots = made },
+      ap (λ (o : Option (List Spot × ℕ)). o >>= λ q. spots_of_state st q) e,
+      record { holds = holds; tables = ts ∙ w.tables; fronts = ap (map string_bytes) fs ∙ w.fronts; name = ap (option_map string_bytes) n ∙ w.name },
+    )
+
+-- where a key waits it settles
+pub settles_named : (old walk : Walk) (st : State) (shape : Shape) (span : Option Span) (number : ℕ) (name : String Global) (r : Option ℕ) → Walks old st → last_of old.tables.items ≡ Some number → old.name ≡ Some name → Settles walk (settled st number Dotted shape Value span) r
+    → Settles walk (entered_at st shape span) r
+settles_named old walk st shape span number name r w top waits settles =
+    let named : st.name ≡ Some (string_bytes name) = sym w.name ∙ ap (option_map string_bytes) waits in
+    subst (λ (o : Option (State × ℕ)). Settles walk o r) (sym (entered_is st shape span number (string_bytes name) (ap last_of (sym w.tables) ∙ top) named)) settles
+
+pub goes_settled : (walk : Walk) (o : Option (State × ℕ)) (r : Option ℕ) → Settles walk o r → Goes walk (o >>= λ q. Some q.0) (is_some r)
+goes_settled walk o None e = ap (λ (x : Option (State × ℕ)). x >>= λ q. Some q.0) e
+goes_settled walk o (Some k) (st, e, w) = (st, ap (λ (x : Option (State × ℕ)). x >>= λ q. Some q.0) e, w)
+
+-- an array or an inline table is innermost
+pub goes_opened : (middle walk : Walk) (st : State) (shape : Shape) (span : Option Span) (number : ℕ) → Settles middle (entered_at st shape span) (Some number) → walk.nodes.items ≡ middle.nodes.items → walk.tables.items ≡ middle.tables.items ++ number ∷ []
+    → walk.fronts.items ≡ middle.fronts.items → walk.name ≡ middle.name → Goes walk (opened st shape span) true
+goes_opened middle walk st shape span number (next, e, w) ns ts fs n = (
+  record next { tables = next.tables ++ number ∷ [] },
+  ap (λ (o : Option (State × ℕ)). o >>= λ r. Some (record r.0 { tables = r.0.tables ++ r.1 ∷ [] })) e,
   record {
     holds = subst (λ (xs : List Node). Holds xs next.spots) (sym ns) w.holds;
-    tables = ts ∙ ap (λ (k : ℕ). middle.tables.items ++ k ∷ []) size ∙ ap (λ (xs : List ℕ). xs ++ length st.spots ∷ []) w.tables;
+    tables = ts ∙ ap (λ (xs : List ℕ). xs ++ number ∷ []) w.tables;
+    fronts = ap (map string_bytes) fs ∙ w.fronts;
     name = ap (option_map string_bytes) n ∙ w.name;
   },
 )
 
-pub opened_refused : (middle : Walk) (st : State) (span : Option Span) → Goes middle (entered st shapes.inline span) false → opened st span ≡ None
-opened_refused middle st span e = ap (λ (o : Option State). o >>= λ x. Some (record x { tables = x.tables ++ length st.spots ∷ [] })) e
+pub opened_refused : (middle : Walk) (st : State) (shape : Shape) (span : Option Span) → Settles middle (entered_at st shape span) None → opened st shape span ≡ None
+opened_refused middle st shape span e = ap (λ (o : Option (State × ℕ)). o >>= λ r. Some (record r.0 { tables = r.0.tables ++ r.1 ∷ [] })) e
+
+-- one table is open
+pub turns : (old walk : Walk) (st : State) (number : ℕ) → Walks old st → walk.nodes.items ≡ old.nodes.items → walk.tables.items ≡ number ∷ [] → walk.fronts.items ≡ old.fronts.items → walk.name ≡ old.name → Walks walk (record st { tables = number ∷ [] })
+turns old walk st number w ns ts fs n = record {
+  holds = subst (λ (xs : List Node). Holds xs st.spots) (sym ns) w.holds;
+  tables = ts;
+  fronts = ap (map string_bytes) fs ∙ w.fronts;
+  name = ap (option_map string_bytes) n ∙ w.name;
+}
+
+pub goes_headed : (middle walk : Walk) (st : State) (number : ℕ) → Settles middle (settled st 0 Super section Header None) (Some number) → ((s : State) → Walks middle s → Walks walk (record s { tables = number ∷ [] })) → Goes walk (headed st) true
+goes_headed middle walk st number (next, e, w) turn = (turned (next, number), ap (λ (o : Option (State × ℕ)). o >>= λ r. Some (turned r)) e, turn next w)
+
+pub headed_refused : (middle : Walk) (st : State) → Settles middle (settled st 0 Super section Header None) None → headed st ≡ None
+headed_refused middle st e = ap (λ (o : Option (State × ℕ)). o >>= λ r. Some (turned r)) e
+
+abbrev pub with_element_of : State × ℕ → Option State
+with_element_of r = element_added r.0.spots r.1 section Element None >>= λ q. Some (turned (record r.0 { spots = q.0 }, q.1))
+
+pub element_unheaded : (middle : Walk) (st : State) → Settles middle (settled st 0 Super sections Array None) None → element_headed st ≡ None
+element_unheaded middle st e = ap (λ (o : Option (State × ℕ)). o >>= λ r. with_element_of r) e
+
+pub element_refused : (middle : Walk) (nodes : List Node) (st : State) (number : ℕ) → Settles middle (settled st 0 Super sections Array None) (Some number) → ((spots : List Spot) → Holds middle.nodes.items spots → Puts nodes (element_added spots number section Element None) None) → element_headed st ≡ None
+element_refused middle nodes st number (next, e, w) stops =
+    ap (λ (o : Option (State × ℕ)). o >>= λ r. with_element_of r) e ∙ ap (λ (o : Option (List Spot × ℕ)). o >>= λ q. Some (turned (record next { spots = q.0 }, q.1))) (stops next.spots w.holds)
+
+pub goes_element : (middle walk : Walk) (nodes : Walk) (st : State) (number element : ℕ) → Settles middle (settled st 0 Super sections Array None) (Some number) → ((spots : List Spot) → Holds middle.nodes.items spots → Puts nodes.nodes.items (element_added spots number section Element None) (Some element))
+    → nodes.tables.items ≡ middle.tables.items → nodes.fronts.items ≡ middle.fronts.items → nodes.name ≡ middle.name → ((s : State) → Walks nodes s → Walks walk (record s { tables = element ∷ [] })) → Goes walk (element_headed st) true
+goes_element middle walk nodes st number element (next, e, w) puts ts fs n turn =
+    let p = puts next.spots w.holds in
+    let inner : Walks nodes (record next { spots = p.0 }) = record { holds = p.2; tables = ts ∙ w.tables; fronts = ap (map string_bytes) fs ∙ w.fronts; name = ap (option_map string_bytes) n ∙ w.name } in (
+      turned (record next { spots = p.0 }, element),
+      ap (λ (o : Option (State × ℕ)). o >>= λ r. with_element_of r) e ∙ ap (λ (o : Option (List Spot × ℕ)). o >>= λ q. Some (turned (record next { spots = q.0 }, q.1))) p.1,
+      turn (record next { spots = p.0 }) inner,
+    )
 
 -- ---- spans
 
 abbrev pub spanned : Spot → Option Span → Spot
 spanned s span = record s { span = span }
 
-equal_or : (i j : ℕ) → (i ≡ j) ⊎ (i ≡ j → ⊥)
-equal_or i j = elim (cases_lt i j) [ inl a ↦ inr (λ e. absurd (omega arith)) | inr a ↦ elim (cases_lt j i) [ inl b ↦ inr (λ e. absurd (omega arith)) | inr b ↦ inl (omega arith) ] ]
-
-stands_spanned : (spots : List Spot) (t : ℕ) (s : Spot) (span : Option Span) → slice_get spots t ≡ Some s → (n : ℕ) (place : Place) → StandsAt spots n place → StandsAt (slice_set spots t (spanned s span)) n place
-stands_spanned spots t s span e n place h =
-    let lt = slice_get_within spots t s e in
-    elim (equal_or n t) [
-      | inl same ↦
-          let was : h.0 ≡ s = same_Some h.0 s (sym h.1 ∙ ap (slice_get spots) same ∙ e) in
-          (spanned s span, ap (slice_get (slice_set spots t (spanned s span))) same ∙ get_set_same spots t (spanned s span) lt, ap (λ (y : Spot). y.place) (sym was) ∙ h.2)
-      | inr ne ↦ (h.0, get_set_other spots t n (spanned s span) ne ∙ h.1, h.2)
-    ]
-
 pub holds_spanned : (nodes : List Node) (spots : List Spot) (t : ℕ) (old : Node) (s : Spot) (span : Option Span) → Holds nodes spots → slice_get nodes t ≡ Some old → slice_get spots t ≡ Some s
     → Holds (slice_set nodes t (record old { span = span })) (slice_set spots t (spanned s span))
-holds_spanned nodes spots t old s span holds a b = record {
-  len = length-set nodes t (record old { span = span }) ∙ holds.len ∙ sym (length-set spots t (spanned s span));
-  each = λ n node spot g h. elim (equal_or n t) [
-    | inl same ↦
-        let lt = slice_get_within nodes t old a in
-        let lt2 = slice_get_within spots t s b in
-        let k = holds.each t old s a b in
-        let is_node : record old { span = span } ≡ node = same_Some _ node (sym (get_set_same nodes t (record old { span = span }) lt) ∙ ap (slice_get (slice_set nodes t (record old { span = span }))) (sym same) ∙ g) in
-        let is_spot : spanned s span ≡ spot = same_Some _ spot (sym (get_set_same spots t (spanned s span) lt2) ∙ ap (slice_get (slice_set spots t (spanned s span))) (sym same) ∙ h) in
-        let keeps : Keeps (slice_set spots t (spanned s span)) (record old { span = span }) (spanned s span) =
-        record { shape = k.shape; names = k.names; steps = k.steps; span = refl; below = λ q m some. stands_spanned spots t s span b m _ (k.below q m some) } in
-        subst (λ (y : Spot). Keeps (slice_set spots t (spanned s span)) node y) is_spot (subst (λ (y : Node). Keeps (slice_set spots t (spanned s span)) y (spanned s span)) is_node keeps)
-    | inr ne ↦
-        let k = holds.each n node spot (sym (get_set_other nodes t n (record old { span = span }) ne) ∙ g) (sym (get_set_other spots t n (spanned s span) ne) ∙ h) in
-        record { shape = k.shape; names = k.names; steps = k.steps; span = k.span; below = λ q m some. stands_spanned spots t s span b m _ (k.below q m some) }
-  ];
-}
+holds_spanned nodes spots t old s span holds a b =
+    let k = holds.each t old s a b in
+    holds_set nodes spots t (record old { span = span }) (spanned s span) holds (slice_get_within nodes t old a)
+    (record { shape = k.shape; taken = k.taken; steps = k.steps; members = k.members; elements = k.elements; span = refl })
 
 closed_is : (st : State) (to number : ℕ) (s : Spot) → last_of st.tables ≡ Some number → slice_get st.spots number ≡ Some s
-    → closed st to ≡ (s.span >>= λ span. let next : State = record { spots = slice_set st.spots number (spanned s (Some (record { from = span.from; to = to }))); tables = without_last st.tables; name = st.name } in Some next)
+    → closed st to ≡ (s.span >>= λ span. let next : State = record { spots = slice_set st.spots number (spanned s (Some (record { from = span.from; to = to }))); tables = without_last st.tables; fronts = st.fronts; name = st.name } in Some next)
 closed_is st to number s t e =
-    ap (λ (o : Option ℕ). o >>= λ k. slice_get st.spots k >>= λ x. x.span >>= λ span. let next : State = record { spots = slice_set st.spots k (spanned x (Some (record { from = span.from; to = to }))); tables = without_last st.tables; name = st.name } in Some next) t
-    ∙ ap (λ (o : Option Spot). o >>= λ x. x.span >>= λ span. let next : State = record { spots = slice_set st.spots number (spanned x (Some (record { from = span.from; to = to }))); tables = without_last st.tables; name = st.name } in Some next) e
+    ap (λ (o : Option ℕ). o >>= λ k. slice_get st.spots k >>= λ x. x.span >>= λ span. let next : State = record { spots = slice_set st.spots k (spanned x (Some (record { from = span.from; to = to }))); tables = without_last st.tables; fronts = st.fronts; name = st.name } in Some next) t
+    ∙ ap (λ (o : Option Spot). o >>= λ x. x.span >>= λ span. let next : State = record { spots = slice_set st.spots number (spanned x (Some (record { from = span.from; to = to }))); tables = without_last st.tables; fronts = st.fronts; name = st.name } in Some next) e
 
 -- the innermost table has a span, and ends
 pub goes_closed : (old walk : Walk) (st : State) (to number : ℕ) (node : Node) (span : Span) → Walks old st → last_of old.tables.items ≡ Some number → number < length old.nodes.items → node ≡ get_or old.nodes.items number node → node.span ≡ Some span
-    → walk.nodes.items ≡ slice_set old.nodes.items number (record node { span = Some (record { from = span.from; to = to }) }) → walk.tables.items ≡ without_last old.tables.items → walk.name ≡ old.name → Goes walk (closed st to) true
-goes_closed old walk st to number node span w top lt is has ns ts n =
+    → walk.nodes.items ≡ slice_set old.nodes.items number (record node { span = Some (record { from = span.from; to = to }) }) → walk.tables.items ≡ without_last old.tables.items → walk.fronts.items ≡ old.fronts.items → walk.name ≡ old.name → Goes walk (closed st to) true
+goes_closed old walk st to number node span w top lt is has ns ts fs n =
     let there = slice_get_read old.nodes.items (length old.nodes.items) number node refl lt is in
-    let s = spot_at old.nodes.items st.spots number node w.holds.len there in
+    let s = spot_of_node old.nodes.items st.spots number node w.holds.len there in
     let k = w.holds.each number node s.0 there s.1 in
     let top2 : last_of st.tables ≡ Some number = ap last_of (sym w.tables) ∙ top in
     let has2 : s.0.span ≡ Some span = sym k.span ∙ has in
     let span2 : Option Span = Some (record { from = span.from; to = to }) in
-    let next : State = record { spots = slice_set st.spots number (spanned s.0 span2); tables = without_last st.tables; name = st.name } in (
+    let next : State = record { spots = slice_set st.spots number (spanned s.0 span2); tables = without_last st.tables; fronts = st.fronts; name = st.name } in (
       next,
-      closed_is st to number s.0 top2 s.1 ∙ ap (λ (o : Option Span). o >>= λ sp. let next2 : State = record { spots = slice_set st.spots number (spanned s.0 (Some (record { from = sp.from; to = to }))); tables = without_last st.tables; name = st.name } in Some next2) has2,
+      closed_is st to number s.0 top2 s.1 ∙ ap (λ (o : Option Span). o >>= λ sp. let next2 : State = record { spots = slice_set st.spots number (spanned s.0 (Some (record { from = sp.from; to = to }))); tables = without_last st.tables; fronts = st.fronts; name = st.name } in Some next2) has2,
       record {
         holds = subst (λ (xs : List Node). Holds xs (slice_set st.spots number (spanned s.0 span2))) (sym ns) (holds_spanned old.nodes.items st.spots number node s.0 span2 w.holds there s.1);
         tables = ts ∙ ap without_last w.tables;
+        fronts = ap (map string_bytes) fs ∙ w.fronts;
         name = ap (option_map string_bytes) n ∙ w.name;
       },
     )
@@ -138,9 +216,9 @@ goes_closed old walk st to number node span w top lt is has ns ts n =
 pub closed_bare : (old : Walk) (st : State) (to number : ℕ) (node : Node) → Walks old st → last_of old.tables.items ≡ Some number → number < length old.nodes.items → node ≡ get_or old.nodes.items number node → node.span ≡ None → closed st to ≡ None
 closed_bare old st to number node w top lt is has =
     let there = slice_get_read old.nodes.items (length old.nodes.items) number node refl lt is in
-    let s = spot_at old.nodes.items st.spots number node w.holds.len there in
+    let s = spot_of_node old.nodes.items st.spots number node w.holds.len there in
     let k = w.holds.each number node s.0 there s.1 in
-    closed_is st to number s.0 (ap last_of (sym w.tables) ∙ top) s.1 ∙ ap (λ (o : Option Span). o >>= λ sp. let next2 : State = record { spots = slice_set st.spots number (spanned s.0 (Some (record { from = sp.from; to = to }))); tables = without_last st.tables; name = st.name } in Some next2) (sym k.span ∙ has)
+    closed_is st to number s.0 (ap last_of (sym w.tables) ∙ top) s.1 ∙ ap (λ (o : Option Span). o >>= λ sp. let next2 : State = record { spots = slice_set st.spots number (spanned s.0 (Some (record { from = sp.from; to = to }))); tables = without_last st.tables; fronts = st.fronts; name = st.name } in Some next2) (sym k.span ∙ has)
 
 pub without_push : (base : List ℕ) (t : ℕ) → without_last (base ++ t ∷ []) ≡ base
 without_push base t =
@@ -155,22 +233,16 @@ unfolding step
 step_is bytes m st k e = ap (λ (j : MarkKind). act j bytes m st) e
 
 -- a name waits
-named_by : (walk old : Walk) (bytes : List ℕ) (m : Mark) (st : State) (s : String Global) (k : MarkKind) → m.kind ≡ k → is_said k ≡ true → act k bytes m st ≡ (said bytes m >>= λ n. Some (record st { name = Some n })) → Walks old st → IsToken bytes m
-    → ((n : List ℕ) → SaysAt bytes m n → string_bytes s ≡ n) → walk.nodes.items ≡ old.nodes.items → walk.tables.items ≡ old.tables.items → walk.name ≡ Some s → Goes walk (step bytes m st) true
-named_by walk old bytes m st s k kind says does w token told ns ts name =
+named_by : (walk old : Walk) (bytes : List ℕ) (m : Mark) (st : State) (s : String Global) (k : MarkKind) → m.kind ≡ k → is_said k ≡ true → act k bytes m st ≡ (said bytes m >>= λ n. Some (awaiting st n)) → Walks old st → IsToken bytes m
+    → ((n : List ℕ) → SaysAt bytes m n → string_bytes s ≡ n) → ((x : State) → Walks old x → Walks walk (awaiting x (string_bytes s))) → Goes walk (step bytes m st) true
+named_by walk old bytes m st s k kind says does w token told waits =
     let t = token (ap is_said kind ∙ says) in
-    let here : step bytes m st ≡ Some (record st { name = Some t.0 }) = step_is bytes m st k kind ∙ does ∙ ap (λ (o : Option (List ℕ)). o >>= λ n. Some (record st { name = Some n })) t.1 in (
-      record st { name = Some t.0 },
-      here,
-      record {
-        holds = subst (λ (xs : List Node). Holds xs st.spots) (sym ns) w.holds;
-        tables = ts ∙ w.tables;
-        name = ap (option_map string_bytes) name ∙ ap (λ (n : List ℕ). Some n) (told t.0 t.2);
-      },
-    )
+    let here : step bytes m st ≡ Some (awaiting st (string_bytes s)) =
+    step_is bytes m st k kind ∙ does ∙ ap (λ (o : Option (List ℕ)). o >>= λ n. Some (awaiting st n)) t.1 ∙ ap (λ (n : List ℕ). Some (awaiting st n)) (sym (told t.0 t.2)) in
+    (awaiting st (string_bytes s), here, waits st w)
 
 pub goes_named : (walk old : Walk) (bytes : List ℕ) (m : Mark) (st : State) (s : String Global) → (m.kind ≡ kinds.BarePart) ⊎ ((m.kind ≡ kinds.BasicPart) ⊎ (m.kind ≡ kinds.LiteralPart)) → Walks old st → IsToken bytes m
-    → ((n : List ℕ) → SaysAt bytes m n → string_bytes s ≡ n) → walk.nodes.items ≡ old.nodes.items → walk.tables.items ≡ old.tables.items → walk.name ≡ Some s → Goes walk (step bytes m st) true
+    → ((n : List ℕ) → SaysAt bytes m n → string_bytes s ≡ n) → ((x : State) → Walks old x → Walks walk (awaiting x (string_bytes s))) → Goes walk (step bytes m st) true
 goes_named walk old bytes m st s (inl e) = named_by walk old bytes m st s kinds.BarePart e refl refl
 goes_named walk old bytes m st s (inr (inl e)) = named_by walk old bytes m st s kinds.BasicPart e refl refl
 goes_named walk old bytes m st s (inr (inr e)) = named_by walk old bytes m st s kinds.LiteralPart e refl refl
@@ -198,30 +270,10 @@ word_step bytes m st s (inr (inr (inr (inr (inl e))))) = word_by bytes m st s ki
 word_step bytes m st s (inr (inr (inr (inr (inr (inl e)))))) = word_by bytes m st s kinds.Float e refl refl
 word_step bytes m st s (inr (inr (inr (inr (inr (inr e)))))) = word_by bytes m st s kinds.DateTime e refl refl
 
-pub other_step : (bytes : List ℕ) (m : Mark) (st : State) (k : MarkKind) → m.kind ≡ k → (k ≡ kinds.BarePart → ⊥) → (k ≡ kinds.BasicPart → ⊥) → (k ≡ kinds.LiteralPart → ⊥) → (k ≡ kinds.BasicString → ⊥) → (k ≡ kinds.LiteralString → ⊥) → (k ≡ kinds.True → ⊥)
-    → (k ≡ kinds.False → ⊥) → (k ≡ kinds.OpenTable → ⊥) → (k ≡ kinds.CloseTable → ⊥) → (k ≡ kinds.Header → ⊥) → (k ≡ kinds.Integer → ⊥) → (k ≡ kinds.Float → ⊥) → (k ≡ kinds.DateTime → ⊥) → (k ≡ kinds.MultiBasicString → ⊥) → (k ≡ kinds.MultiLiteralString → ⊥) → step bytes m st ≡ None
-other_step bytes m st k kind a b c d e f g h i j l n o p q = step_is bytes m st k kind ∙ nothing k a b c d e f g h i j l n o p q
-  where
-    nothing : (x : MarkKind) → (x ≡ kinds.BarePart → ⊥) → (x ≡ kinds.BasicPart → ⊥) → (x ≡ kinds.LiteralPart → ⊥) → (x ≡ kinds.BasicString → ⊥) → (x ≡ kinds.LiteralString → ⊥) → (x ≡ kinds.True → ⊥)
-        → (x ≡ kinds.False → ⊥) → (x ≡ kinds.OpenTable → ⊥) → (x ≡ kinds.CloseTable → ⊥) → (x ≡ kinds.Header → ⊥) → (x ≡ kinds.Integer → ⊥) → (x ≡ kinds.Float → ⊥) → (x ≡ kinds.DateTime → ⊥) → (x ≡ kinds.MultiBasicString → ⊥) → (x ≡ kinds.MultiLiteralString → ⊥) → act x bytes m st ≡ None
-    nothing kinds.BarePart a b c d e f g h i j l n o p q = absurd (a refl)
-    nothing kinds.BasicPart a b c d e f g h i j l n o p q = absurd (b refl)
-    nothing kinds.LiteralPart a b c d e f g h i j l n o p q = absurd (c refl)
-    nothing kinds.BasicString a b c d e f g h i j l n o p q = absurd (d refl)
-    nothing kinds.LiteralString a b c d e f g h i j l n o p q = absurd (e refl)
-    nothing kinds.True a b c d e f g h i j l n o p q = absurd (f refl)
-    nothing kinds.False a b c d e f g h i j l n o p q = absurd (g refl)
-    nothing kinds.OpenTable a b c d e f g h i j l n o p q = absurd (h refl)
-    nothing kinds.CloseTable a b c d e f g h i j l n o p q = absurd (i refl)
-    nothing kinds.Header a b c d e f g h i j l n o p q = absurd (j refl)
-    nothing kinds.ElementHeader a b c d e f g h i j l n o p q = refl
-    nothing kinds.MultiBasicString a b c d e f g h i j l n o p q = absurd (p refl)
-    nothing kinds.MultiLiteralString a b c d e f g h i j l n o p q = absurd (q refl)
-    nothing kinds.Integer a b c d e f g h i j l n o p q = absurd (l refl)
-    nothing kinds.Float a b c d e f g h i j l n o p q = absurd (n refl)
-    nothing kinds.DateTime a b c d e f g h i j l n o p q = absurd (o refl)
-    nothing kinds.OpenArray a b c d e f g h i j l n o p q = refl
-    nothing kinds.CloseArray a b c d e f g h i j l n o p q = refl
+-- the end of an array or of an inline table
+pub close_step : (bytes : List ℕ) (m : Mark) (st : State) → (m.kind ≡ kinds.CloseArray) ⊎ (m.kind ≡ kinds.CloseTable) → step bytes m st ≡ closed st m.to
+close_step bytes m st (inl e) = step_is bytes m st kinds.CloseArray e
+close_step bytes m st (inr e) = step_is bytes m st kinds.CloseTable e
 
 -- ---- all marks
 

@@ -1,5 +1,5 @@
 -- What the views of a document's places show.
-use Rattle.std.specs.Prelude.{◌≡◌, ℕ, ◌<◌, Bool, true, false, List, [], ◌∷◌, length, map, drop, slice_get, unwrap_or, Option, Some, None, MatchOption, string_bytes, codes, ⊤}
+use Rattle.std.specs.Prelude.{◌≡◌, ℕ, ◌<◌, Bool, true, false, List, [], length, map, slice_get, unwrap_or, Option, Some, None, MatchOption, string_bytes, codes, ⊤}
 use Rattle.std.specs.List.{filter_map}
 use Rattle.edit_document.specs.declared.place.Step.{Step as WrittenStep}
 use Rattle.edit_document.specs.declared.place.Step.TheVariants.{Key, Index}
@@ -8,7 +8,6 @@ use Rattle.edit_document.specs.declared.document.Seen.TheVariants as seen
 use Rattle.edit_document.specs.Assertions.{Step, key, index, Place}
 use Rattle.edit_document.specs.Tree.{View, string, truth, whole, fractional, moment, static_array, table_array, inline_table, table}
 use Rattle.edit_document.specs.Shown.{Shown, tree_of}
-use Rattle.edit_document.specs.DocumentLayout.{name_of_step}
 
 -- ---- places
 
@@ -35,9 +34,14 @@ abbrev pub truth_in : View → Option Bool
 truth_in (truth b) = Some b
 truth_in _ = None
 
+-- the name of a step to a key
+abbrev pub name_of_step : Step → Option (List ℕ)
+name_of_step (key n) = Some n
+name_of_step (index i) = None
+
 -- the names of the keys among a list of steps
 abbrev pub key_names : List Step → List (List ℕ)
-key_names steps = filter_map (λ s. name_of_step (Some s)) steps
+key_names steps = filter_map name_of_step steps
 
 -- the names of the members, in the order of their first assertions
 abbrev pub names_in : View → List (List ℕ)
@@ -97,8 +101,10 @@ Shows (truth b) (seen.Truth c) = c ≡ b
 Shows (whole digits) seen.Integer = ⊤
 Shows (fractional digits) seen.Float = ⊤
 Shows (moment digits) seen.DateTime = ⊤
+Shows (static_array n) seen.Array = ⊤
 Shows (inline_table members) seen.Inline = ⊤
 Shows (table members) seen.Table = ⊤
+Shows (table_array n) seen.Tables = ⊤
 Shows _ _ = ⊥
 
 -- the number of the place, or nothing where nothing stands there

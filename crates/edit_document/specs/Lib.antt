@@ -14,6 +14,7 @@ pub mod Replaces
 pub mod Splices
 pub mod Depth
 pub mod Marks
+pub mod Taking
 pub mod Nodes
 pub mod FormOf
 pub mod DocumentLayout

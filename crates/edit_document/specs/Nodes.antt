@@ -1,20 +1,24 @@
 -- The nodes of a document: one for each place that a statement asserts, the root first and then in the order of first assertions.
-use Rattle.std.specs.Prelude.{◌≡◌, ℕ, Bool, List, [], ◌∷◌, ◌++◌, length, map, slice_get, Option, Some, None, string_bytes, ◌⊎◌}
-use Rattle.indexmap.specs.IndexMap.{get_by_text}
+use Rattle.std.specs.Prelude.{◌≡◌, ℕ, List, [], length, map, slice_get, Option, Some, string_bytes, ◌⊎◌}
+use Rattle.std.specs.Map.{lookup}
+use Rattle.std.specs.Str.{bytes_eq}
 use Rattle.edit_document.specs.declared.nodes.Span.{Span}
 use Rattle.edit_document.specs.declared.nodes.Content.{Content}
 use Rattle.edit_document.specs.declared.nodes.Content.TheVariants as content
+use Rattle.edit_document.specs.declared.nodes.Taken.{Taken}
 use Rattle.edit_document.specs.declared.nodes.Node.{Node}
-use Rattle.edit_document.specs.Assertions.{Step, key, Place, at}
+use Rattle.edit_document.specs.Assertions.{Step, key, index, Place, at}
 use Rattle.edit_document.specs.declared.read.marks.MarkKind.{MarkKind}
 use Rattle.edit_document.specs.declared.read.marks.MarkKind.TheVariants as kinds
-use Rattle.edit_document.specs.Tree.{View, string, truth, whole, fractional, moment, inline_table, table}
+use Rattle.edit_document.specs.Tree.{View, string, truth, whole, fractional, moment, static_array, table_array, inline_table, table}
 
 -- what stands at a place, but for its members
 pub data Shape : Type 0 where
   scalar : View → Shape
+  listed : Shape
   inline : Shape
   section : Shape
+  sections : Shape
 
 -- what a value shows whose token of this kind says this: a string, or a number, a date or a time (own)
 abbrev pub shape_said : MarkKind → List ℕ → Shape
@@ -23,64 +27,88 @@ shape_said kinds.Float text = scalar (fractional text)
 shape_said kinds.DateTime text = scalar (moment text)
 shape_said _ text = scalar (string text)
 
--- a place, its shape, the names of its members in the order of their first assertions, and where its value is written
+-- a place, its shape, by what it is taken, the names and numbers of its members in the order of their first assertions,
+-- the numbers of its elements, and where its value is written
 pub record Spot : Type 0 where
   pub place : Place
   pub shape : Shape
-  pub names : List (List ℕ)
+  pub taken : Taken
+  pub members : List (List ℕ × ℕ)
+  pub elements : List ℕ
   pub span : Option Span
 
--- what a place shows
-abbrev pub view_of_shape : Shape → List (List ℕ) → View
-view_of_shape (scalar v) names = v
-view_of_shape inline names = inline_table (map key names)
-view_of_shape section names = table (map key names)
+-- the names of a spot's members
+abbrev pub names_of : Spot → List (List ℕ)
+names_of s = map (λ e. e.0) s.members
 
+-- what a place shows, with members of these names and so many elements
+abbrev pub view_of_shape : Shape → List (List ℕ) → ℕ → View
+view_of_shape (scalar v) names n = v
+view_of_shape listed names n = static_array n
+view_of_shape inline names n = inline_table (map key names)
+view_of_shape section names n = table (map key names)
+view_of_shape sections names n = table_array n
+
+-- the place of a spot, and what it shows
 abbrev pub shown_spot : Spot → Place × View
-shown_spot s = (s.place, view_of_shape s.shape s.names)
+shown_spot s = (s.place, view_of_shape s.shape (names_of s) (length s.elements))
 
 -- ---- what the table of nodes keeps of each spot
 
+-- what stands at a node's place, but for its members
 abbrev pub shape_of : Content → Shape
 shape_of (content.Text s) = scalar (string (string_bytes s))
 shape_of (content.Truth b) = scalar (truth b)
 shape_of (content.Integer s) = scalar (whole (string_bytes s))
 shape_of (content.Float s) = scalar (fractional (string_bytes s))
 shape_of (content.DateTime s) = scalar (moment (string_bytes s))
+shape_of content.Array = listed
 shape_of content.Inline = inline
 shape_of content.Table = section
+shape_of content.Tables = sections
+
+-- the names and numbers of a node's members
+abbrev pub members_of_node : Node → List (List ℕ × ℕ)
+members_of_node node = map (λ e. (string_bytes e.0, e.1)) node.members.entries
+
+-- a node keeps a spot; of its place it keeps how many steps there are
+pub record Keeps (node : Node) (spot : Spot) : Type 0 where
+  pub shape : shape_of node.content ≡ spot.shape
+  pub taken : node.taken ≡ spot.taken
+  pub steps : node.steps ≡ length spot.place
+  pub members : members_of_node node ≡ spot.members
+  pub elements : node.elements.items ≡ spot.elements
+  pub span : node.span ≡ spot.span
+
+-- each node keeps the spot of its number
+pub record Holds (nodes : List Node) (spots : List Spot) : Type 0 where
+  pub len : length nodes ≡ length spots
+  pub each : (n : ℕ) (node : Node) (spot : Spot) → slice_get nodes n ≡ Some node → slice_get spots n ≡ Some spot → Keeps node spot
+
+-- ---- places
 
 -- the place stands at this number
 abbrev pub StandsAt : List Spot → ℕ → Place → Type 0
 StandsAt spots n place = (s : Spot) × (slice_get spots n ≡ Some s) × (s.place ≡ place)
 
--- a node keeps a spot, and the number of each of its members
-pub record Keeps (spots : List Spot) (node : Node) (spot : Spot) : Type 0 where
-  pub shape : shape_of node.content ≡ spot.shape
-  pub names : map (λ e. string_bytes e.0) node.members.entries ≡ spot.names
-  pub steps : node.steps ≡ length spot.place
-  pub span : node.span ≡ spot.span
-  pub below : (name : List ℕ) (n : ℕ) → get_by_text node.members name ≡ Some n → StandsAt spots n (at spot.place (key name))
+-- the number of what stands one step below a spot
+abbrev pub below : Spot → Step → Option ℕ
+below s (key name) = lookup (λ n. bytes_eq name n) s.members
+below s (index i) = slice_get s.elements i
 
--- each node keeps the spot of its number
-pub record Holds (nodes : List Node) (spots : List Spot) : Type 0 where
-  pub len : length nodes ≡ length spots
-  pub each : (n : ℕ) (node : Node) (spot : Spot) → slice_get nodes n ≡ Some node → slice_get spots n ≡ Some spot → Keeps spots node spot
+-- a place that is one step below one that stands
+pub record IsBelow (spots : List Spot) (number : ℕ) (place : Place) : Type 0 where
+  pub upper : Spot
+  pub above : ℕ
+  pub step : Step
+  pub stands : slice_get spots above ≡ Some upper
+  pub place_is : place ≡ at upper.place step
+  pub listed : below upper step ≡ Some number
 
--- ---- places
-
--- a place that is a member of one that stands
-pub record IsMember (spots : List Spot) (place : Place) : Type 0 where
-  pub table : Spot
-  pub number : ℕ
-  pub name : List ℕ
-  pub position : ℕ
-  pub stands : slice_get spots number ≡ Some table
-  pub below : place ≡ at table.place (key name)
-  pub listed : slice_get table.names position ≡ Some name
-
--- the spots of a tree: the root stands first, no place stands twice, and every other place is a member of one that stands
+-- the spots of a tree: the root stands first, no place stands twice, and the places one step below those that stand are
+-- those that their members and elements number
 pub record IsTree (spots : List Spot) : Type 0 where
   pub root : StandsAt spots 0 []
   pub unique : (i j : ℕ) (s t : Spot) → slice_get spots i ≡ Some s → slice_get spots j ≡ Some t → s.place ≡ t.place → i ≡ j
-  pub member : (j : ℕ) (t : Spot) → slice_get spots j ≡ Some t → (t.place ≡ []) ⊎ IsMember spots t.place
+  pub down : (i j : ℕ) (s : Spot) (step : Step) → slice_get spots i ≡ Some s → below s step ≡ Some j → StandsAt spots j (at s.place step)
+  pub up : (j : ℕ) (t : Spot) → slice_get spots j ≡ Some t → (t.place ≡ []) ⊎ IsBelow spots j t.place

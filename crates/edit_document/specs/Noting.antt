@@ -9,12 +9,12 @@ use Rattle.edit_document.specs.declared.read.marks.MarkKind.{MarkKind}
 use Rattle.edit_document.specs.declared.read.marks.MarkKind.TheVariants as kinds
 use Rattle.edit_document.specs.declared.read.marks.ReadError.{ReadError}
 use Rattle.edit_document.specs.declared.read.marks.ReadError.TheVariants.{Memory}
-use Rattle.edit_document.specs.Characters.{equals, right_brace, is_blank, is_ch, is_bare, is_literal_ch, is_unescaped}
-use Rattle.edit_document.specs.Strings.{◌·◌}
+use Rattle.edit_document.specs.Characters.{equals, right_bracket, right_brace, is_blank, is_ch, is_bare, is_literal_ch, is_unescaped}
+use Rattle.edit_document.specs.Strings.{◌·◌, Part}
 use Rattle.edit_document.specs.Decoding.{is_spacing}
 use Rattle.edit_document.specs.Numbers.{is_decimal, hexadecimal, octal, binary, base_digit}
-use Rattle.edit_document.specs.Grammar.{Value, basic, literal, multi_basic, multi_literal, boolean, integer, float, datetime, array, inline, value, Members}
-use Rattle.edit_document.specs.Marks.{mark, key_marks, value_marks, members_marks}
+use Rattle.edit_document.specs.Grammar.{Value, basic, literal, multi_basic, multi_literal, boolean, integer, float, datetime, array, inline, value, Elements, Members}
+use Rattle.edit_document.specs.Marks.{mark, part_mark, key_marks, value_marks, elements_marks, members_marks}
 use Rattle.edit_document.specs.Reading.{Read, Pair}
 
 -- the bytes of a class
@@ -65,6 +65,10 @@ value_kind (datetime d) = kinds.DateTime
 value_kind (array g es) = kinds.OpenArray
 value_kind (inline g ms) = kinds.OpenTable
 
+-- the mark of a part
+abbrev pub part_marks : Part → List ℕ → List Mark
+part_marks p rest = part_mark p rest ∷ []
+
 -- the marks of a pair: its key and its value
 abbrev pub pair_marks : Pair → List ℕ → List Mark
 pair_marks p rest = key_marks p.key (p.before · equals ∷ (p.behind · value p.value rest)) ++ value_marks p.value rest
@@ -72,3 +76,7 @@ pair_marks p rest = key_marks p.key (p.before · equals ∷ (p.behind · value p
 -- of an inline table's members and its closing brace
 abbrev pub inner_marks : Members → List ℕ → List Mark
 inner_marks ms rest = members_marks ms (right_brace ∷ rest) ++ mark kinds.CloseTable (right_brace ∷ rest) rest ∷ []
+
+-- of an array's elements and its closing bracket
+abbrev pub array_marks : Elements → List ℕ → List Mark
+array_marks es rest = elements_marks es (right_bracket ∷ rest) ++ mark kinds.CloseArray (right_bracket ∷ rest) rest ∷ []

@@ -4,15 +4,46 @@ use Rattle.std.specs.Prelude.{ℕ, zero, suc, ◌+◌, Bool, true, false, not, �
 use Rattle.std.specs.List.{prefix_len, list_all}
 use Rattle.std.specs.Str.Parse.{digits_value}
 use Rattle.edit_document.specs.Characters.{line_feed, carriage_return, quote, hash, apostrophe, comma, equals, left_bracket, backslash, right_bracket, left_brace, right_brace, is_blank, is_ch, is_bare, is_literal_ch, is_basic_ch}
-use Rattle.edit_document.specs.Strings.{LineEnd, lf, crlf, Space, Piece, plain, letter, short, long, feed, fold, delimiter, is_escape, is_hex, is_scalar, Part, bare, basic_part, literal_part, Key}
+use Rattle.edit_document.specs.Strings.{LineEnd, lf, crlf, Space, Piece, plain, letter, short, long, feed, fold, delimiter, is_escape, is_hex, is_scalar, Part, bare, basic_part, literal_part, Dotted, Key}
 use Rattle.edit_document.specs.Strings as strings
-use Rattle.edit_document.specs.Grammar.{Between, blank, Value, basic, literal, multi_basic, multi_literal, boolean, inline, Members, no_members, last_member, member, Statement, pair, header, Line, empty_line, full_line, Lines, one_line, more_lines, Text}
+use Rattle.edit_document.specs.Grammar.{Between, blank, break, remark, Value, basic, literal, multi_basic, multi_literal, boolean, array, inline, Elements, no_elements, last_element, element, Members, no_members, last_member, member, Statement, pair, header, element_header, Line, empty_line, full_line, Lines, one_line, more_lines, Text}
 use Rattle.edit_document.specs.ReadingNumbers.{begins, number_at}
 pub use Rattle.edit_document.specs.ReadingSteps.{Read, ◌>>=◌, first, front, after, blanks, past_blanks, past}
 
 -- tabs and spaces, as what stands between values
 abbrev pub blank_gap : List ℕ → List Between
 blank_gap bytes = map blank bytes
+
+-- a newline
+unfoldable pub line_end_at : List ℕ → Read LineEnd
+line_end_at text =
+    if first text == line_feed then Some (lf, drop 1 text)
+    else (if first text == carriage_return && slice_index text 1 == line_feed then Some (crlf, drop 2 text) else None)
+
+-- a tab or a space, a newline, or a comment and its newline
+unfoldable pub between_at : List ℕ → Read Between
+between_at text =
+    if is_blank (first text) then Some (blank (first text), drop 1 text)
+    else (if first text == hash then (line_end_at (after is_ch (drop 1 text)) >>= λ e. Some (remark (front is_ch (drop 1 text)) e.0, e.1))
+    else (line_end_at text >>= λ e. Some (break e.0, e.1)))
+
+-- what was read, and more behind it
+abbrev pub and_more : (List ℕ → List Between × List ℕ) → List ℕ → Read Between → List Between × List ℕ
+and_more more text None = ([], text)
+and_more more text (Some x) = (x.0 ∷ (more x.1).0, (more x.1).1)
+
+-- the longest gap of at most n of these, and what follows it
+unfoldable pub gap_at : ℕ → List ℕ → List Between × List ℕ
+gap_at zero text = ([], text)
+gap_at (suc n) text = and_more (gap_at n) text (between_at text)
+
+-- the gap of an array at the front
+abbrev pub gap_front : List ℕ → List Between
+gap_front text = (gap_at (length text) text).0
+
+-- what follows it
+abbrev pub past_gap : List ℕ → List ℕ
+past_gap text = (gap_at (length text) text).1
 
 -- ---- strings
 
@@ -51,12 +82,6 @@ basic_at text = pieces_at (length text) text
 -- behind the opening apostrophe
 unfoldable pub literal_at : List ℕ → Read (List ℕ)
 literal_at text = past apostrophe (after is_literal_ch text) >>= λ rest. Some (front is_literal_ch text, rest)
-
--- a newline
-unfoldable pub line_end_at : List ℕ → Read LineEnd
-line_end_at text =
-    if first text == line_feed then Some (lf, drop 1 text)
-    else (if first text == carriage_return && slice_index text 1 == line_feed then Some (crlf, drop 2 text) else None)
 
 -- ---- strings over several lines ("String", multi-line strings)
 
@@ -137,9 +162,17 @@ part_at text =
     else (if first text == apostrophe then (literal_at (drop 1 text) >>= λ p. Some (literal_part p.0, p.1))
     else (if is_bare (first text) then Some (bare (front is_bare text), after is_bare text) else None))
 
--- a key of one part
+-- the parts behind dots, in fewer than n
+unfoldable pub dotted_at : ℕ → List ℕ → Read (List Dotted)
+dotted_at zero text = None
+dotted_at (suc n) text =
+    if first (past_blanks text) == 46
+    then (part_at (past_blanks (drop 1 (past_blanks text))) >>= λ p. dotted_at n p.1 >>= λ ds. Some (record { before = blanks text; behind = blanks (drop 1 (past_blanks text)); part = p.0 } ∷ ds.0, ds.1))
+    else Some ([], text)
+
+-- a key
 unfoldable pub key_at : List ℕ → Read Key
-key_at text = part_at text >>= λ k. Some (record { first = k.0; others = [] }, k.1)
+key_at text = part_at text >>= λ k. dotted_at (length text) k.1 >>= λ ds. Some (record { first = k.0; others = ds.0 }, ds.1)
 
 -- ---- values
 
@@ -180,23 +213,43 @@ members_at value_at (suc n) text = pair_at value_at text >>= λ p.
     then (members_at value_at n (past_blanks (drop 1 (past_blanks p.1))) >>= λ ms. Some (member p.0.key p.0.before p.0.behind p.0.value (blank_gap (blanks p.1)) (blank_gap (blanks (drop 1 (past_blanks p.1)))) ms.0, ms.1))
     else (past right_brace (past_blanks p.1) >>= λ rest. Some (last_member p.0.key p.0.before p.0.behind p.0.value (blank_gap (blanks p.1)), rest))
 
--- a value with inline tables at most n deep in one another
+-- from an element or the closing bracket on, in fewer than n elements, up to the closing bracket
+unfoldable pub elements_at : (List ℕ → Read Value) → ℕ → List ℕ → Read Elements
+elements_at value_at zero text = None
+elements_at value_at (suc n) text =
+    if first text == right_bracket then Some (no_elements, drop 1 text)
+    else (value_at text >>= λ v.
+    if first (past_gap v.1) == comma
+    then (elements_at value_at n (past_gap (drop 1 (past_gap v.1))) >>= λ es. Some (element v.0 (gap_front v.1) (gap_front (drop 1 (past_gap v.1))) es.0, es.1))
+    else (past right_bracket (past_gap v.1) >>= λ rest. Some (last_element v.0 (gap_front v.1), rest)))
+
+-- a value with arrays and inline tables at most n deep in one another
 unfoldable pub value_at : ℕ → List ℕ → Read Value
 value_at zero text = scalar_at text
 value_at (suc n) text =
-    if first text == left_brace
+    if first text == left_bracket
+    then (elements_at (value_at n) (length text) (past_gap (drop 1 text)) >>= λ es. Some (array (gap_front (drop 1 text)) es.0, es.1))
+    else (if first text == left_brace
     then (if first (past_blanks (drop 1 text)) == right_brace
     then Some (inline (blank_gap (blanks (drop 1 text))) no_members, drop 1 (past_blanks (drop 1 text)))
     else (members_at (value_at n) (length text) (past_blanks (drop 1 text)) >>= λ ms. Some (inline (blank_gap (blanks (drop 1 text))) ms.0, ms.1)))
-    else scalar_at text
+    else scalar_at text)
 
 -- ---- lines
 
--- a header, or a pair
+-- a header, from its opening bracket on
+unfoldable pub header_at : List ℕ → Read Statement
+header_at text = key_at (past_blanks (drop 1 text)) >>= λ k. past right_bracket (past_blanks k.1) >>= λ rest. Some (header (blanks (drop 1 text)) k.0 (blanks k.1), rest)
+
+-- the header of an element, from its opening brackets on
+unfoldable pub element_header_at : List ℕ → Read Statement
+element_header_at text = key_at (past_blanks (drop 2 text)) >>= λ k. past right_bracket (past_blanks k.1) >>= λ inner. past right_bracket inner >>= λ rest. Some (element_header (blanks (drop 2 text)) k.0 (blanks k.1), rest)
+
+-- a header, the header of an element, or a pair
 unfoldable pub statement_at : ℕ → List ℕ → Read Statement
 statement_at depth text =
     if first text == left_bracket
-    then (key_at (past_blanks (drop 1 text)) >>= λ k. past right_bracket (past_blanks k.1) >>= λ rest. Some (header (blanks (drop 1 text)) k.0 (blanks k.1), rest))
+    then (if slice_index text 1 == left_bracket then element_header_at text else header_at text)
     else (pair_at (value_at depth) text >>= λ p. Some (pair p.0.key p.0.before p.0.behind p.0.value, p.1))
 
 -- the comment at the front, or nothing

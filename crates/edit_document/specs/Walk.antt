@@ -1,18 +1,24 @@
 -- How the spots of a text come from its marks, one after the other. The contracts of the private functions cite this;
 -- what it has to do with the assertions of a form is proved in proofs/.
-use Rattle.std.specs.Prelude.{◌≡◌, ℕ, ◌+◌, ◌-◌, Bool, true, false, ◌||◌, nat_le, if◌then◌else◌, List, [], ◌∷◌, ◌++◌, length, take, drop, slice_get, slice_set, Option, Some, None, option_map, string_bytes}
-use Rattle.std.specs.List.{list_any}
-use Rattle.std.specs.Str.{bytes_eq, is_utf8}
+use Rattle.std.specs.Prelude.{ℕ, ◌-◌, Bool, true, false, nat_le, nat_lt, if◌then◌else◌, List, [], ◌∷◌, ◌++◌, length, take, drop, slice_get, slice_set, Option, Some, None, option_map, option_to_list, unwrap_or}
+use Rattle.std.specs.Str.{is_utf8}
 use Rattle.edit_document.specs.declared.read.marks.Mark.{Mark}
 use Rattle.edit_document.specs.declared.read.marks.MarkKind.{MarkKind}
 use Rattle.edit_document.specs.declared.read.marks.MarkKind.TheVariants as kinds
 use Rattle.edit_document.specs.declared.nodes.Span.{Span}
+use Rattle.edit_document.specs.declared.nodes.Taken.{Taken}
+use Rattle.edit_document.specs.declared.nodes.Taken.TheVariants.{Dotted, Value, Super, Header, Array, Element}
 use Rattle.edit_document.specs.Characters.{quote, apostrophe}
 use Rattle.edit_document.specs.Strings.{says, says_multi}
 use Rattle.edit_document.specs.Reading.{◌>>=◌, basic_at, literal_at, multi_at}
-use Rattle.edit_document.specs.Assertions.{key, at}
+use Rattle.edit_document.specs.Assertions.{Place, key, index, at}
 use Rattle.edit_document.specs.Tree.{string, truth}
-use Rattle.edit_document.specs.Nodes.{Shape, shape_said, scalar, inline, section, Spot}
+use Rattle.edit_document.specs.Nodes.{Shape, shape_said, scalar, listed, inline, section, sections, Spot, below}
+use Rattle.edit_document.specs.Taking.{joins, stronger}
+
+-- the last of some numbers
+abbrev pub last_of : List ℕ → Option ℕ
+last_of numbers = slice_get numbers (length numbers - 1)
 
 -- ---- what tokens say
 
@@ -56,52 +62,143 @@ said bytes m = told m.kind (suffix bytes m.from) (m.from - m.to) >>= as_text
 
 -- ---- spots
 
--- the name is one of these
-abbrev pub has_name : List (List ℕ) → List ℕ → Bool
-has_name names name = list_any (λ n. bytes_eq name n) names
+-- a spot without members
+abbrev pub spot_at : Place → Shape → Taken → Option Span → Spot
+spot_at place shape taken span = record { place = place; shape = shape; taken = taken; members = []; elements = []; span = span }
 
-abbrev pub with_name : Spot → List ℕ → Spot
-with_name s name = record s { names = s.names ++ name ∷ [] }
+-- the number of the member of a name of the spot of a number
+unfoldable pub child : List Spot → ℕ → List ℕ → Option ℕ
+child spots number name = slice_get spots number >>= λ s. below s (key name)
 
--- a member more of the spot of a number, refused where it has one of this name, and past 80 steps
-unfoldable pub added : List Spot → ℕ → List ℕ → Shape → Option Span → Option (List Spot)
-added spots number name shape span = slice_get spots number >>= λ s.
-    if has_name s.names name || nat_le 80 (length s.place) then None
-    else Some (slice_set spots number (with_name s name) ++ record { place = at s.place (key name); shape = shape; names = []; span = span } ∷ [])
+-- the last table of an array of tables
+abbrev pub last_table : Shape → List ℕ → Option ℕ
+last_table sections numbers = last_of numbers
+last_table _ numbers = None
+
+-- the spot whose place is taken: a header that goes on below an array of tables goes on below its last element
+unfoldable pub target_of : List Spot → ℕ → Taken → ℕ
+target_of spots number Super = unwrap_or (slice_get spots number >>= λ s. last_table s.shape s.elements) number
+target_of spots number _ = number
+
+-- a spot whose place is taken again
+abbrev pub with_taken : Spot → Taken → Spot
+with_taken s taken = record s { taken = stronger s.taken taken }
+
+-- the place of a spot is taken again, refused where it may not be
+unfoldable pub taken_again : List Spot → ℕ → Taken → Option (List Spot)
+taken_again spots number taken = slice_get spots number >>= λ s.
+    if joins s.taken taken then Some (slice_set spots number (with_taken s taken)) else None
+
+-- a spot with a member more
+abbrev pub with_member : Spot → List ℕ → ℕ → Spot
+with_member s name number = record s { members = s.members ++ (name, number) ∷ [] }
+
+-- a spot with an element more
+abbrev pub with_element : Spot → ℕ → Spot
+with_element s number = record s { elements = s.elements ++ number ∷ [] }
+
+-- a member more of the spot of a number, and its own number; refused past 80 steps
+unfoldable pub added : List Spot → ℕ → List ℕ → Shape → Taken → Option Span → Option (List Spot × ℕ)
+added spots number name shape taken span = slice_get spots number >>= λ s.
+    if nat_le 80 (length s.place) then None
+    else Some (slice_set spots number (with_member s name (length spots)) ++ spot_at (at s.place (key name)) shape taken span ∷ [], length spots)
+
+-- an element more of the spot of a number, and its own number; refused past 80 steps
+unfoldable pub element_added : List Spot → ℕ → Shape → Taken → Option Span → Option (List Spot × ℕ)
+element_added spots number shape taken span = slice_get spots number >>= λ s.
+    if nat_le 80 (length s.place) then None
+    else Some (slice_set spots number (with_element s (length spots)) ++ spot_at (at s.place (index (length s.elements))) shape taken span ∷ [], length spots)
+
+-- the spots, and the number of one of them
+abbrev pub numbered : ℕ → Option (List Spot) → Option (List Spot × ℕ)
+numbered number o = option_map (λ spots. (spots, number)) o
+
+-- the member of this number, if there is one, is taken again, else a member is added
+abbrev pub asserted_at : Option ℕ → List Spot → ℕ → List ℕ → Shape → Taken → Option Span → Option (List Spot × ℕ)
+asserted_at None spots number name shape taken span = added spots number name shape taken span
+asserted_at (Some j) spots number name shape taken span = numbered (target_of spots j taken) (taken_again spots (target_of spots j taken) taken)
+
+-- a member of the spot of a number is asserted, with the number of the spot whose place is taken
+unfoldable pub asserted : List Spot → ℕ → List ℕ → Shape → Taken → Option Span → Option (List Spot × ℕ)
+asserted spots number name shape taken span = asserted_at (child spots number name) spots number name shape taken span
+
+-- what stands at the place of a front part of a key
+abbrev pub front_shape : Bool → Shape
+front_shape is_inline = if is_inline then inline else section
+
+-- the table in which the last part of a key stands, from a table on
+unfoldable pub reached : List Spot → ℕ → List (List ℕ) → Shape → Taken → Option (List Spot × ℕ)
+reached spots number [] shape taken = Some (spots, number)
+reached spots number (name ∷ names) shape taken = asserted spots number name shape taken None >>= λ r. reached r.0 r.1 names shape taken
 
 -- ---- the walk
 
--- the spots so far; the numbers of the header and of the inline tables that are open, the innermost last; the name that waits for its value
+-- the spots so far; the numbers of the header and of the arrays and inline tables that are open, the innermost last; the parts of
+-- the key that waits for its value: the last one, and those before it
 pub record State : Type 0 where
   pub spots : List Spot
   pub tables : List ℕ
+  pub fronts : List (List ℕ)
   pub name : Option (List ℕ)
 
-abbrev pub last_of : List ℕ → Option ℕ
-last_of numbers = slice_get numbers (length numbers - 1)
-
+-- all numbers but the last
 abbrev pub without_last : List ℕ → List ℕ
 without_last numbers = take (length numbers - 1) numbers
 
--- the waiting name becomes a member of the innermost table
+-- a part of a key waits, behind those before it
+abbrev pub awaiting : State → List ℕ → State
+awaiting st name = record st { fronts = st.fronts ++ option_to_list st.name; name = Some name }
+
+-- a state in which no key waits
+abbrev pub settled_state : List Spot → List ℕ → State
+settled_state spots tables = record { spots = spots; tables = tables; fronts = []; name = None }
+
+-- a dotted key stands in an inline table, where more tables are open than that of the header
+abbrev pub is_dotted_within : ℕ → Taken → Bool
+is_dotted_within count Dotted = nat_lt 1 count
+is_dotted_within count _ = false
+
+-- the waiting key takes a place below a table, with its number
+unfoldable pub settled : State → ℕ → Taken → Shape → Taken → Option Span → Option (State × ℕ)
+settled st number front shape taken span = st.name >>= λ name. reached st.spots number st.fronts (front_shape (is_dotted_within (length st.tables) front)) front >>= λ r.
+    asserted r.0 r.1 name shape taken span >>= λ q. Some (settled_state q.0 st.tables, q.1)
+
+-- the waiting key becomes a member of a table; where none waits, an element more stands in an array
+abbrev pub entered_below : Option (List ℕ) → State → ℕ → Shape → Option Span → Option (State × ℕ)
+entered_below (Some name) st number shape span = settled st number Dotted shape Value span
+entered_below None st number shape span = element_added st.spots number shape Value span >>= λ q. Some (record st { spots = q.0 }, q.1)
+
+-- a value enters the innermost table or array, with its number
+abbrev pub entered_at : State → Shape → Option Span → Option (State × ℕ)
+entered_at st shape span = last_of st.tables >>= λ number. entered_below st.name st number shape span
+
+-- a value enters the innermost table or array
 abbrev pub entered : State → Shape → Option Span → Option State
-entered st shape span = st.name >>= λ name. last_of st.tables >>= λ number. added st.spots number name shape span >>= λ spots.
-    Some (record { spots = spots; tables = st.tables; name = None })
+entered st shape span = entered_at st shape span >>= λ r. Some r.0
 
--- an inline table opens
-abbrev pub opened : State → Option Span → Option State
-opened st span = entered st inline span >>= λ next. Some (record next { tables = next.tables ++ length st.spots ∷ [] })
+-- an array or an inline table opens
+abbrev pub opened : State → Shape → Option Span → Option State
+opened st shape span = entered_at st shape span >>= λ r. Some (record r.0 { tables = r.0.tables ++ r.1 ∷ [] })
 
--- the innermost table ends before so many bytes
+-- the innermost table or array ends before so many bytes
 abbrev pub closed : State → ℕ → Option State
 closed st to = last_of st.tables >>= λ number. slice_get st.spots number >>= λ s. s.span >>= λ span.
     Some (record st { spots = slice_set st.spots number (record s { span = Some (record { from = span.from; to = to }) }); tables = without_last st.tables })
 
--- a header, which is a member of the root
-abbrev pub headed : State → Option State
-headed st = st.name >>= λ name. added st.spots 0 name section None >>= λ spots.
-    Some (record { spots = spots; tables = length st.spots ∷ []; name = None })
+-- this table and no other is open
+abbrev pub turned : State × ℕ → State
+turned r = record r.0 { tables = r.1 ∷ [] }
 
+-- the waiting key becomes a header
+abbrev pub headed : State → Option State
+headed st = settled st 0 Super section Header None >>= λ r. Some (turned r)
+
+-- the waiting key becomes the header of an element
+abbrev pub element_headed : State → Option State
+element_headed st = settled st 0 Super sections Array None >>= λ r. element_added r.0.spots r.1 section Element None >>= λ q.
+    Some (turned (record r.0 { spots = q.0 }, q.1))
+
+-- the span of a mark's token
 abbrev pub span_of_mark : Mark → Span
 span_of_mark m = record { from = m.from; to = m.to }
 
@@ -109,10 +206,11 @@ span_of_mark m = record { from = m.from; to = m.to }
 abbrev pub worded : List ℕ → Mark → State → Option State
 worded bytes m st = said bytes m >>= λ text. entered st (shape_said m.kind text) (Some (span_of_mark m))
 
+-- the state behind a mark of this kind
 abbrev pub act : MarkKind → List ℕ → Mark → State → Option State
-act kinds.BarePart bytes m st = said bytes m >>= λ name. Some (record st { name = Some name })
-act kinds.BasicPart bytes m st = said bytes m >>= λ name. Some (record st { name = Some name })
-act kinds.LiteralPart bytes m st = said bytes m >>= λ name. Some (record st { name = Some name })
+act kinds.BarePart bytes m st = said bytes m >>= λ name. Some (awaiting st name)
+act kinds.BasicPart bytes m st = said bytes m >>= λ name. Some (awaiting st name)
+act kinds.LiteralPart bytes m st = said bytes m >>= λ name. Some (awaiting st name)
 act kinds.BasicString bytes m st = worded bytes m st
 act kinds.LiteralString bytes m st = worded bytes m st
 act kinds.MultiBasicString bytes m st = worded bytes m st
@@ -122,17 +220,20 @@ act kinds.Float bytes m st = worded bytes m st
 act kinds.DateTime bytes m st = worded bytes m st
 act kinds.True bytes m st = entered st (scalar (truth true)) (Some (span_of_mark m))
 act kinds.False bytes m st = entered st (scalar (truth false)) (Some (span_of_mark m))
-act kinds.OpenTable bytes m st = opened st (Some (span_of_mark m))
+act kinds.OpenArray bytes m st = opened st listed (Some (span_of_mark m))
+act kinds.CloseArray bytes m st = closed st m.to
+act kinds.OpenTable bytes m st = opened st inline (Some (span_of_mark m))
 act kinds.CloseTable bytes m st = closed st m.to
 act kinds.Header bytes m st = headed st
-act _ bytes m st = None
+act kinds.ElementHeader bytes m st = element_headed st
 
+-- the state behind a mark
 unfoldable pub step : List ℕ → Mark → State → Option State
 step bytes m st = act m.kind bytes m st
 
 -- the root alone
 abbrev pub start : State
-start = record { spots = record { place = []; shape = section; names = []; span = None } ∷ []; tables = 0 ∷ []; name = None }
+start = settled_state (spot_at [] section Header None ∷ []) (0 ∷ [])
 
 -- the state behind these marks
 unfoldable pub walked : List ℕ → List Mark → State → Option State

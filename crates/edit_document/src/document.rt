@@ -48,12 +48,14 @@ pub(crate) enum Seen<'a> {
     Integer,
     Float,
     DateTime,
+    Array,
     Inline,
     Table,
+    Tables,
 }
 
 impl Document {
-    /// Reads a text. What is no document of the part that is read is refused, with a byte near which it goes wrong.
+    /// Reads a text. What is no document is refused, with a byte near which it goes wrong.
     pub fn read(alloc: Global, text: &str) -> CargoResult<Document>
         ensures bytes { IfOk result (λ d. d.bytes ≡ text.now) }
         // The same text shows the same places.
@@ -89,16 +91,17 @@ impl Document {
             Content::Integer(_) => Seen::Integer,
             Content::Float(_) => Seen::Float,
             Content::DateTime(_) => Seen::DateTime,
+            Content::Array => Seen::Array,
             Content::Inline => Seen::Inline,
             Content::Table => Seen::Table,
+            Content::Tables => Seen::Tables,
         }
     }
 
-    /// How many members a node has.
+    /// How many members or elements a node has.
     pub(crate) fn member_count(&self, number: usize) -> usize
         requires { number < length self.now.nodes }
-        ensures count { result ≡ count_in (view_numbered self.now number) }
-        ensures names { result ≡ length (names_in (view_numbered self.now number)) }
+        ensures { result ≡ count_in (view_numbered self.now number) }
     {
         let node = &self.nodes[number];
         match &node.content {
@@ -107,6 +110,25 @@ impl Document {
             | Content::Integer(_)
             | Content::Float(_)
             | Content::DateTime(_) => 0,
+            Content::Inline | Content::Table => node.members.len(),
+            Content::Array | Content::Tables => node.elements.len(),
+        }
+    }
+
+    /// How many names of members a node has.
+    pub(crate) fn name_count(&self, number: usize) -> usize
+        requires { number < length self.now.nodes }
+        ensures { result ≡ length (names_in (view_numbered self.now number)) }
+    {
+        let node = &self.nodes[number];
+        match &node.content {
+            Content::Text(_)
+            | Content::Truth(_)
+            | Content::Integer(_)
+            | Content::Float(_)
+            | Content::DateTime(_)
+            | Content::Array
+            | Content::Tables => 0,
             Content::Inline | Content::Table => node.members.len(),
         }
     }
@@ -122,7 +144,9 @@ impl Document {
             | Content::Truth(_)
             | Content::Integer(_)
             | Content::Float(_)
-            | Content::DateTime(_) => None,
+            | Content::DateTime(_)
+            | Content::Array
+            | Content::Tables => None,
             Content::Inline | Content::Table => {
                 let (name, _) = node.members.get_index(index)?;
                 Some(name.as_str())
@@ -147,12 +171,13 @@ impl Document {
         let _node = &self.nodes[number];
     }
 
-    /// No element stands below a node.
-    pub(crate) fn has_no_element(&self, number: usize, index: usize)
+    /// The number of an element of a node.
+    pub(crate) fn element(&self, number: usize, index: usize) -> Option<usize>
         requires { number < length self.now.nodes }
-        ensures { tree_of self.now (at (place_numbered self.now number) (index_step index)) ≡ None }
+        ensures { Numbers self.now (at (place_numbered self.now number) (index_step index)) result }
     {
-        let _node = &self.nodes[number];
+        let node = &self.nodes[number];
+        node.elements.get(index).copied()
     }
 
     /// Nothing stands below a place where nothing stands, and the root stands first.
@@ -172,17 +197,14 @@ impl Document {
         'steps: for step in place {
             match step {
                 Step::Key(key) => number = self.member(number, key.as_str())?,
-                Step::Index(index) => {
-                    self.has_no_element(number, *index);
-                    return None;
-                }
+                Step::Index(index) => number = self.element(number, *index)?,
             }
         }
         self.stands(number);
         Some(number)
     }
 
-    /// The text is a document of the part that is read, and what it shows is the tree of each form that it has.
+    /// The text is a document, and what it shows is the tree of each form that it has.
     pub(crate) fn has_form(&self)
         ensures some { (form : Text) × IsManifest self.now.bytes form }
         ensures shows { (form : Text) → IsManifest self.now.bytes form → ShowsTree self.now form }

@@ -45,8 +45,8 @@ impl<'a> Item<'a> {
     {
         match self.seen() {
             Seen::Text(text) => Some(text),
-            Seen::Truth(_) | Seen::Inline | Seen::Table => None,
-            Seen::Integer | Seen::Float | Seen::DateTime => None,
+            Seen::Truth(_) | Seen::Inline | Seen::Table | Seen::Tables => None,
+            Seen::Integer | Seen::Float | Seen::DateTime | Seen::Array => None,
         }
     }
 
@@ -55,8 +55,8 @@ impl<'a> Item<'a> {
     {
         match self.seen() {
             Seen::Truth(truth) => Some(truth),
-            Seen::Text(_) | Seen::Inline | Seen::Table => None,
-            Seen::Integer | Seen::Float | Seen::DateTime => None,
+            Seen::Text(_) | Seen::Inline | Seen::Table | Seen::Tables => None,
+            Seen::Integer | Seen::Float | Seen::DateTime | Seen::Array => None,
         }
     }
 
@@ -65,8 +65,9 @@ impl<'a> Item<'a> {
         ensures { MatchOption result (is_static_array (view_of self.entry) ≡ false) (λ i. (is_static_array (view_of self.entry) ≡ true) × (document_of i ≡ document_of self.entry) × (place_of i ≡ place_of self.entry)) }
     {
         match self.seen() {
-            Seen::Text(_) | Seen::Truth(_) | Seen::Inline | Seen::Table => None,
+            Seen::Text(_) | Seen::Truth(_) | Seen::Inline | Seen::Table | Seen::Tables => None,
             Seen::Integer | Seen::Float | Seen::DateTime => None,
+            Seen::Array => Some(self),
         }
     }
 
@@ -85,8 +86,11 @@ impl<'a> Item<'a> {
     pub fn at(self, index: usize) -> Option<Item<'a>>
         ensures { Finds (document_of self.entry) (below (place_of self.entry) (index_step index)) result }
     {
-        self.document.has_no_element(self.node, index);
-        None
+        let document = self.document;
+        match document.element(self.node, index) {
+            Some(node) => Some(Item { document, node }),
+            None => None,
+        }
     }
 
     /// How many members or elements there are.
@@ -112,8 +116,8 @@ impl<'a> Item<'a> {
     {
         match self.seen() {
             Seen::Text(_) => true,
-            Seen::Truth(_) | Seen::Inline | Seen::Table => false,
-            Seen::Integer | Seen::Float | Seen::DateTime => false,
+            Seen::Truth(_) | Seen::Inline | Seen::Table | Seen::Tables => false,
+            Seen::Integer | Seen::Float | Seen::DateTime | Seen::Array => false,
         }
     }
 
@@ -122,8 +126,8 @@ impl<'a> Item<'a> {
         ensures { result ≡ is_tabular (view_of self.entry) }
     {
         match self.seen() {
-            Seen::Text(_) | Seen::Truth(_) => false,
-            Seen::Integer | Seen::Float | Seen::DateTime => false,
+            Seen::Text(_) | Seen::Truth(_) | Seen::Tables => false,
+            Seen::Integer | Seen::Float | Seen::DateTime | Seen::Array => false,
             Seen::Inline | Seen::Table => true,
         }
     }
@@ -133,8 +137,8 @@ impl<'a> Item<'a> {
     {
         match self.seen() {
             Seen::Inline => true,
-            Seen::Text(_) | Seen::Truth(_) | Seen::Table => false,
-            Seen::Integer | Seen::Float | Seen::DateTime => false,
+            Seen::Text(_) | Seen::Truth(_) | Seen::Table | Seen::Tables => false,
+            Seen::Integer | Seen::Float | Seen::DateTime | Seen::Array => false,
         }
     }
 
@@ -149,8 +153,10 @@ impl<'a> Item<'a> {
             Seen::Integer => "integer",
             Seen::Float => "float",
             Seen::DateTime => "datetime",
+            Seen::Array => "array",
             Seen::Inline => "inline table",
             Seen::Table => "table",
+            Seen::Tables => "array of tables",
         }
     }
 }
@@ -175,7 +181,7 @@ impl<'a> Iterator for Keys<'a> {
     ghost remaining = { item_count keys_left };
 
     fn next(&mut self) -> Option<&'a str> {
-        if self.next >= self.document.member_count(self.node) {
+        if self.next >= self.document.name_count(self.node) {
             return None;
         }
         let name = self.document.member_name(self.node, self.next)?;

@@ -1,6 +1,7 @@
 //! The lossless manifest document, paths as texts, and the errors of every crate above.
 #![tactic(auto)]
 
+mod assertions;
 pub mod document;
 pub mod errors;
 pub mod item;
@@ -17,6 +18,8 @@ pub use errors::{CargoResult, DeviceCall, Error, MergedCommand, MissingKind, Mis
 pub use item::{Item, Keys};
 pub use place::{Place, Step};
 
+#[cfg(test)]
+mod array_tests;
 #[cfg(test)]
 mod tests;
 #[cfg(test)]

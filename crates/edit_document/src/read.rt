@@ -10,6 +10,7 @@ ghost use Rattle.edit_document.specs.Marks.{text_marks, IsReadRefusal};
 mod bytes;
 mod dates;
 pub(crate) mod decode;
+mod gaps;
 mod lines;
 mod marks;
 mod multi;

@@ -1,5 +1,7 @@
 //! Rows of documents: texts that are read, and texts that are refused.
 
+mod keys;
+
 use crate::document::Document;
 use crate::errors::Error;
 use crate::item::Item;
@@ -10,7 +12,7 @@ use std::test::Fail;
 /// A manifest with one dependency as an inline table.
 const MANIFEST: &str = "[dependencies]\nserde = { version = '1.0', optional = true } # keep\n";
 
-fn is_read(alloc: Global, text: &str) -> Result<bool, Error> {
+pub(crate) fn is_read(alloc: Global, text: &str) -> Result<bool, Error> {
     match Document::read(alloc, text) {
         Ok(_) => Ok(true),
         Err(Error::NotToml { .. }) => Ok(false),

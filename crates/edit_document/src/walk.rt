@@ -1,66 +1,28 @@
 //! The walk over the marks of a text, which makes its nodes.
-ghost use Rattle.std.specs.Prelude.{◌≡◌, ◌<◌, ◌≤◌, ℕ, List, IfOk, IfErr, MatchResult, not, ◌||◌, nat_le, is_some, length, string_bytes, Some, None};
-ghost use Rattle.indexmap.specs.IndexMap.{get_by_text};
+ghost use Rattle.std.specs.Prelude.{◌≡◌, ◌∷◌, [], ℕ, List, IfOk, IfErr, MatchResult, length, string_bytes, Some, None};
 ghost use Rattle.edit_document.specs.Errors.{IsMemory};
-ghost use Rattle.edit_document.specs.Nodes.{Spot, Holds, shape_of, shape_said};
-ghost use Rattle.edit_document.specs.Nodes as shapes;
-ghost use Rattle.edit_document.specs.Walk.{State, added, entered, opened, closed, headed, start, step, walked};
-ghost use Rattle.edit_document.specs.WalkState.{Adds, Walks, Goes, SaysAt, IsToken, KeepsState};
+ghost use Rattle.edit_document.specs.Nodes.{shape_of, shape_said};
+ghost use Rattle.edit_document.specs.Walk.{State, awaiting, is_dotted_within, settled, entered_at, entered, opened, closed, headed, element_headed, start, step, walked};
+ghost use Rattle.edit_document.specs.WalkState.{Walks, Goes, Settles, SaysAt, IsToken, KeepsState};
 ghost use Rattle.edit_document.specs.Marks.{IsReadRefusal};
 ghost use Rattle.std.specs.List.{AllByRecursion};
 
+use crate::assertions::{add_element, assert_member, reach};
 use crate::errors::{CargoResult, Error};
-use crate::nodes::{Content, Node, Span};
+use crate::nodes::{Content, Node, Span, Taken};
 use crate::read::decode::{content, said};
 use crate::read::{Mark, MarkKind};
 use indexmap::IndexMap;
 use std::alloc::Global;
 
-/// The nodes so far; the numbers of the header and of the inline tables that are open, the innermost last; and the
-/// name that waits for its value.
+/// The nodes so far; the numbers of the header and of the arrays and inline tables that are open, the innermost last;
+/// and the parts of the key that waits for its value: the last one, and those before it.
 #[derive(Drop)]
 pub(crate) struct Walk {
     nodes: Vec<Node>,
     tables: Vec<usize>,
+    fronts: Vec<String>,
     name: Option<String>,
-}
-
-/// Whether a member of this name may stand below a node.
-fn takes(node: &Node, name: &str) -> bool
-    ensures { result ≡ not (is_some (get_by_text node.now.members name.now) || nat_le 80 node.now.steps) }
-{
-    !node.members.contains_key(name) && node.steps < 80
-}
-
-/// Adds a member to the node of a number. The new node comes last. Answers whether it may stand there.
-fn add(
-    alloc: Global,
-    nodes: &mut Vec<Node>,
-    number: usize,
-    name: String,
-    content: Content,
-    span: Option<Span>,
-) -> CargoResult<bool>
-    ensures added { (spots : List Spot) → Holds nodes.old.items spots → IfOk result (Adds nodes.new.items (added spots number (string_bytes name) (shape_of content) span)) }
-    ensures refused { IfErr result IsMemory }
-{
-    let count = nodes.len();
-    if number >= count {
-        return Ok(false);
-    }
-    if !takes(&nodes[number], name.as_str()) {
-        return Ok(false);
-    }
-    let node = &mut nodes[number];
-    let steps = node.steps + 1;
-    node.members.insert(name, count)?;
-    nodes.push(Node {
-        content,
-        steps,
-        span,
-        members: IndexMap::new(alloc),
-    })?;
-    Ok(true)
 }
 
 /// What the token of a mark says.
@@ -92,15 +54,18 @@ impl Walk {
         let mut nodes = Vec::new(alloc);
         nodes.push(Node {
             content: Content::Table,
+            taken: Taken::Header,
             steps: 0,
             span: None,
             members: IndexMap::new(alloc),
+            elements: Vec::new(alloc),
         })?;
         let mut tables = Vec::new(alloc);
         tables.push(0)?;
         Ok(Walk {
             nodes,
             tables,
+            fronts: Vec::new(alloc),
             name: None,
         })
     }
@@ -111,39 +76,106 @@ impl Walk {
         let Walk {
             nodes,
             tables: _,
+            fronts: _,
             name: _,
         } = self;
         nodes
     }
 
-    /// The waiting name becomes a member of the innermost table.
+    /// A part of a key waits, behind those before it.
+    fn await_name(&mut self, name: String) -> CargoResult<()>
+        ensures goes { IfOk result (λ _. (st : State) → Walks self.old st → Walks self.new (awaiting st (string_bytes name))) }
+        ensures refused { IfErr result IsMemory }
+    {
+        if let Some(front) = self.name.take() {
+            self.fronts.push(front)?;
+        }
+        self.name = Some(name);
+        Ok(())
+    }
+
+    /// Whether a dotted key stands in an inline table.
+    fn is_within(&self, front: Taken) -> bool
+        ensures { result ≡ is_dotted_within (length self.now.tables.items) front }
+    {
+        match front {
+            Taken::Dotted => self.tables.len() > 1,
+            _ => false,
+        }
+    }
+
+    /// The waiting key takes a place below a table. Answers the number of its node.
+    fn settle(
+        &mut self,
+        alloc: Global,
+        number: usize,
+        front: Taken,
+        content: Content,
+        taken: Taken,
+        span: Option<Span>,
+    ) -> CargoResult<Option<usize>>
+        ensures goes { (st : State) → Walks self.old st → IfOk result (Settles self.new (settled st number front (shape_of content) taken span)) }
+        ensures refused { IfErr result IsMemory }
+    {
+        let Some(name) = self.name.take() else {
+            return Ok(None);
+        };
+        let is_inline = self.is_within(front);
+        let Some(table) = reach(
+            alloc,
+            &mut self.nodes,
+            number,
+            &self.fronts,
+            is_inline,
+            front,
+        )?
+        else {
+            return Ok(None);
+        };
+        self.fronts.clear();
+        assert_member(alloc, &mut self.nodes, table, name, content, taken, span)
+    }
+
+    /// A value enters the innermost table or array. Answers the number of its node.
+    fn enter_at(
+        &mut self,
+        alloc: Global,
+        content: Content,
+        span: Option<Span>,
+    ) -> CargoResult<Option<usize>>
+        ensures goes { (st : State) → Walks self.old st → IfOk result (Settles self.new (entered_at st (shape_of content) span)) }
+        ensures refused { IfErr result IsMemory }
+    {
+        let Some(number) = self.tables.last().copied() else {
+            return Ok(None);
+        };
+        match &self.name {
+            Some(_) => self.settle(alloc, number, Taken::Dotted, content, Taken::Value, span),
+            None => add_element(alloc, &mut self.nodes, number, content, Taken::Value, span),
+        }
+    }
+
+    /// A value enters the innermost table or array.
     fn enter(&mut self, alloc: Global, content: Content, span: Option<Span>) -> CargoResult<bool>
         ensures goes { (st : State) → Walks self.old st → IfOk result (Goes self.new (entered st (shape_of content) span)) }
         ensures refused { IfErr result IsMemory }
     {
-        let Some(name) = self.name.take() else {
-            return Ok(false);
-        };
-        let Some(number) = self.tables.last().copied() else {
-            return Ok(false);
-        };
-        add(alloc, &mut self.nodes, number, name, content, span)
+        Ok(self.enter_at(alloc, content, span)?.is_some())
     }
 
-    /// An inline table opens.
-    fn open(&mut self, alloc: Global, span: Span) -> CargoResult<bool>
-        ensures goes { (st : State) → Walks self.old st → IfOk result (Goes self.new (opened st (Some span))) }
+    /// An array or an inline table opens.
+    fn open(&mut self, alloc: Global, content: Content, span: Span) -> CargoResult<bool>
+        ensures goes { (st : State) → Walks self.old st → IfOk result (Goes self.new (opened st (shape_of content) (Some span))) }
         ensures refused { IfErr result IsMemory }
     {
-        let number = self.nodes.len();
-        if !self.enter(alloc, Content::Inline, Some(span))? {
+        let Some(number) = self.enter_at(alloc, content, Some(span))? else {
             return Ok(false);
-        }
+        };
         self.tables.push(number)?;
         Ok(true)
     }
 
-    /// The innermost table ends before so many bytes.
+    /// The innermost table or array ends before so many bytes.
     fn close(&mut self, to: usize) -> bool
         ensures { (st : State) → Walks self.old st → Goes self.new (closed st to) result }
     {
@@ -164,20 +196,50 @@ impl Walk {
         true
     }
 
-    /// The waiting name becomes a header, which is a member of the root.
+    /// This table and no other is open.
+    fn turn_to(&mut self, number: usize) -> CargoResult<()>
+        ensures turned { IfOk result (λ _. (st : State) → Walks self.old st → Walks self.new (record st { tables = number ∷ [] })) }
+        ensures refused { IfErr result IsMemory }
+    {
+        self.tables.clear();
+        self.tables.push(number)?;
+        Ok(())
+    }
+
+    /// The waiting key becomes a header.
     fn head(&mut self, alloc: Global) -> CargoResult<bool>
         ensures goes { (st : State) → Walks self.old st → IfOk result (Goes self.new (headed st)) }
         ensures refused { IfErr result IsMemory }
     {
-        let Some(name) = self.name.take() else {
+        let Some(number) = self.settle(alloc, 0, Taken::Super, Content::Table, Taken::Header, None)?
+        else {
             return Ok(false);
         };
-        let number = self.nodes.len();
-        if !add(alloc, &mut self.nodes, 0, name, Content::Table, None)? {
+        self.turn_to(number)?;
+        Ok(true)
+    }
+
+    /// The waiting key becomes the header of an element.
+    fn head_element(&mut self, alloc: Global) -> CargoResult<bool>
+        ensures goes { (st : State) → Walks self.old st → IfOk result (Goes self.new (element_headed st)) }
+        ensures refused { IfErr result IsMemory }
+    {
+        let Some(number) = self.settle(alloc, 0, Taken::Super, Content::Tables, Taken::Array, None)?
+        else {
             return Ok(false);
-        }
-        self.tables.clear();
-        self.tables.push(number)?;
+        };
+        let Some(element) = add_element(
+            alloc,
+            &mut self.nodes,
+            number,
+            Content::Table,
+            Taken::Element,
+            None,
+        )?
+        else {
+            return Ok(false);
+        };
+        self.turn_to(element)?;
         Ok(true)
     }
 
@@ -192,7 +254,8 @@ impl Walk {
         };
         match mark.kind {
             MarkKind::BarePart | MarkKind::BasicPart | MarkKind::LiteralPart => {
-                self.name = Some(told(alloc, text, mark)?);
+                let name = told(alloc, text, mark)?;
+                self.await_name(name)?;
                 Ok(true)
             }
             MarkKind::BasicString
@@ -207,10 +270,11 @@ impl Walk {
             }
             MarkKind::True => self.enter(alloc, Content::Truth(true), Some(span)),
             MarkKind::False => self.enter(alloc, Content::Truth(false), Some(span)),
-            MarkKind::OpenTable => self.open(alloc, span),
-            MarkKind::CloseTable => Ok(self.close(mark.to)),
+            MarkKind::OpenArray => self.open(alloc, Content::Array, span),
+            MarkKind::OpenTable => self.open(alloc, Content::Inline, span),
+            MarkKind::CloseArray | MarkKind::CloseTable => Ok(self.close(mark.to)),
             MarkKind::Header => self.head(alloc),
-            _ => Ok(false),
+            MarkKind::ElementHeader => self.head_element(alloc),
         }
     }
 }

@@ -1,17 +1,53 @@
 //! Lines, noted down from left to right.
-ghost use Rattle.std.specs.Prelude.{◌≡◌, ◌<◌, ◌≤◌, IfOk, MatchResult};
+ghost use Rattle.std.specs.Prelude.{◌≡◌, ◌<◌, ◌≤◌, slice_index, IfOk, MatchResult};
 ghost use Rattle.edit_document.specs.declared.read.marks.ReadError.TheVariants.{Memory};
+ghost use Rattle.edit_document.specs.Characters.{left_bracket};
 ghost use Rattle.edit_document.specs.Grammar.{Lines, AreLines, lines};
 ghost use Rattle.edit_document.specs.Supported.{AreSupportedLines};
 ghost use Rattle.edit_document.specs.Depth.{lines_depth};
 ghost use Rattle.edit_document.specs.Reading as reading;
 ghost use Rattle.edit_document.specs.Marks.{statement_marks, line_marks, lines_marks};
-ghost use Rattle.edit_document.specs.Noting.{Skips, Notes};
+ghost use Rattle.edit_document.specs.Noting.{Notes};
 
 use super::bytes::{Class, byte_at, first, past, past_run, skip};
+use super::gaps::past_line_end;
 use super::marks::{Mark, MarkKind, ReadError};
 use super::values::{key, note, pair};
 use std::alloc::Global;
+
+/// A header, with its brackets.
+#[tactic(auto, unfolding(crate::specs::Reading::header_at))]
+fn header<'a>(out: &mut Vec<Mark>, s: &'a [u8]) -> Result<&'a [u8], ReadError>
+    requires { reading.first s.now ≡ left_bracket }
+    ensures { Notes statement_marks out.old out.new result (reading.header_at s.now) }
+{
+    let after_key = key(out, past_run(skip(s, 1), Class::Blank))?;
+    let end = past_run(after_key, Class::Blank);
+    let Some(rest) = past(end, b']') else {
+        return Err(ReadError::NotToml { left: end.len() });
+    };
+    note(out, MarkKind::Header, s, rest)?;
+    Ok(rest)
+}
+
+/// The header of an element, with its brackets.
+#[tactic(auto, unfolding(crate::specs::Reading::element_header_at))]
+fn element_header<'a>(out: &mut Vec<Mark>, s: &'a [u8]) -> Result<&'a [u8], ReadError>
+    requires first { reading.first s.now ≡ left_bracket }
+    requires second { slice_index s.now 1 ≡ left_bracket }
+    ensures { Notes statement_marks out.old out.new result (reading.element_header_at s.now) }
+{
+    let after_key = key(out, past_run(skip(s, 2), Class::Blank))?;
+    let end = past_run(after_key, Class::Blank);
+    let Some(inner) = past(end, b']') else {
+        return Err(ReadError::NotToml { left: end.len() });
+    };
+    let Some(rest) = past(inner, b']') else {
+        return Err(ReadError::NotToml { left: inner.len() });
+    };
+    note(out, MarkKind::ElementHeader, s, rest)?;
+    Ok(rest)
+}
 
 #[tactic(auto, unfolding(crate::specs::Reading::statement_at))]
 fn statement<'a>(out: &mut Vec<Mark>, s: &'a [u8], depth: usize) -> Result<&'a [u8], ReadError>
@@ -21,13 +57,10 @@ fn statement<'a>(out: &mut Vec<Mark>, s: &'a [u8], depth: usize) -> Result<&'a [
     if first(s) != b'[' {
         return pair(out, s, depth);
     }
-    let after_key = key(out, past_run(skip(s, 1), Class::Blank))?;
-    let end = past_run(after_key, Class::Blank);
-    let Some(rest) = past(end, b']') else {
-        return Err(ReadError::NotToml { left: end.len() });
-    };
-    note(out, MarkKind::Header, s, rest)?;
-    Ok(rest)
+    if byte_at(s, 1) == b'[' {
+        return element_header(out, s);
+    }
+    header(out, s)
 }
 
 fn past_comment(s: &[u8]) -> &[u8]
@@ -62,20 +95,7 @@ pub(crate) fn line<'a>(
     Ok(past_comment(past_run(rest, Class::Blank)))
 }
 
-#[tactic(auto, unfolding(crate::specs::Reading::line_end_at))]
-pub(crate) fn past_line_end(s: &[u8]) -> Option<&[u8]>
-    ensures { Skips result (reading.line_end_at s.now) }
-{
-    if first(s) == b'\n' {
-        Some(skip(s, 1))
-    } else if first(s) == b'\r' && byte_at(s, 1) == b'\n' {
-        Some(skip(s, 2))
-    } else {
-        None
-    }
-}
-
-/// The marks of lines, with inline tables at most 80 deep in one another.
+/// The marks of lines, with arrays and inline tables at most 80 deep in one another.
 pub(crate) fn lines(alloc: Global, text: &[u8]) -> Result<Vec<Mark>, ReadError>
     ensures found { IfOk result (λ v. (form : Lines) × (text.now ≡ lines form) × AreLines form × AreSupportedLines form × (lines_depth form ≤ 80) × (v.items ≡ lines_marks form)) }
     ensures only { (form : Lines) → text.now ≡ lines form → AreLines form → AreSupportedLines form → lines_depth form ≤ 80 → MatchResult result (λ v. v.items ≡ lines_marks form) (λ e. e ≡ Memory) }

@@ -4,7 +4,7 @@ ghost use Rattle.edit_document.specs.Reading as reading;
 ghost use Rattle.edit_document.specs.Noting.{Skips};
 
 use super::bytes::{Class, byte_at, first, is_basic_ch, is_in, past_run, skip};
-use super::lines::past_line_end;
+use super::gaps::past_line_end;
 use super::tokens::past_escape;
 
 fn is_line_break(b: u8) -> bool

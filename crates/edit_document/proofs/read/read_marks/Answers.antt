@@ -1,7 +1,6 @@
-use Rattle.std.proofs.Common.{◌≡◌, ◌≤◌, ◌++◌, sym, ap, ◌∙◌, arith}
+use Rattle.std.proofs.Common.{◌≡◌, sym, ◌∙◌}
 use Rattle.edit_document.specs.declared.read.marks.ReadError.TheVariants.{Memory, NotToml}
-use Rattle.edit_document.specs.Grammar.{lines}
-use Rattle.edit_document.specs.Reading.{past_mark, is_marked}
+use Rattle.edit_document.specs.Reading.{is_marked}
 use Rattle.edit_document.proofs.LineLaws.{lines_found, lines_only}
 use Rattle.edit_document.proofs.read.read_marks.Goals as goal
 

@@ -1,7 +1,6 @@
 use Rattle.std.proofs.Common.{List, ℕ, subst}
 use Rattle.edit_document.specs.Supported.{IsManifest}
-use Rattle.edit_document.proofs.ValueRanges.{shown_bytes}
-use Rattle.edit_document.proofs.ShownForms.{shows_tree}
+use Rattle.edit_document.proofs.ShownForms.{shown_bytes, shows_tree}
 use Rattle.edit_document.proofs.document.Document.has_form.Goals as goal
 
 pub returns-clause-some : goal.returns-clause-some

@@ -1,10 +1,5 @@
-use Rattle.std.proofs.Common.{◌≡◌, ℕ, List, [], Bool, ap, sym, ◌∙◌, refl, Some, None, length, option_map, slice_get, arith}
-use Rattle.std.proofs.lemmas.List.{length-map}
-use Rattle.std.specs.Borrow.{Bor}
-use Rattle.std.specs.Prelude.{string_bytes}
-use Rattle.edit_document.specs.declared.nodes.Content.TheVariants as content
-use Rattle.edit_document.specs.declared.document.Seen.TheVariants as seen
-use Rattle.edit_document.proofs.Views.{opened, within, found, member_here, names_scalar, names_tabular, names_of_node, name_some, name_none, shows}
+use Rattle.std.proofs.Common.{◌∙◌}
+use Rattle.edit_document.proofs.Views.{opened, within, found, member_here}
 use Rattle.edit_document.proofs.document.Document.member.Goals as goal
 
 pub index-node-requires : goal.index-node-requires

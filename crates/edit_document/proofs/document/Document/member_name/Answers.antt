@@ -1,10 +1,6 @@
-use Rattle.std.proofs.Common.{◌≡◌, ℕ, List, [], Bool, ap, sym, ◌∙◌, refl, Some, None, length, option_map, slice_get, arith}
-use Rattle.std.proofs.lemmas.List.{length-map}
+use Rattle.std.proofs.Common.{ℕ, List, ap, sym, ◌∙◌, Some, option_map, slice_get}
 use Rattle.std.specs.Borrow.{Bor}
-use Rattle.std.specs.Prelude.{string_bytes}
-use Rattle.edit_document.specs.declared.nodes.Content.TheVariants as content
-use Rattle.edit_document.specs.declared.document.Seen.TheVariants as seen
-use Rattle.edit_document.proofs.Views.{opened, within, found, member_here, names_scalar, names_tabular, names_of_node, name_some, name_none, shows}
+use Rattle.edit_document.proofs.Views.{opened, within, found, names_none, names_tabular, name_some, name_none}
 use Rattle.edit_document.proofs.document.Document.member_name.Goals as goal
 
 pub index-node-requires : goal.index-node-requires
@@ -23,4 +19,4 @@ returns-in_err-name-in-Inline c =
 pub returns-in-Text : goal.returns-in-Text
 returns-in-Text c =
     let f = found c.args.self.now c.self.inside.nodes.items c.args.number c.index-node.result.now (opened c.self.inside c.args.self.now c.self.invariant c.self.view_is) c.requires c.index-node.ensures in
-    sym (ap (λ (xs : List (List ℕ)). slice_get xs c.args.index) (names_scalar c.args.self.now c.self.inside.nodes.items (opened c.self.inside c.args.self.now c.self.invariant c.self.view_is).spots c.args.number c.index-node.result.now f c.in-Text.is))
+    sym (ap (λ (xs : List (List ℕ)). slice_get xs c.args.index) (names_none c.args.self.now c.self.inside.nodes.items (opened c.self.inside c.args.self.now c.self.invariant c.self.view_is).spots c.args.number c.index-node.result.now f c.in-Text.is))

@@ -1,10 +1,7 @@
-use Rattle.std.proofs.Common.{◌≡◌, ℕ, List, [], Bool, ap, sym, ◌∙◌, refl, Some, None, length, option_map, slice_get, arith}
-use Rattle.std.proofs.lemmas.List.{length-map}
-use Rattle.std.specs.Borrow.{Bor}
-use Rattle.std.specs.Prelude.{string_bytes}
+use Rattle.std.proofs.Common.{refl}
 use Rattle.edit_document.specs.declared.nodes.Content.TheVariants as content
 use Rattle.edit_document.specs.declared.document.Seen.TheVariants as seen
-use Rattle.edit_document.proofs.Views.{opened, within, found, member_here, names_scalar, names_tabular, names_of_node, name_some, name_none, shows}
+use Rattle.edit_document.proofs.Views.{opened, within, found, shows}
 use Rattle.edit_document.proofs.document.Document.seen.Goals as goal
 
 pub index-node-requires : goal.index-node-requires
@@ -44,3 +41,13 @@ pub returns-in-DateTime : goal.returns-in-DateTime
 returns-in-DateTime c =
     let f = found c.args.self.now c.self.inside.nodes.items c.args.number c.index-node.result.now (opened c.self.inside c.args.self.now c.self.invariant c.self.view_is) c.requires c.index-node.ensures in
     shows c.args.self.now c.self.inside.nodes.items (opened c.self.inside c.args.self.now c.self.invariant c.self.view_is).spots c.args.number c.index-node.result.now (content.DateTime c.in-DateTime.field-0) seen.DateTime f c.in-DateTime.is tt
+
+pub returns-in-Tables : goal.returns-in-Tables
+returns-in-Tables c =
+    let f = found c.args.self.now c.self.inside.nodes.items c.args.number c.index-node.result.now (opened c.self.inside c.args.self.now c.self.invariant c.self.view_is) c.requires c.index-node.ensures in
+    shows c.args.self.now c.self.inside.nodes.items (opened c.self.inside c.args.self.now c.self.invariant c.self.view_is).spots c.args.number c.index-node.result.now content.Tables seen.Tables f c.in-Tables.is tt
+
+pub returns-in-Array : goal.returns-in-Array
+returns-in-Array c =
+    let f = found c.args.self.now c.self.inside.nodes.items c.args.number c.index-node.result.now (opened c.self.inside c.args.self.now c.self.invariant c.self.view_is) c.requires c.index-node.ensures in
+    shows c.args.self.now c.self.inside.nodes.items (opened c.self.inside c.args.self.now c.self.invariant c.self.view_is).spots c.args.number c.index-node.result.now content.Array seen.Array f c.in-Array.is tt

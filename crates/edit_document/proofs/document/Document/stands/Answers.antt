@@ -1,6 +1,4 @@
-use Rattle.std.proofs.Common.{◌≡◌, ℕ}
-use Rattle.edit_document.proofs.Views.{opened, within, found, node_stands, element_none}
-use Rattle.edit_document.specs.Items.{place_numbered}
+use Rattle.edit_document.proofs.Views.{opened, within, found, node_stands}
 use Rattle.edit_document.proofs.document.Document.stands.Goals as goal
 
 pub index-node-requires : goal.index-node-requires

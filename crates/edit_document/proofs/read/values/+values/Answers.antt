@@ -1,15 +1,16 @@
-use Rattle.std.proofs.Common.{◌≡◌, drop, ℕ, ◌+◌, ◌-◌, suc, List, ◌++◌, Some, None, refl, sym, ap, subst, ◌∙◌, false, true, eqb, arith}
+use Rattle.std.proofs.Common.{◌≡◌, drop, ℕ, ◌+◌, ◌-◌, suc, List, ◌++◌, Some, None, refl, sym, ap, subst, ◌∙◌, false, true, eqb, eq-eqb, arith}
 use Rattle.std.proofs.lemmas.Bool.Decides.{nat_tests}
 use Rattle.std.proofs.lemmas.Result.{err_from_is_err_and}
-use Rattle.edit_document.specs.Characters.{comma, equals, left_brace, right_brace}
-use Rattle.edit_document.specs.Grammar.{Value}
-use Rattle.edit_document.specs.Reading.{Pair, first, past_blanks, past, key_at, pair_at, value_at, members_at}
-use Rattle.edit_document.specs.Noting.{Notes, pair_marks}
+use Rattle.edit_document.specs.Characters.{comma, equals, left_bracket, right_bracket, left_brace, right_brace}
+use Rattle.edit_document.specs.Grammar.{Value, Elements}
+use Rattle.edit_document.specs.Reading.{Pair, first, past_blanks, past_gap, past, key_at, pair_at, value_at, members_at, elements_at}
+use Rattle.edit_document.specs.Noting.{Notes, array_marks, pair_marks}
 use Rattle.edit_document.specs.Marks.{key_marks, value_marks}
 use Rattle.edit_document.specs.Strings.{Key}
 use Rattle.edit_document.proofs.Loops.{one_less}
 use Rattle.edit_document.proofs.ValueLaws.{value_sound}
 use Rattle.edit_document.proofs.NotedValues.{Completes, members_turn, members_done, members_refused, members_failed, members_none, pair_noted, pair_failed, pair_unsigned, inline_noted, empty_noted}
+use Rattle.edit_document.proofs.NotedElements.{Fills, elements_turn, elements_end, elements_done, elements_refused, elements_failed, elements_none, array_noted}
 use Rattle.edit_document.proofs.read.values.+values.Goals as goal
 
 pub members-members-init : goal.members-members-init
@@ -108,3 +109,80 @@ value-returns t c =
     let other : eqb (first (past_blanks (drop 1 s))) right_brace ≡ false = rw (← inner) test in
     subst (λ (d : ℕ). Notes value_marks c.args.out.now c.members.new.out c.members.result (value_at d s)) (sym k)
     (inline_noted n c.args.out.now c.note.new.out c.members.new.out s c.members.result opened other (rw (← c.skip-behind.ensures) c.in_ok-note.ensures) (rw (← inner) c.members.ensures))
+
+pub elements-elements-init : goal.elements-elements-init
+elements-elements-init t c =
+    let k : c.args.count - 0 ≡ c.args.count = omega arith in
+    record { some = λ x e. (x.0, (rw k at e), refl); none = λ e. rw k at e }
+
+pub elements-returns-then-first-eq93 : goal.elements-returns-then-first-eq93
+elements-returns-then-first-eq93 t c =
+    let read = value_at c.args.depth in
+    let k = one_less c.args.count c.elements._element c.elements-test.true in
+    let closed : eqb (first c.elements.rest.now) right_bracket ≡ true = grind (arith, nat_tests) in
+    let after : c.skip-after.result.now ≡ drop 1 c.elements.rest.now = c.skip-after.ensures in
+    subst (λ (r : List ℕ). (x : Elements) × (elements_at read c.args.count c.args.s.now ≡ Some (x, r)) × (c.note.new.out.items ≡ c.args.out.now.items ++ array_marks x r)) (sym after)
+    (elements_end read (elements_at read c.args.count c.args.s.now) (c.args.count - (c.elements._element + 1)) c.elements.rest.now c.args.out.now.items c.elements.out.items c.note.new.out.items closed (rw (← after) c.in_ok-note.ensures) (rw k at c.elements.invariant))
+
+pub elements-returns-in_err-after_value : goal.elements-returns-in_err-after_value
+elements-returns-in_err-after_value t c =
+    let read = value_at c.args.depth in
+    let k = one_less c.args.count c.elements._element c.elements-test.true in
+    let unclosed : eqb (first c.elements.rest.now) right_bracket ≡ false = grind (arith, nat_tests) in
+    let p = err_from_is_err_and c.from_residual-in_err-after_value.result c.from_residual-in_err-after_value.ensures.1 in
+    elements_failed read (elements_at read c.args.count c.args.s.now) (c.args.count - (c.elements._element + 1)) c.elements.rest.now c.args.out.now c.value.new.out c.elements.out.items c.in_err-after_value.field-0.0 p.0 c.from_residual-in_err-after_value.result p.1 p.2 unclosed
+    c.in_err-after_value.ensures (rw k at c.elements.invariant)
+
+pub elements-returns-in_default : goal.elements-returns-in_default
+elements-returns-in_default t c other =
+    let read = value_at c.args.depth in
+    let k = one_less c.args.count c.elements._element c.elements-test.true in
+    let unclosed : eqb (first c.elements.rest.now) right_bracket ≡ false = grind (arith, nat_tests) in
+    let r = c.in_ok-after_value.after_value.now in
+    let v : (v : Value) × (read c.elements.rest.now ≡ Some (v, r)) × (c.value.new.out.items ≡ c.elements.out.items ++ value_marks v r) = c.in_ok-after_value.ensures in
+    let end : c.past_gap-end.result.now ≡ past_gap r = c.past_gap-end.ensures in
+    let test : eqb (first c.past_gap-end.result.now) comma ≡ false = grind (arith, nat_tests) in
+    let sign : eqb (first (past_gap r)) comma ≡ false = rw (← end) test in
+    let closed : None ≡ past right_bracket c.past_gap-end.result.now = c.in_default.ensures in
+    elements_refused read (elements_at read c.args.count c.args.s.now) (c.args.count - (c.elements._element + 1)) c.elements.rest.now r v.0 c.args.out.now.items c.elements.out.items unclosed v.1 sign (closed ∙ ap (past right_bracket) end) (rw k at c.elements.invariant)
+
+pub elements-returns-then-first-ne44 : goal.elements-returns-then-first-ne44
+elements-returns-then-first-ne44 t c =
+    let read = value_at c.args.depth in
+    let k = one_less c.args.count c.elements._element c.elements-test.true in
+    let unclosed : eqb (first c.elements.rest.now) right_bracket ≡ false = grind (arith, nat_tests) in
+    let r = c.in_ok-after_value.after_value.now in
+    let v : (v : Value) × (read c.elements.rest.now ≡ Some (v, r)) × (c.value.new.out.items ≡ c.elements.out.items ++ value_marks v r) = c.in_ok-after_value.ensures in
+    let end : c.past_gap-end.result.now ≡ past_gap r = c.past_gap-end.ensures in
+    let test : eqb (first c.past_gap-end.result.now) comma ≡ false = grind (arith, nat_tests) in
+    let sign : eqb (first (past_gap r)) comma ≡ false = rw (← end) test in
+    let closed : Some c.in-Some.after.now ≡ past right_bracket c.past_gap-end.result.now = c.in-Some.ensures in
+    elements_done read (elements_at read c.args.count c.args.s.now) (c.args.count - (c.elements._element + 1)) c.elements.rest.now r c.in-Some.after.now v.0 c.args.out.now.items c.elements.out.items c.value.new.out.items c.note-then-first-ne44.new.out.items unclosed v.1 sign (closed ∙ ap (past right_bracket) end) v.2 (rw (← end) c.in_ok-note-2.ensures) (rw k at c.elements.invariant)
+
+pub elements-elements-preserved : goal.elements-elements-preserved
+elements-elements-preserved t c =
+    let read = value_at c.args.depth in
+    let k = one_less c.args.count c.elements._element c.elements-test.true in
+    let unclosed : eqb (first c.elements.rest.now) right_bracket ≡ false = grind (arith, nat_tests) in
+    let r = c.in_ok-after_value.after_value.now in
+    let v : (v : Value) × (read c.elements.rest.now ≡ Some (v, r)) × (c.value.new.out.items ≡ c.elements.out.items ++ value_marks v r) = c.in_ok-after_value.ensures in
+    let end : c.past_gap-end.result.now ≡ past_gap r = c.past_gap-end.ensures in
+    let test : eqb (first c.past_gap-end.result.now) comma ≡ true = grind (arith, nat_tests) in
+    let sign : eqb (first (past_gap r)) comma ≡ true = rw (← end) test in
+    let next : c.past_comma-rest.result.now ≡ past_gap (drop 1 (past_gap r)) = c.past_comma-rest.ensures ∙ ap (λ (x : List ℕ). past_gap (drop 1 x)) end in
+    subst (λ (x : List ℕ). Fills read (elements_at read c.args.count c.args.s.now) (c.args.count - (c.elements._element + 1)) x c.args.out.now.items c.value.new.out.items) (sym next)
+    (elements_turn c.args.depth read (value_sound c.args.depth) (elements_at read c.args.count c.args.s.now) (c.args.count - (c.elements._element + 1)) c.elements.rest.now r v.0 c.args.out.now.items c.elements.out.items c.value.new.out.items unclosed v.1 sign v.2 (rw k at c.elements.invariant))
+
+pub elements-returns : goal.elements-returns
+elements-returns t c other =
+    let k : c.args.count - c.elements._element ≡ 0 = omega arith in
+    c.elements.invariant.none (rw k (elements_none (value_at c.args.depth) c.elements.rest.now))
+
+pub array-returns : goal.array-returns
+array-returns t c =
+    let k : c.args.depth + 1 ≡ suc c.args.depth = omega arith in
+    let s = c.args.s.now in
+    let opened : eqb (first s) left_bracket ≡ true = eq-eqb (first s) left_bracket c.requires.opened in
+    let inner : c.past_gap.result.now ≡ past_gap (drop 1 s) = c.past_gap.ensures ∙ ap past_gap c.skip-behind.ensures in
+    subst (λ (d : ℕ). Notes value_marks c.args.out.now c.elements.new.out c.elements.result (value_at d s)) (sym k)
+    (array_noted c.args.depth c.args.out.now c.note.new.out c.elements.new.out s c.elements.result opened (rw (← c.skip-behind.ensures) c.in_ok-note.ensures) (rw (← inner) c.elements.ensures))

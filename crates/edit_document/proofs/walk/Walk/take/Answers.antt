@@ -1,15 +1,15 @@
-use Rattle.std.proofs.Common.{◌≡◌, ℕ, List, true, Option, Some, None, ap, sym, ◌∙◌, refl, subst}
+use Rattle.std.proofs.Common.{Option, sym, refl, subst, ap, ◌∙◌, ◌≡◌, Some}
 use Rattle.std.specs.Prelude.{IfOk, string_bytes}
 use Rattle.edit_document.specs.declared.read.marks.MarkKind.TheVariants as kinds
 use Rattle.edit_document.specs.Nodes.{Shape, shape_of, shape_said}
 use Rattle.edit_document.specs.Walk.{State, entered, span_of_mark}
 use Rattle.edit_document.specs.WalkState.{Goes}
-use Rattle.edit_document.proofs.Walking.{step_is, goes_named, word_step, other_step}
+use Rattle.edit_document.proofs.Walking.{step_is, goes_named, word_step, close_step}
 use Rattle.edit_document.proofs.walk.Walk.take.Goals as goal
 
-pub returns-in_ok-told-in-BarePart-clause-goes : goal.returns-in_ok-told-in-BarePart-clause-goes
-returns-in_ok-told-in-BarePart-clause-goes c st w token =
-    goes_named _ c.args.self.now c.args.text.now c.args.mark st c.in_ok-told-in-BarePart.field-0 c.in-BarePart.is w token (c.in_ok-told-in-BarePart.ensures {u = tt}).text refl refl refl
+pub returns-in_ok-await_name-in-BarePart-clause-goes : goal.returns-in_ok-await_name-in-BarePart-clause-goes
+returns-in_ok-await_name-in-BarePart-clause-goes c st w token =
+    goes_named _ c.args.self.now c.args.text.now c.args.mark st c.in_ok-name-in-BarePart.name c.in-BarePart.is w token (c.in_ok-name-in-BarePart.ensures {u = tt}).text (c.in_ok-await_name-in-BarePart.ensures {u = tt}).goes
 
 pub returns-in_ok-told-in-BasicString-clause-goes : goal.returns-in_ok-told-in-BasicString-clause-goes
 returns-in_ok-told-in-BasicString-clause-goes c st w token =
@@ -25,18 +25,22 @@ pub returns-in-False-clause-goes : goal.returns-in-False-clause-goes
 returns-in-False-clause-goes c st w token =
     subst (λ (o : Option State). IfOk c.enter-in-False.result (Goes c.enter-in-False.new.self o)) (sym (step_is c.args.text.now c.args.mark st kinds.False c.in-False.is)) (c.enter-in-False.ensures.goes st w)
 
+pub returns-in-OpenArray-clause-goes : goal.returns-in-OpenArray-clause-goes
+returns-in-OpenArray-clause-goes c st w token =
+    subst (λ (o : Option State). IfOk c.open.result (Goes c.open.new.self o)) (sym (step_is c.args.text.now c.args.mark st kinds.OpenArray c.in-OpenArray.is)) (c.open.ensures.goes st w)
+
 pub returns-in-OpenTable-clause-goes : goal.returns-in-OpenTable-clause-goes
 returns-in-OpenTable-clause-goes c st w token =
-    subst (λ (o : Option State). IfOk c.open.result (Goes c.open.new.self o)) (sym (step_is c.args.text.now c.args.mark st kinds.OpenTable c.in-OpenTable.is)) (c.open.ensures.goes st w)
+    subst (λ (o : Option State). IfOk c.open-in-OpenTable.result (Goes c.open-in-OpenTable.new.self o)) (sym (step_is c.args.text.now c.args.mark st kinds.OpenTable c.in-OpenTable.is)) (c.open-in-OpenTable.ensures.goes st w)
 
 pub returns-in-Header-clause-goes : goal.returns-in-Header-clause-goes
 returns-in-Header-clause-goes c st w token =
     subst (λ (o : Option State). IfOk c.head.result (Goes c.head.new.self o)) (sym (step_is c.args.text.now c.args.mark st kinds.Header c.in-Header.is)) (c.head.ensures.goes st w)
 
-pub returns-in-CloseTable-clause-goes : goal.returns-in-CloseTable-clause-goes
-returns-in-CloseTable-clause-goes c st w token =
-    subst (λ (o : Option State). Goes c.close.new.self o c.close.result) (sym (step_is c.args.text.now c.args.mark st kinds.CloseTable c.in-CloseTable.is)) (c.close.ensures st w)
+pub returns-in-ElementHeader-clause-goes : goal.returns-in-ElementHeader-clause-goes
+returns-in-ElementHeader-clause-goes c st w token =
+    subst (λ (o : Option State). IfOk c.head_element.result (Goes c.head_element.new.self o)) (sym (step_is c.args.text.now c.args.mark st kinds.ElementHeader c.in-ElementHeader.is)) (c.head_element.ensures.goes st w)
 
-pub returns-in_default-clause-goes : goal.returns-in_default-clause-goes
-returns-in_default-clause-goes c st w token =
-    other_step c.args.text.now c.args.mark st c.args.mark.kind refl c.in_default.not-BarePart c.in_default.not-BasicPart c.in_default.not-LiteralPart c.in_default.not-BasicString c.in_default.not-LiteralString c.in_default.not-True c.in_default.not-False c.in_default.not-OpenTable c.in_default.not-CloseTable c.in_default.not-Header c.in_default.not-Integer c.in_default.not-Float c.in_default.not-DateTime c.in_default.not-MultiBasicString c.in_default.not-MultiLiteralString
+pub returns-in-CloseArray-clause-goes : goal.returns-in-CloseArray-clause-goes
+returns-in-CloseArray-clause-goes c st w token =
+    subst (λ (o : Option State). Goes c.close.new.self o c.close.result) (sym (close_step c.args.text.now c.args.mark st c.in-CloseArray.is)) (c.close.ensures st w)

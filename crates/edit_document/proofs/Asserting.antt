@@ -1,0 +1,312 @@
+-- What asserting a member or an element makes of the spots that stand for the assertions so far.
+use Rattle.std.proofs.Common.{◌≡◌, ℕ, zero, suc, ◌+◌, ◌-◌, ◌<◌, ◌≤◌, Bool, true, false, cond, List, [], ◌∷◌, ◌++◌, length, Option, Some, None, refl, sym, ap, subst, ◌∙◌, ◌⊎◌, inl, inr, arith}
+use Rattle.std.specs.Prelude.{slice_get, slice_set, map, nat_lt, unwrap_or}
+use Rattle.std.specs.Map.{lookup}
+use Rattle.std.specs.Str.{bytes_eq}
+use Rattle.std.proofs.lemmas.Bool.{cases_lt}
+use Rattle.std.proofs.lemmas.Bool.Decides.{nat_tests}
+use Rattle.std.proofs.lemmas.List.{append-nil, length_push, map-append}
+use Rattle.std.proofs.lemmas.Option.{slice_get_past}
+use Rattle.std.proofs.lemmas.Slice.Eq.{bytes_eq-Decides}
+use Rattle.edit_document.specs.declared.nodes.Span.{Span}
+use Rattle.edit_document.specs.declared.nodes.Taken.{Taken}
+use Rattle.edit_document.specs.declared.nodes.Taken.TheVariants as takings
+use Rattle.edit_document.specs.declared.nodes.Taken.TheVariants.{Dotted, Super, Header, Array, Element}
+use Rattle.edit_document.specs.Assertions.{Step, key, index, Place, at, Kind, dotted, leaf, super, header_kind, array_kind, element_kind, Assertion, asserts, elements_at, resolved}
+use Rattle.edit_document.specs.Grammar.{Value, basic, literal, multi_basic, multi_literal, boolean, integer, float, datetime, array, inline}
+use Rattle.edit_document.specs.Tree.{kind_at}
+use Rattle.edit_document.specs.DocumentLayout.{shape_of_value, Placed}
+use Rattle.edit_document.specs.Taking.{taken_of, joins}
+use Rattle.edit_document.specs.Nodes.{Shape, section, Spot, StandsAt, below}
+use Rattle.edit_document.specs.Walk.{last_of, last_table, spot_at, target_of, with_taken, taken_again, with_member, with_element, added, element_added, numbered, asserted}
+use Rattle.edit_document.proofs.SamePlace.{not_root}
+use Rattle.edit_document.proofs.ListElements.{get_front, get_last, equal_or}
+use Rattle.edit_document.proofs.Adding.{child_is, target_is, target_other, added_long, added_made, element_long, element_made}
+use Rattle.edit_document.proofs.Reaching.{asserted_new, asserted_old}
+use Rattle.edit_document.proofs.MoreAssertions.{first_kind, allowed, IsClear, clash_last, short_last, is_element, is_headed, elements_below, elements_none}
+use Rattle.edit_document.proofs.Trees.{Grows, grows_set, Gains}
+use Rattle.edit_document.proofs.Standing.{IsIndexed, noted, shape_of_kind, Stands, was_asserted, nothing_below_spot, nothing_under, stands_again}
+use Rattle.edit_document.proofs.Gaining.{Shows, stands_gained, gained_grows, gained_last}
+
+-- the spots stand for one assertion more, whose place has a number; or it clashes
+pub data Makes (made : List Assertion) (written : List Placed) (spots : List Spot) (a : Assertion) (more : List Placed) (r : Option (List Spot × ℕ)) : Type 0 where
+  makes : (now : List Spot) (j : ℕ) → r ≡ Some (now, j) → Stands (made ++ a ∷ []) (written ++ more) now → StandsAt now j a.place → Grows spots now → Makes made written spots a more r
+  fails : r ≡ None → (IsClear (made ++ a ∷ []) → ⊥) → Makes made written spots a more r
+
+pub makes_along : {made : List Assertion} {written : List Placed} {spots : List Spot} {a : Assertion} {more : List Placed} {r q : Option (List Spot × ℕ)} → q ≡ r → Makes made written spots a more r → Makes made written spots a more q
+makes_along e (makes now j h s p g) = makes now j (e ∙ h) s p g
+makes_along e (fails h c) = fails (e ∙ h) c
+
+-- ---- a place that is taken again
+
+again_is : (spots : List Spot) (j : ℕ) (s : Spot) (taken : Taken) (b : Bool) → slice_get spots j ≡ Some s → joins s.taken taken ≡ b → taken_again spots j taken ≡ cond b (Some (slice_set spots j (with_taken s taken))) None
+unfolding taken_again
+again_is spots j s taken b e h = rw (e, h) refl
+
+pub again_makes : (made : List Assertion) (written : List Placed) (spots : List Spot) (j : ℕ) (s : Spot) (a : Assertion) → Stands made written spots → slice_get spots j ≡ Some s → a.place ≡ s.place → (s.place ≡ [] → ⊥) → is_element a.kind ≡ false
+    → Makes made written spots a [] (numbered j (taken_again spots j (taken_of a.kind)))
+again_makes made written spots j s a st here place inner plain = go (joins s.taken (taken_of a.kind)) refl
+  where
+    go : (b : Bool) → joins s.taken (taken_of a.kind) ≡ b → Makes made written spots a [] (numbered j (taken_again spots j (taken_of a.kind)))
+    go true fits =
+        let now = slice_set spots j (with_taken s (taken_of a.kind)) in
+        makes now j (ap (numbered j) (again_is spots j s (taken_of a.kind) true here fits))
+        (subst (λ (w : List Placed). Stands (made ++ a ∷ []) w now) (sym (append-nil written)) (stands_again made written spots j s a st here place inner fits plain))
+        (grows_set spots j s (with_taken s (taken_of a.kind)) here refl j a.place (s, here, sym place)) (grows_set spots j s (with_taken s (taken_of a.kind)) here refl)
+    go false stops =
+        fails (ap (numbered j) (again_is spots j s (taken_of a.kind) false here stops))
+        (λ clear.
+        let fits : allowed made a.place a.kind ≡ true = clash_last made a clear in
+        let says : allowed made a.place a.kind ≡ joins s.taken (taken_of a.kind) = ap (λ (q : Place). allowed made q a.kind) place ∙ (st.tells j s here).joined inner a.kind in
+        let clash : true ≡ false = sym fits ∙ says ∙ stops in
+        cc)
+
+-- ---- a member more
+
+lookup_more : (ms : List (List ℕ × ℕ)) (name q : List ℕ) (number : ℕ) (o : Option ℕ) → lookup (λ n. bytes_eq q n) ms ≡ o → o ≡ None → bytes_eq q name ≡ true → lookup (λ n. bytes_eq q n) (ms ++ (name, number) ∷ []) ≡ Some number
+lookup_more [] name q number o e none same = rw same refl
+lookup_more (m ∷ ms) name q number o e none same = go (bytes_eq q m.0) (e ∙ none) (λ h. lookup_more ms name q number None h refl same)
+  where
+    go : (b : Bool) → cond b (Some m.1) (lookup (λ n. bytes_eq q n) ms) ≡ None → (lookup (λ n. bytes_eq q n) ms ≡ None → lookup (λ n. bytes_eq q n) (ms ++ (name, number) ∷ []) ≡ Some number)
+        → cond b (Some m.1) (lookup (λ n. bytes_eq q n) (ms ++ (name, number) ∷ [])) ≡ Some number
+    go true h ih = absurd cc
+    go false h ih = ih h
+
+lookup_else : (ms : List (List ℕ × ℕ)) (name q : List ℕ) (number : ℕ) → bytes_eq q name ≡ false → lookup (λ n. bytes_eq q n) (ms ++ (name, number) ∷ []) ≡ lookup (λ n. bytes_eq q n) ms
+lookup_else [] name q number e = rw e refl
+lookup_else (m ∷ ms) name q number e = ap (λ (o : Option ℕ). cond (bytes_eq q m.0) (Some m.1) o) (lookup_else ms name q number e)
+
+not_same : (q name : List ℕ) → (q ≡ name → ⊥) → bytes_eq q name ≡ false
+not_same q name ne = go (bytes_eq q name) refl
+  where
+    go : (b : Bool) → bytes_eq q name ≡ b → bytes_eq q name ≡ false
+    go true e = absurd (ne ((bytes_eq-Decides q name).0 e))
+    go false e = e
+
+member_gains : (s : Spot) (name : List ℕ) (number : ℕ) → below s (key name) ≡ None → Gains s (with_member s name number) (key name) number
+member_gains s name number none = record {
+  place = refl;
+  gained = lookup_more s.members name name number None none refl ((bytes_eq-Decides name name).1 refl);
+  others = elsewhere;
+  absent = none;
+}
+  where
+    elsewhere : (y : Step) → (y ≡ key name → ⊥) → below (with_member s name number) y ≡ below s y
+    elsewhere (key q) ne = lookup_else s.members name q number (not_same q name (λ e. ne (ap key e)))
+    elsewhere (index i) ne = refl
+
+member_shows : (s : Spot) (name : List ℕ) (number : ℕ) → Shows s (with_member s name number) (key name)
+member_shows s name number = record { shape = refl; taken = refl; span = refl; names = map-append (λ (e : List ℕ × ℕ). e.0) s.members ((name, number) ∷ []); count = refl }
+
+too_long : (made : List Assertion) (a : Assertion) (p : Place) (x : Step) → a.place ≡ at p x → 80 ≤ length p → IsClear (made ++ a ∷ []) → ⊥
+too_long made a p x place le clear =
+    let short : length a.place ≤ 80 = short_last made a clear in
+    let size : length a.place ≡ length (at p x) = ap length place in
+    let more : length (at p x) ≡ length p + 1 = length_push p x in
+    omega arith
+
+added_makes : (made : List Assertion) (written : List Placed) (spots : List Spot) (t : ℕ) (s : Spot) (name : List ℕ) (a : Assertion) (span : Option Span) → Stands made written spots → slice_get spots t ≡ Some s → below s (key name) ≡ None → a.place ≡ at s.place (key name)
+    → is_element a.kind ≡ false → Makes made written spots a (noted a.place span) (added spots t name (shape_of_kind a.kind) (taken_of a.kind) span)
+added_makes made written spots t s name a span st here none place plain = elim (cases_lt (length s.place) 80) [
+  | inl few ↦
+      let s2 = with_member s name (length spots) in
+      let gains = member_gains s name (length spots) none in
+      let shows = member_shows s name (length spots) in
+      let indexed : (i : ℕ) → key name ≡ index i → IsIndexed made s.place i = λ i e. absurd cc in
+      let unindexed : (k : Kind) → first_kind made s.place ≡ Some k → is_headed k ≡ true → is_element a.kind ≡ false = λ k f e. plain in
+      let last = spot_at a.place (shape_of_kind a.kind) (taken_of a.kind) span in
+      let is : added spots t name (shape_of_kind a.kind) (taken_of a.kind) span ≡ Some (slice_set spots t s2 ++ last ∷ [], length spots) =
+      added_made spots t name (shape_of_kind a.kind) (taken_of a.kind) span s here few
+      ∙ ap (λ (p : Place). Some (slice_set spots t (with_member s name (length spots)) ++ spot_at p (shape_of_kind a.kind) (taken_of a.kind) span ∷ [], length spots)) (sym place) in
+      makes (slice_set spots t s2 ++ last ∷ []) (length spots) is (stands_gained made written spots t s s2 (key name) a span st here gains shows place unindexed indexed few)
+      (gained_last made written spots t s s2 (key name) a span st here gains shows place unindexed indexed few) (gained_grows made written spots t s s2 (key name) a span st here gains shows place unindexed indexed few)
+  | inr many ↦ fails (added_long spots t name (shape_of_kind a.kind) (taken_of a.kind) span s here many) (too_long made a s.place (key name) place many)
+]
+
+-- only a value has a span
+abbrev pub IsSpanFor : Kind → Option Span → Type 0
+IsSpanFor k span = (span ≡ None) ⊎ (taken_of k ≡ takings.Value)
+
+no_value_again : (t : Taken) → joins t takings.Value ≡ true → ⊥
+no_value_again Dotted e = cc
+no_value_again takings.Value e = cc
+no_value_again Super e = cc
+no_value_again Header e = cc
+no_value_again Array e = cc
+no_value_again Element e = cc
+
+-- a span of a place that is taken again
+more_none : (made : List Assertion) (written : List Placed) (spots : List Spot) (a : Assertion) (span : Option Span) (r : Option (List Spot × ℕ)) (j : ℕ) (s : Spot) → Stands made written spots → slice_get spots j ≡ Some s → a.place ≡ s.place → (s.place ≡ [] → ⊥) → IsSpanFor a.kind span
+    → Makes made written spots a [] r → Makes made written spots a (noted a.place span) r
+more_none made written spots a span r j s st here place inner (inl e) m = subst (λ (o : Option Span). Makes made written spots a (noted a.place o) r) (sym e) m
+more_none made written spots a span r j s st here place inner (inr e) (fails h c) = fails h c
+more_none made written spots a span r j s st here place inner (inr e) (makes now k h stands p g) =
+    let fits : allowed made a.place a.kind ≡ true = clash_last made a stands.clear in
+    let says : allowed made a.place a.kind ≡ joins s.taken (taken_of a.kind) = ap (λ (q : Place). allowed made q a.kind) place ∙ (st.tells j s here).joined inner a.kind in
+    absurd (no_value_again s.taken (ap (joins s.taken) (sym e) ∙ sym says ∙ fits))
+
+-- a member is asserted, by any kind but that of a header that goes on below it
+pub member_makes : (made : List Assertion) (written : List Placed) (spots : List Spot) (t : ℕ) (s : Spot) (name : List ℕ) (a : Assertion) (span : Option Span) → Stands made written spots → slice_get spots t ≡ Some s → a.place ≡ at s.place (key name)
+    → is_element a.kind ≡ false → (taken_of a.kind ≡ Super → ⊥) → IsSpanFor a.kind span → Makes made written spots a (noted a.place span) (asserted spots t name (shape_of_kind a.kind) (taken_of a.kind) span)
+member_makes made written spots t s name a span st here place plain kind spanned = go (below s (key name)) refl
+  where
+    go : (o : Option ℕ) → below s (key name) ≡ o → Makes made written spots a (noted a.place span) (asserted spots t name (shape_of_kind a.kind) (taken_of a.kind) span)
+    go None e =
+        makes_along (asserted_new spots t name (shape_of_kind a.kind) (taken_of a.kind) span (child_is spots t s name here ∙ e)) (added_makes made written spots t s name a span st here e place plain)
+    go (Some j) e =
+        let d = st.tree.down t j s (key name) here e in
+        let same : a.place ≡ d.0.place = place ∙ sym d.2 in
+        let inner : d.0.place ≡ [] → ⊥ = λ root. not_root s.place (key name) (sym d.2 ∙ root) in
+        let target : target_of spots j (taken_of a.kind) ≡ j = target_other spots j (taken_of a.kind) kind in
+        makes_along
+        (asserted_old spots t j name (shape_of_kind a.kind) (taken_of a.kind) span (child_is spots t s name here ∙ e) ∙ ap (λ (n : ℕ). numbered n (taken_again spots n (taken_of a.kind))) target)
+        (more_none made written spots a span (numbered j (taken_again spots j (taken_of a.kind))) j d.0 st d.1 same inner spanned (again_makes made written spots j d.0 a st d.1 same inner plain))
+
+-- ---- a header that goes on below a member
+
+resolved_by : (earlier : List Assertion) (p : Place) (n : ℕ) → elements_at earlier p ≡ n → resolved earlier p ≡ cond (nat_lt 0 n) (at p (index (n - 1))) p
+resolved_by earlier p n e = ap (λ (m : ℕ). cond (nat_lt 0 m) (at p (index (m - 1))) p) e
+
+-- what has no table of its own among its elements
+no_table : (v : Value) (numbers : List ℕ) → last_table (shape_of_value v) numbers ≡ None
+no_table (basic ps) numbers = refl
+no_table (literal text) numbers = refl
+no_table (multi_basic ps) numbers = refl
+no_table (multi_literal ps) numbers = refl
+no_table (boolean b) numbers = refl
+no_table (integer n) numbers = refl
+no_table (float f) numbers = refl
+no_table (datetime d) numbers = refl
+no_table (array g es) numbers = refl
+no_table (inline g ms) numbers = refl
+
+no_last : (k : Kind) (numbers : List ℕ) → (k ≡ array_kind → ⊥) → last_table (shape_of_kind k) numbers ≡ None
+no_last (dotted true) numbers ne = refl
+no_last (dotted false) numbers ne = refl
+no_last (leaf v) numbers ne = no_table v numbers
+no_last super numbers ne = refl
+no_last header_kind numbers ne = refl
+no_last array_kind numbers ne = absurd (ne refl)
+no_last element_kind numbers ne = refl
+
+array_or : (k : Kind) → (k ≡ array_kind) ⊎ (k ≡ array_kind → ⊥)
+array_or (dotted b) = inr (λ e. cc)
+array_or (leaf v) = inr (λ e. cc)
+array_or super = inr (λ e. cc)
+array_or header_kind = inr (λ e. cc)
+array_or array_kind = inl refl
+array_or element_kind = inr (λ e. cc)
+
+pub super_makes : (made earlier : List Assertion) (written : List Placed) (spots : List Spot) (t : ℕ) (s : Spot) (name : List ℕ) (by : Place) → Stands made written spots → slice_get spots t ≡ Some s
+    → ((p : Place) → elements_at earlier p ≡ elements_below made p) → ((p : Place) → (elements_at earlier p ≡ 0) ⊎ (kind_at made p ≡ Some array_kind))
+    → Makes made written spots (asserts by (resolved earlier (at s.place (key name))) super) [] (asserted spots t name section Super None)
+super_makes made earlier written spots t s name by st here even alone = go (below s (key name)) refl
+  where
+    p : Place
+    p = at s.place (key name)
+
+    a : Assertion
+    a = asserts by (resolved earlier (at s.place (key name))) super
+
+    taken_at : (j e : ℕ) (d : Spot) (q : Place) → below s (key name) ≡ Some j → target_of spots j Super ≡ e → slice_get spots e ≡ Some d → d.place ≡ q → resolved earlier (at s.place (key name)) ≡ q → (q ≡ [] → ⊥)
+        → Makes made written spots (asserts by (resolved earlier (at s.place (key name))) super) [] (asserted spots t name section Super None)
+    taken_at j e d q b target stands place is inner =
+        makes_along (asserted_old spots t j name section Super None (child_is spots t s name here ∙ b) ∙ ap (λ (n : ℕ). numbered n (taken_again spots n Super)) target)
+        (again_makes made written spots e d (asserts by (resolved earlier (at s.place (key name))) super) st stands (is ∙ sym place) (λ root. inner (sym place ∙ root)) refl)
+
+    counted : (j : ℕ) (d : Spot) → (stands : slice_get spots j ≡ Some d) → (st.tells j d stands).kind ≡ array_kind → d.place ≡ at s.place (key name) → elements_at earlier (at s.place (key name)) ≡ length d.elements
+    counted j d stands kind place = even (at s.place (key name)) ∙ ap (elements_below made) (sym place) ∙ sym ((st.tells j d stands).count (ap is_headed kind))
+
+    last_is : (j : ℕ) (d : Spot) → (stands : slice_get spots j ≡ Some d) → (st.tells j d stands).kind ≡ array_kind → last_table d.shape d.elements ≡ last_of d.elements
+    last_is j d stands kind = ap (λ (x : Shape). last_table x d.elements) ((st.tells j d stands).shape ∙ ap shape_of_kind kind)
+
+    some : (j : ℕ) (d : Spot) (n : ℕ) → below s (key name) ≡ Some j → (stands : slice_get spots j ≡ Some d) → (st.tells j d stands).kind ≡ array_kind → d.place ≡ at s.place (key name) → length d.elements ≡ n → Makes made written spots (asserts by (resolved earlier (at s.place (key name))) super) [] (asserted spots t name section Super None)
+    some j d zero b stands kind place size =
+        let none : last_of d.elements ≡ None = slice_get_past d.elements (length d.elements - 1) (omega arith) in
+        taken_at j j d (at s.place (key name)) b (target_is spots j d stands ∙ ap (λ (o : Option ℕ). unwrap_or o j) (last_is j d stands kind ∙ none)) stands place (resolved_by earlier (at s.place (key name)) 0 (counted j d stands kind place ∙ size)) (not_root s.place (key name))
+    some j d (suc n) b stands kind place size =
+        let lt : n < length d.elements = omega arith in
+        let l = last_some d.elements n lt in
+        let number : length d.elements - 1 ≡ n = omega arith in
+        let less : suc n - 1 ≡ n = omega arith in
+        let positive : nat_lt 0 (suc n) ≡ true = grind (arith, nat_tests) in
+        let last : last_of d.elements ≡ Some l.0 = ap (slice_get d.elements) number ∙ l.1 in
+        let e = st.tree.down j l.0 d (index n) stands l.1 in
+        let upper : e.0.place ≡ at (at s.place (key name)) (index n) = e.2 ∙ ap (λ (q : Place). at q (index n)) place in
+        taken_at j l.0 e.0 (at (at s.place (key name)) (index n)) b (target_is spots j d stands ∙ ap (λ (o : Option ℕ). unwrap_or o j) (last_is j d stands kind ∙ last)) e.1 upper (resolved_by earlier (at s.place (key name)) (suc n) (counted j d stands kind place ∙ size) ∙ ap (λ (b : Bool). cond b (at (at s.place (key name)) (index (suc n - 1))) (at s.place (key name))) positive ∙ ap (λ (m : ℕ). at (at s.place (key name)) (index m)) less) (not_root (at s.place (key name)) (index n))
+      where
+        last_some : (xs : List ℕ) (i : ℕ) → i < length xs → (x : ℕ) × (slice_get xs i ≡ Some x)
+        last_some xs i lt = pick (slice_get xs i) refl
+          where
+            pick : (o : Option ℕ) → slice_get xs i ≡ o → (x : ℕ) × (slice_get xs i ≡ Some x)
+            pick (Some x) e = (x, e)
+            pick None e = absurd (past xs i lt e)
+              where
+                past : (xs : List ℕ) (i : ℕ) → i < length xs → slice_get xs i ≡ None → ⊥
+                past [] i lt e = omega arith
+                past (x ∷ xs) zero lt e = cc
+                past (x ∷ xs) (suc i) lt e = past xs i (omega arith) e
+
+    -- no array of tables
+    none : (j : ℕ) (d : Spot) → below s (key name) ≡ Some j → (stands : slice_get spots j ≡ Some d) → ((st.tells j d stands).kind ≡ array_kind → ⊥) → d.place ≡ at s.place (key name) → Makes made written spots (asserts by (resolved earlier (at s.place (key name))) super) [] (asserted spots t name section Super None)
+    none j d b stands other place =
+        let told = st.tells j d stands in
+        let bare : last_table d.shape d.elements ≡ None = ap (λ (x : Shape). last_table x d.elements) told.shape ∙ no_last told.kind d.elements other in
+        let inner : d.place ≡ [] → ⊥ = λ root. not_root s.place (key name) (sym place ∙ root) in
+        let zero_elements : elements_at earlier (at s.place (key name)) ≡ 0 = elim (alone (at s.place (key name))) [
+          | inl e ↦ e
+          | inr k ↦ absurd (other (let same : Some told.kind ≡ Some array_kind = sym (was_asserted told inner) ∙ ap (kind_at made) place ∙ k in cc))
+        ] in
+        taken_at j j d (at s.place (key name)) b (target_is spots j d stands ∙ ap (λ (o : Option ℕ). unwrap_or o j) bare) stands place (resolved_by earlier (at s.place (key name)) 0 zero_elements) (not_root s.place (key name))
+
+    go : (o : Option ℕ) → below s (key name) ≡ o → Makes made written spots (asserts by (resolved earlier (at s.place (key name))) super) [] (asserted spots t name section Super None)
+    go None e =
+        let nothing = nothing_below_spot made written spots t s (key name) st here e in
+        let zero_elements : elements_at earlier (at s.place (key name)) ≡ 0 =
+        even (at s.place (key name)) ∙ elements_none made (at s.place (key name)) (λ y. nothing_under made written spots (at s.place (key name)) y st (not_root s.place (key name)) nothing) in
+        let is : resolved earlier (at s.place (key name)) ≡ at s.place (key name) = resolved_by earlier (at s.place (key name)) 0 zero_elements in
+        makes_along (asserted_new spots t name section Super None (child_is spots t s name here ∙ e)) (added_makes made written spots t s name (asserts by (resolved earlier (at s.place (key name))) super) None st here e is refl)
+    go (Some j) e =
+        let d = st.tree.down t j s (key name) here e in
+        elim (array_or (st.tells j d.0 d.1).kind) [
+          | inl kind ↦ some j d.0 (length d.0.elements) e d.1 kind d.2 refl
+          | inr other ↦ none j d.0 e d.1 other d.2
+        ]
+
+-- ---- an element more
+
+element_gains : (s : Spot) (number : ℕ) → Gains s (with_element s number) (index (length s.elements)) number
+element_gains s number = record { place = refl; gained = get_last s.elements number; others = elsewhere; absent = slice_get_past s.elements (length s.elements) (omega arith) }
+  where
+    elsewhere : (y : Step) → (y ≡ index (length s.elements) → ⊥) → below (with_element s number) y ≡ below s y
+    elsewhere (key q) ne = refl
+    elsewhere (index i) ne = elim (cases_lt i (length s.elements)) [
+      | inl lt ↦ get_front s.elements (number ∷ []) i lt
+      | inr le ↦ elim (equal_or i (length s.elements)) [
+        | inl same ↦ absurd (ne (ap index same))
+        | inr off ↦
+            let more : length (s.elements ++ number ∷ []) ≡ length s.elements + 1 = length_push s.elements number in
+            slice_get_past (s.elements ++ number ∷ []) i (let apart : i ≡ length s.elements → ⊥ = off in omega arith) ∙ sym (slice_get_past s.elements i le)
+      ]
+    ]
+
+element_shows : (s : Spot) (number : ℕ) → Shows s (with_element s number) (index (length s.elements))
+element_shows s number = record { shape = refl; taken = refl; span = refl; names = sym (append-nil (map (λ (e : List ℕ × ℕ). e.0) s.members)); count = length_push s.elements number ∙ (let n : length s.elements + 1 ≡ suc (length s.elements) = omega arith in n) }
+
+pub element_makes : (made : List Assertion) (written : List Placed) (spots : List Spot) (t : ℕ) (s : Spot) (a : Assertion) (span : Option Span) → Stands made written spots → slice_get spots t ≡ Some s → a.place ≡ at s.place (index (length s.elements))
+    → ((k : Kind) → first_kind made s.place ≡ Some k → is_headed k ≡ true → is_element a.kind ≡ true) → IsIndexed made s.place (length s.elements) → Makes made written spots a (noted a.place span) (element_added spots t (shape_of_kind a.kind) (taken_of a.kind) span)
+element_makes made written spots t s a span st here place plain lists = elim (cases_lt (length s.place) 80) [
+  | inl few ↦
+      let x = index (length s.elements) in
+      let s2 = with_element s (length spots) in
+      let gains = element_gains s (length spots) in
+      let shows = element_shows s (length spots) in
+      let indexed : (i : ℕ) → index (length s.elements) ≡ index i → IsIndexed made s.place i = λ i e. subst (IsIndexed made s.place) (let same : length s.elements ≡ i = cc in same) lists in
+      let last = spot_at a.place (shape_of_kind a.kind) (taken_of a.kind) span in
+      let is : element_added spots t (shape_of_kind a.kind) (taken_of a.kind) span ≡ Some (slice_set spots t s2 ++ last ∷ [], length spots) =
+      element_made spots t (shape_of_kind a.kind) (taken_of a.kind) span s here few
+      ∙ ap (λ (p : Place). Some (slice_set spots t (with_element s (length spots)) ++ spot_at p (shape_of_kind a.kind) (taken_of a.kind) span ∷ [], length spots)) (sym place) in
+      makes (slice_set spots t s2 ++ last ∷ []) (length spots) is (stands_gained made written spots t s s2 x a span st here gains shows place plain indexed few)
+      (gained_last made written spots t s s2 x a span st here gains shows place plain indexed few) (gained_grows made written spots t s s2 x a span st here gains shows place plain indexed few)
+  | inr many ↦ fails (element_long spots t (shape_of_kind a.kind) (taken_of a.kind) span s here many) (too_long made a s.place (index (length s.elements)) place many)
+]

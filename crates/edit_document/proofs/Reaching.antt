@@ -1,0 +1,94 @@
+-- Members that are asserted, and the front parts of a key, as the code takes them.
+use Rattle.std.proofs.Common.{◌≡◌, ℕ, zero, suc, ◌+◌, ◌<◌, ◌≤◌, true, false, cond, List, [], ◌∷◌, ◌++◌, length, drop, get_or, Option, Some, None, refl, sym, ap, subst, ◌∙◌, ◌⊎◌, inl, inr, arith, String, Global}
+use Rattle.std.specs.Prelude.{map, slice_get, slice_set, string_bytes, nat_le, unwrap_or}
+use Rattle.std.specs.Map.{lookup}
+use Rattle.std.specs.Str.{bytes_eq}
+use Rattle.std.proofs.lemmas.Bool.{cases_lt}
+use Rattle.std.proofs.lemmas.Bool.Decides.{nat_tests}
+use Rattle.std.proofs.lemmas.List.{length-set, length_push, map-append}
+use Rattle.std.proofs.lemmas.Option.{slice_get_past, slice_get_read, slice_get_within, same_Some}
+use Rattle.std.specs.String.{string_eq}
+use Rattle.indexmap.specs.IndexMap.{get_by_text, insert_entry}
+use Rattle.indexmap.proofs.CallerLemmas.{insert_entry-new}
+use Rattle.edit_document.specs.declared.nodes.Node.{Node}
+use Rattle.edit_document.specs.declared.nodes.Span.{Span}
+use Rattle.edit_document.specs.declared.nodes.Content.{Content}
+use Rattle.edit_document.specs.declared.nodes.Taken.{Taken}
+use Rattle.edit_document.specs.declared.nodes.Taken.TheVariants.{Dotted, Value, Super, Header, Array, Element}
+use Rattle.edit_document.specs.Assertions.{key, index, Place, at}
+use Rattle.edit_document.specs.Reading.{◌>>=◌}
+use Rattle.edit_document.specs.Taking.{joins, stronger}
+use Rattle.edit_document.specs.Nodes.{Shape, section, Spot, shape_of, Keeps, Holds, below}
+use Rattle.edit_document.specs.Walk.{last_of, spot_at, child, target_of, with_taken, taken_again, with_member, with_element, added, element_added, asserted_at, asserted, numbered, reached}
+use Rattle.edit_document.specs.WalkState.{Adds, Puts}
+use Rattle.edit_document.proofs.ListElements.{OneMore, OneSet, changed, drop_from, equal_or, get_front, get_last, get_set_other, get_set_same, in_push, in_set, newest, other, slice_get_same, stood}
+use Rattle.edit_document.proofs.Adding.{Extended, Inserted, Kept, Starts, add_done, add_stopped, added_long, added_made, added_past, again_done, again_past, again_stopped, below_node, child_found, child_is, child_past, element_done, element_long, element_made, element_past, element_stopped, holds_push, holds_set, kept_at, spot_of_node, target_found, target_is, target_other, target_past}
+
+-- ---- members asserted
+
+pub asserted_new : (spots : List Spot) (t : ℕ) (name : List ℕ) (shape : Shape) (taken : Taken) (span : Option Span) → child spots t name ≡ None → asserted spots t name shape taken span ≡ added spots t name shape taken span
+unfolding asserted
+asserted_new spots t name shape taken span e = ap (λ (o : Option ℕ). asserted_at o spots t name shape taken span) e
+
+pub asserted_old : (spots : List Spot) (t j : ℕ) (name : List ℕ) (shape : Shape) (taken : Taken) (span : Option Span) → child spots t name ≡ Some j
+    → asserted spots t name shape taken span ≡ asserted_at (Some j) spots t name shape taken span
+unfolding asserted
+asserted_old spots t j name shape taken span e = ap (λ (o : Option ℕ). asserted_at o spots t name shape taken span) e
+
+pub asserted_refused : (spots : List Spot) (t j place : ℕ) (name : List ℕ) (shape : Shape) (taken : Taken) (span : Option Span) → child spots t name ≡ Some j → place ≡ target_of spots j taken → taken_again spots place taken ≡ None
+    → asserted spots t name shape taken span ≡ None
+asserted_refused spots t j place name shape taken span some is none =
+    asserted_old spots t j name shape taken span some ∙ ap (λ (o : Option (List Spot)). numbered (target_of spots j taken) o) (ap (λ (n : ℕ). taken_again spots n taken) (sym is) ∙ none)
+
+pub asserted_again : (nodes : List Node) (spots : List Spot) (t j place : ℕ) (name : List ℕ) (shape : Shape) (taken : Taken) (span : Option Span) → child spots t name ≡ Some j → place ≡ target_of spots j taken
+    → Adds nodes (taken_again spots place taken) true → Puts nodes (asserted spots t name shape taken span) (Some place)
+asserted_again nodes spots t j place name shape taken span some is (spots2, made, holds) = (
+  spots2,
+  asserted_old spots t j name shape taken span some ∙ ap (λ (n : ℕ). numbered n (taken_again spots n taken)) (sym is) ∙ ap (numbered place) made,
+  holds,
+)
+
+-- ---- the front parts of a key
+
+-- the parts that are left lead on from a table
+pub record Reaches (nodes : List Node) (total : Option (List Spot × ℕ)) (table : ℕ) (left : List (List ℕ)) (shape : Shape) (taken : Taken) : Type 0 where
+  pub spots : List Spot
+  pub holds : Holds nodes spots
+  pub same : total ≡ reached spots table left shape taken
+
+pub reaches_start : (nodes : List Node) (spots : List Spot) (table : ℕ) (names : List (List ℕ)) (shape : Shape) (taken : Taken) → Holds nodes spots → Reaches nodes (reached spots table names shape taken) table names shape taken
+reaches_start nodes spots table names shape taken holds = record { spots = spots; holds = holds; same = refl }
+
+pub reached_more : (spots : List Spot) (t : ℕ) (name : List ℕ) (names : List (List ℕ)) (shape : Shape) (taken : Taken) → reached spots t (name ∷ names) shape taken ≡ (asserted spots t name shape taken None >>= λ r. reached r.0 r.1 names shape taken)
+unfolding reached
+reached_more spots t name names shape taken = refl
+
+pub reached_none : (spots : List Spot) (t : ℕ) (shape : Shape) (taken : Taken) → reached spots t [] shape taken ≡ Some (spots, t)
+unfolding reached
+reached_none spots t shape taken = refl
+
+pub reaches_turn : (nodes nodes2 : List Node) (total : Option (List Spot × ℕ)) (t next : ℕ) (name : List ℕ) (left : List (List ℕ)) (shape : Shape) (taken : Taken) → (r : Reaches nodes total t (name ∷ left) shape taken)
+    → Puts nodes2 (asserted r.spots t name shape taken None) (Some next) → Reaches nodes2 total next left shape taken
+reaches_turn nodes nodes2 total t next name left shape taken r (spots, made, holds) = record {
+  spots = spots;
+  holds = holds;
+  same = r.same ∙ reached_more r.spots t name left shape taken ∙ ap (λ (o : Option (List Spot × ℕ)). o >>= λ q. reached q.0 q.1 left shape taken) made;
+}
+
+pub reaches_stop : (nodes : List Node) (total : Option (List Spot × ℕ)) (t : ℕ) (name : List ℕ) (left : List (List ℕ)) (shape : Shape) (taken : Taken) → (r : Reaches nodes total t (name ∷ left) shape taken)
+    → asserted r.spots t name shape taken None ≡ None → total ≡ None
+reaches_stop nodes total t name left shape taken r none =
+    r.same ∙ reached_more r.spots t name left shape taken ∙ ap (λ (o : Option (List Spot × ℕ)). o >>= λ q. reached q.0 q.1 left shape taken) none
+
+pub reaches_end : (nodes : List Node) (total : Option (List Spot × ℕ)) (t : ℕ) (shape : Shape) (taken : Taken) → Reaches nodes total t [] shape taken → Puts nodes total (Some t)
+reaches_end nodes total t shape taken r = (r.spots, r.same ∙ reached_none r.spots t shape taken, r.holds)
+
+-- the next front part
+pub reaches_next : (nodes : List Node) (total : Option (List Spot × ℕ)) (t i : ℕ) (fronts : List (String Global)) (item : String Global) (shape : Shape) (taken : Taken) → i < length fronts → item ≡ get_or fronts i item
+    → Reaches nodes total t (map string_bytes (drop i fronts)) shape taken → Reaches nodes total t (string_bytes item ∷ map string_bytes (drop (i + 1) fronts)) shape taken
+reaches_next nodes total t i fronts item shape taken lt is r =
+    subst (λ (ns : List (String Global)). Reaches nodes total t (map string_bytes ns) shape taken) (drop_from fronts i item (slice_get_read fronts (length fronts) i item refl lt is)) r
+
+pub front_made : (nodes : List Node) (spots : List Spot) (t : ℕ) (seen name : List ℕ) (made shape : Shape) (taken : Taken) (r q : Option ℕ) → seen ≡ name → made ≡ shape → r ≡ q → Puts nodes (asserted spots t seen made taken None) r → Puts nodes (asserted spots t name shape taken None) q
+front_made nodes spots t seen name made shape taken r q a b e h =
+    subst (Puts nodes (asserted spots t name shape taken None)) e (subst (λ (n : List ℕ). Puts nodes (asserted spots t n shape taken None) r) a (subst (λ (s : Shape). Puts nodes (asserted spots t seen s taken None) r) b h))

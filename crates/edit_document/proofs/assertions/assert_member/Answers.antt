@@ -1,0 +1,36 @@
+use Rattle.std.proofs.Common.{◌≡◌, ℕ, List, Option, Some, None, Bool, true, false, sym, ap, ◌∙◌, subst}
+use Rattle.std.specs.Prelude.{string_bytes, IfOk}
+use Rattle.edit_document.specs.declared.nodes.Node.{Node}
+use Rattle.edit_document.specs.Nodes.{Spot, shape_of, Holds}
+use Rattle.edit_document.specs.Walk.{child, taken_again}
+use Rattle.edit_document.specs.WalkState.{Adds, Puts}
+use Rattle.edit_document.proofs.Reaching.{asserted_new, asserted_again, asserted_refused}
+use Rattle.edit_document.proofs.assertions.assert_member.Goals as goal
+
+pub returns-in_default-clause-made : goal.returns-in_default-clause-made
+returns-in_default-clause-made c spots holds =
+    let seen : Holds c.deref.result.now spots = subst (λ (ns : List Node). Holds ns spots) (sym c.deref.ensures.value) holds in
+    let none : child spots c.args.number (string_bytes c.args.name) ≡ None =
+    ap (child spots c.args.number) (sym c.as_str.ensures.value) ∙ sym (c.find.ensures spots seen) ∙ c.in_default.is in
+    subst (λ (o : Option (List Spot × ℕ)). IfOk c.add.result (Puts c.add.new.nodes.items o)) (sym (asserted_new spots c.args.number (string_bytes c.args.name) (shape_of c.args.content) c.args.taken c.args.span none))
+    (c.add.ensures.added spots holds none)
+
+pub returns-then-not-take_again-clause-made : goal.returns-then-not-take_again-clause-made
+returns-then-not-take_again-clause-made c spots holds =
+    let seen : Holds c.deref.result.now spots = subst (λ (ns : List Node). Holds ns spots) (sym c.deref.ensures.value) holds in
+    let seen2 : Holds c.deref-2.result.now spots = subst (λ (ns : List Node). Holds ns spots) (sym c.deref-2.ensures.value) holds in
+    let some : child spots c.args.number (string_bytes c.args.name) ≡ Some c.in-Some.member =
+    ap (child spots c.args.number) (sym c.as_str.ensures.value) ∙ sym (c.find.ensures spots seen) ∙ c.in-Some.is in
+    let adds : Adds c.take_again.new.nodes.items (taken_again spots c.target-place.result c.args.taken) false =
+    subst (λ (b : Bool). Adds c.take_again.new.nodes.items (taken_again spots c.target-place.result c.args.taken) b) c.if-not-take_again.true (c.take_again.ensures spots holds) in
+    asserted_refused spots c.args.number c.in-Some.member c.target-place.result (string_bytes c.args.name) (shape_of c.args.content) c.args.taken c.args.span some (c.target-place.ensures spots seen2) adds
+
+pub returns-clause-made : goal.returns-clause-made
+returns-clause-made c spots holds =
+    let seen : Holds c.deref.result.now spots = subst (λ (ns : List Node). Holds ns spots) (sym c.deref.ensures.value) holds in
+    let seen2 : Holds c.deref-2.result.now spots = subst (λ (ns : List Node). Holds ns spots) (sym c.deref-2.ensures.value) holds in
+    let some : child spots c.args.number (string_bytes c.args.name) ≡ Some c.in-Some.member =
+    ap (child spots c.args.number) (sym c.as_str.ensures.value) ∙ sym (c.find.ensures spots seen) ∙ c.in-Some.is in
+    let adds : Adds c.take_again.new.nodes.items (taken_again spots c.target-place.result c.args.taken) true =
+    subst (λ (b : Bool). Adds c.take_again.new.nodes.items (taken_again spots c.target-place.result c.args.taken) b) c.if-not-take_again.false (c.take_again.ensures spots holds) in
+    asserted_again c.take_again.new.nodes.items spots c.args.number c.in-Some.member c.target-place.result (string_bytes c.args.name) (shape_of c.args.content) c.args.taken c.args.span some (c.target-place.ensures spots seen2) adds
