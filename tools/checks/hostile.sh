@@ -18,6 +18,17 @@ for open in '[' '{a='; do
 done
 { printf 'a'; repeat '.a' 100000; printf ' = 1\n'; } > "$room/Cargo.toml"
 refused '100,000 parts in a key' 1
+for parts in 80 81; do
+  # the key of a pair, and a header, each of so many parts: a place has at most 80 steps
+  case $parts in 80) want=0 ;; *) want=1 ;; esac
+  { printf 'a'; repeat '.a' $((parts - 1)); printf ' = 1\n'; } > "$room/Cargo.toml"
+  refused "a key of $parts parts" "$want"
+  { printf '[a'; repeat '.a' $((parts - 1)); printf ']\n'; } > "$room/Cargo.toml"
+  refused "a header of $parts parts" "$want"
+done
+{ repeat '[[a]]
+' 100000; } > "$room/Cargo.toml"
+refused '100,000 elements' 0
 { printf 'a = "'; repeat x 1000000; printf '"\n'; } > "$room/Cargo.toml"
 refused 'a line of a megabyte' 0
 text='[dependencies]\nserde = { version = '"'"'1.0'"'"', optional = true } # keep\n'
