@@ -16,7 +16,7 @@ import tomllib
 
 from upgrade import measured
 
-HEADER = re.compile(r"^(\[\[?)(.*?)(\]\]?\s*(#.*)?)$")
+HEADER = re.compile(r"^(\s*\[\[?)(.*?)(\]\]?\s*(#.*)?)$")
 
 
 def under(name, text):
