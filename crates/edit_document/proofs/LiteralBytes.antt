@@ -1,10 +1,10 @@
 -- The bytes of a literal, one after the other.
-use Rattle.std.proofs.Common.{◌≡◌, ℕ, ◌+◌, ◌-◌, ◌<◌, ◌≤◌, Bool, true, false, ◌==◌, ◌||◌, nat_lt, List, [], ◌∷◌, ◌++◌, map, length, get_or, take, drop, length-drop, get_or-drop, append_assoc, append-nil, take_all, refl, sym, ap, ◌∙◌, lit<, arith}
+use Rattle.std.proofs.Common.{◌≡◌, ℕ, ◌+◌, ◌-◌, ◌<◌, ◌≤◌, true, false, ◌==◌, nat_lt, List, [], ◌∷◌, ◌++◌, map, length, get_or, take, drop, length-drop, get_or-drop, append_assoc, append-nil, take_all, refl, ap, ◌∙◌, lit<, arith}
 use Rattle.std.proofs.lemmas.Bool.Decides.{nat_tests}
 use Rattle.std.proofs.lemmas.List.{drop_more, take_more, drop_all}
-use Rattle.edit_document.specs.Characters.{quote, backslash}
-use Rattle.edit_document.specs.Strings.{Piece, plain, letter, short, piece, pieces}
-use Rattle.edit_document.specs.Literals.{literal_piece, literal_body, literal_bytes, escaped, is_escaped, hex_digit}
+use Rattle.edit_document.specs.Characters.{quote}
+use Rattle.edit_document.specs.Strings.{Piece, piece, pieces}
+use Rattle.edit_document.specs.Literals.{literal_piece, literal_body, literal_bytes, escaped, is_escaped}
 use Rattle.edit_document.proofs.PutBefore.{piece_before, pieces_before, Relation, IsKept}
 
 -- ---- what follows a piece stands behind its own bytes

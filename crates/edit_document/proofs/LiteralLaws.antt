@@ -1,11 +1,11 @@
 -- The string literal of a text is well formed and says the text, whatever the bytes of the text are.
-use Rattle.std.proofs.Common.{◌≡◌, ℕ, zero, suc, ◌<◌, ◌≤◌, Bool, true, false, not, ◌&&◌, ◌||◌, ◌==◌, nat_lt, nat_le, if◌then◌else◌, List, [], ◌∷◌, ◌++◌, map, length, refl, sym, ap, ap₂, ◌∙◌, subst, lit<, ◌⊎◌, inl, inr, ⊎_elim, true≢false, arith}
+use Rattle.std.proofs.Common.{◌≡◌, ℕ, zero, suc, ◌<◌, ◌≤◌, Bool, true, false, ◌&&◌, ◌==◌, nat_lt, nat_le, List, [], ◌∷◌, ◌++◌, map, length, refl, sym, ap, ◌∙◌, subst, lit<, ◌⊎◌, inl, inr, ⊎_elim, true≢false, arith}
 use Rattle.std.proofs.lemmas.Bool.{and_parts, cases_lt, eqb-true}
-use Rattle.std.specs.List.{AllByRecursion, list_all, flat_map}
+use Rattle.std.specs.List.{AllByRecursion, list_all}
 use Rattle.std.specs.Str.Parse.{digits_value}
 use Rattle.edit_document.specs.Characters.{quote, is_basic_ch, All}
 use Rattle.edit_document.specs.Strings.{Piece, plain, letter, short, long, feed, fold, delimiter, is_escape, is_hex, is_scalar, IsBasicPiece, said, says}
-use Rattle.edit_document.specs.Grammar.{Value, basic, IsValue}
+use Rattle.edit_document.specs.Grammar.{IsValue}
 use Rattle.edit_document.specs.Assertions.{same_bytes}
 use Rattle.edit_document.specs.Literals.{literal_piece, literal_of}
 use Rattle.edit_document.proofs.SamePlaces.{bytes_true}

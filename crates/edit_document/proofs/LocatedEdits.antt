@@ -1,5 +1,5 @@
 -- The ranges of edits at distinct places, found one by one and then sorted, are cut out of the text in their order.
-use Rattle.std.proofs.Common.{◌≡◌, ℕ, zero, suc, ◌+◌, ◌<◌, ◌≤◌, Bool, true, false, ◌==◌, cond, List, [], ◌∷◌, ◌++◌, map, length, get_or, Option, None, Some, refl, sym, ap, ap₂, ◌∙◌, subst, ◌⊎◌, inl, inr, ⊎_elim, true≢false, arith}
+use Rattle.std.proofs.Common.{◌≡◌, ℕ, ◌<◌, ◌≤◌, Bool, false, ◌==◌, cond, List, [], ◌∷◌, length, Some, refl, sym, ap, ◌∙◌, subst, inl, inr, true≢false, arith}
 use Rattle.std.proofs.lemmas.Bool.{eqb-true}
 use Rattle.std.proofs.lemmas.Bool.Decides.{nat_tests}
 use Rattle.std.proofs.lemmas.List.Sorted.{Contains-permutation, IsPermutation-sym}
@@ -8,15 +8,15 @@ use Rattle.std.specs.List.{AllByRecursion, IsDistinct}
 use Rattle.std.specs.List.Sorted.{IsPermutation}
 use Rattle.std.specs.Str.{IsUtf8}
 use Rattle.edit_document.specs.Grammar.{Text, text}
-use Rattle.edit_document.specs.Assertions.{Place, same_place, IsDocument}
+use Rattle.edit_document.specs.Assertions.{Place, same_place}
 use Rattle.edit_document.specs.Written.{Valued, start_of, end_of}
 use Rattle.edit_document.specs.Replaces.{Edits, new_text, replaced, edited, AreDistinct}
 use Rattle.edit_document.specs.Splices.{Range, ranges_of, IsRangeFor, AreRanges, Locates}
 use Rattle.edit_document.proofs.SamePlaces.{by_test, place_same}
 use Rattle.edit_document.proofs.Members.{Among, among_contained, contained_among, among_all, among_map}
 use Rattle.edit_document.proofs.ReplacedStrings.{strings_apart}
-use Rattle.edit_document.proofs.SwappedTexts.{NoneBelow, apart_none, replaced_swaps}
-use Rattle.edit_document.proofs.SplicedTexts.{AreEnclosed, Rises, swaps_rise}
+use Rattle.edit_document.proofs.SwappedTexts.{apart_none, replaced_swaps}
+use Rattle.edit_document.proofs.SplicedTexts.{Rises, swaps_rise}
 use Rattle.edit_document.proofs.SortedRanges.{AreFirst, AreRangesFor, Rewrites, ranges_rewrite, edit_among, edits_enclosed}
 
 -- ---- each edit counts at its place

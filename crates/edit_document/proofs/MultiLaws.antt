@@ -1,12 +1,10 @@
 -- Strings over several lines that are read are spelled so, and those that are spelled so are read.
-use Rattle.std.proofs.Common.{◌≡◌, ℕ, zero, suc, ◌+◌, ◌<◌, ◌≤◌, Bool, true, false, not, ◌&&◌, ◌||◌, ◌==◌, eqb, eq-eqb, List, [], ◌∷◌, ◌++◌, length, slice_index, drop, Option, Some, None, refl, sym, ap, subst, ◌∙◌, inl, inr, true≢false, arith}
-use Rattle.std.proofs.lemmas.Bool.Decides.{nat_tests}
-use Rattle.std.proofs.lemmas.List.{length-append}
+use Rattle.std.proofs.Common.{◌≡◌, ℕ, zero, suc, ◌+◌, ◌<◌, ◌≤◌, Bool, true, false, ◌&&◌, eqb, List, [], ◌∷◌, ◌++◌, length, slice_index, drop, Some, refl, sym, ap, subst, ◌∙◌, inl, inr, true≢false, arith}
 use Rattle.std.specs.List.{AllByRecursion}
-use Rattle.edit_document.specs.Characters.{line_feed, carriage_return, quote, apostrophe, backslash, is_blank, is_basic_ch, is_literal_ch, All}
-use Rattle.edit_document.specs.Strings.{LineEnd, lf, crlf, line_end, Space, blank, break, spaces, IsSpace, Piece, plain, letter, short, long, feed, fold, delimiter, piece, pieces, IsBasicPiece, IsMultiPiece, IsRawPiece, RunsFit, FoldsAreWhole, begins_with_space, is_escape}
+use Rattle.edit_document.specs.Characters.{line_feed, carriage_return, quote, apostrophe, backslash, is_blank, is_basic_ch, is_literal_ch}
+use Rattle.edit_document.specs.Strings.{LineEnd, lf, crlf, line_end, Space, blank, break, spaces, IsSpace, Piece, plain, letter, short, long, feed, fold, delimiter, piece, pieces, IsBasicPiece, IsMultiPiece, IsRawPiece, RunsFit, FoldsAreWhole, begins_with_space}
 use Rattle.edit_document.specs.Grammar.{three}
-use Rattle.edit_document.specs.Reading.{◌>>=◌, Read, first, blanks, past_blanks, line_end_at, begins_space, space_at, spaces_at, fold_at, feed_at, is_line_break, escape_at, spot_at, raw_at, line_piece_at, closes, delimiter_at, body_at, multi_at}
+use Rattle.edit_document.specs.Reading.{first, blanks, past_blanks, line_end_at, begins_space, space_at, spaces_at, fold_at, feed_at, is_line_break, spot_at, raw_at, line_piece_at, closes, delimiter_at, body_at, multi_at}
 use Rattle.edit_document.specs.ReadingNumbers.{begins}
 use Rattle.edit_document.proofs.TokenLaws.{bind_some, chosen, tested, some_is, first_is, first_of, at_drop, both, run_parts, run_all, escape_sound}
 

@@ -7,8 +7,8 @@ use Rattle.std.proofs.lemmas.Bool.Decides.{nat_tests}
 use Rattle.std.proofs.lemmas.Str.{IsUtf8-append, IsUtf8-encode}
 use Rattle.edit_document.specs.declared.read.marks.MarkKind.TheVariants as kinds
 use Rattle.edit_document.specs.Characters.{quote, apostrophe, backslash, is_blank, All}
-use Rattle.edit_document.specs.Strings.{LineEnd, lf, crlf, line_end, Space, blank, break, spaces, IsSpace, Piece, plain, letter, short, long, feed, fold, delimiter, piece, pieces, IsMultiPiece, IsRawPiece, RunsFit, FoldsAreWhole, NamesScalar, is_escape, escaped, is_hex, said, says, says_multi}
-use Rattle.edit_document.specs.Grammar.{three, Value, multi_basic, multi_literal, value, IsValue}
+use Rattle.edit_document.specs.Strings.{LineEnd, lf, crlf, line_end, Space, blank, break, spaces, IsSpace, Piece, plain, letter, short, long, feed, fold, delimiter, pieces, IsMultiPiece, IsRawPiece, NamesScalar, is_escape, escaped, is_hex, says, says_multi}
+use Rattle.edit_document.specs.Grammar.{three, multi_basic, multi_literal, value, IsValue}
 use Rattle.edit_document.specs.Tree.{string}
 use Rattle.edit_document.specs.Reading.{◌>>=◌}
 use Rattle.edit_document.specs.Nodes.{scalar}

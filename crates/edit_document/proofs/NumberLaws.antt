@@ -1,13 +1,12 @@
 -- Numbers, dates and times that are read are spelled so.
-use Rattle.std.proofs.Common.{◌≡◌, ℕ, zero, suc, ◌+◌, ◌<◌, ◌≤◌, nat_le, cond, Bool, true, false, ◌&&◌, ◌||◌, ◌==◌, eqb, List, [], ◌∷◌, ◌++◌, length, slice_index, take, drop, Option, Some, None, IfSome, refl, sym, ap, subst, ◌∙◌, inl, inr, arith}
-use Rattle.std.proofs.lemmas.Bool.{eqb-true}
+use Rattle.std.proofs.Common.{◌≡◌, ℕ, zero, suc, ◌+◌, ◌<◌, ◌≤◌, nat_le, cond, Bool, true, false, ◌&&◌, ◌||◌, ◌==◌, eqb, List, [], ◌∷◌, ◌++◌, length, slice_index, take, drop, Option, Some, IfSome, refl, sym, ap, subst, ◌∙◌, inl, inr, arith}
 use Rattle.std.proofs.lemmas.Bool.Decides.{nat_tests}
 use Rattle.std.proofs.lemmas.List.{take-append-drop}
 use Rattle.std.specs.List.{prefix_len}
 use Rattle.edit_document.specs.Characters.{All}
-use Rattle.edit_document.specs.Numbers.{Sign, no_sign, plus, minus, sign, is_decimal, are_digits, is_whole, Base, hexadecimal, octal, binary, base_letter, base_digit, decimal, based, Exponent, exponent, IsExponent, with_fraction, with_exponent, infinite, not_a_number, Date, date, IsDate, Time, time, IsTime, HasDigits, fraction_text, Offset, local, zulu, shift, offset, IsOffset, only_date, only_time, both}
+use Rattle.edit_document.specs.Numbers.{Sign, no_sign, plus, minus, sign, is_decimal, are_digits, is_whole, Base, hexadecimal, octal, binary, base_letter, base_digit, Exponent, exponent, IsExponent, Date, date, IsDate, Time, time, IsTime, HasDigits, fraction_text, Offset, offset, IsOffset}
 use Rattle.edit_document.specs.Grammar.{Value, integer, float, datetime, value, IsValue}
-use Rattle.edit_document.specs.ReadingSteps.{◌>>=◌, first, front, after, past}
+use Rattle.edit_document.specs.ReadingSteps.{first, front, after, past}
 use Rattle.edit_document.specs.ReadingNumbers.{is_marked, digits_at, whole_at, sign_of, past_sign, is_power, exponent_at, fraction_read, whole_read, begins, decimal_at, based_at, count_at, group_at, date_at, second_at, time_at, offset_at, joins, dated_at, timed_at, unsigned_at, number_at}
 use Rattle.edit_document.proofs.TokenLaws.{bind_some, chosen, tested, some_is, first_is, first_of, at_drop, past_some, run_parts, run_all, length_front}
 use Rattle.edit_document.proofs.TokenLaws as tokens

@@ -1,5 +1,5 @@
 -- What a replacement promises: the bytes are a document again, only the literals differ, and the tree is the one that is meant.
-use Rattle.std.proofs.Common.{◌≡◌, ℕ, zero, suc, arith, String, Global, ◌+◌, ◌<◌, ◌≤◌, Bool, true, false, ◌&&◌, ◌||◌, cond, List, [], ◌∷◌, ◌++◌, map, length, get_or, take, take_all, Option, None, Some, refl, sym, ap, ap₂, ◌∙◌, subst, ◌⊎◌, inl, ⊎_elim, true≢false}
+use Rattle.std.proofs.Common.{◌≡◌, ℕ, zero, suc, arith, String, Global, ◌+◌, ◌<◌, ◌≤◌, true, ◌&&◌, ◌||◌, cond, List, [], ◌∷◌, ◌++◌, map, length, get_or, take, take_all, Option, None, Some, refl, sym, ap, ap₂, ◌∙◌, subst, inl, ⊎_elim}
 use Rattle.std.specs.List.{list_any}
 use Rattle.std.specs.Global.{Vec}
 use Rattle.std.specs.Prelude.{string_bytes, is_some}

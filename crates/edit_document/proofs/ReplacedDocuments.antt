@@ -1,8 +1,8 @@
 -- What is read again of a text with literals written into it.
-use Rattle.std.proofs.Common.{◌≡◌, ℕ, List, [], ◌∷◌, cond, Option, Some, None, refl, sym, ap, ◌∙◌, subst}
+use Rattle.std.proofs.Common.{◌≡◌, ℕ, List, cond, Option, Some, None, sym, ap, ◌∙◌, subst}
 use Rattle.edit_document.specs.Grammar.{Text, text}
-use Rattle.edit_document.specs.Assertions.{Place, same_place}
-use Rattle.edit_document.specs.Tree.{View, string, view_at}
+use Rattle.edit_document.specs.Assertions.{Place}
+use Rattle.edit_document.specs.Tree.{View, view_at}
 use Rattle.edit_document.specs.Supported.{IsManifest}
 use Rattle.edit_document.specs.Shown.{Shown, tree_of, ShowsTree}
 use Rattle.edit_document.specs.Replaces.{Edits, replaced, written, emptied, is_below_any, Replaces, AreStrings}

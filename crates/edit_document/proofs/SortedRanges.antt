@@ -1,14 +1,14 @@
 -- The ranges of edited values in any order, once sorted, are those of the edited values of the text.
-use Rattle.std.proofs.Common.{◌≡◌, ℕ, zero, suc, ◌+◌, ◌<◌, ◌≤◌, Bool, true, false, ◌==◌, cond, List, [], ◌∷◌, ◌++◌, map, length, get_or, Option, None, Some, option_map, refl, sym, ap, ap₂, ◌∙◌, subst, ◌⊎◌, inl, inr, ⊎_elim, true≢false, arith}
+use Rattle.std.proofs.Common.{◌≡◌, ℕ, ◌<◌, ◌≤◌, cond, List, [], ◌∷◌, length, Option, None, Some, option_map, refl, sym, ap, ap₂, ◌∙◌, subst, inl, inr, ⊎_elim, arith}
 use Rattle.std.specs.Str.{IsUtf8}
 use Rattle.std.specs.List.{AllByRecursion, filter_map, cons_option}
 use Rattle.edit_document.specs.Grammar.{value, Text, text, IsValue, AreLines}
-use Rattle.edit_document.specs.Assertions.{Place, same_place, assertions, NoClash, IsDocument}
-use Rattle.edit_document.specs.Written.{Valued, values, start_of, end_of, IsWrittenAt}
-use Rattle.edit_document.specs.Replaces.{Edits, new_text, replaced, edited, Swaps}
+use Rattle.edit_document.specs.Assertions.{Place, same_place, assertions, NoClash}
+use Rattle.edit_document.specs.Written.{Valued, values, start_of, end_of}
+use Rattle.edit_document.specs.Replaces.{Edits, new_text, replaced, edited}
 use Rattle.edit_document.specs.Splices.{Range, spliced, AreInOrder, ranges_of, IsRangeFor}
-use Rattle.edit_document.proofs.SamePlaces.{by_test, place_true, place_same}
-use Rattle.edit_document.proofs.Members.{Among, among_contained, contained_among, among_all, among_map, map_among, among_filter, filter_among}
+use Rattle.edit_document.proofs.SamePlaces.{by_test, place_true}
+use Rattle.edit_document.proofs.Members.{Among, contained_among, among_all, among_map, map_among, among_filter, filter_among}
 use Rattle.edit_document.proofs.Enclosed.{IsEnclosed, value_enclosed}
 use Rattle.edit_document.proofs.FineValues.{values_fine}
 use Rattle.edit_document.proofs.UniqueValues.{values_unique}

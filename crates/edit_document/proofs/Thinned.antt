@@ -1,14 +1,13 @@
 -- Assertions of which some leaves have other values, and from which what stood below these is gone.
-use Rattle.std.proofs.Common.{◌≡◌, ℕ, zero, suc, Bool, true, false, not, ◌&&◌, ◌||◌, ◌==◌, ◌-◌, nat_lt, if◌then◌else◌, cond, List, [], ◌∷◌, ◌++◌, length, map, Option, None, Some, option_map, refl, sym, ap, ap₂, ◌∙◌, subst, ◌≤◌, arith, append_assoc, true≢false}
-use Rattle.std.proofs.lemmas.Bool.{and_parts, and_from}
-use Rattle.std.specs.List.{AllByRecursion, filter_map, cons_option}
+use Rattle.std.proofs.Common.{◌≡◌, ℕ, suc, Bool, true, false, ◌&&◌, ◌||◌, ◌-◌, nat_lt, if◌then◌else◌, cond, List, [], ◌∷◌, ◌++◌, map, Option, None, Some, refl, sym, ap, ◌∙◌, subst, append_assoc}
+use Rattle.std.specs.List.{AllByRecursion}
 use Rattle.edit_document.specs.Strings.{Key}
-use Rattle.edit_document.specs.Grammar.{Value, basic, literal, multi_basic, multi_literal, boolean, integer, float, datetime, array, inline, Elements, no_elements, last_element, element, Members, no_members, last_member, member, Statement, pair, header, element_header, Line, empty_line, full_line, Lines, one_line, more_lines, Text}
-use Rattle.edit_document.specs.Assertions.{Place, Step, key, index, at, same_bytes, same_step, same_place, Kind, dotted, leaf, super, header_kind, array_kind, element_kind, Assertion, asserts, names, named, of_key, of_value, of_elements, of_members, of_pair, is_array, is_array_at, elements_at, resolved, fronts, header_place, of_statement, prefix_after, place_named, of_lines, together, NoClash, AreShort}
-use Rattle.edit_document.specs.Tree.{View, view_of_value, view_of_kind, members_of, kind_at, view_in, step_from, once, count_elements, static_array}
+use Rattle.edit_document.specs.Grammar.{Value, basic, literal, multi_basic, multi_literal, boolean, integer, float, datetime, array, inline, Elements, no_elements, last_element, element, Members, no_members, last_member, member, Statement, pair, header, element_header, empty_line, full_line, Lines, one_line, more_lines}
+use Rattle.edit_document.specs.Assertions.{Place, key, index, at, same_place, Kind, dotted, leaf, super, header_kind, array_kind, element_kind, Assertion, asserts, names, named, of_key, of_value, of_elements, of_members, of_pair, is_array, is_array_at, elements_at, resolved, fronts, header_place, of_statement, prefix_after, of_lines, together, NoClash, AreShort}
+use Rattle.edit_document.specs.Tree.{view_of_value, count_elements, static_array}
 use Rattle.edit_document.specs.Literals.{literal_of}
 use Rattle.edit_document.specs.Replaces.{Edits, new_text, literal_or, put, replaced_inside, replaced_elements, replaced_members, replaced_statement, replaced_lines, is_below, is_below_any}
-use Rattle.edit_document.proofs.SamePlaces.{by_test, place_true, same_step_same, place_same, is_within, within_same, below_at, within_at, within_named}
+use Rattle.edit_document.proofs.SamePlaces.{by_test, place_true, is_within, within_same, below_at, within_at, within_named}
 
 abbrev pub is_leaf : Kind → Bool
 is_leaf (leaf v) = true

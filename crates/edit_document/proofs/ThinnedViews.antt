@@ -1,10 +1,10 @@
 -- The tree of thinned assertions: the same where nothing is written at or above a place, and the new string where one is.
-use Rattle.std.proofs.Common.{◌≡◌, ℕ, zero, suc, Bool, true, false, not, ◌&&◌, ◌||◌, ◌==◌, nat_lt, if◌then◌else◌, cond, List, [], ◌∷◌, ◌++◌, map, Option, None, Some, option_map, refl, sym, ap, ap₂, ◌∙◌, subst, ◌⊎◌, inl, inr, ⊎_elim, true≢false, arith}
-use Rattle.std.proofs.lemmas.Bool.{and_parts, and_from}
-use Rattle.std.specs.List.{AllByRecursion, filter_map, cons_option}
-use Rattle.edit_document.specs.Grammar.{Value, basic, literal, multi_basic, multi_literal, boolean, integer, float, datetime, array, inline, Text}
-use Rattle.edit_document.specs.Assertions.{Place, Step, key, index, same_bytes, same_step, same_place, Kind, dotted, leaf, super, header_kind, array_kind, element_kind, Assertion, asserts, elements_at, NoClash}
-use Rattle.edit_document.specs.Tree.{View, table, table_array, inline_table, view_of_value, view_of_kind, members_of, kind_at, view_in, step_from, once}
+use Rattle.std.proofs.Common.{◌≡◌, ℕ, Bool, true, false, ◌&&◌, ◌||◌, if◌then◌else◌, cond, List, [], ◌∷◌, Option, None, Some, option_map, refl, sym, ap, ◌∙◌, subst, ◌⊎◌, inl, inr, ⊎_elim, true≢false}
+use Rattle.std.proofs.lemmas.Bool.{and_parts}
+use Rattle.std.specs.List.{filter_map, cons_option}
+use Rattle.edit_document.specs.Grammar.{Value, basic, literal, multi_basic, multi_literal, boolean, integer, float, datetime, array, inline}
+use Rattle.edit_document.specs.Assertions.{Place, Step, same_step, same_place, Kind, dotted, leaf, super, header_kind, array_kind, element_kind, Assertion, elements_at}
+use Rattle.edit_document.specs.Tree.{table, table_array, inline_table, view_of_value, view_of_kind, members_of, kind_at, view_in, step_from, once}
 use Rattle.edit_document.specs.Literals.{literal_of}
 use Rattle.edit_document.specs.Replaces.{Edits, new_text, is_below, is_below_any}
 use Rattle.edit_document.proofs.SamePlaces.{by_test, place_true, step_true, same_step_same, place_same, is_within, within_cases}

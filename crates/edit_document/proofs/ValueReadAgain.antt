@@ -1,13 +1,13 @@
 -- What is spelled so is read, however the text was split.
-use Rattle.std.proofs.Common.{◌≡◌, ℕ, zero, suc, ◌+◌, ◌≤◌, not, true, false, ◌&&◌, ◌||◌, ◌==◌, eqb, Bool, List, [], ◌∷◌, ◌++◌, length, Some, refl, sym, ap, subst, ◌∙◌, arith}
+use Rattle.std.proofs.Common.{◌≡◌, ℕ, zero, suc, ◌+◌, ◌≤◌, not, true, false, ◌&&◌, ◌==◌, eqb, Bool, List, [], ◌∷◌, ◌++◌, length, Some, refl, sym, ap, subst, ◌∙◌, arith}
 use Rattle.std.proofs.lemmas.Bool.Decides.{nat_tests}
 use Rattle.std.proofs.lemmas.List.{length-append}
-use Rattle.edit_document.specs.Characters.{quote, apostrophe, comma, equals, left_bracket, right_bracket, left_brace, right_brace, is_blank, is_bare, All}
-use Rattle.edit_document.specs.Strings.{Part, bare, basic_part, literal_part, part, IsPart, Key, Dotted, key, dotted, IsKey}
-use Rattle.edit_document.specs.Grammar.{Between, blank, break, remark, gap, IsGap, IsBlankGap, Value, basic, literal, multi_basic, multi_literal, boolean, integer, float, datetime, array, inline, Elements, no_elements, last_element, element, Members, no_members, last_member, member, value, elements, members, IsValue, AreElements, AreMembers, IsMember}
+use Rattle.edit_document.specs.Characters.{quote, apostrophe, comma, equals, left_bracket, right_bracket, left_brace, right_brace, is_blank, All}
+use Rattle.edit_document.specs.Strings.{Part, bare, basic_part, literal_part, part, Key, Dotted, key, dotted, IsKey}
+use Rattle.edit_document.specs.Grammar.{Between, gap, IsGap, IsBlankGap, Value, basic, literal, multi_basic, multi_literal, boolean, integer, float, datetime, array, inline, Elements, no_elements, last_element, element, Members, no_members, last_member, member, value, elements, members, IsValue, AreElements, AreMembers, IsMember}
 use Rattle.edit_document.specs.Supported.{IsSupportedValue, AreSupportedElements, AreSupportedMembers}
 use Rattle.edit_document.specs.Depth.{depth, elements_depth, members_depth}
-use Rattle.edit_document.specs.Reading.{Read, first, blank_gap, gap_front, past_gap, scalar_at, Pair, pair_at, members_at, elements_at, value_at}
+use Rattle.edit_document.specs.Reading.{Read, first, blank_gap, scalar_at, Pair, pair_at, members_at, elements_at, value_at}
 use Rattle.edit_document.proofs.TokenLaws.{front_again, after_again, basic_again, literal_again, length-pieces, part_first, key_again, ends_key}
 use Rattle.edit_document.proofs.ValueLaws.{gap_blanks, blank_gap_is, AreReadable, AreReadableElements, pair_text, IsPair}
 use Rattle.edit_document.proofs.GapLaws.{opens_gap, gap_longer, front_gap_again, past_gap_again, gap_ends}

@@ -23,7 +23,7 @@ use Rattle.edit_document.specs.Walk.{State, said, settled_state, is_dotted_withi
 use Rattle.edit_document.specs.Marks.{mark, key_marks, value_marks, elements_marks, members_marks}
 use Rattle.edit_document.proofs.Ends.{Ends, ends_one, ends_pair, ends_gap, ends_value}
 use Rattle.edit_document.proofs.SamePlace.{same_place_self, other_place, last_same, not_root, not_below}
-use Rattle.edit_document.proofs.MoreAssertions.{kind_stays, first_kind, first_stays, first_is, IsClear, clear_front}
+use Rattle.edit_document.proofs.MoreAssertions.{first_kind, first_stays, first_is, IsClear, clear_front}
 use Rattle.edit_document.proofs.Trees.{Grows, grows_same, grows_then}
 use Rattle.edit_document.proofs.Standing.{Stands, nothing_below_spot, nothing_under}
 use Rattle.edit_document.proofs.NothingBelow.{HasLeaf, leaf_there}

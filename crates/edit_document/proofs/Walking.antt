@@ -13,8 +13,7 @@ use Rattle.edit_document.specs.declared.read.marks.Mark.{Mark}
 use Rattle.edit_document.specs.declared.read.marks.MarkKind.{MarkKind}
 use Rattle.edit_document.specs.declared.read.marks.MarkKind.TheVariants as kinds
 use Rattle.edit_document.specs.Reading.{◌>>=◌}
-use Rattle.edit_document.specs.Nodes.{Shape, shape_said, scalar, section, sections, Spot, Holds}
-use Rattle.edit_document.specs.Nodes as shapes
+use Rattle.edit_document.specs.Nodes.{Shape, shape_said, section, sections, Spot, Holds}
 use Rattle.edit_document.specs.Walk.{State, said, last_of, without_last, asserted, element_added, front_shape, reached, awaiting, settled_state, is_dotted_within, settled, entered_below, entered_at, entered, opened, closed, turned, headed, element_headed, span_of_mark, worded, act, step, start, walked}
 use Rattle.edit_document.specs.WalkState.{Puts, Walks, Goes, Settles, SaysAt, is_said, IsToken, KeepsState}
 use Rattle.edit_document.proofs.Below.{all_at}

@@ -1,4 +1,4 @@
-use Rattle.std.proofs.Common.{Option, sym, refl, subst, ap, ◌∙◌, ◌≡◌, Some}
+use Rattle.std.proofs.Common.{Option, sym, subst, ap, ◌∙◌, ◌≡◌, Some}
 use Rattle.std.specs.Prelude.{IfOk, string_bytes}
 use Rattle.edit_document.specs.declared.read.marks.MarkKind.TheVariants as kinds
 use Rattle.edit_document.specs.Nodes.{Shape, shape_of, shape_said}
