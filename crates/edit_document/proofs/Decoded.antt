@@ -15,6 +15,7 @@ use Rattle.edit_document.specs.Strings.{said}
 use Rattle.edit_document.specs.Decoding as decoding
 use Rattle.edit_document.specs.Decoding.{delimited, BasicSays, Says}
 use Rattle.edit_document.specs.Reading.{front}
+use Rattle.edit_document.proofs.ListElements.{get_seam}
 
 -- ---- where a text may be cut
 
@@ -27,16 +28,12 @@ utf8_behind [] rest h u = u
 utf8_behind (b ∷ front) rest h u =
     utf8_behind front rest h.1 (IsUtf8-past_char (b ∷ (front ++ rest)) (front ++ rest) b u (ap (λ (e : List ℕ). e ++ (front ++ rest)) (sym (encode_ascii b h.0))))
 
-get_or_at : (xs ys : List ℕ) (b : ℕ) → get_or (xs ++ (b ∷ ys)) (length xs) 0 ≡ b
-get_or_at [] ys b = refl
-get_or_at (x ∷ xs) ys b = get_or_at xs ys b
-
 -- what begins with ASCII is UTF-8
 pub utf8_from : (xs ys : List ℕ) (b : ℕ) → IsUtf8 (xs ++ (b ∷ ys)) → b < 128 → IsUtf8 (b ∷ ys)
 utf8_from xs ys b u lt =
     let bytes = xs ++ (b ∷ ys) in
     let within : length xs < length bytes = omega (arith, length-append xs (b ∷ ys)) in
-    let ascii : get_or bytes (length xs) 0 < 128 = rw (get_or_at xs ys b) lt in
+    let ascii : get_or bytes (length xs) 0 < 128 = rw (get_seam xs ys b) lt in
     subst IsUtf8 (drop_at xs (b ∷ ys) (length xs) refl) (IsUtf8-drop bytes (length xs) u (IsCharBoundary-before_ascii bytes (length xs) within ascii))
 
 bare_ascii : (b : ℕ) → is_bare b ≡ true → b < 128

@@ -11,7 +11,8 @@ use Rattle.edit_document.specs.Grammar.{Between, gap, Value, Members, value, mem
 use Rattle.std.specs.Char.{IsScalar}
 use Rattle.std.proofs.lemmas.Bool.Decides.{nat_tests}
 use Rattle.edit_document.specs.Walk.{suffix}
-use Rattle.edit_document.proofs.Fronts.{Relation, IsKept, key_before, pair_before, gap_before, value_before, members_before, statement_before, line_before}
+use Rattle.edit_document.proofs.PutBefore.{Relation, IsKept, key_before, pair_before, gap_before, value_before, members_before, statement_before, line_before}
+use Rattle.edit_document.proofs.ListElements.{get_seam}
 
 -- the text ends so
 abbrev pub Ends : List ℕ → List ℕ → Type 0
@@ -74,10 +75,6 @@ ends_line_end bytes lf rest h = ends_one bytes 10 rest h
 ends_line_end bytes crlf rest h = ends_one bytes 10 rest (ends_one bytes 13 (10 ∷ rest) h)
 
 -- ---- texts
-
-get_seam : (xs ys : List ℕ) (y : ℕ) → get_or (xs ++ (y ∷ ys)) (length xs) 0 ≡ y
-get_seam [] ys y = refl
-get_seam (x ∷ xs) ys y = get_seam xs ys y
 
 -- a text may be cut before and behind a character of ASCII
 pub text_before : (xs ys : List ℕ) (c : ℕ) → c < 128 → IsUtf8 (xs ++ (c ∷ ys)) → IsUtf8 xs

@@ -1,5 +1,7 @@
 pub mod PutBefore
 pub mod SamePlaces
+pub mod Cases
+pub mod PathParts
 pub mod LiteralLaws
 pub mod Thinned
 pub mod ThinnedViews
@@ -57,7 +59,6 @@ pub mod AllSupported
 pub mod Shallow
 pub mod ValueRanges
 pub mod Promised
-pub mod Fronts
 pub mod Ends
 pub mod Walks
 pub mod WalkedTokens

@@ -1,6 +1,6 @@
 -- The laws of lines and texts.
 use Rattle.std.proofs.Common.{◌≡◌, ℕ, zero, suc, ◌+◌, ◌≤◌, Bool, true, false, eqb, List, [], ◌∷◌, ◌++◌, length, slice_index, drop, Option, Some, None, refl, ap, subst, ◌∙◌, inl, inr, arith, cond}
-use Rattle.std.proofs.lemmas.Bool.{eqb-true}
+use Rattle.std.proofs.lemmas.Bool.{eqb-true, and_parts}
 use Rattle.std.proofs.lemmas.Bool.Decides.{nat_tests}
 use Rattle.std.proofs.lemmas.List.{length-append, nil_from_length}
 use Rattle.edit_document.specs.Characters.{line_feed, carriage_return, hash, equals, left_bracket, right_bracket, is_blank, is_bare, is_ch, All}
@@ -9,7 +9,7 @@ use Rattle.edit_document.specs.Grammar.{value, Statement, pair, header, element_
 use Rattle.edit_document.specs.Supported.{IsSupportedStatement, IsSupportedLine, AreSupportedLines, IsSupported}
 use Rattle.edit_document.specs.Depth.{statement_depth, line_depth, lines_depth, text_depth}
 use Rattle.edit_document.specs.Reading.{◌>>=◌, first, past, blanks, past_blanks, key_at, Pair, pair_at, value_at, header_at, element_header_at, statement_at, comment_front, past_comment, is_line_over, line_at, line_end_at, lines_at, is_marked, past_mark, read_text}
-use Rattle.edit_document.proofs.TokenLaws.{bind_some, chosen, some_is, first_is, at_drop, both, past_some, run_parts, run_all, front_again, after_again, key_sound, key_again, ends_key}
+use Rattle.edit_document.proofs.TokenLaws.{bind_some, chosen, some_is, first_is, at_drop, past_some, run_parts, run_all, front_again, after_again, key_sound, key_again, ends_key}
 use Rattle.edit_document.proofs.ValueLaws.{blank_parts, IsPair, pair_sound, value_sound}
 use Rattle.edit_document.proofs.MultiLaws.{line_end_sound, line_end_again}
 use Rattle.edit_document.proofs.ValueReadAgain.{pair_again, value_again, key_first, pair_longer, key_longer, value_longer}
@@ -306,8 +306,8 @@ mark_parts bytes = go (is_marked bytes) refl
   where
     go : (b : Bool) → is_marked bytes ≡ b → bytes ≡ byte_order_mark b (cond b (drop 3 bytes) bytes)
     go true e =
-        let x = both _ (eqb (slice_index bytes 2) 0xBF) e in
-        let y = both _ (eqb (slice_index bytes 1) 0xBB) x.0 in
+        let x = and_parts _ (eqb (slice_index bytes 2) 0xBF) e in
+        let y = and_parts _ (eqb (slice_index bytes 1) 0xBB) x.0 in
         first_is 0xEF bytes (omega arith) y.0 ∙ ap (λ (r : List ℕ). 0xEF ∷ r) (at_drop 1 0xBB bytes (omega arith) y.1 ∙ ap (λ (r : List ℕ). 0xBB ∷ r) (at_drop 2 0xBF bytes (omega arith) x.1))
     go false e = refl
 

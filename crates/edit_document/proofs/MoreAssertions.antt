@@ -1,12 +1,14 @@
 -- One assertion more: what then stands at a place, what its members are, and which assertions may follow.
-use Rattle.std.proofs.Common.{◌≡◌, ℕ, suc, ◌≤◌, Bool, true, false, cond, not, ◌&&◌, ◌||◌, List, [], ◌∷◌, ◌++◌, length, Option, Some, None, is_some, refl, sym, ap, ◌∙◌, ◌⊎◌, inl, inr}
+use Rattle.std.proofs.Common.{◌≡◌, ℕ, suc, ◌≤◌, Bool, true, false, cond, not, ◌&&◌, List, [], ◌∷◌, ◌++◌, length, Option, Some, None, is_some, refl, sym, ap, ◌∙◌, ◌⊎◌, inl, inr}
 use Rattle.std.specs.List.{filter, filter_map, cons_option, list_any}
 use Rattle.std.proofs.lemmas.List.{append-nil}
 use Rattle.std.proofs.lemmas.List.Elements.{filter-append, filter_map-append}
 use Rattle.edit_document.specs.Assertions.{Step, key, index, Place, at, same_step, same_place, Kind, leaf, header_kind, element_kind, Assertion, together, NoClash, AreShort}
 use Rattle.edit_document.specs.Tree.{step_from, once, members_of, kind_at}
-use Rattle.edit_document.proofs.SamePlace.{both_true, same_step_self, same_step_is, same_place_self, same_place_is, other_place, last_same}
+use Rattle.edit_document.proofs.SamePlace.{same_step_self, same_step_is, same_place_self, same_place_is, other_place, last_same}
 use Rattle.edit_document.proofs.Below.{step_from_at, step_from_is, all_front, all_push, all_last}
+use Rattle.edit_document.proofs.Cases.{or_false}
+use Rattle.std.proofs.lemmas.Bool.{and_parts}
 
 -- ---- what stands at a place
 
@@ -109,7 +111,7 @@ clear_front made more h = record { apart = apart_front made more h.apart; short 
 apart_more : (made : List Assertion) (a : Assertion) → NoClash made → allowed made a.place a.kind ≡ true → NoClash (made ++ a ∷ [])
 apart_more [] a h e = (tt, tt)
 apart_more (b ∷ made) a h e =
-    let parts = both_true (cond (same_place b.place a.place) (together b.kind a.kind) true) (allowed made a.place a.kind) e in
+    let parts = and_parts (cond (same_place b.place a.place) (together b.kind a.kind) true) (allowed made a.place a.kind) e in
     (all_push (λ c. b.place ≡ c.place → together b.kind c.kind ≡ true) made a h.0 (λ same. sym (ap (λ (x : Bool). cond x (together b.kind a.kind) true) (ap (λ (q : Place). same_place q a.place) same ∙ same_place_self a.place)) ∙ parts.0), apart_more made a h.1 parts.1)
 
 apart_last : (made : List Assertion) (a : Assertion) → NoClash (made ++ a ∷ []) → allowed made a.place a.kind ≡ true
@@ -138,10 +140,6 @@ steps made p = filter_map (λ a. step_from p a.place) made
 
 abbrev pub has : Step → List Step → Bool
 has x xs = list_any (λ s. same_step s x) xs
-
-or_false : (x y : Bool) → (x || y) ≡ false → (x ≡ false) × (y ≡ false)
-or_false true y e = absurd cc
-or_false false y e = (refl, e)
 
 once_new : (xs : List Step) (x : Step) → has x xs ≡ false → once (xs ++ x ∷ []) ≡ once xs ++ x ∷ []
 once_new [] x e = refl

@@ -62,7 +62,7 @@ raw_again (feed e) rest h o ends = rw (line_end_first e rest) (feed_again e rest
 raw_again (fold ws e more) rest h o ends = absurd h
 raw_again delimiter rest h o ends = absurd o
 
-literal_other : (b : ℕ) → is_literal_ch b ≡ true → eqb b apostrophe ≡ false
+pub literal_other : (b : ℕ) → is_literal_ch b ≡ true → eqb b apostrophe ≡ false
 literal_other b h = grind (arith, nat_tests)
 
 basic_first : (p : Piece) (rest : List ℕ) → IsMultiPiece p → IsOther p → eqb (first (piece quote p rest)) quote ≡ false

@@ -9,6 +9,7 @@ use Rattle.edit_document.specs.Grammar.{integer, float}
 use Rattle.edit_document.specs.ReadingSteps.{first, after}
 use Rattle.edit_document.specs.ReadingNumbers.{is_marked, digits_at, whole_at, sign_of, past_sign, is_power, exponent_at, fraction_read, whole_read, decimal_at, based_at, unsigned_at, number_at}
 use Rattle.edit_document.proofs.TokenLaws.{front_again, after_again}
+use Rattle.edit_document.proofs.Cases.{by_test}
 
 -- ---- what may follow
 
@@ -95,10 +96,6 @@ dot_whole : EndsWhole 46
 dot_whole = record { no_mark = refl; no_digit = refl; no_dash = refl; no_colon = refl; no_x = refl; no_o = refl; no_b = refl }
 
 -- ---- digits
-
-by_test : {P : Type 0} (c : Bool) → (c ≡ true → P) → (c ≡ false → P) → P
-by_test true t f = t refl
-by_test false t f = f refl
 
 marked_class : (class : ℕ → Bool) (b : ℕ) → class b ≡ true → is_marked class b ≡ true
 marked_class class b h = rw h refl

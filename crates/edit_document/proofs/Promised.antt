@@ -17,7 +17,6 @@ use Rattle.edit_document.specs.Written.{values}
 use Rattle.edit_document.specs.Supported.{IsManifest}
 use Rattle.edit_document.specs.Replaces.{Edits, replaced, edited, Swaps, Replaces, is_string, AreStrings}
 use Rattle.edit_document.specs.Splices.{Range, range_of, IsRangeFor, AreRanges}
-use Rattle.edit_document.proofs.SamePlaces.{by_test}
 use Rattle.edit_document.proofs.Thinned.{is_leaf}
 use Rattle.edit_document.proofs.ReplacedTree.{AreApart, replaced_manifest, replaced_view}
 use Rattle.edit_document.proofs.ReplacedStrings.{strings_apart, string_value, told_value, one_apart}
@@ -25,6 +24,7 @@ use Rattle.edit_document.proofs.SortedRanges.{AreRangesFor, Rewrites, ranges_rew
 use Rattle.edit_document.proofs.LocatedEdits.{first_of_distinct}
 use Rattle.std.specs.Str.{IsUtf8}
 use Rattle.edit_document.proofs.SwappedTexts.{apart_none, replaced_swaps}
+use Rattle.edit_document.proofs.Cases.{by_test}
 
 -- a document's replacement at places none of which lies below another
 pub replaces_apart : (edits : Edits) (old new : List ℕ) (form : Text) → IsManifest old form → AreApart edits form → new ≡ text (replaced edits form) → Replaces edits old new

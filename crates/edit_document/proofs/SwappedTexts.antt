@@ -19,7 +19,7 @@ pub swaps_one : (more : List (Valued × List ℕ)) → IsKept (Swaps more)
 swaps_one more c old new (rest t) = rest (c ∷ t)
 swaps_one more c old new (next t w said others now s) = next (c ∷ t) w said others now s
 
-abbrev edit_of : Edits → Valued → Option (Valued × List ℕ)
+abbrev pub edit_of : Edits → Valued → Option (Valued × List ℕ)
 edit_of edits w = option_map (λ said. (w, said)) (new_text edits w.place)
 
 abbrev edits_of : Edits → List Valued → List (Valued × List ℕ)

@@ -7,7 +7,9 @@ use Rattle.edit_document.specs.Assertions.{Place, key, index, at, same_place, Ki
 use Rattle.edit_document.specs.Tree.{view_of_value, count_elements, static_array}
 use Rattle.edit_document.specs.Literals.{literal_of}
 use Rattle.edit_document.specs.Replaces.{Edits, new_text, literal_or, put, replaced_inside, replaced_elements, replaced_members, replaced_statement, replaced_lines, is_below, is_below_any}
-use Rattle.edit_document.proofs.SamePlaces.{by_test, place_true, is_within, within_same, below_at, within_at, within_named}
+use Rattle.edit_document.proofs.SamePlaces.{is_within, within_same, below_at, within_at, within_named}
+use Rattle.edit_document.proofs.Cases.{by_test}
+use Rattle.edit_document.proofs.SamePlace.{same_place_is}
 
 abbrev pub is_leaf : Kind → Bool
 is_leaf (leaf v) = true
@@ -95,7 +97,7 @@ pub edited_below : (edits : Edits) (p q : Place) (said : List ℕ) → new_text 
 edited_below [] p q said e low = absurd cc
 edited_below (x ∷ edits) p q said e low =
     by_test (same_place x.0 p)
-    (λ h. or_left (is_below x.0 q) (is_below_any edits q) (ap (λ r. is_below r q) (place_true x.0 p h) ∙ low))
+    (λ h. or_left (is_below x.0 q) (is_below_any edits q) (ap (λ r. is_below r q) (same_place_is x.0 p h) ∙ low))
     (λ h. or_right (is_below x.0 q) (is_below_any edits q) (edited_below edits p q said (sym (ap (λ c. cond c (Some x.1) (new_text edits p)) h) ∙ e) low))
 
 thin_lost : (edits : Edits) (p : Place) (said : List ℕ) (xs : List Assertion) → new_text edits p ≡ Some said → Lost p xs → Thin edits xs []

@@ -1,7 +1,7 @@
 -- The laws of the tokens: what is read is spelled so, and what is spelled so is read.
 use Rattle.std.proofs.Common.{◌≡◌, ℕ, zero, suc, ◌+◌, ◌<◌, ◌≤◌, Bool, true, false, cond, ◌&&◌, eqb, List, [], ◌∷◌, ◌++◌, length, slice_index, take, drop, Option, Some, None, refl, sym, ap, subst, ◌∙◌, ◌⊎◌, inl, inr, arith, eq-eqb}
 use Rattle.std.specs.List.{prefix_len, AllByRecursion, list_all}
-use Rattle.std.proofs.lemmas.Bool.{eqb-true}
+use Rattle.std.proofs.lemmas.Bool.{eqb-true, and_parts}
 use Rattle.std.proofs.lemmas.Bool.Decides.{nat_tests}
 use Rattle.std.proofs.lemmas.List.{take_at, drop_at, take-append-drop, length-append}
 use Rattle.edit_document.specs.Characters.{quote, apostrophe, backslash, right_brace, is_blank, is_basic_ch, is_literal_ch, is_bare, All}
@@ -83,14 +83,9 @@ at_drop zero b (c ∷ text) lt e = ap (λ (x : ℕ). x ∷ text) (eqb-true c b e
 at_drop (suc k) b [] lt e = absurd (omega (arith, eqb-true 0 b e))
 at_drop (suc k) b (c ∷ text) lt e = at_drop k b text lt e
 
-pub both : (x y : Bool) → (x && y) ≡ true → (x ≡ true) × (y ≡ true)
-both true true e = (refl, refl)
-both true false e = absurd cc
-both false y e = absurd cc
-
 all_of_list : (class : ℕ → Bool) (bytes : List ℕ) → list_all class bytes ≡ true → All class bytes
 all_of_list class [] e = tt
-all_of_list class (b ∷ bytes) e = let w = both (class b) (list_all class bytes) e in (w.0, all_of_list class bytes w.1)
+all_of_list class (b ∷ bytes) e = let w = and_parts (class b) (list_all class bytes) e in (w.0, all_of_list class bytes w.1)
 
 pub list_of_all : (class : ℕ → Bool) (bytes : List ℕ) → All class bytes → list_all class bytes ≡ true
 list_of_all class [] h = refl
@@ -104,7 +99,7 @@ coded_sound made n text x e =
     let t = tested (eqb (length (take n text)) n) _ x e in
     let a = bind_some (scalar (take n text)) (λ c. Some (made (take n text), drop n text)) x t.1 in
     let s = tested (list_all is_hex (take n text) && is_scalar (digits_value 16 (take n text))) _ a.0 a.1 in
-    let w = both _ (is_scalar (digits_value 16 (take n text))) s.0 in
+    let w = and_parts _ (is_scalar (digits_value 16 (take n text))) s.0 in
     (some_is _ x a.2, (eqb-true _ _ t.0, all_of_list is_hex (take n text) w.0, w.1))
 
 coded_again : (made : List ℕ → Piece) (n : ℕ) (digits rest : List ℕ) → NamesScalar n digits → coded_at made n (digits ++ rest) ≡ Some (made digits, rest)

@@ -10,8 +10,9 @@ use Rattle.edit_document.specs.Assertions.{Place, key, index, at, names, named, 
 use Rattle.edit_document.specs.Tree.{is_value_at}
 use Rattle.edit_document.specs.Written.{Valued, valued, inside, in_elements, in_members, in_statement, in_lines, values}
 use Rattle.edit_document.proofs.Members.{Among, among_all, among_map, map_among, filter_among}
-use Rattle.edit_document.proofs.SamePlaces.{by_test, place_true, place_same}
 use Rattle.edit_document.proofs.Thinned.{is_leaf}
+use Rattle.edit_document.proofs.Cases.{by_test}
+use Rattle.edit_document.proofs.SamePlace.{same_place_is, same_place_self}
 
 abbrev leaf_place : Assertion → Option Place
 leaf_place a = if is_leaf a.kind then Some a.place else None
@@ -147,7 +148,7 @@ leaf_listed p [] e = absurd (true≢false (sym e))
 leaf_listed p (a ∷ made) e =
     by_test (same_place a.place p && is_leaf a.kind)
     (λ h. let b = and_parts (same_place a.place p) (is_leaf a.kind) h in
-    subst (λ (o : Option Place). Among p (cons_option o (leaves made))) (sym (ap (λ c. if c then Some a.place else None) b.1)) (inl (sym (place_true a.place p b.0))))
+    subst (λ (o : Option Place). Among p (cons_option o (leaves made))) (sym (ap (λ c. if c then Some a.place else None) b.1)) (inl (sym (same_place_is a.place p b.0))))
     (λ h. listed a made (leaf_listed p made (sym (ap (λ c. c || list_any (λ a. same_place a.place p && is_leaf a.kind) made) h) ∙ e)))
   where
     listed : (a : Assertion) (made : List Assertion) → Among p (leaves made) → Among p (leaves (a ∷ made))
@@ -168,7 +169,7 @@ told_leaf p a (b ∷ made) (inl h) e = ap (λ (z : Assertion). (same_place z.pla
   where
     here : (c : Bool) → is_leaf a.kind ≡ c → (if c then Some a.place else None) ≡ Some p → (same_place a.place p && is_leaf a.kind) ≡ true
     here false k h = absurd cc
-    here true k h = let same : a.place ≡ p = cc in ap₂ (λ b c. b && c) (ap (λ q. same_place q p) same ∙ place_same p) k
+    here true k h = let same : a.place ≡ p = cc in ap₂ (λ b c. b && c) (ap (λ q. same_place q p) same ∙ same_place_self p) k
 told_leaf p a (b ∷ made) (inr m) e = later (same_place b.place p && is_leaf b.kind) (told_leaf p a made m e)
   where
     later : (c : Bool) → list_any (λ a. same_place a.place p && is_leaf a.kind) made ≡ true → (c || list_any (λ a. same_place a.place p && is_leaf a.kind) made) ≡ true

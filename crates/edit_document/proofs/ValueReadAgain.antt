@@ -17,7 +17,7 @@ use Rattle.std.specs.List.{AllByRecursion}
 use Rattle.edit_document.specs.Strings.{Piece, pieces, IsBasicPiece, basic_text, literal_text}
 use Rattle.edit_document.specs.Characters.{is_literal_ch}
 use Rattle.edit_document.proofs.TokenLaws.{piece_first}
-use Rattle.edit_document.proofs.MultiReadAgain.{multi_basic_again, multi_literal_again}
+use Rattle.edit_document.proofs.MultiReadAgain.{multi_basic_again, multi_literal_again, literal_other}
 use Rattle.edit_document.proofs.NumberReadAgain.{EndsValue, ends_value, is_start, integer_start, float_start, integer_again, float_again}
 use Rattle.edit_document.proofs.DateReadAgain.{datetime_start, datetime_again}
 use Rattle.edit_document.proofs.Enclosed.{value_rest}
@@ -251,9 +251,6 @@ number_scalar text h = let n = number_first (first text) h in rw (n.no_quote, n.
 one_quote : (ps : List Piece) (rest : List ℕ) → AllByRecursion IsBasicPiece ps → eqb (first rest) quote ≡ false → begins quote quote quote (basic_text ps rest) ≡ false
 one_quote [] rest h ends = rw ends refl
 one_quote (p ∷ ps) rest h ends = let other = piece_first p (pieces quote ps (quote ∷ rest)) h.0 in rw other refl
-
-literal_other : (b : ℕ) → is_literal_ch b ≡ true → eqb b apostrophe ≡ false
-literal_other b h = grind (arith, nat_tests)
 
 one_apostrophe : (text rest : List ℕ) → All is_literal_ch text → eqb (first rest) apostrophe ≡ false → begins apostrophe apostrophe apostrophe (literal_text text rest) ≡ false
 one_apostrophe [] rest h ends = rw ends refl
