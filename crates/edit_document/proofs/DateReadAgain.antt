@@ -9,7 +9,8 @@ use Rattle.edit_document.specs.Grammar.{datetime}
 use Rattle.edit_document.specs.ReadingSteps.{first}
 use Rattle.edit_document.specs.ReadingNumbers.{count_at, group_at, date_at, second_at, time_at, offset_at, joins, dated_at, timed_at, unsigned_at, number_at}
 use Rattle.edit_document.proofs.TokenLaws.{front_again, after_again}
-use Rattle.edit_document.proofs.NumberReadAgain.{is_word, EndsValue, number_unsigned, is_start, start_digit}
+use Rattle.edit_document.proofs.NumberReadAgain.{number_unsigned, is_start, start_digit}
+use Rattle.edit_document.proofs.NumberEnds.{is_word, EndsValue}
 
 long_run : (class : ℕ → Bool) (ds rest : List ℕ) → All class ds → length ds ≤ prefix_len class (ds ++ rest)
 long_run class [] rest h = omega arith

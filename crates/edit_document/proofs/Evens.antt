@@ -5,7 +5,7 @@ use Rattle.edit_document.specs.Grammar.{Value, basic, literal, multi_basic, mult
 use Rattle.edit_document.specs.Assertions.{key, index, Place, at, same_place, Kind, dotted, leaf, super, header_kind, array_kind, element_kind, Assertion, asserts, together, NoClash, names, named, of_key, of_value, of_elements, of_members, is_array, is_array_at, elements_at, resolved, fronts, header_place, of_statement}
 use Rattle.edit_document.specs.Tree.{kind_at}
 use Rattle.edit_document.proofs.SamePlace.{same_place_is, last_same, other_place, same_place_self, place_or}
-use Rattle.edit_document.proofs.MoreAssertions.{is_element, elements_below, elements_stay, elements_grow, elements_else}
+use Rattle.edit_document.proofs.MoreMembers.{is_element, elements_below, elements_stay, elements_grow, elements_else}
 
 -- as many arrays as elements are asserted
 abbrev pub IsEven : List Assertion → Type 0

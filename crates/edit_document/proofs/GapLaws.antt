@@ -9,7 +9,7 @@ use Rattle.edit_document.specs.Grammar.{Between, blank, break, remark, gap, IsBe
 use Rattle.edit_document.specs.Reading.{Read, first, front, after, line_end_at, between_at, and_more, gap_at, gap_front, past_gap}
 use Rattle.edit_document.proofs.TokenLaws.{bind_some, chosen, some_is, first_is, first_of, run_parts, run_all, front_again, after_again}
 use Rattle.edit_document.proofs.MultiLaws.{line_end_sound, line_end_again}
-use Rattle.edit_document.proofs.NumberReadAgain.{is_stop, EndsValue, blank_ends, stop_ends, stop_other, blank_other}
+use Rattle.edit_document.proofs.NumberEnds.{is_stop, EndsValue, blank_ends, stop_ends, stop_other, blank_other}
 
 -- ---- what is read is spelled so
 

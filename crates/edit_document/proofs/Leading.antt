@@ -16,11 +16,12 @@ use Rattle.edit_document.specs.Walk.{State, last_of, without_last, element_added
 use Rattle.edit_document.proofs.SamePlace.{same_place_self, other_place, place_or}
 use Rattle.edit_document.proofs.Ends.{take_length}
 use Rattle.edit_document.proofs.ListElements.{OneSet, changed, other, in_set}
-use Rattle.edit_document.proofs.MoreAssertions.{first_kind, is_headed, allowed, IsClear, clear_front, clash_last}
+use Rattle.edit_document.proofs.MoreAssertions.{first_kind, allowed, IsClear, clear_front, clash_last}
+use Rattle.edit_document.proofs.MoreMembers.{is_headed}
 use Rattle.edit_document.proofs.Trees.{Grows, grows_then, grows_set, tree_set}
 use Rattle.edit_document.proofs.Standing.{Tells, Stands, nothing_below_spot}
 use Rattle.edit_document.proofs.Asserting.{Makes, makes, fails, element_makes}
-use Rattle.edit_document.proofs.Thinned.{leaf_alone}
+use Rattle.edit_document.proofs.ThinnedLines.{leaf_alone}
 use Rattle.edit_document.proofs.Walks.{walked_append, last_push}
 use Rattle.edit_document.proofs.Walking.{settled_is, entered_is, enters_element}
 use Rattle.edit_document.proofs.WalkedTokens.{waits, waits_are, fore, rear}

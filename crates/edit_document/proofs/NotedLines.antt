@@ -19,10 +19,11 @@ use Rattle.edit_document.specs.Marks.{mark, key_marks, statement_marks, line_mar
 use Rattle.edit_document.specs.Noting.{Notes}
 use Rattle.edit_document.proofs.TokenLaws.{past_some, run_parts}
 use Rattle.edit_document.proofs.ValueLaws.{blank_parts}
-use Rattle.edit_document.proofs.LineLaws.{header_sound, element_sound, comment_sound, lines_sound, AreGoodLines, lines_read, lines_read_again}
+use Rattle.edit_document.proofs.LineLaws.{lines_read, lines_read_again}
+use Rattle.edit_document.proofs.LineSound.{header_sound, element_sound, comment_sound, lines_sound, AreGoodLines}
 use Rattle.edit_document.proofs.MultiLaws.{line_end_sound}
 use Rattle.edit_document.proofs.Loops.{rest_of}
-use Rattle.edit_document.proofs.NotedValues.{mapped, unmapped}
+use Rattle.edit_document.proofs.NotedTokens.{mapped, unmapped}
 
 header_here : (bytes key_end rest : List ℕ) (k : Key) → key_at (past_blanks (drop 1 bytes)) ≡ Some (k, key_end) → Some rest ≡ past right_bracket (past_blanks key_end)
     → header_at bytes ≡ Some (header (blanks (drop 1 bytes)) k (blanks key_end), rest)

@@ -8,7 +8,7 @@ use Rattle.edit_document.specs.Grammar.{Value, basic, literal, multi_basic, mult
 use Rattle.edit_document.specs.Assertions.{Place, Step, key, index, at, same_step, same_place, Kind, dotted, leaf, super, header_kind, array_kind, element_kind, Assertion, asserts, names, named, of_key, of_value, of_elements, of_members, of_pair, is_array, is_array_at, elements_at, resolved, fronts, header_place, of_statement, prefix_after, of_lines, assertions, together, NoClash}
 use Rattle.edit_document.specs.Tree.{kind_at}
 use Rattle.edit_document.specs.Replaces.{is_below}
-use Rattle.edit_document.proofs.Thinned.{leaf_alone}
+use Rattle.edit_document.proofs.ThinnedLines.{leaf_alone}
 use Rattle.edit_document.proofs.Cases.{by_test}
 use Rattle.edit_document.proofs.SamePlace.{same_step_is, same_place_is, same_place_self}
 

@@ -8,7 +8,8 @@ use Rattle.edit_document.specs.Numbers.{Sign, no_sign, plus, minus, sign, is_dec
 use Rattle.edit_document.specs.Grammar.{Value, integer, float, datetime, value, IsValue}
 use Rattle.edit_document.specs.ReadingSteps.{first, front, after, past}
 use Rattle.edit_document.specs.ReadingNumbers.{is_marked, digits_at, whole_at, sign_of, past_sign, is_power, exponent_at, fraction_read, whole_read, begins, decimal_at, based_at, count_at, group_at, date_at, second_at, time_at, offset_at, joins, dated_at, timed_at, unsigned_at, number_at}
-use Rattle.edit_document.proofs.TokenLaws.{bind_some, chosen, tested, some_is, first_is, first_of, at_drop, past_some, run_parts, run_all, length_front}
+use Rattle.edit_document.proofs.TokenLaws.{bind_some, chosen, tested, some_is, first_is, first_of, at_drop, past_some, run_parts, run_all}
+use Rattle.edit_document.proofs.KeyLaws.{length_front}
 use Rattle.std.proofs.lemmas.Bool.{and_parts}
 
 -- a number, a date or a time

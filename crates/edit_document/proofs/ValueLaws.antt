@@ -7,7 +7,8 @@ use Rattle.edit_document.specs.Supported.{IsSupportedValue, AreSupportedElements
 use Rattle.edit_document.specs.Depth.{depth, elements_depth, members_depth}
 use Rattle.edit_document.specs.ReadingNumbers.{begins, number_at}
 use Rattle.edit_document.specs.Reading.{◌>>=◌, Read, multi_at, first, past, blanks, past_blanks, blank_gap, gap_front, past_gap, basic_at, literal_at, key_at, scalar_at, starts, Pair, pair_at, members_at, elements_at, value_at}
-use Rattle.edit_document.proofs.TokenLaws.{bind_some, chosen, some_is, first_is, at_drop, past_some, run_parts, run_all, basic_sound, literal_sound, key_sound}
+use Rattle.edit_document.proofs.TokenLaws.{bind_some, chosen, some_is, first_is, at_drop, past_some, run_parts, run_all, basic_sound, literal_sound}
+use Rattle.edit_document.proofs.KeyLaws.{key_sound}
 use Rattle.edit_document.proofs.NumberLaws.{IsNumber, begins_is, number_sound}
 use Rattle.edit_document.proofs.MultiLaws.{multi_basic_sound, multi_literal_sound}
 use Rattle.edit_document.proofs.GapLaws.{front_parts, front_gap}
