@@ -157,3 +157,12 @@ refused_memory bytes seen marks slice form e n u same f whole refusal stop m =
 
 pub answer_memory : (r : Result Shown Error) (e e2 : Error) (P : Shown → Type 0) → r ≡ Err e2 → e2 ≡ e → IsMemory e → MatchResult r P IsMemory
 answer_memory r e e2 P was same m = subst (λ (x : Result Shown Error). MatchResult x P IsMemory) (sym was) (subst IsMemory (sym same) m)
+
+-- a text over whose marks no walk ends is no document, whatever form it has
+pub no_document : (bytes : List ℕ) → IsUtf8 bytes → spots_of bytes ≡ None → (form : Text) → IsManifest bytes form → ⊥
+no_document bytes u none form m =
+    refused_is bytes form m u (stops (walked bytes (text_marks form) start) (ap (λ (o : Option Text). o >>= λ f. walked bytes (text_marks f) start >>= λ s. Some s.spots) (sym (manifest_form bytes form m)) ∙ none))
+  where
+    stops : (o : Option State) → (o >>= λ s. Some s.spots) ≡ None → o ≡ None
+    stops None e = refl
+    stops (Some s) e = absurd (let clash : Some s.spots ≡ None = e in cc)

@@ -81,9 +81,11 @@ pub mod StandardFacts
 pub mod NumberFacts
 pub mod ArrayFacts
 pub mod MultiFacts
+pub mod KeyFacts
 pub mod ShownForms
 pub mod ReplacedDocuments
 pub mod Walking
 pub mod Closing
 pub mod TextTokens
 pub mod Documents
+pub mod StandingFacts
