@@ -1,12 +1,11 @@
 -- What assertions make of spots and of the nodes that keep them.
-use Rattle.std.proofs.Common.{◌≡◌, ℕ, zero, suc, ◌+◌, ◌<◌, ◌≤◌, true, false, cond, List, [], ◌∷◌, ◌++◌, length, drop, get_or, Option, Some, None, refl, sym, ap, subst, ◌∙◌, ◌⊎◌, inl, inr, arith, String, Global}
+use Rattle.std.proofs.Common.{◌≡◌, ℕ, zero, suc, ◌+◌, ◌<◌, ◌≤◌, true, false, cond, List, [], ◌∷◌, ◌++◌, length, get_or, Option, Some, None, refl, sym, ap, subst, ◌∙◌, arith, String, Global}
 use Rattle.std.specs.Prelude.{map, slice_get, slice_set, string_bytes, nat_le, unwrap_or}
 use Rattle.std.specs.Map.{lookup}
 use Rattle.std.specs.Str.{bytes_eq}
-use Rattle.std.proofs.lemmas.Bool.{cases_lt}
 use Rattle.std.proofs.lemmas.Bool.Decides.{nat_tests}
 use Rattle.std.proofs.lemmas.List.{length-set, length_push, map-append}
-use Rattle.std.proofs.lemmas.Option.{slice_get_past, slice_get_read, slice_get_within, same_Some}
+use Rattle.std.proofs.lemmas.Option.{slice_get_past, slice_get_read, same_Some}
 use Rattle.std.specs.String.{string_eq}
 use Rattle.indexmap.specs.IndexMap.{get_by_text, insert_entry}
 use Rattle.indexmap.proofs.CallerLemmas.{insert_entry-new}
@@ -16,12 +15,11 @@ use Rattle.edit_document.specs.declared.nodes.Content.{Content}
 use Rattle.edit_document.specs.declared.nodes.Taken.{Taken}
 use Rattle.edit_document.specs.declared.nodes.Taken.TheVariants.{Dotted, Value, Super, Header, Array, Element}
 use Rattle.edit_document.specs.Assertions.{key, index, Place, at}
-use Rattle.edit_document.specs.Reading.{◌>>=◌}
 use Rattle.edit_document.specs.Taking.{joins, stronger}
-use Rattle.edit_document.specs.Nodes.{Shape, section, Spot, shape_of, Keeps, Holds, below}
-use Rattle.edit_document.specs.Walk.{last_table, spot_at, child, target_of, with_taken, taken_again, with_member, with_element, added, element_added, asserted_at, asserted, numbered, reached}
-use Rattle.edit_document.specs.WalkState.{Adds, Puts}
-use Rattle.edit_document.proofs.ListElements.{OneMore, OneSet, changed, drop_from, equal_or, get_front, get_last, get_set_other, get_set_same, in_push, in_set, newest, other, slice_get_same, stood}
+use Rattle.edit_document.specs.Nodes.{Shape, Spot, shape_of, Keeps, Holds, below}
+use Rattle.edit_document.specs.Walk.{last_table, spot_at, child, target_of, with_taken, taken_again, with_member, with_element, added, element_added}
+use Rattle.edit_document.specs.WalkState.{Adds}
+use Rattle.edit_document.proofs.ListElements.{OneMore, OneSet, changed, in_push, in_set, newest, other, stood}
 
 -- ---- nodes and spots
 

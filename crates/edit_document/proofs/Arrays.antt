@@ -1,13 +1,13 @@
 -- How many elements of an array stand.
-use Rattle.std.proofs.Common.{◌≡◌, ℕ, zero, suc, ◌-◌, ◌<◌, ◌≤◌, List, [], ◌∷◌, length, Option, Some, None, refl, sym, ap, subst, ◌∙◌, inl, inr, arith}
+use Rattle.std.proofs.Common.{◌≡◌, ℕ, zero, suc, ◌<◌, List, [], ◌∷◌, length, Option, Some, None, refl, sym, ap, subst, ◌∙◌, inl, inr, arith}
 use Rattle.std.specs.Prelude.{slice_get}
 use Rattle.std.proofs.lemmas.Bool.{cases_lt}
-use Rattle.std.proofs.lemmas.Option.{slice_get_past, slice_get_within}
+use Rattle.std.proofs.lemmas.Option.{slice_get_within}
 use Rattle.edit_document.specs.Grammar.{Between, array, Elements}
-use Rattle.edit_document.specs.Assertions.{index, Place, at, Kind, leaf, Assertion}
+use Rattle.edit_document.specs.Assertions.{index, at, Kind, leaf, Assertion}
 use Rattle.edit_document.specs.Tree.{kind_at, count_elements}
 use Rattle.edit_document.specs.DocumentLayout.{Placed}
-use Rattle.edit_document.specs.Nodes.{Spot, below}
+use Rattle.edit_document.specs.Nodes.{Spot}
 use Rattle.edit_document.proofs.SamePlace.{not_root}
 use Rattle.edit_document.proofs.MoreAssertions.{first_kind}
 use Rattle.edit_document.proofs.Standing.{Lists, Stands, was_asserted, step_below}

@@ -1,10 +1,9 @@
 -- What asserting a member or an element makes of the spots that stand for the assertions so far.
-use Rattle.std.proofs.Common.{◌≡◌, ℕ, zero, suc, ◌+◌, ◌-◌, ◌<◌, ◌≤◌, Bool, true, false, cond, List, [], ◌∷◌, ◌++◌, length, Option, Some, None, refl, sym, ap, subst, ◌∙◌, ◌⊎◌, inl, inr, arith}
-use Rattle.std.specs.Prelude.{slice_get, slice_set, map, nat_lt, unwrap_or}
+use Rattle.std.proofs.Common.{◌≡◌, ℕ, suc, ◌+◌, ◌≤◌, Bool, true, false, cond, List, [], ◌∷◌, ◌++◌, length, Option, Some, None, refl, sym, ap, subst, ◌∙◌, ◌⊎◌, inl, inr, arith}
+use Rattle.std.specs.Prelude.{slice_get, slice_set, map}
 use Rattle.std.specs.Map.{lookup}
 use Rattle.std.specs.Str.{bytes_eq}
 use Rattle.std.proofs.lemmas.Bool.{cases_lt}
-use Rattle.std.proofs.lemmas.Bool.Decides.{nat_tests}
 use Rattle.std.proofs.lemmas.List.{append-nil, length_push, map-append}
 use Rattle.std.proofs.lemmas.Option.{slice_get_past}
 use Rattle.std.proofs.lemmas.Slice.Eq.{bytes_eq-Decides}
@@ -12,20 +11,19 @@ use Rattle.edit_document.specs.declared.nodes.Span.{Span}
 use Rattle.edit_document.specs.declared.nodes.Taken.{Taken}
 use Rattle.edit_document.specs.declared.nodes.Taken.TheVariants as takings
 use Rattle.edit_document.specs.declared.nodes.Taken.TheVariants.{Dotted, Super, Header, Array, Element}
-use Rattle.edit_document.specs.Assertions.{Step, key, index, Place, at, Kind, dotted, leaf, super, header_kind, array_kind, element_kind, Assertion, asserts, elements_at, resolved}
-use Rattle.edit_document.specs.Grammar.{Value, basic, literal, multi_basic, multi_literal, boolean, integer, float, datetime, array, inline}
-use Rattle.edit_document.specs.Tree.{kind_at}
-use Rattle.edit_document.specs.DocumentLayout.{shape_of_value, Placed}
+use Rattle.edit_document.specs.Assertions.{Step, key, index, Place, at, Kind, Assertion}
+use Rattle.edit_document.specs.DocumentLayout.{Placed}
 use Rattle.edit_document.specs.Taking.{taken_of, joins}
-use Rattle.edit_document.specs.Nodes.{Shape, section, Spot, StandsAt, below}
-use Rattle.edit_document.specs.Walk.{last_of, last_table, spot_at, target_of, with_taken, taken_again, with_member, with_element, added, element_added, numbered, asserted}
+use Rattle.edit_document.specs.Nodes.{Spot, StandsAt, below}
+use Rattle.edit_document.specs.Walk.{spot_at, target_of, with_taken, taken_again, with_member, with_element, added, element_added, numbered, asserted}
 use Rattle.edit_document.proofs.SamePlace.{not_root}
 use Rattle.edit_document.proofs.ListElements.{get_front, get_last, equal_or}
-use Rattle.edit_document.proofs.Adding.{child_is, target_is, target_other, added_long, added_made, element_long, element_made}
+use Rattle.edit_document.proofs.Adding.{child_is, target_other, added_long, added_made, element_long, element_made}
 use Rattle.edit_document.proofs.Reaching.{asserted_new, asserted_old}
-use Rattle.edit_document.proofs.MoreAssertions.{first_kind, allowed, IsClear, clash_last, short_last, is_element, is_headed, elements_below, elements_none}
+use Rattle.edit_document.proofs.MoreAssertions.{first_kind, allowed, IsClear, clash_last, short_last}
+use Rattle.edit_document.proofs.MoreMembers.{is_element, is_headed}
 use Rattle.edit_document.proofs.Trees.{Grows, grows_set, Gains}
-use Rattle.edit_document.proofs.Standing.{IsIndexed, noted, shape_of_kind, Stands, was_asserted, nothing_below_spot, nothing_under, stands_again}
+use Rattle.edit_document.proofs.Standing.{IsIndexed, noted, shape_of_kind, Stands, stands_again}
 use Rattle.edit_document.proofs.Gaining.{Shows, stands_gained, gained_grows, gained_last}
 
 -- the spots stand for one assertion more, whose place has a number; or it clashes
@@ -105,7 +103,7 @@ too_long made a p x place le clear =
     let more : length (at p x) ≡ length p + 1 = length_push p x in
     omega arith
 
-added_makes : (made : List Assertion) (written : List Placed) (spots : List Spot) (t : ℕ) (s : Spot) (name : List ℕ) (a : Assertion) (span : Option Span) → Stands made written spots → slice_get spots t ≡ Some s → below s (key name) ≡ None → a.place ≡ at s.place (key name)
+pub added_makes : (made : List Assertion) (written : List Placed) (spots : List Spot) (t : ℕ) (s : Spot) (name : List ℕ) (a : Assertion) (span : Option Span) → Stands made written spots → slice_get spots t ≡ Some s → below s (key name) ≡ None → a.place ≡ at s.place (key name)
     → is_element a.kind ≡ false → Makes made written spots a (noted a.place span) (added spots t name (shape_of_kind a.kind) (taken_of a.kind) span)
 added_makes made written spots t s name a span st here none place plain = elim (cases_lt (length s.place) 80) [
   | inl few ↦
@@ -161,117 +159,6 @@ member_makes made written spots t s name a span st here place plain kind spanned
         makes_along
         (asserted_old spots t j name (shape_of_kind a.kind) (taken_of a.kind) span (child_is spots t s name here ∙ e) ∙ ap (λ (n : ℕ). numbered n (taken_again spots n (taken_of a.kind))) target)
         (more_none made written spots a span (numbered j (taken_again spots j (taken_of a.kind))) j d.0 st d.1 same inner spanned (again_makes made written spots j d.0 a st d.1 same inner plain))
-
--- ---- a header that goes on below a member
-
-resolved_by : (earlier : List Assertion) (p : Place) (n : ℕ) → elements_at earlier p ≡ n → resolved earlier p ≡ cond (nat_lt 0 n) (at p (index (n - 1))) p
-resolved_by earlier p n e = ap (λ (m : ℕ). cond (nat_lt 0 m) (at p (index (m - 1))) p) e
-
--- what has no table of its own among its elements
-no_table : (v : Value) (numbers : List ℕ) → last_table (shape_of_value v) numbers ≡ None
-no_table (basic ps) numbers = refl
-no_table (literal text) numbers = refl
-no_table (multi_basic ps) numbers = refl
-no_table (multi_literal ps) numbers = refl
-no_table (boolean b) numbers = refl
-no_table (integer n) numbers = refl
-no_table (float f) numbers = refl
-no_table (datetime d) numbers = refl
-no_table (array g es) numbers = refl
-no_table (inline g ms) numbers = refl
-
-no_last : (k : Kind) (numbers : List ℕ) → (k ≡ array_kind → ⊥) → last_table (shape_of_kind k) numbers ≡ None
-no_last (dotted true) numbers ne = refl
-no_last (dotted false) numbers ne = refl
-no_last (leaf v) numbers ne = no_table v numbers
-no_last super numbers ne = refl
-no_last header_kind numbers ne = refl
-no_last array_kind numbers ne = absurd (ne refl)
-no_last element_kind numbers ne = refl
-
-array_or : (k : Kind) → (k ≡ array_kind) ⊎ (k ≡ array_kind → ⊥)
-array_or (dotted b) = inr (λ e. cc)
-array_or (leaf v) = inr (λ e. cc)
-array_or super = inr (λ e. cc)
-array_or header_kind = inr (λ e. cc)
-array_or array_kind = inl refl
-array_or element_kind = inr (λ e. cc)
-
-pub super_makes : (made earlier : List Assertion) (written : List Placed) (spots : List Spot) (t : ℕ) (s : Spot) (name : List ℕ) (by : Place) → Stands made written spots → slice_get spots t ≡ Some s
-    → ((p : Place) → elements_at earlier p ≡ elements_below made p) → ((p : Place) → (elements_at earlier p ≡ 0) ⊎ (kind_at made p ≡ Some array_kind))
-    → Makes made written spots (asserts by (resolved earlier (at s.place (key name))) super) [] (asserted spots t name section Super None)
-super_makes made earlier written spots t s name by st here even alone = go (below s (key name)) refl
-  where
-    p : Place
-    p = at s.place (key name)
-
-    a : Assertion
-    a = asserts by (resolved earlier (at s.place (key name))) super
-
-    taken_at : (j e : ℕ) (d : Spot) (q : Place) → below s (key name) ≡ Some j → target_of spots j Super ≡ e → slice_get spots e ≡ Some d → d.place ≡ q → resolved earlier (at s.place (key name)) ≡ q → (q ≡ [] → ⊥)
-        → Makes made written spots (asserts by (resolved earlier (at s.place (key name))) super) [] (asserted spots t name section Super None)
-    taken_at j e d q b target stands place is inner =
-        makes_along (asserted_old spots t j name section Super None (child_is spots t s name here ∙ b) ∙ ap (λ (n : ℕ). numbered n (taken_again spots n Super)) target)
-        (again_makes made written spots e d (asserts by (resolved earlier (at s.place (key name))) super) st stands (is ∙ sym place) (λ root. inner (sym place ∙ root)) refl)
-
-    counted : (j : ℕ) (d : Spot) → (stands : slice_get spots j ≡ Some d) → (st.tells j d stands).kind ≡ array_kind → d.place ≡ at s.place (key name) → elements_at earlier (at s.place (key name)) ≡ length d.elements
-    counted j d stands kind place = even (at s.place (key name)) ∙ ap (elements_below made) (sym place) ∙ sym ((st.tells j d stands).count (ap is_headed kind))
-
-    last_is : (j : ℕ) (d : Spot) → (stands : slice_get spots j ≡ Some d) → (st.tells j d stands).kind ≡ array_kind → last_table d.shape d.elements ≡ last_of d.elements
-    last_is j d stands kind = ap (λ (x : Shape). last_table x d.elements) ((st.tells j d stands).shape ∙ ap shape_of_kind kind)
-
-    some : (j : ℕ) (d : Spot) (n : ℕ) → below s (key name) ≡ Some j → (stands : slice_get spots j ≡ Some d) → (st.tells j d stands).kind ≡ array_kind → d.place ≡ at s.place (key name) → length d.elements ≡ n → Makes made written spots (asserts by (resolved earlier (at s.place (key name))) super) [] (asserted spots t name section Super None)
-    some j d zero b stands kind place size =
-        let none : last_of d.elements ≡ None = slice_get_past d.elements (length d.elements - 1) (omega arith) in
-        taken_at j j d (at s.place (key name)) b (target_is spots j d stands ∙ ap (λ (o : Option ℕ). unwrap_or o j) (last_is j d stands kind ∙ none)) stands place (resolved_by earlier (at s.place (key name)) 0 (counted j d stands kind place ∙ size)) (not_root s.place (key name))
-    some j d (suc n) b stands kind place size =
-        let lt : n < length d.elements = omega arith in
-        let l = last_some d.elements n lt in
-        let number : length d.elements - 1 ≡ n = omega arith in
-        let less : suc n - 1 ≡ n = omega arith in
-        let positive : nat_lt 0 (suc n) ≡ true = grind (arith, nat_tests) in
-        let last : last_of d.elements ≡ Some l.0 = ap (slice_get d.elements) number ∙ l.1 in
-        let e = st.tree.down j l.0 d (index n) stands l.1 in
-        let upper : e.0.place ≡ at (at s.place (key name)) (index n) = e.2 ∙ ap (λ (q : Place). at q (index n)) place in
-        taken_at j l.0 e.0 (at (at s.place (key name)) (index n)) b (target_is spots j d stands ∙ ap (λ (o : Option ℕ). unwrap_or o j) (last_is j d stands kind ∙ last)) e.1 upper (resolved_by earlier (at s.place (key name)) (suc n) (counted j d stands kind place ∙ size) ∙ ap (λ (b : Bool). cond b (at (at s.place (key name)) (index (suc n - 1))) (at s.place (key name))) positive ∙ ap (λ (m : ℕ). at (at s.place (key name)) (index m)) less) (not_root (at s.place (key name)) (index n))
-      where
-        last_some : (xs : List ℕ) (i : ℕ) → i < length xs → (x : ℕ) × (slice_get xs i ≡ Some x)
-        last_some xs i lt = pick (slice_get xs i) refl
-          where
-            pick : (o : Option ℕ) → slice_get xs i ≡ o → (x : ℕ) × (slice_get xs i ≡ Some x)
-            pick (Some x) e = (x, e)
-            pick None e = absurd (past xs i lt e)
-              where
-                past : (xs : List ℕ) (i : ℕ) → i < length xs → slice_get xs i ≡ None → ⊥
-                past [] i lt e = omega arith
-                past (x ∷ xs) zero lt e = cc
-                past (x ∷ xs) (suc i) lt e = past xs i (omega arith) e
-
-    -- no array of tables
-    none : (j : ℕ) (d : Spot) → below s (key name) ≡ Some j → (stands : slice_get spots j ≡ Some d) → ((st.tells j d stands).kind ≡ array_kind → ⊥) → d.place ≡ at s.place (key name) → Makes made written spots (asserts by (resolved earlier (at s.place (key name))) super) [] (asserted spots t name section Super None)
-    none j d b stands other place =
-        let told = st.tells j d stands in
-        let bare : last_table d.shape d.elements ≡ None = ap (λ (x : Shape). last_table x d.elements) told.shape ∙ no_last told.kind d.elements other in
-        let inner : d.place ≡ [] → ⊥ = λ root. not_root s.place (key name) (sym place ∙ root) in
-        let zero_elements : elements_at earlier (at s.place (key name)) ≡ 0 = elim (alone (at s.place (key name))) [
-          | inl e ↦ e
-          | inr k ↦ absurd (other (let same : Some told.kind ≡ Some array_kind = sym (was_asserted told inner) ∙ ap (kind_at made) place ∙ k in cc))
-        ] in
-        taken_at j j d (at s.place (key name)) b (target_is spots j d stands ∙ ap (λ (o : Option ℕ). unwrap_or o j) bare) stands place (resolved_by earlier (at s.place (key name)) 0 zero_elements) (not_root s.place (key name))
-
-    go : (o : Option ℕ) → below s (key name) ≡ o → Makes made written spots (asserts by (resolved earlier (at s.place (key name))) super) [] (asserted spots t name section Super None)
-    go None e =
-        let nothing = nothing_below_spot made written spots t s (key name) st here e in
-        let zero_elements : elements_at earlier (at s.place (key name)) ≡ 0 =
-        even (at s.place (key name)) ∙ elements_none made (at s.place (key name)) (λ y. nothing_under made written spots (at s.place (key name)) y st (not_root s.place (key name)) nothing) in
-        let is : resolved earlier (at s.place (key name)) ≡ at s.place (key name) = resolved_by earlier (at s.place (key name)) 0 zero_elements in
-        makes_along (asserted_new spots t name section Super None (child_is spots t s name here ∙ e)) (added_makes made written spots t s name (asserts by (resolved earlier (at s.place (key name))) super) None st here e is refl)
-    go (Some j) e =
-        let d = st.tree.down t j s (key name) here e in
-        elim (array_or (st.tells j d.0 d.1).kind) [
-          | inl kind ↦ some j d.0 (length d.0.elements) e d.1 kind d.2 refl
-          | inr other ↦ none j d.0 e d.1 other d.2
-        ]
 
 -- ---- an element more
 

@@ -1,16 +1,16 @@
 -- Dates and times that are spelled so are read, under what may follow a value.
-use Rattle.std.proofs.Common.{◌≡◌, ℕ, zero, suc, ◌+◌, ◌<◌, ◌≤◌, nat_le, nat_lt, cond, not, Bool, true, false, ◌&&◌, ◌||◌, ◌==◌, eqb, eq-eqb, List, [], ◌∷◌, ◌++◌, length, slice_index, take, drop, Option, Some, None, IfSome, refl, sym, ap, subst, ◌∙◌, true≢false, arith}
-use Rattle.std.proofs.lemmas.Bool.{and_parts, cases_Bool}
+use Rattle.std.proofs.Common.{◌≡◌, ℕ, ◌<◌, ◌≤◌, nat_le, Bool, true, false, ◌&&◌, ◌||◌, eqb, eq-eqb, List, [], ◌∷◌, ◌++◌, length, Option, Some, None, IfSome, refl, ◌∙◌, arith}
 use Rattle.std.proofs.lemmas.Bool.Decides.{nat_tests}
 use Rattle.std.proofs.lemmas.List.{take_at, drop_at}
 use Rattle.std.specs.List.{prefix_len}
-use Rattle.edit_document.specs.Characters.{is_blank, is_bare, All}
-use Rattle.edit_document.specs.Numbers.{Sign, no_sign, plus, minus, sign, is_decimal, are_digits, are_more_digits, is_whole, Base, hexadecimal, octal, binary, base_letter, base_digit, Integer, decimal, based, integer_text, IsInteger, Exponent, exponent, IsExponent, optional_exponent, Float, with_fraction, with_exponent, infinite, not_a_number, float_text, IsFloat, Date, date, IsDate, Time, time, IsTime, HasDigits, fraction_text, Offset, local, zulu, shift, offset, IsOffset, DateTime, only_date, only_time, both, datetime_text, IsDateTime}
-use Rattle.edit_document.specs.Grammar.{Value, integer, float, datetime}
-use Rattle.edit_document.specs.ReadingSteps.{◌>>=◌, first, front, after, past}
-use Rattle.edit_document.specs.ReadingNumbers.{is_marked, digits_at, whole_at, sign_of, past_sign, is_power, exponent_at, fraction_read, whole_read, decimal_at, based_at, count_at, group_at, date_at, second_at, time_at, offset_at, joins, dated_at, timed_at, unsigned_at, number_at}
+use Rattle.edit_document.specs.Characters.{All}
+use Rattle.edit_document.specs.Numbers.{is_decimal, Date, date, IsDate, Time, time, IsTime, HasDigits, fraction_text, Offset, local, zulu, shift, offset, IsOffset, DateTime, only_date, only_time, both, datetime_text, IsDateTime}
+use Rattle.edit_document.specs.Grammar.{datetime}
+use Rattle.edit_document.specs.ReadingSteps.{first}
+use Rattle.edit_document.specs.ReadingNumbers.{count_at, group_at, date_at, second_at, time_at, offset_at, joins, dated_at, timed_at, unsigned_at, number_at}
 use Rattle.edit_document.proofs.TokenLaws.{front_again, after_again}
-use Rattle.edit_document.proofs.NumberReadAgain.{is_word, EndsValue, number_unsigned, is_start, start_digit}
+use Rattle.edit_document.proofs.NumberReadAgain.{number_unsigned, is_start, start_digit}
+use Rattle.edit_document.proofs.NumberEnds.{is_word, EndsValue}
 
 long_run : (class : ℕ → Bool) (ds rest : List ℕ) → All class ds → length ds ≤ prefix_len class (ds ++ rest)
 long_run class [] rest h = omega arith

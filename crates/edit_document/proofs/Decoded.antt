@@ -1,8 +1,8 @@
 -- What stands between delimiters may be cut out of a text, and what it says.
-use Rattle.std.proofs.Common.{◌≡◌, ℕ, suc, ◌+◌, ◌-◌, ◌<◌, ◌≤◌, Bool, true, false, cond, List, [], ◌∷◌, ◌++◌, length, get_or, Option, Some, None, refl, sym, ap, subst, ◌∙◌, append_assoc, arith}
+use Rattle.std.proofs.Common.{◌≡◌, ℕ, ◌+◌, ◌-◌, ◌<◌, ◌≤◌, true, List, [], ◌∷◌, ◌++◌, length, get_or, Option, Some, None, refl, sym, ap, subst, ◌∙◌, append_assoc, arith}
 use Rattle.std.specs.Borrow.{Bor}
 use Rattle.std.specs.Prelude.{slice_range, unwrap_or}
-use Rattle.std.specs.List.{prefix_len, AllByRecursion}
+use Rattle.std.specs.List.{AllByRecursion}
 use Rattle.std.specs.Str.{IsUtf8, IsCharBoundary}
 use Rattle.std.specs.Str.Pattern.{GetsRange}
 use Rattle.std.proofs.lemmas.Bool.Decides.{nat_tests}
@@ -10,12 +10,12 @@ use Rattle.std.proofs.lemmas.List.{take_at, drop_at, length-append}
 use Rattle.std.proofs.lemmas.Str.{encode_ascii, IsUtf8-past_char, IsUtf8-drop, IsCharBoundary-before_ascii, IsCharBoundary-at_seam}
 use Rattle.edit_document.specs.declared.read.marks.MarkKind.{MarkKind}
 use Rattle.edit_document.specs.declared.read.marks.MarkKind.TheVariants.{BarePart, BasicPart, LiteralPart, BasicString, LiteralString, MultiBasicString, MultiLiteralString, Integer, Float, DateTime}
-use Rattle.edit_document.specs.Characters.{quote, apostrophe, backslash, is_bare, is_ascii, is_unescaped, All}
-use Rattle.edit_document.specs.Strings.{Piece, plain, letter, short, long, feed, fold, delimiter, pieces, said, says}
+use Rattle.edit_document.specs.Characters.{quote, apostrophe, is_bare, is_ascii, All}
+use Rattle.edit_document.specs.Strings.{said}
 use Rattle.edit_document.specs.Decoding as decoding
 use Rattle.edit_document.specs.Decoding.{delimited, BasicSays, Says}
 use Rattle.edit_document.specs.Reading.{front}
-use Rattle.edit_document.proofs.TokenLaws.{AreBasic}
+use Rattle.edit_document.proofs.ListElements.{get_seam}
 
 -- ---- where a text may be cut
 
@@ -28,16 +28,12 @@ utf8_behind [] rest h u = u
 utf8_behind (b ∷ front) rest h u =
     utf8_behind front rest h.1 (IsUtf8-past_char (b ∷ (front ++ rest)) (front ++ rest) b u (ap (λ (e : List ℕ). e ++ (front ++ rest)) (sym (encode_ascii b h.0))))
 
-get_or_at : (xs ys : List ℕ) (b : ℕ) → get_or (xs ++ (b ∷ ys)) (length xs) 0 ≡ b
-get_or_at [] ys b = refl
-get_or_at (x ∷ xs) ys b = get_or_at xs ys b
-
 -- what begins with ASCII is UTF-8
 pub utf8_from : (xs ys : List ℕ) (b : ℕ) → IsUtf8 (xs ++ (b ∷ ys)) → b < 128 → IsUtf8 (b ∷ ys)
 utf8_from xs ys b u lt =
     let bytes = xs ++ (b ∷ ys) in
     let within : length xs < length bytes = omega (arith, length-append xs (b ∷ ys)) in
-    let ascii : get_or bytes (length xs) 0 < 128 = rw (get_or_at xs ys b) lt in
+    let ascii : get_or bytes (length xs) 0 < 128 = rw (get_seam xs ys b) lt in
     subst IsUtf8 (drop_at xs (b ∷ ys) (length xs) refl) (IsUtf8-drop bytes (length xs) u (IsCharBoundary-before_ascii bytes (length xs) within ascii))
 
 bare_ascii : (b : ℕ) → is_bare b ≡ true → b < 128

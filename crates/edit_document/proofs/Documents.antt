@@ -24,7 +24,7 @@ use Rattle.edit_document.specs.WalkState.{IsToken, KeepsState}
 use Rattle.edit_document.proofs.LineLaws.{read_again}
 use Rattle.edit_document.proofs.Ends.{Ends}
 use Rattle.edit_document.proofs.AllSupported.{all_supported}
-use Rattle.edit_document.proofs.Shallow.{shallow as shallow_form, manifest_form}
+use Rattle.edit_document.proofs.Shallow.{shallow as shallow_form, manifest_form, one_form}
 use Rattle.edit_document.proofs.Standing.{Stands}
 use Rattle.edit_document.proofs.WalkedLines.{Walked as Walks, ended, stuck, text_walked, text_even}
 use Rattle.edit_document.proofs.ShownTrees.{AreFull, tree_shown}
@@ -58,9 +58,6 @@ walk_of bytes form r = text_walked bytes form r.spells.well_formed r.supported r
 pub shallow : (bytes : List ℕ) (form : Text) → IsManifest bytes form → text_depth form ≤ 80
 shallow bytes form m = shallow_form bytes form m.document
 
-pub form_is : (bytes : List ℕ) (form : Text) → IsManifest bytes form → form_of bytes ≡ Some form
-form_is bytes form m = manifest_form bytes form m
-
 -- what is walked over is a document
 pub record Walked (bytes : List ℕ) (form : Text) (nodes : List Node) : Type 0 where
   pub spots : List Spot
@@ -77,7 +74,7 @@ walked_is bytes form nodes r keeps = go (walk_of bytes form r)
         let manifest : IsManifest bytes form = record { document = record { grammar = r.spells; short = st.clear.short; no_clash = st.clear.apart } } in
         record {
           spots = now;
-          found = ap (λ (o : Option Text). o >>= λ f. walked bytes (text_marks f) start >>= λ s. Some s.spots) (form_is bytes form manifest) ∙ ap (λ (o : Option State). o >>= λ s. Some s.spots) e;
+          found = ap (λ (o : Option Text). o >>= λ f. walked bytes (text_marks f) start >>= λ s. Some s.spots) (manifest_form bytes form manifest) ∙ ap (λ (o : Option State). o >>= λ s. Some s.spots) e;
           stands = st;
           holds = subst (KeepsState nodes) e keeps;
           manifest = manifest;
@@ -100,10 +97,6 @@ pub shows_form : (bytes : List ℕ) (form : Text) (nodes : List Node) → Walked
 unfolding shown_by
 shows_form bytes form nodes w place =
     ap (λ (o : Option (List Spot)). node_at (nodes_by o) place) w.found ∙ tree_shown (assertions form) (map placed (values form)) w.spots place w.stands (text_even form) (text_full form)
-
--- two forms of one text
-pub one_form : (bytes : List ℕ) (f g : Text) → IsManifest bytes f → IsManifest bytes g → f ≡ g
-one_form bytes f g a b = let same : Some f ≡ Some g = sym (form_is bytes f a) ∙ form_is bytes g b in cc
 
 pub read_is : (inside : Inside) (form : Text) → Walked (string_bytes inside.text) form inside.nodes.items → IsRead inside
 read_is inside form w = record {
@@ -157,10 +150,19 @@ refused_memory bytes seen marks slice form e n u same f whole refusal stop m =
           subst (λ (ms : List Mark). AllByRecursion (IsToken bytes) ms → NotMemory e → walked bytes ms start ≡ None) all stop in
           let none = s (tokens_of bytes f.0 r) other in
           let here : form_of bytes ≡ Some f.0 = read_again 80 bytes f.0 (record { spells = r.spells; supported = r.supported; shallow = f.3 }) in
-          let one : Some f.0 ≡ Some form = sym here ∙ form_is bytes form m in
+          let one : Some f.0 ≡ Some form = sym here ∙ manifest_form bytes form m in
           let same_form : f.0 ≡ form = cc in
           absurd (refused_is bytes form m u (subst (λ (g : Text). walked bytes (text_marks g) start ≡ None) same_form none))
     ]
 
 pub answer_memory : (r : Result Shown Error) (e e2 : Error) (P : Shown → Type 0) → r ≡ Err e2 → e2 ≡ e → IsMemory e → MatchResult r P IsMemory
 answer_memory r e e2 P was same m = subst (λ (x : Result Shown Error). MatchResult x P IsMemory) (sym was) (subst IsMemory (sym same) m)
+
+-- a text over whose marks no walk ends is no document, whatever form it has
+pub no_document : (bytes : List ℕ) → IsUtf8 bytes → spots_of bytes ≡ None → (form : Text) → IsManifest bytes form → ⊥
+no_document bytes u none form m =
+    refused_is bytes form m u (stops (walked bytes (text_marks form) start) (ap (λ (o : Option Text). o >>= λ f. walked bytes (text_marks f) start >>= λ s. Some s.spots) (sym (manifest_form bytes form m)) ∙ none))
+  where
+    stops : (o : Option State) → (o >>= λ s. Some s.spots) ≡ None → o ≡ None
+    stops None e = refl
+    stops (Some s) e = absurd (let clash : Some s.spots ≡ None = e in cc)

@@ -1,15 +1,15 @@
 -- Each well-formed value begins and ends with a character of ASCII.
-use Rattle.std.proofs.Common.{◌≡◌, ℕ, zero, suc, ◌+◌, ◌<◌, ◌≤◌, Bool, true, false, ◌&&◌, ◌||◌, ◌==◌, nat_lt, nat_le, if◌then◌else◌, List, [], ◌∷◌, ◌++◌, map, length, Option, None, Some, IfSome, refl, sym, ap, ◌∙◌, subst, ◌⊎◌, ⊎_elim, true≢false, lit<, lit≤, length-append, append_assoc, append-nil, arith}
-use Rattle.std.proofs.lemmas.Bool.{and_parts, cases_Bool}
+use Rattle.std.proofs.Common.{◌≡◌, ℕ, ◌<◌, ◌≤◌, Bool, true, false, ◌&&◌, ◌||◌, ◌==◌, nat_le, if◌then◌else◌, List, [], ◌∷◌, ◌++◌, length, Option, None, Some, IfSome, refl, sym, ap, ◌∙◌, true≢false, lit<, lit≤, length-append, append_assoc, arith}
+use Rattle.std.proofs.lemmas.Bool.{and_parts}
 use Rattle.std.proofs.lemmas.Bool.Decides.{nat_tests}
 use Rattle.std.specs.List.{AllByRecursion}
 use Rattle.std.specs.Char.{is_digit}
 use Rattle.edit_document.specs.Characters.{quote, apostrophe, left_bracket, right_bracket, left_brace, right_brace, All}
-use Rattle.edit_document.specs.Strings.{Piece, pieces}
-use Rattle.edit_document.specs.Numbers.{Sign, no_sign, plus, minus, sign, Base, hexadecimal, octal, binary, base_digit, base_letter, is_decimal, are_digits, are_more_digits, is_whole, Integer, decimal, based, integer_text, IsInteger, Exponent, exponent, IsExponent, optional_exponent, Float, with_fraction, with_exponent, infinite, not_a_number, float_text, IsFloat, Date, Time, date, time, IsDate, IsTime, HasDigits, fraction_text, Offset, local, zulu, shift, offset, IsOffset, DateTime, only_date, only_time, both, datetime_text, IsDateTime}
-use Rattle.edit_document.specs.Grammar.{gap, Between, Value, basic, literal, multi_basic, multi_literal, boolean, integer, float, datetime, array, inline, value, Elements, elements, Members, members, IsValue}
-use Rattle.edit_document.proofs.PutBefore.{Relation, IsKept, gap_before, elements_before, members_before, value_before}
-use Rattle.edit_document.proofs.LiteralBytes.{pieces_rest, Behind, behind_one}
+use Rattle.edit_document.specs.Strings.{pieces}
+use Rattle.edit_document.specs.Numbers.{Sign, no_sign, plus, minus, sign, Base, hexadecimal, octal, binary, base_digit, base_letter, is_decimal, are_digits, are_more_digits, is_whole, Integer, decimal, based, integer_text, IsInteger, Exponent, exponent, IsExponent, optional_exponent, Float, with_fraction, with_exponent, infinite, not_a_number, float_text, IsFloat, Date, Time, date, time, IsDate, IsTime, fraction_text, Offset, local, zulu, shift, offset, IsOffset, DateTime, only_date, only_time, both, datetime_text, IsDateTime}
+use Rattle.edit_document.specs.Grammar.{gap, Value, basic, literal, multi_basic, multi_literal, boolean, integer, float, datetime, array, inline, value, elements, members, IsValue}
+use Rattle.edit_document.proofs.PutBefore.{gap_before, elements_before, members_before, value_before, pieces_rest, Behind, behind_one}
+use Rattle.edit_document.proofs.Cases.{by_test}
 
 pub value_rest : (v : Value) (rest : List ℕ) → value v rest ≡ value v [] ++ rest
 value_rest v rest = value_before (Behind rest) (behind_one rest) v rest [] refl
@@ -59,9 +59,6 @@ base_ascii binary b e = digit_ascii b 2 (lit≤ tt) e
 
 abbrev IsAsciiClass : (ℕ → Bool) → Type 0
 IsAsciiClass class = (b : ℕ) → class b ≡ true → b < 128
-
-by_test : {P : Type 0} (c : Bool) → (c ≡ true → P) → (c ≡ false → P) → P
-by_test c t f = ⊎_elim t f (cases_Bool c)
 
 mutual
   digits_ascii : (class : ℕ → Bool) (ds : List ℕ) → IsAsciiClass class → are_digits class ds ≡ true → Ascii ds

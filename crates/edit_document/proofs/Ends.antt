@@ -1,21 +1,18 @@
 -- What stands at the end of a text, and what its tokens say.
-use Rattle.std.proofs.Common.{◌≡◌, ℕ, zero, suc, ◌+◌, ◌-◌, ◌<◌, ◌≤◌, Bool, true, false, cond, List, [], ◌∷◌, ◌++◌, length, take, drop, get_or, Option, Some, None, refl, sym, ap, subst, ◌∙◌, append_assoc, length-append, lit<, arith}
-use Rattle.std.specs.Prelude.{map, option_map, encode_utf8, IsUtf8}
-use Rattle.std.specs.List.{AllByRecursion, flat_map}
-use Rattle.std.specs.Str.{is_utf8}
+use Rattle.std.proofs.Common.{◌≡◌, ℕ, zero, suc, ◌+◌, ◌-◌, ◌<◌, Bool, true, List, [], ◌∷◌, ◌++◌, length, take, drop, get_or, refl, sym, ap, subst, ◌∙◌, append_assoc, length-append, lit<, arith}
+use Rattle.std.specs.Prelude.{encode_utf8, IsUtf8}
+use Rattle.std.specs.List.{AllByRecursion}
 use Rattle.std.specs.Str.Parse.{digits_value}
 use Rattle.std.proofs.lemmas.List.{append-nil}
-use Rattle.std.proofs.lemmas.Str.{IsUtf8-append, IsUtf8-nil, IsUtf8-encode, IsUtf8-take, IsUtf8-drop, IsUtf8-from_ascii, IsCharBoundary-before_ascii, IsCharBoundary-after_ascii, is_utf8-from_IsUtf8}
-use Rattle.edit_document.specs.declared.read.marks.Mark.{Mark}
-use Rattle.edit_document.specs.declared.read.marks.MarkKind.{MarkKind}
-use Rattle.edit_document.specs.declared.read.marks.MarkKind.TheVariants as kinds
-use Rattle.edit_document.specs.Characters.{quote, apostrophe, backslash, comma, equals, right_brace, is_blank, is_bare, is_literal_ch, All}
-use Rattle.edit_document.specs.Strings.{◌·◌, Piece, plain, letter, short, long, feed, fold, delimiter, piece, pieces, said, says, IsBasicPiece, Part, bare, basic_part, literal_part, part, IsPart, basic_text, literal_text, LineEnd, line_end, lf, crlf, Key, key, dotted, is_escape, escaped, is_hex, is_scalar}
-use Rattle.edit_document.specs.Grammar.{Between, blank, break, remark, gap, Value, basic, literal, multi_basic, multi_literal, boolean, integer, float, datetime, array, inline, Members, no_members, last_member, member, value, members, Statement, statement, Line, line}
+use Rattle.std.proofs.lemmas.Str.{IsUtf8-append, IsUtf8-nil, IsUtf8-encode, IsUtf8-take, IsUtf8-drop, IsUtf8-from_ascii, IsCharBoundary-before_ascii, IsCharBoundary-after_ascii}
+use Rattle.edit_document.specs.Characters.{quote, backslash, equals, is_bare, All}
+use Rattle.edit_document.specs.Strings.{Piece, plain, letter, short, long, feed, fold, delimiter, pieces, says, IsBasicPiece, Part, part, LineEnd, line_end, lf, crlf, Key, key, is_escape, escaped, is_hex, is_scalar}
+use Rattle.edit_document.specs.Grammar.{Between, gap, Value, Members, value, members, Statement, statement, Line, line}
 use Rattle.std.specs.Char.{IsScalar}
 use Rattle.std.proofs.lemmas.Bool.Decides.{nat_tests}
 use Rattle.edit_document.specs.Walk.{suffix}
-use Rattle.edit_document.proofs.Fronts.{Relation, IsKept, key_before, pair_before, gap_before, value_before, members_before, statement_before, line_before}
+use Rattle.edit_document.proofs.PutBefore.{Relation, IsKept, key_before, pair_before, gap_before, value_before, members_before, statement_before, line_before}
+use Rattle.edit_document.proofs.ListElements.{get_seam}
 
 -- the text ends so
 abbrev pub Ends : List ℕ → List ℕ → Type 0
@@ -78,10 +75,6 @@ ends_line_end bytes lf rest h = ends_one bytes 10 rest h
 ends_line_end bytes crlf rest h = ends_one bytes 10 rest (ends_one bytes 13 (10 ∷ rest) h)
 
 -- ---- texts
-
-get_seam : (xs ys : List ℕ) (y : ℕ) → get_or (xs ++ (y ∷ ys)) (length xs) 0 ≡ y
-get_seam [] ys y = refl
-get_seam (x ∷ xs) ys y = get_seam xs ys y
 
 -- a text may be cut before and behind a character of ASCII
 pub text_before : (xs ys : List ℕ) (c : ℕ) → c < 128 → IsUtf8 (xs ++ (c ∷ ys)) → IsUtf8 xs

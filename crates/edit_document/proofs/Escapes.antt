@@ -1,19 +1,19 @@
 -- What a basic string says, run by run and escape by escape.
-use Rattle.std.proofs.Common.{◌≡◌, ℕ, suc, ◌+◌, ◌<◌, ◌≤◌, Bool, true, false, eqb, cond, List, [], ◌∷◌, ◌++◌, length, take, drop, get_or, Option, Some, refl, sym, ap, subst, ◌∙◌, append_assoc, true≢false, arith}
+use Rattle.std.proofs.Common.{◌≡◌, ℕ, suc, ◌+◌, ◌<◌, ◌≤◌, Bool, true, false, cond, List, [], ◌∷◌, ◌++◌, length, take, drop, get_or, Option, Some, refl, sym, ap, subst, ◌∙◌, append_assoc, true≢false, arith}
 use Rattle.std.specs.Prelude.{encode_utf8, unwrap_or}
 use Rattle.std.specs.List.{prefix_len, AllByRecursion}
 use Rattle.std.specs.Str.{IsUtf8, IsCharBoundary}
 use Rattle.std.specs.Str.Parse.{digits_value}
 use Rattle.std.proofs.lemmas.Bool.Decides.{nat_tests}
 use Rattle.std.proofs.lemmas.List.{take_at, drop_at, length-append, append-nil, nil_from_length}
-use Rattle.std.proofs.lemmas.Str.{IsCharBoundary-at_seam, IsCharBoundary-after_ascii}
-use Rattle.edit_document.specs.Characters.{quote, apostrophe, backslash, is_blank, is_basic_ch, is_literal_ch, is_unescaped, All}
+use Rattle.std.proofs.lemmas.Str.{IsCharBoundary-at_seam}
+use Rattle.edit_document.specs.Characters.{quote, backslash, is_blank, is_basic_ch, is_unescaped, All}
 use Rattle.edit_document.specs.Strings.{LineEnd, lf, crlf, line_end, Space, spaces, IsSpace, Piece, plain, letter, short, long, feed, fold, delimiter, piece, pieces, is_escape, is_hex, NamesScalar, IsBasicPiece, IsMultiPiece, IsRawPiece, FoldsAreWhole, begins_with_space, said, says, says_multi}
 use Rattle.edit_document.specs.Strings as strings
-use Rattle.edit_document.specs.Decoding.{IsEscape, IsMarked, FoldStops, is_spacing, BasicSays, LineSays, MultiSays, RawSays, past_break}
+use Rattle.edit_document.specs.Decoding.{IsEscape, IsMarked, FoldStops, is_spacing}
 use Rattle.edit_document.specs.Reading.{scalar, first}
-use Rattle.edit_document.proofs.TokenLaws.{AreBasic, list_of_all, basic_ch_not, prefix_len_run}
-use Rattle.edit_document.proofs.PutBefore.{Relation, IsKept, piece_before}
+use Rattle.edit_document.proofs.TokenLaws.{list_of_all, basic_ch_not, prefix_len_run}
+use Rattle.edit_document.proofs.PutBefore.{piece_rest}
 use Rattle.edit_document.proofs.Decoded.{Ascii, utf8_behind}
 
 -- ---- codes
@@ -151,19 +151,10 @@ marked_bytes (feed end) marked fine = absurd marked
 marked_bytes (fold ws e more) marked fine = (omega arith, spacings_ascii (ws ++ line_end e (spaces more [])) (fold_spacing ws e more fine.0 fine.1))
 marked_bytes delimiter marked fine = absurd marked
 
-abbrev Own : List ℕ → Relation
-Own rest = λ whole own. whole ≡ own ++ rest
-
-own_one : (rest : List ℕ) → IsKept (Own rest)
-own_one rest c old new h = ap (λ (t : List ℕ). c ∷ t) h
-
-pub piece_front : (p : Piece) (rest : List ℕ) → piece quote p rest ≡ piece quote p [] ++ rest
-piece_front p rest = piece_before (Own rest) (own_one rest) quote p rest [] refl
-
 -- a text may be cut behind an escape and behind a fold
 behind_piece : (p : Piece) (rest bytes : List ℕ) (len : ℕ) → IsMarked p → IsMultiPiece p → IsUtf8 bytes → bytes ≡ piece quote p rest → len ≡ length (piece quote p []) → IsCharBoundary bytes len × (drop len bytes ≡ rest)
 behind_piece p rest bytes len marked fine u spelled e =
-    let whole = spelled ∙ piece_front p rest in
+    let whole = spelled ∙ piece_rest quote p rest in
     let v = utf8_behind (piece quote p []) rest (marked_bytes p marked fine) (subst IsUtf8 whole u) in
     (rw e (IsCharBoundary-at_seam bytes (piece quote p []) rest whole v), ap (drop len) whole ∙ drop_at (piece quote p []) rest len (sym e))
 
@@ -172,7 +163,7 @@ pub fold_length : (ws : List ℕ) (e : LineEnd) (more : List Space) (rest bytes 
     → 1 + n ≡ length (piece quote (fold ws e more) [])
 fold_length ws e more rest bytes n fine stops spelled is =
     let run = ws ++ line_end e (spaces more []) in
-    let whole : drop 1 bytes ≡ run ++ rest = ap (drop 1) (spelled ∙ piece_front (fold ws e more) rest) in
+    let whole : drop 1 bytes ≡ run ++ rest = ap (drop 1) (spelled ∙ piece_rest quote (fold ws e more) rest) in
     let k : n ≡ length run = is ∙ ap (prefix_len is_spacing) whole ∙ prefix_len_run is_spacing run rest (fold_spacing ws e more fine.0 fine.1) stops in
     omega arith
 

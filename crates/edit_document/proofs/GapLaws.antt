@@ -1,15 +1,15 @@
 -- The laws of the gaps of arrays: what is read is spelled so, and what is spelled so is read.
-use Rattle.std.proofs.Common.{◌≡◌, ℕ, zero, suc, ◌+◌, ◌≤◌, not, Bool, true, false, ◌&&◌, ◌||◌, ◌==◌, eqb, List, [], ◌∷◌, ◌++◌, length, slice_index, drop, Option, Some, None, refl, sym, ap, subst, ◌∙◌, inl, inr, arith}
+use Rattle.std.proofs.Common.{◌≡◌, ℕ, zero, suc, ◌+◌, ◌≤◌, Bool, true, false, ◌||◌, ◌==◌, eqb, List, [], ◌∷◌, ◌++◌, length, drop, Some, None, refl, ap, subst, ◌∙◌, inl, inr, arith}
 use Rattle.std.proofs.lemmas.Bool.Decides.{nat_tests}
 use Rattle.std.proofs.lemmas.List.{length-append}
-use Rattle.edit_document.specs.Characters.{line_feed, carriage_return, hash, right_bracket, is_blank, is_ch, All}
+use Rattle.edit_document.specs.Characters.{line_feed, carriage_return, hash, is_blank, is_ch}
 use Rattle.edit_document.specs.Strings.{LineEnd, lf, crlf, line_end}
 use Rattle.edit_document.specs.Numbers.{is_decimal}
 use Rattle.edit_document.specs.Grammar.{Between, blank, break, remark, gap, IsBetween, IsGap}
-use Rattle.edit_document.specs.Reading.{◌>>=◌, Read, first, front, after, line_end_at, between_at, and_more, gap_at, gap_front, past_gap}
-use Rattle.edit_document.proofs.TokenLaws.{bind_some, chosen, tested, some_is, first_is, at_drop, both, first_of, run_parts, run_all, front_again, after_again}
+use Rattle.edit_document.specs.Reading.{Read, first, front, after, line_end_at, between_at, and_more, gap_at, gap_front, past_gap}
+use Rattle.edit_document.proofs.TokenLaws.{bind_some, chosen, some_is, first_is, first_of, run_parts, run_all, front_again, after_again}
 use Rattle.edit_document.proofs.MultiLaws.{line_end_sound, line_end_again}
-use Rattle.edit_document.proofs.NumberReadAgain.{is_stop, EndsValue, blank_ends, stop_ends, stop_other, blank_other}
+use Rattle.edit_document.proofs.NumberEnds.{is_stop, EndsValue, blank_ends, stop_ends, stop_other, blank_other}
 
 -- ---- what is read is spelled so
 

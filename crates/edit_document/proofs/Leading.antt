@@ -13,18 +13,20 @@ use Rattle.edit_document.specs.DocumentLayout.{shape_of_value, Placed, span_at}
 use Rattle.edit_document.specs.Reading.{◌>>=◌}
 use Rattle.edit_document.specs.Nodes.{Shape, Spot, StandsAt, below}
 use Rattle.edit_document.specs.Walk.{State, last_of, without_last, element_added, asserted, front_shape, reached, settled_state, is_dotted_within, settled, entered_at, closed, walked}
-use Rattle.edit_document.proofs.SamePlace.{both_true, same_place_self, other_place, place_or}
+use Rattle.edit_document.proofs.SamePlace.{same_place_self, other_place, place_or}
 use Rattle.edit_document.proofs.Ends.{take_length}
 use Rattle.edit_document.proofs.ListElements.{OneSet, changed, other, in_set}
-use Rattle.edit_document.proofs.MoreAssertions.{first_kind, is_headed, allowed, IsClear, clear_front, clash_last}
+use Rattle.edit_document.proofs.MoreAssertions.{first_kind, allowed, IsClear, clear_front, clash_last}
+use Rattle.edit_document.proofs.MoreMembers.{is_headed}
 use Rattle.edit_document.proofs.Trees.{Grows, grows_then, grows_set, tree_set}
 use Rattle.edit_document.proofs.Standing.{Tells, Stands, nothing_below_spot}
 use Rattle.edit_document.proofs.Asserting.{Makes, makes, fails, element_makes}
-use Rattle.edit_document.proofs.Thinned.{leaf_alone}
+use Rattle.edit_document.proofs.ThinnedLines.{leaf_alone}
 use Rattle.edit_document.proofs.Walks.{walked_append, last_push}
 use Rattle.edit_document.proofs.Walking.{settled_is, entered_is, enters_element}
 use Rattle.edit_document.proofs.WalkedTokens.{waits, waits_are, fore, rear}
 use Rattle.edit_document.proofs.Landing.{Lands, lands, misses, landed, pair_lands}
+use Rattle.std.proofs.lemmas.Bool.{and_parts}
 
 -- the walk goes on with these assertions, or they clash
 pub data Leads (before : List Spot) (made : List Assertion) (written : List Placed) (tables : List ℕ) (r : Option State) : Type 0 where
@@ -136,7 +138,7 @@ leaf_refused [] p k v e h = cc
 leaf_refused (a ∷ made) p k v e h = go (same_place a.place p) refl e (leaf_refused made p k v)
   where
     parts : (cond (same_place a.place p) (together a.kind (leaf v)) true ≡ true) × (allowed made p (leaf v) ≡ true)
-    parts = both_true (cond (same_place a.place p) (together a.kind (leaf v)) true) (allowed made p (leaf v)) h
+    parts = and_parts (cond (same_place a.place p) (together a.kind (leaf v)) true) (allowed made p (leaf v)) h
 
     go : (b : Bool) → same_place a.place p ≡ b → cond b (Some a.kind) (kind_at made p) ≡ Some k → (kind_at made p ≡ Some k → allowed made p (leaf v) ≡ true → ⊥) → ⊥
     go true t g ih = let clash : true ≡ false = sym parts.0 ∙ ap (λ (b : Bool). cond b (together a.kind (leaf v)) true) t ∙ leaf_alone a.kind v in cc

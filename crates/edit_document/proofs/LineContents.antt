@@ -1,20 +1,14 @@
 -- What contents of strings say, as the pieces of a basic string over several lines.
-use Rattle.std.proofs.Common.{◌≡◌, ℕ, suc, ◌+◌, ◌<◌, ◌≤◌, Bool, true, false, eqb, cond, List, [], ◌∷◌, ◌++◌, length, take, drop, get_or, Option, Some, refl, sym, ap, subst, ◌∙◌, append_assoc, true≢false, arith}
-use Rattle.std.specs.Prelude.{encode_utf8, unwrap_or}
-use Rattle.std.specs.List.{prefix_len, AllByRecursion}
+use Rattle.std.proofs.Common.{◌≡◌, ℕ, true, false, eqb, List, [], ◌∷◌, drop, get_or, refl, sym, ap, ◌∙◌, arith}
+use Rattle.std.specs.List.{AllByRecursion}
 use Rattle.std.specs.Str.{IsUtf8, IsCharBoundary}
-use Rattle.std.specs.Str.Parse.{digits_value}
 use Rattle.std.proofs.lemmas.Bool.Decides.{nat_tests}
-use Rattle.std.proofs.lemmas.List.{take_at, drop_at, length-append, append-nil, nil_from_length}
-use Rattle.std.proofs.lemmas.Str.{IsCharBoundary-at_seam, IsCharBoundary-after_ascii}
-use Rattle.edit_document.specs.Characters.{quote, apostrophe, backslash, is_blank, is_basic_ch, is_literal_ch, is_unescaped, All}
-use Rattle.edit_document.specs.Strings.{LineEnd, lf, crlf, line_end, Space, spaces, IsSpace, Piece, plain, letter, short, long, feed, fold, delimiter, piece, pieces, is_escape, is_hex, NamesScalar, IsBasicPiece, IsMultiPiece, IsRawPiece, FoldsAreWhole, begins_with_space, said, says, says_multi}
-use Rattle.edit_document.specs.Strings as strings
-use Rattle.edit_document.specs.Decoding.{IsEscape, IsMarked, FoldStops, is_spacing, BasicSays, LineSays, MultiSays, RawSays, past_break}
-use Rattle.edit_document.specs.Reading.{scalar, first}
-use Rattle.edit_document.proofs.TokenLaws.{AreBasic, list_of_all, basic_ch_not, prefix_len_run}
-use Rattle.edit_document.proofs.PutBefore.{Relation, IsKept, piece_before}
-use Rattle.edit_document.proofs.Decoded.{Ascii, utf8_behind}
+use Rattle.std.proofs.lemmas.Str.{IsCharBoundary-after_ascii}
+use Rattle.edit_document.specs.Characters.{quote, apostrophe, is_basic_ch, is_literal_ch}
+use Rattle.edit_document.specs.Strings.{lf, crlf, Piece, plain, letter, short, long, feed, fold, delimiter, pieces, IsMultiPiece, IsRawPiece, FoldsAreWhole, said, says, says_multi}
+use Rattle.edit_document.specs.Decoding.{BasicSays, LineSays, MultiSays, RawSays, past_break}
+use Rattle.edit_document.specs.Reading.{first}
+use Rattle.edit_document.proofs.TokenLaws.{AreBasic}
 use Rattle.edit_document.proofs.Escapes.{AreLine}
 
 basic_folds : (ps : List Piece) → AreBasic ps → AreLine ps

@@ -1,26 +1,9 @@
 -- Elements of lists of which one is changed or added.
-use Rattle.std.proofs.Common.{◌≡◌, ℕ, zero, suc, ◌+◌, ◌<◌, ◌≤◌, true, false, cond, List, [], ◌∷◌, ◌++◌, length, drop, get_or, Option, Some, None, refl, sym, ap, subst, ◌∙◌, ◌⊎◌, inl, inr, arith, String, Global}
-use Rattle.std.specs.Prelude.{map, slice_get, slice_set, string_bytes, nat_le, unwrap_or}
-use Rattle.std.specs.Map.{lookup}
-use Rattle.std.specs.Str.{bytes_eq}
+use Rattle.std.proofs.Common.{◌≡◌, ℕ, zero, suc, ◌+◌, ◌<◌, List, [], ◌∷◌, ◌++◌, length, drop, Some, refl, sym, ap, ◌∙◌, ◌⊎◌, inl, inr, arith, get_or}
+use Rattle.std.specs.Prelude.{slice_get, slice_set}
 use Rattle.std.proofs.lemmas.Bool.{cases_lt}
-use Rattle.std.proofs.lemmas.Bool.Decides.{nat_tests}
-use Rattle.std.proofs.lemmas.List.{length-set, length_push, map-append}
-use Rattle.std.proofs.lemmas.Option.{slice_get_past, slice_get_read, slice_get_within, same_Some}
-use Rattle.std.specs.String.{string_eq}
-use Rattle.indexmap.specs.IndexMap.{get_by_text, insert_entry}
-use Rattle.indexmap.proofs.CallerLemmas.{insert_entry-new}
-use Rattle.edit_document.specs.declared.nodes.Node.{Node}
-use Rattle.edit_document.specs.declared.nodes.Span.{Span}
-use Rattle.edit_document.specs.declared.nodes.Content.{Content}
-use Rattle.edit_document.specs.declared.nodes.Taken.{Taken}
-use Rattle.edit_document.specs.declared.nodes.Taken.TheVariants.{Dotted, Value, Super, Header, Array, Element}
-use Rattle.edit_document.specs.Assertions.{key, index, Place, at}
-use Rattle.edit_document.specs.Reading.{◌>>=◌}
-use Rattle.edit_document.specs.Taking.{joins, stronger}
-use Rattle.edit_document.specs.Nodes.{Shape, section, Spot, shape_of, Keeps, Holds, below}
-use Rattle.edit_document.specs.Walk.{last_of, spot_at, child, target_of, with_taken, taken_again, with_member, with_element, added, element_added, asserted_at, asserted, numbered, reached}
-use Rattle.edit_document.specs.WalkState.{Adds, Puts}
+use Rattle.std.proofs.lemmas.List.{length_push}
+use Rattle.std.proofs.lemmas.Option.{slice_get_within, same_Some}
 
 pub get_front : {X : Type 0} (xs ys : List X) (i : ℕ) → i < length xs → slice_get (xs ++ ys) i ≡ slice_get xs i
 get_front [] ys i lt = absurd (omega arith)
@@ -81,3 +64,8 @@ drop_from (y ∷ ys) (suc i) x e = let up : suc i + 1 ≡ suc (i + 1) = omega ar
 
 pub slice_get_same : {X : Type 0} (xs : List X) (i : ℕ) (x y : X) → slice_get xs i ≡ Some x → slice_get xs i ≡ Some y → x ≡ y
 slice_get_same xs i x y a b = same_Some x y (sym a ∙ b)
+
+-- the byte behind a front
+pub get_seam : (xs ys : List ℕ) (y : ℕ) → get_or (xs ++ (y ∷ ys)) (length xs) 0 ≡ y
+get_seam [] ys y = refl
+get_seam (x ∷ xs) ys y = get_seam xs ys y

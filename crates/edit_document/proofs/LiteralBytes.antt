@@ -1,25 +1,10 @@
 -- The bytes of a literal, one after the other.
-use Rattle.std.proofs.Common.{◌≡◌, ℕ, ◌+◌, ◌-◌, ◌<◌, ◌≤◌, Bool, true, false, ◌==◌, ◌||◌, nat_lt, List, [], ◌∷◌, ◌++◌, map, length, get_or, take, drop, length-drop, get_or-drop, append_assoc, append-nil, take_all, refl, sym, ap, ◌∙◌, lit<, arith}
+use Rattle.std.proofs.Common.{◌≡◌, ℕ, ◌+◌, ◌-◌, ◌<◌, ◌≤◌, true, false, ◌==◌, nat_lt, List, [], ◌∷◌, ◌++◌, map, length, get_or, take, drop, length-drop, get_or-drop, append_assoc, append-nil, take_all, refl, ap, ◌∙◌, lit<, arith}
 use Rattle.std.proofs.lemmas.Bool.Decides.{nat_tests}
 use Rattle.std.proofs.lemmas.List.{drop_more, take_more, drop_all}
-use Rattle.edit_document.specs.Characters.{quote, backslash}
-use Rattle.edit_document.specs.Strings.{Piece, plain, letter, short, piece, pieces}
-use Rattle.edit_document.specs.Literals.{literal_piece, literal_body, literal_bytes, escaped, is_escaped, hex_digit}
-use Rattle.edit_document.proofs.PutBefore.{piece_before, pieces_before, Relation, IsKept}
-
--- ---- what follows a piece stands behind its own bytes
-
-abbrev pub Behind : List ℕ → Relation
-Behind rest = λ whole own. whole ≡ own ++ rest
-
-pub behind_one : (rest : List ℕ) → IsKept (Behind rest)
-behind_one rest c whole own e = ap (λ (l : List ℕ). c ∷ l) e
-
-pub piece_rest : (m : ℕ) (p : Piece) (rest : List ℕ) → piece m p rest ≡ piece m p [] ++ rest
-piece_rest m p rest = piece_before (Behind rest) (behind_one rest) m p rest [] refl
-
-pub pieces_rest : (m : ℕ) (ps : List Piece) (rest : List ℕ) → pieces m ps rest ≡ pieces m ps [] ++ rest
-pieces_rest m ps rest = pieces_before (Behind rest) (behind_one rest) m ps rest [] refl
+use Rattle.edit_document.specs.Characters.{quote}
+use Rattle.edit_document.specs.Literals.{literal_piece, literal_body, literal_bytes, escaped, is_escaped}
+use Rattle.edit_document.proofs.PutBefore.{piece_rest, pieces_rest}
 
 pub literal_parts : (said : List ℕ) → literal_bytes said ≡ quote ∷ (literal_body said ++ quote ∷ [])
 literal_parts said = ap (λ (l : List ℕ). quote ∷ l) (pieces_rest quote (map literal_piece said) (quote ∷ []))

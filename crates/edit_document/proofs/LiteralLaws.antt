@@ -1,14 +1,14 @@
 -- The string literal of a text is well formed and says the text, whatever the bytes of the text are.
-use Rattle.std.proofs.Common.{◌≡◌, ℕ, zero, suc, ◌<◌, ◌≤◌, Bool, true, false, not, ◌&&◌, ◌||◌, ◌==◌, nat_lt, nat_le, if◌then◌else◌, List, [], ◌∷◌, ◌++◌, map, length, refl, sym, ap, ap₂, ◌∙◌, subst, lit<, ◌⊎◌, inl, inr, ⊎_elim, true≢false, arith}
+use Rattle.std.proofs.Common.{◌≡◌, ℕ, zero, suc, ◌<◌, ◌≤◌, Bool, true, false, ◌&&◌, ◌==◌, nat_lt, nat_le, List, [], ◌∷◌, ◌++◌, map, length, refl, sym, ap, ◌∙◌, subst, lit<, ◌⊎◌, inl, inr, ⊎_elim, true≢false, arith}
 use Rattle.std.proofs.lemmas.Bool.{and_parts, cases_lt, eqb-true}
-use Rattle.std.specs.List.{AllByRecursion, list_all, flat_map}
+use Rattle.std.specs.List.{AllByRecursion, list_all}
 use Rattle.std.specs.Str.Parse.{digits_value}
 use Rattle.edit_document.specs.Characters.{quote, is_basic_ch, All}
 use Rattle.edit_document.specs.Strings.{Piece, plain, letter, short, long, feed, fold, delimiter, is_escape, is_hex, is_scalar, IsBasicPiece, said, says}
-use Rattle.edit_document.specs.Grammar.{Value, basic, IsValue}
+use Rattle.edit_document.specs.Grammar.{IsValue}
 use Rattle.edit_document.specs.Assertions.{same_bytes}
 use Rattle.edit_document.specs.Literals.{literal_piece, literal_of}
-use Rattle.edit_document.proofs.SamePlaces.{bytes_true}
+use Rattle.edit_document.proofs.SamePlace.{same_bytes_is}
 
 -- ---- bytes of ASCII, one by one
 
@@ -76,7 +76,7 @@ piece_fine b = ⊎_elim (λ l. low l) (λ g. high g) (cases_lt b 128)
     low : b < 128 → IsBasicPiece (literal_piece b) × (said quote (literal_piece b) ≡ b ∷ [])
     low h =
         let c = and_parts (fine (literal_piece b)) (same_bytes (said quote (literal_piece b)) (b ∷ [])) (from_all (λ b. fine (literal_piece b) && same_bytes (said quote (literal_piece b)) (b ∷ [])) 128 b checked h) in
-        (is_fine (literal_piece b) c.0, bytes_true _ _ c.1)
+        (is_fine (literal_piece b) c.0, same_bytes_is _ _ c.1)
 
     high : 128 ≤ b → IsBasicPiece (literal_piece b) × (said quote (literal_piece b) ≡ b ∷ [])
     high g = subst (λ p. IsBasicPiece p × (said quote p ≡ b ∷ [])) (sym (past_ascii b g)) (past_basic b g, refl)

@@ -1,5 +1,5 @@
 -- The ranges of edits at distinct places, found one by one and then sorted, are cut out of the text in their order.
-use Rattle.std.proofs.Common.{◌≡◌, ℕ, zero, suc, ◌+◌, ◌<◌, ◌≤◌, Bool, true, false, ◌==◌, cond, List, [], ◌∷◌, ◌++◌, map, length, get_or, Option, None, Some, refl, sym, ap, ap₂, ◌∙◌, subst, ◌⊎◌, inl, inr, ⊎_elim, true≢false, arith}
+use Rattle.std.proofs.Common.{◌≡◌, ℕ, ◌<◌, ◌≤◌, Bool, false, ◌==◌, cond, List, [], ◌∷◌, length, Some, refl, sym, ap, ◌∙◌, subst, inl, inr, true≢false, arith}
 use Rattle.std.proofs.lemmas.Bool.{eqb-true}
 use Rattle.std.proofs.lemmas.Bool.Decides.{nat_tests}
 use Rattle.std.proofs.lemmas.List.Sorted.{Contains-permutation, IsPermutation-sym}
@@ -8,23 +8,24 @@ use Rattle.std.specs.List.{AllByRecursion, IsDistinct}
 use Rattle.std.specs.List.Sorted.{IsPermutation}
 use Rattle.std.specs.Str.{IsUtf8}
 use Rattle.edit_document.specs.Grammar.{Text, text}
-use Rattle.edit_document.specs.Assertions.{Place, same_place, IsDocument}
+use Rattle.edit_document.specs.Assertions.{Place, same_place}
 use Rattle.edit_document.specs.Written.{Valued, start_of, end_of}
 use Rattle.edit_document.specs.Replaces.{Edits, new_text, replaced, edited, AreDistinct}
 use Rattle.edit_document.specs.Splices.{Range, ranges_of, IsRangeFor, AreRanges, Locates}
-use Rattle.edit_document.proofs.SamePlaces.{by_test, place_same}
 use Rattle.edit_document.proofs.Members.{Among, among_contained, contained_among, among_all, among_map}
 use Rattle.edit_document.proofs.ReplacedStrings.{strings_apart}
-use Rattle.edit_document.proofs.SwappedTexts.{NoneBelow, apart_none, replaced_swaps}
-use Rattle.edit_document.proofs.SplicedTexts.{AreEnclosed, Rises, swaps_rise}
+use Rattle.edit_document.proofs.SwappedTexts.{apart_none, replaced_swaps}
+use Rattle.edit_document.proofs.SplicedTexts.{Rises, swaps_rise}
 use Rattle.edit_document.proofs.SortedRanges.{AreFirst, AreRangesFor, Rewrites, ranges_rewrite, edit_among, edits_enclosed}
+use Rattle.edit_document.proofs.Cases.{by_test}
+use Rattle.edit_document.proofs.SamePlace.{same_place_self}
 
 -- ---- each edit counts at its place
 
 pub first_of_distinct : (edits : Edits) → AreDistinct edits → AreFirst edits
 first_of_distinct [] d e m = absurd m
 first_of_distinct (x ∷ edits) d e (inl h) =
-    subst (λ z. cond (same_place x.0 z.0) (Some x.1) (new_text edits z.0) ≡ Some z.1) (sym h) (ap (λ c. cond c (Some x.1) (new_text edits x.0)) (place_same x.0))
+    subst (λ z. cond (same_place x.0 z.0) (Some x.1) (new_text edits z.0) ≡ Some z.1) (sym h) (ap (λ c. cond c (Some x.1) (new_text edits x.0)) (same_place_self x.0))
 first_of_distinct (x ∷ edits) d e (inr m) =
     ap (λ c. cond c (Some x.1) (new_text edits e.0)) (among_all (λ f. same_place x.0 f.0 ≡ false) e edits d.0 m) ∙ first_of_distinct edits d.1 e m
 
@@ -79,7 +80,7 @@ starts_differ form all e f r q first up m n is other apart =
     (λ h. let eq : r.0 ≡ q.0 = eqb-true r.0 q.0 h in
     let same = same_start (length (text form)) (edited all form) (is.0.valued, e.1) (other.0.valued, f.1) up (edit_among form all e r first m is) (edit_among form all f q first n other) (sym is.0.starts ∙ eq ∙ other.0.starts) in
     let place : e.0 ≡ f.0 = sym is.0.there ∙ ap (λ (z : Valued × List ℕ). z.0.place) same ∙ other.0.there in
-    absurd (true≢false (sym (place_same e.0) ∙ ap (λ p. same_place e.0 p) place ∙ apart)))
+    absurd (true≢false (sym (same_place_self e.0) ∙ ap (λ p. same_place e.0 p) place ∙ apart)))
     (λ h. h)
 
 starts_apart : (form : Text) (all : Edits) (e : Place × List ℕ) (r : Range) (edits : Edits) (rs : List Range) → AreFirst all → Rises (ranges_of (length (text form)) (edited all form)) → Among e all → IsRangeFor form e r

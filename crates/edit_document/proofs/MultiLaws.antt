@@ -1,14 +1,13 @@
 -- Strings over several lines that are read are spelled so, and those that are spelled so are read.
-use Rattle.std.proofs.Common.{◌≡◌, ℕ, zero, suc, ◌+◌, ◌<◌, ◌≤◌, Bool, true, false, not, ◌&&◌, ◌||◌, ◌==◌, eqb, eq-eqb, List, [], ◌∷◌, ◌++◌, length, slice_index, drop, Option, Some, None, refl, sym, ap, subst, ◌∙◌, inl, inr, true≢false, arith}
-use Rattle.std.proofs.lemmas.Bool.Decides.{nat_tests}
-use Rattle.std.proofs.lemmas.List.{length-append}
+use Rattle.std.proofs.Common.{◌≡◌, ℕ, zero, suc, ◌+◌, ◌<◌, ◌≤◌, Bool, true, false, ◌&&◌, eqb, List, [], ◌∷◌, ◌++◌, length, slice_index, drop, Some, refl, sym, ap, subst, ◌∙◌, inl, inr, true≢false, arith}
 use Rattle.std.specs.List.{AllByRecursion}
-use Rattle.edit_document.specs.Characters.{line_feed, carriage_return, quote, apostrophe, backslash, is_blank, is_basic_ch, is_literal_ch, All}
-use Rattle.edit_document.specs.Strings.{LineEnd, lf, crlf, line_end, Space, blank, break, spaces, IsSpace, Piece, plain, letter, short, long, feed, fold, delimiter, piece, pieces, IsBasicPiece, IsMultiPiece, IsRawPiece, RunsFit, FoldsAreWhole, begins_with_space, is_escape}
+use Rattle.edit_document.specs.Characters.{line_feed, carriage_return, quote, apostrophe, backslash, is_blank, is_basic_ch, is_literal_ch}
+use Rattle.edit_document.specs.Strings.{LineEnd, lf, crlf, line_end, Space, blank, break, spaces, IsSpace, Piece, plain, letter, short, long, feed, fold, delimiter, piece, pieces, IsBasicPiece, IsMultiPiece, IsRawPiece, RunsFit, FoldsAreWhole, begins_with_space}
 use Rattle.edit_document.specs.Grammar.{three}
-use Rattle.edit_document.specs.Reading.{◌>>=◌, Read, first, blanks, past_blanks, line_end_at, begins_space, space_at, spaces_at, fold_at, feed_at, is_line_break, escape_at, spot_at, raw_at, line_piece_at, closes, delimiter_at, body_at, multi_at}
+use Rattle.edit_document.specs.Reading.{first, blanks, past_blanks, line_end_at, begins_space, space_at, spaces_at, fold_at, feed_at, is_line_break, spot_at, raw_at, line_piece_at, closes, delimiter_at, body_at, multi_at}
 use Rattle.edit_document.specs.ReadingNumbers.{begins}
-use Rattle.edit_document.proofs.TokenLaws.{bind_some, chosen, tested, some_is, first_is, first_of, at_drop, both, run_parts, run_all, escape_sound}
+use Rattle.edit_document.proofs.TokenLaws.{bind_some, chosen, tested, some_is, first_is, first_of, at_drop, run_parts, run_all, escape_sound}
+use Rattle.std.proofs.lemmas.Bool.{and_parts}
 
 -- ---- newlines
 
@@ -20,7 +19,7 @@ line_end_sound bytes x e =
       | inl h ↦ subst P (some_is _ x h.1) (first_is line_feed bytes (omega arith) h.0)
       | inr h ↦
           let t = tested (eqb (first bytes) carriage_return && eqb (slice_index bytes 1) line_feed) _ x h.1 in
-          let w = both (eqb (first bytes) carriage_return) (eqb (slice_index bytes 1) line_feed) t.0 in
+          let w = and_parts (eqb (first bytes) carriage_return) (eqb (slice_index bytes 1) line_feed) t.0 in
           subst P (some_is _ x t.1) (first_is carriage_return bytes (omega arith) w.0 ∙ ap (λ (r : List ℕ). carriage_return ∷ r) (at_drop 1 line_feed bytes (omega arith) w.1))
     ]
 
@@ -228,9 +227,9 @@ pub record IsKind (mark : ℕ) (valid : Piece → Type 0) : Type 0 where
 
 begins_three : (mark : ℕ) (text : List ℕ) → 0 < mark → closes mark text ≡ true → text ≡ three mark (drop 3 text)
 begins_three mark text lt e =
-    let w = both (begins mark mark mark text) _ e in
-    let y = both _ (eqb (slice_index text 2) mark) w.0 in
-    let z = both _ (eqb (slice_index text 1) mark) y.0 in
+    let w = and_parts (begins mark mark mark text) _ e in
+    let y = and_parts _ (eqb (slice_index text 2) mark) w.0 in
+    let z = and_parts _ (eqb (slice_index text 1) mark) y.0 in
     first_is mark text lt z.0 ∙ ap (λ (r : List ℕ). mark ∷ r) (at_drop 1 mark text lt z.1 ∙ ap (λ (r : List ℕ). mark ∷ r) (at_drop 2 mark text lt y.1))
 
 body_sound : (mark : ℕ) (valid : Piece → Type 0) → IsKind mark valid → (n few : ℕ) (text : List ℕ) (x : List Piece × List ℕ) → body_at mark n few text ≡ Some x → IsBody mark valid few text x

@@ -1,7 +1,7 @@
 -- The steps of the loops over strings of several lines.
-use Rattle.std.proofs.Common.{◌≡◌, ℕ, zero, suc, true, false, eqb, List, [], ◌∷◌, drop, Option, Some, None, refl, sym, ap, subst, ◌∙◌}
-use Rattle.edit_document.specs.Strings.{Piece, delimiter, Space}
-use Rattle.edit_document.specs.Reading.{◌>>=◌, Read, first, begins_space, space_at, spaces_at, line_piece_at, closes, delimiter_at, body_at}
+use Rattle.std.proofs.Common.{◌≡◌, ℕ, suc, true, false, eqb, List, ◌∷◌, drop, Some, None, refl}
+use Rattle.edit_document.specs.Strings.{delimiter}
+use Rattle.edit_document.specs.Reading.{◌>>=◌, Read, first, begins_space, space_at, spaces_at, line_piece_at, closes, body_at}
 use Rattle.edit_document.proofs.Loops.{rest_of}
 
 -- what stands before what is read does not change what follows it

@@ -1,5 +1,5 @@
 -- Strings over several lines that are spelled so are read.
-use Rattle.std.proofs.Common.{◌≡◌, ℕ, zero, suc, ◌+◌, ◌<◌, ◌≤◌, Bool, true, false, not, ◌&&◌, ◌||◌, ◌==◌, eqb, eq-eqb, List, [], ◌∷◌, ◌++◌, length, slice_index, Option, Some, None, refl, sym, ap, subst, ◌∙◌, ◌⊎◌, inl, inr, true≢false, arith}
+use Rattle.std.proofs.Common.{◌≡◌, ℕ, zero, suc, ◌+◌, ◌<◌, ◌≤◌, true, false, eqb, eq-eqb, List, [], ◌∷◌, ◌++◌, length, Some, refl, subst, ◌⊎◌, inl, inr, true≢false, arith}
 use Rattle.std.proofs.lemmas.Bool.Decides.{nat_tests}
 use Rattle.std.specs.List.{AllByRecursion}
 use Rattle.edit_document.specs.Characters.{line_feed, carriage_return, quote, apostrophe, backslash, is_blank, is_basic_ch, is_literal_ch, All}
@@ -62,7 +62,7 @@ raw_again (feed e) rest h o ends = rw (line_end_first e rest) (feed_again e rest
 raw_again (fold ws e more) rest h o ends = absurd h
 raw_again delimiter rest h o ends = absurd o
 
-literal_other : (b : ℕ) → is_literal_ch b ≡ true → eqb b apostrophe ≡ false
+pub literal_other : (b : ℕ) → is_literal_ch b ≡ true → eqb b apostrophe ≡ false
 literal_other b h = grind (arith, nat_tests)
 
 basic_first : (p : Piece) (rest : List ℕ) → IsMultiPiece p → IsOther p → eqb (first (piece quote p rest)) quote ≡ false

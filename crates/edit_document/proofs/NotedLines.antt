@@ -11,7 +11,7 @@ use Rattle.edit_document.specs.declared.read.marks.ReadError.{ReadError}
 use Rattle.edit_document.specs.declared.read.marks.ReadError.TheVariants.{Memory, NotToml}
 use Rattle.edit_document.specs.Characters.{left_bracket, right_bracket, is_blank}
 use Rattle.edit_document.specs.Strings.{LineEnd, line_end, Key, key}
-use Rattle.edit_document.specs.Grammar.{Statement, header, statement, comment, Line, empty_line, full_line, Lines, one_line, more_lines, lines, Text, Spells, element_header, AreLines}
+use Rattle.edit_document.specs.Grammar.{Statement, header, statement, comment, Line, empty_line, full_line, Lines, one_line, more_lines, lines, element_header, AreLines}
 use Rattle.edit_document.specs.Supported.{AreSupportedLines}
 use Rattle.edit_document.specs.Depth.{lines_depth}
 use Rattle.edit_document.specs.Reading.{◌>>=◌, first, blanks, past_blanks, past, key_at, header_at, element_header_at, statement_at, comment_front, past_comment, is_line_over, line_at, line_end_at, lines_at}
@@ -19,10 +19,11 @@ use Rattle.edit_document.specs.Marks.{mark, key_marks, statement_marks, line_mar
 use Rattle.edit_document.specs.Noting.{Notes}
 use Rattle.edit_document.proofs.TokenLaws.{past_some, run_parts}
 use Rattle.edit_document.proofs.ValueLaws.{blank_parts}
-use Rattle.edit_document.proofs.LineLaws.{header_sound, element_sound, statement_sound, comment_sound, line_sound, lines_sound, AreGoodLines, lines_read, lines_read_again}
+use Rattle.edit_document.proofs.LineLaws.{lines_read, lines_read_again}
+use Rattle.edit_document.proofs.LineSound.{header_sound, element_sound, comment_sound, lines_sound, AreGoodLines}
 use Rattle.edit_document.proofs.MultiLaws.{line_end_sound}
 use Rattle.edit_document.proofs.Loops.{rest_of}
-use Rattle.edit_document.proofs.NotedValues.{mapped, unmapped}
+use Rattle.edit_document.proofs.NotedTokens.{mapped, unmapped}
 
 header_here : (bytes key_end rest : List ℕ) (k : Key) → key_at (past_blanks (drop 1 bytes)) ≡ Some (k, key_end) → Some rest ≡ past right_bracket (past_blanks key_end)
     → header_at bytes ≡ Some (header (blanks (drop 1 bytes)) k (blanks key_end), rest)

@@ -1,15 +1,16 @@
 -- Each asserted place lies directly below the root or below a place that an earlier assertion opens; so nothing is
 -- asserted below a place that has a plain value.
-use Rattle.std.proofs.Common.{◌≡◌, ℕ, zero, suc, Bool, true, false, not, ◌&&◌, ◌||◌, ◌==◌, ◌-◌, nat_lt, if◌then◌else◌, cond, List, [], ◌∷◌, ◌++◌, map, Option, None, Some, option_map, refl, sym, ap, ap₂, ◌∙◌, subst, ◌⊎◌, inl, inr, ⊎_elim, true≢false, append_assoc, arith}
+use Rattle.std.proofs.Common.{◌≡◌, ℕ, suc, Bool, true, false, ◌-◌, nat_lt, if◌then◌else◌, cond, List, [], ◌∷◌, ◌++◌, map, None, Some, refl, sym, ap, ap₂, ◌∙◌, subst, ◌⊎◌, inl, inr, ⊎_elim, true≢false, append_assoc}
 use Rattle.std.proofs.lemmas.Bool.{and_parts, and_from}
 use Rattle.std.specs.List.{AllByRecursion}
 use Rattle.edit_document.specs.Strings.{Key, name}
-use Rattle.edit_document.specs.Grammar.{Value, basic, literal, multi_basic, multi_literal, boolean, integer, float, datetime, array, inline, Elements, no_elements, last_element, element, Members, no_members, last_member, member, Statement, pair, header, element_header, Line, empty_line, full_line, Lines, one_line, more_lines, Text}
+use Rattle.edit_document.specs.Grammar.{Value, basic, literal, multi_basic, multi_literal, boolean, integer, float, datetime, array, inline, Elements, no_elements, last_element, element, Members, no_members, last_member, member, Statement, pair, header, element_header, empty_line, full_line, Lines, one_line, more_lines, Text}
 use Rattle.edit_document.specs.Assertions.{Place, Step, key, index, at, same_step, same_place, Kind, dotted, leaf, super, header_kind, array_kind, element_kind, Assertion, asserts, names, named, of_key, of_value, of_elements, of_members, of_pair, is_array, is_array_at, elements_at, resolved, fronts, header_place, of_statement, prefix_after, of_lines, assertions, together, NoClash}
-use Rattle.edit_document.specs.Tree.{View, view_of_kind, kind_at, view_in}
+use Rattle.edit_document.specs.Tree.{kind_at}
 use Rattle.edit_document.specs.Replaces.{is_below}
-use Rattle.edit_document.proofs.SamePlaces.{by_test, place_true, step_true, place_same}
-use Rattle.edit_document.proofs.Thinned.{leaf_alone}
+use Rattle.edit_document.proofs.ThinnedLines.{leaf_alone}
+use Rattle.edit_document.proofs.Cases.{by_test}
+use Rattle.edit_document.proofs.SamePlace.{same_step_is, same_place_is, same_place_self}
 
 -- places may lie below one of this kind
 abbrev pub opens : Kind → Bool
@@ -122,7 +123,7 @@ counted : (earlier : List Assertion) (q : Place) → nat_lt 0 (elements_at earli
 counted [] q e = absurd cc
 counted (a ∷ earlier) q e =
     by_test (is_array_at q a)
-    (λ h. let b = and_parts (is_array a.kind) (same_place a.place q) h in inl (place_true a.place q b.1, array_opens a.kind b.0))
+    (λ h. let b = and_parts (is_array a.kind) (same_place a.place q) h in inl (same_place_is a.place q b.1, array_opens a.kind b.0))
     (λ h. inr (counted earlier q (sym (ap (λ c. nat_lt 0 (cond c (suc (elements_at earlier q)) (elements_at earlier q))) h) ∙ e)))
 
 -- what is to be shown of what follows the fronts
@@ -181,7 +182,7 @@ parent (u ∷ []) [] s e = absurd (true≢false (sym (and_parts (same_step u s) 
 parent (u ∷ v ∷ us) [] s e = absurd (true≢false (sym (and_parts (same_step u s) false e).1))
 parent (u ∷ us) (t ∷ ts) s e =
     let h = and_parts (same_step u t) (is_below us (at ts s)) e in
-    ⊎_elim (λ q. inl (ap₂ (λ x xs. x ∷ xs) (sym (step_true u t h.0)) q)) (λ q. inr (and_from (same_step u t) (is_below us ts) h.0 q)) (parent us ts s h.1)
+    ⊎_elim (λ q. inl (ap₂ (λ x xs. x ∷ xs) (sym (same_step_is u t h.0)) q)) (λ q. inr (and_from (same_step u t) (is_below us ts) h.0 q)) (parent us ts s h.1)
 
 any_opened : (target : Place) (made : List Assertion) (p : Place) → is_below target p ≡ true → Opened made p → AnyBelow target made
 any_opened target [] p b o = absurd o
@@ -234,7 +235,7 @@ none_there : (target q : Place) (made : List Assertion) → is_below target q �
 none_there target q [] low none_low = refl
 none_there target q (y ∷ ys) low none_low =
     by_test (same_place y.place q)
-    (λ h. absurd (none_low (inl (ap (λ r. is_below target r) (place_true y.place q h) ∙ low))))
+    (λ h. absurd (none_low (inl (ap (λ r. is_below target r) (same_place_is y.place q h) ∙ low))))
     (λ h. ap (λ c. if c then Some y.kind else kind_at ys q) h ∙ none_there target q ys low (λ a. none_low (inr a)))
 
 onto_any : (target : Place) (xs base : List Assertion) → AnyBelow target base → AnyBelow target (onto xs base)
@@ -266,8 +267,8 @@ shut_below t s ss q b shut clash has low =
 pub leaf_there : (target : Place) (b : Value) (made : List Assertion) → NoClash made → HasLeaf target b made → kind_at made target ≡ Some (leaf b)
 leaf_there target b [] clash has = absurd has
 leaf_there target b (y ∷ ys) clash (inl h) =
-    ap (λ c. if c then Some y.kind else kind_at ys target) (ap (λ r. same_place r target) h.0 ∙ place_same target) ∙ ap Some h.1
+    ap (λ c. if c then Some y.kind else kind_at ys target) (ap (λ r. same_place r target) h.0 ∙ same_place_self target) ∙ ap Some h.1
 leaf_there target b (y ∷ ys) clash (inr has) =
     by_test (same_place y.place target)
-    (λ h. absurd (with_leaf target b y.kind y.place ys (place_true y.place target h) has clash.0))
+    (λ h. absurd (with_leaf target b y.kind y.place ys (same_place_is y.place target h) has clash.0))
     (λ h. ap (λ c. if c then Some y.kind else kind_at ys target) h ∙ leaf_there target b ys clash.1 has)

@@ -1,16 +1,16 @@
 -- Numbers, dates and times that are read are spelled so.
-use Rattle.std.proofs.Common.{◌≡◌, ℕ, zero, suc, ◌+◌, ◌<◌, ◌≤◌, nat_le, cond, Bool, true, false, ◌&&◌, ◌||◌, ◌==◌, eqb, List, [], ◌∷◌, ◌++◌, length, slice_index, take, drop, Option, Some, None, IfSome, refl, sym, ap, subst, ◌∙◌, inl, inr, arith}
-use Rattle.std.proofs.lemmas.Bool.{eqb-true}
+use Rattle.std.proofs.Common.{◌≡◌, ℕ, zero, suc, ◌+◌, ◌<◌, ◌≤◌, nat_le, cond, Bool, true, false, ◌&&◌, ◌||◌, ◌==◌, eqb, List, [], ◌∷◌, ◌++◌, length, slice_index, take, drop, Option, Some, IfSome, refl, sym, ap, subst, ◌∙◌, inl, inr, arith}
 use Rattle.std.proofs.lemmas.Bool.Decides.{nat_tests}
 use Rattle.std.proofs.lemmas.List.{take-append-drop}
 use Rattle.std.specs.List.{prefix_len}
 use Rattle.edit_document.specs.Characters.{All}
-use Rattle.edit_document.specs.Numbers.{Sign, no_sign, plus, minus, sign, is_decimal, are_digits, is_whole, Base, hexadecimal, octal, binary, base_letter, base_digit, decimal, based, Exponent, exponent, IsExponent, with_fraction, with_exponent, infinite, not_a_number, Date, date, IsDate, Time, time, IsTime, HasDigits, fraction_text, Offset, local, zulu, shift, offset, IsOffset, only_date, only_time, both}
+use Rattle.edit_document.specs.Numbers.{Sign, no_sign, plus, minus, sign, is_decimal, are_digits, is_whole, Base, hexadecimal, octal, binary, base_letter, base_digit, Exponent, exponent, IsExponent, Date, date, IsDate, Time, time, IsTime, HasDigits, fraction_text, Offset, offset, IsOffset}
 use Rattle.edit_document.specs.Grammar.{Value, integer, float, datetime, value, IsValue}
-use Rattle.edit_document.specs.ReadingSteps.{◌>>=◌, first, front, after, past}
+use Rattle.edit_document.specs.ReadingSteps.{first, front, after, past}
 use Rattle.edit_document.specs.ReadingNumbers.{is_marked, digits_at, whole_at, sign_of, past_sign, is_power, exponent_at, fraction_read, whole_read, begins, decimal_at, based_at, count_at, group_at, date_at, second_at, time_at, offset_at, joins, dated_at, timed_at, unsigned_at, number_at}
-use Rattle.edit_document.proofs.TokenLaws.{bind_some, chosen, tested, some_is, first_is, first_of, at_drop, past_some, run_parts, run_all, length_front}
-use Rattle.edit_document.proofs.TokenLaws as tokens
+use Rattle.edit_document.proofs.TokenLaws.{bind_some, chosen, tested, some_is, first_is, first_of, at_drop, past_some, run_parts, run_all}
+use Rattle.edit_document.proofs.KeyLaws.{length_front}
+use Rattle.std.proofs.lemmas.Bool.{and_parts}
 
 -- a number, a date or a time
 abbrev pub IsNumber : Value → Type 0
@@ -90,8 +90,8 @@ behind_sound s whole text x hw e =
 
 pub begins_is : (a b c : ℕ) (text : List ℕ) → 0 < a → 0 < b → 0 < c → begins a b c text ≡ true → text ≡ a ∷ (b ∷ (c ∷ drop 3 text))
 begins_is a b c text la lb lc e =
-    let y = tokens.both _ (eqb (slice_index text 2) c) e in
-    let z = tokens.both _ (eqb (slice_index text 1) b) y.0 in
+    let y = and_parts _ (eqb (slice_index text 2) c) e in
+    let z = and_parts _ (eqb (slice_index text 1) b) y.0 in
     first_is a text la z.0 ∙ ap (λ (r : List ℕ). a ∷ r) (at_drop 1 b text lb z.1 ∙ ap (λ (r : List ℕ). b ∷ r) (at_drop 2 c text lc y.1))
 
 decimal_sound : (s : Sign) (text : List ℕ) (x : Value × List ℕ) → decimal_at s text ≡ Some x → Spelled (sign s text) x
@@ -242,7 +242,7 @@ timed_sound text x e =
 
 prefixed : (b : Base) (text : List ℕ) (x : Value × List ℕ) → 0 < base_letter b → (eqb (first text) 48 && eqb (slice_index text 1) (base_letter b)) ≡ true → based_at b (drop 2 text) ≡ Some x → Spelled text x
 prefixed b text x lt t e =
-    let w = tokens.both (eqb (first text) 48) (eqb (slice_index text 1) (base_letter b)) t in
+    let w = and_parts (eqb (first text) 48) (eqb (slice_index text 1) (base_letter b)) t in
     let f = based_sound b (drop 2 text) x e in
     (first_is 48 text (omega arith) w.0 ∙ ap (λ (r : List ℕ). 48 ∷ r) (at_drop 1 (base_letter b) text lt w.1) ∙ f.0, f.1, f.2)
 

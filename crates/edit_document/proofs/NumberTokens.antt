@@ -1,6 +1,5 @@
 -- Numbers, dates and times as tokens of a text.
-use Rattle.std.proofs.Common.{◌≡◌, ℕ, ◌<◌, ◌-◌, Bool, true, List, [], ◌∷◌, ◌++◌, length, take, Option, Some, refl, sym, ap, subst, ◌∙◌, arith}
-use Rattle.std.specs.Prelude.{IsUtf8}
+use Rattle.std.proofs.Common.{◌≡◌, ℕ, ◌<◌, ◌-◌, true, List, [], ◌∷◌, ◌++◌, length, take, Option, Some, refl, sym, ap, subst, ◌∙◌, arith}
 use Rattle.std.specs.List.{AllByRecursion}
 use Rattle.std.proofs.lemmas.Bool.Decides.{nat_tests}
 use Rattle.edit_document.specs.declared.read.marks.Mark.{Mark}
@@ -13,7 +12,7 @@ use Rattle.edit_document.specs.Nodes.{shape_said}
 use Rattle.edit_document.specs.DocumentLayout.{span_of, shape_of_value}
 use Rattle.edit_document.specs.Noting.{value_kind}
 use Rattle.edit_document.specs.Marks.{mark}
-use Rattle.edit_document.specs.Walk.{said, suffix, as_text, told, State, entered, step}
+use Rattle.edit_document.specs.Walk.{said, suffix, as_text, State, entered, step}
 use Rattle.edit_document.specs.WalkState.{IsToken}
 use Rattle.edit_document.proofs.NumberLaws.{IsNumber}
 use Rattle.edit_document.proofs.Enclosed.{value_rest, integer_ascii, float_ascii, datetime_ascii}

@@ -1,5 +1,5 @@
 -- What a replacement promises: the bytes are a document again, only the literals differ, and the tree is the one that is meant.
-use Rattle.std.proofs.Common.{◌≡◌, ℕ, zero, suc, arith, String, Global, ◌+◌, ◌<◌, ◌≤◌, Bool, true, false, ◌&&◌, ◌||◌, cond, List, [], ◌∷◌, ◌++◌, map, length, get_or, take, take_all, Option, None, Some, refl, sym, ap, ap₂, ◌∙◌, subst, ◌⊎◌, inl, ⊎_elim, true≢false}
+use Rattle.std.proofs.Common.{◌≡◌, ℕ, zero, suc, arith, String, Global, ◌+◌, ◌<◌, ◌≤◌, true, ◌&&◌, ◌||◌, cond, List, [], ◌∷◌, ◌++◌, map, length, get_or, take, take_all, Option, None, Some, refl, sym, ap, ap₂, ◌∙◌, subst, inl, ⊎_elim}
 use Rattle.std.specs.List.{list_any}
 use Rattle.std.specs.Global.{Vec}
 use Rattle.std.specs.Prelude.{string_bytes, is_some}
@@ -17,7 +17,6 @@ use Rattle.edit_document.specs.Written.{values}
 use Rattle.edit_document.specs.Supported.{IsManifest}
 use Rattle.edit_document.specs.Replaces.{Edits, replaced, edited, Swaps, Replaces, is_string, AreStrings}
 use Rattle.edit_document.specs.Splices.{Range, range_of, IsRangeFor, AreRanges}
-use Rattle.edit_document.proofs.SamePlaces.{by_test}
 use Rattle.edit_document.proofs.Thinned.{is_leaf}
 use Rattle.edit_document.proofs.ReplacedTree.{AreApart, replaced_manifest, replaced_view}
 use Rattle.edit_document.proofs.ReplacedStrings.{strings_apart, string_value, told_value, one_apart}
@@ -25,6 +24,7 @@ use Rattle.edit_document.proofs.SortedRanges.{AreRangesFor, Rewrites, ranges_rew
 use Rattle.edit_document.proofs.LocatedEdits.{first_of_distinct}
 use Rattle.std.specs.Str.{IsUtf8}
 use Rattle.edit_document.proofs.SwappedTexts.{apart_none, replaced_swaps}
+use Rattle.edit_document.proofs.Cases.{by_test}
 
 -- a document's replacement at places none of which lies below another
 pub replaces_apart : (edits : Edits) (old new : List ℕ) (form : Text) → IsManifest old form → AreApart edits form → new ≡ text (replaced edits form) → Replaces edits old new

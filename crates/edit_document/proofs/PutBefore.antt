@@ -1,9 +1,9 @@
 -- What holds of two texts and stays true where one byte is put before both, stays true where any part of the grammar is.
-use Rattle.std.proofs.Common.{◌≡◌, ℕ, Bool, true, false, List, [], ◌∷◌, ◌++◌, Option, None, Some, refl, sym, ap, ◌∙◌, append_assoc}
-use Rattle.edit_document.specs.Characters.{quote, apostrophe, backslash, comma, equals, left_bracket, right_bracket, left_brace, right_brace, hash}
+use Rattle.std.proofs.Common.{ℕ, Bool, true, false, List, [], ◌∷◌, ◌++◌, Option, None, Some, ◌≡◌, refl, ap}
+use Rattle.edit_document.specs.Characters.{comma, equals, left_bracket, right_bracket, left_brace, right_brace, hash}
 use Rattle.edit_document.specs.Strings.{LineEnd, lf, crlf, line_end, Space, spaces, Piece, plain, letter, short, long, feed, fold, delimiter, piece, pieces, Part, bare, basic_part, literal_part, part, Dotted, dotted, Key, key}
 use Rattle.edit_document.specs.Strings.{blank as space_blank, break as space_break}
-use Rattle.edit_document.specs.Numbers.{Sign, no_sign, plus, minus, sign, Base, Integer, decimal, based, integer_text, Exponent, exponent, optional_exponent, Float, with_fraction, with_exponent, infinite, not_a_number, float_text, Date, Time, date, time, fraction_text, Offset, local, zulu, shift, offset, DateTime, only_date, only_time, both, datetime_text}
+use Rattle.edit_document.specs.Numbers.{Sign, no_sign, plus, minus, sign, Integer, decimal, based, integer_text, Exponent, exponent, optional_exponent, Float, with_fraction, with_exponent, infinite, not_a_number, float_text, Date, Time, date, time, fraction_text, Offset, local, zulu, shift, offset, DateTime, only_date, only_time, both, datetime_text}
 use Rattle.edit_document.specs.Grammar.{Between, blank, break, remark, gap, Value, basic, literal, multi_basic, multi_literal, boolean, integer, float, datetime, array, inline, value, Elements, no_elements, last_element, element, elements, Members, no_members, last_member, member, members, Statement, pair, header, element_header, statement, comment, Line, empty_line, full_line, line, byte_order_mark}
 
 abbrev pub Relation : Type 1
@@ -147,3 +147,18 @@ line_before R one (full_line a t b c) old new s = put_before R one a _ _ (statem
 pub mark_before : (R : Relation) (one : IsKept R) (m : Bool) (old new : List ℕ) → R old new → R (byte_order_mark m old) (byte_order_mark m new)
 mark_before R one true old new s = one 0xEF _ _ (one 0xBB _ _ (one 0xBF old new s))
 mark_before R one false old new s = s
+
+-- ---- what follows stands behind the bytes of a part of the grammar
+
+-- these bytes and then the rest
+abbrev pub Behind : List ℕ → Relation
+Behind rest = λ whole own. whole ≡ own ++ rest
+
+pub behind_one : (rest : List ℕ) → IsKept (Behind rest)
+behind_one rest c whole own e = ap (λ (l : List ℕ). c ∷ l) e
+
+pub piece_rest : (m : ℕ) (p : Piece) (rest : List ℕ) → piece m p rest ≡ piece m p [] ++ rest
+piece_rest m p rest = piece_before (Behind rest) (behind_one rest) m p rest [] refl
+
+pub pieces_rest : (m : ℕ) (ps : List Piece) (rest : List ℕ) → pieces m ps rest ≡ pieces m ps [] ++ rest
+pieces_rest m ps rest = pieces_before (Behind rest) (behind_one rest) m ps rest [] refl

@@ -1,28 +1,15 @@
 -- Members that are asserted, and the front parts of a key, as the code takes them.
-use Rattle.std.proofs.Common.{◌≡◌, ℕ, zero, suc, ◌+◌, ◌<◌, ◌≤◌, true, false, cond, List, [], ◌∷◌, ◌++◌, length, drop, get_or, Option, Some, None, refl, sym, ap, subst, ◌∙◌, ◌⊎◌, inl, inr, arith, String, Global}
-use Rattle.std.specs.Prelude.{map, slice_get, slice_set, string_bytes, nat_le, unwrap_or}
-use Rattle.std.specs.Map.{lookup}
-use Rattle.std.specs.Str.{bytes_eq}
-use Rattle.std.proofs.lemmas.Bool.{cases_lt}
-use Rattle.std.proofs.lemmas.Bool.Decides.{nat_tests}
-use Rattle.std.proofs.lemmas.List.{length-set, length_push, map-append}
-use Rattle.std.proofs.lemmas.Option.{slice_get_past, slice_get_read, slice_get_within, same_Some}
-use Rattle.std.specs.String.{string_eq}
-use Rattle.indexmap.specs.IndexMap.{get_by_text, insert_entry}
-use Rattle.indexmap.proofs.CallerLemmas.{insert_entry-new}
+use Rattle.std.proofs.Common.{◌≡◌, ℕ, ◌+◌, ◌<◌, true, List, [], ◌∷◌, length, drop, get_or, Option, Some, None, refl, sym, ap, subst, ◌∙◌, String, Global}
+use Rattle.std.specs.Prelude.{map, string_bytes}
+use Rattle.std.proofs.lemmas.Option.{slice_get_read}
 use Rattle.edit_document.specs.declared.nodes.Node.{Node}
 use Rattle.edit_document.specs.declared.nodes.Span.{Span}
-use Rattle.edit_document.specs.declared.nodes.Content.{Content}
 use Rattle.edit_document.specs.declared.nodes.Taken.{Taken}
-use Rattle.edit_document.specs.declared.nodes.Taken.TheVariants.{Dotted, Value, Super, Header, Array, Element}
-use Rattle.edit_document.specs.Assertions.{key, index, Place, at}
 use Rattle.edit_document.specs.Reading.{◌>>=◌}
-use Rattle.edit_document.specs.Taking.{joins, stronger}
-use Rattle.edit_document.specs.Nodes.{Shape, section, Spot, shape_of, Keeps, Holds, below}
-use Rattle.edit_document.specs.Walk.{last_of, spot_at, child, target_of, with_taken, taken_again, with_member, with_element, added, element_added, asserted_at, asserted, numbered, reached}
+use Rattle.edit_document.specs.Nodes.{Shape, Spot, Holds}
+use Rattle.edit_document.specs.Walk.{child, target_of, taken_again, added, asserted_at, asserted, numbered, reached}
 use Rattle.edit_document.specs.WalkState.{Adds, Puts}
-use Rattle.edit_document.proofs.ListElements.{OneMore, OneSet, changed, drop_from, equal_or, get_front, get_last, get_set_other, get_set_same, in_push, in_set, newest, other, slice_get_same, stood}
-use Rattle.edit_document.proofs.Adding.{Extended, Inserted, Kept, Starts, add_done, add_stopped, added_long, added_made, added_past, again_done, again_past, again_stopped, below_node, child_found, child_is, child_past, element_done, element_long, element_made, element_past, element_stopped, holds_push, holds_set, kept_at, spot_of_node, target_found, target_is, target_other, target_past}
+use Rattle.edit_document.proofs.ListElements.{drop_from}
 
 -- ---- members asserted
 

@@ -1,12 +1,12 @@
 -- Literals and replacements that are worked out: one literal, two literals in any order, and places where nothing is written.
-use Rattle.std.proofs.Common.{◌≡◌, ℕ, List, [], ◌∷◌, ◌++◌, Some, None, refl, true, false}
+use Rattle.std.proofs.Common.{◌≡◌, ℕ, List, [], ◌∷◌, Some, None, refl, false}
 use Rattle.std.specs.Prelude.{codes}
 use Rattle.edit_document.specs.Strings.{Key, bare, lf, plain}
 use Rattle.edit_document.specs.Grammar.{Value, basic, literal, inline, blank, last_member, member, pair, header, full_line, one_line, more_lines, Text, text}
 use Rattle.edit_document.specs.Assertions.{Place, key}
 use Rattle.edit_document.specs.Tree.{view_at, string}
 use Rattle.edit_document.specs.Literals.{literal_bytes}
-use Rattle.edit_document.specs.Replaces.{Edits, replaced}
+use Rattle.edit_document.specs.Replaces.{replaced}
 
 -- every escape; other control characters by their number; all else as it is
 escapes : literal_bytes (8 ∷ 9 ∷ 10 ∷ 12 ∷ 13 ∷ 34 ∷ 92 ∷ 0 ∷ 31 ∷ 127 ∷ codes "/ '\u{80}é") ≡ codes "\"\\b\\t\\n\\f\\r\\\"\\\\\\u0000\\u001F\\u007F/ '\u{80}é\""

@@ -1,21 +1,14 @@
 -- What is read again of a text with literals written into it.
-use Rattle.std.proofs.Common.{◌≡◌, ℕ, List, [], ◌∷◌, cond, Option, Some, None, refl, sym, ap, ◌∙◌, subst}
+use Rattle.std.proofs.Common.{◌≡◌, ℕ, List, cond, Option, None, sym, ap, ◌∙◌, subst}
 use Rattle.edit_document.specs.Grammar.{Text, text}
-use Rattle.edit_document.specs.Assertions.{Place, same_place}
-use Rattle.edit_document.specs.Tree.{View, string, view_at}
+use Rattle.edit_document.specs.Assertions.{Place}
+use Rattle.edit_document.specs.Tree.{View, view_at}
 use Rattle.edit_document.specs.Supported.{IsManifest}
 use Rattle.edit_document.specs.Shown.{Shown, tree_of, ShowsTree}
 use Rattle.edit_document.specs.Replaces.{Edits, replaced, written, emptied, is_below_any, Replaces, AreStrings}
 use Rattle.edit_document.proofs.ReplacedTree.{replaced_manifest}
 use Rattle.edit_document.proofs.ReplacedStrings.{strings_view, written_same}
-use Rattle.edit_document.proofs.Shallow.{manifest_form}
-
-some_is : (a b : Text) → Some a ≡ Some b → a ≡ b
-some_is a b e = cc
-
--- a text of the part that is read has one form
-pub one_form : (bytes : List ℕ) (f g : Text) → IsManifest bytes f → IsManifest bytes g → f ≡ g
-one_form bytes f g h k = some_is f g (sym (manifest_form bytes f h) ∙ manifest_form bytes g k)
+use Rattle.edit_document.proofs.Shallow.{one_form}
 
 -- whatever form the new text is read to, its tree is the old one with the new strings
 pub tree_again : (edits : Edits) (old new : List ℕ) (form : Text) (t : Place → Option View) → IsManifest old form → AreStrings edits (view_at form) → ((q : Place) → t q ≡ view_at form q) → new ≡ text (replaced edits form)

@@ -1,15 +1,17 @@
 -- The tree after one value was replaced, and after several strings were.
-use Rattle.std.proofs.Common.{◌≡◌, ℕ, Bool, true, false, not, ◌&&◌, ◌||◌, ◌==◌, if◌then◌else◌, cond, List, [], ◌∷◌, ◌++◌, map, Option, None, Some, option_map, refl, sym, ap, ap₂, ◌∙◌, subst, ◌⊎◌, inl, inr, ⊎_elim, true≢false}
+use Rattle.std.proofs.Common.{◌≡◌, ℕ, true, false, ◌&&◌, ◌||◌, cond, List, [], ◌∷◌, Option, None, Some, option_map, refl, sym, ap, ◌∙◌, subst, inl, inr, true≢false}
 use Rattle.std.proofs.lemmas.Bool.{and_parts}
-use Rattle.std.specs.List.{AllByRecursion, list_any}
-use Rattle.edit_document.specs.Grammar.{Value, basic, literal, multi_basic, multi_literal, boolean, integer, float, datetime, array, inline, Text, text}
-use Rattle.edit_document.specs.Assertions.{Place, Step, same_place, Kind, dotted, leaf, super, header_kind, array_kind, element_kind, Assertion, assertions, NoClash, IsDocument}
-use Rattle.edit_document.specs.Tree.{View, string, view_in, view_at, view_of_kind, view_of_value, kind_at, is_value_at}
+use Rattle.std.specs.List.{list_any}
+use Rattle.edit_document.specs.Grammar.{Value, basic, literal, multi_basic, multi_literal, boolean, integer, float, datetime, array, inline, Text}
+use Rattle.edit_document.specs.Assertions.{Place, same_place, Kind, dotted, leaf, super, header_kind, array_kind, element_kind, Assertion, assertions, NoClash, IsDocument}
+use Rattle.edit_document.specs.Tree.{View, string, view_at, view_of_kind, kind_at, is_value_at}
 use Rattle.edit_document.specs.Replaces.{Edits, new_text, replaced, is_below, is_below_any, written, emptied, is_string, AreStrings}
-use Rattle.edit_document.proofs.SamePlaces.{by_test, place_true, place_same, not_below_itself}
+use Rattle.edit_document.proofs.SamePlaces.{not_below_itself}
 use Rattle.edit_document.proofs.Thinned.{is_leaf}
 use Rattle.edit_document.proofs.NothingBelow.{HasLeaf, opens, leaf_there}
 use Rattle.edit_document.proofs.ReplacedTree.{HasValue, AreApart, edit_above, nothing_below, replaced_view}
+use Rattle.edit_document.proofs.Cases.{by_test}
+use Rattle.edit_document.proofs.SamePlace.{same_place_is}
 
 -- ---- one value
 
@@ -17,7 +19,7 @@ value_has : (p : Place) (made : List Assertion) → list_any (λ a. same_place a
 value_has p [] e = absurd (true≢false (sym e))
 value_has p (x ∷ made) e =
     by_test (same_place x.place p && is_leaf x.kind)
-    (λ h. let b = and_parts (same_place x.place p) (is_leaf x.kind) h in let r = of_kind x.kind b.1 in (r.0, inl (place_true x.place p b.0, r.1)))
+    (λ h. let b = and_parts (same_place x.place p) (is_leaf x.kind) h in let r = of_kind x.kind b.1 in (r.0, inl (same_place_is x.place p b.0, r.1)))
     (λ h. let r = value_has p made (sym (ap (λ c. c || list_any (λ a. same_place a.place p && is_leaf a.kind) made) h) ∙ e) in (r.0, inr r.1))
   where
     of_kind : (k : Kind) → is_leaf k ≡ true → (v : Value) × (k ≡ leaf v)
@@ -35,7 +37,7 @@ told_value form p clash e = let r = value_has p (assertions form) e in (r.0, lea
 pub one_apart : (form : Text) (p : Place) (said : List ℕ) → HasValue form p → AreApart ((p, said) ∷ []) form
 one_apart form p said has q told e =
     by_test (same_place p q)
-    (λ h. let same = place_true p q h in
+    (λ h. let same = same_place_is p q h in
     (subst (λ r. HasValue form r) same has, ap (λ r. is_below r q || false) same ∙ ap (λ c. c || false) (not_below_itself q)))
     (λ h. let no : None ≡ Some told = sym (ap (λ c. cond c (Some said) None) h) ∙ e in absurd (never told no))
   where
@@ -84,7 +86,7 @@ edited_string : (edits : Edits) (tree : Place → Option View) (p : Place) (said
 edited_string [] tree p said all e = absurd cc
 edited_string (x ∷ edits) tree p said all e =
     by_test (same_place x.0 p)
-    (λ h. ap (λ r. is_string (tree r)) (sym (place_true x.0 p h)) ∙ all.0)
+    (λ h. ap (λ r. is_string (tree r)) (sym (same_place_is x.0 p h)) ∙ all.0)
     (λ h. edited_string edits tree p said all.1 (sym (ap (λ c. cond c (Some x.1) (new_text edits p)) h) ∙ e))
 
 -- nothing shows below a string

@@ -1,16 +1,19 @@
 -- A document with strings written at places is a document again, of the same part of the grammar, with the tree that is meant.
-use Rattle.std.proofs.Common.{◌≡◌, ℕ, suc, true, false, ◌||◌, cond, List, [], ◌∷◌, ◌++◌, Option, None, Some, option_map, refl, sym, ap, ◌∙◌, inl, inr, true≢false}
+use Rattle.std.proofs.Common.{◌≡◌, ℕ, suc, true, false, ◌||◌, cond, List, [], ◌∷◌, ◌++◌, Option, None, Some, option_map, refl, sym, ap, ◌∙◌, true≢false}
 use Rattle.edit_document.specs.Grammar.{Value, basic, literal, multi_basic, multi_literal, boolean, integer, float, datetime, array, inline, Elements, no_elements, last_element, element, Members, no_members, last_member, member, Statement, pair, header, element_header, empty_line, full_line, Lines, one_line, more_lines, Text, text, IsValue, AreElements, AreMembers, IsMember, IsStatement, AreLines}
 use Rattle.edit_document.specs.Assertions.{Place, Step, at, index, names, named, same_place, leaf, Assertion, of_statement, assertions, prefix_after, NoClash, IsDocument}
 use Rattle.edit_document.specs.Tree.{View, string, view_at, view_of_kind, kind_at}
 use Rattle.edit_document.specs.Supported.{IsManifest}
 use Rattle.edit_document.specs.Literals.{literal_of}
 use Rattle.edit_document.specs.Replaces.{Edits, new_text, literal_or, put, replaced_inside, replaced_elements, replaced_members, replaced_statement, replaced_lines, replaced, is_below, is_below_any, written, emptied}
-use Rattle.edit_document.proofs.SamePlaces.{by_test, place_true, place_same}
 use Rattle.edit_document.proofs.LiteralLaws.{literal_is_value, literal_says}
-use Rattle.edit_document.proofs.Thinned.{Thin, none, thin_lines, thin_short, thin_no_clash}
+use Rattle.edit_document.proofs.Thinned.{Thin, none}
+use Rattle.edit_document.proofs.ThinnedLines.{thin_lines, thin_short, thin_no_clash}
 use Rattle.edit_document.proofs.ThinnedViews.{thin_view, thin_literal}
-use Rattle.edit_document.proofs.NothingBelow.{HasLeaf, opens, shut_below, Rooted, done, next, rooted}
+use Rattle.edit_document.proofs.NothingBelow.{opens, shut_below, Rooted, done, next, rooted}
+use Rattle.edit_document.proofs.Cases.{by_test}
+use Rattle.edit_document.proofs.Parts.{has_kind}
+use Rattle.edit_document.proofs.SamePlace.{same_place_self}
 
 -- ---- well formed
 
@@ -121,14 +124,6 @@ no_root base xs (next b x zs p s e st r) = ap (λ c. cond c (Some x.kind) (kind_
     never [] s = refl
     never (t ∷ ts) s = refl
 
-kind_has : (p : Place) (v : Value) (made : List Assertion) → kind_at made p ≡ Some (leaf v) → HasLeaf p v made
-kind_has p v [] e = absurd cc
-kind_has p v (x ∷ made) e =
-    by_test (same_place x.place p)
-    (λ h. let is : Some x.kind ≡ Some (leaf v) = sym (ap (λ c. cond c (Some x.kind) (kind_at made p)) h) ∙ e in
-    let same : x.kind ≡ leaf v = cc in inl (place_true x.place p h, same))
-    (λ h. inr (kind_has p v made (sym (ap (λ c. cond c (Some x.kind) (kind_at made p)) h) ∙ e)))
-
 -- nothing shows below a plain value
 pub nothing_below : (form : Text) (p q : Place) (v : Value) → opens (leaf v) ≡ false → NoClash (assertions form) → kind_at (assertions form) p ≡ Some (leaf v) → is_below p q ≡ true → view_at form q ≡ None
 nothing_below form [] q v shut clash e low = let no : None ≡ Some (leaf v) = sym (no_root [] (assertions form) (rooted form)) ∙ e in absurd (never v no)
@@ -137,7 +132,7 @@ nothing_below form [] q v shut clash e low = let no : None ≡ Some (leaf v) = s
     never v h = cc
 nothing_below form (s ∷ ss) [] v shut clash e low = absurd (true≢false (sym low))
 nothing_below form (s ∷ ss) (t ∷ ts) v shut clash e low =
-    ap (λ o. option_map (view_of_kind (assertions form) (t ∷ ts)) o) (shut_below form s ss (t ∷ ts) v shut clash (kind_has (s ∷ ss) v (assertions form) e) low)
+    ap (λ o. option_map (view_of_kind (assertions form) (t ∷ ts)) o) (shut_below form s ss (t ∷ ts) v shut clash (has_kind (s ∷ ss) v (assertions form) e) low)
 
 -- the literal shows the text
 literal_view : (form : Text) (p : Place) (said : List ℕ) → kind_at (assertions form) p ≡ Some (leaf (literal_of said)) → view_at form p ≡ Some (string said)
@@ -152,7 +147,7 @@ pub edit_above : (edits : Edits) (q : Place) → is_below_any edits q ≡ true �
 edit_above [] q low = absurd (true≢false (sym low))
 edit_above (e ∷ edits) q low =
     by_test (is_below e.0 q)
-    (λ h. (e.0, e.1, ap (λ c. cond c (Some e.1) (new_text edits e.0)) (place_same e.0), h))
+    (λ h. (e.0, e.1, ap (λ c. cond c (Some e.1) (new_text edits e.0)) (same_place_self e.0), h))
     (λ h. let r = edit_above edits q (sym (ap (λ c. c || is_below_any edits q) h) ∙ low) in
     by_test (same_place e.0 r.0)
     (λ s. (r.0, e.1, ap (λ c. cond c (Some e.1) (new_text edits r.0)) s, r.3))

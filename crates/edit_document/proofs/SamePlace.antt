@@ -1,12 +1,7 @@
 -- Places are the same where their steps are.
-use Rattle.std.proofs.Common.{◌≡◌, ℕ, Bool, true, false, ◌&&◌, eqb, List, [], ◌∷◌, refl, ap, ◌∙◌, ◌⊎◌, inl, inr, eq-eqb}
-use Rattle.std.proofs.lemmas.Bool.{eqb-true}
+use Rattle.std.proofs.Common.{◌≡◌, ℕ, Bool, true, false, eqb, List, [], ◌∷◌, refl, ap, ◌∙◌, ◌⊎◌, inl, inr, eq-eqb}
+use Rattle.std.proofs.lemmas.Bool.{eqb-true, and_parts}
 use Rattle.edit_document.specs.Assertions.{Step, key, index, Place, at, same_bytes, same_step, same_place}
-
-pub both_true : (x y : Bool) → (x && y) ≡ true → (x ≡ true) × (y ≡ true)
-both_true true true e = (refl, refl)
-both_true true false e = absurd cc
-both_true false y e = absurd cc
 
 pub same_bytes_self : (a : List ℕ) → same_bytes a a ≡ true
 same_bytes_self [] = refl
@@ -17,7 +12,7 @@ same_bytes_is [] [] e = refl
 same_bytes_is [] (c ∷ cs) e = absurd cc
 same_bytes_is (b ∷ bs) [] e = absurd cc
 same_bytes_is (b ∷ bs) (c ∷ cs) e =
-    let h = both_true (eqb b c) (same_bytes bs cs) e in
+    let h = and_parts (eqb b c) (same_bytes bs cs) e in
     let x : b ≡ c = eqb-true _ _ h.0 in
     let y : bs ≡ cs = same_bytes_is bs cs h.1 in
     cc
@@ -41,7 +36,7 @@ same_place_is [] [] e = refl
 same_place_is [] (t ∷ ts) e = absurd cc
 same_place_is (s ∷ ss) [] e = absurd cc
 same_place_is (s ∷ ss) (t ∷ ts) e =
-    let h = both_true (same_step s t) (same_place ss ts) e in
+    let h = and_parts (same_step s t) (same_place ss ts) e in
     let x : s ≡ t = same_step_is s t h.0 in
     let y : ss ≡ ts = same_place_is ss ts h.1 in
     cc

@@ -1,5 +1,5 @@
 -- The spots that stand for the assertions of a text show its tree.
-use Rattle.std.proofs.Common.{◌≡◌, ℕ, ◌<◌, Bool, true, false, cond, not, ◌||◌, List, [], ◌∷◌, length, Option, Some, None, is_some, refl, sym, ap, subst, ◌∙◌}
+use Rattle.std.proofs.Common.{◌≡◌, ℕ, ◌<◌, Bool, true, false, cond, not, List, [], ◌∷◌, length, Option, Some, None, is_some, refl, sym, ap, subst, ◌∙◌}
 use Rattle.std.specs.Prelude.{map, option_map, slice_get}
 use Rattle.std.specs.List.{AllByRecursion, filter}
 use Rattle.edit_document.specs.Grammar.{Value, basic, literal, multi_basic, multi_literal, boolean, integer, float, datetime, array, inline, Between, Elements}
@@ -10,11 +10,13 @@ use Rattle.edit_document.specs.Items.{key_names}
 use Rattle.edit_document.specs.DocumentLayout.{shape_of_value, Placed}
 use Rattle.edit_document.specs.Nodes.{Spot, names_of, view_of_shape, shown_spot}
 use Rattle.edit_document.proofs.SamePlace.{same_step_self}
-use Rattle.edit_document.proofs.MoreAssertions.{first_kind, first_is, is_headed, steps, has, has_step}
+use Rattle.edit_document.proofs.MoreAssertions.{first_kind, first_is}
+use Rattle.edit_document.proofs.MoreMembers.{is_headed, steps, has, has_step}
 use Rattle.edit_document.proofs.Standing.{Lists, shape_of_kind, Tells, Stands}
 use Rattle.edit_document.proofs.Arrays.{elements_full}
 use Rattle.edit_document.proofs.Evens.{IsEven}
 use Rattle.edit_document.proofs.Views.{node_first, node_none}
+use Rattle.edit_document.proofs.Cases.{or_false}
 
 -- ---- the members of a table are keys
 
@@ -34,16 +36,12 @@ all_once : (xs : List Step) → AllByRecursion IsKeyStep xs → AllByRecursion I
 all_once [] h = tt
 all_once (x ∷ xs) h = (h.0, all_filter (λ t. not (same_step x t)) (once xs) (all_once xs h.1))
 
-or_left : (x y : Bool) → (x || y) ≡ false → (x ≡ false) × (y ≡ false)
-or_left true y e = absurd cc
-or_left false y e = (refl, e)
-
 all_keys : (xs : List Step) → ((i : ℕ) → has (index i) xs ≡ false) → AllByRecursion IsKeyStep xs
 all_keys [] h = tt
-all_keys (key n ∷ xs) h = (tt, all_keys xs (λ i. (or_left (same_step (key n) (index i)) (has (index i) xs) (h i)).1))
+all_keys (key n ∷ xs) h = (tt, all_keys xs (λ i. (or_false (same_step (key n) (index i)) (has (index i) xs) (h i)).1))
 all_keys (index j ∷ xs) h =
     let self : same_step (index j) (index j) ≡ true = same_step_self (index j) in
-    let clash : true ≡ false = sym self ∙ (or_left (same_step (index j) (index j)) (has (index j) xs) (h j)).0 in
+    let clash : true ≡ false = sym self ∙ (or_false (same_step (index j) (index j)) (has (index j) xs) (h j)).0 in
     absurd cc
 
 keys_back : (xs : List Step) → AllByRecursion IsKeyStep xs → xs ≡ map key (key_names xs)

@@ -1,19 +1,20 @@
 -- The ranges of edited values in any order, once sorted, are those of the edited values of the text.
-use Rattle.std.proofs.Common.{◌≡◌, ℕ, zero, suc, ◌+◌, ◌<◌, ◌≤◌, Bool, true, false, ◌==◌, cond, List, [], ◌∷◌, ◌++◌, map, length, get_or, Option, None, Some, option_map, refl, sym, ap, ap₂, ◌∙◌, subst, ◌⊎◌, inl, inr, ⊎_elim, true≢false, arith}
+use Rattle.std.proofs.Common.{◌≡◌, ℕ, ◌<◌, ◌≤◌, cond, List, [], ◌∷◌, length, Option, None, Some, option_map, refl, sym, ap, ap₂, ◌∙◌, subst, inl, inr, ⊎_elim, arith}
 use Rattle.std.specs.Str.{IsUtf8}
 use Rattle.std.specs.List.{AllByRecursion, filter_map, cons_option}
 use Rattle.edit_document.specs.Grammar.{value, Text, text, IsValue, AreLines}
-use Rattle.edit_document.specs.Assertions.{Place, same_place, assertions, NoClash, IsDocument}
-use Rattle.edit_document.specs.Written.{Valued, values, start_of, end_of, IsWrittenAt}
-use Rattle.edit_document.specs.Replaces.{Edits, new_text, replaced, edited, Swaps}
+use Rattle.edit_document.specs.Assertions.{Place, same_place, assertions, NoClash}
+use Rattle.edit_document.specs.Written.{Valued, values, start_of, end_of}
+use Rattle.edit_document.specs.Replaces.{Edits, new_text, replaced, edited}
 use Rattle.edit_document.specs.Splices.{Range, spliced, AreInOrder, ranges_of, IsRangeFor}
-use Rattle.edit_document.proofs.SamePlaces.{by_test, place_true, place_same}
-use Rattle.edit_document.proofs.Members.{Among, among_contained, contained_among, among_all, among_map, map_among, among_filter, filter_among}
+use Rattle.edit_document.proofs.Members.{Among, contained_among, among_all, among_map, map_among, among_filter, filter_among}
 use Rattle.edit_document.proofs.Enclosed.{IsEnclosed, value_enclosed}
 use Rattle.edit_document.proofs.FineValues.{values_fine}
 use Rattle.edit_document.proofs.UniqueValues.{values_unique}
-use Rattle.edit_document.proofs.SwappedTexts.{NoneBelow, replaced_swaps}
+use Rattle.edit_document.proofs.SwappedTexts.{NoneBelow, replaced_swaps, edit_of}
 use Rattle.edit_document.proofs.SplicedTexts.{AreEnclosed, Rises, swaps_spliced, swaps_in_order, swaps_rise}
+use Rattle.edit_document.proofs.Cases.{by_test}
+use Rattle.edit_document.proofs.SamePlace.{same_place_is}
 
 -- ---- two lists that rise and have the same members
 
@@ -59,9 +60,6 @@ AreFirst edits = (e : Place × List ℕ) → Among e edits → new_text edits e.
 abbrev edit_range : ℕ → Valued × List ℕ → Range
 edit_range total c = (start_of total c.0, end_of total c.0, c.1)
 
-abbrev edit_of : Edits → Valued → Option (Valued × List ℕ)
-edit_of edits w = option_map (λ said. (w, said)) (new_text edits w.place)
-
 same_range : (r q : Range) → r.0 ≡ q.0 → r.1 ≡ q.1 → r.2 ≡ q.2 → r ≡ q
 same_range r q e f g = λ i. (e i, f i, g i)
 
@@ -85,7 +83,7 @@ text_from [] p said h = absurd cc
 text_from (e ∷ edits) p said h =
     by_test (same_place e.0 p)
     (λ t. let is : Some e.1 ≡ Some said = sym (ap (λ c. cond c (Some e.1) (new_text edits p)) t) ∙ h in
-    let same : e.1 ≡ said = cc in (e, inl refl, place_true e.0 p t, same))
+    let same : e.1 ≡ said = cc in (e, inl refl, same_place_is e.0 p t, same))
     (λ t. let r = text_from edits p said (sym (ap (λ c. cond c (Some e.1) (new_text edits p)) t) ∙ h) in (r.0, inr r.1, r.2, r.3))
 
 edited_from : (w : Valued) (o : Option (List ℕ)) (c : Valued × List ℕ) → option_map (λ (said : List ℕ). (w, said)) o ≡ Some c → (w ≡ c.0) × (o ≡ Some c.1)

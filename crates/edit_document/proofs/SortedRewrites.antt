@@ -1,9 +1,9 @@
 -- Rewrites that are sorted by their starts ascend.
-use Rattle.std.proofs.Common.{◌≡◌, ℕ, zero, suc, ◌+◌, ◌<◌, ◌≤◌, List, [], ◌∷◌, map, length, get_or, arith}
+use Rattle.std.proofs.Common.{ℕ, suc, ◌<◌, ◌≤◌, List, [], ◌∷◌, map, length, get_or, arith}
 use Rattle.std.specs.List.{AllByRecursion}
 use Rattle.std.specs.List.Sorted.{IsNonDecreasingBy}
 use Rattle.edit_document.specs.declared.replace.Rewrite.{Rewrite}
-use Rattle.edit_document.specs.Splices.{Range, range_of}
+use Rattle.edit_document.specs.Splices.{range_of}
 use Rattle.edit_document.proofs.LocatedEdits.{Ascends}
 
 first_least : (x : Rewrite) (xs : List Rewrite) → ((k : ℕ) (d : Rewrite) → k < length xs → x.start ≤ (get_or xs k d).start) → AllByRecursion (λ q. x.start ≤ q.0) (map range_of xs)

@@ -1,13 +1,13 @@
 -- The values that give way stand one behind the other in the text, and the text with literals in their ranges is the replaced one.
-use Rattle.std.proofs.Common.{◌≡◌, ℕ, zero, suc, ◌+◌, ◌-◌, ◌<◌, ◌≤◌, List, [], ◌∷◌, ◌++◌, map, length, take, drop, get_or, refl, sym, ap, ap₂, ◌∙◌, subst, append_assoc, append-nil, length-append, arith}
+use Rattle.std.proofs.Common.{◌≡◌, ℕ, ◌+◌, ◌-◌, ◌<◌, ◌≤◌, List, [], ◌∷◌, ◌++◌, length, take, drop, get_or, refl, sym, ap, ap₂, ◌∙◌, subst, append_assoc, length-append, arith}
 use Rattle.std.proofs.Math.Seq.{take-append_seam, drop-append_seam, get_or-append_seam}
 use Rattle.std.proofs.lemmas.Str.{IsCharBoundary-before_ascii, IsCharBoundary-after_ascii}
 use Rattle.std.specs.Prelude.{slice_range}
 use Rattle.std.specs.Str.{IsCharBoundary, IsUtf8}
 use Rattle.std.specs.List.{AllByRecursion}
-use Rattle.edit_document.specs.Grammar.{Value, value}
+use Rattle.edit_document.specs.Grammar.{value}
 use Rattle.edit_document.specs.Literals.{literal_of, literal_bytes}
-use Rattle.edit_document.specs.Written.{Valued, start_of, end_of}
+use Rattle.edit_document.specs.Written.{Valued, start_of}
 use Rattle.edit_document.specs.Replaces.{Swaps, rest, next}
 use Rattle.edit_document.specs.Splices.{Range, spliced, AreInOrder, ranges_of}
 use Rattle.edit_document.proofs.Enclosed.{value_rest, IsEnclosed}

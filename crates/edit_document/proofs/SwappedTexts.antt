@@ -1,16 +1,16 @@
 -- The bytes of a replaced form: each edited value gives way to its literal, and every other byte is kept.
-use Rattle.std.proofs.Common.{◌≡◌, ℕ, zero, suc, Bool, true, false, not, ◌&&◌, ◌||◌, ◌==◌, if◌then◌else◌, cond, List, [], ◌∷◌, ◌++◌, map, Option, None, Some, option_map, refl, sym, ap, ap₂, ◌∙◌, subst, ◌⊎◌, inl, inr, ⊎_elim, true≢false, append_assoc, append-nil}
+use Rattle.std.proofs.Common.{◌≡◌, ℕ, suc, true, List, [], ◌∷◌, ◌++◌, Option, None, Some, option_map, refl, sym, ap, ◌∙◌, subst, true≢false, append_assoc, append-nil}
 use Rattle.std.proofs.lemmas.Bool.{and_parts, and_from}
 use Rattle.std.proofs.lemmas.List.Elements.{filter_map-append}
 use Rattle.std.specs.List.{AllByRecursion, filter_map, cons_option}
 use Rattle.edit_document.specs.Characters.{comma, left_bracket, right_bracket, left_brace, right_brace}
 use Rattle.edit_document.specs.Strings.{line_end, Key}
-use Rattle.edit_document.specs.Grammar.{gap, Value, basic, literal, multi_basic, multi_literal, boolean, integer, float, datetime, array, inline, value, Elements, no_elements, last_element, element, elements, Members, no_members, last_member, member, members, Statement, pair, header, element_header, statement, Line, empty_line, full_line, line, comment, Lines, one_line, more_lines, lines, Text, text}
-use Rattle.edit_document.specs.Assertions.{Place, index, at, named, names, same_place, Assertion, of_statement, prefix_after}
+use Rattle.edit_document.specs.Grammar.{gap, Value, basic, literal, multi_basic, multi_literal, boolean, integer, float, datetime, array, inline, value, Elements, no_elements, last_element, element, elements, Members, no_members, last_member, member, members, Statement, pair, header, element_header, statement, empty_line, full_line, comment, Lines, one_line, more_lines, lines, Text, text}
+use Rattle.edit_document.specs.Assertions.{Place, index, at, named, names, Assertion, of_statement, prefix_after}
 use Rattle.edit_document.specs.Literals.{literal_of}
-use Rattle.edit_document.specs.Written.{Valued, valued, inside, in_elements, in_members, in_statement, in_lines, values}
-use Rattle.edit_document.specs.Replaces.{Edits, new_text, literal_or, put, replaced_inside, replaced_elements, replaced_members, replaced_statement, replaced_lines, replaced, edited, Swaps, rest, next, is_below, is_below_any}
-use Rattle.edit_document.proofs.SamePlaces.{is_within, within_same, below_at, within_at, within_named, below_within}
+use Rattle.edit_document.specs.Written.{Valued, valued, inside, in_elements, in_members, in_statement, in_lines}
+use Rattle.edit_document.specs.Replaces.{Edits, new_text, literal_or, put, replaced_inside, replaced_elements, replaced_members, replaced_statement, replaced_lines, replaced, edited, Swaps, rest, next, is_below}
+use Rattle.edit_document.proofs.SamePlaces.{is_within, within_same, below_at, within_at, within_named}
 use Rattle.edit_document.proofs.PutBefore.{IsKept, put_before, end_before, gap_before, pair_before, value_before, line_before, comment_before, statement_before, mark_before}
 use Rattle.edit_document.proofs.Thinned.{edited_below}
 use Rattle.edit_document.proofs.ReplacedTree.{AreApart}
@@ -19,7 +19,7 @@ pub swaps_one : (more : List (Valued × List ℕ)) → IsKept (Swaps more)
 swaps_one more c old new (rest t) = rest (c ∷ t)
 swaps_one more c old new (next t w said others now s) = next (c ∷ t) w said others now s
 
-abbrev edit_of : Edits → Valued → Option (Valued × List ℕ)
+abbrev pub edit_of : Edits → Valued → Option (Valued × List ℕ)
 edit_of edits w = option_map (λ said. (w, said)) (new_text edits w.place)
 
 abbrev edits_of : Edits → List Valued → List (Valued × List ℕ)

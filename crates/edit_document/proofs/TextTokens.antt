@@ -12,7 +12,7 @@ use Rattle.edit_document.specs.Supported.{IsSupportedValue, AreSupportedElements
 use Rattle.edit_document.specs.Marks.{mark, part_mark, dotted_marks, key_marks, value_marks, elements_marks, members_marks, statement_marks, lines_marks, text_marks}
 use Rattle.edit_document.specs.Walk.{said}
 use Rattle.edit_document.specs.WalkState.{IsToken}
-use Rattle.edit_document.proofs.Fronts.{Relation, IsKept, pieces_before}
+use Rattle.edit_document.proofs.PutBefore.{pieces_rest}
 use Rattle.edit_document.proofs.Ends.{Ends, ends_past, ends_one, ends_part, ends_pair, ends_gap, ends_value, ends_line, ends_line_end}
 use Rattle.edit_document.proofs.WalkedTokens.{said_basic, said_literal, said_part}
 use Rattle.edit_document.proofs.NumberTokens.{number_token}
@@ -25,17 +25,8 @@ tokens_append : (bytes : List ℕ) (xs ys : List Mark) → AreTokens bytes xs �
 tokens_append bytes [] ys h g = g
 tokens_append bytes (x ∷ xs) ys h g = (h.0, tokens_append bytes xs ys h.1 g)
 
-abbrev Own : List ℕ → Relation
-Own rest = λ whole own. whole ≡ own ++ rest
-
-own_one : (rest : List ℕ) → IsKept (Own rest)
-own_one rest c old new h = ap (λ (t : List ℕ). c ∷ t) h
-
-pieces_parts : (ps : List Piece) (rest : List ℕ) → pieces quote ps rest ≡ pieces quote ps [] ++ rest
-pieces_parts ps rest = pieces_before (Own rest) (own_one rest) quote ps rest [] refl
-
 basic_parts : (ps : List Piece) (rest : List ℕ) → basic_text ps rest ≡ quote ∷ (pieces quote ps [] ++ (quote ∷ rest))
-basic_parts ps rest = ap (λ (t : List ℕ). quote ∷ t) (pieces_parts ps (quote ∷ rest))
+basic_parts ps rest = ap (λ (t : List ℕ). quote ∷ t) (pieces_rest quote ps (quote ∷ rest))
 
 -- ---- one token
 

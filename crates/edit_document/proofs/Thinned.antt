@@ -1,14 +1,15 @@
 -- Assertions of which some leaves have other values, and from which what stood below these is gone.
-use Rattle.std.proofs.Common.{◌≡◌, ℕ, zero, suc, Bool, true, false, not, ◌&&◌, ◌||◌, ◌==◌, ◌-◌, nat_lt, if◌then◌else◌, cond, List, [], ◌∷◌, ◌++◌, length, map, Option, None, Some, option_map, refl, sym, ap, ap₂, ◌∙◌, subst, ◌≤◌, arith, append_assoc, true≢false}
-use Rattle.std.proofs.lemmas.Bool.{and_parts, and_from}
-use Rattle.std.specs.List.{AllByRecursion, filter_map, cons_option}
+use Rattle.std.proofs.Common.{◌≡◌, ℕ, suc, Bool, true, false, ◌||◌, cond, List, [], ◌∷◌, ◌++◌, map, Option, None, Some, refl, sym, ap, ◌∙◌, subst, append_assoc}
+use Rattle.std.specs.List.{AllByRecursion}
 use Rattle.edit_document.specs.Strings.{Key}
-use Rattle.edit_document.specs.Grammar.{Value, basic, literal, multi_basic, multi_literal, boolean, integer, float, datetime, array, inline, Elements, no_elements, last_element, element, Members, no_members, last_member, member, Statement, pair, header, element_header, Line, empty_line, full_line, Lines, one_line, more_lines, Text}
-use Rattle.edit_document.specs.Assertions.{Place, Step, key, index, at, same_bytes, same_step, same_place, Kind, dotted, leaf, super, header_kind, array_kind, element_kind, Assertion, asserts, names, named, of_key, of_value, of_elements, of_members, of_pair, is_array, is_array_at, elements_at, resolved, fronts, header_place, of_statement, prefix_after, place_named, of_lines, together, NoClash, AreShort}
-use Rattle.edit_document.specs.Tree.{View, view_of_value, view_of_kind, members_of, kind_at, view_in, step_from, once, count_elements, static_array}
+use Rattle.edit_document.specs.Grammar.{Value, basic, literal, multi_basic, multi_literal, boolean, integer, float, datetime, array, inline, Elements, no_elements, last_element, element, Members, no_members, last_member, member}
+use Rattle.edit_document.specs.Assertions.{Place, key, index, at, same_place, Kind, leaf, Assertion, asserts, names, named, of_key, of_value, of_elements, of_members, of_pair, is_array}
+use Rattle.edit_document.specs.Tree.{view_of_value, count_elements, static_array}
 use Rattle.edit_document.specs.Literals.{literal_of}
-use Rattle.edit_document.specs.Replaces.{Edits, new_text, literal_or, put, replaced_inside, replaced_elements, replaced_members, replaced_statement, replaced_lines, is_below, is_below_any}
-use Rattle.edit_document.proofs.SamePlaces.{by_test, place_true, same_step_same, place_same, is_within, within_same, below_at, within_at, within_named}
+use Rattle.edit_document.specs.Replaces.{Edits, new_text, literal_or, put, replaced_inside, replaced_elements, replaced_members, is_below, is_below_any}
+use Rattle.edit_document.proofs.SamePlaces.{is_within, within_same, below_at, within_at, within_named}
+use Rattle.edit_document.proofs.Cases.{by_test}
+use Rattle.edit_document.proofs.SamePlace.{same_place_is}
 
 abbrev pub is_leaf : Kind → Bool
 is_leaf (leaf v) = true
@@ -29,14 +30,14 @@ pub data Thin (edits : Edits) : List Assertion → List Assertion → Type 0 whe
   swap : (by p : Place) (v w : Value) (xs ys : List Assertion) → StandsFor edits p v w → Thin edits xs ys → Thin edits (asserts by p (leaf v) ∷ xs) (asserts by p (leaf w) ∷ ys)
   lose : (x : Assertion) (xs ys : List Assertion) → is_below_any edits x.place ≡ true → is_array x.kind ≡ false → Thin edits xs ys → Thin edits (x ∷ xs) ys
 
-abbrev HasNoLeaf : List Assertion → Type 0
+abbrev pub HasNoLeaf : List Assertion → Type 0
 HasNoLeaf xs = AllByRecursion (λ x. is_leaf x.kind ≡ false) xs
 
-thin_same : (edits : Edits) (xs : List Assertion) → HasNoLeaf xs → Thin edits xs xs
+pub thin_same : (edits : Edits) (xs : List Assertion) → HasNoLeaf xs → Thin edits xs xs
 thin_same edits [] h = none
 thin_same edits (x ∷ xs) h = keep x xs xs h.0 (thin_same edits xs h.1)
 
-thin_append : (edits : Edits) (xs ys us vs : List Assertion) → Thin edits xs ys → Thin edits us vs → Thin edits (xs ++ us) (ys ++ vs)
+pub thin_append : (edits : Edits) (xs ys us vs : List Assertion) → Thin edits xs ys → Thin edits us vs → Thin edits (xs ++ us) (ys ++ vs)
 thin_append edits xs ys us vs none more = more
 thin_append edits xs ys us vs (keep x ps qs n t) more = keep x _ _ n (thin_append edits ps qs us vs t more)
 thin_append edits xs ys us vs (swap by p v w ps qs e t) more = swap by p v w _ _ e (thin_append edits ps qs us vs t more)
@@ -96,7 +97,7 @@ pub edited_below : (edits : Edits) (p q : Place) (said : List ℕ) → new_text 
 edited_below [] p q said e low = absurd cc
 edited_below (x ∷ edits) p q said e low =
     by_test (same_place x.0 p)
-    (λ h. or_left (is_below x.0 q) (is_below_any edits q) (ap (λ r. is_below r q) (place_true x.0 p h) ∙ low))
+    (λ h. or_left (is_below x.0 q) (is_below_any edits q) (ap (λ r. is_below r q) (same_place_is x.0 p h) ∙ low))
     (λ h. or_right (is_below x.0 q) (is_below_any edits q) (edited_below edits p q said (sym (ap (λ c. cond c (Some x.1) (new_text edits p)) h) ∙ e) low))
 
 thin_lost : (edits : Edits) (p : Place) (said : List ℕ) (xs : List Assertion) → new_text edits p ≡ Some said → Lost p xs → Thin edits xs []
@@ -184,121 +185,7 @@ mutual
       (thin_append edits _ _ _ _ (thin_key edits true q p (names k) v _ (stands_replaced edits q v)) (thin_put edits q v (replaced_inside edits q v) (thin_inside edits q v)))
       (thin_members edits p ms)
 
-thin_pair : (edits : Edits) (p : Place) (k : Key) (v : Value) → Thin edits (of_pair p k v) (of_pair p k (put edits (named p (names k)) (replaced_inside edits (named p (names k)) v)))
+pub thin_pair : (edits : Edits) (p : Place) (k : Key) (v : Value) → Thin edits (of_pair p k v) (of_pair p k (put edits (named p (names k)) (replaced_inside edits (named p (names k)) v)))
 thin_pair edits p k v =
     let q = named p (names k) in
     thin_append edits _ _ _ _ (thin_key edits false q p (names k) v _ (stands_replaced edits q v)) (thin_put edits q v (replaced_inside edits q v) (thin_inside edits q v))
-
--- ---- later statements assert the same behind the thinned assertions
-
-pub thin_count : (edits : Edits) (xs ys : List Assertion) (p : Place) → Thin edits xs ys → elements_at xs p ≡ elements_at ys p
-thin_count edits xs ys p none = refl
-thin_count edits xs ys p (keep x us vs l t) = ap (λ n. cond (is_array_at p x) (suc n) n) (thin_count edits us vs p t)
-thin_count edits xs ys p (swap by q v w us vs e t) = thin_count edits us vs p t
-thin_count edits xs ys p (lose x us vs b k t) = ap (λ c. cond (c && same_place x.place p) (suc (elements_at us p)) (elements_at us p)) k ∙ thin_count edits us vs p t
-
--- two lists with the same numbers of elements
-abbrev Counts : List Assertion → List Assertion → Type 0
-Counts xs ys = (p : Place) → elements_at xs p ≡ elements_at ys p
-
-same_resolved : (xs ys : List Assertion) (p : Place) → Counts xs ys → resolved xs p ≡ resolved ys p
-same_resolved xs ys p t = ap (λ n. if nat_lt 0 n then at p (index (n - 1)) else p) (t p)
-
-same_fronts : (xs ys : List Assertion) (by p : Place) (ns : List (List ℕ)) → Counts xs ys → fronts xs by p ns ≡ fronts ys by p ns
-same_fronts xs ys by p [] t = refl
-same_fronts xs ys by p (n ∷ []) t = refl
-same_fronts xs ys by p (n ∷ m ∷ ns) t =
-    ap (λ q. asserts by q super ∷ fronts xs by q (m ∷ ns)) (same_resolved xs ys (at p (key n)) t)
-    ∙ ap (λ l. asserts by (resolved ys (at p (key n))) super ∷ l) (same_fronts xs ys by (resolved ys (at p (key n))) (m ∷ ns) t)
-
-same_header : (xs ys : List Assertion) (p : Place) (ns : List (List ℕ)) → Counts xs ys → header_place xs p ns ≡ header_place ys p ns
-same_header xs ys p [] t = refl
-same_header xs ys p (n ∷ []) t = refl
-same_header xs ys p (n ∷ m ∷ ns) t =
-    ap (λ q. header_place xs q (m ∷ ns)) (same_resolved xs ys (at p (key n)) t) ∙ same_header xs ys (resolved ys (at p (key n))) (m ∷ ns) t
-
-same_prefix : (xs ys : List Assertion) (prefix : Place) (s : Statement) → Counts xs ys → prefix_after xs prefix s ≡ prefix_after ys prefix s
-same_prefix xs ys prefix (pair k a b v) t = refl
-same_prefix xs ys prefix (header a k b) t = same_header xs ys [] (names k) t
-same_prefix xs ys prefix (element_header a k b) t =
-    ap (λ q. at q (index (elements_at xs q))) (same_header xs ys [] (names k) t)
-    ∙ ap (λ n. at (header_place ys [] (names k)) (index n)) (t (header_place ys [] (names k)))
-
-same_statement : (xs ys : List Assertion) (prefix : Place) (s : Statement) → Counts xs ys → of_statement xs prefix s ≡ of_statement ys prefix s
-same_statement xs ys prefix (pair k a b v) t = refl
-same_statement xs ys prefix (header a k b) t =
-    ap (λ q. fronts xs q [] (names k) ++ asserts q q header_kind ∷ []) (same_header xs ys [] (names k) t)
-    ∙ ap (λ l. l ++ asserts (header_place ys [] (names k)) (header_place ys [] (names k)) header_kind ∷ []) (same_fronts xs ys (header_place ys [] (names k)) [] (names k) t)
-same_statement xs ys prefix (element_header a k b) t =
-    ap (λ q. let e = at q (index (elements_at xs q)) in fronts xs e [] (names k) ++ asserts e q array_kind ∷ asserts e e element_kind ∷ []) (same_header xs ys [] (names k) t)
-    ∙ ap (λ n. let e = at (header_place ys [] (names k)) (index n) in fronts xs e [] (names k) ++ asserts e (header_place ys [] (names k)) array_kind ∷ asserts e e element_kind ∷ []) (t (header_place ys [] (names k)))
-    ∙ (let e = at (header_place ys [] (names k)) (index (elements_at ys (header_place ys [] (names k)))) in
-    ap (λ l. l ++ asserts e (header_place ys [] (names k)) array_kind ∷ asserts e e element_kind ∷ []) (same_fronts xs ys e [] (names k) t))
-
-fronts_no_leaf : (earlier : List Assertion) (by p : Place) (ns : List (List ℕ)) → HasNoLeaf (fronts earlier by p ns)
-fronts_no_leaf earlier by p [] = tt
-fronts_no_leaf earlier by p (n ∷ []) = tt
-fronts_no_leaf earlier by p (n ∷ m ∷ ns) = (refl, fronts_no_leaf earlier by (resolved earlier (at p (key n))) (m ∷ ns))
-
-no_leaf_append : (xs ys : List Assertion) → HasNoLeaf xs → HasNoLeaf ys → HasNoLeaf (xs ++ ys)
-no_leaf_append [] ys h more = more
-no_leaf_append (x ∷ xs) ys h more = (h.0, no_leaf_append xs ys h.1 more)
-
-thin_statement : (edits : Edits) (xs ys : List Assertion) (prefix : Place) (s : Statement) → Counts xs ys → Thin edits (of_statement xs prefix s) (of_statement ys prefix (replaced_statement edits prefix s))
-thin_statement edits xs ys prefix (pair k a b v) t = thin_pair edits prefix k v
-thin_statement edits xs ys prefix (header a k b) t =
-    subst (λ l. Thin edits (of_statement xs prefix (header a k b)) l) (same_statement xs ys prefix (header a k b) t)
-    (thin_same edits _ (no_leaf_append (fronts xs _ [] (names k)) _ (fronts_no_leaf xs _ [] (names k)) (refl, tt)))
-thin_statement edits xs ys prefix (element_header a k b) t =
-    subst (λ l. Thin edits (of_statement xs prefix (element_header a k b)) l) (same_statement xs ys prefix (element_header a k b) t)
-    (thin_same edits _ (no_leaf_append (fronts xs _ [] (names k)) _ (fronts_no_leaf xs _ [] (names k)) (refl, (refl, tt))))
-
-same_after : (edits : Edits) (xs ys : List Assertion) (prefix : Place) (s : Statement) → Counts xs ys → prefix_after xs prefix s ≡ prefix_after ys prefix (replaced_statement edits prefix s)
-same_after edits xs ys prefix (pair k a b v) t = refl
-same_after edits xs ys prefix (header a k b) t = same_prefix xs ys prefix (header a k b) t
-same_after edits xs ys prefix (element_header a k b) t = same_prefix xs ys prefix (element_header a k b) t
-
--- replaced lines, behind thinned assertions
-pub thin_lines : (edits : Edits) (xs ys : List Assertion) (prefix : Place) (ls : Lines) → Thin edits xs ys → Thin edits (of_lines xs prefix ls) (of_lines ys prefix (replaced_lines edits xs prefix ls))
-thin_lines edits xs ys prefix (one_line (empty_line a c)) t = t
-thin_lines edits xs ys prefix (one_line (full_line a s b c)) t = thin_append edits xs ys _ _ t (thin_statement edits xs ys prefix s (λ p. thin_count edits xs ys p t))
-thin_lines edits xs ys prefix (more_lines (empty_line a c) e ls) t = thin_lines edits xs ys prefix ls t
-thin_lines edits xs ys prefix (more_lines (full_line a s b c) e ls) t =
-    let counts : Counts xs ys = λ p. thin_count edits xs ys p t in
-    let more = thin_append edits xs ys _ _ t (thin_statement edits xs ys prefix s counts) in
-    let us = xs ++ of_statement xs prefix s in
-    let vs = ys ++ of_statement ys prefix (replaced_statement edits prefix s) in
-    let news = replaced_lines edits us (prefix_after xs prefix s) ls in
-    subst (λ q. Thin edits (of_lines us (prefix_after xs prefix s) ls) (of_lines vs q news)) (same_after edits xs ys prefix s counts)
-    (thin_lines edits us vs (prefix_after xs prefix s) ls more)
-
--- ---- thinned assertions are short and do not clash
-
-pub thin_short : (edits : Edits) (xs ys : List Assertion) → Thin edits xs ys → AreShort xs → AreShort ys
-thin_short edits xs ys none h = tt
-thin_short edits xs ys (keep x us vs l t) h = (h.0, thin_short edits us vs t h.1)
-thin_short edits xs ys (swap by p v w us vs e t) h = (h.0, thin_short edits us vs t h.1)
-thin_short edits xs ys (lose x us vs b k t) h = thin_short edits us vs t h.1
-
-pub leaf_alone : (k : Kind) (v : Value) → together k (leaf v) ≡ false
-leaf_alone (dotted w) v = refl
-leaf_alone (leaf u) v = refl
-leaf_alone super v = refl
-leaf_alone header_kind v = refl
-leaf_alone array_kind v = refl
-leaf_alone element_kind v = refl
-
-abbrev StandsWith : Place → Kind → List Assertion → Type 0
-StandsWith p k xs = AllByRecursion (λ b. p ≡ b.place → together k b.kind ≡ true) xs
-
-thin_with : (edits : Edits) (p : Place) (k : Kind) (xs ys : List Assertion) → Thin edits xs ys → StandsWith p k xs → StandsWith p k ys
-thin_with edits p k xs ys none h = tt
-thin_with edits p k xs ys (keep x us vs l t) h = (h.0, thin_with edits p k us vs t h.1)
-thin_with edits p k xs ys (swap by q v w us vs e t) h = ((λ same. leaf_alone k w ∙ sym (leaf_alone k v) ∙ h.0 same), thin_with edits p k us vs t h.1)
-thin_with edits p k xs ys (lose x us vs b l t) h = thin_with edits p k us vs t h.1
-
-pub thin_no_clash : (edits : Edits) (xs ys : List Assertion) → Thin edits xs ys → NoClash xs → NoClash ys
-thin_no_clash edits xs ys none h = tt
-thin_no_clash edits xs ys (keep x us vs l t) h = (thin_with edits x.place x.kind us vs t h.0, thin_no_clash edits us vs t h.1)
-thin_no_clash edits xs ys (swap by p v w us vs e t) h = (thin_with edits p (leaf v) us vs t h.0, thin_no_clash edits us vs t h.1)
-thin_no_clash edits xs ys (lose x us vs b k t) h = thin_no_clash edits us vs t h.1

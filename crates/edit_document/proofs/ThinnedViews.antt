@@ -1,14 +1,17 @@
 -- The tree of thinned assertions: the same where nothing is written at or above a place, and the new string where one is.
-use Rattle.std.proofs.Common.{◌≡◌, ℕ, zero, suc, Bool, true, false, not, ◌&&◌, ◌||◌, ◌==◌, nat_lt, if◌then◌else◌, cond, List, [], ◌∷◌, ◌++◌, map, Option, None, Some, option_map, refl, sym, ap, ap₂, ◌∙◌, subst, ◌⊎◌, inl, inr, ⊎_elim, true≢false, arith}
-use Rattle.std.proofs.lemmas.Bool.{and_parts, and_from}
-use Rattle.std.specs.List.{AllByRecursion, filter_map, cons_option}
-use Rattle.edit_document.specs.Grammar.{Value, basic, literal, multi_basic, multi_literal, boolean, integer, float, datetime, array, inline, Text}
-use Rattle.edit_document.specs.Assertions.{Place, Step, key, index, same_bytes, same_step, same_place, Kind, dotted, leaf, super, header_kind, array_kind, element_kind, Assertion, asserts, elements_at, NoClash}
-use Rattle.edit_document.specs.Tree.{View, table, table_array, inline_table, view_of_value, view_of_kind, members_of, kind_at, view_in, step_from, once}
+use Rattle.std.proofs.Common.{◌≡◌, ℕ, Bool, true, false, ◌&&◌, ◌||◌, if◌then◌else◌, cond, List, [], ◌∷◌, Option, None, Some, option_map, refl, sym, ap, ◌∙◌, subst, ◌⊎◌, inl, inr, ⊎_elim, true≢false}
+use Rattle.std.proofs.lemmas.Bool.{and_parts}
+use Rattle.std.specs.List.{filter_map, cons_option}
+use Rattle.edit_document.specs.Grammar.{Value, basic, literal, multi_basic, multi_literal, boolean, integer, float, datetime, array, inline}
+use Rattle.edit_document.specs.Assertions.{Place, Step, same_step, same_place, Kind, dotted, leaf, super, header_kind, array_kind, element_kind, Assertion, elements_at}
+use Rattle.edit_document.specs.Tree.{table, table_array, inline_table, view_of_value, view_of_kind, members_of, kind_at, view_in, step_from, once}
 use Rattle.edit_document.specs.Literals.{literal_of}
 use Rattle.edit_document.specs.Replaces.{Edits, new_text, is_below, is_below_any}
-use Rattle.edit_document.proofs.SamePlaces.{by_test, place_true, step_true, same_step_same, place_same, is_within, within_cases}
-use Rattle.edit_document.proofs.Thinned.{Thin, none, keep, swap, lose, thin_count, is_leaf}
+use Rattle.edit_document.proofs.SamePlaces.{is_within, within_cases}
+use Rattle.edit_document.proofs.Thinned.{Thin, none, keep, swap, lose, is_leaf}
+use Rattle.edit_document.proofs.ThinnedLines.{thin_count}
+use Rattle.edit_document.proofs.Cases.{by_test, or_false}
+use Rattle.edit_document.proofs.SamePlace.{same_step_is, same_place_is, same_step_self, same_place_self}
 
 -- a place that is none of the edited ones, and below none
 pub record Untouched (edits : Edits) (q : Place) : Type 0 where
@@ -19,9 +22,9 @@ pub record Untouched (edits : Edits) (q : Place) : Type 0 where
 
 outside_rest : (s r t : Step) (ss rs ts : Place) → is_below (s ∷ ss) (t ∷ ts) ≡ true → is_within (s ∷ ss) (r ∷ rs) ≡ false → same_step r t ≡ true → is_within ss rs ≡ false
 outside_rest s r t ss rs ts b far e =
-    let st = step_true s t (and_parts (same_step s t) (is_below ss ts) b).0 in
-    let rt = step_true r t e in
-    let same : same_step s r ≡ true = ap (λ x. same_step s x) (rt ∙ sym st) ∙ same_step_same s in
+    let st = same_step_is s t (and_parts (same_step s t) (is_below ss ts) b).0 in
+    let rt = same_step_is r t e in
+    let same : same_step s r ≡ true = ap (λ x. same_step s x) (rt ∙ sym st) ∙ same_step_self s in
     sym (ap (λ c. c && is_within ss rs) same) ∙ far
 
 -- what lies below the target is no member of a place outside
@@ -41,17 +44,13 @@ or_cases : (a b : Bool) → (a || b) ≡ true → (a ≡ true) ⊎ (b ≡ true)
 or_cases true b e = inl refl
 or_cases false b e = inr e
 
-neither : (a b : Bool) → (a || b) ≡ false → (a ≡ false) × (b ≡ false)
-neither true b e = absurd (true≢false e)
-neither false b e = (refl, e)
-
 -- an untouched place is not within an edited one
 outside_first : (e : Place × List ℕ) (edits : Edits) (q : Place) → Untouched (e ∷ edits) q → is_within e.0 q ≡ false
 outside_first e edits q u =
     by_test (is_within e.0 q)
     (λ h. absurd (⊎_elim
-    (λ same. let is : Some e.1 ≡ None = sym (ap (λ c. cond c (Some e.1) (new_text edits q)) (ap (λ r. same_place r q) same ∙ place_same q)) ∙ u.same in some_none e.1 is)
-    (λ low. true≢false (sym low ∙ (neither (is_below e.0 q) (is_below_any edits q) u.above).0))
+    (λ same. let is : Some e.1 ≡ None = sym (ap (λ c. cond c (Some e.1) (new_text edits q)) (ap (λ r. same_place r q) same ∙ same_place_self q)) ∙ u.same in some_none e.1 is)
+    (λ low. true≢false (sym low ∙ (or_false (is_below e.0 q) (is_below_any edits q) u.above).0))
     (within_cases e.0 q h)))
     (λ h. h)
   where
@@ -63,7 +62,7 @@ untouched_rest e edits q u = record {
   same = by_test (same_place e.0 q)
       (λ h. let is : Some e.1 ≡ None = sym (ap (λ c. cond c (Some e.1) (new_text edits q)) h) ∙ u.same in absurd (some_none e.1 is))
       (λ h. sym (ap (λ c. cond c (Some e.1) (new_text edits q)) h) ∙ u.same);
-  above = (neither (is_below e.0 q) (is_below_any edits q) u.above).1;
+  above = (or_false (is_below e.0 q) (is_below_any edits q) u.above).1;
 }
   where
     some_none : (l : List ℕ) → Some l ≡ None → ⊥
@@ -90,7 +89,7 @@ thin_members_of edits q xs ys u t = ap once (thin_steps edits q xs ys u t)
 -- what was lost is not at a place above which nothing is written
 not_lost : (edits : Edits) (p q : Place) → is_below_any edits p ≡ true → is_below_any edits q ≡ false → same_place p q ≡ false
 not_lost edits p q low none_above =
-    by_test (same_place p q) (λ e. absurd (true≢false (sym low ∙ ap (λ r. is_below_any edits r) (place_true p q e) ∙ none_above))) (λ e. e)
+    by_test (same_place p q) (λ e. absurd (true≢false (sym low ∙ ap (λ r. is_below_any edits r) (same_place_is p q e) ∙ none_above))) (λ e. e)
 
 cond_map : {A B : Type 0} (f : A → B) (c : Bool) (k : A) (x y : Option A) → option_map f x ≡ option_map f y → option_map f (cond c (Some k) x) ≡ option_map f (cond c (Some k) y)
 cond_map f true k x y e = refl
@@ -102,7 +101,7 @@ thin_kind edits q made xs ys u (keep x us vs l t) = cond_map (view_of_kind made 
 thin_kind edits q made xs ys u (swap by p v w us vs e t) =
     by_test (same_place p q)
     (λ h. ap (λ c. option_map (view_of_kind made q) (cond c (Some (leaf v)) (kind_at us q))) h
-    ∙ ap Some (subst (λ r. view_of_value made r v ≡ view_of_value made r w) (place_true p q h) (e.kept (ap (λ r. new_text edits r) (place_true p q h) ∙ u.same) made))
+    ∙ ap Some (subst (λ r. view_of_value made r v ≡ view_of_value made r w) (same_place_is p q h) (e.kept (ap (λ r. new_text edits r) (same_place_is p q h) ∙ u.same) made))
     ∙ sym (ap (λ c. option_map (view_of_kind made q) (cond c (Some (leaf w)) (kind_at vs q))) h))
     (λ h. ap (λ c. option_map (view_of_kind made q) (cond c (Some (leaf v)) (kind_at us q))) h ∙ thin_kind edits q made us vs u t
     ∙ sym (ap (λ c. option_map (view_of_kind made q) (cond c (Some (leaf w)) (kind_at vs q))) h))
@@ -121,7 +120,7 @@ thin_literal edits q said xs ys v new high was (keep x us vs l t) =
     ∙ thin_literal edits q said us vs v new high (sym (ap (λ c. cond c (Some x.kind) (kind_at us q)) h) ∙ was) t)
 thin_literal edits q said xs ys v new high was (swap by p u w us vs e t) =
     by_test (same_place p q)
-    (λ h. ap (λ c. cond c (Some (leaf w)) (kind_at vs q)) h ∙ ap (λ z. Some (leaf z)) (e.written said (ap (λ r. new_text edits r) (place_true p q h) ∙ new)))
+    (λ h. ap (λ c. cond c (Some (leaf w)) (kind_at vs q)) h ∙ ap (λ z. Some (leaf z)) (e.written said (ap (λ r. new_text edits r) (same_place_is p q h) ∙ new)))
     (λ h. ap (λ c. cond c (Some (leaf w)) (kind_at vs q)) h
     ∙ thin_literal edits q said us vs v new high (sym (ap (λ c. cond c (Some (leaf u)) (kind_at us q)) h) ∙ was) t)
 thin_literal edits q said xs ys v new high was (lose x us vs b k t) =

@@ -1,17 +1,18 @@
 -- In a document no place has two values.
-use Rattle.std.proofs.Common.{◌≡◌, ℕ, suc, Bool, true, false, ◌&&◌, ◌||◌, if◌then◌else◌, List, [], ◌∷◌, ◌++◌, map, Option, None, Some, refl, sym, ap, ap₂, ◌∙◌, subst, ◌⊎◌, inl, inr, ⊎_elim, true≢false, append_assoc, append-nil}
+use Rattle.std.proofs.Common.{◌≡◌, ℕ, suc, Bool, true, false, ◌&&◌, ◌||◌, if◌then◌else◌, List, [], ◌∷◌, ◌++◌, map, Option, None, Some, refl, sym, ap, ap₂, ◌∙◌, subst, inl, inr, true≢false, append_assoc, append-nil}
 use Rattle.std.proofs.lemmas.List.Elements.{filter_map-append}
 use Rattle.std.proofs.lemmas.Bool.{and_parts}
 use Rattle.std.specs.List.{AllByRecursion, filter_map, cons_option, list_any}
 use Rattle.edit_document.specs.Characters.{comma, right_bracket, right_brace}
 use Rattle.edit_document.specs.Strings.{Key, line_end}
 use Rattle.edit_document.specs.Grammar.{gap, Value, basic, literal, multi_basic, multi_literal, boolean, integer, float, datetime, array, inline, Elements, no_elements, last_element, element, elements, Members, no_members, last_member, member, members, Statement, pair, header, element_header, empty_line, full_line, comment, Lines, one_line, more_lines, lines, Text}
-use Rattle.edit_document.specs.Assertions.{Place, Step, key, index, at, names, named, Kind, dotted, leaf, super, header_kind, array_kind, element_kind, Assertion, asserts, of_key, of_value, of_elements, of_members, of_pair, fronts, resolved, of_statement, prefix_after, of_lines, assertions, together, same_place, NoClash}
+use Rattle.edit_document.specs.Assertions.{Place, key, index, at, names, named, Kind, dotted, leaf, super, header_kind, array_kind, element_kind, Assertion, of_key, of_value, of_elements, of_members, fronts, resolved, of_statement, prefix_after, of_lines, assertions, together, same_place, NoClash}
 use Rattle.edit_document.specs.Tree.{is_value_at}
 use Rattle.edit_document.specs.Written.{Valued, valued, inside, in_elements, in_members, in_statement, in_lines, values}
 use Rattle.edit_document.proofs.Members.{Among, among_all, among_map, map_among, filter_among}
-use Rattle.edit_document.proofs.SamePlaces.{by_test, place_true, place_same}
 use Rattle.edit_document.proofs.Thinned.{is_leaf}
+use Rattle.edit_document.proofs.Cases.{by_test}
+use Rattle.edit_document.proofs.SamePlace.{same_place_is, same_place_self}
 
 abbrev leaf_place : Assertion → Option Place
 leaf_place a = if is_leaf a.kind then Some a.place else None
@@ -147,7 +148,7 @@ leaf_listed p [] e = absurd (true≢false (sym e))
 leaf_listed p (a ∷ made) e =
     by_test (same_place a.place p && is_leaf a.kind)
     (λ h. let b = and_parts (same_place a.place p) (is_leaf a.kind) h in
-    subst (λ (o : Option Place). Among p (cons_option o (leaves made))) (sym (ap (λ c. if c then Some a.place else None) b.1)) (inl (sym (place_true a.place p b.0))))
+    subst (λ (o : Option Place). Among p (cons_option o (leaves made))) (sym (ap (λ c. if c then Some a.place else None) b.1)) (inl (sym (same_place_is a.place p b.0))))
     (λ h. listed a made (leaf_listed p made (sym (ap (λ c. c || list_any (λ a. same_place a.place p && is_leaf a.kind) made) h) ∙ e)))
   where
     listed : (a : Assertion) (made : List Assertion) → Among p (leaves made) → Among p (leaves (a ∷ made))
@@ -168,7 +169,7 @@ told_leaf p a (b ∷ made) (inl h) e = ap (λ (z : Assertion). (same_place z.pla
   where
     here : (c : Bool) → is_leaf a.kind ≡ c → (if c then Some a.place else None) ≡ Some p → (same_place a.place p && is_leaf a.kind) ≡ true
     here false k h = absurd cc
-    here true k h = let same : a.place ≡ p = cc in ap₂ (λ b c. b && c) (ap (λ q. same_place q p) same ∙ place_same p) k
+    here true k h = let same : a.place ≡ p = cc in ap₂ (λ b c. b && c) (ap (λ q. same_place q p) same ∙ same_place_self p) k
 told_leaf p a (b ∷ made) (inr m) e = later (same_place b.place p && is_leaf b.kind) (told_leaf p a made m e)
   where
     later : (c : Bool) → list_any (λ a. same_place a.place p && is_leaf a.kind) made ≡ true → (c || list_any (λ a. same_place a.place p && is_leaf a.kind) made) ≡ true

@@ -7,10 +7,12 @@ use Rattle.edit_document.specs.Supported.{IsSupportedValue, AreSupportedElements
 use Rattle.edit_document.specs.Depth.{depth, elements_depth, members_depth}
 use Rattle.edit_document.specs.ReadingNumbers.{begins, number_at}
 use Rattle.edit_document.specs.Reading.{◌>>=◌, Read, multi_at, first, past, blanks, past_blanks, blank_gap, gap_front, past_gap, basic_at, literal_at, key_at, scalar_at, starts, Pair, pair_at, members_at, elements_at, value_at}
-use Rattle.edit_document.proofs.TokenLaws.{bind_some, chosen, tested, some_is, first_is, at_drop, both, past_some, run_parts, run_all, basic_sound, literal_sound, key_sound}
+use Rattle.edit_document.proofs.TokenLaws.{bind_some, chosen, some_is, first_is, at_drop, past_some, run_parts, run_all, basic_sound, literal_sound}
+use Rattle.edit_document.proofs.KeyLaws.{key_sound}
 use Rattle.edit_document.proofs.NumberLaws.{IsNumber, begins_is, number_sound}
 use Rattle.edit_document.proofs.MultiLaws.{multi_basic_sound, multi_literal_sound}
 use Rattle.edit_document.proofs.GapLaws.{front_parts, front_gap}
+use Rattle.std.proofs.lemmas.Bool.{and_parts}
 
 -- ---- gaps of tabs and spaces
 
@@ -59,9 +61,9 @@ Sound n read = (text : List ℕ) (x : Value × List ℕ) → read text ≡ Some 
 
 starts_is : (a b c d : ℕ) (text : List ℕ) → 0 < a → 0 < b → 0 < c → 0 < d → starts a b c d text ≡ true → text ≡ a ∷ (b ∷ (c ∷ (d ∷ drop 4 text)))
 starts_is a b c d text la lb lc ld e =
-    let x = both _ (eqb (slice_index text 3) d) e in
-    let y = both _ (eqb (slice_index text 2) c) x.0 in
-    let z = both _ (eqb (slice_index text 1) b) y.0 in
+    let x = and_parts _ (eqb (slice_index text 3) d) e in
+    let y = and_parts _ (eqb (slice_index text 2) c) x.0 in
+    let z = and_parts _ (eqb (slice_index text 1) b) y.0 in
     first_is a text la z.0 ∙ ap (λ (r : List ℕ). a ∷ r) (at_drop 1 b text lb z.1 ∙ ap (λ (r : List ℕ). b ∷ r) (at_drop 2 c text lc y.1 ∙ ap (λ (r : List ℕ). c ∷ r) (at_drop 3 d text ld x.1)))
 
 flat : (n : ℕ) (v : Value) → IsValue v → IsSupportedValue v → depth v ≡ 0 → IsReadable n v
@@ -105,7 +107,7 @@ token_sound n text x e =
           | inl l ↦ subst P (some_is _ x l.1) (starts_is 116 114 117 101 text (omega arith) (omega arith) (omega arith) (omega arith) l.0, flat n (boolean true) tt tt refl)
           | inr l ↦ elim (chosen (starts 102 97 108 115 text && eqb (slice_index text 4) 101) _ _ (Some x) l.1) [
             | inl m ↦
-                let w = both (starts 102 97 108 115 text) (eqb (slice_index text 4) 101) m.0 in
+                let w = and_parts (starts 102 97 108 115 text) (eqb (slice_index text 4) 101) m.0 in
                 let four = starts_is 102 97 108 115 text (omega arith) (omega arith) (omega arith) (omega arith) w.0 in
                 subst P (some_is _ x m.1) (four ∙ ap (λ (r : List ℕ). 102 ∷ (97 ∷ (108 ∷ (115 ∷ r)))) (at_drop 4 101 text (omega arith) w.1), flat n (boolean false) tt tt refl)
             | inr m ↦ let f = number_sound text x m.1 in (f.0, number_readable n x.0 f.1 f.2)

@@ -13,12 +13,12 @@ use Rattle.edit_document.specs.DocumentLayout.{span_of, placed, span_at, shown_o
 use Rattle.edit_document.specs.Items.{place_numbered}
 use Rattle.edit_document.specs.Written.{Valued, values, IsWrittenAt}
 use Rattle.edit_document.proofs.SamePlace.{same_place_self, same_place_is}
-use Rattle.edit_document.proofs.SamePlaces.{by_test}
 use Rattle.edit_document.proofs.Members.{Among, among_contained}
 use Rattle.edit_document.proofs.UniqueValues.{value_listed}
 use Rattle.edit_document.proofs.ReplacedStrings.{told_value}
 use Rattle.edit_document.proofs.ShownForms.{shown_bytes, form_same, open_spots, shows_tree}
 use Rattle.edit_document.proofs.Views.{Opened, found}
+use Rattle.edit_document.proofs.Cases.{by_test}
 
 -- ---- the span that is told at a place is that of a value there
 

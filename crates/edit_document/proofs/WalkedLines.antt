@@ -20,8 +20,9 @@ use Rattle.edit_document.specs.Nodes.{section, sections, Spot, StandsAt}
 use Rattle.edit_document.specs.Walk.{State, element_added, settled_state, settled, turned, headed, element_headed, step, start, walked}
 use Rattle.edit_document.specs.Marks.{mark, value_marks, statement_marks, lines_marks, text_marks}
 use Rattle.edit_document.proofs.Ends.{Ends, ends_past, ends_one, ends_pair, ends_line, ends_line_end}
-use Rattle.edit_document.proofs.SamePlace.{both_true, not_root}
-use Rattle.edit_document.proofs.MoreAssertions.{first_kind, first_is, kind_stays, kind_new, IsClear, clear_front, clash_last, allowed, is_headed, elements_below, elements_stay}
+use Rattle.edit_document.proofs.SamePlace.{not_root}
+use Rattle.edit_document.proofs.MoreAssertions.{first_kind, first_is, kind_stays, kind_new, IsClear, clear_front, clash_last, allowed}
+use Rattle.edit_document.proofs.MoreMembers.{is_headed, elements_below, elements_stay}
 use Rattle.edit_document.proofs.Trees.{Grows, grows_then}
 use Rattle.edit_document.proofs.Standing.{Stands, stands_start}
 use Rattle.edit_document.proofs.Asserting.{Makes, makes, fails, element_makes}
@@ -30,7 +31,9 @@ use Rattle.edit_document.proofs.Evens.{IsEven, arrays_alone, even_statement}
 use Rattle.edit_document.proofs.Walks.{walked_one, walked_none, walked_append}
 use Rattle.edit_document.proofs.WalkedTokens.{waits, walked_key}
 use Rattle.edit_document.proofs.Leading.{Leads, leads, stops, Enters, enters, bars, settled_enters}
-use Rattle.edit_document.proofs.WalkedValues.{spans, pair_before, pair_is_before, value_leads}
+use Rattle.edit_document.proofs.WalkedValues.{pair_before, pair_is_before, value_leads}
+use Rattle.edit_document.proofs.WalkedHolders.{spans}
+use Rattle.std.proofs.lemmas.Bool.{and_parts}
 
 header_step : (bytes from rest : List ℕ) (st : State) → step bytes (mark kinds.Header from rest) st ≡ headed st
 unfolding step
@@ -85,7 +88,7 @@ array_first k [] p e h = absurd cc
 array_first k (a ∷ made) p e h = go (same_place a.place p) refl e (array_first k made p)
   where
     parts : (cond (same_place a.place p) (together a.kind array_kind) true ≡ true) × (allowed made p array_kind ≡ true)
-    parts = both_true (cond (same_place a.place p) (together a.kind array_kind) true) (allowed made p array_kind) h
+    parts = and_parts (cond (same_place a.place p) (together a.kind array_kind) true) (allowed made p array_kind) h
 
     only : (j : Kind) → together j array_kind ≡ true → j ≡ array_kind
     only (dotted b) t = absurd cc

@@ -1,5 +1,5 @@
 -- What a contract says of an `Item`: its document, its place, and what stands there.
-use Rattle.std.specs.Prelude.{◌≡◌, ℕ, List, length, drop, Option, Some, None, MatchOption}
+use Rattle.std.specs.Prelude.{◌≡◌, ℕ, List, drop, Option, Some, None, MatchOption}
 use Rattle.edit_document.specs.declared.item.Item.{Item}
 use Rattle.edit_document.specs.declared.item.Keys.{Keys}
 use Rattle.edit_document.specs.Assertions.{Place}

@@ -1,7 +1,7 @@
 -- Reading from left to right: a part of the grammar and the text behind it, or nothing. The contracts of the
 -- private functions cite these; what they have to do with the grammar is proved in proofs/.
-use Rattle.std.specs.Prelude.{ℕ, zero, suc, ◌+◌, Bool, true, false, not, ◌&&◌, ◌||◌, ◌==◌, if◌then◌else◌, List, [], ◌∷◌, length, map, take, drop, slice_index, Option, Some, None, option_and_then}
-use Rattle.std.specs.List.{prefix_len, list_all}
+use Rattle.std.specs.Prelude.{ℕ, zero, suc, ◌+◌, Bool, true, false, not, ◌&&◌, ◌||◌, ◌==◌, if◌then◌else◌, List, [], ◌∷◌, length, map, take, drop, slice_index, Option, Some, None}
+use Rattle.std.specs.List.{list_all}
 use Rattle.std.specs.Str.Parse.{digits_value}
 use Rattle.edit_document.specs.Characters.{line_feed, carriage_return, quote, hash, apostrophe, comma, equals, left_bracket, backslash, right_bracket, left_brace, right_brace, is_blank, is_ch, is_bare, is_literal_ch, is_basic_ch}
 use Rattle.edit_document.specs.Strings.{LineEnd, lf, crlf, Space, Piece, plain, letter, short, long, feed, fold, delimiter, is_escape, is_hex, is_scalar, Part, bare, basic_part, literal_part, Dotted, Key}

@@ -1,5 +1,5 @@
 -- Ranges of a text in whose place the literals of other texts are written.
-use Rattle.std.specs.Prelude.{◌≡◌, ℕ, ◌≤◌, List, [], ◌∷◌, ◌++◌, length, map, drop, slice_range, ⊤}
+use Rattle.std.specs.Prelude.{◌≡◌, ℕ, ◌≤◌, List, [], ◌∷◌, ◌++◌, map, drop, slice_range, ⊤}
 use Rattle.std.specs.Str.{IsCharBoundary}
 use Rattle.edit_document.specs.declared.replace.Rewrite.{Rewrite}
 use Rattle.edit_document.specs.Literals.{literal_bytes}

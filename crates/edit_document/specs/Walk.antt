@@ -12,7 +12,7 @@ use Rattle.edit_document.specs.Characters.{quote, apostrophe}
 use Rattle.edit_document.specs.Strings.{says, says_multi}
 use Rattle.edit_document.specs.Reading.{◌>>=◌, basic_at, literal_at, multi_at}
 use Rattle.edit_document.specs.Assertions.{Place, key, index, at}
-use Rattle.edit_document.specs.Tree.{string, truth}
+use Rattle.edit_document.specs.Tree.{truth}
 use Rattle.edit_document.specs.Nodes.{Shape, shape_said, scalar, listed, inline, section, sections, Spot, below}
 use Rattle.edit_document.specs.Taking.{joins, stronger}
 

@@ -7,7 +7,6 @@ ghost use Rattle.edit_document.specs.Grammar.{Text};
 ghost use Rattle.edit_document.specs.Shown.{tree_of, ShowsTree};
 ghost use Rattle.edit_document.specs.Supported.{IsManifest};
 ghost use Rattle.edit_document.specs.Ranges.{HasRange};
-ghost use Rattle.edit_document.specs.DocumentLayout.{shown_by};
 ghost use Rattle.edit_document.specs.Marks.{IsReadRefusal};
 ghost use Rattle.edit_document.specs.Items.{place_numbered, view_numbered, names_in, count_in, place_seen, Shows, Numbers};
 
@@ -58,8 +57,6 @@ impl Document {
     /// Reads a text. What is no document is refused, with a byte near which it goes wrong.
     pub fn read(alloc: Global, text: &str) -> CargoResult<Document>
         ensures bytes { IfOk result (λ d. d.bytes ≡ text.now) }
-        // The same text shows the same places.
-        ensures shown { IfOk result (λ d. d ≡ shown_by text.now) }
         // What is read is a document, and shows its tree.
         ensures found { IfOk result (λ d. (form : Text) × IsManifest text.now form × ShowsTree d form) }
         // Whatever is a document is read, in whichever way the text was split, unless memory runs out.

@@ -2,6 +2,9 @@
 ghost use Rattle.std.specs.Prelude.{◌≡◌};
 ghost use Rattle.edit_document.specs.declared.errors.Error.TheVariants.{Memory};
 
+mod details;
+
+pub use details::{MergedCommand, MissingKind, MissingNames};
 use std::alloc::{AllocError, AllocFailed};
 use std::{fmt, io};
 use thiserror::Error;
@@ -24,67 +27,6 @@ impl fmt::Display for DeviceCall {
             DeviceCall::Read => "Failed to read a file",
             DeviceCall::Write => "Failed to write updated Cargo.toml",
         })
-    }
-}
-
-/// A command that cargo has by itself.
-#[derive(Clone, Copy, Debug, PartialEq, Eq)]
-pub enum MergedCommand {
-    Add,
-    Rm,
-}
-
-impl fmt::Display for MergedCommand {
-    fn fmt<W: fmt::Write>(&self, f: &mut fmt::Formatter<W>) -> fmt::Result {
-        let (command, cargo, edit, version) = match self {
-            MergedCommand::Add => ("add", "1.62", "0.10", "0.9.1"),
-            MergedCommand::Rm => ("rm", "1.66", "0.12", "0.11"),
-        };
-        writeln!(
-            f,
-            "`cargo {command}` has been merged into cargo {cargo}+ as of cargo-edit {edit}, either"
-        )?;
-        writeln!(f, "- Upgrade cargo, like with `rustup update`")?;
-        write!(
-            f,
-            "- Downgrade `cargo-edit`, like with `cargo install cargo-edit --version {version}`"
-        )
-    }
-}
-
-/// What no manifest has.
-#[derive(Clone, Copy, Debug, PartialEq, Eq)]
-pub enum MissingKind {
-    Package,
-    Dependency,
-}
-
-/// Names that no manifest has, as `package a doesn't exist` or `packages a, b don't exist`.
-#[derive(Debug, Drop)]
-pub struct MissingNames {
-    pub kind: MissingKind,
-    pub names: Vec<String>,
-}
-
-impl fmt::Display for MissingNames {
-    fn fmt<W: fmt::Write>(&self, f: &mut fmt::Formatter<W>) -> fmt::Result {
-        let (one, many) = match self.kind {
-            MissingKind::Package => ("package", "packages"),
-            MissingKind::Dependency => ("dependency", "dependencies"),
-        };
-        match self.names.as_slice() {
-            [name] => write!(f, "{one} {name} doesn't exist"),
-            names => {
-                write!(f, "{many} ")?;
-                for (i, name) in names.iter().enumerate() {
-                    if i > 0 {
-                        f.write_str(", ")?;
-                    }
-                    write!(f, "{name}")?;
-                }
-                f.write_str(" don't exist")
-            }
-        }
     }
 }
 

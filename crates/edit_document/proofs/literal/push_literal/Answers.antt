@@ -1,6 +1,4 @@
-use Rattle.std.proofs.Common.{◌≡◌, ◌∷◌, [], ◌++◌, lit<, append_assoc, arith}
-use Rattle.std.specs.Prelude.{string_bytes}
-use Rattle.std.specs.Char.{encode_utf8}
+use Rattle.std.proofs.Common.{lit<, append_assoc, arith}
 use Rattle.std.proofs.lemmas.Grind.{common_steps}
 use Rattle.edit_document.proofs.LiteralBytes.{literal_parts}
 use Rattle.edit_document.proofs.literal.push_literal.Goals as goal

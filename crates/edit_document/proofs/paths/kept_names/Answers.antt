@@ -1,16 +1,13 @@
-use Rattle.std.proofs.Common.{◌≡◌, ◌≢◌, ℕ, ◌<◌, ◌+◌, List, [], ◌∷◌, ◌++◌, length, take, map, get_or, ap, sym, ◌∙◌, arith, Bor, refl, subst, Option, Some, None, rules, append-nil}
+use Rattle.std.proofs.Common.{◌≡◌, ℕ, ◌<◌, List, [], ◌∷◌, ◌++◌, length, map, get_or, ap, sym, ◌∙◌, arith, Bor, refl, subst, Option, Some, None, rules}
 use Rattle.std.specs.Prelude.{codes}
 use Rattle.std.specs.Option.{option_to_list}
-use Rattle.std.proofs.lemmas.List.{take_more, map-append}
+use Rattle.std.proofs.lemmas.List.{map-append}
 use Rattle.std.proofs.lemmas.Grind.{common_steps}
 use Rattle.edit_document.specs.Paths.{Normal, IsIdle, IsName}
 use Rattle.edit_document.specs.Paths.Normal.{root, skip, keep, back, stay}
+use Rattle.edit_document.proofs.PathParts.{part_more}
 use Rattle.edit_document.proofs.paths.kept_names.Goals as goal
 use Rattle.edit_document.proofs.paths.kept_names.Goals.{then-eq, else-eq+in_ok-push}
-
--- one part more
-more : (xs : List (Bor (List ℕ))) (i : ℕ) (d : Bor (List ℕ)) → i < length xs → map (λ x. x.now) (take (i + 1) xs) ≡ map (λ x. x.now) (take i xs) ++ (get_or xs i d).now ∷ []
-more xs i d h = rw (take_more xs i d h) (map-append (λ (x : Bor (List ℕ)). x.now) (take i xs) (get_or xs i d ∷ []))
 
 -- what a `..` leaves
 popped : (ps : List (List ℕ)) (old new : List (Bor (List ℕ))) (r : Option (Bor (List ℕ))) → Normal ps (map (λ x. x.now) old) → old ≡ new ++ option_to_list r → (r ≡ None → length old ≡ 0) → Normal (ps ++ codes ".." ∷ []) (map (λ x. x.now) new)
@@ -30,7 +27,7 @@ loop-part-preserved-then-is_idle c =
     let d : Bor (List ℕ) = record { ref_ptr = (0, 0); now = [] } in
     let none : IsIdle (get_or c.args.parts.now c.loop-part.part-index d).now = search rules in
     let within : c.loop-part.part-index < length c.args.parts.now = c.loop-part-test.true in
-    let one = more c.args.parts.now c.loop-part.part-index d within in
+    let one = part_more c.args.parts.now c.loop-part.part-index d within in
     subst (λ ps. Normal ps (map (λ x. x.now) c.loop-part.names.items)) (sym one) (skip _ _ _ c.loop-part.invariant none)
 
 pub loop-part-preserved : goal.loop-part-preserved
@@ -38,7 +35,7 @@ loop-part-preserved c =
     let d : Bor (List ℕ) = record { ref_ptr = (0, 0); now = [] } in
     let part : Bor (List ℕ) = get_or c.args.parts.now c.loop-part.part-index d in
     let within : c.loop-part.part-index < length c.args.parts.now = c.loop-part-test.true in
-    let one = more c.args.parts.now c.loop-part.part-index d within in
+    let one = part_more c.args.parts.now c.loop-part.part-index d within in
     subst (λ ps. Normal ps (map (λ x. x.now) c.if-eq.names.items)) (sym one)
     (elim c.if-eq.branch [
       | then-eq w ↦

@@ -1,4 +1,4 @@
-use Rattle.std.proofs.Common.{◌++◌, refl, ap, List, ℕ}
+use Rattle.std.proofs.Common.{◌++◌, ap, List, ℕ}
 use Rattle.std.proofs.lemmas.Str.{IsCharBoundary-start}
 use Rattle.std.specs.Prelude.{map}
 use Rattle.edit_document.specs.Splices.{range_of, spliced}

@@ -1,6 +1,5 @@
-use Rattle.std.proofs.Common.{rules, map, IfOk, ◌≡◌, string_bytes, ap, ◌∙◌}
+use Rattle.std.proofs.Common.{rules}
 use Rattle.std.proofs.lemmas.List.Sorted.{IsNonDecreasingBy-from_sort_by_key, IsPermutation-map}
-use Rattle.std.proofs.lemmas.Grind.{common_steps}
 use Rattle.edit_document.specs.declared.replace.Rewrite.{Rewrite}
 use Rattle.edit_document.specs.Splices.{range_of}
 use Rattle.edit_document.proofs.LocatedEdits.{located_rewrite}

@@ -1,12 +1,9 @@
-use Rattle.std.proofs.Common.{◌≡◌, ℕ, ◌<◌, ◌≤◌, ◌+◌, Bool, true, false, List, [], ◌∷◌, length, drop, None, ap, sym, ◌∙◌, refl, subst}
-use Rattle.std.specs.List.{AllByRecursion}
+use Rattle.std.proofs.Common.{List, ap, sym, subst}
 use Rattle.std.proofs.lemmas.List.{drop_all}
 use Rattle.edit_document.specs.declared.nodes.Node.{Node}
-use Rattle.edit_document.specs.declared.read.marks.Mark.{Mark}
-use Rattle.edit_document.specs.Walk.{start, step, walked}
-use Rattle.edit_document.specs.WalkState.{Goes, IsToken, KeepsState}
-use Rattle.edit_document.specs.declared.walk.Walk.{Walk}
-use Rattle.edit_document.proofs.Walking.{Along, along_end, turn_on, turn_off}
+use Rattle.edit_document.specs.Walk.{start, walked}
+use Rattle.edit_document.specs.WalkState.{KeepsState}
+use Rattle.edit_document.proofs.Closing.{Along, along_end, turn_on, turn_off}
 use Rattle.edit_document.proofs.walk.nodes_of.Goals as goal
 
 pub marks-preserved : goal.marks-preserved

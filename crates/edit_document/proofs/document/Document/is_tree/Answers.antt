@@ -1,4 +1,3 @@
-use Rattle.std.proofs.Common.{◌≡◌}
 use Rattle.edit_document.proofs.Views.{opened, root_stands, nothing_below}
 use Rattle.edit_document.proofs.document.Document.is_tree.Goals as goal
 

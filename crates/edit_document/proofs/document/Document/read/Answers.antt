@@ -1,9 +1,7 @@
-use Rattle.std.proofs.Common.{◌≡◌, ℕ, List, ap, sym, ◌∙◌, refl, subst, length}
-use Rattle.std.specs.Prelude.{string_bytes, IsUtf8}
+use Rattle.std.proofs.Common.{ℕ, List, sym, subst, length}
 use Rattle.std.proofs.lemmas.Result.{err_from_is_err_and}
-use Rattle.edit_document.specs.Grammar.{Text, Spells}
-use Rattle.edit_document.specs.Supported.{IsManifest}
-use Rattle.edit_document.specs.Shown.{Shown, ShowsTree}
+use Rattle.edit_document.specs.Grammar.{Spells}
+use Rattle.edit_document.specs.Shown.{ShowsTree}
 use Rattle.edit_document.specs.DocumentLayout.{shown_by}
 use Rattle.edit_document.proofs.AllSupported.{all_supported}
 use Rattle.edit_document.proofs.Documents.{Walked, read_done, read_is, shows_any, shows_form, shallow, refused_memory, answer_memory}

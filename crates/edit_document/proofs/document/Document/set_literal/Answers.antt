@@ -1,9 +1,8 @@
 use Rattle.std.proofs.Common.{ℕ, List, None, cond, ap, sym, subst, ◌∙◌, rules}
-use Rattle.std.specs.Prelude.{IfErr}
 use Rattle.edit_document.specs.Errors.{IsMemory}
 use Rattle.edit_document.specs.Items.{place_seen}
 use Rattle.edit_document.specs.Ranges.{one_edit}
-use Rattle.edit_document.specs.Replaces.{replaced, emptied, is_below_any, Replaces}
+use Rattle.edit_document.specs.Replaces.{replaced, emptied, is_below_any}
 use Rattle.edit_document.specs.Shown.{tree_of}
 use Rattle.edit_document.specs.Supported.{IsManifest}
 use Rattle.edit_document.specs.Tree.{view_at}

@@ -1,4 +1,4 @@
-use Rattle.std.proofs.Common.{◌≡◌, ◌-◌, ℕ, Option, None, Some, ap₂, sym, ◌∙◌, subst}
+use Rattle.std.proofs.Common.{ℕ, Option, ap₂, sym, ◌∙◌, subst}
 use Rattle.edit_document.specs.Items.{place_seen}
 use Rattle.edit_document.specs.Ranges.{HasRange}
 use Rattle.edit_document.specs.Written.{IsWrittenAt}

@@ -1,4 +1,4 @@
-use Rattle.std.proofs.Common.{◌≡◌, ℕ, List, ap, sym, ◌∙◌, subst, true, map}
+use Rattle.std.proofs.Common.{◌≡◌, ℕ, List, sym, subst, true, map}
 use Rattle.edit_document.specs.declared.place.Step.{Step as WrittenStep}
 use Rattle.edit_document.specs.Items.{place_seen}
 use Rattle.std.specs.Prelude.{string_bytes, IfOk}

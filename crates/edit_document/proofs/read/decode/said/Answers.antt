@@ -1,8 +1,8 @@
-use Rattle.std.proofs.Common.{◌≡◌, ℕ, List, subst, sym, ap, ◌∙◌, ◌⊎◌, inl, inr}
+use Rattle.std.proofs.Common.{◌≡◌, ℕ, List, subst, ◌∙◌, ◌⊎◌, inl, inr}
 use Rattle.edit_document.specs.declared.read.marks.MarkKind.{MarkKind}
-use Rattle.edit_document.specs.declared.read.marks.MarkKind.TheVariants.{BasicPart, BasicString, MultiBasicString, MultiLiteralString}
+use Rattle.edit_document.specs.declared.read.marks.MarkKind.TheVariants.{BasicPart, BasicString}
 use Rattle.edit_document.specs.Decoding.{Says, BasicSays}
-use Rattle.edit_document.proofs.LineContents.{basic_line, multi_line, raw_content}
+use Rattle.edit_document.proofs.LineContents.{basic_line, raw_content}
 use Rattle.edit_document.proofs.read.decode.said.Goals as goal
 
 basic_says : (kind : MarkKind) (content said : List ℕ) → (kind ≡ BasicPart) ⊎ (kind ≡ BasicString) → Says kind content said → BasicSays content said

@@ -1,4 +1,4 @@
-use Rattle.std.proofs.Common.{◌≡◌, ◌+◌, ◌-◌, true, false, sym, ap, ◌∙◌, Some, None, length, refl, arith}
+use Rattle.std.proofs.Common.{◌≡◌, ◌+◌, ◌-◌, true, false, sym, ◌∙◌, Some, None, length, arith}
 use Rattle.edit_document.specs.Reading.{begins_space, space_at}
 use Rattle.edit_document.proofs.Loops.{rest_of, one_less}
 use Rattle.edit_document.proofs.MultiLoops.{spaces_end, spaces_turn, spaces_stop, spaces_none}

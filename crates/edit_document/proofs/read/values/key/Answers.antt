@@ -5,7 +5,7 @@ use Rattle.edit_document.specs.Strings.{Part}
 use Rattle.edit_document.specs.Marks.{part_mark}
 use Rattle.edit_document.specs.Reading.{first, past_blanks, part_at, key_at}
 use Rattle.edit_document.proofs.Loops.{one_less}
-use Rattle.edit_document.proofs.NotedValues.{key_begins, key_turn, key_done, key_none, key_unbegun, key_failed}
+use Rattle.edit_document.proofs.NotedTokens.{key_begins, key_turn, key_done, key_none, key_unbegun, key_failed}
 use Rattle.edit_document.proofs.read.values.key.Goals as goal
 
 pub returns-in_err-rest : goal.returns-in_err-rest

@@ -1,6 +1,6 @@
 use Rattle.std.proofs.Common.{◌-◌, length}
 use Rattle.edit_document.specs.Reading.{key_at}
-use Rattle.edit_document.proofs.NotedValues.{CompletesKey}
+use Rattle.edit_document.proofs.NotedTokens.{CompletesKey}
 use Rattle.edit_document.proofs.read.values.key.Given as goal
 
 -- whatever parts are read from here on complete the key

@@ -1,4 +1,4 @@
-use Rattle.edit_document.proofs.NotedValues.{part_noted}
+use Rattle.edit_document.proofs.NotedTokens.{part_noted}
 use Rattle.edit_document.proofs.read.values.part.Goals as goal
 
 pub returns : goal.returns

@@ -1,4 +1,4 @@
-use Rattle.edit_document.proofs.NotedValues.{scalar_noted}
+use Rattle.edit_document.proofs.NotedTokens.{scalar_noted}
 use Rattle.edit_document.proofs.read.values.scalar.Goals as goal
 
 pub returns : goal.returns
