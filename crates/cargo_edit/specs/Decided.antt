@@ -1,5 +1,5 @@
 -- The decision's values, as the program has them.
-use Rattle.std.specs.Prelude.{List, ℕ, Bool, not, ◌&&◌, if◌then◌else◌, is_some, Option, option_map, string_bytes, Some, None}
+use Rattle.std.specs.Prelude.{List, ℕ, Bool, true, false, not, ◌&&◌, if◌then◌else◌, is_some, Option, option_map, string_bytes, Some, None}
 use Rattle.semver.specs.Identifiers.{parts_of}
 use Rattle.semver.specs.declared.Version.{Version}
 use Rattle.cargo_edit.specs.Decision.{Case, Choice, Outcome, first_reason, first_row, kept, given, left_out, or_else, row_change, row_text, same_text, to_compatible, to_latest, unless, unread, when}
@@ -36,15 +36,26 @@ reason_by jumps pinned far near (to_latest text) = None
 reason_by jumps pinned far near (to_compatible text) = held_by jumps pinned far
 reason_by jumps pinned far near kept = or_else (held_by jumps pinned far) (when (is_some near) (Some reason.Compatible))
 
+-- whether an entry may get the latest version: pinned entries follow one option, the others another
+abbrev pub jumps_by : Options → Bool → Bool
+jumps_by o pinned = if pinned then o.pinned else o.incompatible
+
+-- the choice of a text, from the texts that could be written (own)
+abbrev pub choice_by : Options → Bool → Bool → List ℕ → Option (List ℕ) → Option (List ℕ) → Outcome → Choice
+choice_by o pinned aside old far near row = record {
+  new = row_text old row;
+  change = row_change old row;
+  reason = first_reason row aside (reason_by (jumps_by o pinned) pinned far near row) (same_text (row_text old row) old);
+}
+
+-- the decision for a readable text, where no given text is taken (own)
+abbrev pub raised_choice : Options → Bool → Bool → List ℕ → Option (List ℕ) → Option (List ℕ) → Choice
+raised_choice o pinned aside old far near =
+    choice_by o pinned aside old far near (first_row false None true (when (jumps_by o pinned) far) (when o.compatible near))
+
 -- the decision, from the texts that could be written
 abbrev pub decision_by : Options → Bool → Bool → Bool → Option (List ℕ) → List ℕ → Option (List ℕ) → Option (List ℕ) → Choice
 decision_by o excluded pinned readable selected old far near =
     let aside = is_some selected && pinned && not o.pinned in
-    let jumps = if pinned then o.pinned else o.incompatible in
-    let row = first_row excluded (unless aside selected) readable (when jumps far) (when o.compatible near) in
-    let new = row_text old row in
-    record {
-      new = new;
-      change = row_change old row;
-      reason = first_reason row aside (reason_by jumps pinned far near row) (same_text new old);
-    }
+    choice_by o pinned aside old far near
+    (first_row excluded (unless aside selected) readable (when (jumps_by o pinned) far) (when o.compatible near))

@@ -1,19 +1,18 @@
 //! The decision for one entry.
-ghost use Rattle.std.specs.List.{list_any};
 ghost use Rattle.edit_document.specs.Errors.{IsMemory};
 ghost use Rattle.cargo_edit.specs.declared.upgrade.Reason.TheVariants as reason;
-ghost use Rattle.std.specs.Prelude.{◌≡◌, ◌||◌, if◌then◌else◌, Some, None, false, Ok, Err, IfErr, IfOk, Result, is_ok, option_and_then, option_copied, option_map, string_bytes};
-ghost use Rattle.cargo_edit.specs.Decision.{decision, has_pin_read, is_pin, newer, or_else, same_text, text_or, unless_old};
-ghost use Rattle.cargo_edit.specs.Decided.{case_view, choice_view, decision_by};
+ghost use Rattle.std.specs.Prelude.{◌≡◌, if◌then◌else◌, Some, None, false, IfErr, IfOk, option_and_then, option_copied, option_map, string_bytes};
+ghost use Rattle.cargo_edit.specs.Decision.{decision, newer, or_else, same_text, text_or, unless_old};
+ghost use Rattle.cargo_edit.specs.Decided.{case_view, choice_view, decision_by, jumps_by, raised_choice};
 ghost use Rattle.edit_record.specs.Requirement.{plain_text};
 ghost use Rattle.edit_record.specs.Requirement.{raise};
 ghost use Rattle.semver.specs.Identifiers.{parts_of};
-ghost use Rattle.semver.specs.Parse.{req_of};
 
+use crate::requirement::{Pin, read_pin};
 use crate::upgrade::{Change, Options, Reason};
 use edit_document::{CargoResult, Error};
 use edit_record::upgrade_requirement;
-use semver::{Comparator, Op, Version, VersionReq};
+use semver::Version;
 use std::alloc::{AllocError, Global};
 
 /// What is decided for an entry.
@@ -99,49 +98,6 @@ fn compatible_candidate(
     }
 }
 
-// `=`, `<`, `<=` and wildcards.
-fn is_pin(op: Op) -> bool
-    ensures { result ≡ is_pin op }
-{
-    matches!(op, Op::Exact | Op::Less | Op::LessEq | Op::Wildcard)
-}
-
-fn has_pin(comparators: &[Comparator]) -> bool
-    ensures { result ≡ list_any (λ c. is_pin c.op) comparators.now }
-{
-    comparators.iter().any(|c| is_pin(c.op))
-}
-
-// What a requirement's text says of its entry.
-#[derive(Clone, Copy)]
-struct Pin {
-    readable: bool,
-    pinned: bool,
-}
-
-// Whether a requirement is read, and whether it or another name pins the entry.
-fn read_pin(alloc: Global, renamed: bool, req: &str) -> CargoResult<Pin>
-    ensures readable { IfOk result (λ p. p.readable ≡ is_ok (req_of req.now)) }
-    ensures pinned { IfOk result (λ p. p.pinned ≡ (renamed || has_pin_read (req_of req.now))) }
-    ensures refused { IfErr result IsMemory }
-{
-    match VersionReq::parse(alloc, req) {
-        Ok(parsed) => Ok(Pin {
-            readable: true,
-            pinned: renamed | has_pin(&parsed.comparators),
-        }),
-        Err(error) => {
-            if error == semver::Error::from(AllocError) {
-                return Err(Error::Memory);
-            }
-            Ok(Pin {
-                readable: false,
-                pinned: renamed,
-            })
-        }
-    }
-}
-
 // An entry whose text stays.
 fn keep(alloc: Global, old: &str, why: Reason) -> Result<Decided, AllocError>
     ensures { IfOk result (λ d. choice_view d ≡ record { new = old.now; change = None; reason = Some why }) }
@@ -186,51 +142,53 @@ fn take(old: &str, text: String, kind: Change, why: Option<Reason>) -> Decided
     }
 }
 
-// The decision, from the texts that could be written.
-fn decide_by(
+// Whether an entry may get the latest version.
+fn may_jump(options: &Options, pinned: bool) -> bool
+    ensures { result ≡ jumps_by options.now pinned }
+{
+    if pinned {
+        options.pinned
+    } else {
+        options.incompatible
+    }
+}
+
+// Why a latest version is not taken: the first reason, or that the entry may not get it.
+fn why_held(pinned: bool, why: Option<Reason>) -> Reason
+    ensures { Some result ≡ or_else why (Some (if pinned then reason.Pinned else reason.Incompatible)) }
+{
+    match why {
+        Some(why) => why,
+        None => {
+            if pinned {
+                Reason::Pinned
+            } else {
+                Reason::Incompatible
+            }
+        }
+    }
+}
+
+// The decision for a readable text, where no given text is taken; `aside` says that one was set aside.
+fn decide_raised(
     alloc: Global,
     options: &Options,
     pinned: bool,
-    readable: bool,
-    selected: Option<&str>,
+    aside: bool,
     old: &str,
     far: Option<String>,
     near: Option<String>,
 ) -> Result<Decided, AllocError>
-    ensures { IfOk result (λ d. choice_view d ≡ decision_by options.now false pinned readable (option_copied selected.entry) old.now
+    ensures { IfOk result (λ d. choice_view d ≡ raised_choice options.now pinned aside old.now
         (option_map string_bytes far) (option_map string_bytes near)) }
 {
-    let may_jump = if pinned {
-        options.pinned
-    } else {
-        options.incompatible
-    };
-    let aside = match selected {
-        Some(text) => {
-            if !pinned || options.pinned {
-                let text = String::from_str(alloc, text)?;
-                return Ok(take(old, text, Change::Explicit, None));
-            }
-            Some(Reason::Pinned)
-        }
-        None => None,
-    };
-    if !readable {
-        return keep(alloc, old, why_same(aside));
-    }
+    let aside = if aside { Some(Reason::Pinned) } else { None };
     let held = match far {
         Some(text) => {
-            if may_jump {
+            if may_jump(options, pinned) {
                 return Ok(take(old, text, Change::Latest, aside));
             }
-            match aside {
-                Some(why) => Some(why),
-                None => Some(if pinned {
-                    Reason::Pinned
-                } else {
-                    Reason::Incompatible
-                }),
-            }
+            Some(why_held(pinned, aside))
         }
         None => aside,
     };
@@ -243,6 +201,43 @@ fn decide_by(
         }
         None => keep(alloc, old, why_same(held)),
     }
+}
+
+// The decision, from the texts that could be written.
+fn decide_by(
+    alloc: Global,
+    options: &Options,
+    pin: Pin,
+    selected: Option<&str>,
+    old: &str,
+    far: Option<String>,
+    near: Option<String>,
+) -> Result<Decided, AllocError>
+    ensures { IfOk result (λ d. choice_view d ≡ decision_by options.now false pin.pinned pin.readable
+        (option_copied selected.entry) old.now (option_map string_bytes far) (option_map string_bytes near)) }
+{
+    let aside = match selected {
+        Some(text) => {
+            if !pin.pinned || options.pinned {
+                let text = String::from_str(alloc, text)?;
+                return Ok(take(old, text, Change::Explicit, None));
+            }
+            true
+        }
+        None => false,
+    };
+    if pin.readable {
+        return decide_raised(alloc, options, pin.pinned, aside, old, far, near);
+    }
+    keep(
+        alloc,
+        old,
+        if aside {
+            Reason::Pinned
+        } else {
+            Reason::Latest
+        },
+    )
 }
 
 /// What is decided for an entry that has a version text.
@@ -266,16 +261,7 @@ pub(crate) fn decide(
     let pin = read_pin(alloc, renamed, old)?;
     let far = latest_candidate(alloc, old, compatible, latest)?;
     let near = compatible_candidate(alloc, old, compatible)?;
-    Ok(decide_by(
-        alloc,
-        options,
-        pin.pinned,
-        pin.readable,
-        selected,
-        old,
-        far,
-        near,
-    )?)
+    Ok(decide_by(alloc, options, pin, selected, old, far, near)?)
 }
 
 #[cfg(test)]

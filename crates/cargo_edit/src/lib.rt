@@ -8,6 +8,7 @@ mod looks;
 mod names;
 mod plan;
 mod planned;
+mod requirement;
 mod rows;
 mod seen;
 pub mod upgrade;

@@ -1,18 +1,17 @@
 //! What a plan tells besides its rows.
-ghost use Rattle.std.specs.Prelude.{◌≡◌, ℕ, List, IfErr, IfOk, is_ok, map, option_map, string_bytes, string_cmp};
+ghost use Rattle.std.specs.Prelude.{◌≡◌, ℕ, List, IfErr, IfOk, map, option_map, string_bytes, string_cmp};
 ghost use Rattle.std.specs.BTreeSet.{contains_text};
 ghost use Rattle.std.specs.List.{list_any};
 ghost use Rattle.std.specs.List.Sorted.{IsStrictlySortedBy};
 ghost use Rattle.std.specs.Str.{bytes_eq};
 ghost use Rattle.edit_document.specs.Errors.{IsMemory};
-ghost use Rattle.semver.specs.Parse.{req_of};
 ghost use Rattle.cargo_edit.specs.Lines.{line_of};
 ghost use Rattle.cargo_edit.specs.Lists.{changed_names, is_held_incompatible, is_held_pinned, unreadable_text, warning_of, warning_view, warnings_of};
 
 use crate::names::{Names, add_name};
+use crate::requirement::read_pin;
 use crate::upgrade::{Reason, Row, Warning};
-use edit_document::{CargoResult, Error};
-use semver::VersionReq;
+use edit_document::CargoResult;
 use std::alloc::{AllocError, Global};
 use std::collections::BTreeSet;
 
@@ -68,22 +67,6 @@ pub(crate) fn modified_names(alloc: Global, rows: &[Row]) -> CargoResult<Vec<Str
     Ok(names)
 }
 
-// Whether a requirement is read.
-fn is_readable(alloc: Global, req: &str) -> CargoResult<bool>
-    ensures ok { IfOk result (λ r. r ≡ is_ok (req_of req.now)) }
-    ensures refused { IfErr result IsMemory }
-{
-    match VersionReq::parse(alloc, req) {
-        Ok(_) => Ok(true),
-        Err(error) => {
-            if error == semver::Error::from(AllocError) {
-                return Err(Error::Memory);
-            }
-            Ok(false)
-        }
-    }
-}
-
 // What is told of a requirement that is not read.
 fn unreadable_text(alloc: Global, name: &str, old: &str) -> Result<String, AllocError>
     ensures { IfOk result (λ s. string_bytes s ≡ unreadable_text name.now old.now) }
@@ -100,7 +83,8 @@ fn row_warning(alloc: Global, input: usize, row: &Row) -> CargoResult<Option<War
         return Ok(None);
     };
     let old = old.as_str();
-    if is_readable(alloc, old)? {
+    let pin = read_pin(alloc, false, old)?;
+    if pin.readable {
         return Ok(None);
     }
     Ok(Some(Warning {

@@ -16,14 +16,15 @@ ghost use Rattle.cargo_edit.specs.Rows.{AreDecided, IsDecided, case_for, line_fo
 
 use crate::candidates::{admissible_versions, greatest};
 use crate::decide::{decide, plain_version};
+use crate::requirement::read_requirement;
 use crate::seen::{Entry, copied_place};
 use crate::upgrade::{Options, Row};
-use edit_document::{CargoResult, Error};
+use edit_document::CargoResult;
 use edit_record::{IndexVersion, RustVersion, allows_prerelease};
 use edit_sources::cache::IndexCache;
 use edit_sources::index::Index;
-use semver::{Version, VersionReq};
-use std::alloc::{AllocError, Global};
+use semver::Version;
+use std::alloc::Global;
 use url::Url;
 
 // The greatest version that a requirement admits; none where it is not read.
@@ -35,14 +36,10 @@ fn compatible_for<'a>(
     ensures ok { IfOk result (λ v. IsCompatible old.now (map parts_of versions.now) (option_map parts_of (option_copied v))) }
     ensures refused { IfErr result IsMemory }
 {
-    match VersionReq::parse(alloc, old) {
-        Ok(req) => Ok(greatest(versions, false, Some(&req))),
-        Err(error) => {
-            if error == semver::Error::from(AllocError) {
-                return Err(Error::Memory);
-            }
-            Ok(None)
-        }
+    let read = read_requirement(alloc, old)?;
+    match read {
+        Some(req) => Ok(greatest(versions, false, Some(&req))),
+        None => Ok(None),
     }
 }
 

@@ -5,9 +5,9 @@ use std::alloc::{AllocError, Global};
 
 /// What the words of `upgrade` ask for.
 #[derive(Debug, Clone, Copy)]
-pub struct UpgradeWords<'a> {
-    pub manifest_path: &'a str,
-    pub index_file: &'a str,
+pub(crate) struct UpgradeWords<'a> {
+    pub(crate) manifest_path: &'a str,
+    pub(crate) index_file: &'a str,
 }
 
 fn option<'a>(alloc: Global, id: &'a str, value: &'a str, about: &'a str) -> Arg<'a> {
@@ -37,7 +37,7 @@ fn upgrade_command<'a>(alloc: Global) -> Result<Command<'a>, AllocError> {
 }
 
 /// The program's command line.
-pub fn command<'a>(alloc: Global) -> Result<Command<'a>, AllocError> {
+pub(crate) fn command<'a>(alloc: Global) -> Result<Command<'a>, AllocError> {
     Command::new(alloc, "cargo-edit")
         .version("0.13.14")
         .about("Edits the dependency requirements and versions of Cargo.toml files")
@@ -48,7 +48,7 @@ pub fn command<'a>(alloc: Global) -> Result<Command<'a>, AllocError> {
 }
 
 /// What matched words of `upgrade` ask for.
-pub fn upgrade_words<'a>(matches: &ArgMatches<'a>) -> UpgradeWords<'a> {
+pub(crate) fn upgrade_words<'a>(matches: &ArgMatches<'a>) -> UpgradeWords<'a> {
     UpgradeWords {
         manifest_path: matches.get_str("manifest-path").unwrap_or("Cargo.toml"),
         index_file: matches.get_str("index-file").unwrap_or("index.json"),

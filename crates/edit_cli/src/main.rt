@@ -15,7 +15,7 @@ use std::{env, io};
 fn main(rt: HostRuntime) -> ExitCode {
     match start(&rt) {
         Ok(status) => ExitCode::from(status),
-        Err(error) => ExitCode::from(run::refuse(&error, &mut rt.stderr())),
+        Err(error) => ExitCode::from(run::refuse(error, &mut rt.stderr())),
     }
 }
 

@@ -13,7 +13,7 @@ use std::alloc::Global;
 use std::io;
 
 /// Prints a refusal, and answers its status, also where the printing fails.
-pub fn refuse<E: io::Write>(error: &Error, err: &mut E) -> u8
+pub(crate) fn refuse<E: io::Write>(error: Error, err: &mut E) -> u8
     ensures { result ≡ 1 }
 {
     let _ = writeln!(err, "Error: {error}");
@@ -25,7 +25,7 @@ fn fault<O: io::Write, E: io::Write>(error: &clap::Error, out: &mut O, err: &mut
     ensures { result ≤ 2 }
 {
     if error.kind() == ErrorKind::OutOfMemory {
-        return refuse(&Error::Memory, err);
+        return refuse(Error::Memory, err);
     }
     if error.use_stderr() {
         let _ = write!(err, "{error}");
@@ -33,7 +33,7 @@ fn fault<O: io::Write, E: io::Write>(error: &clap::Error, out: &mut O, err: &mut
     }
     match write!(out, "{error}") {
         Ok(()) => 0,
-        Err(_) => refuse(&Error::Output, err),
+        Err(_) => refuse(Error::Output, err),
     }
 }
 
@@ -41,7 +41,7 @@ fn fault<O: io::Write, E: io::Write>(error: &clap::Error, out: &mut O, err: &mut
 /// printed on `err` behind `Error: `, 2 a fault of the command line. `current` is the absolute folder that relative
 /// paths start from. Manifests and the index file are read and written through `files`; `index_files` serves the
 /// indexes of folders, and `cargo_home` the configurations, which no command reads so far.
-pub fn run<S: Store, T: Store + Drop, O: io::Write, E: io::Write>(
+pub(crate) fn run<S: Store, T: Store + Drop, O: io::Write, E: io::Write>(
     alloc: Global,
     words: &[&str],
     current: &str,
@@ -55,7 +55,7 @@ pub fn run<S: Store, T: Store + Drop, O: io::Write, E: io::Write>(
 {
     let command = match command(alloc) {
         Ok(command) => command,
-        Err(_) => return refuse(&Error::Memory, err),
+        Err(_) => return refuse(Error::Memory, err),
     };
     let matches = match command.try_get_matches_from(words) {
         Ok(matches) => matches,
@@ -66,6 +66,6 @@ pub fn run<S: Store, T: Store + Drop, O: io::Write, E: io::Write>(
     };
     match upgrade(alloc, &upgrade_words(matches), current, files) {
         Ok(()) => 0,
-        Err(error) => refuse(&error, err),
+        Err(error) => refuse(error, err),
     }
 }

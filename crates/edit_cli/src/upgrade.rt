@@ -1,54 +1,78 @@
 //! The command `upgrade`: reads, plans, then writes.
-ghost use Rattle.std.specs.Prelude.{◌≡◌, [], All, IfOk, length};
+ghost use Rattle.std.specs.Prelude.{◌≡◌, ◌⊎◌, ◌≤◌, [], ◌∷◌, All, IfErr, IfOk, OnErr, OnOk, length, option_copied, option_map, string_bytes, true};
+ghost use Rattle.edit_document.specs.Errors.{IsMemory, number_of};
+ghost use Rattle.edit_document.specs.Shown.{tree_of};
+ghost use Rattle.edit_document.specs.declared.errors.DeviceCall.TheVariants as call;
+ghost use Rattle.edit_record.specs.RustVersions.{numbers_of};
 ghost use Rattle.edit_sources.specs.ConfigurationFiles.{OnlyReads};
+ghost use Rattle.edit_sources.specs.Store.{SameFiles};
+ghost use Rattle.edit_cli.specs.Located.{IsFault};
+ghost use Rattle.edit_cli.specs.Upgrading.{HasRust, IsCutShort, IsDefault, IsIndexRead, IsManifestRead, IsPlanned, IsTorn, IsUpgraded, IsWritten, own_rust, package_text};
 
 use crate::arguments::UpgradeWords;
 use crate::locate::{absolute, find};
-use cargo_edit::{Input, Options, plan_upgrade};
-use edit_document::{CargoResult, Document, Error, Place, Step};
+use cargo_edit::{Input, Options, Output, plan_upgrade};
+use edit_document::{CargoResult, Document, Error};
 use edit_record::RustVersion;
 use edit_sources::{Config, FileIndex, IndexCache, Store};
 use std::alloc::Global;
 
-/// The place of `package.KEY`.
-fn package_place(alloc: Global, key: &str) -> CargoResult<Place> {
-    let mut place = Vec::new(alloc);
-    place.push(Step::Key(String::from_str(alloc, "package")?))?;
-    place.push(Step::Key(String::from_str(alloc, key)?))?;
-    Ok(place)
+// The text of `package.KEY`, where it is a string.
+fn package_text<'a>(document: &'a Document, key: &str) -> Option<&'a str>
+    ensures { option_map (λ s. s.now) result ≡ package_text (tree_of document.entry.now) key.now }
+{
+    let root = document.item(&[])?;
+    let package_item = root.get("package")?;
+    let item = package_item.get(key)?;
+    item.as_str()
 }
 
-/// The text of `package.KEY`, where it is a string.
-fn package_text(alloc: Global, document: &Document, key: &str) -> CargoResult<Option<String>> {
-    let place = package_place(alloc, key)?;
-    match document.item(&place).and_then(|item| item.as_str()) {
-        Some(text) => Ok(Some(String::from_str(alloc, text)?)),
-        None => Ok(None),
-    }
+// The number of the refusal for want of memory.
+const MEMORY: u32 = 46;
+
+// The number of a refusal, which is let go.
+fn number(error: Error) -> u32
+    ensures { result ≡ number_of error }
+{
+    error.number()
 }
 
-/// The manifest's own Rust version, where it is there and is read.
-fn own_rust_version(alloc: Global, document: &Document) -> CargoResult<Option<RustVersion>> {
-    let Some(text) = package_text(alloc, document, "rust-version")? else {
+// The manifest's own Rust version, where it is there and is read.
+fn own_rust_version(alloc: Global, document: &Document) -> CargoResult<Option<RustVersion>>
+    ensures ok { IfOk result (λ v. option_map numbers_of v ≡ own_rust (tree_of document.now)) }
+    ensures refused { IfErr result IsMemory }
+{
+    let Some(text) = package_text(document, "rust-version") else {
         return Ok(None);
     };
-    match RustVersion::from_str(alloc, text.as_str()) {
+    match RustVersion::from_str(alloc, text) {
         Ok(version) => Ok(Some(version)),
-        Err(Error::Memory) => Err(Error::Memory),
-        Err(_) => Ok(None),
+        Err(error) => {
+            if number(error) == MEMORY {
+                return Err(Error::Memory);
+            }
+            Ok(None)
+        }
     }
 }
 
-/// The manifest to plan for, by its own name and Rust version.
-fn input_of(alloc: Global, path: String, bytes: Vec<u8>) -> CargoResult<Input> {
+// What reports call the manifest.
+fn own_name(alloc: Global, document: &Document) -> CargoResult<String> {
+    let name = package_text(document, "name").unwrap_or("virtual workspace");
+    Ok(String::from_str(alloc, name)?)
+}
+
+// The manifest to plan for, by its own name and Rust version.
+fn input_of(alloc: Global, path: String, bytes: Vec<u8>) -> CargoResult<Input>
+    ensures path { IfOk result (λ i. i.path ≡ path) }
+    ensures bytes { IfOk result (λ i. i.bytes ≡ bytes) }
+    ensures version { IfOk result (λ i. HasRust bytes.items (option_map numbers_of i.rust_version)) }
+{
     let Ok(text) = str::from_utf8(&bytes) else {
         return Err(Error::NotUtf8);
     };
     let document = Document::read(alloc, text)?;
-    let name = match package_text(alloc, &document, "name")? {
-        Some(name) => name,
-        None => String::from_str(alloc, "virtual workspace")?,
-    };
+    let name = own_name(alloc, &document)?;
     let rust_version = own_rust_version(alloc, &document)?;
     Ok(Input {
         name,
@@ -58,31 +82,44 @@ fn input_of(alloc: Global, path: String, bytes: Vec<u8>) -> CargoResult<Input> {
     })
 }
 
-/// Reads the manifest and then the index file.
-fn read_inputs<S: Store>(
+// Reads the manifest that is named.
+fn read_manifest<S: Store>(
     alloc: Global,
-    words: &UpgradeWords<'_>,
+    named: &str,
     current: &str,
     files: &mut S,
-) -> CargoResult<(Input, FileIndex)>
+) -> CargoResult<Input>
     ensures store { OnlyReads (S.tells files.old) (S.tells files.new) (S.file_at files.old) (S.file_at files.new) (S.faults files.old) (S.faults files.new) }
+    ensures read { IfOk result (λ i. S.tells files.old ≡ true → IsManifestRead (S.file_at files.old) current.now named.now
+        (string_bytes i.path) i.bytes.items (option_map numbers_of i.rust_version)) }
 {
-    let path = find(alloc, files, words.manifest_path, current)?;
+    let path = find(alloc, files, named, current)?;
     let Some(bytes) = files.read(alloc, path.as_str())? else {
         return Err(Error::NoManifest);
     };
-    let input = input_of(alloc, path, bytes)?;
-    let index_path = absolute(alloc, current, words.index_file)?;
-    let Some(lines) = files.read(alloc, index_path.as_str())? else {
-        return Err(Error::NoPath);
-    };
-    Ok((input, FileIndex::read(alloc, &lines)?))
+    input_of(alloc, path, bytes)
 }
 
-/// What is allowed where no word says otherwise.
+// Reads the index file that is named.
+fn read_index<S: Store>(
+    alloc: Global,
+    named: &str,
+    current: &str,
+    files: &mut S,
+) -> CargoResult<FileIndex>
+    ensures store { OnlyReads (S.tells files.old) (S.tells files.new) (S.file_at files.old) (S.file_at files.new) (S.faults files.old) (S.faults files.new) }
+    ensures read { IfOk result (λ i. S.tells files.old ≡ true → IsIndexRead (S.file_at files.old) current.now named.now i) }
+{
+    let path = absolute(alloc, current, named)?;
+    let Some(lines) = files.read(alloc, path.as_str())? else {
+        return Err(Error::NoPath);
+    };
+    FileIndex::read(alloc, &lines)
+}
+
+// What is allowed where no word says otherwise.
 fn default_options(alloc: Global) -> Options
-    ensures no_words { result.package.items ≡ [] }
-    ensures no_exclusions { result.exclude.items ≡ [] }
+    ensures { IsDefault result }
 {
     Options {
         compatible: true,
@@ -97,40 +134,69 @@ fn default_options(alloc: Global) -> Options
     }
 }
 
-/// The one manifest, as the list of what is planned.
+// The one manifest, as the list of what is planned.
 fn one_input(alloc: Global, input: Input) -> CargoResult<Vec<Input>>
-    ensures { IfOk result (λ v. length v.items ≡ 1) }
+    ensures ok { IfOk result (λ v. v.items ≡ input ∷ []) }
+    ensures refused { IfErr result IsMemory }
 {
     let mut inputs = Vec::new(alloc);
     inputs.push(input)?;
     Ok(inputs)
 }
 
-/// The configurations of one manifest: it has none.
+// The configurations of one manifest: it has none.
 fn no_configurations(alloc: Global) -> CargoResult<Vec<Vec<Config>>>
     ensures one { IfOk result (λ v. length v.items ≡ 1) }
     ensures empty { IfOk result (λ v. All (λ c. c.items ≡ []) v.items) }
+    ensures refused { IfErr result IsMemory }
 {
     let mut configs = Vec::new(alloc);
     configs.push(Vec::new(alloc))?;
     Ok(configs)
 }
 
-/// Raises the requirements of the manifest that the words name.
-pub fn upgrade<S: Store>(
-    alloc: Global,
-    words: &UpgradeWords<'_>,
-    current: &str,
-    files: &mut S,
-) -> CargoResult<()> {
-    let (input, index) = read_inputs(alloc, words, current, files)?;
+// The outputs of the plan for a manifest over an index.
+fn outputs_for(alloc: Global, input: Input, index: FileIndex) -> CargoResult<Vec<Output>>
+    ensures { IfOk result (λ v. IsPlanned (string_bytes input.path) input.bytes.items (option_map numbers_of input.rust_version) index v.items) }
+{
     let mut cache = IndexCache::new(alloc, index);
     let inputs = one_input(alloc, input)?;
     let configs = no_configurations(alloc)?;
     let options = default_options(alloc);
     let plan = plan_upgrade(alloc, &options, &inputs, &configs, &mut cache)?;
-    for output in plan.outputs.iter() {
-        files.write(alloc, output.path.as_str(), &output.bytes)?;
+    Ok(plan.outputs)
+}
+
+// Writes the output of a plan for one manifest, where there is one.
+fn write_output<S: Store>(alloc: Global, files: &mut S, output: Option<&Output>) -> CargoResult<()>
+    ensures tells { S.tells files.new ≡ S.tells files.old }
+    ensures later { S.faults files.old ≤ S.faults files.new }
+    ensures written { OnOk result (S.tells files.old ≡ true → IsWritten (option_copied output.entry) (S.file_at files.old) (S.file_at files.new)) }
+    ensures torn { OnErr result (IsTorn (option_copied output.entry) (S.file_at files.old) (S.file_at files.new)) }
+    ensures refused { IfErr result (IsFault call.Write (S.faults files.old) (S.faults files.new)) }
+{
+    match output {
+        Some(output) => files.write(alloc, output.path.as_str(), &output.bytes),
+        None => Ok(()),
     }
-    Ok(())
+}
+
+/// Raises the requirements of the manifest that the words name. No file changes before the plan is made.
+pub(crate) fn upgrade<S: Store>(
+    alloc: Global,
+    words: &UpgradeWords<'_>,
+    current: &str,
+    files: &mut S,
+) -> CargoResult<()>
+    ensures tells { S.tells files.new ≡ S.tells files.old }
+    ensures done { OnOk result (S.tells files.old ≡ true → IsUpgraded current.now words.now.manifest_path.now words.now.index_file.now
+        (S.file_at files.old) (S.file_at files.new)) }
+    // a refusal before the write leaves each file as it was
+    ensures refused { OnErr result (S.tells files.old ≡ true → SameFiles (S.file_at files.old) (S.file_at files.new)
+        ⊎ IsCutShort current.now words.now.manifest_path.now words.now.index_file.now (S.file_at files.old) (S.file_at files.new)) }
+{
+    let input = read_manifest(alloc, words.manifest_path, current, files)?;
+    let index = read_index(alloc, words.index_file, current, files)?;
+    let outputs = outputs_for(alloc, input, index)?;
+    write_output(alloc, files, outputs.first())
 }

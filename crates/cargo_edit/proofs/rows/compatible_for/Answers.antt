@@ -8,7 +8,7 @@ use Rattle.semver.specs.Parse.{Held}
 use Rattle.semver.specs.declared.error.Error.{Error}
 use Rattle.cargo_edit.proofs.rows.compatible_for.Goals as goal
 
-pub returns-in-Ok-clause-ok : goal.returns-in-Ok-clause-ok
-returns-in-Ok-clause-ok c =
+pub returns-in-Some-clause-ok : goal.returns-in-Some-clause-ok
+returns-in-Some-clause-ok c =
     subst (λ (r : Result (List Held) Error). IsGreatest (admits_read r) full_order (map parts_of c.args.versions.now) (option_map parts_of (option_copied c.greatest.result)))
-    (sym c.in-Ok.ensures.ok) c.greatest.ensures
+    (sym (rw c.in-Some.is at c.in_ok-read.ensures.read)) c.greatest.ensures

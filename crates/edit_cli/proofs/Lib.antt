@@ -1,0 +1,5 @@
+pub mod Faults
+pub mod Heights
+pub mod Passing
+pub mod Planning
+pub mod UpgradeLemmas

@@ -1,0 +1,22 @@
+-- A plan over a cache that kept nothing before.
+use Rattle.std.proofs.Common.{◌≡◌, ℕ, List, Option, Some, None, Ok, ap, sym, ◌∙◌, subst, ⊎_elim, option_map}
+use Rattle.std.specs.Prelude.{◌⊎◌}
+use Rattle.edit_record.specs.IndexEntry.{IndexEntry}
+use Rattle.edit_sources.specs.FileIndex.{FileGives}
+use Rattle.edit_sources.specs.Index.{answer_of}
+use Rattle.edit_sources.specs.IndexCache.{index_of, kept_at}
+use Rattle.edit_sources.specs.declared.cache.IndexCache.{IndexCache}
+use Rattle.edit_sources.specs.declared.file_index.FileIndex.{FileIndex}
+use Rattle.cargo_edit.specs.Looks.{kept_by}
+
+nothing_kept : (cache : IndexCache FileIndex) → ((address name : List ℕ) → kept_at cache address name ≡ None) → (address name : List ℕ) → kept_by cache address name ≡ None
+nothing_kept cache empty address name = ap (option_map answer_of) (empty address name)
+
+-- an answer that was looked up is one that the index gives
+pub one_given : (cache : IndexCache FileIndex) (index : FileIndex) (address name : List ℕ) (answer : Option (List IndexEntry)) → index_of cache ≡ index → ((at of : List ℕ) → kept_at cache at of ≡ None)
+    → (kept_by cache address name ≡ Some answer) ⊎ FileGives (index_of cache) name (Ok answer)
+    → FileGives index name (Ok answer)
+one_given cache index address name answer is empty given = ⊎_elim
+    (λ kept. absurd (let none : None ≡ Some answer = sym (nothing_kept cache empty address name) ∙ kept in cc))
+    (λ gives. subst (λ (i : FileIndex). FileGives i name (Ok answer)) is gives)
+    given
