@@ -60,7 +60,7 @@ not-less : (u v : Parts) → is_le (full_order u v) ≡ true → is_ge (preceden
 not-less u v h = ap is_ge (precedence_total.antisymm v u) ∙ reversed (precedence u v) _ h
 
 own-reverse : (r : Ordering) → r ≡ ordering_reverse r → is_ge r ≡ true
-own-reverse Less e = cc e
+own-reverse Less e = cc
 own-reverse Equal e = refl
 own-reverse Greater e = cc e
 
@@ -161,5 +161,5 @@ rows-latest i o rust looks address bytes lines h =
 
 -- what holds of the only one of a list holds of its first
 pub of-first : {A : Type 0} (P : A → Type 0) (xs : List A) (x : A) → length xs ≡ 1 → x ≡ get_or xs 0 x → P x → IfSome (slice_get xs 0) P
-of-first P [] x h e p = cc h
+of-first P [] x h e p = tt
 of-first P (y ∷ ys) x h e p = subst P e p

@@ -16,4 +16,6 @@ pub mod HeadlineRows
 pub mod Settles
 pub mod DecidedAgain
 pub mod WrittenEntries
+pub mod FixedPoint
+pub mod Settled
 mod DecisionFacts

@@ -1,18 +1,18 @@
 -- The entries that are seen once their rows were written: the same ones, with the new requirements.
 use Rattle.std.proofs.Common.{◌≡◌, ◌∷◌, [], List, ℕ, Option, Some, None, Bool, true, false, refl, ap, ◌∙◌, sym, subst, inl, inr, ◌⊎◌}
-use Rattle.std.specs.Prelude.{if◌then◌else◌}
-use Rattle.std.specs.List.{AllByRecursion, AllZip, list_all}
+use Rattle.std.specs.Prelude.{codes, if◌then◌else◌}
+use Rattle.std.specs.List.{AllByRecursion, AllZip, cons_option, filter_map, list_all}
 use Rattle.std.proofs.lemmas.Bool.{cases_Bool}
-use Rattle.edit_document.specs.Assertions.{Place, same_place}
+use Rattle.edit_document.specs.Assertions.{Place, key, same_bytes, same_place}
 use Rattle.edit_document.specs.Items.{is_tabular, names_in}
 use Rattle.edit_document.specs.Replaces.{Edits, written}
 use Rattle.edit_document.specs.Tree.{View, fractional, inline_table, moment, static_array, string, table, table_array, truth, whole}
-use Rattle.edit_document.proofs.SamePlace.{same_place_is, same_place_self}
+use Rattle.edit_document.proofs.SamePlace.{not_below, other_place, same_bytes_is, same_place_is, same_place_self}
 use Rattle.edit_record.specs.Requirement.{cut}
-use Rattle.cargo_edit.specs.Entries.{Tree, entry_place}
-use Rattle.cargo_edit.specs.Records.{Seen, is_known, seen_at, seen_view, seen_with, version_place}
+use Rattle.cargo_edit.specs.Entries.{Tree, dependencies, entry_names, entry_place, member_names}
+use Rattle.cargo_edit.specs.Records.{Seen, is_known, seen, seen_at, seen_view, seen_with, version_place}
 use Rattle.cargo_edit.specs.Rows.{Line, with_write, write_at, writes}
-use Rattle.cargo_edit.proofs.Literals.{AreApart, write-cases}
+use Rattle.cargo_edit.proofs.Literals.{AreApart, any-all, kept-all, places-apart, seen-of, write-cases}
 use Rattle.cargo_edit.proofs.SeenLemmas.{is_plain, seen-table}
 
 -- ---- what a write leaves
@@ -188,3 +188,96 @@ seen-renewed t u name e l s same here = elim (seen-cases t name e s) [
       (table-renewed u name k.view k.text (write_at p l) k.plain (same (ap (λ (x : Seen). x.literal) k.is) ∙ k.there)
       (told ∙ ap (view_after (write_at p l)) k.version))
 ]
+
+-- ---- all entries
+
+view-same : (t u : Tree) (name : List ℕ) → u (version_place (entry_place name)) ≡ t (version_place (entry_place name)) → (o : Option View)
+    → seen_view u name (entry_place name) o ≡ seen_view t name (entry_place name) o
+view-same t u name h (Some (table b)) = ap (λ (x : Option View). if list_all is_known (names_in (table b)) then seen_with name (entry_place name) (version_place (entry_place name)) x else None) h
+view-same t u name h (Some (inline_table b)) = ap (λ (x : Option View). if list_all is_known (names_in (inline_table b)) then seen_with name (entry_place name) (version_place (entry_place name)) x else None) h
+view-same t u name h (Some (string text)) = refl
+view-same t u name h None = refl
+view-same t u name h (Some (truth b)) = refl
+view-same t u name h (Some (whole b)) = refl
+view-same t u name h (Some (fractional b)) = refl
+view-same t u name h (Some (moment b)) = refl
+view-same t u name h (Some (static_array b)) = refl
+view-same t u name h (Some (table_array b)) = refl
+
+-- the places of an entry have what they had
+abbrev AreSame : Tree → Tree → List ℕ → Type 0
+AreSame t u name = (u (entry_place name) ≡ t (entry_place name)) × (u (version_place (entry_place name)) ≡ t (version_place (entry_place name)))
+
+seen-same : (t u : Tree) (name : List ℕ) → AreSame t u name → seen_at u name ≡ seen_at t name
+seen-same t u name h = view-same t u name h.1 (u (entry_place name)) ∙ ap (seen_view t name (entry_place name)) h.0
+
+-- no seen entry has its literal at a place of an entry that is not seen
+unseen-apart : (t : Tree) (n : List ℕ) → seen_at t n ≡ None → (q : Place) → (q ≡ entry_place n) ⊎ (q ≡ version_place (entry_place n))
+    → (m : List ℕ) (f : Seen) → seen_at t m ≡ Some f → same_place f.literal q ≡ false
+unseen-apart t n none q at m f k = elim (cases_Bool (same_bytes m n)) [
+  | inl same ↦ cc (sym k ∙ ap (seen_at t) (same_bytes_is m n same) ∙ none)
+  | inr other ↦ places-apart m n f.literal q other (seen-of t m f k).literal at
+]
+
+-- nor at the place of a seen one that is a table
+table-apart : (t : Tree) (n : List ℕ) (e : Seen) → seen_at t n ≡ Some e → e.literal ≡ version_place (entry_place n)
+    → (m : List ℕ) (f : Seen) → seen_at t m ≡ Some f → same_place f.literal (entry_place n) ≡ false
+table-apart t n e s at m f k = elim (cases_Bool (same_bytes m n)) [
+  | inl same ↦
+      let one = some-seen f e (sym k ∙ ap (seen_at t) (same_bytes_is m n same) ∙ s) in
+      let p = entry_place n in
+      ap (λ (x : Place). same_place x p) (ap (λ (x : Seen). x.literal) one ∙ at)
+      ∙ other_place (version_place p) p (not_below p (key (codes "version")))
+  | inr other ↦ places-apart m n f.literal (entry_place n) other (seen-of t m f k).literal (inl refl)
+]
+
+-- nor at the table of dependencies itself
+root-apart : (t : Tree) (m : List ℕ) (f : Seen) → seen_at t m ≡ Some f → same_place f.literal dependencies ≡ false
+root-apart t m f k = elim ((seen-of t m f k).literal) [
+  | inl at ↦ rw at refl
+  | inr at ↦ rw at refl
+]
+
+-- where no seen entry has its literal, nothing is written
+all-apart : (t : Tree) (ls : List Line) (q : Place) → ((m : List ℕ) (f : Seen) → seen_at t m ≡ Some f → same_place f.literal q ≡ false)
+    → written (writes (seen t) ls) t q ≡ t q
+all-apart t ls q h =
+    untouched (seen t) ls t q (kept-all (λ n. Unit {0}) (λ f. same_place f.literal q ≡ false) (seen_at t) (entry_names t) (any-all (entry_names t)) (λ m f u k. h m f k))
+
+-- what two trees have in common, where the second is the first with what rows wrote
+record IsAfter (t u : Tree) : Type 0 where
+  unseen : (n : List ℕ) → seen_at t n ≡ None → AreSame t u n
+  tables : (n : List ℕ) (e : Seen) → seen_at t n ≡ Some e → e.literal ≡ version_place (entry_place n) → u (entry_place n) ≡ t (entry_place n)
+
+name-renewed : (t u : Tree) (n : List ℕ) (o : Option Seen) (rest again : List Seen) (ls : List Line) → IsAfter t u → seen_at t n ≡ o
+    → ((ms : List Line) → Stand t u rest ms → again ≡ renewed rest ms) → Stand t u (cons_option o rest) ls
+    → cons_option (seen_at u n) again ≡ renewed (cons_option o rest) ls
+name-renewed t u n None rest again ls a e more h =
+    ap (λ (o : Option Seen). cons_option o again) (seen-same t u n (a.unseen n e) ∙ e) ∙ more ls h
+name-renewed t u n (Some s) rest again [] a e more h = absurd h
+name-renewed t u n (Some s) rest again (l ∷ ls) a e more h =
+    ap (λ (o : Option Seen). cons_option o again) (seen-renewed t u n s l e (a.tables n s e) h.0) ∙ ap (λ (es : List Seen). renew s l ∷ es) (more ls h.1)
+
+names-renewed : (t u : Tree) (ns : List (List ℕ)) (ls : List Line) → IsAfter t u → Stand t u (filter_map (seen_at t) ns) ls
+    → filter_map (seen_at u) ns ≡ renewed (filter_map (seen_at t) ns) ls
+names-renewed t u [] [] a h = refl
+names-renewed t u [] (l ∷ ls) a h = absurd h
+names-renewed t u (n ∷ ns) ls a h =
+    name-renewed t u n (seen_at t n) (filter_map (seen_at t) ns) (filter_map (seen_at u) ns) ls a refl (λ ms k. names-renewed t u ns ms a k) h
+
+-- the seen entries of the tree in which the rows were written
+pub written-seen : (R : Seen → Line → Type 0) (t u : Tree) (ls : List Line) → AreApart (seen t) → AllZip R (seen t) ls
+    → ((q : Place) → u q ≡ written (writes (seen t) ls) t q) → seen u ≡ renewed (seen t) ls
+written-seen R t u ls apart zip h =
+    let there : Tree = written (writes (seen t) ls) t in
+    let whole : u ≡ there = λ i q. h q i in
+    let after : IsAfter t there = record {
+      unseen = λ n none. (
+        all-apart t ls (entry_place n) (unseen-apart t n none (entry_place n) (inl refl)),
+        all-apart t ls (version_place (entry_place n)) (unseen-apart t n none (version_place (entry_place n)) (inr refl)),
+      );
+      tables = λ n e s at. all-apart t ls (entry_place n) (table-apart t n e s at);
+    } in
+    let names : entry_names there ≡ entry_names t = ap member_names (all-apart t ls dependencies (root-apart t)) in
+    ap seen whole ∙ ap (λ (ns : List (List ℕ)). filter_map (seen_at there) ns) names
+    ∙ names-renewed t there (entry_names t) ls after (stand R t (seen t) ls apart zip)

@@ -5,7 +5,7 @@ ghost use Rattle.edit_record.specs.RustVersions.{numbers_of};
 ghost use Rattle.edit_sources.specs.IndexCache.{index_of};
 ghost use Rattle.cargo_edit.specs.Address.{default_address};
 ghost use Rattle.cargo_edit.specs.Causes.{IsCause};
-ghost use Rattle.cargo_edit.specs.Headline.{LatestIsNotLess, Narrows, Reaches};
+ghost use Rattle.cargo_edit.specs.Headline.{IsSettled, LatestIsNotLess, Narrows, NeedSame, Reaches, bytes_after};
 ghost use Rattle.cargo_edit.specs.Lines.{line_of};
 ghost use Rattle.cargo_edit.specs.Lists.{Tells};
 ghost use Rattle.cargo_edit.specs.Looked.{Stays};
@@ -122,6 +122,12 @@ pub fn plan_upgrade<I: Index>(
     // a change admits the version that it was made for
     ensures reach { IfOk result (λ p. All Reaches (map line_of p.rows.items)) }
     ensures latest { IfOk result (λ p. All LatestIsNotLess (map line_of p.rows.items)) }
+    // planned again over the same looks, the bytes that stand then stay
+    ensures fixed_point { IfOk result (λ p. IfSome (slice_get inputs.now 0) (λ input. IsSettled (told_setting 0 options.now
+        (option_map numbers_of input.rust_version) p.looks.items default_address) (bytes_after input.bytes.items p.outputs.items))) }
+    // and need the same looks
+    ensures needs { IfOk result (λ p. IfSome (slice_get inputs.now 0)
+        (λ input. NeedSame input.bytes.items (bytes_after input.bytes.items p.outputs.items))) }
     ensures looks { IfOk result (λ p. IfSome (slice_get inputs.now 0) (λ input. AreLooks (IsNeeded input.bytes.items)
         (I.gives (index_of index.old)) (kept_by index.old) (kept_by index.new) p.looks.items)) }
     ensures lists { IfOk result Tells }
