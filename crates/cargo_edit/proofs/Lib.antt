@@ -10,4 +10,12 @@ pub mod WriteLemmas
 pub mod Literals
 pub mod ListLemmas
 pub mod PlanLemmas
+pub mod Taken
+pub mod Narrowing
+pub mod HeadlineRows
+pub mod Settles
+pub mod DecidedAgain
+pub mod WrittenEntries
+pub mod FixedPoint
+pub mod Settled
 mod DecisionFacts

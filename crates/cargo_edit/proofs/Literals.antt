@@ -1,6 +1,6 @@
 -- The version literals of seen entries are strings at places that differ.
-use Rattle.std.proofs.Common.{◌≡◌, ◌∷◌, ◌++◌, [], List, ℕ, Option, Some, None, Bool, true, false, refl, ap, ◌∙◌, sym, subst, inl, inr, ◌⊎◌}
-use Rattle.std.specs.Prelude.{◌&&◌, not, option_map, if◌then◌else◌}
+use Rattle.std.proofs.Common.{◌≡◌, ◌∷◌, [], List, ℕ, Option, Some, None, Bool, true, false, refl, ap, ◌∙◌, sym, subst, inl, inr, ◌⊎◌}
+use Rattle.std.specs.Prelude.{not, option_map, if◌then◌else◌}
 use Rattle.std.specs.List.{AllByRecursion, cons_option, filter, filter_map, list_all}
 use Rattle.std.proofs.lemmas.Bool.{cases_Bool}
 use Rattle.edit_document.specs.Assertions.{Assertion, assertions, Kind, Place, Step, array_kind, dotted, element_kind, header_kind, index, key, leaf, same_bytes, same_place, same_step, super}
@@ -16,9 +16,9 @@ use Rattle.cargo_edit.specs.Records.{Seen, is_known, seen, seen_at, seen_view, s
 use Rattle.cargo_edit.specs.Rows.{Line, with_write, write_at, writes}
 
 -- what is known of a seen entry of a name
-record IsOf (t : Tree) (name : List ℕ) (e : Seen) : Type 0 where
-  there : is_string (t e.literal) ≡ true
-  literal : (e.literal ≡ entry_place name) ⊎ (e.literal ≡ version_place (entry_place name))
+pub record IsOf (t : Tree) (name : List ℕ) (e : Seen) : Type 0 where
+  pub there : is_string (t e.literal) ≡ true
+  pub literal : (e.literal ≡ entry_place name) ⊎ (e.literal ≡ version_place (entry_place name))
 
 some-inj : (a b : Seen) → Some a ≡ Some b → a ≡ b
 some-inj a b h = cc h
@@ -59,7 +59,7 @@ view-of t name (Some (table_array b)) e q h = cc h
 view-of t name (Some (inline_table steps)) e q h = table-of t name (list_all is_known (names_in (inline_table steps))) e h
 view-of t name (Some (table steps)) e q h = table-of t name (list_all is_known (names_in (table steps))) e h
 
-seen-of : (t : Tree) (name : List ℕ) (e : Seen) → seen_at t name ≡ Some e → IsOf t name e
+pub seen-of : (t : Tree) (name : List ℕ) (e : Seen) → seen_at t name ≡ Some e → IsOf t name e
 seen-of t name e h = view-of t name (t (entry_place name)) e refl h
 
 -- ---- what is kept of a list
@@ -68,12 +68,12 @@ cons-all : {B : Type 0} (P : B → Type 0) (o : Option B) (bs : List B) → ((b 
 cons-all P None bs h g = g
 cons-all P (Some b) bs h g = (h b refl, g)
 
-kept-all : {A B : Type 0} (Q : A → Type 0) (P : B → Type 0) (f : A → Option B) (xs : List A) → AllByRecursion Q xs
+pub kept-all : {A B : Type 0} (Q : A → Type 0) (P : B → Type 0) (f : A → Option B) (xs : List A) → AllByRecursion Q xs
     → ((x : A) (b : B) → Q x → f x ≡ Some b → P b) → AllByRecursion P (filter_map f xs)
 kept-all Q P f [] h g = tt
 kept-all Q P f (x ∷ xs) h g = cons-all P (f x) (filter_map f xs) (λ b e. g x b h.0 e) (kept-all Q P f xs h.1 g)
 
-any-all : {A : Type 0} (xs : List A) → AllByRecursion (λ x. Unit {0}) xs
+pub any-all : {A : Type 0} (xs : List A) → AllByRecursion (λ x. Unit {0}) xs
 any-all [] = tt
 any-all (x ∷ xs) = (tt, any-all xs)
 
@@ -87,7 +87,7 @@ abbrev pub AreApart : List Seen → Type 0
 AreApart [] = Unit {0}
 AreApart (e ∷ es) = AllByRecursion (λ f. same_place e.literal f.literal ≡ false) es × AreApart es
 
-places-apart : (n m : List ℕ) (p q : Place) → same_bytes n m ≡ false → (p ≡ entry_place n) ⊎ (p ≡ version_place (entry_place n))
+pub places-apart : (n m : List ℕ) (p q : Place) → same_bytes n m ≡ false → (p ≡ entry_place n) ⊎ (p ≡ version_place (entry_place n))
     → (q ≡ entry_place m) ⊎ (q ≡ version_place (entry_place m)) → same_place p q ≡ false
 places-apart n m p q h (inl a) (inl b) = rw (a, b, h) refl
 places-apart n m p q h (inl a) (inr b) = rw (a, b, h) refl
@@ -179,7 +179,7 @@ entries-apart form = apart-of (view_at form) (entry_names (view_at form)) (kind-
 
 -- ---- what rows write
 
-write-cases : (l : Place) (line : Line) → (write_at l line ≡ None) ⊎ ((text : List ℕ) × (write_at l line ≡ Some (l, text)))
+pub write-cases : (l : Place) (line : Line) → (write_at l line ≡ None) ⊎ ((text : List ℕ) × (write_at l line ≡ Some (l, text)))
 write-cases l line = of-cases line.change line.new refl refl
   where
     of-cases : (c : Option Change) (n : Option (List ℕ)) → line.change ≡ c → line.new ≡ n → (write_at l line ≡ None) ⊎ ((text : List ℕ) × (write_at l line ≡ Some (l, text)))

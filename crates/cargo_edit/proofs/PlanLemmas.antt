@@ -30,7 +30,7 @@ outputs-are path bytes d edits None outputs b w o = subst (λ (os : List Output)
 outputs-are path bytes d edits (Some s) outputs b w o =
     let replaced = subst (λ (old : List ℕ). Replaces edits old (string_bytes s)) b w.replaced in
     let written = subst (λ (new : List ℕ). Replaces edits bytes new) (sym o.3) replaced in
-    subst (λ (os : List Output). AreOutputs path bytes edits os) (sym o.1) (changed o.0 o.2 written)
+    subst (λ (os : List Output). AreOutputs path bytes edits os) (sym o.1) (changed o.0 w.some o.2 written)
 
 -- what is written of a plan
 pub outputs-of : {Y : Type 0} (path here bytes : List ℕ) (p : Planned) (entries : List Entry) (rows : List Row) (text : Option (String Y)) (outputs : List Output)

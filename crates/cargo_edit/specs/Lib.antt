@@ -14,3 +14,4 @@ pub mod Causes
 pub mod Lists
 pub mod Outputs
 pub mod PlannedView
+pub mod Headline

@@ -1,5 +1,5 @@
 -- What a plan writes: the new bytes of the manifests whose rows have a change.
-use Rattle.std.specs.Prelude.{◌≡◌, ℕ, List, [], ◌∷◌, string_bytes}
+use Rattle.std.specs.Prelude.{◌≡◌, ◌≢◌, ℕ, List, [], ◌∷◌, string_bytes}
 use Rattle.edit_document.specs.Assertions.{Place}
 use Rattle.edit_document.specs.Grammar.{Text}
 use Rattle.edit_document.specs.Replaces.{Edits, Replaces, written}
@@ -10,15 +10,16 @@ use Rattle.cargo_edit.specs.Records.{seen}
 use Rattle.cargo_edit.specs.Rows.{Line, writes}
 use Rattle.cargo_edit.specs.declared.upgrade.Output.{Output}
 
--- the new bytes are those of the document with these literals, and read back as its tree with these strings (own)
+-- something is written, and the new bytes are those of the document with these literals, and read back as its tree with these strings (own)
 pub record IsRewritten (d : Shown) (edits : Edits) (new : List ℕ) : Type 0 where
+  pub some : edits ≢ []
   pub replaced : Replaces edits d.bytes new
   pub read_back : (form : Text) → IsManifest new form → (place : Place) → view_at form place ≡ written edits (tree_of d) place
 
 -- an input of which nothing is written has no output; else its one output has its path and the new bytes (own)
 pub data AreOutputs (path bytes : List ℕ) (edits : Edits) : List Output → Type 0 where
   unchanged : edits ≡ [] → AreOutputs path bytes edits []
-  changed : (output : Output) → string_bytes output.path ≡ path → Replaces edits bytes output.bytes.items
+  changed : (output : Output) → edits ≢ [] → string_bytes output.path ≡ path → Replaces edits bytes output.bytes.items
       → AreOutputs path bytes edits (output ∷ [])
 
 -- the outputs of an input: what its rows write, each at the version literal of its entry (own)

@@ -5,6 +5,7 @@ ghost use Rattle.edit_record.specs.RustVersions.{numbers_of};
 ghost use Rattle.edit_sources.specs.IndexCache.{index_of};
 ghost use Rattle.cargo_edit.specs.Address.{default_address};
 ghost use Rattle.cargo_edit.specs.Causes.{IsCause};
+ghost use Rattle.cargo_edit.specs.Headline.{IsSettled, LatestIsNotLess, Narrows, NeedSame, Reaches, bytes_after};
 ghost use Rattle.cargo_edit.specs.Lines.{line_of};
 ghost use Rattle.cargo_edit.specs.Lists.{Tells};
 ghost use Rattle.cargo_edit.specs.Looked.{Stays};
@@ -67,6 +68,33 @@ fn plan_of(alloc: Global, input: &Input, planned: Planned) -> CargoResult<Upgrad
     })
 }
 
+// The plan of one manifest, over the answers of an index.
+fn plan_manifest<I: Index>(
+    alloc: Global,
+    options: &Options,
+    input: &Input,
+    index: &mut IndexCache<I>,
+) -> CargoResult<UpgradePlan>
+    ensures rows { IfOk result (λ p. HasRows (told_setting 0 options.now (option_map numbers_of input.now.rust_version)
+        p.looks.items default_address) input.now.bytes.items (map line_of p.rows.items)) }
+    ensures outputs { IfOk result (λ p. HasOutputs (string_bytes input.now.path) input.now.bytes.items (map line_of p.rows.items) p.outputs.items) }
+    ensures looks { IfOk result (λ p. AreLooks (IsNeeded input.now.bytes.items) (I.gives (index_of index.old))
+        (kept_by index.old) (kept_by index.new) p.looks.items) }
+    ensures lists { IfOk result Tells }
+    ensures kept { Stays (kept_by index.old) (kept_by index.new) }
+    ensures refused { IfErr result (IsCause input.now.bytes.items (I.gives (index_of index.old)) (kept_by index.old)
+        (kept_by index.new) (I.faults (index_of index.old)) (I.faults (index_of index.new))) }
+{
+    let planned = match plan_input(alloc, 0, options, input, index) {
+        Ok(planned) => planned,
+        Err(error) => return Err(error),
+    };
+    match plan_of(alloc, input, planned) {
+        Ok(made) => Ok(made),
+        Err(error) => Err(error),
+    }
+}
+
 /// What an upgrade of manifests gives: their new bytes, a row for each entry that is seen, and the looks that were made.
 ///
 /// So far one manifest is planned, with an empty list of configurations, and no words or exclusions select its entries.
@@ -89,6 +117,17 @@ pub fn plan_upgrade<I: Index>(
     // the literals of the rows with a change, and no other byte
     ensures outputs { IfOk result (λ p. IfSome (slice_get inputs.now 0)
         (λ input. HasOutputs (string_bytes input.path) input.bytes.items (map line_of p.rows.items) p.outputs.items)) }
+    // a change to the compatible version narrows
+    ensures narrowing { IfOk result (λ p. All Narrows (map line_of p.rows.items)) }
+    // a change admits the version that it was made for
+    ensures reach { IfOk result (λ p. All Reaches (map line_of p.rows.items)) }
+    ensures latest { IfOk result (λ p. All LatestIsNotLess (map line_of p.rows.items)) }
+    // planned again over the same looks, the bytes that stand then stay
+    ensures fixed_point { IfOk result (λ p. IfSome (slice_get inputs.now 0) (λ input. IsSettled (told_setting 0 options.now
+        (option_map numbers_of input.rust_version) p.looks.items default_address) (bytes_after input.bytes.items p.outputs.items))) }
+    // and need the same looks
+    ensures needs { IfOk result (λ p. IfSome (slice_get inputs.now 0)
+        (λ input. NeedSame input.bytes.items (bytes_after input.bytes.items p.outputs.items))) }
     ensures looks { IfOk result (λ p. IfSome (slice_get inputs.now 0) (λ input. AreLooks (IsNeeded input.bytes.items)
         (I.gives (index_of index.old)) (kept_by index.old) (kept_by index.new) p.looks.items)) }
     ensures lists { IfOk result Tells }
@@ -98,11 +137,7 @@ pub fn plan_upgrade<I: Index>(
 {
     let input = &inputs[0];
     let _configs = configs;
-    let planned = match plan_input(alloc, 0, options, input, index) {
-        Ok(planned) => planned,
-        Err(error) => return Err(error),
-    };
-    match plan_of(alloc, input, planned) {
+    match plan_manifest(alloc, options, input, index) {
         Ok(plan) => Ok(plan),
         Err(error) => Err(error),
     }

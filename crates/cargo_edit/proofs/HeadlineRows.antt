@@ -1,0 +1,165 @@
+-- What holds of each row that was decided.
+use Rattle.std.proofs.Common.{◌≡◌, ◌∷◌, [], List, ℕ, Option, Some, None, true, get_or, length, refl, ap, ◌∙◌, sym, subst, inl, inr}
+use Rattle.std.specs.Prelude.{All, IfSome, IsOk, IsSome, IsTrue, nat_eq, option_map, slice_get}
+use Rattle.std.specs.Cmp.Lexicographic.{pointwise}
+use Rattle.std.specs.Ordering.{is_ge, is_le, ordering_reverse, ordering_then}
+use Rattle.std.specs.declared.cmp.Ordering.{Ordering}
+use Rattle.std.specs.declared.cmp.Ordering.TheVariants.{Less, Equal, Greater}
+use Rattle.std.proofs.lemmas.Bool.{cases_Bool}
+use Rattle.std.proofs.lemmas.List.Elements.{All-cons, All-nil}
+use Rattle.semver.specs.Grammar.{IsValid}
+use Rattle.semver.specs.Parse.{Parts, req_of}
+use Rattle.edit_document.specs.Tree.{view_at}
+use Rattle.edit_record.specs.Laws.{Admits, precedence}
+use Rattle.edit_record.specs.Requirement.{plain_text}
+use Rattle.edit_record.specs.RustVersions.{Numbers}
+use Rattle.edit_record.specs.Selection.{IsCompatible, IsLatest, is_admitted, is_offered}
+use Rattle.edit_record.specs.VersionOrder.{full_order}
+use Rattle.edit_record.proofs.Builds.{admits-without_build, plain_text-read, without_build}
+use Rattle.edit_record.proofs.Entries.{all-valid}
+use Rattle.edit_record.proofs.Orders.{greatest-has, precedence_total}
+use Rattle.edit_sources.specs.Index.{answer_of}
+use Rattle.cargo_edit.specs.Decision.{decision, newer, or_else}
+use Rattle.cargo_edit.specs.Headline.{IsVersionTold, LatestIsNotLess, Narrows, Reaches}
+use Rattle.cargo_edit.specs.Looks.{Answer, look_at, told_setting, versions_in}
+use Rattle.cargo_edit.specs.Records.{Seen, seen}
+use Rattle.cargo_edit.specs.Rows.{AreDecided, IsDecided, Line, Setting, case_for, line_for}
+use Rattle.cargo_edit.specs.Upgraded.{HasRows}
+use Rattle.cargo_edit.specs.declared.upgrade.Look.{Look}
+use Rattle.cargo_edit.specs.declared.upgrade.Options.{Options}
+use Rattle.cargo_edit.proofs.Narrowing.{latest-not-less, narrowing, reach}
+
+-- ---- versions
+
+-- each version that an answer tells of is one that `semver` reads
+pub versions-valid : (rust : Option Numbers) (o : Option Answer) → All IsValid (versions_in rust o)
+versions-valid rust None = All-nil IsValid
+versions-valid rust (Some None) = All-nil IsValid
+versions-valid rust (Some (Some entries)) = all-valid rust entries
+
+-- so is each that the looks tell of
+pub setting-valid : (i : ℕ) (o : Options) (rust : Option Numbers) (looks : List Look) (address name : List ℕ)
+    → All IsValid ((told_setting i o rust looks address).versions name)
+setting-valid i o rust looks address name = versions-valid rust (option_map (λ look. answer_of look.answer) (look_at looks address name))
+
+-- a requirement admits a version without its build metadata
+admits-plain : (text : List ℕ) (v : Parts) → Admits text v → Admits text (without_build v)
+admits-plain text v a = (a.0, a.1, admits-without_build a.0 v ∙ a.2)
+
+-- the text of a version tells it, but for its build metadata
+told-plain : (v : Parts) → IsValid v → IsVersionTold (Some (plain_text v)) (without_build v)
+told-plain v valid = plain_text-read v valid
+
+reversed : (r s : Ordering) → is_le (ordering_then r s) ≡ true → is_ge (ordering_reverse r) ≡ true
+reversed Less s h = refl
+reversed Equal s h = refl
+reversed Greater s h = cc h
+
+-- a version that is not less in the full order is not less by precedence
+not-less : (u v : Parts) → is_le (full_order u v) ≡ true → is_ge (precedence v u) ≡ true
+not-less u v h = ap is_ge (precedence_total.antisymm v u) ∙ reversed (precedence u v) _ h
+
+own-reverse : (r : Ordering) → r ≡ ordering_reverse r → is_ge r ≡ true
+own-reverse Less e = cc
+own-reverse Equal e = refl
+own-reverse Greater e = cc e
+
+not-less-itself : (u : Parts) → is_ge (precedence u u) ≡ true
+not-less-itself u = own-reverse (precedence u u) (precedence_total.antisymm u u)
+
+-- ---- one row
+
+read-admits : (text : List ℕ) (v : Parts) → Admits text v → IsOk (req_of text)
+read-admits text v a = rw a.1 refl
+
+pub line-narrows : (i : ℕ) (o : Options) (xs : List Parts) (e : Seen) (line : Line) → All IsValid xs → IsDecided i o xs e line → Narrows line
+line-narrows i o xs e line all d =
+    subst Narrows (sym d.is) (λ h.
+    let n = narrowing o xs (case_for e d.near d.far) all d.compatible h in
+    (read-admits (decision o (case_for e d.near d.far)).new n.0 n.2.0, λ v a. n.2.1 v a))
+
+pub line-reaches : (i : ℕ) (o : Options) (xs : List Parts) (e : Seen) (line : Line) → All IsValid xs → IsDecided i o xs e line → Reaches line
+line-reaches i o xs e line all d =
+    let c = case_for e d.near d.far in
+    let there : Reaches (line_for i e d.near d.far (decision o c)) = record {
+      compatible = λ h.
+          let n = narrowing o xs c all d.compatible h in
+          let near = subst (λ (x : Option Parts). IsCompatible e.old xs x) n.1 d.compatible in
+          let valid = greatest-has IsValid (is_admitted e.old) xs n.0 all near in (
+            without_build n.0,
+            subst (λ (x : Option Parts). IsVersionTold (option_map plain_text x) (without_build n.0)) (sym n.1) (told-plain n.0 valid),
+            admits-plain (decision o c).new n.0 n.2.0,
+          );
+      latest = λ h.
+          let r = reach o xs c all d.latest h in (
+            without_build r.0,
+            subst (λ (x : Option Parts). IsVersionTold (option_map plain_text (or_else x d.near)) (without_build r.0)) (sym r.2) (told-plain r.0 r.1),
+            λ plain. admits-plain (decision o c).new r.0 (r.3 plain),
+          );
+    } in
+    subst Reaches (sym d.is) there
+
+-- the latest version that a row tells, where there are both
+told-latest : (u v : Parts) → IsValid u → IsValid v → is_le (full_order u v) ≡ true
+    → (w : Parts) × IsVersionTold (option_map plain_text (or_else (newer (Some v) (Some u)) (Some u))) w × IsTrue (is_ge (precedence w (without_build u)))
+told-latest u v a b le = elim (cases_Bool (pointwise nat_eq (plain_text v) (plain_text u))) [
+  | inl same ↦ (without_build u, rw same (told-plain u a), not-less-itself (without_build u))
+  | inr other ↦ (without_build v, rw other (told-plain v b), not-less u v le)
+]
+
+latest-of : (xs : List Parts) (old : List ℕ) (near far : Option Parts) → All IsValid xs → IsCompatible old xs near → IsLatest old xs far
+    → IsSome (option_map plain_text near) → (u : Parts) × (v : Parts) × IsVersionTold (option_map plain_text near) u
+    × IsVersionTold (option_map plain_text (or_else (newer far near) near)) v × IsTrue (is_ge (precedence v u))
+latest-of xs old None far all a b h = cc h
+latest-of xs old (Some u) far all a b h =
+    let l = latest-not-less xs old u far a b in
+    let valid = greatest-has IsValid (is_admitted old) xs u all a in
+    let kept = subst (λ (x : Option Parts). IsLatest old xs x) l.1 b in
+    let last = greatest-has IsValid (is_offered old) xs l.0 all kept in
+    let t = told-latest u l.0 valid last l.2 in (
+      without_build u,
+      t.0,
+      told-plain u valid,
+      subst (λ (x : Option Parts). IsVersionTold (option_map plain_text (or_else (newer x (Some u)) (Some u))) t.0) (sym l.1) t.1,
+      t.2,
+    )
+
+pub line-latest : (i : ℕ) (o : Options) (xs : List Parts) (e : Seen) (line : Line) → All IsValid xs → IsDecided i o xs e line → LatestIsNotLess line
+line-latest i o xs e line all d = subst LatestIsNotLess (sym d.is) (latest-of xs e.old d.near d.far all d.compatible d.latest)
+
+-- ---- all rows
+
+all-lines : (s : Setting) (P : Line → Type 0) → ((e : Seen) (line : Line) → IsDecided s.input s.options (s.versions e.name) e line → P line)
+    → (es : List Seen) (ls : List Line) → AreDecided s es ls → All P ls
+all-lines s P f [] [] h = All-nil P
+all-lines s P f [] (l ∷ ls) h = absurd h
+all-lines s P f (e ∷ es) [] h = absurd h
+all-lines s P f (e ∷ es) (l ∷ ls) h = All-cons P l ls (f e l h.0) (all-lines s P f es ls h.1)
+
+pub rows-narrow : (i : ℕ) (o : Options) (rust : Option Numbers) (looks : List Look) (address bytes : List ℕ) (lines : List Line)
+    → HasRows (told_setting i o rust looks address) bytes lines → All Narrows lines
+rows-narrow i o rust looks address bytes lines h =
+    let s = told_setting i o rust looks address in
+    all-lines s Narrows (λ e line d. line-narrows i o (s.versions e.name) e line (setting-valid i o rust looks address e.name) d)
+    (seen (view_at h.form)) lines h.decided
+
+pub rows-reach : (i : ℕ) (o : Options) (rust : Option Numbers) (looks : List Look) (address bytes : List ℕ) (lines : List Line)
+    → HasRows (told_setting i o rust looks address) bytes lines → All Reaches lines
+rows-reach i o rust looks address bytes lines h =
+    let s = told_setting i o rust looks address in
+    all-lines s Reaches (λ e line d. line-reaches i o (s.versions e.name) e line (setting-valid i o rust looks address e.name) d)
+    (seen (view_at h.form)) lines h.decided
+
+pub rows-latest : (i : ℕ) (o : Options) (rust : Option Numbers) (looks : List Look) (address bytes : List ℕ) (lines : List Line)
+    → HasRows (told_setting i o rust looks address) bytes lines → All LatestIsNotLess lines
+rows-latest i o rust looks address bytes lines h =
+    let s = told_setting i o rust looks address in
+    all-lines s LatestIsNotLess (λ e line d. line-latest i o (s.versions e.name) e line (setting-valid i o rust looks address e.name) d)
+    (seen (view_at h.form)) lines h.decided
+
+-- ---- one input
+
+-- what holds of the only one of a list holds of its first
+pub of-first : {A : Type 0} (P : A → Type 0) (xs : List A) (x : A) → length xs ≡ 1 → x ≡ get_or xs 0 x → P x → IfSome (slice_get xs 0) P
+of-first P [] x h e p = tt
+of-first P (y ∷ ys) x h e p = subst P e p
