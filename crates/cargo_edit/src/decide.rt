@@ -278,5 +278,3 @@ pub(crate) fn decide(
     )?)
 }
 
-#[cfg(test)]
-mod tests;

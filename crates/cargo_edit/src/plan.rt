@@ -108,5 +108,3 @@ pub fn plan_upgrade<I: Index>(
     }
 }
 
-#[cfg(test)]
-mod tests;

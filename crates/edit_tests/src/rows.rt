@@ -1,0 +1,18 @@
+//! Rows of tables that are texts.
+use std::alloc::Global;
+use std::test::Fail;
+
+/// A field of a row, from 0; empty where there is none.
+pub fn field(row: &str, n: usize) -> &str {
+    row.split('|').nth(n).unwrap_or("")
+}
+
+/// A text of its own.
+pub fn text(alloc: Global, text: &str) -> Result<String, Fail> {
+    Ok(String::from_str(alloc, text)?)
+}
+
+/// The lines of a field, each but the last ended by `@`.
+pub fn unfolded(alloc: Global, field: &str) -> Result<String, Fail> {
+    Ok(field.replace(alloc, "@", "\n")?)
+}
