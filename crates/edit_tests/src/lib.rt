@@ -6,12 +6,12 @@
 #[cfg(test)]
 mod documents;
 #[cfg(test)]
+mod fields;
+#[cfg(test)]
 mod plans;
 #[cfg(test)]
 mod records;
 #[cfg(test)]
 mod refusals;
-#[cfg(test)]
-mod rows;
 #[cfg(test)]
 mod sources;

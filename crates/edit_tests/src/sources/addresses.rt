@@ -1,9 +1,10 @@
 //! Addresses under configuration files.
+use super::looks::put;
+use crate::fields::{field, same, text, unfolded};
 use crate::refusals::told;
-use crate::rows::{field, text, unfolded};
+use edit_sources::MemoryStore;
 use edit_sources::config::{Config, read_configs};
 use edit_sources::registry::{registry_url, resolve};
-use edit_sources::{MemoryStore, Store};
 use std::alloc::Global;
 use std::test::Fail;
 
@@ -28,16 +29,6 @@ replaced by itself|x|33 The source 'x' could not be found|/w/.cargo/config.toml|
 crates.io by its address|a|sparse+https://index.crates.io/|/w/.cargo/config.toml|source.a.replace-with = 'sparse+https://index.crates.io/'@source.'sparse+https://index.crates.io/'.directory = 'v'@
 no URL|r|35 invalid `registry` field|/w/.cargo/config.toml|registries.r.index = 'no url'@";
 
-/// Puts lines at a path, where there is one.
-fn put(alloc: Global, store: &mut MemoryStore, path: &str, lines: &str) -> Result<(), Fail> {
-    if path.is_empty() {
-        return Ok(());
-    }
-    let lines = unfolded(alloc, lines)?;
-    store.write(alloc, path, lines.as_bytes())?;
-    Ok(())
-}
-
 /// The address of a registry under files, or the refusal.
 fn address(alloc: Global, store: &mut MemoryStore, registry: &str) -> Result<String, Fail> {
     let registry = if registry.is_empty() {
@@ -51,19 +42,38 @@ fn address(alloc: Global, store: &mut MemoryStore, registry: &str) -> Result<Str
     }
 }
 
+/// The files of a row.
+fn files(alloc: Global, row: &str) -> Result<MemoryStore, Fail> {
+    let mut store = MemoryStore::new(alloc);
+    if !field(row, 3).is_empty() {
+        put(alloc, &mut store, field(row, 3), field(row, 4))?;
+    }
+    if !field(row, 5).is_empty() {
+        put(alloc, &mut store, field(row, 5), field(row, 6))?;
+    }
+    Ok(store)
+}
+
 /// What a row's registry gives under its files.
 fn outcome(alloc: Global, row: &str) -> Result<String, Fail> {
-    let mut store = MemoryStore::new(alloc);
-    put(alloc, &mut store, field(row, 3), field(row, 4))?;
-    put(alloc, &mut store, field(row, 5), field(row, 6))?;
+    let mut store = files(alloc, row)?;
     address(alloc, &mut store, field(row, 1))
 }
 
 #[test]
-fn addresses(rt: HostRuntime) -> Result<(), Fail> {
-    for row in FILES_THAT_COUNT.lines().chain(CHAINS.lines()) {
+fn files_that_count(rt: HostRuntime) -> Result<(), Fail> {
+    for row in FILES_THAT_COUNT.lines() {
         let seen = outcome(rt.alloc(), row)?;
-        assert_eq!(rt; seen.as_str(), field(row, 2), "{row}");
+        same(&rt, row, seen.as_str(), field(row, 2));
+    }
+    Ok(())
+}
+
+#[test]
+fn chains(rt: HostRuntime) -> Result<(), Fail> {
+    for row in CHAINS.lines() {
+        let seen = outcome(rt.alloc(), row)?;
+        same(&rt, row, seen.as_str(), field(row, 2));
     }
     Ok(())
 }
@@ -89,48 +99,62 @@ fn reading(alloc: Global, bytes: &[u8]) -> Result<String, Fail> {
     }
 }
 
+/// Whether a field's lines are a configuration, or the refusal.
+fn reading_lines(alloc: Global, lines: &str) -> Result<String, Fail> {
+    let lines = unfolded(alloc, lines)?;
+    reading(alloc, lines.as_bytes())
+}
+
 #[test]
 fn configurations(rt: HostRuntime) -> Result<(), Fail> {
-    let alloc = rt.alloc();
     for row in CONFIGURATIONS.lines() {
-        let lines = unfolded(alloc, field(row, 2))?;
-        let seen = reading(alloc, lines.as_bytes())?;
-        assert_eq!(rt; seen.as_str(), field(row, 1), "{row}");
+        let seen = reading_lines(rt.alloc(), field(row, 2))?;
+        same(&rt, row, seen.as_str(), field(row, 1));
     }
-    let seen = reading(alloc, b"\xff")?;
-    assert_eq!(rt; seen.as_str(), "31 invalid cargo config at /c", "no UTF-8");
+    let seen = reading(rt.alloc(), b"\xff")?;
+    same(
+        &rt,
+        "no UTF-8",
+        seen.as_str(),
+        "31 invalid cargo config at /c",
+    );
     Ok(())
 }
 
+// The lines of the one file that counts.
 const LOCAL: &str =
-    "source.crates-io.replace-with = 'local'\nsource.local.registry = 'file:///idx'\n";
+    "source.crates-io.replace-with = 'local'@source.local.registry = 'file:///idx'@";
 
-/// How many configurations count, and where the first one stands.
-fn counted(alloc: Global, configs: &[Config]) -> Result<String, Fail> {
+/// How many configurations count, where the first one stands, and the address that they give.
+fn resolved(alloc: Global, configs: &[Config]) -> Result<String, Fail> {
     let path = match configs.first() {
         Some(config) => config.path.as_str(),
         None => "-",
     };
-    Ok(format!(in alloc; "{} {path}", configs.len())?)
+    match resolve(alloc, configs, None) {
+        Ok(url) => Ok(format!(in alloc; "{} {path} {}", configs.len(), url.as_str())?),
+        Err(error) => told(alloc, error),
+    }
 }
 
-/// The address of the default registry under configurations, or the refusal.
-fn resolved(alloc: Global, configs: &[Config]) -> Result<String, Fail> {
-    match resolve(alloc, configs, None) {
-        Ok(url) => text(alloc, url.as_str()),
+/// What the configurations for a manifest give.
+fn configured(alloc: Global, store: &mut MemoryStore, path: &str) -> Result<String, Fail> {
+    match read_configs(alloc, store, path, None) {
+        Ok(configs) => resolved(alloc, &configs),
         Err(error) => told(alloc, error),
     }
 }
 
 #[test]
 fn resolved_by_hand(rt: HostRuntime) -> Result<(), Fail> {
-    let alloc = rt.alloc();
-    let mut store = MemoryStore::new(alloc);
-    store.write(alloc, "/.cargo/config", LOCAL.as_bytes())?;
-    let configs = read_configs(alloc, &mut store, "/a/b/Cargo.toml", None)?;
-    let seen = counted(alloc, &configs)?;
-    assert_eq!(rt; seen.as_str(), "1 /.cargo/config");
-    let seen = resolved(alloc, &configs)?;
-    assert_eq!(rt; seen.as_str(), "file:///idx");
+    let mut store = MemoryStore::new(rt.alloc());
+    put(rt.alloc(), &mut store, "/.cargo/config", LOCAL)?;
+    let seen = configured(rt.alloc(), &mut store, "/a/b/Cargo.toml")?;
+    same(
+        &rt,
+        "one file",
+        seen.as_str(),
+        "1 /.cargo/config file:///idx",
+    );
     Ok(())
 }

@@ -1,7 +1,7 @@
 //! Answers and rankings that are kept.
 use super::looks::{TWO, entries, files_of};
+use crate::fields::{field, same, text};
 use crate::refusals::told;
-use crate::rows::{field, text};
 use edit_record::Dependency;
 use edit_sources::{FaultStore, FileIndex, Index, IndexCache, IndexKrate, LocalIndex, Ranked};
 use semver::VersionReq;
@@ -161,7 +161,7 @@ fn calls<R: Abort, I: Index>(
     let registry = Url::parse(alloc, "file:///idx").map_err(|_| "no address")?;
     for row in rows.lines() {
         let seen = call(alloc, cache, &registry, row)?;
-        assert_eq!(rt; seen.as_str(), field(row, 4), "{row}");
+        same(rt, row, seen.as_str(), field(row, 4));
     }
     Ok(())
 }

@@ -1,7 +1,7 @@
 //! Indexes: lines that are read, and looks.
 use super::machine::folder;
+use crate::fields::{field, same, text, unfolded};
 use crate::refusals::told;
-use crate::rows::{field, text};
 use edit_sources::{FileIndex, HostStore, Index, IndexKrate, LocalIndex, MemoryStore, Store};
 use std::alloc::Global;
 use std::fs;
@@ -9,12 +9,12 @@ use std::process::Abort;
 use std::test::Fail;
 use url::Url;
 
-// A name, and the number of the line that is none.
+// A name, the refusal, and the lines.
 const BAD_LINES: &str = "\
-no version|1|{\"name\":\"a\"}
-no object|1|[]
-yanked by a text|1|{\"name\":\"a\",\"vers\":\"1.0.0\",\"yanked\":\"no\"}
-the second line|2|{\"name\":\"a\",\"vers\":\"1.0.0\"}@{\"name\":\"a\"";
+no version|30 Invalid index line 1|{\"name\":\"a\"}
+no object|30 Invalid index line 1|[]
+yanked by a text|30 Invalid index line 1|{\"name\":\"a\",\"vers\":\"1.0.0\",\"yanked\":\"no\"}
+the second line|30 Invalid index line 2|{\"name\":\"a\",\"vers\":\"1.0.0\"}@{\"name\":\"a\"";
 
 /// What is told of the lines of an index.
 fn reading(alloc: Global, bytes: &[u8]) -> Result<String, Fail> {
@@ -24,20 +24,33 @@ fn reading(alloc: Global, bytes: &[u8]) -> Result<String, Fail> {
     }
 }
 
+/// What is told of a field's lines.
+fn reading_lines(alloc: Global, lines: &str) -> Result<String, Fail> {
+    let lines = unfolded(alloc, lines)?;
+    reading(alloc, lines.as_bytes())
+}
+
 #[test]
 fn bad_lines(rt: HostRuntime) -> Result<(), Fail> {
-    let alloc = rt.alloc();
     for row in BAD_LINES.lines() {
-        let lines = field(row, 2).replace(alloc, "@", "\n")?;
-        let seen = reading(alloc, lines.as_bytes())?;
-        let want = format!(in alloc; "30 Invalid index line {}", field(row, 1))?;
-        assert_eq!(rt; seen, want, "{row}");
+        let seen = reading_lines(rt.alloc(), field(row, 2))?;
+        same(&rt, row, seen.as_str(), field(row, 1));
     }
-    let deep = "[".repeat(alloc, 1000)?;
-    let seen = reading(alloc, deep.as_bytes())?;
-    assert_eq!(rt; seen.as_str(), "30 Invalid index line 1", "too deep");
-    let seen = reading(alloc, b"\xFF")?;
-    assert_eq!(rt; seen.as_str(), "30 Invalid index line 1", "no UTF-8");
+    Ok(())
+}
+
+/// What is told of a line of brackets.
+fn reading_brackets(alloc: Global, count: usize) -> Result<String, Fail> {
+    let brackets = "[".repeat(alloc, count)?;
+    reading(alloc, brackets.as_bytes())
+}
+
+#[test]
+fn bad_bytes(rt: HostRuntime) -> Result<(), Fail> {
+    let seen = reading_brackets(rt.alloc(), 1000)?;
+    same(&rt, "too deep", seen.as_str(), "30 Invalid index line 1");
+    let seen = reading(rt.alloc(), b"\xFF")?;
+    same(&rt, "no UTF-8", seen.as_str(), "30 Invalid index line 1");
     Ok(())
 }
 
@@ -65,7 +78,7 @@ fn look<I: Index>(alloc: Global, index: &mut I, row: &str) -> Result<String, Fai
 fn looks<R: Abort, I: Index>(rt: &R, alloc: Global, index: &mut I, rows: &str) -> Result<(), Fail> {
     for row in rows.lines() {
         let seen = look(alloc, index, row)?;
-        assert_eq!(rt; seen.as_str(), field(row, 3), "{row}");
+        same(rt, row, seen.as_str(), field(row, 3));
     }
     assert_eq!(rt; index.faults(), 0);
     Ok(())
@@ -110,12 +123,18 @@ a host|file://host/idx|a/b|28 invalid file path file://host/idx
 no UTF-8|file:///%FF|a/b|28 invalid file path file:///%FF
 U+0000|file:///%00|a/b|28 invalid file path file:///%00";
 
+/// Puts a field's lines at a path.
+pub fn put(alloc: Global, store: &mut MemoryStore, path: &str, lines: &str) -> Result<(), Fail> {
+    let lines = unfolded(alloc, lines)?;
+    store.write(alloc, path, lines.as_bytes())?;
+    Ok(())
+}
+
 /// The files of a table, in memory.
 pub fn files_of(alloc: Global, rows: &str) -> Result<MemoryStore, Fail> {
     let mut store = MemoryStore::new(alloc);
     for row in rows.lines() {
-        let lines = field(row, 1).replace(alloc, "@", "\n")?;
-        store.write(alloc, field(row, 0), lines.as_bytes())?;
+        put(alloc, &mut store, field(row, 0), field(row, 1))?;
     }
     Ok(store)
 }

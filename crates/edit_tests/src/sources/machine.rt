@@ -1,7 +1,7 @@
 //! Files of the machine, below a folder of a test's own.
 use super::steps::step;
 use super::unmoved::Unmoved;
-use crate::rows::{field, text};
+use crate::fields::{field, same, text};
 use edit_sources::{HostStore, Store};
 use std::fs::Permissions;
 use std::os::unix::fs::{MetadataExt, PermissionsExt, symlink};
@@ -130,7 +130,7 @@ fn steps_below<R: Abort, S: Store>(
     for row in rows.lines() {
         let path = format!(in rt.alloc(); "{folder}{}", field(row, 2))?;
         let seen = outcome(rt, store, path.as_str(), row)?;
-        assert_eq!(test; seen.as_str(), field(row, 4), "{row}");
+        same(test, row, seen.as_str(), field(row, 4));
     }
     Ok(())
 }

@@ -1,6 +1,6 @@
 //! Steps on a store, told as texts.
+use crate::fields::{field, same, text};
 use crate::refusals::told;
-use crate::rows::{field, text};
 use edit_sources::{Kind, Store};
 use std::alloc::Global;
 use std::process::Abort;
@@ -53,7 +53,7 @@ pub fn steps<R: Abort, S: Store>(
 ) -> Result<(), Fail> {
     for row in rows.lines() {
         let seen = step(alloc, store, field(row, 2), row)?;
-        assert_eq!(rt; seen.as_str(), field(row, 4), "{row}");
+        same(rt, row, seen.as_str(), field(row, 4));
     }
     Ok(())
 }
