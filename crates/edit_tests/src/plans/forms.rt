@@ -181,19 +181,28 @@ const TOLD: &str = "
 looks: 5
 ";
 
-/// What is told of the plan for a manifest.
-fn seen_of(alloc: Global, before: &str) -> Result<String, Fail> {
+/// A row's manifest, and the manifest afterwards.
+fn cut(row: &str) -> (&str, &str) {
+    row.split_once(">>>\n").unwrap_or((row, ""))
+}
+
+/// What is told of the plan for a row's manifest.
+fn seen_of(alloc: Global, row: &str) -> Result<String, Fail> {
     let mut index = index_of(alloc, "a b c d e passed", "1.0.0 1.2.3")?;
-    outcome(alloc, "", before.as_bytes(), &mut index)
+    outcome(alloc, "", cut(row).0.as_bytes(), &mut index)
+}
+
+/// What a row wants.
+fn want_of(alloc: Global, row: &str) -> Result<String, Fail> {
+    Ok(format!(in alloc; "{}{TOLD}", cut(row).1)?)
 }
 
 #[test]
 fn forms_of_an_entry(rt: HostRuntime) -> Result<(), Fail> {
     for row in ROWS.split("===\n") {
-        let (before, after) = row.split_once(">>>\n").ok_or("row")?;
-        let seen = seen_of(rt.alloc(), before)?;
-        let want = format!(in rt.alloc(); "{after}{TOLD}")?;
-        same(&rt, before, seen.as_str(), want.as_str());
+        let seen = seen_of(rt.alloc(), row)?;
+        let want = want_of(rt.alloc(), row)?;
+        same(&rt, cut(row).0, seen.as_str(), want.as_str());
     }
     Ok(())
 }

@@ -8,6 +8,16 @@ use std::alloc::Global;
 use std::str;
 use std::test::Fail;
 
+/// The manifest that is planned for.
+fn input_of(alloc: Global, bytes: &[u8]) -> CargoResult<Input> {
+    Ok(Input {
+        name: String::from_str(alloc, "w")?,
+        path: String::from_str(alloc, "/w/Cargo.toml")?,
+        bytes: Vec::from_slice(alloc, bytes)?,
+        rust_version: None,
+    })
+}
+
 /// A plan of one manifest. Among the flags are `i` for incompatible and `p` for pinned.
 fn planned(
     alloc: Global,
@@ -15,6 +25,7 @@ fn planned(
     bytes: &[u8],
     index: &mut IndexCache<FileIndex>,
 ) -> CargoResult<UpgradePlan> {
+    let inputs = [input_of(alloc, bytes)?];
     let options = Options {
         compatible: true,
         incompatible: flags.contains('i'),
@@ -26,12 +37,6 @@ fn planned(
         recursive: None,
         verbosity: 0,
     };
-    let inputs = [Input {
-        name: String::from_str(alloc, "w")?,
-        path: String::from_str(alloc, "/w/Cargo.toml")?,
-        bytes: Vec::from_slice(alloc, bytes)?,
-        rust_version: None,
-    }];
     let configs = [Vec::new(alloc)];
     plan_upgrade(alloc, &options, &inputs, &configs, index)
 }

@@ -33,14 +33,9 @@ fn ranking(alloc: Global, ranked: Option<&Ranked>) -> Result<String, Fail> {
 }
 
 /// A dependency and its version.
-fn found(alloc: Global, found: Option<Dependency>) -> Result<String, Fail> {
-    match found {
-        Some(found) => {
-            let version = found.version().unwrap_or("no version");
-            Ok(format!(in alloc; "{}@{version}", found.name)?)
-        }
-        None => text(alloc, "none"),
-    }
+fn found(alloc: Global, dependency: &Dependency) -> Result<String, Fail> {
+    let version = dependency.version().unwrap_or("no version");
+    Ok(format!(in alloc; "{}@{version}", dependency.name)?)
 }
 
 /// What a ranking leads to for a requirement, or to its latest version for none.
@@ -53,7 +48,8 @@ fn choice(alloc: Global, ranked: Option<&Ranked>, req: &str) -> Result<String, F
         ranked.compatible(alloc, &req, None)
     };
     match chosen {
-        Ok(chosen) => found(alloc, chosen),
+        Ok(Some(dependency)) => found(alloc, &dependency),
+        Ok(None) => text(alloc, "none"),
         Err(error) => told(alloc, error),
     }
 }

@@ -145,9 +145,10 @@ fn looks_in_files(rt: HostRuntime) -> Result<(), Fail> {
     looks(&rt, rt.alloc(), &mut index, IN_FILES)
 }
 
+// A name, and what a look for it below a folder of the machine gives.
 const IN_A_FOLDER: &str = "\
-five letters|FOLDER|serde|serde 1.2.3.
-no file|FOLDER|se|none";
+serde|serde 1.2.3.
+se|none";
 
 /// Lays out the index of one crate below a folder.
 fn lay_out(rt: &HostRuntime, folder: &str) -> Result<(), Fail> {
@@ -162,14 +163,21 @@ fn lay_out(rt: &HostRuntime, folder: &str) -> Result<(), Fail> {
     Ok(())
 }
 
+/// What a look below a folder gives.
+fn look_below(rt: &HostRuntime, folder: &str, name: &str) -> Result<String, Fail> {
+    let mut index = LocalIndex::new(HostStore::new(rt.clone()?));
+    let row = format!(in rt.alloc(); "|file://{folder}|{name}")?;
+    look(rt.alloc(), &mut index, row.as_str())
+}
+
 #[test]
 fn looks_in_a_real_folder(rt: HostRuntime) -> Result<(), Fail> {
     let folder = folder(&rt, "index")?;
     lay_out(&rt, folder.as_str())?;
-    let address = format!(in rt.alloc(); "file://{folder}")?;
-    let rows = IN_A_FOLDER.replace(rt.alloc(), "FOLDER", address.as_str())?;
-    let mut index = LocalIndex::new(HostStore::new(rt.clone()?));
-    looks(&rt, rt.alloc(), &mut index, rows.as_str())?;
+    for row in IN_A_FOLDER.lines() {
+        let seen = look_below(&rt, folder.as_str(), field(row, 0))?;
+        same(&rt, row, seen.as_str(), field(row, 1));
+    }
     fs::remove_dir_all(&rt, folder.as_str())?;
     Ok(())
 }

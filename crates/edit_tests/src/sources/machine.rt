@@ -135,13 +135,24 @@ fn steps_below<R: Abort, S: Store>(
     Ok(())
 }
 
+/// Takes the steps of a table in a new folder.
+fn steps_in_a_folder<R: Abort, S: Store>(
+    test: &R,
+    rt: &HostRuntime,
+    store: &mut S,
+    name: &str,
+    rows: &str,
+) -> Result<(), Fail> {
+    let folder = folder(rt, name)?;
+    steps_below(test, rt, store, folder.as_str(), rows)?;
+    fs::remove_dir_all(rt, folder.as_str())?;
+    Ok(())
+}
+
 #[test]
 fn real_files(rt: HostRuntime) -> Result<(), Fail> {
-    let folder = folder(&rt, "files")?;
     let mut store = HostStore::new(rt.clone()?);
-    steps_below(&rt, &rt, &mut store, folder.as_str(), STEPS)?;
-    fs::remove_dir_all(&rt, folder.as_str())?;
-    Ok(())
+    steps_in_a_folder(&rt, &rt, &mut store, "files", STEPS)
 }
 
 // What stands where the file beside cannot be moved over the old one.
@@ -154,9 +165,6 @@ no file beside|kind|/a.new-0||absent";
 
 #[test]
 fn removes_the_file_beside(rt: HostRuntime) -> Result<(), Fail> {
-    let folder = folder(&rt, "beside")?;
     let mut store = HostStore::new(Unmoved(rt.clone()?));
-    steps_below(&rt, &rt, &mut store, folder.as_str(), UNMOVED)?;
-    fs::remove_dir_all(&rt, folder.as_str())?;
-    Ok(())
+    steps_in_a_folder(&rt, &rt, &mut store, "beside", UNMOVED)
 }
