@@ -277,4 +277,3 @@ pub(crate) fn decide(
         near,
     )?)
 }
-

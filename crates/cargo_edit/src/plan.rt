@@ -107,4 +107,3 @@ pub fn plan_upgrade<I: Index>(
         Err(error) => Err(error),
     }
 }
-

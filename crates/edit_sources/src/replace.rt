@@ -5,7 +5,6 @@ use std::io::{ErrorKind, Write};
 use std::os::unix::fs::{MetadataExt, OpenOptionsExt, chown};
 use std::{fs, io};
 
-
 /// How many names beside a file are tried.
 const NAMES: u32 = 16;
 
