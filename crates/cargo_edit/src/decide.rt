@@ -263,6 +263,3 @@ pub(crate) fn decide(
     let near = compatible_candidate(alloc, old, compatible)?;
     Ok(decide_by(alloc, options, pin, selected, old, far, near)?)
 }
-
-#[cfg(test)]
-mod tests;

@@ -142,6 +142,3 @@ pub fn plan_upgrade<I: Index>(
         Err(error) => Err(error),
     }
 }
-
-#[cfg(test)]
-mod tests;

@@ -11,19 +11,13 @@ pub mod host_store;
 pub mod index;
 pub mod index_lines;
 mod index_path;
-#[cfg(test)]
-mod index_tests;
 mod kept;
 pub mod local_index;
 pub mod memory_store;
 pub mod ranking;
-#[cfg(test)]
-mod ranking_tests;
 pub mod registry;
 mod replace;
 pub mod store;
-#[cfg(test)]
-mod store_tests;
 
 pub use cache::IndexCache;
 pub use config::{Config, ConfigSource};

@@ -13,8 +13,6 @@ use std::alloc::Global;
 use url::{ParseError, Url};
 
 mod chain;
-#[cfg(test)]
-mod tests;
 
 pub use chain::CRATES_IO_INDEX;
 

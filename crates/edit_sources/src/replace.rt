@@ -5,9 +5,6 @@ use std::io::{ErrorKind, Write};
 use std::os::unix::fs::{MetadataExt, OpenOptionsExt, chown};
 use std::{fs, io};
 
-#[cfg(test)]
-mod tests;
-
 /// How many names beside a file are tried.
 const NAMES: u32 = 16;
 

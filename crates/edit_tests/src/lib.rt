@@ -6,6 +6,8 @@
 #[cfg(test)]
 mod documents;
 #[cfg(test)]
+mod fields;
+#[cfg(test)]
 mod plans;
 #[cfg(test)]
 mod records;

@@ -1,1 +1,5 @@
 //! Tests of plans.
+mod forms;
+mod refused;
+mod rows;
+mod upgrade;

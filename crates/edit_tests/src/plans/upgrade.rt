@@ -1,0 +1,164 @@
+//! A plan of one manifest, and what is told of it.
+use crate::fields::text;
+use crate::refusals::told;
+use cargo_edit::{Input, Options, Row, UpgradePlan, plan_upgrade};
+use edit_document::CargoResult;
+use edit_sources::{FileIndex, IndexCache};
+use std::alloc::Global;
+use std::str;
+use std::test::Fail;
+
+/// The manifest that is planned for.
+fn input_of(alloc: Global, bytes: &[u8]) -> CargoResult<Input> {
+    Ok(Input {
+        name: String::from_str(alloc, "w")?,
+        path: String::from_str(alloc, "/w/Cargo.toml")?,
+        bytes: Vec::from_slice(alloc, bytes)?,
+        rust_version: None,
+    })
+}
+
+/// A plan of one manifest. Among the flags are `i` for incompatible and `p` for pinned.
+fn planned(
+    alloc: Global,
+    flags: &str,
+    bytes: &[u8],
+    index: &mut IndexCache<FileIndex>,
+) -> CargoResult<UpgradePlan> {
+    let inputs = [input_of(alloc, bytes)?];
+    let options = Options {
+        compatible: true,
+        incompatible: flags.contains('i'),
+        pinned: flags.contains('p'),
+        package: Vec::new(alloc),
+        exclude: Vec::new(alloc),
+        dry_run: false,
+        locked: false,
+        recursive: None,
+        verbosity: 0,
+    };
+    let configs = [Vec::new(alloc)];
+    plan_upgrade(alloc, &options, &inputs, &configs, index)
+}
+
+/// Adds the lines of one name, a version with `!` as a yanked one.
+fn push_lines(lines: &mut String, name: &str, versions: &str) -> Result<(), Fail> {
+    for version in versions.split(' ') {
+        let yanked = version.ends_with('!');
+        let version = version.trim_end_matches('!');
+        writeln!(
+            lines,
+            "{{\"name\":\"{name}\",\"vers\":\"{version}\",\"yanked\":{yanked}}}"
+        )?;
+    }
+    Ok(())
+}
+
+/// An index that has these versions of each of these names.
+pub fn index_of(alloc: Global, names: &str, versions: &str) -> Result<IndexCache<FileIndex>, Fail> {
+    let mut lines = String::new(alloc);
+    for name in names.split(' ') {
+        push_lines(&mut lines, name, versions)?;
+    }
+    let index = FileIndex::read(alloc, lines.as_bytes())?;
+    Ok(IndexCache::new(alloc, index))
+}
+
+/// The manifest that a plan writes, `-` for none.
+fn written(plan: &UpgradePlan) -> &str {
+    match plan.outputs.first() {
+        Some(output) => str::from_utf8(&output.bytes).unwrap_or("no text"),
+        None => "-",
+    }
+}
+
+/// A text, or `-`.
+fn or_dash(text: Option<&String>) -> &str {
+    match text {
+        Some(text) => text.as_str(),
+        None => "-",
+    }
+}
+
+/// Adds a row: the requirement, the compatible version, the latest one, the new requirement, the
+/// reason and the change.
+fn push_row(told: &mut String, row: &Row) -> Result<(), Fail> {
+    writeln!(
+        told,
+        "{} {} {} {} {:?} {:?}",
+        or_dash(row.old.as_ref()),
+        or_dash(row.compatible.as_ref()),
+        or_dash(row.latest.as_ref()),
+        or_dash(row.new.as_ref()),
+        row.reason,
+        row.change
+    )?;
+    Ok(())
+}
+
+/// Adds the rows of a plan.
+fn push_rows(told: &mut String, plan: &UpgradePlan) -> Result<(), Fail> {
+    for row in &plan.rows {
+        push_row(told, row)?;
+    }
+    Ok(())
+}
+
+/// Adds the warnings of a plan.
+fn push_warnings(told: &mut String, plan: &UpgradePlan) -> Result<(), Fail> {
+    for warning in &plan.warnings {
+        writeln!(told, "{}", warning.text)?;
+    }
+    Ok(())
+}
+
+/// Whether a plan changes nothing.
+fn is_settled(plan: &UpgradePlan) -> bool {
+    plan.outputs.is_empty() && plan.rows.iter().all(|row| row.change.is_none())
+}
+
+/// Whether the plan for what a plan writes changes nothing.
+fn settles(
+    alloc: Global,
+    flags: &str,
+    plan: &UpgradePlan,
+    index: &mut IndexCache<FileIndex>,
+) -> bool {
+    match plan.outputs.first() {
+        Some(output) => match planned(alloc, flags, &output.bytes, index) {
+            Ok(next) => is_settled(&next),
+            Err(_) => false,
+        },
+        None => true,
+    }
+}
+
+/// What is told of a plan: what it writes, a line for each row and each warning, and how many looks
+/// were made.
+fn telling(alloc: Global, plan: &UpgradePlan) -> Result<String, Fail> {
+    let mut told = text(alloc, written(plan))?;
+    told.push_str("\n")?;
+    push_rows(&mut told, plan)?;
+    push_warnings(&mut told, plan)?;
+    writeln!(told, "looks: {}", plan.looks.len())?;
+    Ok(told)
+}
+
+/// What is told of the plan for a manifest, if the plan for what it writes changes nothing.
+pub fn outcome(
+    alloc: Global,
+    flags: &str,
+    bytes: &[u8],
+    index: &mut IndexCache<FileIndex>,
+) -> Result<String, Fail> {
+    match planned(alloc, flags, bytes, index) {
+        Ok(plan) => {
+            if settles(alloc, flags, &plan, index) {
+                telling(alloc, &plan)
+            } else {
+                text(alloc, "changes again")
+            }
+        }
+        Err(error) => told(alloc, error),
+    }
+}

@@ -1,0 +1,251 @@
+//! Answers and rankings that are kept.
+use super::looks::{TWO, entries, files_of};
+use crate::fields::{field, same, text};
+use crate::refusals::told;
+use edit_record::Dependency;
+use edit_sources::{FaultStore, FileIndex, Index, IndexCache, IndexKrate, LocalIndex, Ranked};
+use semver::VersionReq;
+use std::alloc::Global;
+use std::process::Abort;
+use std::test::Fail;
+use url::Url;
+
+/// The entries that are kept.
+fn answer(alloc: Global, krate: Option<&IndexKrate>) -> Result<String, Fail> {
+    match krate {
+        Some(krate) => entries(alloc, krate),
+        None => text(alloc, "none"),
+    }
+}
+
+/// The versions of a ranking, the first four.
+fn ranking(alloc: Global, ranked: Option<&Ranked>) -> Result<String, Fail> {
+    let Some(ranked) = ranked else {
+        return text(alloc, "none");
+    };
+    let mut seen = String::new(alloc);
+    for n in 0..4usize {
+        if let Some(version) = ranked.version(n) {
+            write!(seen, "{version};")?;
+        }
+    }
+    Ok(seen)
+}
+
+/// A dependency and its version.
+fn found(alloc: Global, dependency: &Dependency) -> Result<String, Fail> {
+    let version = dependency.version().unwrap_or("no version");
+    Ok(format!(in alloc; "{}@{version}", dependency.name)?)
+}
+
+/// What a ranking leads to for a requirement, or to its latest version for none.
+fn choice(alloc: Global, ranked: Option<&Ranked>, req: &str) -> Result<String, Fail> {
+    let ranked = ranked.ok_or("no ranking")?;
+    let chosen = if req.is_empty() {
+        ranked.latest(alloc, false, None)
+    } else {
+        let req = VersionReq::parse(alloc, req).map_err(|_| "no requirement")?;
+        ranked.compatible(alloc, &req, None)
+    };
+    match chosen {
+        Ok(Some(dependency)) => found(alloc, &dependency),
+        Ok(None) => text(alloc, "none"),
+        Err(error) => told(alloc, error),
+    }
+}
+
+/// What the index is asked for, and what is kept of it.
+fn asked<I: Index>(
+    alloc: Global,
+    cache: &mut IndexCache<I>,
+    registry: &Url,
+    name: &str,
+) -> Result<String, Fail> {
+    match cache.krate(alloc, registry, name) {
+        Ok(krate) => answer(alloc, krate),
+        Err(error) => told(alloc, error),
+    }
+}
+
+/// Whether the index has a name.
+fn has<I: Index>(
+    alloc: Global,
+    cache: &mut IndexCache<I>,
+    registry: &Url,
+    name: &str,
+) -> Result<String, Fail> {
+    match cache.has_krate(alloc, registry, name) {
+        Ok(has) => Ok(format!(in alloc; "{has}")?),
+        Err(error) => told(alloc, error),
+    }
+}
+
+/// Whether the index has a version.
+fn has_version<I: Index>(
+    alloc: Global,
+    cache: &mut IndexCache<I>,
+    registry: &Url,
+    name: &str,
+    version: &str,
+) -> Result<String, Fail> {
+    match cache.has_krate_version(alloc, registry, name, version) {
+        Ok(has) => Ok(format!(in alloc; "{has:?}")?),
+        Err(error) => told(alloc, error),
+    }
+}
+
+/// The ranking of what the index answers.
+fn ranked<I: Index>(
+    alloc: Global,
+    cache: &mut IndexCache<I>,
+    registry: &Url,
+    name: &str,
+) -> Result<String, Fail> {
+    match cache.ranked(alloc, registry, name) {
+        Ok(ranked) => ranking(alloc, ranked),
+        Err(error) => told(alloc, error),
+    }
+}
+
+/// A call that gives nothing.
+fn done<I: Index>(
+    alloc: Global,
+    cache: &mut IndexCache<I>,
+    registry: &Url,
+    row: &str,
+) -> Result<String, Fail> {
+    let name = field(row, 2);
+    let done = match field(row, 1) {
+        "fetch" => cache.fetch(alloc, registry, name),
+        "rank" => cache.rank(alloc, registry, name),
+        _ => cache.update_krate(registry, name),
+    };
+    match done {
+        Ok(()) => text(alloc, "done"),
+        Err(error) => told(alloc, error),
+    }
+}
+
+/// What a call gives. Its row has a name, the call, the name that is looked for, and a version or a
+/// requirement.
+fn call<I: Index>(
+    alloc: Global,
+    cache: &mut IndexCache<I>,
+    registry: &Url,
+    row: &str,
+) -> Result<String, Fail> {
+    let name = field(row, 2);
+    match field(row, 1) {
+        "krate" => asked(alloc, cache, registry, name),
+        "shown" => answer(alloc, cache.shown(registry, name)),
+        "has" => has(alloc, cache, registry, name),
+        "has version" => has_version(alloc, cache, registry, name, field(row, 3)),
+        "ranked" => ranked(alloc, cache, registry, name),
+        "shown ranking" => ranking(alloc, cache.shown_ranking(registry, name)),
+        "choice" => choice(alloc, cache.shown_ranking(registry, name), field(row, 3)),
+        _ => done(alloc, cache, registry, row),
+    }
+}
+
+/// Makes the calls of a table in turn. Behind what its call needs, a row has what is wanted.
+fn calls<R: Abort, I: Index>(
+    rt: &R,
+    alloc: Global,
+    cache: &mut IndexCache<I>,
+    rows: &str,
+) -> Result<(), Fail> {
+    let registry = Url::parse(alloc, "file:///idx").map_err(|_| "no address")?;
+    for row in rows.lines() {
+        let seen = call(alloc, cache, &registry, row)?;
+        same(rt, row, seen.as_str(), field(row, 4));
+    }
+    Ok(())
+}
+
+const BROKEN: &str = "/idx/1/a|{\"name\":\"a\",\"vers\":\"1.0.0\"}@{\"na";
+
+const OVER_BROKEN: &str = "a line cut short|krate|a||30 Invalid index line 2";
+
+const REPAIRED: &str = "/idx/1/a|{\"name\":\"a\",\"vers\":\"1.0.0\"}@";
+
+// The first read fails.
+const OVER_REPAIRED: &str = "\
+the device fails|has|a||3 Failed to read a file
+nothing is kept|shown|a||none
+the next look|krate|a||a 1.0.0.";
+
+/// An index in files, one call of whose store fails.
+fn failing(alloc: Global, files: &str, at: u64) -> Result<LocalIndex<FaultStore>, Fail> {
+    Ok(LocalIndex::new(FaultStore::new(files_of(alloc, files)?, at, 0)))
+}
+
+#[test]
+fn no_refusal_is_kept(rt: HostRuntime) -> Result<(), Fail> {
+    let index = failing(rt.alloc(), BROKEN, 9)?;
+    let mut cache = IndexCache::new(rt.alloc(), index);
+    calls(&rt, rt.alloc(), &mut cache, OVER_BROKEN)?;
+    let index = failing(rt.alloc(), REPAIRED, 0)?;
+    let _broken = cache.replace_index(index);
+    calls(&rt, rt.alloc(), &mut cache, OVER_REPAIRED)
+}
+
+const OVER_TWO: &str = "an answer|fetch|b||done";
+
+// The index has no line any more.
+const OVER_NONE: &str = "\
+again|fetch|b||done
+the answer stays|shown|b||b 2.0.0.
+its version|has version|b|2.0.0|Some(true)
+another text|has version|b|2.0|Some(false)
+no such name|has version|a|2.0.0|None
+forgotten|forget|b||done
+asked once more|has|b||false";
+
+/// A cache over lines.
+fn cache_over(alloc: Global, lines: &[u8]) -> Result<IndexCache<FileIndex>, Fail> {
+    let index = FileIndex::read(alloc, lines)?;
+    Ok(IndexCache::new(alloc, index))
+}
+
+/// Puts an index of other lines below a cache.
+fn replace(alloc: Global, cache: &mut IndexCache<FileIndex>, lines: &[u8]) -> Result<(), Fail> {
+    let index = FileIndex::read(alloc, lines)?;
+    let _old = cache.replace_index(index);
+    Ok(())
+}
+
+#[test]
+fn an_answer_stays(rt: HostRuntime) -> Result<(), Fail> {
+    let mut cache = cache_over(rt.alloc(), TWO)?;
+    calls(&rt, rt.alloc(), &mut cache, OVER_TWO)?;
+    replace(rt.alloc(), &mut cache, b"")?;
+    calls(&rt, rt.alloc(), &mut cache, OVER_NONE)
+}
+
+const FIVE: &[u8] =
+    b"{\"name\":\"a\",\"vers\":\"1.0.0+a\"}\n{\"name\":\"a\",\"vers\":\"1.2.0\",\"rust_version\":\"1.70\"}\n{\"name\":\"a\",\"vers\":\"1.0.0+b\"}\n{\"name\":\"a\",\"vers\":\"bad\"}\n{\"name\":\"a\",\"vers\":\"1.3.0\",\"yanked\":true}\n";
+
+const OVER_FIVE: &str = "\
+greatest first, the later one of equals|ranked|a||1.2.0;1.0.0+b;1.0.0+a;
+the latest|choice|a||a@1.2.0
+below the greatest|choice|a|<1.2|a@1.0.0
+the greatest|choice|a|1|a@1.2.0
+none|choice|a|2|none";
+
+const NEXT: &[u8] = b"{\"name\":\"a\",\"vers\":\"2.0.0\"}";
+
+const OVER_NEXT: &str = "\
+again|rank|a||done
+the ranking stays|shown ranking|a||1.2.0;1.0.0+b;1.0.0+a;
+forgotten|forget|a||done
+no ranking|shown ranking|a||none
+the next ranking|ranked|a||2.0.0;
+no such name|ranked|b||none";
+
+#[test]
+fn ranked_once(rt: HostRuntime) -> Result<(), Fail> {
+    let mut cache = cache_over(rt.alloc(), FIVE)?;
+    calls(&rt, rt.alloc(), &mut cache, OVER_FIVE)?;
+    replace(rt.alloc(), &mut cache, NEXT)?;
+    calls(&rt, rt.alloc(), &mut cache, OVER_NEXT)
+}
