@@ -12,4 +12,6 @@ mod records;
 #[cfg(test)]
 mod refusals;
 #[cfg(test)]
+mod rows;
+#[cfg(test)]
 mod sources;
