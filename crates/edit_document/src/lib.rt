@@ -17,10 +17,3 @@ pub use document::Document;
 pub use errors::{CargoResult, DeviceCall, Error, MergedCommand, MissingKind, MissingNames};
 pub use item::{Item, Keys};
 pub use place::{Place, Step};
-
-#[cfg(test)]
-mod array_tests;
-#[cfg(test)]
-mod tests;
-#[cfg(test)]
-mod value_tests;

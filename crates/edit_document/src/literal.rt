@@ -68,30 +68,3 @@ fn hex_digit(digit: u8) -> char
         b'A' - 10 + digit
     })
 }
-
-#[cfg(test)]
-mod tests {
-    use super::*;
-    use std::test::Fail;
-
-    #[test]
-    fn literals(rt: HostRuntime) -> Result<(), Fail> {
-        for (name, text, want) in [
-            ("plain", "1.0", "\"1.0\""),
-            ("empty", "", "\"\""),
-            ("quotes", "a\"b\\c", "\"a\\\"b\\\\c\""),
-            ("short escapes", "\u{8}\t\n\u{c}\r", "\"\\b\\t\\n\\f\\r\""),
-            (
-                "control characters",
-                "\0\u{1b}\u{7f}",
-                "\"\\u0000\\u001B\\u007F\"",
-            ),
-            ("past ASCII", "é'\u{80}", "\"é'\u{80}\""),
-        ] {
-            let mut out = String::new(rt.alloc());
-            push_literal(&mut out, text)?;
-            assert_eq!(rt; out.as_str(), want, "{name}");
-        }
-        Ok(())
-    }
-}

@@ -7,8 +7,6 @@ pub mod fetch;
 pub mod find;
 pub mod requirement;
 mod requirement_text;
-#[cfg(test)]
-mod tests;
 pub mod version;
 
 pub use crate_spec::CrateSpec;

@@ -1,1 +1,9 @@
 //! Tests of documents.
+mod answers;
+mod arrays;
+mod keys;
+mod literals;
+mod paths;
+mod shown;
+mod texts;
+mod values;

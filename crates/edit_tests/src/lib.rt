@@ -14,4 +14,6 @@ mod records;
 #[cfg(test)]
 mod refusals;
 #[cfg(test)]
+mod rows;
+#[cfg(test)]
 mod sources;

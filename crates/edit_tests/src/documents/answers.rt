@@ -1,0 +1,97 @@
+//! What is answered to a question about a text.
+use super::arrays::ARRAYS;
+use super::keys::FRUITS;
+use super::shown::{place_of, shown};
+use super::texts::MANIFEST;
+use crate::refusals::told;
+use edit_document::{Document, Error};
+use std::alloc::{AllocError, Global};
+use std::test::Fail;
+
+/// The text of a name, or the text itself.
+fn text_named(name: &str) -> &str {
+    match name {
+        "arrays" => ARRAYS,
+        "fruits" => FRUITS,
+        "manifest" => MANIFEST,
+        text => text,
+    }
+}
+
+/// `no` for a text that is no document.
+fn refused(alloc: Global, error: Error) -> Result<String, Fail> {
+    if error.number() == 1 {
+        return Ok(String::from_str(alloc, "no")?);
+    }
+    told(alloc, error)
+}
+
+/// The text of a document.
+fn text_of(alloc: Global, document: &Document) -> Result<String, Fail> {
+    match document.text(alloc) {
+        Ok(text) => Ok(text),
+        Err(error) => told(alloc, error),
+    }
+}
+
+/// `yes` where a document shows the text that was read.
+fn read(alloc: Global, document: &Document, text: &str) -> Result<String, Fail> {
+    let printed = format!(in alloc; "{document}")?;
+    let copied = text_of(alloc, document)?;
+    let is_kept = document.as_str() == text && printed.as_str() == text && copied.as_str() == text;
+    let word = if is_kept { "yes" } else { "another text" };
+    Ok(String::from_str(alloc, word)?)
+}
+
+/// The text of a document with another string at a place, or `no value` where none was written there.
+fn set(alloc: Global, mut document: Document, place: &str, string: &str) -> Result<String, Fail> {
+    let place = place_of(alloc, place)?;
+    let is_value = document.is_value(&place);
+    if !is_value {
+        return Ok(String::from_str(alloc, "no value")?);
+    }
+    match document.set_literal(alloc, &place, string) {
+        Ok(()) => text_of(alloc, &document),
+        Err(error) => told(alloc, error),
+    }
+}
+
+/// What is answered about a document.
+fn asked(alloc: Global, document: Document, call: &str, text: &str) -> Result<String, Fail> {
+    let (question, rest) = call.split_once(' ').unwrap_or((call, ""));
+    match question {
+        "read" => read(alloc, &document, text),
+        "set" => {
+            let (place, string) = rest.split_once(' ').unwrap_or((rest, ""));
+            set(alloc, document, place, string)
+        }
+        _ => shown(alloc, &document, question, rest),
+    }
+}
+
+/// What is answered about a text: `read` and a remark, `set` with a place and a string, or a question and a place.
+pub fn answer(alloc: Global, call: &str, argument: &str) -> Result<String, Fail> {
+    let text = text_named(argument);
+    match Document::read(alloc, text) {
+        Ok(document) => asked(alloc, document, call, text),
+        Err(error) => refused(alloc, error),
+    }
+}
+
+/// A text in which each second part between carets stands as often as told.
+fn repeated(alloc: Global, parts: &str, count: usize) -> Result<String, AllocError> {
+    let mut text = String::new(alloc);
+    let mut is_repeated = false;
+    for part in parts.split('^') {
+        let times = if is_repeated { count } else { 1 };
+        text.push_str(part.repeat(alloc, times)?.as_str())?;
+        is_repeated = !is_repeated;
+    }
+    Ok(text)
+}
+
+/// Whether a text is read in which each second part between carets stands as often as the call says.
+pub fn deep(alloc: Global, call: &str, argument: &str) -> Result<String, Fail> {
+    let text = repeated(alloc, argument, call.parse().unwrap_or(0))?;
+    answer(alloc, "read", text.as_str())
+}

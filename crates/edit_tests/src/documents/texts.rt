@@ -1,0 +1,114 @@
+//! Rows of documents: texts that are read, what they show, and texts that are refused.
+use super::answers::{answer, deep};
+use crate::rows::{LINES, TILDES, rows_hold};
+use std::alloc::{AllocError, Global};
+use std::test::Fail;
+
+/// A manifest with one dependency as an inline table.
+pub const MANIFEST: &str = "[dependencies]\nserde = { version = '1.0', optional = true } # keep\n";
+
+/// Whether a text is read, what it is, and the text; a row ends at `~`.
+const DOCUMENTS: &str = "\
+yes|read nothing|~\
+yes|read an empty header|[a]\n~\
+yes|read two headers|[a]\n[b]\n~\
+no|read a pair and a header of its name|a = true\n[a]\n~\
+no|read a key twice|a = true\na = true\n~\
+no|read a key twice, spelled otherwise|a = true\n\"\\u0061\" = true\n~\
+no|read a header twice|[a]\n[a]\n~\
+yes|read one key in two tables|[a]\nx = true\n[b]\nx = true\n~\
+no|read a member twice|a = { x = true, x = false }\n~\
+no|read a comma after the last member|a = { x = true, }\n~\
+no|read no value|a =\n~\
+yes|read a byte order mark alone|\u{feff}~\
+yes|read a byte order mark first|\u{feff}[a]\n~\
+no|read two byte order marks|\u{feff}\u{feff}[a]\n~\
+no|read a byte order mark behind|[a]\n\u{feff}~\
+no|read an unknown escape|a = \"\\x\"\n";
+
+#[test]
+fn reads_exactly_documents(rt: HostRuntime) -> Result<(), Fail> {
+    rows_hold(&rt, rt.alloc(), DOCUMENTS, TILDES, answer)
+}
+
+/// What a manifest shows.
+const MANIFEST_PLACES: &str = "\
+yes|read|manifest
+table|type|manifest
+table|type dependencies|manifest
+true|is_table_like dependencies|manifest
+false|is_inline_table dependencies|manifest
+inline table|type dependencies/serde|manifest
+true|is_inline_table dependencies/serde|manifest
+2|len dependencies/serde|manifest
+version optional|keys dependencies/serde|manifest
+1.0|string dependencies/serde/version|manifest
+true|is_str dependencies/serde/version|manifest
+string|type dependencies/serde/version|manifest
+-|truth dependencies/serde/version|manifest
+0|len dependencies/serde/version|manifest
+true|truth dependencies/serde/optional|manifest
+boolean|type dependencies/serde/optional|manifest
+-|array dependencies/serde/optional|manifest
+-|type dependencies/serde/#0|manifest
+-|type dependencies/serde/features|manifest";
+
+#[test]
+fn shows_what_was_read(rt: HostRuntime) -> Result<(), Fail> {
+    rows_hold(&rt, rt.alloc(), MANIFEST_PLACES, LINES, answer)
+}
+
+/// Whether a text is read, how often each second of its parts between carets stands there, and the parts: headers and keys
+/// of 79, 80 and 81 parts, the last one beside the others; inline tables and arrays, 1 to 81 in one another.
+const DEEP: &str = "\
+yes|79|[^a.^a]
+no|80|[^a.^a]
+yes|79|^a.^a = true
+no|80|^a.^a = true
+yes|78|[[^a.^a]]
+no|79|[[^a.^a]]
+yes|78|a = { ^a.^a = true }
+no|79|a = { ^a.^a = true }
+yes|0|a = ^{ a = ^{}^}^
+yes|79|a = ^{ a = ^{}^}^
+no|80|a = ^{ a = ^{}^}^
+yes|79|a = ^[^1^]^
+no|80|a = ^[^1^]^
+yes|80|a = ^[^^]^
+no|81|a = ^[^^]^";
+
+#[test]
+fn counts_the_steps_of_a_place(rt: HostRuntime) -> Result<(), Fail> {
+    rows_hold(&rt, rt.alloc(), DEEP, LINES, deep)
+}
+
+#[test]
+fn reads_the_fronts_of_a_manifest(rt: HostRuntime) -> Result<(), Fail> {
+    for n in 0..68 {
+        let front = MANIFEST.get(..n).unwrap_or(MANIFEST);
+        let is_read = n == 0 || n == 14 || n == 15 || n >= 59;
+        let want = if is_read { "yes" } else { "no" };
+        let seen = answer(rt.alloc(), "read", front)?;
+        assert_eq!(rt; seen.as_str(), want, "{n}");
+    }
+    Ok(())
+}
+
+/// A table with ten thousand entries.
+fn ten_thousand(alloc: Global) -> Result<String, AllocError> {
+    let mut text = String::from_str(alloc, "[dependencies]\n")?;
+    for n in 0..10_000 {
+        text.push_str(format!(in alloc; "crate-{n} = \"1.{n}\"\n")?.as_str())?;
+    }
+    Ok(text)
+}
+
+#[test]
+fn reads_ten_thousand_entries(rt: HostRuntime) -> Result<(), Fail> {
+    let text = ten_thousand(rt.alloc())?;
+    let count = answer(rt.alloc(), "len dependencies", text.as_str())?;
+    assert_eq!(rt; count.as_str(), "10000");
+    let last = answer(rt.alloc(), "string dependencies/crate-9999", text.as_str())?;
+    assert_eq!(rt; last.as_str(), "1.9999");
+    Ok(())
+}

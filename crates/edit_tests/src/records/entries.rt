@@ -1,0 +1,189 @@
+//! Rows of an index's entries, of the choice among them, and of Rust versions.
+use super::parts::{entry, failed, requirement, shown, version};
+use crate::refusals::told;
+use crate::rows::{LINES, rows_hold};
+use edit_document::CargoResult;
+use edit_record::{
+    Candidate, Dependency, IndexVersion, RustVersion, dependency_on, find_compatible_version,
+    find_latest_version, read_candidate,
+};
+use std::alloc::{AllocError, Global};
+use std::test::Fail;
+
+/// Versions, whether they are yanked, and the Rust version that they ask for.
+const ENTRIES: &str = "\
+1.0.0+a|no|1.32
+1.2.0|no|1.56
+1.0.0+b|no|
+bad|no|
+1.3.0|yanked|
+1.6.0-rc.1|no|one";
+
+/// The version that is chosen, `-` for none, the words `latest`, `with pre-releases` or a requirement, and a Rust version.
+const GREATEST: &str = "\
+1.2.0|latest|
+1.6.0-rc.1|with pre-releases|
+1.0.0|latest|1.31
+1.2.0|1|
+1.6.0-rc.1|1.6.0-rc.0|1.31
+-|2|
+-|no entries|";
+
+/// The entries of a text.
+fn entries(alloc: Global, rows: &str) -> Result<Vec<IndexVersion>, AllocError> {
+    let mut entries = Vec::new(alloc);
+    for row in rows.lines() {
+        let (version, rest) = row.split_once('|').unwrap_or((row, ""));
+        let (yanked, rust_version) = rest.split_once('|').unwrap_or((rest, ""));
+        entries.push(entry(alloc, version, yanked == "yanked", rust_version)?)?;
+    }
+    Ok(entries)
+}
+
+/// The Rust version of a text, none of the empty one.
+fn rust_version(alloc: Global, text: &str) -> Result<Option<RustVersion>, Fail> {
+    if text.is_empty() {
+        return Ok(None);
+    }
+    match RustVersion::from_str(alloc, text) {
+        Ok(version) => Ok(Some(version)),
+        Err(error) => Err(failed(error)),
+    }
+}
+
+/// The version of a dependency that was found, `-` for none.
+fn found(alloc: Global, answer: CargoResult<Option<Dependency>>) -> Result<String, Fail> {
+    match answer {
+        Ok(Some(dependency)) => {
+            let version = dependency.version().unwrap_or("no version");
+            Ok(String::from_str(alloc, version)?)
+        }
+        Ok(None) => Ok(String::from_str(alloc, "-")?),
+        Err(error) => told(alloc, error),
+    }
+}
+
+/// The version that a requirement chooses.
+fn compatible(
+    alloc: Global,
+    entries: &[IndexVersion],
+    req: &str,
+    rust_version: Option<RustVersion>,
+) -> Result<String, Fail> {
+    let req = requirement(alloc, req)?;
+    found(
+        alloc,
+        find_compatible_version(alloc, entries, &req, rust_version),
+    )
+}
+
+/// The version that is chosen.
+fn greatest(alloc: Global, call: &str, argument: &str) -> Result<String, Fail> {
+    let rust = rust_version(alloc, argument)?;
+    let rows = if call == "no entries" { "" } else { ENTRIES };
+    let entries = entries(alloc, rows)?;
+    let all = entries.as_slice();
+    match call {
+        "latest" => found(alloc, find_latest_version(alloc, all, false, rust)),
+        "with pre-releases" | "no entries" => {
+            found(alloc, find_latest_version(alloc, all, true, rust))
+        }
+        req => compatible(alloc, all, req, rust),
+    }
+}
+
+#[test]
+fn greatest_entries(rt: HostRuntime) -> Result<(), Fail> {
+    rows_hold(&rt, rt.alloc(), GREATEST, LINES, greatest)
+}
+
+/// The Rust version of a text, or the refusal; the Rust version of a version.
+const RUST_VERSIONS: &str = "\
+1.0.0|read|1
+1.32.0|read|1.32
+1.64.2|read|1.64.2
+1.56.0|read|^1.56
+14 Invalid version requirement `1.56+x`|read|1.56+x
+26 rust-version must be a value like `1.32`|read|=1.56
+26 rust-version must be a value like `1.32`|read|1.56.0-beta
+26 rust-version must be a value like `1.32`|read|1.56, 1.57
+26 rust-version must be a value like `1.32`|read|*
+14 Invalid version requirement `stable`|read|stable
+1.2.3|from|1.2.3-rc.1";
+
+/// The numbers of a Rust version.
+fn numbers(alloc: Global, version: RustVersion) -> Result<String, AllocError> {
+    let RustVersion {
+        major,
+        minor,
+        patch,
+    } = version;
+    format!(in alloc; "{major}.{minor}.{patch}")
+}
+
+/// The Rust version that a text reads as, or that a version is.
+fn rust(alloc: Global, call: &str, text: &str) -> Result<String, Fail> {
+    if call == "from" {
+        let version = version(alloc, text)?;
+        return Ok(numbers(alloc, RustVersion::from(&version))?);
+    }
+    match RustVersion::from_str(alloc, text) {
+        Ok(version) => Ok(numbers(alloc, version)?),
+        Err(error) => told(alloc, error),
+    }
+}
+
+#[test]
+fn rust_versions(rt: HostRuntime) -> Result<(), Fail> {
+    rows_hold(&rt, rt.alloc(), RUST_VERSIONS, LINES, rust)
+}
+
+/// Whether a version suits a Rust version, the one that it asks for, and none.
+fn suits(alloc: Global, candidate: &Candidate, other: RustVersion) -> Result<String, AllocError> {
+    let for_other = candidate.is_for(Some(other));
+    let for_its_own = candidate.is_for(candidate.rust_version);
+    let for_none = candidate.is_for(None);
+    format!(in alloc; "{for_other} {for_its_own} {for_none}")
+}
+
+/// What is read of an entry beside a Rust version.
+fn read(alloc: Global, entry: &IndexVersion, other: RustVersion) -> Result<String, Fail> {
+    match read_candidate(alloc, entry) {
+        Ok(Some(candidate)) => Ok(suits(alloc, &candidate, other)?),
+        Ok(None) => Ok(String::from_str(alloc, "-")?),
+        Err(error) => told(alloc, error),
+    }
+}
+
+/// The dependency on what an entry tells of.
+fn depended(alloc: Global, entry: &IndexVersion) -> Result<String, Fail> {
+    match dependency_on(alloc, entry) {
+        Ok(dependency) => Ok(shown(alloc, &dependency)?),
+        Err(error) => told(alloc, error),
+    }
+}
+
+/// The copy of an entry that asks for Rust 1.70.
+fn copied(alloc: Global) -> Result<IndexVersion, Fail> {
+    let entry = entry(alloc, "1.0.0", false, "1.70")?;
+    match entry.try_clone(alloc) {
+        Ok(copy) => Ok(copy),
+        Err(error) => Err(failed(error)),
+    }
+}
+
+#[test]
+fn entries_are_read(rt: HostRuntime) -> Result<(), Fail> {
+    let three = RustVersion {
+        major: 1,
+        minor: 2,
+        patch: 3,
+    };
+    assert!(rt; RustVersion::MIN < three && three < RustVersion::MAX);
+    let entry = copied(rt.alloc())?;
+    let seen = read(rt.alloc(), &entry, three)?;
+    assert_eq!(rt; seen.as_str(), "false true true");
+    let seen = depended(rt.alloc(), &entry)?;
+    assert_eq!(rt; seen.as_str(), "x 1.0.0 -");
+    Ok(())
+}
