@@ -15,7 +15,7 @@ use Rattle.edit_record.proofs.Outcomes.{form-of, text-outcome, valid-version}
 use Rattle.cargo_edit.specs.Decision.{Case, decision, first_row, has_pin_read, is_pin, row_change, row_of, row_text, text_or, when}
 use Rattle.cargo_edit.specs.declared.upgrade.Options.{Options}
 use Rattle.cargo_edit.proofs.Narrowing.{latest-lands}
-use Rattle.cargo_edit.proofs.Settles.{compatible-far, compatible-near, latest-settles}
+use Rattle.cargo_edit.proofs.RaisedAgain.{compatible-far, compatible-near, latest-settles}
 use Rattle.cargo_edit.proofs.Taken.{far-some, far_text, near-some, near_text, newer-latest, when-some}
 
 -- ---- pinned entries

@@ -62,7 +62,7 @@ not-less u v h = ap is_ge (precedence_total.antisymm v u) ∙ reversed (preceden
 own-reverse : (r : Ordering) → r ≡ ordering_reverse r → is_ge r ≡ true
 own-reverse Less e = cc
 own-reverse Equal e = refl
-own-reverse Greater e = cc e
+own-reverse Greater e = refl
 
 not-less-itself : (u : Parts) → is_ge (precedence u u) ≡ true
 not-less-itself u = own-reverse (precedence u u) (precedence_total.antisymm u u)

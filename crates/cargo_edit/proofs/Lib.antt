@@ -13,9 +13,9 @@ pub mod PlanLemmas
 pub mod Taken
 pub mod Narrowing
 pub mod HeadlineRows
-pub mod Settles
+pub mod RaisedAgain
 pub mod DecidedAgain
 pub mod WrittenEntries
 pub mod FixedPoint
-pub mod Settled
+pub mod PlannedAgain
 mod DecisionFacts

@@ -5,7 +5,7 @@ ghost use Rattle.edit_record.specs.RustVersions.{numbers_of};
 ghost use Rattle.edit_sources.specs.IndexCache.{index_of};
 ghost use Rattle.cargo_edit.specs.Address.{default_address};
 ghost use Rattle.cargo_edit.specs.Causes.{IsCause};
-ghost use Rattle.cargo_edit.specs.Headline.{IsSettled, LatestIsNotLess, Narrows, NeedSame, Reaches, bytes_after};
+ghost use Rattle.cargo_edit.specs.Headline.{IsFixedPoint, LatestIsNotLess, Narrows, NeedSame, Reaches, bytes_after};
 ghost use Rattle.cargo_edit.specs.Lines.{line_of};
 ghost use Rattle.cargo_edit.specs.Lists.{Tells};
 ghost use Rattle.cargo_edit.specs.Looked.{Stays};
@@ -117,15 +117,16 @@ pub fn plan_upgrade<I: Index>(
     // the literals of the rows with a change, and no other byte
     ensures outputs { IfOk result (λ p. IfSome (slice_get inputs.now 0)
         (λ input. HasOutputs (string_bytes input.path) input.bytes.items (map line_of p.rows.items) p.outputs.items)) }
-    // a change to the compatible version narrows
+    // a compatible change leaves a requirement that is read, and that admits nothing that the old one did not
     ensures narrowing { IfOk result (λ p. All Narrows (map line_of p.rows.items)) }
     // a change admits the version that it was made for
     ensures reach { IfOk result (λ p. All Reaches (map line_of p.rows.items)) }
+    // where a compatible version is told, a latest one is, and is not less
     ensures latest { IfOk result (λ p. All LatestIsNotLess (map line_of p.rows.items)) }
-    // planned again over the same looks, the bytes that stand then stay
-    ensures fixed_point { IfOk result (λ p. IfSome (slice_get inputs.now 0) (λ input. IsSettled (told_setting 0 options.now
+    // planned again over the same looks, the bytes that stand after the plan stay as they are
+    ensures fixed_point { IfOk result (λ p. IfSome (slice_get inputs.now 0) (λ input. IsFixedPoint (told_setting 0 options.now
         (option_map numbers_of input.rust_version) p.looks.items default_address) (bytes_after input.bytes.items p.outputs.items))) }
-    // and need the same looks
+    // and they need the same looks
     ensures needs { IfOk result (λ p. IfSome (slice_get inputs.now 0)
         (λ input. NeedSame input.bytes.items (bytes_after input.bytes.items p.outputs.items))) }
     ensures looks { IfOk result (λ p. IfSome (slice_get inputs.now 0) (λ input. AreLooks (IsNeeded input.bytes.items)

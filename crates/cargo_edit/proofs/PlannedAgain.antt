@@ -14,7 +14,7 @@ use Rattle.edit_document.proofs.ReplacedStrings.{strings_view}
 use Rattle.edit_record.specs.Requirement.{cut}
 use Rattle.edit_record.specs.RustVersions.{Numbers}
 use Rattle.cargo_edit.specs.Entries.{Tree, entry_names}
-use Rattle.cargo_edit.specs.Headline.{HasNoChange, IsSettled, NeedSame, bytes_after}
+use Rattle.cargo_edit.specs.Headline.{HasNoChange, IsFixedPoint, NeedSame, bytes_after}
 use Rattle.cargo_edit.specs.Looks.{told_setting}
 use Rattle.cargo_edit.specs.Outputs.{AreOutputs, HasOutputs, changed, unchanged}
 use Rattle.cargo_edit.specs.Records.{Seen, seen, seen_at}
@@ -91,7 +91,7 @@ seen-always new form lines es b same f m = ap (λ (x : Text). seen (view_at x)) 
 -- ---- planned again
 
 settled-on : (s : Setting) (new : List ℕ) (form : Text) (lines : List Line) → ((name : List ℕ) → All IsValid (s.versions name))
-    → AreDecided s (seen (view_at form)) lines → IsReadBack new form lines → IsSettled s new
+    → AreDecided s (seen (view_at form)) lines → IsReadBack new form lines → IsFixedPoint s new
 settled-on s new form lines all d b =
     let es = seen (view_at form) in
     let same = seen-always new form lines (renewed es lines) b (seen-back s new form lines d b) in
@@ -109,7 +109,7 @@ settled-on s new form lines all d b =
 -- the bytes that stand after a plan
 pub settled : (i : ℕ) (o : Options) (rust : Option Numbers) (looks : List Look) (address path bytes : List ℕ) (lines : List Line) (outputs : List Output)
     → HasRows (told_setting i o rust looks address) bytes lines → HasOutputs path bytes lines outputs
-    → IsSettled (told_setting i o rust looks address) (bytes_after bytes outputs)
+    → IsFixedPoint (told_setting i o rust looks address) (bytes_after bytes outputs)
 settled i o rust looks address path bytes lines outputs h g =
     settled-on (told_setting i o rust looks address) (bytes_after bytes outputs) h.form lines (λ name. setting-valid i o rust looks address name) h.decided
     (read-back path bytes h.form lines outputs h.manifest g)
