@@ -2,6 +2,7 @@
 use super::looks::{TWO, entries, files_of};
 use crate::fields::{field, same, text};
 use crate::refusals::told;
+use edit_document::CargoResult;
 use edit_record::Dependency;
 use edit_sources::{FaultStore, FileIndex, Index, IndexCache, IndexKrate, LocalIndex, Ranked};
 use semver::VersionReq;
@@ -38,19 +39,32 @@ fn found(alloc: Global, dependency: &Dependency) -> Result<String, Fail> {
     Ok(format!(in alloc; "{}@{version}", dependency.name)?)
 }
 
-/// What a ranking leads to for a requirement, or to its latest version for none.
-fn choice(alloc: Global, ranked: Option<&Ranked>, req: &str) -> Result<String, Fail> {
-    let ranked = ranked.ok_or("no ranking")?;
-    let chosen = if req.is_empty() {
-        ranked.latest(alloc, false, None)
-    } else {
-        let req = VersionReq::parse(alloc, req).map_err(|_| "no requirement")?;
-        ranked.compatible(alloc, &req, None)
-    };
+/// What a choice gives.
+fn chosen(alloc: Global, chosen: CargoResult<Option<Dependency>>) -> Result<String, Fail> {
     match chosen {
         Ok(Some(dependency)) => found(alloc, &dependency),
         Ok(None) => text(alloc, "none"),
         Err(error) => told(alloc, error),
+    }
+}
+
+/// The greatest version of a ranking that a requirement admits.
+fn compatible(alloc: Global, ranked: &Ranked, req: &str) -> Result<String, Fail> {
+    match VersionReq::parse(alloc, req) {
+        Ok(req) => chosen(alloc, ranked.compatible(alloc, &req, None)),
+        Err(_) => text(alloc, "no requirement"),
+    }
+}
+
+/// What a ranking leads to for a requirement, or to its latest version for none.
+fn choice(alloc: Global, ranked: Option<&Ranked>, req: &str) -> Result<String, Fail> {
+    let Some(ranked) = ranked else {
+        return text(alloc, "no ranking");
+    };
+    if req.is_empty() {
+        chosen(alloc, ranked.latest(alloc, false, None))
+    } else {
+        compatible(alloc, ranked, req)
     }
 }
 
@@ -179,13 +193,16 @@ fn failing(alloc: Global, files: &str, at: u64) -> Result<LocalIndex<FaultStore>
     Ok(LocalIndex::new(FaultStore::new(files_of(alloc, files)?, at, 0)))
 }
 
+/// Puts another index below a cache.
+fn replace<I: Index + Drop>(cache: &mut IndexCache<I>, index: I) {
+    let _old = cache.replace_index(index);
+}
+
 #[test]
 fn no_refusal_is_kept(rt: HostRuntime) -> Result<(), Fail> {
-    let index = failing(rt.alloc(), BROKEN, 9)?;
-    let mut cache = IndexCache::new(rt.alloc(), index);
+    let mut cache = IndexCache::new(rt.alloc(), failing(rt.alloc(), BROKEN, 9)?);
     calls(&rt, rt.alloc(), &mut cache, OVER_BROKEN)?;
-    let index = failing(rt.alloc(), REPAIRED, 0)?;
-    let _broken = cache.replace_index(index);
+    replace(&mut cache, failing(rt.alloc(), REPAIRED, 0)?);
     calls(&rt, rt.alloc(), &mut cache, OVER_REPAIRED)
 }
 
@@ -207,18 +224,11 @@ fn cache_over(alloc: Global, lines: &[u8]) -> Result<IndexCache<FileIndex>, Fail
     Ok(IndexCache::new(alloc, index))
 }
 
-/// Puts an index of other lines below a cache.
-fn replace(alloc: Global, cache: &mut IndexCache<FileIndex>, lines: &[u8]) -> Result<(), Fail> {
-    let index = FileIndex::read(alloc, lines)?;
-    let _old = cache.replace_index(index);
-    Ok(())
-}
-
 #[test]
 fn an_answer_stays(rt: HostRuntime) -> Result<(), Fail> {
     let mut cache = cache_over(rt.alloc(), TWO)?;
     calls(&rt, rt.alloc(), &mut cache, OVER_TWO)?;
-    replace(rt.alloc(), &mut cache, b"")?;
+    replace(&mut cache, FileIndex::read(rt.alloc(), b"")?);
     calls(&rt, rt.alloc(), &mut cache, OVER_NONE)
 }
 
@@ -246,6 +256,6 @@ no such name|ranked|b||none";
 fn ranked_once(rt: HostRuntime) -> Result<(), Fail> {
     let mut cache = cache_over(rt.alloc(), FIVE)?;
     calls(&rt, rt.alloc(), &mut cache, OVER_FIVE)?;
-    replace(rt.alloc(), &mut cache, NEXT)?;
+    replace(&mut cache, FileIndex::read(rt.alloc(), NEXT)?);
     calls(&rt, rt.alloc(), &mut cache, OVER_NEXT)
 }

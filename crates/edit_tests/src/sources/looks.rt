@@ -150,11 +150,17 @@ const IN_A_FOLDER: &str = "\
 serde|serde 1.2.3.
 se|none";
 
-/// Lays out the index of one crate below a folder.
-fn lay_out(rt: &HostRuntime, folder: &str) -> Result<(), Fail> {
+/// Makes the folder of a crate's index lines.
+fn make_folder(rt: &HostRuntime, folder: &str) -> Result<(), Fail> {
     let below = format!(in rt.alloc(); "{folder}/se/rd")?;
     fs::create_dir_all(rt, below.as_str())?;
-    let file = format!(in rt.alloc(); "{below}/serde")?;
+    Ok(())
+}
+
+/// Lays out the index of one crate below a folder.
+fn lay_out(rt: &HostRuntime, folder: &str) -> Result<(), Fail> {
+    make_folder(rt, folder)?;
+    let file = format!(in rt.alloc(); "{folder}/se/rd/serde")?;
     fs::write(
         rt,
         file.as_str(),
