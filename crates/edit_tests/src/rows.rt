@@ -30,7 +30,10 @@ pub const SEMICOLONS: Ends = Ends {
 
 /// The text before the first end of a field, and the text behind it.
 fn cut(text: &str, end: char) -> (&str, &str) {
-    text.split_once(end).unwrap_or((text, text))
+    match text.split_once(end) {
+        Some(parts) => parts,
+        None => (text, text),
+    }
 }
 
 /// Asserts each row of a table: what is wanted, the call, and the argument, which is the rest of the row.

@@ -20,10 +20,11 @@ fn text_named(name: &str) -> &str {
 
 /// `no` for a text that is no document.
 fn refused(alloc: Global, error: Error) -> Result<String, Fail> {
-    if error.number() == 1 {
+    let refusal = told(alloc, error)?;
+    if refusal.as_str() == "1 Unable to parse Cargo.toml" {
         return Ok(String::from_str(alloc, "no")?);
     }
-    told(alloc, error)
+    Ok(refusal)
 }
 
 /// The text of a document.

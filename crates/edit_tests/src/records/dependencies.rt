@@ -1,5 +1,5 @@
 //! Rows of dependencies, and of words that name a crate.
-use super::parts::{failed, shown};
+use super::parts::shown;
 use crate::refusals::told;
 use crate::rows::{LINES, rows_hold};
 use edit_record::{
@@ -53,10 +53,8 @@ serde - -|bare|serde";
 
 /// A registry with a version.
 fn registry(alloc: Global, version: &str) -> Result<Source, Fail> {
-    match RegistrySource::new(alloc, version) {
-        Ok(source) => Ok(Source::Registry(source)),
-        Err(error) => Err(failed(error)),
-    }
+    let source = RegistrySource::new(alloc, version).ok();
+    Ok(Source::Registry(source.ok_or("a registry")?))
 }
 
 /// A folder with a version.
@@ -92,10 +90,10 @@ fn source(alloc: Global, kind: &str, version: &str) -> Result<Option<Source>, Fa
 
 /// A dependency with a source, or without one.
 fn made(alloc: Global, name: &str, source: Option<Source>) -> Result<Dependency, Fail> {
-    match (Dependency::new(alloc, name), source) {
-        (Ok(bare), Some(source)) => Ok(bare.set_source(source)),
-        (Ok(bare), None) => Ok(bare),
-        (Err(error), _) => Err(failed(error)),
+    let bare = Dependency::new(alloc, name).ok().ok_or("a dependency")?;
+    match source {
+        Some(source) => Ok(bare.set_source(source)),
+        None => Ok(bare),
     }
 }
 

@@ -1,5 +1,5 @@
 //! Rows of an index's entries, of the choice among them, and of Rust versions.
-use super::parts::{entry, failed, requirement, shown, version};
+use super::parts::{entry, requirement, shown, version};
 use crate::refusals::told;
 use crate::rows::{LINES, rows_hold};
 use edit_document::CargoResult;
@@ -45,20 +45,23 @@ fn rust_version(alloc: Global, text: &str) -> Result<Option<RustVersion>, Fail> 
     if text.is_empty() {
         return Ok(None);
     }
-    match RustVersion::from_str(alloc, text) {
-        Ok(version) => Ok(Some(version)),
-        Err(error) => Err(failed(error)),
-    }
+    let version = RustVersion::from_str(alloc, text).ok();
+    Ok(Some(version.ok_or("a Rust version")?))
 }
 
-/// The version of a dependency that was found, `-` for none.
+/// The version of a dependency, `-` for no dependency.
+fn version_of(alloc: Global, found: Option<&Dependency>) -> Result<String, AllocError> {
+    let version = match found {
+        Some(dependency) => dependency.version().unwrap_or("no version"),
+        None => "-",
+    };
+    String::from_str(alloc, version)
+}
+
+/// The version of a dependency that was found, or the refusal.
 fn found(alloc: Global, answer: CargoResult<Option<Dependency>>) -> Result<String, Fail> {
     match answer {
-        Ok(Some(dependency)) => {
-            let version = dependency.version().unwrap_or("no version");
-            Ok(String::from_str(alloc, version)?)
-        }
-        Ok(None) => Ok(String::from_str(alloc, "-")?),
+        Ok(found) => Ok(version_of(alloc, found.as_ref())?),
         Err(error) => told(alloc, error),
     }
 }
@@ -138,18 +141,24 @@ fn rust_versions(rt: HostRuntime) -> Result<(), Fail> {
     rows_hold(&rt, rt.alloc(), RUST_VERSIONS, LINES, rust)
 }
 
-/// Whether a version suits a Rust version, the one that it asks for, and none.
-fn suits(alloc: Global, candidate: &Candidate, other: RustVersion) -> Result<String, AllocError> {
-    let for_other = candidate.is_for(Some(other));
-    let for_its_own = candidate.is_for(candidate.rust_version);
-    let for_none = candidate.is_for(None);
-    format!(in alloc; "{for_other} {for_its_own} {for_none}")
+/// Whether a version suits the Rust version that it asks for, and none, and not another one.
+fn suits_its_own(candidate: &Candidate, other: RustVersion) -> bool {
+    candidate.is_for(candidate.rust_version)
+        && candidate.is_for(None)
+        && !candidate.is_for(Some(other))
 }
 
-/// What is read of an entry beside a Rust version.
+/// Which Rust versions an entry suits, `-` where it is not read.
 fn read(alloc: Global, entry: &IndexVersion, other: RustVersion) -> Result<String, Fail> {
     match read_candidate(alloc, entry) {
-        Ok(Some(candidate)) => Ok(suits(alloc, &candidate, other)?),
+        Ok(Some(candidate)) => {
+            let word = if suits_its_own(&candidate, other) {
+                "its own"
+            } else {
+                "others"
+            };
+            Ok(String::from_str(alloc, word)?)
+        }
         Ok(None) => Ok(String::from_str(alloc, "-")?),
         Err(error) => told(alloc, error),
     }
@@ -166,10 +175,7 @@ fn depended(alloc: Global, entry: &IndexVersion) -> Result<String, Fail> {
 /// The copy of an entry that asks for Rust 1.70.
 fn copied(alloc: Global) -> Result<IndexVersion, Fail> {
     let entry = entry(alloc, "1.0.0", false, "1.70")?;
-    match entry.try_clone(alloc) {
-        Ok(copy) => Ok(copy),
-        Err(error) => Err(failed(error)),
-    }
+    Ok(entry.try_clone(alloc).ok().ok_or("a copy")?)
 }
 
 #[test]
@@ -182,7 +188,7 @@ fn entries_are_read(rt: HostRuntime) -> Result<(), Fail> {
     assert!(rt; RustVersion::MIN < three && three < RustVersion::MAX);
     let entry = copied(rt.alloc())?;
     let seen = read(rt.alloc(), &entry, three)?;
-    assert_eq!(rt; seen.as_str(), "false true true");
+    assert_eq!(rt; seen.as_str(), "its own");
     let seen = depended(rt.alloc(), &entry)?;
     assert_eq!(rt; seen.as_str(), "x 1.0.0 -");
     Ok(())

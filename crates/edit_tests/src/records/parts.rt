@@ -1,15 +1,9 @@
 //! What the tests of records make and tell.
 use crate::refusals::told;
-use edit_document::Error;
 use edit_record::{Dependency, IndexVersion, upgrade_requirement};
 use semver::{Version, VersionReq};
 use std::alloc::{AllocError, Global};
 use std::test::Fail;
-
-/// The failure of a test at a refusal that no row wants.
-pub fn failed(error: Error) -> Fail {
-    Fail::new(error.number())
-}
 
 /// A version that a row names.
 pub fn version(alloc: Global, text: &str) -> Result<Version, Fail> {

@@ -121,22 +121,23 @@ true|=1.0.0-rc.1|1.0.0-rc.1|1.0.0
 false|1.2.3+build|1.2.3|1.2.2
 false|18446744073709551615|18446744073709551615.0.0|1.0.0";
 
+/// Whether a requirement admits a version.
+fn is_admitted(alloc: Global, req: &str, text: &str) -> Result<bool, Fail> {
+    let read = requirement(alloc, req)?;
+    let version = version(alloc, text)?;
+    Ok(admits(&read, &version))
+}
+
 /// Whether a requirement's text allows a pre-release, where it admits the first version and not the second one.
 fn admitted(alloc: Global, req: &str, argument: &str) -> Result<String, Fail> {
     let (inside, outside) = argument.split_once('|').unwrap_or((argument, ""));
-    let read = requirement(alloc, req)?;
-    let inside = version(alloc, inside)?;
-    let outside = version(alloc, outside)?;
-    let word = match (admits(&read, &inside), admits(&read, &outside)) {
-        (false, _) => "too few",
-        (true, true) => "too many",
-        (true, false) => {
-            if allows_prerelease(req) {
-                "true"
-            } else {
-                "false"
-            }
-        }
+    let admits_inside = is_admitted(alloc, req, inside)?;
+    let admits_outside = is_admitted(alloc, req, outside)?;
+    let word = match (admits_inside, admits_outside, allows_prerelease(req)) {
+        (false, _, _) => "too few",
+        (true, true, _) => "too many",
+        (true, false, true) => "true",
+        (true, false, false) => "false",
     };
     Ok(String::from_str(alloc, word)?)
 }

@@ -10,23 +10,23 @@ use std::test::Fail;
 
 /// A version without its build metadata, whether it has a pre-release, what raising that text to it writes, and the version.
 const READ: &str = "\
-0.0.4 false -|read|0.0.4
-10.20.30 false -|read|10.20.30
-1.1.2-prerelease true -|read|1.1.2-prerelease+meta
-1.1.2 false -|read|1.1.2+meta-valid
-1.0.0-alpha.beta.1 true -|read|1.0.0-alpha.beta.1
-1.0.0-alpha0.valid true -|read|1.0.0-alpha0.valid
-1.0.0-alpha.0valid true -|read|1.0.0-alpha.0valid
-1.0.0-alpha-a.b-c-long true -|read|1.0.0-alpha-a.b-c-long+build.1-aef.1-its-okay
-2.0.0-rc.1 true -|read|2.0.0-rc.1+build.123
-10.2.3-DEV-SNAPSHOT true -|read|10.2.3-DEV-SNAPSHOT
-2.0.0 false -|read|2.0.0+build.1848
-1.2.3----RC-SNAPSHOT.12.9.1--.12 true -|read|1.2.3----RC-SNAPSHOT.12.9.1--.12+788
-1.0.0 false -|read|1.0.0+0.build.1-rc.10000aaa-kk-0.1
-1.0.0-0A.is.legal true -|read|1.0.0-0A.is.legal
-18446744073709551615.0.0 false -|read|18446744073709551615.0.0
-1.0.0-99999999999999999999 true -|read|1.0.0-99999999999999999999
-1.0.0 false -|read|1.0.0+001";
+0.0.4 release -|read|0.0.4
+10.20.30 release -|read|10.20.30
+1.1.2-prerelease pre-release -|read|1.1.2-prerelease+meta
+1.1.2 release -|read|1.1.2+meta-valid
+1.0.0-alpha.beta.1 pre-release -|read|1.0.0-alpha.beta.1
+1.0.0-alpha0.valid pre-release -|read|1.0.0-alpha0.valid
+1.0.0-alpha.0valid pre-release -|read|1.0.0-alpha.0valid
+1.0.0-alpha-a.b-c-long pre-release -|read|1.0.0-alpha-a.b-c-long+build.1-aef.1-its-okay
+2.0.0-rc.1 pre-release -|read|2.0.0-rc.1+build.123
+10.2.3-DEV-SNAPSHOT pre-release -|read|10.2.3-DEV-SNAPSHOT
+2.0.0 release -|read|2.0.0+build.1848
+1.2.3----RC-SNAPSHOT.12.9.1--.12 pre-release -|read|1.2.3----RC-SNAPSHOT.12.9.1--.12+788
+1.0.0 release -|read|1.0.0+0.build.1-rc.10000aaa-kk-0.1
+1.0.0-0A.is.legal pre-release -|read|1.0.0-0A.is.legal
+18446744073709551615.0.0 release -|read|18446744073709551615.0.0
+1.0.0-99999999999999999999 pre-release -|read|1.0.0-99999999999999999999
+1.0.0 release -|read|1.0.0+001";
 
 /// Texts that are no versions.
 const UNREAD: &str =
@@ -35,9 +35,13 @@ const UNREAD: &str =
 /// What a version's text is cut to, whether it has a pre-release, and what raising that text to it writes.
 fn shown(alloc: Global, candidate: &Candidate, text: &str) -> Result<String, Fail> {
     let plain = cut(text);
-    let is_prerelease = candidate.version.is_prerelease();
+    let kind = if candidate.version.is_prerelease() {
+        "pre-release"
+    } else {
+        "release"
+    };
     let raised = upgraded(alloc, plain, text)?;
-    Ok(format!(in alloc; "{plain} {is_prerelease} {raised}")?)
+    Ok(format!(in alloc; "{plain} {kind} {raised}")?)
 }
 
 /// What is read of a version's text, or the text itself where it is none.
