@@ -67,6 +67,7 @@ pub mod WalkedValues
 pub mod WalkedLines
 pub mod Decoded
 pub mod Contents
+pub mod Kept
 pub mod StandardFacts
 pub mod NumberFacts
 pub mod ArrayFacts
