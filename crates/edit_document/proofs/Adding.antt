@@ -23,29 +23,29 @@ use Rattle.edit_document.proofs.ListElements.{OneMore, OneSet, changed, in_push,
 
 -- ---- nodes and spots
 
-pub holds_set : (nodes : List Node) (spots : List Spot) (t : ℕ) (new : Node) (s : Spot) → Holds nodes spots → t < length nodes → Keeps new s → Holds (slice_set nodes t new) (slice_set spots t s)
-holds_set nodes spots t new s holds lt keeps = record {
+pub holds_set : {text : List ℕ} (nodes : List Node) (spots : List Spot) (t : ℕ) (new : Node) (s : Spot) → Holds text nodes spots → t < length nodes → Keeps text new s → Holds text (slice_set nodes t new) (slice_set spots t s)
+holds_set {text} nodes spots t new s holds lt keeps = record {
   len = length-set nodes t new ∙ holds.len ∙ sym (length-set spots t s);
   each = λ i node spot a b. go i node spot (in_set nodes t new i node lt a) (in_set spots t s i spot (let l = holds.len in omega arith) b);
 }
   where
-    go : (i : ℕ) (node : Node) (spot : Spot) → OneSet nodes t new i node → OneSet spots t s i spot → Keeps node spot
-    go i node spot (changed a e) (changed b f) = subst (λ (y : Spot). Keeps node y) (sym f) (subst (λ (y : Node). Keeps y s) (sym e) keeps)
+    go : (i : ℕ) (node : Node) (spot : Spot) → OneSet nodes t new i node → OneSet spots t s i spot → Keeps text node spot
+    go i node spot (changed a e) (changed b f) = subst (λ (y : Spot). Keeps text node y) (sym f) (subst (λ (y : Node). Keeps text y s) (sym e) keeps)
     go i node spot (changed a e) (other b f) = absurd (b a)
     go i node spot (other a e) (changed b f) = absurd (a b)
     go i node spot (other a e) (other b f) = holds.each i node spot e f
 
-pub holds_push : (nodes : List Node) (spots : List Spot) (last : Node) (s : Spot) → Holds nodes spots → Keeps last s → Holds (nodes ++ last ∷ []) (spots ++ s ∷ [])
-holds_push nodes spots last s holds keeps = record {
+pub holds_push : {text : List ℕ} (nodes : List Node) (spots : List Spot) (last : Node) (s : Spot) → Holds text nodes spots → Keeps text last s → Holds text (nodes ++ last ∷ []) (spots ++ s ∷ [])
+holds_push {text} nodes spots last s holds keeps = record {
   len = length_push nodes last ∙ ap (λ (n : ℕ). n + 1) holds.len ∙ sym (length_push spots s);
   each = λ i node spot a b. go i node spot (in_push nodes last i node a) (in_push spots s i spot b);
 }
   where
-    go : (i : ℕ) (node : Node) (spot : Spot) → OneMore nodes last i node → OneMore spots s i spot → Keeps node spot
+    go : (i : ℕ) (node : Node) (spot : Spot) → OneMore nodes last i node → OneMore spots s i spot → Keeps text node spot
     go i node spot (stood a e) (stood b f) = holds.each i node spot e f
     go i node spot (stood a e) (newest b f) = absurd (let l = holds.len in omega arith)
     go i node spot (newest a e) (stood b f) = absurd (let l = holds.len in omega arith)
-    go i node spot (newest a e) (newest b f) = subst (λ (y : Spot). Keeps node y) (sym f) (subst (λ (y : Node). Keeps y s) (sym e) keeps)
+    go i node spot (newest a e) (newest b f) = subst (λ (y : Spot). Keeps text node y) (sym f) (subst (λ (y : Node). Keeps text y s) (sym e) keeps)
 
 pub spot_of_node : (nodes : List Node) (spots : List Spot) (n : ℕ) (node : Node) → length nodes ≡ length spots → slice_get nodes n ≡ Some node → (s : Spot) × (slice_get spots n ≡ Some s)
 spot_of_node [] [] n node l e = absurd cc
@@ -55,13 +55,13 @@ spot_of_node (x ∷ xs) (s ∷ ss) zero node l e = (s, refl)
 spot_of_node (x ∷ xs) (s ∷ ss) (suc n) node l e = spot_of_node xs ss n node (omega arith) e
 
 -- the node of a number that is read, and its spot
-pub record Kept (nodes : List Node) (spots : List Spot) (t : ℕ) (node : Node) : Type 0 where
+pub record Kept (text : List ℕ) (nodes : List Node) (spots : List Spot) (t : ℕ) (node : Node) : Type 0 where
   pub stands : slice_get nodes t ≡ Some node
   pub spot : Spot
   pub spot_is : slice_get spots t ≡ Some spot
-  pub keeps : Keeps node spot
+  pub keeps : Keeps text node spot
 
-pub kept_at : (nodes : List Node) (spots : List Spot) (t : ℕ) (node : Node) → Holds nodes spots → t < length nodes → node ≡ get_or nodes t node → Kept nodes spots t node
+pub kept_at : {text : List ℕ} (nodes : List Node) (spots : List Spot) (t : ℕ) (node : Node) → Holds text nodes spots → t < length nodes → node ≡ get_or nodes t node → Kept text nodes spots t node
 kept_at nodes spots t node holds lt is =
     let there = slice_get_read nodes (length nodes) t node refl lt is in
     let s = spot_of_node nodes spots t node holds.len there in
@@ -69,26 +69,26 @@ kept_at nodes spots t node holds lt is =
 
 -- ---- a place that is taken again
 
-pub again_past : (nodes : List Node) (spots : List Spot) (t : ℕ) (taken : Taken) → Holds nodes spots → length nodes ≤ t → taken_again spots t taken ≡ None
+pub again_past : {text : List ℕ} (nodes : List Node) (spots : List Spot) (t : ℕ) (taken : Taken) → Holds text nodes spots → length nodes ≤ t → taken_again spots t taken ≡ None
 unfolding taken_again
 again_past nodes spots t taken holds le = rw (slice_get_past spots t (let l = holds.len in omega arith)) refl
 
-pub again_stopped : (nodes : List Node) (spots : List Spot) (t : ℕ) (node : Node) (taken : Taken) → Holds nodes spots → t < length nodes → node ≡ get_or nodes t node → joins node.taken taken ≡ false → taken_again spots t taken ≡ None
+pub again_stopped : {text : List ℕ} (nodes : List Node) (spots : List Spot) (t : ℕ) (node : Node) (taken : Taken) → Holds text nodes spots → t < length nodes → node ≡ get_or nodes t node → joins node.taken taken ≡ false → taken_again spots t taken ≡ None
 unfolding taken_again
 again_stopped nodes spots t node taken holds lt is refusal =
     let k = kept_at nodes spots t node holds lt is in
     let test : joins k.spot.taken taken ≡ false = ap (λ (b : Taken). joins b taken) (sym k.keeps.taken) ∙ refusal in
     rw (k.spot_is, test) refl
 
-pub again_done : (nodes : List Node) (spots : List Spot) (t : ℕ) (node old : Node) (taken now : Taken) → Holds nodes spots → t < length nodes → node ≡ get_or nodes t node → old ≡ get_or nodes t old → joins node.taken taken ≡ true → now ≡ stronger node.taken taken
-    → Adds (slice_set nodes t (record old { taken = now })) (taken_again spots t taken) true
+pub again_done : {text : List ℕ} (nodes : List Node) (spots : List Spot) (t : ℕ) (node old : Node) (taken now : Taken) → Holds text nodes spots → t < length nodes → node ≡ get_or nodes t node → old ≡ get_or nodes t old → joins node.taken taken ≡ true → now ≡ stronger node.taken taken
+    → Adds text (slice_set nodes t (record old { taken = now })) (taken_again spots t taken) true
 unfolding taken_again
-again_done nodes spots t node old taken now holds lt is was granted strong =
+again_done {text} nodes spots t node old taken now holds lt is was granted strong =
     let k = kept_at nodes spots t node holds lt is in
     let one : old ≡ node = same_Some old node (sym (slice_get_read nodes (length nodes) t old refl lt was) ∙ k.stands) in
     let test : joins k.spot.taken taken ≡ true = ap (λ (b : Taken). joins b taken) (sym k.keeps.taken) ∙ granted in
-    let keeps : Keeps (record old { taken = now }) (with_taken k.spot taken) =
-    subst (λ (n : Node). Keeps (record n { taken = now }) (with_taken k.spot taken)) (sym one)
+    let keeps : Keeps text (record old { taken = now }) (with_taken k.spot taken) =
+    subst (λ (n : Node). Keeps text (record n { taken = now }) (with_taken k.spot taken)) (sym one)
     (record { shape = k.keeps.shape; taken = strong ∙ ap (λ (b : Taken). stronger b taken) k.keeps.taken; steps = k.keeps.steps; members = k.keeps.members; elements = k.keeps.elements; span = k.keeps.span }) in
     (slice_set spots t (with_taken k.spot taken), rw (k.spot_is, test) refl, holds_set nodes spots t (record old { taken = now }) (with_taken k.spot taken) holds lt keeps)
 
@@ -98,10 +98,10 @@ lookup_seen : {X : Type 0} (es : List (String Global × X)) (name : List ℕ) �
 lookup_seen [] name = refl
 lookup_seen {X} (e ∷ es) name = ap (λ (o : Option X). cond (bytes_eq name (string_bytes e.0)) (Some e.1) o) (lookup_seen es name)
 
-pub below_node : (node : Node) (s : Spot) (name : List ℕ) → Keeps node s → below s (key name) ≡ get_by_text node.members name
+pub below_node : {text : List ℕ} (node : Node) (s : Spot) (name : List ℕ) → Keeps text node s → below s (key name) ≡ get_by_text node.members name
 below_node node s name k = ap (lookup (λ n. bytes_eq name n)) (sym k.members) ∙ lookup_seen node.members.entries name
 
-pub child_past : (nodes : List Node) (spots : List Spot) (t : ℕ) (name : List ℕ) → Holds nodes spots → length nodes ≤ t → child spots t name ≡ None
+pub child_past : {text : List ℕ} (nodes : List Node) (spots : List Spot) (t : ℕ) (name : List ℕ) → Holds text nodes spots → length nodes ≤ t → child spots t name ≡ None
 unfolding child
 child_past nodes spots t name holds le = rw (slice_get_past spots t (let l = holds.len in omega arith)) refl
 
@@ -109,14 +109,14 @@ pub child_is : (spots : List Spot) (t : ℕ) (s : Spot) (name : List ℕ) → sl
 unfolding child
 child_is spots t s name e = rw e refl
 
-pub child_found : (nodes : List Node) (spots : List Spot) (t : ℕ) (node : Node) (name : List ℕ) → Holds nodes spots → t < length nodes → node ≡ get_or nodes t node → child spots t name ≡ get_by_text node.members name
+pub child_found : {text : List ℕ} (nodes : List Node) (spots : List Spot) (t : ℕ) (node : Node) (name : List ℕ) → Holds text nodes spots → t < length nodes → node ≡ get_or nodes t node → child spots t name ≡ get_by_text node.members name
 child_found nodes spots t node name holds lt is =
     let k = kept_at nodes spots t node holds lt is in
     child_is spots t k.spot name k.spot_is ∙ below_node node k.spot name k.keeps
 
 -- ---- targets
 
-pub target_past : (nodes : List Node) (spots : List Spot) (t : ℕ) → Holds nodes spots → length nodes ≤ t → target_of spots t Super ≡ t
+pub target_past : {text : List ℕ} (nodes : List Node) (spots : List Spot) (t : ℕ) → Holds text nodes spots → length nodes ≤ t → target_of spots t Super ≡ t
 unfolding target_of
 target_past nodes spots t holds le = rw (slice_get_past spots t (let l = holds.len in omega arith)) refl
 
@@ -124,10 +124,10 @@ pub target_is : (spots : List Spot) (t : ℕ) (s : Spot) → slice_get spots t �
 unfolding target_of
 target_is spots t s e = rw e refl
 
-pub target_found : (nodes : List Node) (spots : List Spot) (t : ℕ) (node : Node) → Holds nodes spots → t < length nodes → node ≡ get_or nodes t node → target_of spots t Super ≡ unwrap_or (last_table (shape_of node.content) node.elements.items) t
-target_found nodes spots t node holds lt is =
+pub target_found : {text : List ℕ} (nodes : List Node) (spots : List Spot) (t : ℕ) (node : Node) → Holds text nodes spots → t < length nodes → node ≡ get_or nodes t node → target_of spots t Super ≡ unwrap_or (last_table (shape_of text node.content) node.elements.items) t
+target_found {text} nodes spots t node holds lt is =
     let k = kept_at nodes spots t node holds lt is in
-    target_is spots t k.spot k.spot_is ∙ ap (λ (x : Shape). unwrap_or (last_table x k.spot.elements) t) (sym k.keeps.shape) ∙ ap (λ (ns : List ℕ). unwrap_or (last_table (shape_of node.content) ns) t) (sym k.keeps.elements)
+    target_is spots t k.spot k.spot_is ∙ ap (λ (x : Shape). unwrap_or (last_table x k.spot.elements) t) (sym k.keeps.shape) ∙ ap (λ (ns : List ℕ). unwrap_or (last_table (shape_of text node.content) ns) t) (sym k.keeps.elements)
 
 pub target_other : (spots : List Spot) (t : ℕ) (taken : Taken) → (taken ≡ Super → ⊥) → target_of spots t taken ≡ t
 unfolding target_of
@@ -146,7 +146,7 @@ deepest n e = grind (arith, nat_tests)
 pub not_deepest : (n : ℕ) → nat_le 80 n ≡ false → n < 80
 not_deepest n e = grind (arith, nat_tests)
 
-pub added_past : (nodes : List Node) (spots : List Spot) (t : ℕ) (name : List ℕ) (shape : Shape) (taken : Taken) (span : Option Span) → Holds nodes spots → length nodes ≤ t → added spots t name shape taken span ≡ None
+pub added_past : {text : List ℕ} (nodes : List Node) (spots : List Spot) (t : ℕ) (name : List ℕ) (shape : Shape) (taken : Taken) (span : Option Span) → Holds text nodes spots → length nodes ≤ t → added spots t name shape taken span ≡ None
 unfolding added
 added_past nodes spots t name shape taken span holds le = rw (slice_get_past spots t (let l = holds.len in omega arith)) refl
 
@@ -159,7 +159,7 @@ pub added_made : (spots : List Spot) (t : ℕ) (name : List ℕ) (shape : Shape)
 unfolding added
 added_made spots t name shape taken span s e lt = let test : nat_le 80 (length s.place) ≡ false = grind (arith, nat_tests) in rw (e, test) refl
 
-pub add_stopped : (nodes : List Node) (spots : List Spot) (t : ℕ) (node : Node) (name : List ℕ) (shape : Shape) (taken : Taken) (span : Option Span) → Holds nodes spots → t < length nodes → node ≡ get_or nodes t node → 80 ≤ node.steps
+pub add_stopped : {text : List ℕ} (nodes : List Node) (spots : List Spot) (t : ℕ) (node : Node) (name : List ℕ) (shape : Shape) (taken : Taken) (span : Option Span) → Holds text nodes spots → t < length nodes → node ≡ get_or nodes t node → 80 ≤ node.steps
     → added spots t name shape taken span ≡ None
 add_stopped nodes spots t node name shape taken span holds lt is le =
     let k = kept_at nodes spots t node holds lt is in
@@ -183,9 +183,9 @@ pub record Starts (new : Node) (content : Content) (taken : Taken) (steps : ℕ)
   pub empty : new.members.entries ≡ []
   pub none : new.elements.items ≡ []
 
-starts_keeps : (new : Node) (content : Content) (taken : Taken) (steps : ℕ) (span : Option Span) (place : Place) → Starts new content taken steps span → length place ≡ steps + 1 → Keeps new (spot_at place (shape_of content) taken span)
-starts_keeps new content taken steps span place h e = record {
-  shape = ap shape_of h.content_is;
+starts_keeps : (text : List ℕ) (new : Node) (content : Content) (taken : Taken) (steps : ℕ) (span : Option Span) (place : Place) → Starts new content taken steps span → length place ≡ steps + 1 → Keeps text new (spot_at place (shape_of text content) taken span)
+starts_keeps text new content taken steps span place h e = record {
+  shape = ap (shape_of text) h.content_is;
   taken = h.taken_is;
   steps = h.steps_are ∙ sym e;
   members = ap (map (λ (e : String Global × ℕ). (string_bytes e.0, e.1))) h.empty;
@@ -193,11 +193,11 @@ starts_keeps new content taken steps span place h e = record {
   span = h.span_is;
 }
 
-gained_keeps : (old new : Node) (k : String Global) (count : ℕ) (s : Spot) → Keeps old s → Inserted old new k count → get_by_text old.members (string_bytes k) ≡ None → Keeps new (with_member s (string_bytes k) count)
-gained_keeps old new k count s keeps i absent =
+gained_keeps : {text : List ℕ} (old new : Node) (k : String Global) (count : ℕ) (s : Spot) → Keeps text old s → Inserted old new k count → get_by_text old.members (string_bytes k) ≡ None → Keeps text new (with_member s (string_bytes k) count)
+gained_keeps {text} old new k count s keeps i absent =
     let entries : new.members.entries ≡ old.members.entries ++ (k, count) ∷ [] = i.entries ∙ insert_entry-new string_eq old.members k count absent in
     record {
-      shape = ap shape_of i.content ∙ keeps.shape;
+      shape = ap (shape_of text) i.content ∙ keeps.shape;
       taken = i.taken ∙ keeps.taken;
       steps = i.steps ∙ keeps.steps;
       members =
@@ -207,25 +207,25 @@ gained_keeps old new k count s keeps i absent =
       span = i.span ∙ keeps.span;
     }
 
-pub add_done : (nodes nodes2 : List Node) (spots : List Spot) (t count : ℕ) (old node2 last : Node) (name : String Global) (content : Content) (taken : Taken) (span : Option Span) → Holds nodes spots → t < count → count ≡ length nodes
+pub add_done : {text : List ℕ} (nodes nodes2 : List Node) (spots : List Spot) (t count : ℕ) (old node2 last : Node) (name : String Global) (content : Content) (taken : Taken) (span : Option Span) → Holds text nodes spots → t < count → count ≡ length nodes
     → old ≡ get_or nodes t old → old.steps < 80 → child spots t (string_bytes name) ≡ None → Inserted old node2 name count → Starts last content taken old.steps span → nodes2 ≡ slice_set nodes t node2 ++ last ∷ []
-    → (made : List Spot) × (added spots t (string_bytes name) (shape_of content) taken span ≡ Some (made, count)) × Holds nodes2 made
-add_done nodes nodes2 spots t count old node2 last name content taken span holds lt size was few none inserted starts made =
+    → (made : List Spot) × (added spots t (string_bytes name) (shape_of text content) taken span ≡ Some (made, count)) × Holds text nodes2 made
+add_done {text} nodes nodes2 spots t count old node2 last name content taken span holds lt size was few none inserted starts made =
     let lt2 : t < length nodes = omega arith in
     let k = kept_at nodes spots t old holds lt2 was in
     let number : count ≡ length spots = size ∙ holds.len in
     let absent : get_by_text old.members (string_bytes name) ≡ None = sym (child_found nodes spots t old (string_bytes name) holds lt2 was) ∙ none in
     let long : length (at k.spot.place (key (string_bytes name))) ≡ old.steps + 1 = length_push k.spot.place (key (string_bytes name)) ∙ ap (λ (n : ℕ). n + 1) (sym k.keeps.steps) in
     let first = holds_set nodes spots t node2 (with_member k.spot (string_bytes name) count) holds lt2 (gained_keeps old node2 name count k.spot k.keeps inserted absent) in
-    let both = holds_push (slice_set nodes t node2) (slice_set spots t (with_member k.spot (string_bytes name) count)) last (spot_at (at k.spot.place (key (string_bytes name))) (shape_of content) taken span) first (starts_keeps last content taken old.steps span (at k.spot.place (key (string_bytes name))) starts long) in
+    let both = holds_push (slice_set nodes t node2) (slice_set spots t (with_member k.spot (string_bytes name) count)) last (spot_at (at k.spot.place (key (string_bytes name))) (shape_of text content) taken span) first (starts_keeps text last content taken old.steps span (at k.spot.place (key (string_bytes name))) starts long) in
     let fits : length k.spot.place < 80 = (let e = k.keeps.steps in omega arith) in (
-      slice_set spots t (with_member k.spot (string_bytes name) count) ++ spot_at (at k.spot.place (key (string_bytes name))) (shape_of content) taken span ∷ [],
-      added_made spots t (string_bytes name) (shape_of content) taken span k.spot k.spot_is fits
-          ∙ ap (λ (n : ℕ). Some (slice_set spots t (with_member k.spot (string_bytes name) n) ++ spot_at (at k.spot.place (key (string_bytes name))) (shape_of content) taken span ∷ [], n)) (sym number),
-      subst (λ (ns : List Node). Holds ns (slice_set spots t (with_member k.spot (string_bytes name) count) ++ spot_at (at k.spot.place (key (string_bytes name))) (shape_of content) taken span ∷ [])) (sym made) both,
+      slice_set spots t (with_member k.spot (string_bytes name) count) ++ spot_at (at k.spot.place (key (string_bytes name))) (shape_of text content) taken span ∷ [],
+      added_made spots t (string_bytes name) (shape_of text content) taken span k.spot k.spot_is fits
+          ∙ ap (λ (n : ℕ). Some (slice_set spots t (with_member k.spot (string_bytes name) n) ++ spot_at (at k.spot.place (key (string_bytes name))) (shape_of text content) taken span ∷ [], n)) (sym number),
+      subst (λ (ns : List Node). Holds text ns (slice_set spots t (with_member k.spot (string_bytes name) count) ++ spot_at (at k.spot.place (key (string_bytes name))) (shape_of text content) taken span ∷ [])) (sym made) both,
     )
 
-pub element_past : (nodes : List Node) (spots : List Spot) (t : ℕ) (shape : Shape) (taken : Taken) (span : Option Span) → Holds nodes spots → length nodes ≤ t → element_added spots t shape taken span ≡ None
+pub element_past : {text : List ℕ} (nodes : List Node) (spots : List Spot) (t : ℕ) (shape : Shape) (taken : Taken) (span : Option Span) → Holds text nodes spots → length nodes ≤ t → element_added spots t shape taken span ≡ None
 unfolding element_added
 element_past nodes spots t shape taken span holds le = rw (slice_get_past spots t (let l = holds.len in omega arith)) refl
 
@@ -238,7 +238,7 @@ pub element_made : (spots : List Spot) (t : ℕ) (shape : Shape) (taken : Taken)
 unfolding element_added
 element_made spots t shape taken span s e lt = let test : nat_le 80 (length s.place) ≡ false = grind (arith, nat_tests) in rw (e, test) refl
 
-pub element_stopped : (nodes : List Node) (spots : List Spot) (t : ℕ) (node : Node) (shape : Shape) (taken : Taken) (span : Option Span) → Holds nodes spots → t < length nodes → node ≡ get_or nodes t node → 80 ≤ node.steps → element_added spots t shape taken span ≡ None
+pub element_stopped : {text : List ℕ} (nodes : List Node) (spots : List Spot) (t : ℕ) (node : Node) (shape : Shape) (taken : Taken) (span : Option Span) → Holds text nodes spots → t < length nodes → node ≡ get_or nodes t node → 80 ≤ node.steps → element_added spots t shape taken span ≡ None
 element_stopped nodes spots t node shape taken span holds lt is le =
     let k = kept_at nodes spots t node holds lt is in
     element_long spots t shape taken span k.spot k.spot_is (let e = k.keeps.steps in omega arith)
@@ -252,9 +252,9 @@ pub record Extended (old new : Node) (count : ℕ) : Type 0 where
   pub members : new.members ≡ old.members
   pub elements : new.elements.items ≡ old.elements.items ++ count ∷ []
 
-extended_keeps : (old new : Node) (count : ℕ) (s : Spot) → Keeps old s → Extended old new count → Keeps new (with_element s count)
-extended_keeps old new count s keeps i = record {
-  shape = ap shape_of i.content ∙ keeps.shape;
+extended_keeps : {text : List ℕ} (old new : Node) (count : ℕ) (s : Spot) → Keeps text old s → Extended old new count → Keeps text new (with_element s count)
+extended_keeps {text} old new count s keeps i = record {
+  shape = ap (shape_of text) i.content ∙ keeps.shape;
   taken = i.taken ∙ keeps.taken;
   steps = i.steps ∙ keeps.steps;
   members = ap (λ m. map (λ (e : String Global × ℕ). (string_bytes e.0, e.1)) m.entries) i.members ∙ keeps.members;
@@ -262,19 +262,19 @@ extended_keeps old new count s keeps i = record {
   span = i.span ∙ keeps.span;
 }
 
-pub element_done : (nodes nodes2 : List Node) (spots : List Spot) (t count : ℕ) (old node2 last : Node) (content : Content) (taken : Taken) (span : Option Span) → Holds nodes spots → t < count → count ≡ length nodes → old ≡ get_or nodes t old → old.steps < 80 → Extended old node2 count
-    → Starts last content taken old.steps span → nodes2 ≡ slice_set nodes t node2 ++ last ∷ [] → (made : List Spot) × (element_added spots t (shape_of content) taken span ≡ Some (made, count)) × Holds nodes2 made
-element_done nodes nodes2 spots t count old node2 last content taken span holds lt size was few extended starts made =
+pub element_done : {text : List ℕ} (nodes nodes2 : List Node) (spots : List Spot) (t count : ℕ) (old node2 last : Node) (content : Content) (taken : Taken) (span : Option Span) → Holds text nodes spots → t < count → count ≡ length nodes → old ≡ get_or nodes t old → old.steps < 80 → Extended old node2 count
+    → Starts last content taken old.steps span → nodes2 ≡ slice_set nodes t node2 ++ last ∷ [] → (made : List Spot) × (element_added spots t (shape_of text content) taken span ≡ Some (made, count)) × Holds text nodes2 made
+element_done {text} nodes nodes2 spots t count old node2 last content taken span holds lt size was few extended starts made =
     let lt2 : t < length nodes = omega arith in
     let k = kept_at nodes spots t old holds lt2 was in
     let number : count ≡ length spots = size ∙ holds.len in
     let place = at k.spot.place (index (length k.spot.elements)) in
     let long : length (at k.spot.place (index (length k.spot.elements))) ≡ old.steps + 1 = length_push k.spot.place (index (length k.spot.elements)) ∙ ap (λ (n : ℕ). n + 1) (sym k.keeps.steps) in
     let first = holds_set nodes spots t node2 (with_element k.spot count) holds lt2 (extended_keeps old node2 count k.spot k.keeps extended) in
-    let keeps : Keeps last (spot_at place (shape_of content) taken span) = starts_keeps last content taken old.steps span place starts long in
-    let both = holds_push (slice_set nodes t node2) (slice_set spots t (with_element k.spot count)) last (spot_at place (shape_of content) taken span) first keeps in
+    let keeps : Keeps text last (spot_at place (shape_of text content) taken span) = starts_keeps text last content taken old.steps span place starts long in
+    let both = holds_push (slice_set nodes t node2) (slice_set spots t (with_element k.spot count)) last (spot_at place (shape_of text content) taken span) first keeps in
     let fits : length k.spot.place < 80 = (let e = k.keeps.steps in omega arith) in (
-      slice_set spots t (with_element k.spot count) ++ spot_at place (shape_of content) taken span ∷ [],
-      element_made spots t (shape_of content) taken span k.spot k.spot_is fits ∙ ap (λ (n : ℕ). Some (slice_set spots t (with_element k.spot n) ++ spot_at place (shape_of content) taken span ∷ [], n)) (sym number),
-      subst (λ (ns : List Node). Holds ns (slice_set spots t (with_element k.spot count) ++ spot_at place (shape_of content) taken span ∷ [])) (sym made) both,
+      slice_set spots t (with_element k.spot count) ++ spot_at place (shape_of text content) taken span ∷ [],
+      element_made spots t (shape_of text content) taken span k.spot k.spot_is fits ∙ ap (λ (n : ℕ). Some (slice_set spots t (with_element k.spot n) ++ spot_at place (shape_of text content) taken span ∷ [], n)) (sym number),
+      subst (λ (ns : List Node). Holds text ns (slice_set spots t (with_element k.spot count) ++ spot_at place (shape_of text content) taken span ∷ [])) (sym made) both,
     )

@@ -10,7 +10,7 @@ use Rattle.edit_document.specs.declared.read.marks.Mark.{Mark}
 use Rattle.edit_document.specs.declared.read.marks.MarkKind.{MarkKind}
 use Rattle.edit_document.specs.declared.read.marks.MarkKind.TheVariants as kinds
 use Rattle.edit_document.specs.Reading.{◌>>=◌}
-use Rattle.edit_document.specs.Nodes.{shape_said, Spot, Holds}
+use Rattle.edit_document.specs.Nodes.{Shape, shape_said, Spot, Holds}
 use Rattle.edit_document.specs.Walk.{State, said, last_of, without_last, awaiting, entered, closed, span_of_mark, worded, act, step, start, walked}
 use Rattle.edit_document.specs.WalkState.{Walks, Goes, SaysAt, is_said, IsToken, KeepsState}
 use Rattle.edit_document.proofs.Below.{all_at}
@@ -25,8 +25,8 @@ use Rattle.edit_document.proofs.Walking.{turns}
 abbrev pub spanned : Spot → Option Span → Spot
 spanned s span = record s { span = span }
 
-pub holds_spanned : (nodes : List Node) (spots : List Spot) (t : ℕ) (old : Node) (s : Spot) (span : Option Span) → Holds nodes spots → slice_get nodes t ≡ Some old → slice_get spots t ≡ Some s
-    → Holds (slice_set nodes t (record old { span = span })) (slice_set spots t (spanned s span))
+pub holds_spanned : {text : List ℕ} (nodes : List Node) (spots : List Spot) (t : ℕ) (old : Node) (s : Spot) (span : Option Span) → Holds text nodes spots → slice_get nodes t ≡ Some old → slice_get spots t ≡ Some s
+    → Holds text (slice_set nodes t (record old { span = span })) (slice_set spots t (spanned s span))
 holds_spanned nodes spots t old s span holds a b =
     let k = holds.each t old s a b in
     holds_set nodes spots t (record old { span = span }) (spanned s span) holds (slice_get_within nodes t old a)
@@ -39,9 +39,9 @@ closed_is st to number s t e =
     ∙ ap (λ (o : Option Spot). o >>= λ x. x.span >>= λ span. let next : State = record { spots = slice_set st.spots number (spanned x (Some (record { from = span.from; to = to }))); tables = without_last st.tables; fronts = st.fronts; name = st.name } in Some next) e
 
 -- the innermost table has a span, and ends
-pub goes_closed : (old walk : Walk) (st : State) (to number : ℕ) (node : Node) (span : Span) → Walks old st → last_of old.tables.items ≡ Some number → number < length old.nodes.items → node ≡ get_or old.nodes.items number node → node.span ≡ Some span
-    → walk.nodes.items ≡ slice_set old.nodes.items number (record node { span = Some (record { from = span.from; to = to }) }) → walk.tables.items ≡ without_last old.tables.items → walk.fronts.items ≡ old.fronts.items → walk.name ≡ old.name → Goes walk (closed st to) true
-goes_closed old walk st to number node span w top lt is has ns ts fs n =
+pub goes_closed : {text : List ℕ} (old walk : Walk) (st : State) (to number : ℕ) (node : Node) (span : Span) → Walks text old st → last_of old.tables.items ≡ Some number → number < length old.nodes.items → node ≡ get_or old.nodes.items number node → node.span ≡ Some span
+    → walk.nodes.items ≡ slice_set old.nodes.items number (record node { span = Some (record { from = span.from; to = to }) }) → walk.tables.items ≡ without_last old.tables.items → walk.fronts.items ≡ old.fronts.items → walk.name ≡ old.name → Goes text walk (closed st to) true
+goes_closed {text} old walk st to number node span w top lt is has ns ts fs n =
     let there = slice_get_read old.nodes.items (length old.nodes.items) number node refl lt is in
     let s = spot_of_node old.nodes.items st.spots number node w.holds.len there in
     let k = w.holds.each number node s.0 there s.1 in
@@ -52,14 +52,14 @@ goes_closed old walk st to number node span w top lt is has ns ts fs n =
       next,
       closed_is st to number s.0 top2 s.1 ∙ ap (λ (o : Option Span). o >>= λ sp. let next2 : State = record { spots = slice_set st.spots number (spanned s.0 (Some (record { from = sp.from; to = to }))); tables = without_last st.tables; fronts = st.fronts; name = st.name } in Some next2) has2,
       record {
-        holds = subst (λ (xs : List Node). Holds xs (slice_set st.spots number (spanned s.0 span2))) (sym ns) (holds_spanned old.nodes.items st.spots number node s.0 span2 w.holds there s.1);
+        holds = subst (λ (xs : List Node). Holds text xs (slice_set st.spots number (spanned s.0 span2))) (sym ns) (holds_spanned old.nodes.items st.spots number node s.0 span2 w.holds there s.1);
         tables = ts ∙ ap without_last w.tables;
         fronts = ap (map string_bytes) fs ∙ w.fronts;
         name = ap (option_map string_bytes) n ∙ w.name;
       },
     )
 
-pub closed_bare : (old : Walk) (st : State) (to number : ℕ) (node : Node) → Walks old st → last_of old.tables.items ≡ Some number → number < length old.nodes.items → node ≡ get_or old.nodes.items number node → node.span ≡ None → closed st to ≡ None
+pub closed_bare : {text : List ℕ} (old : Walk) (st : State) (to number : ℕ) (node : Node) → Walks text old st → last_of old.tables.items ≡ Some number → number < length old.nodes.items → node ≡ get_or old.nodes.items number node → node.span ≡ None → closed st to ≡ None
 closed_bare old st to number node w top lt is has =
     let there = slice_get_read old.nodes.items (length old.nodes.items) number node refl lt is in
     let s = spot_of_node old.nodes.items st.spots number node w.holds.len there in
@@ -79,26 +79,26 @@ unfolding step
 step_is bytes m st k e = ap (λ (j : MarkKind). act j bytes m st) e
 
 -- a name waits
-named_by : (walk old : Walk) (bytes : List ℕ) (m : Mark) (st : State) (s : String Global) (k : MarkKind) → m.kind ≡ k → is_said k ≡ true → act k bytes m st ≡ (said bytes m >>= λ n. Some (awaiting st n)) → Walks old st → IsToken bytes m
-    → ((n : List ℕ) → SaysAt bytes m n → string_bytes s ≡ n) → ((x : State) → Walks old x → Walks walk (awaiting x (string_bytes s))) → Goes walk (step bytes m st) true
+named_by : (walk old : Walk) (bytes : List ℕ) (m : Mark) (st : State) (s : String Global) (k : MarkKind) → m.kind ≡ k → is_said k ≡ true → act k bytes m st ≡ (said bytes m >>= λ n. Some (awaiting st n)) → Walks bytes old st → IsToken bytes m
+    → ((n : List ℕ) → SaysAt bytes m n → string_bytes s ≡ n) → ((x : State) → Walks bytes old x → Walks bytes walk (awaiting x (string_bytes s))) → Goes bytes walk (step bytes m st) true
 named_by walk old bytes m st s k kind says does w token told waits =
     let t = token (ap is_said kind ∙ says) in
     let here : step bytes m st ≡ Some (awaiting st (string_bytes s)) =
     step_is bytes m st k kind ∙ does ∙ ap (λ (o : Option (List ℕ)). o >>= λ n. Some (awaiting st n)) t.1 ∙ ap (λ (n : List ℕ). Some (awaiting st n)) (sym (told t.0 t.2)) in
     (awaiting st (string_bytes s), here, waits st w)
 
-pub goes_named : (walk old : Walk) (bytes : List ℕ) (m : Mark) (st : State) (s : String Global) → (m.kind ≡ kinds.BarePart) ⊎ ((m.kind ≡ kinds.BasicPart) ⊎ (m.kind ≡ kinds.LiteralPart)) → Walks old st → IsToken bytes m
-    → ((n : List ℕ) → SaysAt bytes m n → string_bytes s ≡ n) → ((x : State) → Walks old x → Walks walk (awaiting x (string_bytes s))) → Goes walk (step bytes m st) true
+pub goes_named : (walk old : Walk) (bytes : List ℕ) (m : Mark) (st : State) (s : String Global) → (m.kind ≡ kinds.BarePart) ⊎ ((m.kind ≡ kinds.BasicPart) ⊎ (m.kind ≡ kinds.LiteralPart)) → Walks bytes old st → IsToken bytes m
+    → ((n : List ℕ) → SaysAt bytes m n → string_bytes s ≡ n) → ((x : State) → Walks bytes old x → Walks bytes walk (awaiting x (string_bytes s))) → Goes bytes walk (step bytes m st) true
 goes_named walk old bytes m st s (inl e) = named_by walk old bytes m st s kinds.BarePart e refl refl
 goes_named walk old bytes m st s (inr (inl e)) = named_by walk old bytes m st s kinds.BasicPart e refl refl
 goes_named walk old bytes m st s (inr (inr e)) = named_by walk old bytes m st s kinds.LiteralPart e refl refl
 
--- a string
-word_by : (bytes : List ℕ) (m : Mark) (st : State) (s : String Global) (k : MarkKind) → m.kind ≡ k → is_said k ≡ true → act k bytes m st ≡ worded bytes m st → IsToken bytes m
-    → ((n : List ℕ) → SaysAt bytes m n → string_bytes s ≡ n) → step bytes m st ≡ entered st (shape_said m.kind (string_bytes s)) (Some (span_of_mark m))
+-- a string, a number, a date or a time
+word_by : (bytes : List ℕ) (m : Mark) (st : State) (s : Shape) (k : MarkKind) → m.kind ≡ k → is_said k ≡ true → act k bytes m st ≡ worded bytes m st → IsToken bytes m
+    → ((n : List ℕ) → SaysAt bytes m n → s ≡ shape_said m.kind n) → step bytes m st ≡ entered st s (Some (span_of_mark m))
 word_by bytes m st s k kind says does token told =
     let t = token (ap is_said kind ∙ says) in
-    step_is bytes m st k kind ∙ does ∙ ap (λ (o : Option (List ℕ)). o >>= λ n. entered st (shape_said m.kind n) (Some (span_of_mark m))) t.1 ∙ ap (λ (n : List ℕ). entered st (shape_said m.kind n) (Some (span_of_mark m))) (sym (told t.0 t.2))
+    step_is bytes m st k kind ∙ does ∙ ap (λ (o : Option (List ℕ)). o >>= λ n. entered st (shape_said m.kind n) (Some (span_of_mark m))) t.1 ∙ ap (λ (x : Shape). entered st x (Some (span_of_mark m))) (sym (told t.0 t.2))
 
 -- a mark of a string, a number, a date or a time
 abbrev pub IsWorded : MarkKind → Type 0
@@ -106,8 +106,8 @@ IsWorded k =
     (k ≡ kinds.BasicString) ⊎ ((k ≡ kinds.LiteralString) ⊎ ((k ≡ kinds.MultiBasicString) ⊎ ((k ≡ kinds.MultiLiteralString)
     ⊎ ((k ≡ kinds.Integer) ⊎ ((k ≡ kinds.Float) ⊎ (k ≡ kinds.DateTime))))))
 
-pub word_step : (bytes : List ℕ) (m : Mark) (st : State) (s : String Global) → IsWorded m.kind → IsToken bytes m → ((n : List ℕ) → SaysAt bytes m n → string_bytes s ≡ n)
-    → step bytes m st ≡ entered st (shape_said m.kind (string_bytes s)) (Some (span_of_mark m))
+pub word_step : (bytes : List ℕ) (m : Mark) (st : State) (s : Shape) → IsWorded m.kind → IsToken bytes m → ((n : List ℕ) → SaysAt bytes m n → s ≡ shape_said m.kind n)
+    → step bytes m st ≡ entered st s (Some (span_of_mark m))
 word_step bytes m st s (inl e) = word_by bytes m st s kinds.BasicString e refl refl
 word_step bytes m st s (inr (inl e)) = word_by bytes m st s kinds.LiteralString e refl refl
 word_step bytes m st s (inr (inr (inl e))) = word_by bytes m st s kinds.MultiBasicString e refl refl
@@ -126,24 +126,24 @@ close_step bytes m st (inr e) = step_is bytes m st kinds.CloseTable e
 -- what is left to walk gives what the whole walk gives
 pub record Along (walk : Walk) (bytes : List ℕ) (all left : List Mark) : Type 0 where
   pub state : State
-  pub walks : Walks walk state
+  pub walks : Walks bytes walk state
   pub same : walked bytes all start ≡ walked bytes left state
 
-pub along_start : (walk : Walk) (bytes : List ℕ) (all : List Mark) → Walks walk start → Along walk bytes all all
+pub along_start : (walk : Walk) (bytes : List ℕ) (all : List Mark) → Walks bytes walk start → Along walk bytes all all
 along_start walk bytes all w = record { state = start; walks = w; same = refl }
 
-pub along_next : (walk next : Walk) (bytes : List ℕ) (all left : List Mark) (m : Mark) → (a : Along walk bytes all (m ∷ left)) → Goes next (step bytes m a.state) true → Along next bytes all left
+pub along_next : (walk next : Walk) (bytes : List ℕ) (all left : List Mark) (m : Mark) → (a : Along walk bytes all (m ∷ left)) → Goes bytes next (step bytes m a.state) true → Along next bytes all left
 along_next walk next bytes all left m a (st, e, w) = record { state = st; walks = w; same = a.same ∙ walked_first bytes m left a.state st e }
 
 pub along_stop : (walk : Walk) (bytes : List ℕ) (all left : List Mark) (m : Mark) → (a : Along walk bytes all (m ∷ left)) → step bytes m a.state ≡ None → walked bytes all start ≡ None
 along_stop walk bytes all left m a e = a.same ∙ walked_stops bytes m left a.state e
 
-pub along_end : (walk : Walk) (bytes : List ℕ) (all : List Mark) → Along walk bytes all [] → KeepsState walk.nodes.items (walked bytes all start)
-along_end walk bytes all a = subst (KeepsState walk.nodes.items) (sym (a.same ∙ walked_none bytes a.state)) a.walks.holds
+pub along_end : (walk : Walk) (bytes : List ℕ) (all : List Mark) → Along walk bytes all [] → KeepsState bytes walk.nodes.items (walked bytes all start)
+along_end walk bytes all a = subst (KeepsState bytes walk.nodes.items) (sym (a.same ∙ walked_none bytes a.state)) a.walks.holds
 
 -- a turn of the loop over all marks
 abbrev pub Turns : Walk → Walk → List ℕ → Mark → Bool → Type 0
-Turns walk new bytes m b = (st : State) → Walks walk st → IsToken bytes m → Goes new (step bytes m st) b
+Turns walk new bytes m b = (st : State) → Walks bytes walk st → IsToken bytes m → Goes bytes new (step bytes m st) b
 
 left_at : (walk : Walk) (bytes : List ℕ) (marks : List Mark) (i : ℕ) (d : Mark) → i < length marks → Along walk bytes marks (drop i marks) → Along walk bytes marks (get_or marks i d ∷ drop (i + 1) marks)
 left_at walk bytes marks i d lt a = subst (Along walk bytes marks) (drop_from marks i (get_or marks i d) (slice_get-get_or marks i d lt)) a
@@ -155,10 +155,10 @@ pub turn_on : (walk new : Walk) (bytes : List ℕ) (marks : List Mark) (i : ℕ)
     → Along new bytes marks (drop (i + 1) marks)
 turn_on walk new bytes marks i d b lt tokens on turns a =
     let here = left_at walk bytes marks i d lt a in
-    along_next walk new bytes marks (drop (i + 1) marks) (get_or marks i d) here (subst (λ (x : Bool). Goes new (step bytes (get_or marks i d) here.state) x) on (turns here.state here.walks (token_there bytes marks i d lt tokens)))
+    along_next walk new bytes marks (drop (i + 1) marks) (get_or marks i d) here (subst (λ (x : Bool). Goes bytes new (step bytes (get_or marks i d) here.state) x) on (turns here.state here.walks (token_there bytes marks i d lt tokens)))
 
 pub turn_off : (walk new : Walk) (bytes : List ℕ) (marks : List Mark) (i : ℕ) (d : Mark) (b : Bool) → i < length marks → AllByRecursion (IsToken bytes) marks → b ≡ false → Turns walk new bytes (get_or marks i d) b → Along walk bytes marks (drop i marks)
     → walked bytes marks start ≡ None
 turn_off walk new bytes marks i d b lt tokens off turns a =
     let here = left_at walk bytes marks i d lt a in
-    along_stop walk bytes marks (drop (i + 1) marks) (get_or marks i d) here (subst (λ (x : Bool). Goes new (step bytes (get_or marks i d) here.state) x) off (turns here.state here.walks (token_there bytes marks i d lt tokens)))
+    along_stop walk bytes marks (drop (i + 1) marks) (get_or marks i d) here (subst (λ (x : Bool). Goes bytes new (step bytes (get_or marks i d) here.state) x) off (turns here.state here.walks (token_there bytes marks i d lt tokens)))

@@ -63,10 +63,10 @@ pub record Walked (bytes : List ℕ) (form : Text) (nodes : List Node) : Type 0 
   pub spots : List Spot
   pub found : spots_of bytes ≡ Some spots
   pub stands : Stands (assertions form) (map placed (values form)) spots
-  pub holds : Holds nodes spots
+  pub holds : Holds bytes nodes spots
   pub manifest : IsManifest bytes form
 
-pub walked_is : (bytes : List ℕ) (form : Text) (nodes : List Node) → Read bytes form → KeepsState nodes (walked bytes (text_marks form) start) → Walked bytes form nodes
+pub walked_is : (bytes : List ℕ) (form : Text) (nodes : List Node) → Read bytes form → KeepsState bytes nodes (walked bytes (text_marks form) start) → Walked bytes form nodes
 walked_is bytes form nodes r keeps = go (walk_of bytes form r)
   where
     go : Walks (assertions form) (map placed (values form)) (walked bytes (text_marks form) start) → Walked bytes form nodes
@@ -76,10 +76,10 @@ walked_is bytes form nodes r keeps = go (walk_of bytes form r)
           spots = now;
           found = ap (λ (o : Option Text). o >>= λ f. walked bytes (text_marks f) start >>= λ s. Some s.spots) (manifest_form bytes form manifest) ∙ ap (λ (o : Option State). o >>= λ s. Some s.spots) e;
           stands = st;
-          holds = subst (KeepsState nodes) e keeps;
+          holds = subst (KeepsState bytes nodes) e keeps;
           manifest = manifest;
         }
-    go (stuck e clash) = absurd (subst (KeepsState nodes) e keeps)
+    go (stuck e clash) = absurd (subst (KeepsState bytes nodes) e keeps)
 
 -- what is no document is not walked over
 pub refused_is : (bytes : List ℕ) (form : Text) → IsManifest bytes form → IsUtf8 bytes → walked bytes (text_marks form) start ≡ None → ⊥
@@ -118,12 +118,12 @@ Found bytes marks = (form : Text) × Spells bytes form × IsSupported form × (t
 read_form : (bytes seen : List ℕ) (marks : List Mark) → IsUtf8 bytes → seen ≡ bytes → (f : Found seen marks) → Read bytes f.0
 read_form bytes seen marks u same f = record { spells = subst (λ (b : List ℕ). Spells b f.0) same f.1; supported = f.2; utf8 = u }
 
-pub read_done : (bytes seen : List ℕ) (marks slice : List Mark) (nodes : List Node) → IsUtf8 bytes → seen ≡ bytes → Found seen marks → slice ≡ marks → (AllByRecursion (IsToken bytes) slice → KeepsState nodes (walked bytes slice start)) → (form : Text) × Walked bytes form nodes
+pub read_done : (bytes seen : List ℕ) (marks slice : List Mark) (nodes : List Node) → IsUtf8 bytes → seen ≡ bytes → Found seen marks → slice ≡ marks → (AllByRecursion (IsToken bytes) slice → KeepsState bytes nodes (walked bytes slice start)) → (form : Text) × Walked bytes form nodes
 read_done bytes seen marks slice nodes u same f whole keeps =
     let r = read_form bytes seen marks u same f in
     let all : slice ≡ text_marks f.0 = whole ∙ f.4 in
-    let k : AllByRecursion (IsToken bytes) (text_marks f.0) → KeepsState nodes (walked bytes (text_marks f.0) start) =
-    subst (λ (ms : List Mark). AllByRecursion (IsToken bytes) ms → KeepsState nodes (walked bytes ms start)) all keeps in
+    let k : AllByRecursion (IsToken bytes) (text_marks f.0) → KeepsState bytes nodes (walked bytes (text_marks f.0) start) =
+    subst (λ (ms : List Mark). AllByRecursion (IsToken bytes) ms → KeepsState bytes nodes (walked bytes ms start)) all keeps in
     (f.0, walked_is bytes f.0 nodes r (k (tokens_of bytes f.0 r)))
 
 pub shows_any : (bytes : List ℕ) (form f : Text) (nodes : List Node) → Walked bytes form nodes → IsManifest bytes f → ShowsTree (shown_by bytes) f

@@ -77,6 +77,7 @@ pub mod WalkedHolders
 pub mod WalkedLines
 pub mod Decoded
 pub mod Contents
+pub mod Kept
 pub mod StandardFacts
 pub mod NumberFacts
 pub mod ArrayFacts

@@ -1,5 +1,5 @@
 -- The span of a node tells where the value of its place is written.
-use Rattle.std.proofs.Common.{◌≡◌, ℕ, ◌-◌, ◌<◌, Bool, true, false, cond, List, [], ◌∷◌, map, length, get_or, Option, None, Some, option_map, refl, sym, ap, ◌∙◌, inl, inr}
+use Rattle.std.proofs.Common.{◌≡◌, ℕ, ◌-◌, ◌<◌, Bool, true, false, cond, List, [], ◌∷◌, map, length, get_or, Option, None, Some, option_map, refl, sym, ap, subst, ◌∙◌, inl, inr}
 use Rattle.std.specs.Prelude.{string_bytes}
 use Rattle.edit_document.specs.declared.nodes.Node.{Node}
 use Rattle.edit_document.specs.declared.nodes.Span.{Span}
@@ -9,6 +9,7 @@ use Rattle.edit_document.specs.Assertions.{Place, same_place, Assertion, Kind, a
 use Rattle.edit_document.specs.Tree.{View, table, members_of, view_of_kind, kind_at, view_in, is_value_at}
 use Rattle.edit_document.specs.Supported.{IsManifest}
 use Rattle.edit_document.specs.Shown.{Shown, tree_of}
+use Rattle.edit_document.specs.Nodes.{Holds}
 use Rattle.edit_document.specs.DocumentLayout.{span_of, placed, span_at, shown_of, IsRead}
 use Rattle.edit_document.specs.Items.{place_numbered}
 use Rattle.edit_document.specs.Written.{Valued, values, IsWrittenAt}
@@ -70,7 +71,7 @@ none_value inside shown form p read view manifest none =
 node_span : (inside : Inside) (shown : Shown) (n : ℕ) (node : Node) (form : Text) (p : Place) → (read : IsRead inside) → shown_of inside ≡ shown → IsManifest shown.bytes form → place_numbered shown n ≡ p → n < length shown.nodes → node ≡ get_or inside.nodes.items n node
     → node.span ≡ span_at (map placed (values form)) p
 node_span inside shown n node form p read view manifest there lt is =
-    let opens : Opened shown inside.nodes.items = record { spots = read.spots; nodes_are = open_spots inside shown read view; holds = read.holds; tree = read.tree } in
+    let opens : Opened shown inside.nodes.items = record { spots = read.spots; nodes_are = open_spots inside shown read view; holds = subst (λ (b : List ℕ). Holds b inside.nodes.items read.spots) (shown_bytes inside shown view) read.holds; tree = read.tree } in
     let f = found shown inside.nodes.items n node opens lt is in
     f.keeps.span ∙ read.spans n f.spot f.stands ∙ ap (span_at (map placed (values read.form))) (sym f.place ∙ there) ∙ ap (λ (t : Text). span_at (map placed (values t)) p) (sym (form_same inside shown form read view manifest))
 

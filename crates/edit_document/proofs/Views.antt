@@ -7,6 +7,8 @@ use Rattle.std.specs.Map.Iter.{deref_pair}
 use Rattle.std.proofs.lemmas.Option.{slice_get-map, slice_get_past, slice_get_within, slice_get_read, same_Some}
 use Rattle.std.proofs.lemmas.List.{length-map, map-append, take_more, take-append-drop}
 use Rattle.indexmap.specs.IndexMap.{get_by_text}
+use Rattle.edit_document.specs.declared.nodes.Span.{Span}
+use Rattle.edit_document.specs.declared.nodes.Words.{Words}
 use Rattle.edit_document.specs.declared.nodes.Content.{Content}
 use Rattle.edit_document.specs.declared.nodes.Content.TheVariants as content
 use Rattle.edit_document.specs.declared.nodes.Node.{Node}
@@ -27,14 +29,15 @@ use Rattle.edit_document.proofs.Adding.{spot_of_node, below_node}
 pub record Opened (shown : Shown) (nodes : List Node) : Type 0 where
   pub spots : List Spot
   pub nodes_are : shown.nodes ≡ map shown_spot spots
-  pub holds : Holds nodes spots
+  pub holds : Holds shown.bytes nodes spots
   pub tree : IsTree spots
 
 pub opened : (inside : Inside) (shown : Shown) → IsRead inside → shown_of inside ≡ shown → Opened shown inside.nodes.items
 unfolding shown_by
 opened inside shown read view =
     let seen : shown.nodes ≡ nodes_by (spots_of (string_bytes inside.text)) = ap (λ (s : Shown). s.nodes) (sym view) in
-    record { spots = read.spots; nodes_are = seen ∙ ap nodes_by read.found; holds = read.holds; tree = read.tree }
+    let here : string_bytes inside.text ≡ shown.bytes = ap (λ (s : Shown). s.bytes) view in
+    record { spots = read.spots; nodes_are = seen ∙ ap nodes_by read.found; holds = subst (λ (b : List ℕ). Holds b inside.nodes.items read.spots) here read.holds; tree = read.tree }
 
 -- what a spot shows
 abbrev pub view_of_spot : Spot → View
@@ -67,16 +70,16 @@ node_none (t ∷ ts) place none =
 abbrev pub names_of_node : Node → List (List ℕ)
 names_of_node node = map (λ e. string_bytes e.0) node.members.entries
 
-abbrev pub view_of_node : Node → View
-view_of_node node = view_of_shape (shape_of node.content) (names_of_node node) (length node.elements.items)
+abbrev pub view_of_node : List ℕ → Node → View
+view_of_node text node = view_of_shape (shape_of text node.content) (names_of_node node) (length node.elements.items)
 
 pub record Found (shown : Shown) (nodes : List Node) (spots : List Spot) (n : ℕ) (node : Node) : Type 0 where
   pub spot : Spot
   pub stands : slice_get spots n ≡ Some spot
-  pub keeps : Keeps node spot
+  pub keeps : Keeps shown.bytes node spot
   pub place : place_numbered shown n ≡ spot.place
   pub here : tree_of shown spot.place ≡ Some (view_of_spot spot)
-  pub view : view_numbered shown n ≡ view_of_node node
+  pub view : view_numbered shown n ≡ view_of_node shown.bytes node
 
 stand : (shown : Shown) (spots : List Spot) (n : ℕ) (s : Spot) → shown.nodes ≡ map shown_spot spots → slice_get spots n ≡ Some s → slice_get shown.nodes n ≡ Some (shown_spot s)
 stand shown spots n s e g = rw e (slice_get-map shown_spot spots n ∙ ap (option_map shown_spot) g)
@@ -100,7 +103,7 @@ names_kept : (es : List (String Global × ℕ)) → map (λ (e : List ℕ × ℕ
 names_kept [] = refl
 names_kept (e ∷ es) = ap (λ (ns : List (List ℕ)). string_bytes e.0 ∷ ns) (names_kept es)
 
-kept : {node : Node} {spot : Spot} → Keeps node spot → view_of_node node ≡ view_of_spot spot
+kept : {text : List ℕ} {node : Node} {spot : Spot} → Keeps text node spot → view_of_node text node ≡ view_of_spot spot
 kept {node} {spot} k =
     ap (λ (s : Shape). view_of_shape s (names_of_node node) (length node.elements.items)) k.shape
     ∙ ap (λ (ns : List (List ℕ)). view_of_shape spot.shape ns (length node.elements.items)) (sym (names_kept node.members.entries) ∙ ap (map (λ (e : List ℕ × ℕ). e.0)) k.members)
@@ -131,26 +134,26 @@ pub count_members : (node : Node) → length (map key (names_of_node node)) ≡ 
 count_members node = length-map (names_of_node node) key ∙ length-map node.members.entries (λ e. string_bytes e.0)
 
 abbrev pub IsText : Content → Type 0
-IsText x = (s : String Global) × (x ≡ content.Text s)
+IsText x = (s : Words) × (x ≡ content.Text s)
 
 abbrev pub IsTruth : Content → Type 0
 IsTruth x = (b : Bool) × (x ≡ content.Truth b)
 
 abbrev pub IsInteger : Content → Type 0
-IsInteger x = (s : String Global) × (x ≡ content.Integer s)
+IsInteger x = (s : Span) × (x ≡ content.Integer s)
 
 abbrev pub IsFloat : Content → Type 0
-IsFloat x = (s : String Global) × (x ≡ content.Float s)
+IsFloat x = (s : Span) × (x ≡ content.Float s)
 
 abbrev pub IsDateTime : Content → Type 0
-IsDateTime x = (s : String Global) × (x ≡ content.DateTime s)
+IsDateTime x = (s : Span) × (x ≡ content.DateTime s)
 
 -- a string, a boolean, a number, a date or a time
 abbrev pub IsScalar : Content → Type 0
 IsScalar x = IsText x ⊎ (IsTruth x ⊎ (IsInteger x ⊎ (IsFloat x ⊎ IsDateTime x)))
 
-names_of_content : (shown : Shown) (nodes : List Node) (spots : List Spot) (n : ℕ) (node : Node) (x : Content) → Found shown nodes spots n node → node.content ≡ x → names_in (view_numbered shown n) ≡ names_in (view_of_shape (shape_of x) (names_of_node node) (length node.elements.items))
-names_of_content shown nodes spots n node x f is = ap names_in f.view ∙ ap (λ (y : Content). names_in (view_of_shape (shape_of y) (names_of_node node) (length node.elements.items))) is
+names_of_content : (shown : Shown) (nodes : List Node) (spots : List Spot) (n : ℕ) (node : Node) (x : Content) → Found shown nodes spots n node → node.content ≡ x → names_in (view_numbered shown n) ≡ names_in (view_of_shape (shape_of shown.bytes x) (names_of_node node) (length node.elements.items))
+names_of_content shown nodes spots n node x f is = ap names_in f.view ∙ ap (λ (y : Content). names_in (view_of_shape (shape_of shown.bytes y) (names_of_node node) (length node.elements.items))) is
 
 -- what shows no names, and what does
 pub names_none : (shown : Shown) (nodes : List Node) (spots : List Spot) (n : ℕ) (node : Node) → Found shown nodes spots n node → IsText node.content ⊎ (IsTruth node.content ⊎ (IsInteger node.content ⊎ (IsFloat node.content ⊎ (IsDateTime node.content ⊎ ((node.content ≡ content.Array) ⊎ (node.content ≡ content.Tables))))))
@@ -168,8 +171,8 @@ names_tabular shown nodes spots n node f (inl t) = names_of_content shown nodes 
 names_tabular shown nodes spots n node f (inr t) = names_of_content shown nodes spots n node content.Table f t ∙ names_keys (names_of_node node)
 
 -- a node of this content has so many parts
-pub count_shown : (shown : Shown) (nodes : List Node) (spots : List Spot) (n : ℕ) (node : Node) (x : Content) → Found shown nodes spots n node → node.content ≡ x → count_in (view_numbered shown n) ≡ count_in (view_of_shape (shape_of x) (names_of_node node) (length node.elements.items))
-count_shown shown nodes spots n node x f is = ap count_in f.view ∙ ap (λ (y : Content). count_in (view_of_shape (shape_of y) (names_of_node node) (length node.elements.items))) is
+pub count_shown : (shown : Shown) (nodes : List Node) (spots : List Spot) (n : ℕ) (node : Node) (x : Content) → Found shown nodes spots n node → node.content ≡ x → count_in (view_numbered shown n) ≡ count_in (view_of_shape (shape_of shown.bytes x) (names_of_node node) (length node.elements.items))
+count_shown shown nodes spots n node x f is = ap count_in f.view ∙ ap (λ (y : Content). count_in (view_of_shape (shape_of shown.bytes y) (names_of_node node) (length node.elements.items))) is
 
 pub count_scalar : (shown : Shown) (nodes : List Node) (spots : List Spot) (n : ℕ) (node : Node) → Found shown nodes spots n node → IsScalar node.content → count_in (view_numbered shown n) ≡ 0
 count_scalar shown nodes spots n node f (inl t) = count_shown shown nodes spots n node (content.Text t.0) f t.1
@@ -199,11 +202,11 @@ name_none node k r e is =
     ∙ ap (option_map (λ (e : String Global × ℕ). string_bytes e.0)) (sym e ∙ ap (option_map deref_pair) is)
 
 -- what a node shows
-abbrev pub shows_content : Node → Content → Seen → Type 0
-shows_content node x s = Shows (view_of_shape (shape_of x) (names_of_node node) (length node.elements.items)) s
+abbrev pub shows_content : List ℕ → Node → Content → Seen → Type 0
+shows_content text node x s = Shows (view_of_shape (shape_of text x) (names_of_node node) (length node.elements.items)) s
 
-pub shows : (shown : Shown) (nodes : List Node) (spots : List Spot) (n : ℕ) (node : Node) (x : Content) (s : Seen) → Found shown nodes spots n node → node.content ≡ x → shows_content node x s → Shows (view_numbered shown n) s
-shows shown nodes spots n node x s f is h = subst (λ (v : View). Shows v s) (sym f.view) (subst (λ (y : Content). shows_content node y s) (sym is) h)
+pub shows : (shown : Shown) (nodes : List Node) (spots : List Spot) (n : ℕ) (node : Node) (x : Content) (s : Seen) → Found shown nodes spots n node → node.content ≡ x → shows_content shown.bytes node x s → Shows (view_numbered shown n) s
+shows shown nodes spots n node x s f is h = subst (λ (v : View). Shows v s) (sym f.view) (subst (λ (y : Content). shows_content shown.bytes node y s) (sym is) h)
 
 -- what a slice gives at an index
 pub got : (xs : List ℕ) (i : ℕ) (Q : Bor ℕ → Type 0) (r : Option (Bor ℕ)) → MatchOption r (length xs ≤ i) (λ x. (i < length xs) × Q x) → IfSome r (λ x. x.now ≡ get_or xs i x.now) → option_copied r ≡ slice_get xs i

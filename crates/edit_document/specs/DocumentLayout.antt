@@ -75,7 +75,7 @@ pub record IsRead (d : Inside) : Type 0 where
   pub found : spots_of (string_bytes d.text) ≡ Some spots
   pub form : Text
   pub manifest : IsManifest (string_bytes d.text) form
-  pub holds : Holds d.nodes.items spots
+  pub holds : Holds (string_bytes d.text) d.nodes.items spots
   pub tree : IsTree spots
   pub views : (place : Place) → node_at (map shown_spot spots) place ≡ view_at form place
   pub spans : (n : ℕ) (s : Spot) → slice_get spots n ≡ Some s → s.span ≡ span_at (map placed (values form)) s.place

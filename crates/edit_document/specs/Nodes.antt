@@ -1,8 +1,10 @@
 -- The nodes of a document: one for each place that a statement asserts, the root first and then in the order of first assertions.
-use Rattle.std.specs.Prelude.{◌≡◌, ℕ, List, [], length, map, slice_get, Option, Some, string_bytes, ◌⊎◌}
+use Rattle.std.specs.Prelude.{◌≡◌, ℕ, ◌-◌, Bool, ◌&&◌, ◌||◌, nat_lt, nat_le, if◌then◌else◌, List, [], length, map, slice_get, slice_index, slice_range, Option, Some, string_bytes, ◌⊎◌}
 use Rattle.std.specs.Map.{lookup}
 use Rattle.std.specs.Str.{bytes_eq}
 use Rattle.edit_document.specs.declared.nodes.Span.{Span}
+use Rattle.edit_document.specs.declared.nodes.Words.{Words}
+use Rattle.edit_document.specs.declared.nodes.Words.TheVariants.{Kept, Made}
 use Rattle.edit_document.specs.declared.nodes.Content.{Content}
 use Rattle.edit_document.specs.declared.nodes.Content.TheVariants as content
 use Rattle.edit_document.specs.declared.nodes.Taken.{Taken}
@@ -55,25 +57,42 @@ shown_spot s = (s.place, view_of_shape s.shape (names_of s) (length s.elements))
 
 -- ---- what the table of nodes keeps of each spot
 
--- what stands at a node's place, but for its members
-abbrev pub shape_of : Content → Shape
-shape_of (content.Text s) = scalar (string (string_bytes s))
-shape_of (content.Truth b) = scalar (truth b)
-shape_of (content.Integer s) = scalar (whole (string_bytes s))
-shape_of (content.Float s) = scalar (fractional (string_bytes s))
-shape_of (content.DateTime s) = scalar (moment (string_bytes s))
-shape_of content.Array = listed
-shape_of content.Inline = inline
-shape_of content.Table = section
-shape_of content.Tables = sections
+-- a character begins at this byte, or the bytes end before it
+abbrev pub is_boundary : List ℕ → ℕ → Bool
+is_boundary bytes i = nat_le i (length bytes) && (nat_lt (slice_index bytes i) 128 || nat_le 192 (slice_index bytes i))
+
+-- the bytes from one byte to another, or none where they cut a character
+abbrev pub cut_from : List ℕ → ℕ → ℕ → List ℕ
+cut_from bytes i j = if nat_le i j && is_boundary bytes i && is_boundary bytes j then slice_range bytes i j else []
+
+-- the bytes of a text that stand there
+unfoldable pub bytes_at : List ℕ → Span → List ℕ
+bytes_at text span = cut_from text (length text - span.from) (length text - span.to)
+
+-- what a string of a text says
+abbrev pub bytes_of : List ℕ → Words → List ℕ
+bytes_of text (Kept span) = bytes_at text span
+bytes_of text (Made s) = string_bytes s
+
+-- what stands at a node's place, but for its members, in the document of a text
+abbrev pub shape_of : List ℕ → Content → Shape
+shape_of text (content.Text words) = scalar (string (bytes_of text words))
+shape_of text (content.Truth b) = scalar (truth b)
+shape_of text (content.Integer span) = scalar (whole (bytes_at text span))
+shape_of text (content.Float span) = scalar (fractional (bytes_at text span))
+shape_of text (content.DateTime span) = scalar (moment (bytes_at text span))
+shape_of text content.Array = listed
+shape_of text content.Inline = inline
+shape_of text content.Table = section
+shape_of text content.Tables = sections
 
 -- the names and numbers of a node's members
 abbrev pub members_of_node : Node → List (List ℕ × ℕ)
 members_of_node node = map (λ e. (string_bytes e.0, e.1)) node.members.entries
 
--- a node keeps a spot; of its place it keeps how many steps there are
-pub record Keeps (node : Node) (spot : Spot) : Type 0 where
-  pub shape : shape_of node.content ≡ spot.shape
+-- a node keeps a spot of the document of a text; of its place it keeps how many steps there are
+pub record Keeps (text : List ℕ) (node : Node) (spot : Spot) : Type 0 where
+  pub shape : shape_of text node.content ≡ spot.shape
   pub taken : node.taken ≡ spot.taken
   pub steps : node.steps ≡ length spot.place
   pub members : members_of_node node ≡ spot.members
@@ -81,9 +100,9 @@ pub record Keeps (node : Node) (spot : Spot) : Type 0 where
   pub span : node.span ≡ spot.span
 
 -- each node keeps the spot of its number
-pub record Holds (nodes : List Node) (spots : List Spot) : Type 0 where
+pub record Holds (text : List ℕ) (nodes : List Node) (spots : List Spot) : Type 0 where
   pub len : length nodes ≡ length spots
-  pub each : (n : ℕ) (node : Node) (spot : Spot) → slice_get nodes n ≡ Some node → slice_get spots n ≡ Some spot → Keeps node spot
+  pub each : (n : ℕ) (node : Node) (spot : Spot) → slice_get nodes n ≡ Some node → slice_get spots n ≡ Some spot → Keeps text node spot
 
 -- ---- places
 

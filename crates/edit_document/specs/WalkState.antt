@@ -10,36 +10,36 @@ use Rattle.edit_document.specs.Nodes.{Spot, Holds}
 use Rattle.edit_document.specs.Walk.{State, said}
 
 -- the nodes keep the spots that were made, or none were made
-abbrev pub Adds : List Node → Option (List Spot) → Bool → Type 0
-Adds nodes made true = (spots : List Spot) × (made ≡ Some spots) × Holds nodes spots
-Adds nodes made false = made ≡ None
+abbrev pub Adds : List ℕ → List Node → Option (List Spot) → Bool → Type 0
+Adds text nodes made true = (spots : List Spot) × (made ≡ Some spots) × Holds text nodes spots
+Adds text nodes made false = made ≡ None
 
 -- the nodes keep the spots that were made, and the number is that of one of them; or none were made
-abbrev pub Puts : List Node → Option (List Spot × ℕ) → Option ℕ → Type 0
-Puts nodes made None = made ≡ None
-Puts nodes made (Some number) = (spots : List Spot) × (made ≡ Some (spots, number)) × Holds nodes spots
+abbrev pub Puts : List ℕ → List Node → Option (List Spot × ℕ) → Option ℕ → Type 0
+Puts text nodes made None = made ≡ None
+Puts text nodes made (Some number) = (spots : List Spot) × (made ≡ Some (spots, number)) × Holds text nodes spots
 
--- the walk is in this state
-pub record Walks (walk : Walk) (st : State) : Type 0 where
-  pub holds : Holds walk.nodes.items st.spots
+-- the walk over a text is in this state
+pub record Walks (text : List ℕ) (walk : Walk) (st : State) : Type 0 where
+  pub holds : Holds text walk.nodes.items st.spots
   pub tables : walk.tables.items ≡ st.tables
   pub fronts : map string_bytes walk.fronts.items ≡ st.fronts
   pub name : option_map string_bytes walk.name ≡ st.name
 
 -- the walk is in the state that follows, or none follows
-abbrev pub Goes : Walk → Option State → Bool → Type 0
-Goes walk next true = (st : State) × (next ≡ Some st) × Walks walk st
-Goes walk next false = next ≡ None
+abbrev pub Goes : List ℕ → Walk → Option State → Bool → Type 0
+Goes text walk next true = (st : State) × (next ≡ Some st) × Walks text walk st
+Goes text walk next false = next ≡ None
 
 -- the walk is in the state that follows, and the number is that of one of its spots; or none follows
-abbrev pub Settles : Walk → Option (State × ℕ) → Option ℕ → Type 0
-Settles walk next None = next ≡ None
-Settles walk next (Some number) = (st : State) × (next ≡ Some (st, number)) × Walks walk st
+abbrev pub Settles : List ℕ → Walk → Option (State × ℕ) → Option ℕ → Type 0
+Settles text walk next None = next ≡ None
+Settles text walk next (Some number) = (st : State) × (next ≡ Some (st, number)) × Walks text walk st
 
 -- the nodes keep the spots of a state
-abbrev pub KeepsState : List Node → Option State → Type 0
-KeepsState nodes None = ⊥
-KeepsState nodes (Some st) = Holds nodes st.spots
+abbrev pub KeepsState : List ℕ → List Node → Option State → Type 0
+KeepsState text nodes None = ⊥
+KeepsState text nodes (Some st) = Holds text nodes st.spots
 
 -- ---- tokens
 

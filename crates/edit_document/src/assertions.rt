@@ -1,5 +1,5 @@
 //! What an assertion makes of the nodes: a new node, or an old one whose place is taken again.
-ghost use Rattle.std.specs.Prelude.{◌≡◌, List, IfOk, IfErr, None, map, nat_le, string_bytes};
+ghost use Rattle.std.specs.Prelude.{◌≡◌, ℕ, List, IfOk, IfErr, None, map, nat_le, string_bytes};
 ghost use Rattle.edit_document.specs.Errors.{IsMemory};
 ghost use Rattle.edit_document.specs.Nodes.{Spot, Holds, shape_of};
 ghost use Rattle.edit_document.specs.Taking as taking;
@@ -43,7 +43,7 @@ fn stronger(before: Taken, after: Taken) -> Taken
 
 /// Takes the place of a node again. Answers whether it may be.
 fn take_again(nodes: &mut Vec<Node>, number: usize, taken: Taken) -> bool
-    ensures { (spots : List Spot) → Holds nodes.old.items spots → Adds nodes.new.items (taken_again spots number taken) result }
+    ensures { (text : List ℕ) (spots : List Spot) → Holds text nodes.old.items spots → Adds text nodes.new.items (taken_again spots number taken) result }
 {
     if number >= nodes.len() {
         return false;
@@ -59,7 +59,7 @@ fn take_again(nodes: &mut Vec<Node>, number: usize, taken: Taken) -> bool
 
 /// The number of the member of a name.
 fn find(nodes: &[Node], number: usize, name: &str) -> Option<usize>
-    ensures { (spots : List Spot) → Holds nodes.now spots → result ≡ child spots number name.now }
+    ensures { (text : List ℕ) (spots : List Spot) → Holds text nodes.now spots → result ≡ child spots number name.now }
 {
     if number >= nodes.len() {
         return None;
@@ -70,7 +70,7 @@ fn find(nodes: &[Node], number: usize, name: &str) -> Option<usize>
 
 /// The last table of an array of tables.
 fn last_table(node: &Node) -> Option<usize>
-    ensures { result ≡ last_table (shape_of node.now.content) node.now.elements.items }
+    ensures { (text : List ℕ) → result ≡ last_table (shape_of text node.now.content) node.now.elements.items }
 {
     match &node.content {
         Content::Tables => node.elements.last().copied(),
@@ -87,7 +87,7 @@ fn last_table(node: &Node) -> Option<usize>
 
 /// The last element of an array of tables, and any other node itself.
 fn last_element(nodes: &[Node], number: usize) -> usize
-    ensures { (spots : List Spot) → Holds nodes.now spots → result ≡ target_of spots number Super }
+    ensures { (text : List ℕ) (spots : List Spot) → Holds text nodes.now spots → result ≡ target_of spots number Super }
 {
     if number >= nodes.len() {
         return number;
@@ -97,7 +97,7 @@ fn last_element(nodes: &[Node], number: usize) -> usize
 
 /// The node whose place is taken: a header that goes on below an array of tables goes on below its last element.
 fn target(nodes: &[Node], number: usize, taken: Taken) -> usize
-    ensures { (spots : List Spot) → Holds nodes.now spots → result ≡ target_of spots number taken }
+    ensures { (text : List ℕ) (spots : List Spot) → Holds text nodes.now spots → result ≡ target_of spots number taken }
 {
     match taken {
         Taken::Super => last_element(nodes, number),
@@ -123,8 +123,8 @@ fn add(
     taken: Taken,
     span: Option<Span>,
 ) -> CargoResult<Option<usize>>
-    ensures added { (spots : List Spot) → Holds nodes.old.items spots → child spots number (string_bytes name) ≡ None
-        → IfOk result (Puts nodes.new.items (added spots number (string_bytes name) (shape_of content) taken span)) }
+    ensures added { (text : List ℕ) (spots : List Spot) → Holds text nodes.old.items spots → child spots number (string_bytes name) ≡ None
+        → IfOk result (Puts text nodes.new.items (added spots number (string_bytes name) (shape_of text content) taken span)) }
     ensures refused { IfErr result IsMemory }
 {
     let count = nodes.len();
@@ -157,7 +157,7 @@ pub(crate) fn add_element(
     taken: Taken,
     span: Option<Span>,
 ) -> CargoResult<Option<usize>>
-    ensures added { (spots : List Spot) → Holds nodes.old.items spots → IfOk result (Puts nodes.new.items (element_added spots number (shape_of content) taken span)) }
+    ensures added { (text : List ℕ) (spots : List Spot) → Holds text nodes.old.items spots → IfOk result (Puts text nodes.new.items (element_added spots number (shape_of text content) taken span)) }
     ensures refused { IfErr result IsMemory }
 {
     let count = nodes.len();
@@ -192,8 +192,8 @@ pub(crate) fn assert_member(
     taken: Taken,
     span: Option<Span>,
 ) -> CargoResult<Option<usize>>
-    ensures made { (spots : List Spot) → Holds nodes.old.items spots
-        → IfOk result (Puts nodes.new.items (asserted spots number (string_bytes name) (shape_of content) taken span)) }
+    ensures made { (text : List ℕ) (spots : List Spot) → Holds text nodes.old.items spots
+        → IfOk result (Puts text nodes.new.items (asserted spots number (string_bytes name) (shape_of text content) taken span)) }
     ensures refused { IfErr result IsMemory }
 {
     let Some(member) = find(nodes, number, name.as_str()) else {
@@ -216,8 +216,8 @@ pub(crate) fn reach(
     is_inline: bool,
     taken: Taken,
 ) -> CargoResult<Option<usize>>
-    ensures made { (spots : List Spot) → Holds nodes.old.items spots
-        → IfOk result (Puts nodes.new.items (reached spots number (map string_bytes fronts.now) (front_shape is_inline) taken)) }
+    ensures made { (text : List ℕ) (spots : List Spot) → Holds text nodes.old.items spots
+        → IfOk result (Puts text nodes.new.items (reached spots number (map string_bytes fronts.now) (front_shape is_inline) taken)) }
     ensures refused { IfErr result IsMemory }
 {
     let mut table = number;
@@ -234,7 +234,7 @@ pub(crate) fn reach(
 
 /// What stands at the place of a front part of a key.
 fn front_content(is_inline: bool) -> Content
-    ensures { shape_of result ≡ front_shape is_inline }
+    ensures { (text : List ℕ) → shape_of text result ≡ front_shape is_inline }
 {
     if is_inline {
         Content::Inline

@@ -12,7 +12,7 @@ ghost use Rattle.edit_document.specs.Items.{place_numbered, view_numbered, names
 
 use crate::errors::CargoResult;
 use crate::item::Item;
-use crate::nodes::{Content, Node};
+use crate::nodes::{Content, Node, words_in};
 use crate::place::Step;
 use crate::read::read_marks;
 use crate::walk::nodes_of;
@@ -83,7 +83,7 @@ impl Document {
     {
         let node = &self.nodes[number];
         match &node.content {
-            Content::Text(text) => Seen::Text(text.as_str()),
+            Content::Text(words) => Seen::Text(words_in(self.text.as_str(), words)),
             Content::Truth(truth) => Seen::Truth(*truth),
             Content::Integer(_) => Seen::Integer,
             Content::Float(_) => Seen::Float,

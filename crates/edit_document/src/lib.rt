@@ -12,6 +12,7 @@ pub mod place;
 mod read;
 mod replace;
 mod walk;
+mod words;
 
 pub use document::Document;
 pub use errors::{CargoResult, DeviceCall, Error, MergedCommand, MissingKind, MissingNames};

@@ -1,4 +1,6 @@
 //! The table of nodes of a document.
+ghost use Rattle.std.specs.Prelude.{◌≡◌};
+ghost use Rattle.edit_document.specs.Nodes.{bytes_at, bytes_of};
 
 use indexmap::IndexMap;
 
@@ -10,16 +12,25 @@ pub(crate) struct Span {
     pub(crate) to: usize,
 }
 
+/// What a string says, after escapes.
+#[derive(Drop)]
+pub(crate) enum Words {
+    /// What stands there in the text, between the delimiters.
+    Kept(Span),
+    /// What is said otherwise than it is written.
+    Made(String),
+}
+
 /// What stands at a place, but for its members.
 #[derive(Drop)]
 pub(crate) enum Content {
-    /// A string, after escapes.
-    Text(String),
+    /// A string.
+    Text(Words),
     Truth(bool),
-    /// A number, a date or a time, as it is written.
-    Integer(String),
-    Float(String),
-    DateTime(String),
+    /// A number, a date or a time, as it stands there in the text.
+    Integer(Span),
+    Float(Span),
+    DateTime(Span),
     /// An array that was written as a value.
     Array,
     Inline,
@@ -58,4 +69,27 @@ pub(crate) struct Node {
     pub(crate) members: IndexMap<String, usize>,
     /// The numbers of its elements, where it is an array or an array of tables.
     pub(crate) elements: Vec<usize>,
+}
+
+/// What stands there in a text, or nothing where it cannot be cut out.
+fn cut(text: &str, span: Span) -> &str
+    ensures { result.now ≡ bytes_at text.now span }
+{
+    let start = text.len().saturating_sub(span.from);
+    let end = text.len().saturating_sub(span.to);
+    if start <= end && text.is_char_boundary(start) && text.is_char_boundary(end) {
+        &text[start..end]
+    } else {
+        ""
+    }
+}
+
+/// What a string of a text says.
+pub(crate) fn words_in<'a>(text: &'a str, words: &'a Words) -> &'a str
+    ensures { result.now ≡ bytes_of text.now words.now }
+{
+    match words {
+        Words::Kept(span) => cut(text, *span),
+        Words::Made(said) => said.as_str(),
+    }
 }

@@ -1,17 +1,17 @@
 //! The walk over the marks of a text, which makes its nodes.
 ghost use Rattle.std.specs.Prelude.{◌≡◌, ◌∷◌, [], ℕ, List, IfOk, IfErr, MatchResult, length, string_bytes, Some, None};
 ghost use Rattle.edit_document.specs.Errors.{IsMemory};
-ghost use Rattle.edit_document.specs.Nodes.{shape_of, shape_said};
+ghost use Rattle.edit_document.specs.Nodes.{shape_of};
 ghost use Rattle.edit_document.specs.Walk.{State, awaiting, is_dotted_within, settled, entered_at, entered, opened, closed, headed, element_headed, start, step, walked};
-ghost use Rattle.edit_document.specs.WalkState.{Walks, Goes, Settles, SaysAt, IsToken, KeepsState};
+ghost use Rattle.edit_document.specs.WalkState.{Walks, Goes, Settles, IsToken, KeepsState};
 ghost use Rattle.edit_document.specs.Marks.{IsReadRefusal};
 ghost use Rattle.std.specs.List.{AllByRecursion};
 
 use crate::assertions::{add_element, assert_member, reach};
 use crate::errors::{CargoResult, Error};
 use crate::nodes::{Content, Node, Span, Taken};
-use crate::read::decode::{content, said};
 use crate::read::{Mark, MarkKind};
+use crate::words::{told, worded};
 use indexmap::IndexMap;
 use std::alloc::Global;
 
@@ -25,30 +25,10 @@ pub(crate) struct Walk {
     name: Option<String>,
 }
 
-/// What the token of a mark says.
-fn told(alloc: Global, text: &str, mark: Mark) -> CargoResult<String>
-    ensures text { (name : List ℕ) → SaysAt text.now mark name → IfOk result (λ s. string_bytes s ≡ name) }
-    ensures refused { IfErr result IsMemory }
-{
-    said(alloc, mark.kind, content(text, mark))
-}
-
-/// What a token of this kind shows that says this.
-fn worded(kind: MarkKind, said: String) -> Content
-    ensures { shape_of result ≡ shape_said kind (string_bytes said) }
-{
-    match kind {
-        MarkKind::Integer => Content::Integer(said),
-        MarkKind::Float => Content::Float(said),
-        MarkKind::DateTime => Content::DateTime(said),
-        _ => Content::Text(said),
-    }
-}
-
 impl Walk {
     /// The root alone.
     fn new(alloc: Global) -> CargoResult<Walk>
-        ensures root { IfOk result (λ w. Walks w start) }
+        ensures root { IfOk result (λ w. (text : List ℕ) → Walks text w start) }
         ensures refused { IfErr result IsMemory }
     {
         let mut nodes = Vec::new(alloc);
@@ -84,7 +64,7 @@ impl Walk {
 
     /// A part of a key waits, behind those before it.
     fn await_name(&mut self, name: String) -> CargoResult<()>
-        ensures goes { IfOk result (λ _. (st : State) → Walks self.old st → Walks self.new (awaiting st (string_bytes name))) }
+        ensures goes { IfOk result (λ _. (text : List ℕ) (st : State) → Walks text self.old st → Walks text self.new (awaiting st (string_bytes name))) }
         ensures refused { IfErr result IsMemory }
     {
         if let Some(front) = self.name.take() {
@@ -114,7 +94,7 @@ impl Walk {
         taken: Taken,
         span: Option<Span>,
     ) -> CargoResult<Option<usize>>
-        ensures goes { (st : State) → Walks self.old st → IfOk result (Settles self.new (settled st number front (shape_of content) taken span)) }
+        ensures goes { (text : List ℕ) (st : State) → Walks text self.old st → IfOk result (Settles text self.new (settled st number front (shape_of text content) taken span)) }
         ensures refused { IfErr result IsMemory }
     {
         let Some(name) = self.name.take() else {
@@ -143,7 +123,7 @@ impl Walk {
         content: Content,
         span: Option<Span>,
     ) -> CargoResult<Option<usize>>
-        ensures goes { (st : State) → Walks self.old st → IfOk result (Settles self.new (entered_at st (shape_of content) span)) }
+        ensures goes { (text : List ℕ) (st : State) → Walks text self.old st → IfOk result (Settles text self.new (entered_at st (shape_of text content) span)) }
         ensures refused { IfErr result IsMemory }
     {
         let Some(number) = self.tables.last().copied() else {
@@ -157,7 +137,7 @@ impl Walk {
 
     /// A value enters the innermost table or array.
     fn enter(&mut self, alloc: Global, content: Content, span: Option<Span>) -> CargoResult<bool>
-        ensures goes { (st : State) → Walks self.old st → IfOk result (Goes self.new (entered st (shape_of content) span)) }
+        ensures goes { (text : List ℕ) (st : State) → Walks text self.old st → IfOk result (Goes text self.new (entered st (shape_of text content) span)) }
         ensures refused { IfErr result IsMemory }
     {
         Ok(self.enter_at(alloc, content, span)?.is_some())
@@ -165,7 +145,7 @@ impl Walk {
 
     /// An array or an inline table opens.
     fn open(&mut self, alloc: Global, content: Content, span: Span) -> CargoResult<bool>
-        ensures goes { (st : State) → Walks self.old st → IfOk result (Goes self.new (opened st (shape_of content) (Some span))) }
+        ensures goes { (text : List ℕ) (st : State) → Walks text self.old st → IfOk result (Goes text self.new (opened st (shape_of text content) (Some span))) }
         ensures refused { IfErr result IsMemory }
     {
         let Some(number) = self.enter_at(alloc, content, Some(span))? else {
@@ -177,7 +157,7 @@ impl Walk {
 
     /// The innermost table or array ends before so many bytes.
     fn close(&mut self, to: usize) -> bool
-        ensures { (st : State) → Walks self.old st → Goes self.new (closed st to) result }
+        ensures { (text : List ℕ) (st : State) → Walks text self.old st → Goes text self.new (closed st to) result }
     {
         let Some(number) = self.tables.pop() else {
             return false;
@@ -198,7 +178,7 @@ impl Walk {
 
     /// This table and no other is open.
     fn turn_to(&mut self, number: usize) -> CargoResult<()>
-        ensures turned { IfOk result (λ _. (st : State) → Walks self.old st → Walks self.new (record st { tables = number ∷ [] })) }
+        ensures turned { IfOk result (λ _. (text : List ℕ) (st : State) → Walks text self.old st → Walks text self.new (record st { tables = number ∷ [] })) }
         ensures refused { IfErr result IsMemory }
     {
         self.tables.clear();
@@ -208,7 +188,7 @@ impl Walk {
 
     /// The waiting key becomes a header.
     fn head(&mut self, alloc: Global) -> CargoResult<bool>
-        ensures goes { (st : State) → Walks self.old st → IfOk result (Goes self.new (headed st)) }
+        ensures goes { (text : List ℕ) (st : State) → Walks text self.old st → IfOk result (Goes text self.new (headed st)) }
         ensures refused { IfErr result IsMemory }
     {
         let Some(number) = self.settle(alloc, 0, Taken::Super, Content::Table, Taken::Header, None)?
@@ -221,7 +201,7 @@ impl Walk {
 
     /// The waiting key becomes the header of an element.
     fn head_element(&mut self, alloc: Global) -> CargoResult<bool>
-        ensures goes { (st : State) → Walks self.old st → IfOk result (Goes self.new (element_headed st)) }
+        ensures goes { (text : List ℕ) (st : State) → Walks text self.old st → IfOk result (Goes text self.new (element_headed st)) }
         ensures refused { IfErr result IsMemory }
     {
         let Some(number) = self.settle(alloc, 0, Taken::Super, Content::Tables, Taken::Array, None)?
@@ -245,7 +225,7 @@ impl Walk {
 
     /// Takes the next mark. Answers whether the document may go on so.
     fn take(&mut self, alloc: Global, text: &str, mark: Mark) -> CargoResult<bool>
-        ensures goes { (st : State) → Walks self.old st → IsToken text.now mark → IfOk result (Goes self.new (step text.now mark st)) }
+        ensures goes { (st : State) → Walks text.now self.old st → IsToken text.now mark → IfOk result (Goes text.now self.new (step text.now mark st)) }
         ensures refused { IfErr result IsMemory }
     {
         let span = Span {
@@ -265,7 +245,7 @@ impl Walk {
             | MarkKind::Integer
             | MarkKind::Float
             | MarkKind::DateTime => {
-                let content = worded(mark.kind, told(alloc, text, mark)?);
+                let content = worded(alloc, text, mark)?;
                 self.enter(alloc, content, Some(span))
             }
             MarkKind::True => self.enter(alloc, Content::Truth(true), Some(span)),
@@ -282,7 +262,7 @@ impl Walk {
 /// The nodes of a text with these marks.
 pub(crate) fn nodes_of(alloc: Global, text: &str, marks: &[Mark]) -> CargoResult<Vec<Node>>
     ensures nodes { AllByRecursion (IsToken text.now) marks.now
-        → MatchResult result (λ v. KeepsState v.items (walked text.now marks.now start)) (λ e. (IsMemory e → ⊥) → walked text.now marks.now start ≡ None) }
+        → MatchResult result (λ v. KeepsState text.now v.items (walked text.now marks.now start)) (λ e. (IsMemory e → ⊥) → walked text.now marks.now start ≡ None) }
     ensures refused { IfErr result (IsReadRefusal (length text.now)) }
 {
     let mut walk = Walk::new(alloc)?;

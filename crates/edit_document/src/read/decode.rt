@@ -2,6 +2,7 @@
 ghost use Rattle.std.specs.Prelude.{◌≡◌, ℕ, ◌+◌, ◌-◌, ◌<◌, ◌≤◌, List, [], length, take, drop, ◌++◌, false, IfOk, IfErr, IsTrue, string_bytes, encode_utf8};
 ghost use Rattle.std.specs.Str.{IsCharBoundary};
 ghost use Rattle.edit_document.specs.Errors.{IsMemory};
+ghost use Rattle.edit_document.specs.Nodes.{bytes_at};
 ghost use Rattle.edit_document.specs.Characters.{quote};
 ghost use Rattle.std.specs.Str.Parse.{digits_value};
 ghost use Rattle.edit_document.specs.Strings as strings;
@@ -14,6 +15,7 @@ use super::bytes::{Class, byte_at, first, is_in, run_len, skip};
 use super::marks::{Mark, MarkKind};
 use super::tokens::scalar;
 use crate::errors::CargoResult;
+use crate::nodes::Span;
 use std::alloc::Global;
 
 /// How long the delimiter of a token is.
@@ -39,6 +41,33 @@ pub(crate) fn content(text: &str, mark: Mark) -> &str
     let start = text.len().saturating_sub(mark.from) + width;
     let end = text.len().saturating_sub(mark.to).saturating_sub(width);
     text.get(start..end).unwrap_or("")
+}
+
+/// Where the content of the token with this mark stands.
+pub(crate) fn content_span(text: &str, mark: Mark) -> Span
+    // However the text is split at the token.
+    ensures { (before content rest said : List ℕ) → text.now ≡ before ++ delimited mark.kind content rest →
+        mark.from ≡ length (delimited mark.kind content rest) → mark.to ≡ length rest →
+        Says mark.kind content said → bytes_at text.now result ≡ content }
+{
+    let from = mark.from.saturating_sub(delimiter_len(mark.kind));
+    Span {
+        from,
+        to: from.saturating_sub(content(text, mark).len()),
+    }
+}
+
+/// Whether a content of this kind says what is written.
+pub(crate) fn is_plain(kind: MarkKind, content: &str) -> bool
+    ensures { (said : List ℕ) → Says kind content.now said → IsTrue result → content.now ≡ said }
+{
+    match kind {
+        MarkKind::BasicPart | MarkKind::BasicString => {
+            run_len(content.as_bytes(), Class::Unescaped) >= content.len()
+        }
+        MarkKind::MultiBasicString | MarkKind::MultiLiteralString => false,
+        _ => true,
+    }
 }
 
 /// The character that the letter of an escape names.

@@ -5,17 +5,17 @@ use Rattle.edit_document.proofs.Adding.{added_past, deepest, not_deepest, add_st
 use Rattle.edit_document.proofs.assertions.add.Goals as goal
 
 pub returns-then-number-count-clause-added : goal.returns-then-number-count-clause-added
-returns-then-number-count-clause-added c spots holds none =
+returns-then-number-count-clause-added c text spots holds none =
     let past : length c.args.nodes.now.items ≤ c.args.number = let k = c.args.nodes.now.ok.0 in let n : c.len-count.result ≡ c.args.nodes.now.len = c.len-count.ensures in omega arith in
-    added_past c.args.nodes.now.items spots c.args.number (string_bytes c.args.name) (shape_of c.args.content) c.args.taken c.args.span holds past
+    added_past c.args.nodes.now.items spots c.args.number (string_bytes c.args.name) (shape_of text c.args.content) c.args.taken c.args.span holds past
 
 pub returns-then-is_deepest-clause-added : goal.returns-then-is_deepest-clause-added
-returns-then-is_deepest-clause-added c spots holds none =
+returns-then-is_deepest-clause-added c text spots holds none =
     let inside : c.args.number < length c.args.nodes.now.items = let k = c.args.nodes.now.ok.0 in let n : c.len-count.result ≡ c.args.nodes.now.len = c.len-count.ensures in omega arith in
-    add_stopped c.args.nodes.now.items spots c.args.number c.index_mut-node.result.now (string_bytes c.args.name) (shape_of c.args.content) c.args.taken c.args.span holds inside c.index_mut-node.ensures.value (deepest c.index_mut-node.result.now.steps (sym c.is_deepest.ensures ∙ c.if-is_deepest.true))
+    add_stopped c.args.nodes.now.items spots c.args.number c.index_mut-node.result.now (string_bytes c.args.name) (shape_of text c.args.content) c.args.taken c.args.span holds inside c.index_mut-node.ensures.value (deepest c.index_mut-node.result.now.steps (sym c.is_deepest.ensures ∙ c.if-is_deepest.true))
 
 pub returns-clause-added : goal.returns-clause-added
-returns-clause-added c spots holds none =
+returns-clause-added c text spots holds none =
     add_done c.args.nodes.now.items c.push.new.self.items spots c.args.number c.len-count.result c.index_mut-node.result.now (record c.index_mut-node.result.now { members = c.insert.new.self }) _ c.args.name c.args.content c.args.taken c.args.span holds
     c.if-number-count.false (c.len-count.ensures ∙ c.args.nodes.now.ok.0) c.index_mut-node.ensures.value (not_deepest c.index_mut-node.result.now.steps (sym c.is_deepest.ensures ∙ c.if-is_deepest.false)) none
     (record { content = refl; taken = refl; steps = refl; span = refl; elements = refl; entries = (c.in_ok-insert.ensures {u = tt}).entries })

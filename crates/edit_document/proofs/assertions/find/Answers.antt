@@ -3,9 +3,9 @@ use Rattle.edit_document.proofs.Adding.{child_past, child_found}
 use Rattle.edit_document.proofs.assertions.find.Goals as goal
 
 pub returns-then-number-nodes : goal.returns-then-number-nodes
-returns-then-number-nodes c spots holds = sym (child_past c.args.nodes.now spots c.args.number c.args.name.now holds c.if-number-nodes.true)
+returns-then-number-nodes c text spots holds = sym (child_past c.args.nodes.now spots c.args.number c.args.name.now holds c.if-number-nodes.true)
 
 pub returns : goal.returns
-returns c spots holds =
+returns c text spots holds =
     c.copied.ensures ∙ c.get.ensures.value
     ∙ sym (child_found c.args.nodes.now spots c.args.number c.index-nodes-number.result c.args.name.now holds c.if-number-nodes.false c.index-nodes-number.is)

@@ -4,9 +4,9 @@ use Rattle.edit_document.proofs.Adding.{target_past, target_found}
 use Rattle.edit_document.proofs.assertions.last_element.Goals as goal
 
 pub returns-then-number-nodes : goal.returns-then-number-nodes
-returns-then-number-nodes c spots holds = sym (target_past c.args.nodes.now spots c.args.number holds c.if-number-nodes.true)
+returns-then-number-nodes c text spots holds = sym (target_past c.args.nodes.now spots c.args.number holds c.if-number-nodes.true)
 
 pub returns : goal.returns
-returns c spots holds =
-    c.unwrap_or.ensures ∙ ap (λ (o : Option ℕ). unwrap_or o c.args.number) c.last_table.ensures
+returns c text spots holds =
+    c.unwrap_or.ensures ∙ ap (λ (o : Option ℕ). unwrap_or o c.args.number) (c.last_table.ensures text)
     ∙ sym (target_found c.args.nodes.now spots c.args.number c.index-nodes-number.result holds c.if-number-nodes.false c.index-nodes-number.is)

@@ -3,8 +3,11 @@ use Rattle.std.proofs.lemmas.List.{drop_all}
 use Rattle.edit_document.specs.declared.nodes.Node.{Node}
 use Rattle.edit_document.specs.Walk.{start, walked}
 use Rattle.edit_document.specs.WalkState.{KeepsState}
-use Rattle.edit_document.proofs.Closing.{Along, along_end, turn_on, turn_off}
+use Rattle.edit_document.proofs.Closing.{Along, along_start, along_end, turn_on, turn_off}
 use Rattle.edit_document.proofs.walk.nodes_of.Goals as goal
+
+pub marks-init : goal.marks-init
+marks-init c tokens = along_start c.in_ok-walk.walk c.args.text.now c.args.marks.now ((c.in_ok-walk.ensures {u = tt}).root c.args.text.now)
 
 pub marks-preserved : goal.marks-preserved
 marks-preserved c tokens =
@@ -19,4 +22,4 @@ returns-clause-nodes c tokens =
     let text = c.args.text.now in
     let marks = c.args.marks.now in
     let a = subst (Along c.marks.walk text marks) (drop_all c.marks.mark-index marks c.marks-test.false) (c.marks.invariant tokens) in
-    subst (λ (ns : List Node). KeepsState ns (walked text marks start)) (sym (ap (λ v. v.items) c.into_nodes.ensures)) (along_end c.marks.walk text marks a)
+    subst (λ (ns : List Node). KeepsState text ns (walked text marks start)) (sym (ap (λ v. v.items) c.into_nodes.ensures)) (along_end c.marks.walk text marks a)

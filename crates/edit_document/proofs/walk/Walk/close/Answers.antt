@@ -5,14 +5,14 @@ use Rattle.edit_document.proofs.Closing.{without_push, goes_closed, closed_bare}
 use Rattle.edit_document.proofs.walk.Walk.close.Goals as goal
 
 pub returns-in_default-span : goal.returns-in_default-span
-returns-in_default-span c st w =
+returns-in_default-span c text st w =
     let items = (c.in-Some.ensures {u = tt}).items in
     let top : last_of c.args.self.now.tables.items ≡ Some c.in-Some.number = ap last_of items ∙ last_push c.pop.new.self.items c.in-Some.number in
     let inside : c.in-Some.number < length c.args.self.now.nodes.items = let k = c.args.self.now.nodes.ok.0 in let n = c.len.ensures in let l = c.if-number-len.false in omega arith in
     closed_bare c.args.self.now st c.args.to c.in-Some.number c.index_mut-node.result.now w top inside c.index_mut-node.ensures.value c.in_default-span.is
 
 pub returns : goal.returns
-returns c st w =
+returns c text st w =
     let items = (c.in-Some.ensures {u = tt}).items in
     let top : last_of c.args.self.now.tables.items ≡ Some c.in-Some.number = ap last_of items ∙ last_push c.pop.new.self.items c.in-Some.number in
     let inside : c.in-Some.number < length c.args.self.now.nodes.items = let k = c.args.self.now.nodes.ok.0 in let n = c.len.ensures in let l = c.if-number-len.false in omega arith in

@@ -1,0 +1,44 @@
+//! What the tokens of a text say and show.
+ghost use Rattle.std.specs.Prelude.{◌≡◌, ℕ, List, IfOk, IfErr, string_bytes};
+ghost use Rattle.edit_document.specs.Errors.{IsMemory};
+ghost use Rattle.edit_document.specs.Nodes.{bytes_of, shape_of, shape_said};
+ghost use Rattle.edit_document.specs.WalkState.{SaysAt};
+
+use crate::errors::CargoResult;
+use crate::nodes::{Content, Words};
+use crate::read::decode::{content, content_span, is_plain, said};
+use crate::read::{Mark, MarkKind};
+use std::alloc::Global;
+
+/// What the token of a mark says.
+pub(crate) fn told(alloc: Global, text: &str, mark: Mark) -> CargoResult<String>
+    ensures text { (name : List ℕ) → SaysAt text.now mark name → IfOk result (λ s. string_bytes s ≡ name) }
+    ensures refused { IfErr result IsMemory }
+{
+    said(alloc, mark.kind, content(text, mark))
+}
+
+/// What the token of a string says: where that is what is written, it stays in the text.
+fn words_of(alloc: Global, text: &str, mark: Mark) -> CargoResult<Words>
+    ensures says { (name : List ℕ) → SaysAt text.now mark name → IfOk result (λ w. bytes_of text.now w ≡ name) }
+    ensures refused { IfErr result IsMemory }
+{
+    if is_plain(mark.kind, content(text, mark)) {
+        Ok(Words::Kept(content_span(text, mark)))
+    } else {
+        Ok(Words::Made(told(alloc, text, mark)?))
+    }
+}
+
+/// What the token of a string, a number, a date or a time shows.
+pub(crate) fn worded(alloc: Global, text: &str, mark: Mark) -> CargoResult<Content>
+    ensures shows { (name : List ℕ) → SaysAt text.now mark name → IfOk result (λ c. shape_of text.now c ≡ shape_said mark.kind name) }
+    ensures refused { IfErr result IsMemory }
+{
+    match mark.kind {
+        MarkKind::Integer => Ok(Content::Integer(content_span(text, mark))),
+        MarkKind::Float => Ok(Content::Float(content_span(text, mark))),
+        MarkKind::DateTime => Ok(Content::DateTime(content_span(text, mark))),
+        _ => Ok(Content::Text(words_of(alloc, text, mark)?)),
+    }
+}
