@@ -20,6 +20,7 @@ use Rattle.cargo_edit.proofs.Taken.{far-some, far_text, near-some, near_text, ne
 
 -- ---- pinned entries
 
+-- pinning looks at operators alone
 pin-map : (cs : List Held) → list_any (λ (c : Held). is_pin c.0) cs ≡ list_any is_pin (map (λ (c : Held). c.0) cs)
 pin-map [] = refl
 pin-map (c ∷ cs) = ap (λ b. is_pin c.0 || b) (pin-map cs)
@@ -41,16 +42,20 @@ case_of x r old near far = record { excluded = x; renamed = r; selected = None; 
 abbrev jump : Options → Bool → List ℕ → Bool
 jump o r old = if r || has_pin_read (req_of old) then o.pinned else o.incompatible
 
+-- nothing may be written where there is nothing
 when-none : (b : Bool) → when {A = List ℕ} b None ≡ None
 when-none true = refl
 when-none false = refl
 
+-- nothing is written where it may not be
 when-off : (b : Bool) (a : Option (List ℕ)) → b ≡ false → when b a ≡ None
 when-off b a h = rw h refl
 
+-- where it may be and nothing is, there is nothing
 when-on : (b : Bool) (a : Option (List ℕ)) → b ≡ true → when b a ≡ None → a ≡ None
 when-on b a e h = rw e at h
 
+-- without another text nothing changes
 rest-none : (old : List ℕ) (x b : Bool) → row_change old (first_row x None b None None) ≡ None
 rest-none old true b = refl
 rest-none old false true = refl
@@ -74,6 +79,7 @@ latest-row o r xs old t near0 far0 near far all islatest h isnear isfar =
     (ap (λ (x : Option (List ℕ)). when (jump o r t) x) s.0 ∙ when-none (jump o r t))
     (ap (λ (x : Option (List ℕ)). when o.compatible x) s.1 ∙ when-none o.compatible)
 
+-- writing the old text is no change
 self-none : (o : Options) (r : Bool) (old : List ℕ) (near far : Option Parts) → is_ok (req_of old) ≡ true
     → when (jump o r old) (far_text old far near) ≡ None → when o.compatible (near_text old near) ≡ Some old
     → row_change old (row_of o (case_of false r old near far)) ≡ None
@@ -120,6 +126,7 @@ compatible-row o r xs old t u far0 near far (Text s) all b e h iscomp islatest n
 abbrev stands : Bool → List ℕ → Bool → Option (List ℕ) → Option (List ℕ) → List ℕ
 stands x old b l c = row_text old (first_row x None b l c)
 
+-- whichever text the entry got, it stays
 rows : (o : Options) (x r : Bool) (xs : List Parts) (old : List ℕ) (near0 far0 near far : Option Parts) (b : Bool) (l c : Option (List ℕ))
     → All IsValid xs → IsCompatible old xs near0 → IsLatest old xs far0
     → is_ok (req_of old) ≡ b → when (jump o r old) (far_text old far0 near0) ≡ l → when o.compatible (near_text old near0) ≡ c

@@ -30,6 +30,7 @@ use Rattle.cargo_edit.proofs.WrittenEntries.{old_after, renew, renewed}
 
 -- ---- there are rows for each list of entries
 
+-- a list after another has a greatest version or none that is kept
 some-after : (keep : Parts → Bool) (back front : List Parts) (o : Option Parts) → IsGreatest keep full_order front o
     → (best : Option Parts) × IsGreatest keep full_order (front ++ back) best
 some-after keep [] front o h = (o, subst (λ (l : List Parts). IsGreatest keep full_order l o) (sym (append-nil front)) h)
@@ -37,9 +38,11 @@ some-after keep (x ∷ back) front o h =
     let more = some-after keep back (front ++ x ∷ []) (advance keep full_order o x) (advanced keep full_order full_total front x o h) in
     (more.0, subst (λ (l : List Parts). IsGreatest keep full_order l more.0) (append_assoc front (x ∷ []) back) more.1)
 
+-- a list has a greatest version or none that is kept
 some-greatest : (keep : Parts → Bool) (xs : List Parts) → (best : Option Parts) × IsGreatest keep full_order xs best
 some-greatest keep xs = some-after keep xs [] None (All-nil (λ x. keep x ≡ false))
 
+-- each entry has a row
 some-line : (i : ℕ) (o : Options) (xs : List Parts) (e : Seen) → (line : Line) × IsDecided i o xs e line
 some-line i o xs e =
     let near = some-greatest (is_admitted e.old) xs in
@@ -48,6 +51,7 @@ some-line i o xs e =
       record { near = near.0; far = far.0; compatible = near.1; latest = far.1; is = refl },
     )
 
+-- each list of entries has rows
 pub some-lines : (s : Setting) (es : List Seen) → (lines : List Line) × AreDecided s es lines
 some-lines s [] = ([], tt)
 some-lines s (e ∷ es) =
@@ -57,6 +61,7 @@ some-lines s (e ∷ es) =
 
 -- ---- the text of a row is cut already
 
+-- a cut text has no `+`
 cut-no_plus : (xs : List ℕ) → holds_plus (cut xs) ≡ false
 cut-no_plus [] = refl
 cut-no_plus (x ∷ xs) = elim (cases_Bool (x == 43)) [
@@ -71,6 +76,7 @@ cut-no_plus (x ∷ xs) = elim (cases_Bool (x == 43)) [
 pub cut-whole : (xs : List ℕ) → cut (cut xs) ≡ cut xs
 cut-whole xs = cut-none (cut xs) (cut-no_plus xs)
 
+-- a text that could be written is cut already
 whole-of : (old other : List ℕ) (v : Parts) (t : List ℕ) (r : Raised) → IsValid v → cut other ≡ other → raise old v ≡ r → text_or other r ≡ Some t → cut t ≡ t
 whole-of old other v t Unread valid e q h = cc h
 whole-of old other v t Nothing valid e q h = cc h
@@ -81,6 +87,7 @@ whole-of old other v t (Text s) valid e q h =
     let same : s ≡ t = cc h in
     subst (λ (x : List ℕ). cut x ≡ x) same (raised-whole old v s (valid-version v valid) q)
 
+-- so is the text that an entry gets
 whole-row : (b : Bool) (old : List ℕ) (l c : Option (List ℕ)) → cut old ≡ old → ((t : List ℕ) → l ≡ Some t → cut t ≡ t) → ((t : List ℕ) → c ≡ Some t → cut t ≡ t)
     → cut (row_text old (first_row false None b l c)) ≡ row_text old (first_row false None b l c)
 whole-row false old l c h f g = h
@@ -88,6 +95,7 @@ whole-row true old (Some t) c h f g = f t refl
 whole-row true old None (Some t) h f g = g t refl
 whole-row true old None None h f g = h
 
+-- so is the requirement of a decided row
 decided-whole : (o : Options) (xs : List Parts) (e : Seen) (near far : Option Parts) → All IsValid xs → cut e.old ≡ e.old
     → IsCompatible e.old xs near → IsLatest e.old xs far → cut (decision o (case_for e near far)).new ≡ (decision o (case_for e near far)).new
 decided-whole o xs e near far all h ic il =
@@ -104,12 +112,14 @@ decided-whole o xs e near far all h ic il =
 
 -- ---- the requirement that a row leaves
 
+-- a text that is no change is the old one
 same-stays : (old text : List ℕ) (kind : Change) → unless_old old text kind ≡ None → text ≡ old
 same-stays old text kind h = elim (cases_Bool (pointwise nat_eq text old)) [
   | inl same ↦ same_text _ _ same
   | inr other ↦ cc (rw other at h)
 ]
 
+-- where there is no change, the text is the old one
 old-stays : (old : List ℕ) (row : Outcome) → row_change old row ≡ None → row_text old row ≡ old
 old-stays old left_out h = refl
 old-stays old (given text) h = same-stays old text _ h
@@ -118,15 +128,18 @@ old-stays old (to_latest text) h = same-stays old text _ h
 old-stays old (to_compatible text) h = same-stays old text _ h
 old-stays old kept h = refl
 
+-- so the row tells the old requirement
 line-stays : (i : ℕ) (o : Options) (xs : List Parts) (e : Seen) (line : Line) → IsDecided i o xs e line → line.change ≡ None → line.new ≡ Some e.old
 line-stays i o xs e line d h =
     let k = case_for e d.near d.far in
     let q : row_change e.old (row_of o k) ≡ None = sym (ap (λ (l : Line). l.change) d.is) ∙ h in
     ap (λ (l : Line). l.new) d.is ∙ ap (λ (x : List ℕ). Some x) (old-stays e.old (row_of o k) q)
 
+-- a row without a change writes nothing
 pub none-written : (l : Place) (line : Line) → line.change ≡ None → write_at l line ≡ None
 none-written l line h = rw h refl
 
+-- a row with a change writes its requirement
 some-written : (l : Place) (line : Line) (kind : Change) (new : List ℕ) → line.change ≡ Some kind → line.new ≡ Some new → write_at l line ≡ Some (l, new)
 some-written l line kind new h n = rw (h, n) refl
 
@@ -134,6 +147,7 @@ some-written l line kind new h n = rw (h, n) refl
 abbrev HasNew : Seen → Line → Type 0
 HasNew e line = (new : List ℕ) × (line.new ≡ Some new) × (renew e line ≡ record e { old = new })
 
+-- by whether the row has a change
 new-by : (i : ℕ) (o : Options) (xs : List Parts) (e : Seen) (line : Line) (c : Option Change) → All IsValid xs → cut e.old ≡ e.old → IsDecided i o xs e line
     → line.change ≡ c → HasNew e line
 new-by i o xs e line None all h d q =
@@ -149,6 +163,7 @@ new-by i o xs e line (Some kind) all h d q =
 
 -- ---- decided again
 
+-- an option has one text
 some-same : (a b : List ℕ) → Some a ≡ Some b → a ≡ b
 some-same a b h = cc h
 

@@ -50,6 +50,7 @@ admits-plain text v a = (a.0, a.1, admits-without_build a.0 v ∙ a.2)
 told-plain : (v : Parts) → IsValid v → IsVersionTold (Some (plain_text v)) (without_build v)
 told-plain v valid = plain_text-read v valid
 
+-- what is not greater first is not less the other way
 reversed : (r s : Ordering) → is_le (ordering_then r s) ≡ true → is_ge (ordering_reverse r) ≡ true
 reversed Less s h = refl
 reversed Equal s h = refl
@@ -59,25 +60,30 @@ reversed Greater s h = cc h
 not-less : (u v : Parts) → is_le (full_order u v) ≡ true → is_ge (precedence v u) ≡ true
 not-less u v h = ap is_ge (precedence_total.antisymm v u) ∙ reversed (precedence u v) _ h
 
+-- an order that is its own reverse is not less
 own-reverse : (r : Ordering) → r ≡ ordering_reverse r → is_ge r ≡ true
 own-reverse Less e = cc
 own-reverse Equal e = refl
 own-reverse Greater e = refl
 
+-- a version is not less than itself
 not-less-itself : (u : Parts) → is_ge (precedence u u) ≡ true
 not-less-itself u = own-reverse (precedence u u) (precedence_total.antisymm u u)
 
 -- ---- one row
 
+-- a requirement that admits a version is read
 read-admits : (text : List ℕ) (v : Parts) → Admits text v → IsOk (req_of text)
 read-admits text v a = rw a.1 refl
 
+-- a decided row narrows
 pub line-narrows : (i : ℕ) (o : Options) (xs : List Parts) (e : Seen) (line : Line) → All IsValid xs → IsDecided i o xs e line → Narrows line
 line-narrows i o xs e line all d =
     subst Narrows (sym d.is) (λ h.
     let n = narrowing o xs (case_for e d.near d.far) all d.compatible h in
     (read-admits (decision o (case_for e d.near d.far)).new n.0 n.2.0, λ v a. n.2.1 v a))
 
+-- a decided row reaches its version
 pub line-reaches : (i : ℕ) (o : Options) (xs : List Parts) (e : Seen) (line : Line) → All IsValid xs → IsDecided i o xs e line → Reaches line
 line-reaches i o xs e line all d =
     let c = case_for e d.near d.far in
@@ -107,6 +113,7 @@ told-latest u v a b le = elim (cases_Bool (pointwise nat_eq (plain_text v) (plai
   | inr other ↦ (without_build v, rw other (told-plain v b), not-less u v le)
 ]
 
+-- the two versions that a decided row tells
 latest-of : (xs : List Parts) (old : List ℕ) (near far : Option Parts) → All IsValid xs → IsCompatible old xs near → IsLatest old xs far
     → IsSome (option_map plain_text near) → (u : Parts) × (v : Parts) × IsVersionTold (option_map plain_text near) u
     × IsVersionTold (option_map plain_text (or_else (newer far near) near)) v × IsTrue (is_ge (precedence v u))
@@ -124,11 +131,13 @@ latest-of xs old (Some u) far all a b h =
       t.2,
     )
 
+-- a decided row's latest version is not less
 pub line-latest : (i : ℕ) (o : Options) (xs : List Parts) (e : Seen) (line : Line) → All IsValid xs → IsDecided i o xs e line → LatestIsNotLess line
 line-latest i o xs e line all d = subst LatestIsNotLess (sym d.is) (latest-of xs e.old d.near d.far all d.compatible d.latest)
 
 -- ---- all rows
 
+-- what holds of each decided row holds of all rows
 all-lines : (s : Setting) (P : Line → Type 0) → ((e : Seen) (line : Line) → IsDecided s.input s.options (s.versions e.name) e line → P line)
     → (es : List Seen) (ls : List Line) → AreDecided s es ls → All P ls
 all-lines s P f [] [] h = All-nil P
@@ -136,6 +145,7 @@ all-lines s P f [] (l ∷ ls) h = absurd h
 all-lines s P f (e ∷ es) [] h = absurd h
 all-lines s P f (e ∷ es) (l ∷ ls) h = All-cons P l ls (f e l h.0) (all-lines s P f es ls h.1)
 
+-- the rows of a manifest narrow
 pub rows-narrow : (i : ℕ) (o : Options) (rust : Option Numbers) (looks : List Look) (address bytes : List ℕ) (lines : List Line)
     → HasRows (told_setting i o rust looks address) bytes lines → All Narrows lines
 rows-narrow i o rust looks address bytes lines h =
@@ -143,6 +153,7 @@ rows-narrow i o rust looks address bytes lines h =
     all-lines s Narrows (λ e line d. line-narrows i o (s.versions e.name) e line (setting-valid i o rust looks address e.name) d)
     (seen (view_at h.form)) lines h.decided
 
+-- they reach their versions
 pub rows-reach : (i : ℕ) (o : Options) (rust : Option Numbers) (looks : List Look) (address bytes : List ℕ) (lines : List Line)
     → HasRows (told_setting i o rust looks address) bytes lines → All Reaches lines
 rows-reach i o rust looks address bytes lines h =
@@ -150,6 +161,7 @@ rows-reach i o rust looks address bytes lines h =
     all-lines s Reaches (λ e line d. line-reaches i o (s.versions e.name) e line (setting-valid i o rust looks address e.name) d)
     (seen (view_at h.form)) lines h.decided
 
+-- their latest versions are not less
 pub rows-latest : (i : ℕ) (o : Options) (rust : Option Numbers) (looks : List Look) (address bytes : List ℕ) (lines : List Line)
     → HasRows (told_setting i o rust looks address) bytes lines → All LatestIsNotLess lines
 rows-latest i o rust looks address bytes lines h =

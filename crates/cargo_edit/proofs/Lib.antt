@@ -15,6 +15,7 @@ pub mod Narrowing
 pub mod HeadlineRows
 pub mod RaisedAgain
 pub mod DecidedAgain
+pub mod SeenCases
 pub mod WrittenEntries
 pub mod FixedPoint
 pub mod PlannedAgain

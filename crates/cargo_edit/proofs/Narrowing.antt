@@ -19,6 +19,7 @@ use Rattle.cargo_edit.specs.declared.upgrade.Change.TheVariants as change
 use Rattle.cargo_edit.specs.declared.upgrade.Options.{Options}
 use Rattle.cargo_edit.proofs.Taken.{compatible-taken, far-some, latest-taken, near-some, newer-latest, when-some}
 
+-- the requirement that the compatible version was written into narrows the old one
 narrow-of : (xs : List Parts) (old t : List ℕ) (u : Parts) (r : Raised) → All IsValid xs → IsCompatible old xs (Some u)
     → raise old u ≡ r → text_or old r ≡ Some t → pointwise nat_eq t old ≡ false → IsNarrower old t u
 narrow-of xs old t u Unread all near e h other = cc h
@@ -54,6 +55,7 @@ latest-read old v t (Text s) valid offered e h =
     let same : s ≡ t = cc h in
     subst (λ (x : List ℕ). Lands v x) same (outcome-lands old v s valid offered (text-outcome old v s e))
 
+-- the same, from what raising gives
 pub latest-lands : (old : List ℕ) (v : Parts) (t : List ℕ) → IsValid v → is_offered old v ≡ true
     → text_or (plain_text v) (raise old v) ≡ Some t → Lands v t
 latest-lands old v t valid offered h = latest-read old v t (raise old v) valid offered refl h

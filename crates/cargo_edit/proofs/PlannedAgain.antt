@@ -26,7 +26,8 @@ use Rattle.cargo_edit.specs.declared.upgrade.Output.{Output}
 use Rattle.cargo_edit.proofs.FixedPoint.{all-again, cut-whole, none-written, some-lines}
 use Rattle.cargo_edit.proofs.HeadlineRows.{setting-valid}
 use Rattle.cargo_edit.proofs.Literals.{any-all, entries-apart, kept-all, writes-strings}
-use Rattle.cargo_edit.proofs.WrittenEntries.{renewed, seen-cut, written-seen}
+use Rattle.cargo_edit.proofs.SeenCases.{seen-cut}
+use Rattle.cargo_edit.proofs.WrittenEntries.{renewed, written-seen}
 
 -- the requirement of each seen entry is cut already
 seen-whole : (t : Tree) → AllByRecursion (λ e. cut e.old ≡ e.old) (seen t)
@@ -55,6 +56,7 @@ record IsReadBack (new : List ℕ) (form : Text) (lines : List Line) : Type 0 wh
   manifest : IsManifest new after
   tree : (q : Place) → view_at after q ≡ written (writes (seen (view_at form)) lines) (view_at form) q
 
+-- by whether there is an output
 read-by : (path bytes : List ℕ) (form : Text) (lines : List Line) (outputs : List Output) → IsManifest bytes form
     → AreOutputs path bytes (writes (seen (view_at form)) lines) outputs → IsReadBack (bytes_after bytes outputs) form lines
 read-by path bytes form lines _ m (unchanged none) = record {
@@ -90,6 +92,7 @@ seen-always new form lines es b same f m = ap (λ (x : Text). seen (view_at x)) 
 
 -- ---- planned again
 
+-- what was read back stays
 settled-on : (s : Setting) (new : List ℕ) (form : Text) (lines : List Line) → ((name : List ℕ) → All IsValid (s.versions name))
     → AreDecided s (seen (view_at form)) lines → IsReadBack new form lines → IsFixedPoint s new
 settled-on s new form lines all d b =
@@ -116,6 +119,7 @@ settled i o rust looks address path bytes lines outputs h g =
 
 -- ---- the looks that are needed
 
+-- entries keep their names
 names-same : (es : List Seen) (ls : List Line) → map (λ (e : Seen). e.name) (renewed es ls) ≡ map (λ (e : Seen). e.name) es
 names-same [] ls = refl
 names-same (e ∷ es) [] = refl

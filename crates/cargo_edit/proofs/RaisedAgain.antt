@@ -28,6 +28,7 @@ newer-none u v e =
 
 -- ---- after the latest version was written
 
+-- neither version raises a text that the latest one was written into
 settled-at : (xs : List Parts) (t : List ℕ) (v : Parts) (near : Option Parts) → Lands v t → IsGreatestKept (is_offered t) full_order xs v
     → IsCompatible t xs near → (far_text t (Some v) near ≡ None) × (near_text t near ≡ None)
 settled-at xs t v None l far near = (rw l.fixed refl, refl)
@@ -74,9 +75,11 @@ nothing-same xs old u v all near h none =
     let s = near-is xs old v u l h near in
     sym (plain-same u v s)
 
+-- a latest version with another text is newer
 newer-other : (u v : Parts) → pointwise nat_eq (plain_text v) (plain_text u) ≡ false → newer (Some v) (Some u) ≡ Some v
 newer-other u v h = rw h refl
 
+-- what gives no text, though it was read, gives nothing
 text-none : (other : List ℕ) (r : Raised) → text_or other r ≡ None → (r ≡ Unread → ⊥) → r ≡ Nothing
 text-none other Unread h n = absurd (n refl)
 text-none other Nothing h n = refl

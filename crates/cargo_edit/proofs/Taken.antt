@@ -14,9 +14,11 @@ use Rattle.cargo_edit.specs.declared.upgrade.Options.{Options}
 abbrev pub far_text : List ℕ → Option Parts → Option Parts → Option (List ℕ)
 far_text t far near = option_and_then (λ v. text_or (plain_text v) (raise t v)) (newer far near)
 
+-- the same for the compatible version
 abbrev pub near_text : List ℕ → Option Parts → Option (List ℕ)
 near_text t near = option_and_then (λ v. text_or t (raise t v)) near
 
+-- a text that may be written is there
 pub when-some : (b : Bool) (a : Option (List ℕ)) (t : List ℕ) → when b a ≡ Some t → a ≡ Some t
 when-some true a t h = h
 when-some false a t h = cc h
@@ -30,6 +32,7 @@ newer-latest (Some f) (Some u) v h = elim (cases_Bool (pointwise nat_eq (plain_t
   | inr other ↦ rw other at h
 ]
 
+-- the version that a text is for
 newer-some : (old t : List ℕ) (o : Option Parts) → option_and_then (λ v. text_or (plain_text v) (raise old v)) o ≡ Some t
     → (v : Parts) × (o ≡ Some v) × (text_or (plain_text v) (raise old v) ≡ Some t)
 newer-some old t None h = cc h

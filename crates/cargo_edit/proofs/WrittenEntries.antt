@@ -1,10 +1,10 @@
 -- The entries that are seen once their rows were written: the same ones, with the new requirements.
-use Rattle.std.proofs.Common.{◌≡◌, ◌∷◌, [], List, ℕ, Option, Some, None, Bool, true, false, refl, ap, ◌∙◌, sym, subst, inl, inr, ◌⊎◌}
+use Rattle.std.proofs.Common.{◌≡◌, ◌∷◌, [], List, ℕ, Option, Some, None, true, false, refl, ap, ◌∙◌, sym, subst, inl, inr, ◌⊎◌}
 use Rattle.std.specs.Prelude.{codes, if◌then◌else◌}
 use Rattle.std.specs.List.{AllByRecursion, AllZip, cons_option, filter_map, list_all}
 use Rattle.std.proofs.lemmas.Bool.{cases_Bool}
 use Rattle.edit_document.specs.Assertions.{Place, key, same_bytes, same_place}
-use Rattle.edit_document.specs.Items.{is_tabular, names_in}
+use Rattle.edit_document.specs.Items.{names_in}
 use Rattle.edit_document.specs.Replaces.{Edits, written}
 use Rattle.edit_document.specs.Tree.{View, fractional, inline_table, moment, static_array, string, table, table_array, truth, whole}
 use Rattle.edit_document.proofs.SamePlace.{not_below, other_place, same_bytes_is, same_place_is, same_place_self}
@@ -13,6 +13,7 @@ use Rattle.cargo_edit.specs.Entries.{Tree, dependencies, entry_names, entry_plac
 use Rattle.cargo_edit.specs.Records.{Seen, is_known, seen, seen_at, seen_view, seen_with, version_place}
 use Rattle.cargo_edit.specs.Rows.{Line, with_write, write_at, writes}
 use Rattle.cargo_edit.proofs.Literals.{AreApart, any-all, kept-all, places-apart, seen-of, write-cases}
+use Rattle.cargo_edit.proofs.SeenCases.{entry_of, seen-cases, some-seen}
 use Rattle.cargo_edit.proofs.SeenLemmas.{is_plain, seen-table}
 
 -- ---- what a write leaves
@@ -37,6 +38,7 @@ renewed [] ls = []
 renewed (e ∷ es) [] = e ∷ es
 renewed (e ∷ es) (l ∷ ls) = renew e l ∷ renewed es ls
 
+-- a write leaves every other place
 write-other : (l : Place) (line : Line) (ws : Edits) (t : Tree) (q : Place) → same_place l q ≡ false
     → written (with_write (write_at l line) ws) t q ≡ written ws t q
 write-other l line ws t q h = elim (write-cases l line) [
@@ -51,17 +53,20 @@ untouched [] ls t q h = refl
 untouched (e ∷ es) [] t q h = refl
 untouched (e ∷ es) (l ∷ ls) t q h = write-other e.literal l (writes es ls) t q h.0 ∙ untouched es ls t q h.1
 
+-- and at its place stands what it wrote
 write-here : (l : Place) (o : Option (Place × List ℕ)) (ws : Edits) (t : Tree) → (o ≡ None) ⊎ ((text : List ℕ) × (o ≡ Some (l, text)))
     → written (with_write o ws) t l ≡ view_after o (written ws t l)
 write-here l o ws t (inl none) = rw none refl
 write-here l o ws t (inr some) = rw (some.1, same_place_self l) refl
 
+-- places differ both ways
 other-way : (p q : Place) → same_place p q ≡ false → same_place q p ≡ false
 other-way p q h = elim (cases_Bool (same_place q p)) [
   | inl same ↦ cc (sym h ∙ ap (same_place p) (same_place_is q p same) ∙ same_place_self p)
   | inr other ↦ other
 ]
 
+-- literals differ both ways
 apart-back : (e : Seen) (es : List Seen) → AllByRecursion (λ f. same_place e.literal f.literal ≡ false) es
     → AllByRecursion (λ f. same_place f.literal e.literal ≡ false) es
 apart-back e [] h = tt
@@ -71,6 +76,7 @@ apart-back e (f ∷ es) h = (other-way e.literal f.literal h.0, apart-back e es 
 abbrev Stand : Tree → Tree → List Seen → List Line → Type 0
 Stand t u es ls = AllZip (λ e line. u e.literal ≡ view_after (write_at e.literal line) (t e.literal)) es ls
 
+-- a write elsewhere leaves what stands at literals
 stand-more : (t : Tree) (e : Seen) (l : Line) (ws : Edits) (es : List Seen) (ls : List Line) → AllByRecursion (λ f. same_place e.literal f.literal ≡ false) es
     → Stand t (written ws t) es ls → Stand t (written (with_write (write_at e.literal l) ws) t) es ls
 stand-more t e l ws [] [] a h = tt
@@ -78,6 +84,7 @@ stand-more t e l ws [] (m ∷ ls) a h = absurd h
 stand-more t e l ws (f ∷ es) [] a h = absurd h
 stand-more t e l ws (f ∷ es) (m ∷ ls) a h = (write-other e.literal l ws t f.literal a.0 ∙ h.0, stand-more t e l ws es ls a.1 h.1)
 
+-- what rows wrote stands at the literals of their entries
 stand : (R : Seen → Line → Type 0) (t : Tree) (es : List Seen) (ls : List Line) → AreApart es → AllZip R es ls → Stand t (written (writes es ls) t) es ls
 stand R t [] [] a h = tt
 stand R t [] (l ∷ ls) a h = absurd h
@@ -88,82 +95,15 @@ stand R t (e ∷ es) (l ∷ ls) a h = (
   stand-more t e l (writes es ls) es ls a.0 (stand R t es ls a.1 h.1),
 )
 
--- ---- what a seen entry is
-
--- the entry of this name, its places and its text
-abbrev entry_of : List ℕ → Place → List ℕ → Seen
-entry_of name literal text = record { name = name; rename = None; place = entry_place name; literal = literal; old = cut text }
-
--- an entry that is a string
-record IsText (t : Tree) (name : List ℕ) (e : Seen) : Type 0 where
-  text : List ℕ
-  there : t (entry_place name) ≡ Some (string text)
-  is : e ≡ entry_of name (entry_place name) text
-
--- an entry that is a table
-record IsTable (t : Tree) (name : List ℕ) (e : Seen) : Type 0 where
-  view : View
-  plain : is_plain view ≡ true
-  there : t (entry_place name) ≡ Some view
-  text : List ℕ
-  version : t (version_place (entry_place name)) ≡ Some (string text)
-  is : e ≡ entry_of name (version_place (entry_place name)) text
-
-some-seen : (a b : Seen) → Some a ≡ Some b → a ≡ b
-some-seen a b h = cc h
-
-with-cases : (name : List ℕ) (l : Place) (o : Option View) (e : Seen) → seen_with name (entry_place name) l o ≡ Some e
-    → (text : List ℕ) × (o ≡ Some (string text)) × (e ≡ entry_of name l text)
-with-cases name l (Some (string text)) e h = (text, refl, sym (some-seen (entry_of name l text) e h))
-with-cases name l None e h = cc h
-with-cases name l (Some (truth b)) e h = cc h
-with-cases name l (Some (whole b)) e h = cc h
-with-cases name l (Some (fractional b)) e h = cc h
-with-cases name l (Some (moment b)) e h = cc h
-with-cases name l (Some (static_array b)) e h = cc h
-with-cases name l (Some (table_array b)) e h = cc h
-with-cases name l (Some (inline_table b)) e h = cc h
-with-cases name l (Some (table b)) e h = cc h
-
-table-cases : (t : Tree) (name : List ℕ) (v : View) (e : Seen) → is_tabular v ≡ true → t (entry_place name) ≡ Some v → (b : Bool)
-    → list_all is_known (names_in v) ≡ b
-    → (if b then seen_with name (entry_place name) (version_place (entry_place name)) (t (version_place (entry_place name))) else None) ≡ Some e → IsTable t name e
-table-cases t name v e tabular q true k h =
-    let w = with-cases name (version_place (entry_place name)) (t (version_place (entry_place name))) e h in
-    record { view = v; plain = rw (tabular, k) refl; there = q; text = w.0; version = w.1; is = w.2 }
-table-cases t name v e tabular q false k h = cc h
-
-view-cases : (t : Tree) (name : List ℕ) (o : Option View) (e : Seen) → t (entry_place name) ≡ o → seen_view t name (entry_place name) o ≡ Some e
-    → IsText t name e ⊎ IsTable t name e
-view-cases t name (Some (string text)) e q h =
-    inl (record { text = text; there = q; is = sym (some-seen (entry_of name (entry_place name) text) e h) })
-view-cases t name (Some (table b)) e q h = inr (table-cases t name (table b) e refl q (list_all is_known (names_in (table b))) refl h)
-view-cases t name (Some (inline_table b)) e q h = inr (table-cases t name (inline_table b) e refl q (list_all is_known (names_in (inline_table b))) refl h)
-view-cases t name None e q h = cc h
-view-cases t name (Some (truth b)) e q h = cc h
-view-cases t name (Some (whole b)) e q h = cc h
-view-cases t name (Some (fractional b)) e q h = cc h
-view-cases t name (Some (moment b)) e q h = cc h
-view-cases t name (Some (static_array b)) e q h = cc h
-view-cases t name (Some (table_array b)) e q h = cc h
-
-seen-cases : (t : Tree) (name : List ℕ) (e : Seen) → seen_at t name ≡ Some e → IsText t name e ⊎ IsTable t name e
-seen-cases t name e h = view-cases t name (t (entry_place name)) e refl h
-
--- the requirement of a seen entry is the cut one of some text
-pub seen-cut : (t : Tree) (name : List ℕ) (e : Seen) → seen_at t name ≡ Some e → (text : List ℕ) × (e.old ≡ cut text)
-seen-cut t name e h = elim (seen-cases t name e h) [
-  | inl s ↦ (s.text, ap (λ (x : Seen). x.old) s.is)
-  | inr s ↦ (s.text, ap (λ (x : Seen). x.old) s.is)
-]
-
 -- ---- an entry in the new tree
 
+-- a string with another text
 text-renewed : (u : Tree) (name text : List ℕ) (o : Option (Place × List ℕ)) → u (entry_place name) ≡ view_after o (Some (string text))
     → seen_at u name ≡ Some (record (entry_of name (entry_place name) text) { old = old_after o (cut text) })
 text-renewed u name text None h = ap (seen_view u name (entry_place name)) h
 text-renewed u name text (Some w) h = ap (seen_view u name (entry_place name)) h
 
+-- a table with another version
 table-renewed : (u : Tree) (name : List ℕ) (v : View) (text : List ℕ) (o : Option (Place × List ℕ)) → is_plain v ≡ true → u (entry_place name) ≡ Some v
     → u (version_place (entry_place name)) ≡ view_after o (Some (string text))
     → seen_at u name ≡ Some (record (entry_of name (version_place (entry_place name)) text) { old = old_after o (cut text) })
@@ -191,6 +131,7 @@ seen-renewed t u name e l s same here = elim (seen-cases t name e s) [
 
 -- ---- all entries
 
+-- an entry is seen as before where its version is as before
 view-same : (t u : Tree) (name : List ℕ) → u (version_place (entry_place name)) ≡ t (version_place (entry_place name)) → (o : Option View)
     → seen_view u name (entry_place name) o ≡ seen_view t name (entry_place name) o
 view-same t u name h (Some (table b)) = ap (λ (x : Option View). if list_all is_known (names_in (table b)) then seen_with name (entry_place name) (version_place (entry_place name)) x else None) h
@@ -208,6 +149,7 @@ view-same t u name h (Some (table_array b)) = refl
 abbrev AreSame : Tree → Tree → List ℕ → Type 0
 AreSame t u name = (u (entry_place name) ≡ t (entry_place name)) × (u (version_place (entry_place name)) ≡ t (version_place (entry_place name)))
 
+-- an entry is seen as before where its places are as before
 seen-same : (t u : Tree) (name : List ℕ) → AreSame t u name → seen_at u name ≡ seen_at t name
 seen-same t u name h = view-same t u name h.1 (u (entry_place name)) ∙ ap (seen_view t name (entry_place name)) h.0
 
@@ -249,6 +191,7 @@ record IsAfter (t u : Tree) : Type 0 where
   unseen : (n : List ℕ) → seen_at t n ≡ None → AreSame t u n
   tables : (n : List ℕ) (e : Seen) → seen_at t n ≡ Some e → e.literal ≡ version_place (entry_place n) → u (entry_place n) ≡ t (entry_place n)
 
+-- one name more
 name-renewed : (t u : Tree) (n : List ℕ) (o : Option Seen) (rest again : List Seen) (ls : List Line) → IsAfter t u → seen_at t n ≡ o
     → ((ms : List Line) → Stand t u rest ms → again ≡ renewed rest ms) → Stand t u (cons_option o rest) ls
     → cons_option (seen_at u n) again ≡ renewed (cons_option o rest) ls
@@ -258,6 +201,7 @@ name-renewed t u n (Some s) rest again [] a e more h = absurd h
 name-renewed t u n (Some s) rest again (l ∷ ls) a e more h =
     ap (λ (o : Option Seen). cons_option o again) (seen-renewed t u n s l e (a.tables n s e) h.0) ∙ ap (λ (es : List Seen). renew s l ∷ es) (more ls h.1)
 
+-- the entries of some names
 names-renewed : (t u : Tree) (ns : List (List ℕ)) (ls : List Line) → IsAfter t u → Stand t u (filter_map (seen_at t) ns) ls
     → filter_map (seen_at u) ns ≡ renewed (filter_map (seen_at t) ns) ls
 names-renewed t u [] [] a h = refl
