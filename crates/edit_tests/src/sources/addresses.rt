@@ -18,6 +18,7 @@ the home of cargo|r|file:///near|/home/config.toml|registries.r.index = 'file://
 only files count|r|file:///near|/w/.cargo/config/x|registries.r.index = 'file:///far'@|/w/.cargo/config.toml|registries.r.index = 'file:///near'@
 no TOML||31 invalid cargo config at /w/.cargo/config.toml|/w/.cargo/config.toml|a = ";
 
+// The same, where a chain of sources leads to the address.
 const CHAINS: &str = "\
 the address of crates.io|sparse+https://index.crates.io/|sparse+https://index.crates.io/
 no such registry|r|32 The registry 'r' could not be found

@@ -88,6 +88,7 @@ fn looks<R: Abort, I: Index>(rt: &R, alloc: Global, index: &mut I, rows: &str) -
 pub const TWO: &[u8] =
     b"{\"name\":\"a\",\"vers\":\"1.0.0\"}\r\n \t\n{\"name\":\"b\",\"vers\":\"2.0.0\"}\n{\"name\":\"a\",\"vers\":\"1.1.0\",\"yanked\":true,\"rust_version\":null}\n";
 
+// A name, an address, the name that is looked for, and what is wanted.
 const IN_ONE_FILE: &str = "\
 both lines, in order|file:///x|a|a 1.0.0.a 1.1.0!
 another address|https://x/y|b|b 2.0.0.
@@ -109,6 +110,7 @@ const FILES: &str = "\
 /idx/1/x|
 /idx/2/xy|{\"name\":\"xy\",\"vers\":\"0.1.0\"}";
 
+// The same, over these files.
 const IN_FILES: &str = "\
 three letters|file:///my%20idx|abc|abc 1.0.0.
 capital letters|file:///my%20idx|Serde|serde 1.2.3.
