@@ -1,2 +1,4 @@
+pub mod CommandLine
 pub mod Located
+pub mod Runs
 pub mod Upgrading

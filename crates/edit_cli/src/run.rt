@@ -1,5 +1,6 @@
 //! The program over any files and any writers.
-ghost use Rattle.std.specs.Prelude.{◌≡◌, ◌≤◌};
+ghost use Rattle.std.specs.Prelude.{◌≡◌, ◌≤◌, map, true};
+ghost use Rattle.edit_cli.specs.Runs.{IsDone, IsRefused};
 
 #[cfg(test)]
 mod tests;
@@ -51,7 +52,12 @@ pub(crate) fn run<S: Store, T: Store + Drop, O: io::Write, E: io::Write>(
     out: &mut O,
     err: &mut E,
 ) -> u8
-    ensures { result ≤ 2 }
+    ensures status { result ≤ 2 }
+    ensures faulty { result ≡ 2 → files.new ≡ files.old }
+    ensures done { result ≡ 0 → S.tells files.old ≡ true
+        → IsDone (map (λ w. w.now) words.now) current.now (S.file_at files.old) (S.file_at files.new) }
+    ensures refused { result ≡ 1 → S.tells files.old ≡ true
+        → IsRefused (map (λ w. w.now) words.now) current.now (S.file_at files.old) (S.file_at files.new) }
 {
     let command = match command(alloc) {
         Ok(command) => command,
