@@ -3,7 +3,6 @@ ghost use Rattle.std.specs.Prelude.{◌≡◌, ◌<◌, ◌≤◌, slice_index, 
 ghost use Rattle.edit_document.specs.declared.read.marks.ReadError.TheVariants.{Memory};
 ghost use Rattle.edit_document.specs.Characters.{left_bracket};
 ghost use Rattle.edit_document.specs.Grammar.{Lines, AreLines, lines};
-ghost use Rattle.edit_document.specs.Supported.{AreSupportedLines};
 ghost use Rattle.edit_document.specs.Depth.{lines_depth};
 ghost use Rattle.edit_document.specs.Reading as reading;
 ghost use Rattle.edit_document.specs.Marks.{statement_marks, line_marks, lines_marks};
@@ -97,8 +96,8 @@ pub(crate) fn line<'a>(
 
 /// The marks of lines, with arrays and inline tables at most 80 deep in one another.
 pub(crate) fn lines(alloc: Global, text: &[u8]) -> Result<Vec<Mark>, ReadError>
-    ensures found { IfOk result (λ v. (form : Lines) × (text.now ≡ lines form) × AreLines form × AreSupportedLines form × (lines_depth form ≤ 80) × (v.items ≡ lines_marks form)) }
-    ensures only { (form : Lines) → text.now ≡ lines form → AreLines form → AreSupportedLines form → lines_depth form ≤ 80 → MatchResult result (λ v. v.items ≡ lines_marks form) (λ e. e ≡ Memory) }
+    ensures found { IfOk result (λ v. (form : Lines) × (text.now ≡ lines form) × AreLines form × (lines_depth form ≤ 80) × (v.items ≡ lines_marks form)) }
+    ensures only { (form : Lines) → text.now ≡ lines form → AreLines form → lines_depth form ≤ 80 → MatchResult result (λ v. v.items ≡ lines_marks form) (λ e. e ≡ Memory) }
 {
     let mut out = Vec::new(alloc);
     let mut rest = text;
