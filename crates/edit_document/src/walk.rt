@@ -70,6 +70,7 @@ impl Walk {
         })
     }
 
+    /// The nodes, without the rest.
     fn into_nodes(self) -> Vec<Node>
         ensures { result ≡ self.nodes }
     {

@@ -48,6 +48,7 @@ fn element_header<'a>(out: &mut Vec<Mark>, s: &'a [u8]) -> Result<&'a [u8], Read
     Ok(rest)
 }
 
+/// A pair, a header or the header of an element.
 #[tactic(auto, unfolding(crate::specs::Reading::statement_at))]
 fn statement<'a>(out: &mut Vec<Mark>, s: &'a [u8], depth: usize) -> Result<&'a [u8], ReadError>
     requires { depth < 1000 }
@@ -62,6 +63,7 @@ fn statement<'a>(out: &mut Vec<Mark>, s: &'a [u8], depth: usize) -> Result<&'a [
     header(out, s)
 }
 
+/// What follows a comment or nothing.
 fn past_comment(s: &[u8]) -> &[u8]
     ensures { result.now ≡ reading.past_comment s.now }
 {
@@ -72,12 +74,14 @@ fn past_comment(s: &[u8]) -> &[u8]
     }
 }
 
+/// Whether no statement begins here.
 fn is_line_over(b: u8) -> bool
     ensures { result ≡ reading.is_line_over b }
 {
     b == 0 || b == b'#' || b == b'\n' || b == b'\r'
 }
 
+/// A line, up to its newline.
 pub(crate) fn line<'a>(
     out: &mut Vec<Mark>,
     s: &'a [u8],
