@@ -45,3 +45,19 @@ incompatible_left o p i c = rw (p, i, c) refl
 pub unreadable_stays : (o : Options) → decision o (entry (codes "one") None (Some (version 1 0 0))) ≡ record { new = codes "one"; change = None; reason = Some reason.Latest }
 unfolding semver_on_literals digits
 unreadable_stays o = refl
+
+-- an entry for which a word gives this requirement
+abbrev given : List ℕ → Case → Case
+given req e = record e { selected = Some req }
+
+-- the requirement that a word gives is taken
+pub explicit_taken : (o : Options) → o.pinned ≡ false → o.incompatible ≡ false → o.compatible ≡ true
+    → decision o (given (codes "1.1") (entry (codes "1.0") (Some (version 1 2 3)) (Some (version 1 2 3)))) ≡ record { new = codes "1.1"; change = Some change.Explicit; reason = None }
+unfolding semver_on_literals digits
+explicit_taken o p i c = rw (p, i, c) refl
+
+-- a pinned requirement stays also then
+pub explicit_pinned : (o : Options) → o.pinned ≡ false → o.incompatible ≡ false → o.compatible ≡ true
+    → decision o (given (codes "1.1") (entry (codes "=1.0.0") (Some (version 1 0 0)) (Some (version 1 2 3)))) ≡ record { new = codes "=1.0.0"; change = None; reason = Some reason.Pinned }
+unfolding semver_on_literals digits
+explicit_pinned o p i c = rw (p, i, c) refl

@@ -6,7 +6,7 @@ use Rattle.edit_document.specs.declared.read.marks.Mark.{Mark}
 use Rattle.edit_document.specs.declared.nodes.Node.{Node}
 use Rattle.edit_document.specs.declared.document.Document.TheInside.{Inside}
 use Rattle.edit_document.specs.Grammar.{array, Text, lines, byte_order_mark, Spells}
-use Rattle.edit_document.specs.Supported.{IsSupported, IsManifest}
+use Rattle.edit_document.specs.Supported.{IsManifest}
 use Rattle.edit_document.specs.Assertions.{index, at, assertions}
 use Rattle.edit_document.specs.Depth.{text_depth}
 use Rattle.edit_document.specs.Marks.{text_marks, IsReadRefusal}
@@ -23,7 +23,6 @@ use Rattle.edit_document.specs.Walk.{State, start, walked, settled_state}
 use Rattle.edit_document.specs.WalkState.{IsToken, KeepsState}
 use Rattle.edit_document.proofs.LineLaws.{read_again}
 use Rattle.edit_document.proofs.Ends.{Ends}
-use Rattle.edit_document.proofs.AllSupported.{all_supported}
 use Rattle.edit_document.proofs.Shallow.{shallow as shallow_form, manifest_form, one_form}
 use Rattle.edit_document.proofs.Standing.{Stands}
 use Rattle.edit_document.proofs.WalkedLines.{Walked as Walks, ended, stuck, text_walked, text_even}
@@ -34,11 +33,10 @@ use Rattle.edit_document.proofs.TextTokens.{text_tokens}
 -- a text in the grammar, with a form of the part that is read
 pub record Read (bytes : List ℕ) (form : Text) : Type 0 where
   pub spells : Spells bytes form
-  pub supported : IsSupported form
   pub utf8 : IsUtf8 bytes
 
 pub read_of : (bytes : List ℕ) (form : Text) → IsManifest bytes form → IsUtf8 bytes → Read bytes form
-read_of bytes form m u = record { spells = m.document.grammar; supported = all_supported form; utf8 = u }
+read_of bytes form m u = record { spells = m.document.grammar; utf8 = u }
 
 ends_all : (bytes : List ℕ) (form : Text) → Read bytes form → Ends bytes (lines form.lines)
 ends_all bytes form r = behind form.marked (lines form.lines) r.spells.spelled
@@ -48,10 +46,10 @@ ends_all bytes form r = behind form.marked (lines form.lines) r.spells.spelled
     behind false rest e = ([], e)
 
 pub tokens_of : (bytes : List ℕ) (form : Text) → Read bytes form → AllByRecursion (IsToken bytes) (text_marks form)
-tokens_of bytes form r = text_tokens bytes form r.spells.well_formed r.supported r.utf8 (ends_all bytes form r)
+tokens_of bytes form r = text_tokens bytes form r.spells.well_formed r.utf8 (ends_all bytes form r)
 
 walk_of : (bytes : List ℕ) (form : Text) → Read bytes form → Walks (assertions form) (map placed (values form)) (walked bytes (text_marks form) start)
-walk_of bytes form r = text_walked bytes form r.spells.well_formed r.supported r.utf8 (ends_all bytes form r)
+walk_of bytes form r = text_walked bytes form r.spells.well_formed r.utf8 (ends_all bytes form r)
 
 -- ---- the form of a text, and what it shows
 
@@ -113,15 +111,15 @@ read_is inside form w = record {
 -- ---- what reading answers
 
 abbrev pub Found : List ℕ → List Mark → Type 0
-Found bytes marks = (form : Text) × Spells bytes form × IsSupported form × (text_depth form ≤ 80) × (marks ≡ text_marks form)
+Found bytes marks = (form : Text) × Spells bytes form × (text_depth form ≤ 80) × (marks ≡ text_marks form)
 
 read_form : (bytes seen : List ℕ) (marks : List Mark) → IsUtf8 bytes → seen ≡ bytes → (f : Found seen marks) → Read bytes f.0
-read_form bytes seen marks u same f = record { spells = subst (λ (b : List ℕ). Spells b f.0) same f.1; supported = f.2; utf8 = u }
+read_form bytes seen marks u same f = record { spells = subst (λ (b : List ℕ). Spells b f.0) same f.1; utf8 = u }
 
 pub read_done : (bytes seen : List ℕ) (marks slice : List Mark) (nodes : List Node) → IsUtf8 bytes → seen ≡ bytes → Found seen marks → slice ≡ marks → (AllByRecursion (IsToken bytes) slice → KeepsState bytes nodes (walked bytes slice start)) → (form : Text) × Walked bytes form nodes
 read_done bytes seen marks slice nodes u same f whole keeps =
     let r = read_form bytes seen marks u same f in
-    let all : slice ≡ text_marks f.0 = whole ∙ f.4 in
+    let all : slice ≡ text_marks f.0 = whole ∙ f.3 in
     let k : AllByRecursion (IsToken bytes) (text_marks f.0) → KeepsState bytes nodes (walked bytes (text_marks f.0) start) =
     subst (λ (ms : List Mark). AllByRecursion (IsToken bytes) ms → KeepsState bytes nodes (walked bytes ms start)) all keeps in
     (f.0, walked_is bytes f.0 nodes r (k (tokens_of bytes f.0 r)))
@@ -145,11 +143,11 @@ refused_memory bytes seen marks slice form e n u same f whole refusal stop m =
       | inl y ↦ y
       | inr other ↦
           let r = read_form bytes seen marks u same f in
-          let all : slice ≡ text_marks f.0 = whole ∙ f.4 in
+          let all : slice ≡ text_marks f.0 = whole ∙ f.3 in
           let s : AllByRecursion (IsToken bytes) (text_marks f.0) → NotMemory e → walked bytes (text_marks f.0) start ≡ None =
           subst (λ (ms : List Mark). AllByRecursion (IsToken bytes) ms → NotMemory e → walked bytes ms start ≡ None) all stop in
           let none = s (tokens_of bytes f.0 r) other in
-          let here : form_of bytes ≡ Some f.0 = read_again 80 bytes f.0 (record { spells = r.spells; supported = r.supported; shallow = f.3 }) in
+          let here : form_of bytes ≡ Some f.0 = read_again 80 bytes f.0 (record { spells = r.spells; shallow = f.2 }) in
           let one : Some f.0 ≡ Some form = sym here ∙ manifest_form bytes form m in
           let same_form : f.0 ≡ form = cc in
           absurd (refused_is bytes form m u (subst (λ (g : Text). walked bytes (text_marks g) start ≡ None) same_form none))

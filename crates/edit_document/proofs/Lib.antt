@@ -63,7 +63,6 @@ pub mod Parts
 pub mod Arrays
 pub mod Leading
 pub mod ShownTrees
-pub mod AllSupported
 pub mod Shallow
 pub mod ValueRanges
 pub mod Promised

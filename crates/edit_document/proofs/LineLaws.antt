@@ -6,7 +6,6 @@ use Rattle.std.proofs.lemmas.List.{length-append}
 use Rattle.edit_document.specs.Characters.{line_feed, carriage_return, hash, equals, left_bracket, right_bracket, is_blank, is_bare, is_ch, All}
 use Rattle.edit_document.specs.Strings.{LineEnd, lf, crlf, line_end, Part, bare, basic_part, literal_part, part, IsPart, Key, key, dotted, IsKey}
 use Rattle.edit_document.specs.Grammar.{value, Statement, pair, header, element_header, statement, IsStatement, comment, IsComment, Line, empty_line, full_line, line, IsLine, Lines, one_line, more_lines, lines, AreLines, Text, text, byte_order_mark, Spells}
-use Rattle.edit_document.specs.Supported.{AreSupportedLines, IsSupported}
 use Rattle.edit_document.specs.Depth.{lines_depth, text_depth}
 use Rattle.edit_document.specs.Reading.{◌>>=◌, first, Pair, value_at, header_at, element_header_at, statement_at, comment_front, past_comment, is_line_over, line_at, lines_at, is_marked, past_mark, read_text}
 use Rattle.edit_document.proofs.TokenLaws.{first_is, at_drop, front_again, after_again}
@@ -88,8 +87,8 @@ unfolding statement_at
 statement_again n (pair k a b v) rest good ends =
     let h = good.valid in
     let p : Pair = record { key = k; before = a; behind = b; value = v } in
-    let hp : IsPair n p = record { key = h.0; before = h.1; behind = h.2; value = record { valid = h.3; supported = good.supported; shallow = good.shallow } } in
-    let one = pair_again n (value_at n) p rest hp (value_again v n h.3 good.supported good.shallow) ends in
+    let hp : IsPair n p = record { key = h.0; before = h.1; behind = h.2; value = record { valid = h.3; shallow = good.shallow } } in
+    let one = pair_again n (value_at n) p rest hp (value_again v n h.3 good.shallow) ends in
     rw ((key_starts k (a ++ (equals ∷ (b ++ value v rest))) h.0).1, one) refl
 statement_again n (header a k b) rest good ends =
     let h = good.valid in
@@ -111,7 +110,7 @@ line_again n (full_line a s b c) rest good ends =
     let begins = comment_first c rest ends in
     let more = comment_again c rest h.3 ends in
     let starts = statement_first s (b ++ tail) h.1 in
-    let one = statement_again n s (b ++ tail) (record { valid = h.1; supported = good.supported; shallow = good.shallow }) (ends_value b tail h.2 (over_stop (first tail) begins.1)) in
+    let one = statement_again n s (b ++ tail) (record { valid = h.1; shallow = good.shallow }) (ends_value b tail h.2 (over_stop (first tail) begins.1)) in
     rw (after_again is_blank a (statement s (b ++ tail)) h.0 starts.0, front_again is_blank a (statement s (b ++ tail)) h.0 starts.0, starts.1, one, after_again is_blank b tail h.2 begins.0, front_again is_blank b tail h.2 begins.0, more.0, more.1) refl
 
 abbrev pub count_lines : Lines → ℕ
@@ -126,16 +125,16 @@ not_over lf rest = suc_not_zero (length rest)
 not_over crlf rest = suc_not_zero (suc (length rest))
 
 first_good : (n : ℕ) (l : Line) (e : LineEnd) (ls : Lines) → AreGoodLines n (more_lines l e ls) → IsGoodLine n l
-first_good n l e ls h = record { valid = h.valid.0; supported = h.supported.0; shallow = let k = h.shallow in omega arith }
+first_good n l e ls h = record { valid = h.valid.0; shallow = let k = h.shallow in omega arith }
 
 others_good : (n : ℕ) (l : Line) (e : LineEnd) (ls : Lines) → AreGoodLines n (more_lines l e ls) → AreGoodLines n ls
-others_good n l e ls h = record { valid = h.valid.1; supported = h.supported.1; shallow = let k = h.shallow in omega arith }
+others_good n l e ls h = record { valid = h.valid.1; shallow = let k = h.shallow in omega arith }
 
 pub lines_again : (n count : ℕ) (ls : Lines) → AreGoodLines n ls → count_lines ls ≤ count → lines_at n count (lines ls) ≡ Some ls
 unfolding lines_at
 lines_again n zero (one_line l) h few = absurd (omega arith)
 lines_again n zero (more_lines l e ls) h few = absurd (omega arith)
-lines_again n (suc count) (one_line l) h few = rw (line_again n l [] (record { valid = h.valid; supported = h.supported; shallow = h.shallow }) end_of_text) refl
+lines_again n (suc count) (one_line l) h few = rw (line_again n l [] (record { valid = h.valid; shallow = h.shallow }) end_of_text) refl
 lines_again n (suc count) (more_lines l e ls) h few =
     rw (line_again n l (line_end e (lines ls)) (first_good n l e ls h) (end_of_line e (lines ls)), not_over e (lines ls), line_end_again e (lines ls), lines_again n count ls (others_good n l e ls h) (omega arith)) refl
 
@@ -144,7 +143,7 @@ comment_longer None rest = omega arith
 comment_longer (Some text) rest = omega (arith, length-append text rest)
 
 statement_longer : (n : ℕ) (s : Statement) (rest : List ℕ) → IsGoodStatement n s → length rest ≤ length (statement s rest)
-statement_longer n (pair k a b v) rest h = omega (arith, pair_longer k a b (value v rest), value_longer v rest h.valid.3 h.supported)
+statement_longer n (pair k a b v) rest h = omega (arith, pair_longer k a b (value v rest), value_longer v rest h.valid.3)
 statement_longer n (header a k b) rest h = omega (arith, length-append a (key k (b ++ (right_bracket ∷ rest))), key_longer k (b ++ (right_bracket ∷ rest)), length-append b (right_bracket ∷ rest))
 statement_longer n (element_header a k b) rest h =
     let end = right_bracket ∷ (right_bracket ∷ rest) in
@@ -153,7 +152,7 @@ statement_longer n (element_header a k b) rest h =
 line_longer : (n : ℕ) (l : Line) (rest : List ℕ) → IsGoodLine n l → length rest ≤ length (line l rest)
 line_longer n (empty_line a c) rest h = omega (arith, length-append a (comment c rest), comment_longer c rest)
 line_longer n (full_line a s b c) rest h =
-    let good : IsGoodStatement n s = record { valid = h.valid.1; supported = h.supported; shallow = h.shallow } in
+    let good : IsGoodStatement n s = record { valid = h.valid.1; shallow = h.shallow } in
     omega (arith, length-append a (statement s (b ++ comment c rest)), statement_longer n s (b ++ comment c rest) good, length-append b (comment c rest), comment_longer c rest)
 
 few_lines : (n : ℕ) (ls : Lines) → AreGoodLines n ls → count_lines ls ≤ length (lines ls) + 1
@@ -166,7 +165,6 @@ few_lines n (more_lines l crlf ls) h = omega (arith, line_longer n l (carriage_r
 -- the text is in the grammar with this form, which is of the part that is read
 pub record IsReadText (n : ℕ) (bytes : List ℕ) (t : Text) : Type 0 where
   pub spells : Spells bytes t
-  pub supported : IsSupported t
   pub shallow : text_depth t ≤ n
 
 mark_parts : (bytes : List ℕ) → bytes ≡ byte_order_mark (is_marked bytes) (past_mark bytes)
@@ -180,10 +178,9 @@ mark_parts bytes = go (is_marked bytes) refl
     go false e = refl
 
 -- lines that were read behind a mark or nothing
-pub lines_found : (n : ℕ) (bytes : List ℕ) (ls : Lines) → past_mark bytes ≡ lines ls → AreLines ls → AreSupportedLines ls → lines_depth ls ≤ n → IsReadText n bytes (record { marked = is_marked bytes; lines = ls })
-lines_found n bytes ls e valid supported shallow = record {
+pub lines_found : (n : ℕ) (bytes : List ℕ) (ls : Lines) → past_mark bytes ≡ lines ls → AreLines ls → lines_depth ls ≤ n → IsReadText n bytes (record { marked = is_marked bytes; lines = ls })
+lines_found n bytes ls e valid shallow = record {
   spells = record { spelled = mark_parts bytes ∙ ap (byte_order_mark (is_marked bytes)) e; well_formed = valid };
-  supported = supported;
   shallow = shallow;
 }
 
@@ -245,7 +242,7 @@ unfolding read_text
 read_again n bytes t h =
     let body = lines_only bytes t h.spells in
     let mark : is_marked bytes ≡ t.marked = ap is_marked h.spells.spelled ∙ (mark_of t.marked t.lines h.spells.well_formed).0 in
-    let good : AreGoodLines n t.lines = record { valid = h.spells.well_formed; supported = h.supported; shallow = h.shallow } in
+    let good : AreGoodLines n t.lines = record { valid = h.spells.well_formed; shallow = h.shallow } in
     let again : lines_at n (length (lines t.lines) + 1) (lines t.lines) ≡ Some t.lines = lines_again n (length (lines t.lines) + 1) t.lines good (few_lines n t.lines good) in
     let form : Bool → Lines → Text = λ b ls. record { marked = b; lines = ls } in
     ap (λ (x : List ℕ). lines_at n (length x + 1) x >>= λ ls. Some (form (is_marked bytes) ls)) body

@@ -5,7 +5,6 @@ use Rattle.std.proofs.lemmas.List.{nil_from_length}
 use Rattle.edit_document.specs.Characters.{hash, left_bracket, right_bracket, is_blank, is_ch, All}
 use Rattle.edit_document.specs.Strings.{LineEnd, line_end, Key, key, IsKey}
 use Rattle.edit_document.specs.Grammar.{Statement, pair, header, element_header, statement, IsStatement, comment, IsComment, Line, line, IsLine, Lines, one_line, more_lines, lines, AreLines}
-use Rattle.edit_document.specs.Supported.{IsSupportedStatement, IsSupportedLine, AreSupportedLines}
 use Rattle.edit_document.specs.Depth.{statement_depth, line_depth, lines_depth}
 use Rattle.edit_document.specs.Reading.{first, past, blanks, past_blanks, key_at, Pair, pair_at, value_at, header_at, element_header_at, statement_at, comment_front, past_comment, is_line_over, line_at, line_end_at, lines_at}
 use Rattle.edit_document.proofs.TokenLaws.{bind_some, chosen, some_is, first_is, at_drop, past_some, run_parts, run_all}
@@ -16,31 +15,27 @@ use Rattle.edit_document.proofs.MultiLaws.{line_end_sound}
 -- a statement that is read where n may be nested
 pub record IsGoodStatement (n : ℕ) (s : Statement) : Type 0 where
   pub valid : IsStatement s
-  pub supported : IsSupportedStatement s
   pub shallow : statement_depth s ≤ n
 
 pub record IsGoodLine (n : ℕ) (l : Line) : Type 0 where
   pub valid : IsLine l
-  pub supported : IsSupportedLine l
   pub shallow : line_depth l ≤ n
 
 pub record AreGoodLines (n : ℕ) (ls : Lines) : Type 0 where
   pub valid : AreLines ls
-  pub supported : AreSupportedLines ls
   pub shallow : lines_depth ls ≤ n
 
 pair_good : (n : ℕ) (p : Pair) → IsPair n p → IsGoodStatement n (pair p.key p.before p.behind p.value)
 pair_good n p h = record {
   valid = (h.key, h.before, h.behind, h.value.valid);
-  supported = h.value.supported;
   shallow = h.value.shallow;
 }
 
 header_good : (n : ℕ) (a : List ℕ) (k : Key) (b : List ℕ) → All is_blank a → IsKey k → All is_blank b → IsGoodStatement n (header a k b)
-header_good n a k b ha hk hb = record { valid = (ha, hk, hb); supported = tt; shallow = omega arith }
+header_good n a k b ha hk hb = record { valid = (ha, hk, hb); shallow = omega arith }
 
 element_good : (n : ℕ) (a : List ℕ) (k : Key) (b : List ℕ) → All is_blank a → IsKey k → All is_blank b → IsGoodStatement n (element_header a k b)
-element_good n a k b ha hk hb = record { valid = (ha, hk, hb); supported = tt; shallow = omega arith }
+element_good n a k b ha hk hb = record { valid = (ha, hk, hb); shallow = omega arith }
 
 pub header_sound : (n : ℕ) (bytes : List ℕ) (x : Statement × List ℕ) → eqb (first bytes) left_bracket ≡ true → header_at bytes ≡ Some x → (bytes ≡ statement x.0 x.1) × IsGoodStatement n x.0
 unfolding header_at
@@ -105,7 +100,7 @@ line_sound n bytes x e =
           let c = comment_sound rest in
           subst P (some_is _ x h.1) (
             run_parts is_blank bytes ∙ ap (λ (r : List ℕ). blanks bytes ++ r) c.0,
-            record { valid = (run_all is_blank bytes, c.1); supported = tt; shallow = omega arith },
+            record { valid = (run_all is_blank bytes, c.1); shallow = omega arith },
           )
       | inr h ↦
           let a = bind_some (statement_at n rest) _ x h.1 in
@@ -114,17 +109,16 @@ line_sound n bytes x e =
           let two : a.0.1 ≡ blanks a.0.1 ++ comment (comment_front (past_blanks a.0.1)) (past_comment (past_blanks a.0.1)) = run_parts is_blank a.0.1 ∙ ap (λ (r : List ℕ). blanks a.0.1 ++ r) c.0 in
           subst P (some_is _ x a.2) (
             run_parts is_blank bytes ∙ ap (λ (r : List ℕ). blanks bytes ++ r) (s.0 ∙ ap (statement a.0.0) two),
-            record { valid = (run_all is_blank bytes, s.1.valid, run_all is_blank a.0.1, c.1); supported = s.1.supported; shallow = s.1.shallow },
+            record { valid = (run_all is_blank bytes, s.1.valid, run_all is_blank a.0.1, c.1); shallow = s.1.shallow },
           )
     ]
 
 one_good : (n : ℕ) (l : Line) → IsGoodLine n l → AreGoodLines n (one_line l)
-one_good n l h = record { valid = h.valid; supported = h.supported; shallow = h.shallow }
+one_good n l h = record { valid = h.valid; shallow = h.shallow }
 
 more_good : (n : ℕ) (l : Line) (e : LineEnd) (ls : Lines) → IsGoodLine n l → AreGoodLines n ls → AreGoodLines n (more_lines l e ls)
 more_good n l e ls h others = record {
   valid = (h.valid, others.valid);
-  supported = (h.supported, others.supported);
   shallow = let a = h.shallow in let b = others.shallow in omega arith;
 }
 

@@ -5,7 +5,6 @@ use Rattle.std.proofs.lemmas.List.{length-append}
 use Rattle.edit_document.specs.Characters.{quote, apostrophe, comma, equals, right_bracket, right_brace, is_blank, All}
 use Rattle.edit_document.specs.Strings.{Part, bare, basic_part, literal_part, part, Key, Dotted, key, dotted, IsKey}
 use Rattle.edit_document.specs.Grammar.{Between, gap, Value, basic, literal, multi_basic, multi_literal, boolean, integer, float, datetime, array, inline, Elements, no_elements, last_element, element, Members, no_members, last_member, member, value, elements, members, IsValue, AreElements, AreMembers, IsMember}
-use Rattle.edit_document.specs.Supported.{IsSupportedValue, AreSupportedElements, AreSupportedMembers}
 use Rattle.edit_document.specs.Depth.{depth}
 use Rattle.edit_document.specs.Reading.{Read, first, blank_gap, Pair, pair_at, members_at, elements_at}
 use Rattle.edit_document.proofs.TokenLaws.{front_again, after_again, length-pieces}
@@ -71,15 +70,15 @@ count (member k a b v c d ms) = suc (count ms)
 pub pair_longer : (k : Key) (a b : List ℕ) (rest : List ℕ) → suc (length rest) ≤ length (key k (a ++ (equals ∷ (b ++ rest))))
 pair_longer k a b rest = omega (arith, key_longer k (a ++ (equals ∷ (b ++ rest))), length-append a (equals ∷ (b ++ rest)), length-append b rest)
 
-pub value_longer : (v : Value) (rest : List ℕ) → IsValue v → IsSupportedValue v → length rest ≤ length (value v rest)
-value_longer v rest h s = omega (arith, ap length (value_rest v rest), length-append (value v []) rest)
+pub value_longer : (v : Value) (rest : List ℕ) → IsValue v → length rest ≤ length (value v rest)
+value_longer v rest h = omega (arith, ap length (value_rest v rest), length-append (value v []) rest)
 
-pub members_longer : (ms : Members) (rest : List ℕ) → AreMembers ms → AreSupportedMembers ms → length rest + count ms ≤ length (members ms rest)
-members_longer no_members rest h s = omega arith
-members_longer (last_member k a b v c) rest h s = omega (arith, pair_longer k a b (value v (gap c rest)), value_longer v (gap c rest) h.3 s, gap_longer c rest)
-members_longer (member k a b v c d ms) rest h s =
+pub members_longer : (ms : Members) (rest : List ℕ) → AreMembers ms → length rest + count ms ≤ length (members ms rest)
+members_longer no_members rest h = omega arith
+members_longer (last_member k a b v c) rest h = omega (arith, pair_longer k a b (value v (gap c rest)), value_longer v (gap c rest) h.3, gap_longer c rest)
+members_longer (member k a b v c d ms) rest h =
     let more = gap d (members ms rest) in
-    omega (arith, pair_longer k a b (value v (gap c (comma ∷ more))), value_longer v (gap c (comma ∷ more)) h.3 s.0, gap_longer c (comma ∷ more), gap_longer d (members ms rest), members_longer ms rest h.6 s.1)
+    omega (arith, pair_longer k a b (value v (gap c (comma ∷ more))), value_longer v (gap c (comma ∷ more)) h.3, gap_longer c (comma ∷ more), gap_longer d (members ms rest), members_longer ms rest h.6)
 
 -- ---- members
 
@@ -99,8 +98,8 @@ members_first (last_member k a b v c) rest h some = key_first k _ h.0
 members_first (member k a b v c d ms) rest h some = key_first k _ h.0
 
 -- the pair of a member
-pair_of : (n : ℕ) (p : Pair) → IsKey p.key → All is_blank p.before → All is_blank p.behind → IsValue p.value → IsSupportedValue p.value → depth p.value ≤ n → IsPair n p
-pair_of n p hk ha hb hv s le = record { key = hk; before = ha; behind = hb; value = record { valid = hv; supported = s; shallow = le } }
+pair_of : (n : ℕ) (p : Pair) → IsKey p.key → All is_blank p.before → All is_blank p.behind → IsValue p.value → depth p.value ≤ n → IsPair n p
+pair_of n p hk ha hb hv le = record { key = hk; before = ha; behind = hb; value = record { valid = hv; shallow = le } }
 
 last_again : (n : ℕ) (read : List ℕ → Read Value) (count : ℕ) (p : Pair) (c rest : List ℕ) → IsPair n p → All is_blank c → Again read p.value
     → members_at read (suc count) (pair_text p (c ++ (right_brace ∷ rest))) ≡ Some (last_member p.key p.before p.behind p.value (blank_gap c), rest)
@@ -123,7 +122,7 @@ members_again n read zero (member k a b v c d ms) rest h some again le = absurd 
 members_again n read (suc few) (last_member k a b v c) rest h some again le =
     let p : Pair = record { key = k; before = a; behind = b; value = v } in
     let hv = h.valid in
-    let one = pair_of n p hv.0 hv.1 hv.2 hv.3 h.supported h.shallow in
+    let one = pair_of n p hv.0 hv.1 hv.2 hv.3 h.shallow in
     let g = blank_gap_is c hv.4 in
     let here : members_at read (suc few) (pair_text p (gap (blank_gap g.0) (right_brace ∷ rest))) ≡ Some (last_member k a b v (blank_gap g.0), rest) =
     rw (gap_blanks g.0 (right_brace ∷ rest)) (last_again n read few p g.0 rest one g.2 again) in
@@ -132,8 +131,8 @@ members_again n read (suc few) (member k a b v c d ms) rest h some again le =
     let p : Pair = record { key = k; before = a; behind = b; value = v } in
     let hv = h.valid in
     let hd : depth v ≤ n = let w = h.shallow in omega arith in
-    let hms : AreReadable n ms = record { valid = hv.6; supported = h.supported.1; shallow = let w = h.shallow in omega arith } in
-    let one = pair_of n p hv.0 hv.1 hv.2 hv.3 h.supported.0 hd in
+    let hms : AreReadable n ms = record { valid = hv.6; shallow = let w = h.shallow in omega arith } in
+    let one = pair_of n p hv.0 hv.1 hv.2 hv.3 hd in
     let g = blank_gap_is c hv.4 in
     let i = blank_gap_is d hv.5 in
     let more = members ms (right_brace ∷ rest) in
@@ -185,12 +184,12 @@ turns no_elements = 1
 turns (last_element v g) = 1
 turns (element v g h es) = suc (turns es)
 
-pub elements_longer : (es : Elements) (rest : List ℕ) → AreElements es → AreSupportedElements es → length rest + turns es ≤ suc (length (elements es rest))
-elements_longer no_elements rest h s = omega arith
-elements_longer (last_element v g) rest h s = omega (arith, value_longer v (gap g rest) h.0 s, gap_longer g rest)
-elements_longer (element v g h2 es) rest h s =
+pub elements_longer : (es : Elements) (rest : List ℕ) → AreElements es → length rest + turns es ≤ suc (length (elements es rest))
+elements_longer no_elements rest h = omega arith
+elements_longer (last_element v g) rest h = omega (arith, value_longer v (gap g rest) h.0, gap_longer g rest)
+elements_longer (element v g h2 es) rest h =
     let more = gap h2 (elements es rest) in
-    omega (arith, value_longer v (gap g (comma ∷ more)) h.0 s.0, gap_longer g (comma ∷ more), gap_longer h2 (elements es rest), elements_longer es rest h.3 s.1)
+    omega (arith, value_longer v (gap g (comma ∷ more)) h.0, gap_longer g (comma ∷ more), gap_longer h2 (elements es rest), elements_longer es rest h.3)
 
 -- the reader reads each value of these
 abbrev pub AgainElements : (List ℕ → Read Value) → Elements → Type 0
@@ -215,6 +214,6 @@ elements_again n read (suc few) (element v g h2 es) rest h again le =
     let end = comma ∷ gap h2 more in
     let begins = value_begins v (gap g end) hv.0 in
     let inner = elements_gapless es rest hv.3 in
-    let hes : AreReadableElements n es = record { valid = hv.3; supported = h.supported.1; shallow = let w = h.shallow in omega arith } in
+    let hes : AreReadableElements n es = record { valid = hv.3; shallow = let w = h.shallow in omega arith } in
     let others = elements_again n read few es rest hes again.1 (omega arith) in
     rw (begins.1, again.0 (gap g end) (gap_ends g end hv.1 refl), past_gap_again g end hv.1 refl, front_gap_again g end hv.1 refl, past_gap_again h2 more hv.2 inner, front_gap_again h2 more hv.2 inner, others) refl

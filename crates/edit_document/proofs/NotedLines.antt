@@ -12,7 +12,6 @@ use Rattle.edit_document.specs.declared.read.marks.ReadError.TheVariants.{Memory
 use Rattle.edit_document.specs.Characters.{left_bracket, right_bracket, is_blank}
 use Rattle.edit_document.specs.Strings.{LineEnd, line_end, Key, key}
 use Rattle.edit_document.specs.Grammar.{Statement, header, statement, comment, Line, empty_line, full_line, Lines, one_line, more_lines, lines, element_header, AreLines}
-use Rattle.edit_document.specs.Supported.{AreSupportedLines}
 use Rattle.edit_document.specs.Depth.{lines_depth}
 use Rattle.edit_document.specs.Reading.{◌>>=◌, first, blanks, past_blanks, past, key_at, header_at, element_header_at, statement_at, comment_front, past_comment, is_line_over, line_at, line_end_at, lines_at}
 use Rattle.edit_document.specs.Marks.{mark, key_marks, statement_marks, line_marks, lines_marks}
@@ -174,23 +173,23 @@ lines_none total bytes out before = before.none refl
 
 -- the form of lines that were read, with its marks
 abbrev pub Found : List ℕ → List Mark → Type 0
-Found bytes new = (form : Lines) × (bytes ≡ lines form) × AreLines form × AreSupportedLines form × (lines_depth form ≤ 80) × (new ≡ lines_marks form)
+Found bytes new = (form : Lines) × (bytes ≡ lines form) × AreLines form × (lines_depth form ≤ 80) × (new ≡ lines_marks form)
 
 pub found : (bytes : List ℕ) (us : Lines) (new : List Mark) → lines_at 80 (length bytes + 1) bytes ≡ Some us → new ≡ lines_marks us → Found bytes new
-found bytes us new e noted = let h = lines_read 80 bytes us e in (us, h.0, h.1.valid, h.1.supported, h.1.shallow, noted)
+found bytes us new e noted = let h = lines_read 80 bytes us e in (us, h.0, h.1.valid, h.1.shallow, noted)
 
-good : (form : Lines) → AreLines form → AreSupportedLines form → lines_depth form ≤ 80 → AreGoodLines 80 form
-good form valid part le = record { valid = valid; supported = part; shallow = le }
+good : (form : Lines) → AreLines form → lines_depth form ≤ 80 → AreGoodLines 80 form
+good form valid le = record { valid = valid; shallow = le }
 
-pub only : (bytes : List ℕ) (us : Lines) (new : List Mark) → lines_at 80 (length bytes + 1) bytes ≡ Some us → new ≡ lines_marks us → (form : Lines) → bytes ≡ lines form → AreLines form → AreSupportedLines form → lines_depth form ≤ 80 → new ≡ lines_marks form
-only bytes us new e noted form has valid part le =
-    let same : Some us ≡ Some form = sym e ∙ lines_read_again 80 bytes form has (good form valid part le) in
+pub only : (bytes : List ℕ) (us : Lines) (new : List Mark) → lines_at 80 (length bytes + 1) bytes ≡ Some us → new ≡ lines_marks us → (form : Lines) → bytes ≡ lines form → AreLines form → lines_depth form ≤ 80 → new ≡ lines_marks form
+only bytes us new e noted form has valid le =
+    let same : Some us ≡ Some form = sym e ∙ lines_read_again 80 bytes form has (good form valid le) in
     let one : us ≡ form = cc in
     noted ∙ ap lines_marks one
 
-pub refused : (bytes : List ℕ) (form : Lines) → lines_at 80 (length bytes + 1) bytes ≡ None → bytes ≡ lines form → AreLines form → AreSupportedLines form → lines_depth form ≤ 80 → ⊥
-refused bytes form e has valid part le =
-    let same : None ≡ Some form = sym e ∙ lines_read_again 80 bytes form has (good form valid part le) in
+pub refused : (bytes : List ℕ) (form : Lines) → lines_at 80 (length bytes + 1) bytes ≡ None → bytes ≡ lines form → AreLines form → lines_depth form ≤ 80 → ⊥
+refused bytes form e has valid le =
+    let same : None ≡ Some form = sym e ∙ lines_read_again 80 bytes form has (good form valid le) in
     absurd cc
 
 not_memory : (left : ℕ) → NotToml left ≡ Memory → ⊥
@@ -198,6 +197,6 @@ not_memory left e = cc
 
 -- the exit of a line that was not read
 pub exit_only : (bytes : List ℕ) (e e2 : ReadError) (r : Result (Vec Mark) ReadError) → r ≡ Err e2 → e2 ≡ e → ((e ≡ Memory → ⊥) → lines_at 80 (length bytes + 1) bytes ≡ None)
-    → (form : Lines) → bytes ≡ lines form → AreLines form → AreSupportedLines form → lines_depth form ≤ 80 → MatchResult r (λ v. v.items ≡ lines_marks form) (λ x. x ≡ Memory)
-exit_only bytes Memory e2 r was same h form has valid part le = subst (λ (x : Result (Vec Mark) ReadError). MatchResult x (λ v. v.items ≡ lines_marks form) (λ y. y ≡ Memory)) (sym was) same
-exit_only bytes (NotToml left) e2 r was same h form has valid part le = absurd (refused bytes form (h (not_memory left)) has valid part le)
+    → (form : Lines) → bytes ≡ lines form → AreLines form → lines_depth form ≤ 80 → MatchResult r (λ v. v.items ≡ lines_marks form) (λ x. x ≡ Memory)
+exit_only bytes Memory e2 r was same h form has valid le = subst (λ (x : Result (Vec Mark) ReadError). MatchResult x (λ v. v.items ≡ lines_marks form) (λ y. y ≡ Memory)) (sym was) same
+exit_only bytes (NotToml left) e2 r was same h form has valid le = absurd (refused bytes form (h (not_memory left)) has valid le)

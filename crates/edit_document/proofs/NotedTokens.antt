@@ -8,7 +8,6 @@ use Rattle.edit_document.specs.declared.read.marks.ReadError.{ReadError}
 use Rattle.edit_document.specs.declared.read.marks.ReadError.TheVariants.{Memory}
 use Rattle.edit_document.specs.Strings.{Part, part, Dotted, dotted, Key}
 use Rattle.edit_document.specs.Grammar.{Value, basic, literal, multi_basic, multi_literal, boolean, integer, float, datetime, array, inline, value}
-use Rattle.edit_document.specs.Supported.{IsSupportedValue}
 use Rattle.edit_document.specs.Depth.{depth}
 use Rattle.edit_document.specs.Reading.{◌>>=◌, Read, first, blanks, past_blanks, part_at, dotted_at, key_at, scalar_at}
 use Rattle.edit_document.specs.Marks.{mark, part_kind, part_mark, dotted_marks, key_marks, value_marks}
@@ -129,18 +128,18 @@ pub key_failed : (total : Read Key) (n : ℕ) (text : List ℕ) (old new : Vec M
 key_failed total n text old new out e e2 r was same sign h before =
     subst (λ (x : Result (Bor (List ℕ)) ReadError). Notes key_marks old new x total) (sym was) (λ other. key_fail total n text old.items out sign (h (λ m. other (same ∙ m))) before)
 
-flat_marks : (v : Value) (rest : List ℕ) → IsSupportedValue v → depth v ≡ 0 → value_marks v rest ≡ mark (value_kind v) (value v rest) rest ∷ []
-flat_marks (basic ps) rest s e = refl
-flat_marks (literal text) rest s e = refl
-flat_marks (multi_basic ps) rest s e = refl
-flat_marks (multi_literal ps) rest s e = refl
-flat_marks (boolean true) rest s e = refl
-flat_marks (boolean false) rest s e = refl
-flat_marks (integer n) rest s e = refl
-flat_marks (float f) rest s e = refl
-flat_marks (datetime d) rest s e = refl
-flat_marks (array g es) rest s e = absurd (omega arith)
-flat_marks (inline g ms) rest s e = absurd (omega arith)
+flat_marks : (v : Value) (rest : List ℕ) → depth v ≡ 0 → value_marks v rest ≡ mark (value_kind v) (value v rest) rest ∷ []
+flat_marks (basic ps) rest e = refl
+flat_marks (literal text) rest e = refl
+flat_marks (multi_basic ps) rest e = refl
+flat_marks (multi_literal ps) rest e = refl
+flat_marks (boolean true) rest e = refl
+flat_marks (boolean false) rest e = refl
+flat_marks (integer n) rest e = refl
+flat_marks (float f) rest e = refl
+flat_marks (datetime d) rest e = refl
+flat_marks (array g es) rest e = absurd (omega arith)
+flat_marks (inline g ms) rest e = absurd (omega arith)
 
 pub scalar_noted : (old new : List Mark) (k : MarkKind) (text rest : List ℕ) → Some (k, rest) ≡ told_token value_kind (scalar_at text) → new ≡ old ++ (mark k text rest ∷ [])
     → (v : Value) × (scalar_at text ≡ Some (v, rest)) × (new ≡ old ++ value_marks v rest)
@@ -148,7 +147,7 @@ scalar_noted old new k text rest told noted =
     let v = told_back value_kind k rest (scalar_at text) told in
     let sound = scalar_sound 0 text (v.0, rest) v.1 in
     let flat : depth v.0 ≡ 0 = let h = sound.1.shallow in omega arith in
-    let marks = flat_marks v.0 rest sound.1.supported flat in
+    let marks = flat_marks v.0 rest flat in
     (v.0, v.1, noted ∙ ap (λ (m : Mark). old ++ (m ∷ [])) (same_mark k (value_kind v.0) text (value v.0 rest) rest v.2 sound.0) ∙ ap (λ (m : List Mark). old ++ m) (sym marks))
 
 pub scalar_refused : (text : List ℕ) → None ≡ told_token value_kind (scalar_at text) → scalar_at text ≡ None

@@ -5,7 +5,6 @@ use Rattle.edit_document.specs.Assertions.{Place, key, index, at, names, named, 
 use Rattle.edit_document.specs.Supported.{IsManifest}
 use Rattle.edit_document.specs.Depth.{depth, elements_depth, members_depth, statement_depth, lines_depth, text_depth}
 use Rattle.edit_document.specs.FormOf.{form_of}
-use Rattle.edit_document.proofs.AllSupported.{all_supported}
 use Rattle.edit_document.proofs.LineLaws.{read_again}
 
 short_left : (xs ys : List Assertion) → AreShort (xs ++ ys) → AreShort xs
@@ -98,7 +97,7 @@ shallow bytes form document = lines_shallow [] [] form.lines document.short
 
 -- a text is read to any form that makes it a document
 pub manifest_form : (bytes : List ℕ) (form : Text) → IsManifest bytes form → form_of bytes ≡ Some form
-manifest_form bytes form h = read_again 80 bytes form (record { spells = h.document.grammar; supported = all_supported form; shallow = shallow bytes form h.document })
+manifest_form bytes form h = read_again 80 bytes form (record { spells = h.document.grammar; shallow = shallow bytes form h.document })
 
 -- two forms of one document are the same
 pub one_form : (bytes : List ℕ) (f g : Text) → IsManifest bytes f → IsManifest bytes g → f ≡ g

@@ -1,5 +1,5 @@
 -- Which statements of TOML 1.0.0 may stand in one document, as the standard says.
-use Rattle.std.proofs.Common.{◌≡◌, true, None, refl}
+use Rattle.std.proofs.Common.{◌≡◌, true, refl}
 use Rattle.std.specs.Prelude.{codes, is_some}
 use Rattle.std.specs.Str.{is_utf8, chars}
 use Rattle.std.proofs.lemmas.Str.{IsUtf8-from_is_utf8}

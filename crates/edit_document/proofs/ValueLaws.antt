@@ -3,7 +3,6 @@ use Rattle.std.proofs.Common.{◌≡◌, ℕ, if◌then◌else◌, zero, suc, �
 use Rattle.edit_document.specs.Characters.{quote, apostrophe, comma, equals, left_bracket, right_bracket, left_brace, right_brace, is_blank, All}
 use Rattle.edit_document.specs.Strings.{key, IsKey}
 use Rattle.edit_document.specs.Grammar.{three, Between, blank, break, remark, gap, IsGap, IsBlankGap, Value, basic, literal, multi_basic, multi_literal, boolean, integer, float, datetime, array, inline, Elements, no_elements, last_element, element, Members, no_members, last_member, member, value, elements, members, IsValue, AreElements, AreMembers, IsMember}
-use Rattle.edit_document.specs.Supported.{IsSupportedValue, AreSupportedElements, AreSupportedMembers}
 use Rattle.edit_document.specs.Depth.{depth, elements_depth, members_depth}
 use Rattle.edit_document.specs.ReadingNumbers.{begins, number_at}
 use Rattle.edit_document.specs.Reading.{◌>>=◌, Read, multi_at, first, past, blanks, past_blanks, blank_gap, gap_front, past_gap, basic_at, literal_at, key_at, scalar_at, starts, Pair, pair_at, members_at, elements_at, value_at}
@@ -42,17 +41,14 @@ blank_parts text rest e = run_parts is_blank text ∙ ap (λ (r : List ℕ). bla
 -- a value that is read where n may be nested
 pub record IsReadable (n : ℕ) (v : Value) : Type 0 where
   pub valid : IsValue v
-  pub supported : IsSupportedValue v
   pub shallow : depth v ≤ n
 
 pub record AreReadable (n : ℕ) (ms : Members) : Type 0 where
   pub valid : AreMembers ms
-  pub supported : AreSupportedMembers ms
   pub shallow : members_depth ms ≤ n
 
 pub record AreReadableElements (n : ℕ) (es : Elements) : Type 0 where
   pub valid : AreElements es
-  pub supported : AreSupportedElements es
   pub shallow : elements_depth es ≤ n
 
 -- a reader of values reads nothing that is not spelled so
@@ -66,13 +62,13 @@ starts_is a b c d text la lb lc ld e =
     let z = and_parts _ (eqb (slice_index text 1) b) y.0 in
     first_is a text la z.0 ∙ ap (λ (r : List ℕ). a ∷ r) (at_drop 1 b text lb z.1 ∙ ap (λ (r : List ℕ). b ∷ r) (at_drop 2 c text lc y.1 ∙ ap (λ (r : List ℕ). c ∷ r) (at_drop 3 d text ld x.1)))
 
-flat : (n : ℕ) (v : Value) → IsValue v → IsSupportedValue v → depth v ≡ 0 → IsReadable n v
-flat n v h s e = record { valid = h; supported = s; shallow = omega arith }
+flat : (n : ℕ) (v : Value) → IsValue v → depth v ≡ 0 → IsReadable n v
+flat n v h e = record { valid = h; shallow = omega arith }
 
 number_readable : (n : ℕ) (v : Value) → IsValue v → IsNumber v → IsReadable n v
-number_readable n (integer i) h s = flat n (integer i) h tt refl
-number_readable n (float f) h s = flat n (float f) h tt refl
-number_readable n (datetime d) h s = flat n (datetime d) h tt refl
+number_readable n (integer i) h s = flat n (integer i) h refl
+number_readable n (float f) h s = flat n (float f) h refl
+number_readable n (datetime d) h s = flat n (datetime d) h refl
 number_readable n (basic ps) h s = absurd s
 number_readable n (literal text) h s = absurd s
 number_readable n (multi_basic ps) h s = absurd s
@@ -97,19 +93,19 @@ token_sound n text x e =
       | inl h ↦
           let a = bind_some (basic_at (drop 1 text)) (λ p. Some (basic p.0, p.1)) x h.1 in
           let b = basic_sound (drop 1 text) a.0 a.1 in
-          subst P (some_is _ x a.2) (first_is quote text (omega arith) h.0 ∙ ap (λ (r : List ℕ). quote ∷ r) b.0, flat n (basic a.0.0) b.1 tt refl)
+          subst P (some_is _ x a.2) (first_is quote text (omega arith) h.0 ∙ ap (λ (r : List ℕ). quote ∷ r) b.0, flat n (basic a.0.0) b.1 refl)
       | inr h ↦ elim (chosen (eqb (first text) apostrophe) _ _ (Some x) h.1) [
         | inl k ↦
             let a = bind_some (literal_at (drop 1 text)) (λ p. Some (literal p.0, p.1)) x k.1 in
             let b = literal_sound (drop 1 text) a.0 a.1 in
-            subst P (some_is _ x a.2) (first_is apostrophe text (omega arith) k.0 ∙ ap (λ (r : List ℕ). apostrophe ∷ r) b.0, flat n (literal a.0.0) b.1 tt refl)
+            subst P (some_is _ x a.2) (first_is apostrophe text (omega arith) k.0 ∙ ap (λ (r : List ℕ). apostrophe ∷ r) b.0, flat n (literal a.0.0) b.1 refl)
         | inr k ↦ elim (chosen (starts 116 114 117 101 text) _ _ (Some x) k.1) [
-          | inl l ↦ subst P (some_is _ x l.1) (starts_is 116 114 117 101 text (omega arith) (omega arith) (omega arith) (omega arith) l.0, flat n (boolean true) tt tt refl)
+          | inl l ↦ subst P (some_is _ x l.1) (starts_is 116 114 117 101 text (omega arith) (omega arith) (omega arith) (omega arith) l.0, flat n (boolean true) tt refl)
           | inr l ↦ elim (chosen (starts 102 97 108 115 text && eqb (slice_index text 4) 101) _ _ (Some x) l.1) [
             | inl m ↦
                 let w = and_parts (starts 102 97 108 115 text) (eqb (slice_index text 4) 101) m.0 in
                 let four = starts_is 102 97 108 115 text (omega arith) (omega arith) (omega arith) (omega arith) w.0 in
-                subst P (some_is _ x m.1) (four ∙ ap (λ (r : List ℕ). 102 ∷ (97 ∷ (108 ∷ (115 ∷ r)))) (at_drop 4 101 text (omega arith) w.1), flat n (boolean false) tt tt refl)
+                subst P (some_is _ x m.1) (four ∙ ap (λ (r : List ℕ). 102 ∷ (97 ∷ (108 ∷ (115 ∷ r)))) (at_drop 4 101 text (omega arith) w.1), flat n (boolean false) tt refl)
             | inr m ↦ let f = number_sound text x m.1 in (f.0, number_readable n x.0 f.1 f.2)
           ]
         ]
@@ -124,12 +120,12 @@ scalar_sound n text x e =
       | inl h ↦
           let a = bind_some (multi_at quote (drop 3 text)) (λ p. Some (multi_basic p.0, p.1)) x h.1 in
           let b = multi_basic_sound (drop 3 text) a.0 a.1 in
-          subst P (some_is _ x a.2) (begins_is quote quote quote text (omega arith) (omega arith) (omega arith) h.0 ∙ ap (three quote) b.spelled, flat n (multi_basic a.0.0) (b.fine, b.runs, b.folds) tt refl)
+          subst P (some_is _ x a.2) (begins_is quote quote quote text (omega arith) (omega arith) (omega arith) h.0 ∙ ap (three quote) b.spelled, flat n (multi_basic a.0.0) (b.fine, b.runs, b.folds) refl)
       | inr g ↦ elim (chosen (begins apostrophe apostrophe apostrophe text) _ _ (Some x) g.1) [
         | inl h ↦
             let a = bind_some (multi_at apostrophe (drop 3 text)) (λ p. Some (multi_literal p.0, p.1)) x h.1 in
             let b = multi_literal_sound (drop 3 text) a.0 a.1 in
-            subst P (some_is _ x a.2) (begins_is apostrophe apostrophe apostrophe text (omega arith) (omega arith) (omega arith) h.0 ∙ ap (three apostrophe) b.spelled, flat n (multi_literal a.0.0) (b.fine, b.runs) tt refl)
+            subst P (some_is _ x a.2) (begins_is apostrophe apostrophe apostrophe text (omega arith) (omega arith) (omega arith) h.0 ∙ ap (three apostrophe) b.spelled, flat n (multi_literal a.0.0) (b.fine, b.runs) refl)
         | inr f ↦ token_sound n text x f.1
       ]
     ]
@@ -165,14 +161,12 @@ pair_sound n read sound text x e =
 member_readable : (n : ℕ) (p : Pair) (c d : List Between) (ms : Members) → IsPair n p → IsBlankGap c → IsBlankGap d → IsMember ms → AreReadable n ms → AreReadable n (member p.key p.before p.behind p.value c d ms)
 member_readable n p c d ms one hc hd some others = record {
   valid = (one.key, one.before, one.behind, one.value.valid, hc, hd, others.valid, some);
-  supported = (one.value.supported, others.supported);
   shallow = let k = one.value.shallow in let l = others.shallow in omega arith;
 }
 
 last_readable : (n : ℕ) (p : Pair) (c : List Between) → IsPair n p → IsBlankGap c → AreReadable n (last_member p.key p.before p.behind p.value c)
 last_readable n p c one hc = record {
   valid = (one.key, one.before, one.behind, one.value.valid, hc);
-  supported = one.value.supported;
   shallow = one.value.shallow;
 }
 
@@ -204,15 +198,14 @@ members_sound n read sound (suc count) text x e =
 -- ---- elements
 
 none_readable : (n : ℕ) → AreReadableElements n no_elements
-none_readable n = record { valid = tt; supported = tt; shallow = omega arith }
+none_readable n = record { valid = tt; shallow = omega arith }
 
 last_element_readable : (n : ℕ) (v : Value) (g : List Between) → IsReadable n v → IsGap g → AreReadableElements n (last_element v g)
-last_element_readable n v g one hg = record { valid = (one.valid, hg); supported = one.supported; shallow = one.shallow }
+last_element_readable n v g one hg = record { valid = (one.valid, hg); shallow = one.shallow }
 
 element_readable : (n : ℕ) (v : Value) (g h : List Between) (es : Elements) → IsReadable n v → IsGap g → IsGap h → AreReadableElements n es → AreReadableElements n (element v g h es)
 element_readable n v g h es one hg hh others = record {
   valid = (one.valid, hg, hh, others.valid);
-  supported = (one.supported, others.supported);
   shallow = let k = one.shallow in let l = others.shallow in omega arith;
 }
 
@@ -246,15 +239,15 @@ elements_sound n read sound (suc count) text x e =
     ]
 
 array_readable : (n : ℕ) (g : List Between) (es : Elements) → IsGap g → AreReadableElements n es → IsReadable (suc n) (array g es)
-array_readable n g es hg h = record { valid = (hg, h.valid); supported = h.supported; shallow = let k = h.shallow in omega arith }
+array_readable n g es hg h = record { valid = (hg, h.valid); shallow = let k = h.shallow in omega arith }
 
 -- ---- inline tables
 
 inline_readable : (n : ℕ) (g : List Between) (ms : Members) → IsBlankGap g → AreReadable n ms → IsReadable (suc n) (inline g ms)
-inline_readable n g ms hg h = record { valid = (hg, h.valid); supported = h.supported; shallow = let k = h.shallow in omega arith }
+inline_readable n g ms hg h = record { valid = (hg, h.valid); shallow = let k = h.shallow in omega arith }
 
 empty_readable : (n : ℕ) → AreReadable n no_members
-empty_readable n = record { valid = tt; supported = tt; shallow = omega arith }
+empty_readable n = record { valid = tt; shallow = omega arith }
 
 pub value_sound : (n : ℕ) → Sound n (value_at n)
 unfolding value_at

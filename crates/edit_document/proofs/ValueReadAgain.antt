@@ -4,7 +4,6 @@ use Rattle.std.proofs.lemmas.Bool.Decides.{nat_tests}
 use Rattle.std.proofs.lemmas.List.{length-append}
 use Rattle.edit_document.specs.Characters.{quote, apostrophe, left_bracket, right_bracket, left_brace, right_brace, is_blank, All}
 use Rattle.edit_document.specs.Grammar.{Between, gap, IsGap, IsBlankGap, Value, basic, literal, multi_basic, multi_literal, boolean, integer, float, datetime, array, inline, Elements, no_elements, last_element, element, Members, no_members, last_member, member, value, elements, members, IsValue, AreElements, AreMembers, IsMember}
-use Rattle.edit_document.specs.Supported.{IsSupportedValue, AreSupportedElements, AreSupportedMembers}
 use Rattle.edit_document.specs.Depth.{depth, elements_depth, members_depth}
 use Rattle.edit_document.specs.Reading.{first, blank_gap, scalar_at, value_at}
 use Rattle.edit_document.proofs.TokenLaws.{front_again, after_again, basic_again, literal_again}
@@ -56,19 +55,19 @@ one_apostrophe : (text rest : List ℕ) → All is_literal_ch text → eqb (firs
 one_apostrophe [] rest h ends = rw ends refl
 one_apostrophe (b ∷ text) rest h ends = rw (literal_other b h.0) refl
 
-scalar_again : (v : Value) (rest : List ℕ) → IsValue v → IsSupportedValue v → depth v ≡ 0 → EndsValue rest → scalar_at (value v rest) ≡ Some (v, rest)
+scalar_again : (v : Value) (rest : List ℕ) → IsValue v → depth v ≡ 0 → EndsValue rest → scalar_at (value v rest) ≡ Some (v, rest)
 unfolding scalar_at
-scalar_again (basic ps) rest h s e ends = rw (one_quote ps rest h ends.no_quote, basic_again ps rest h) refl
-scalar_again (literal text) rest h s e ends = rw (one_apostrophe text rest h ends.no_apostrophe, literal_again text rest h) refl
-scalar_again (multi_basic ps) rest h s e ends = rw (multi_basic_again ps rest h.0 h.1 h.2 ends.no_quote) refl
-scalar_again (multi_literal ps) rest h s e ends = rw (multi_literal_again ps rest h.0 h.1 ends.no_apostrophe) refl
-scalar_again (boolean true) rest h s e ends = refl
-scalar_again (boolean false) rest h s e ends = refl
-scalar_again (integer n) rest h s e ends = number_scalar (integer_text n rest) (integer_start n rest h) ∙ integer_again n rest h ends
-scalar_again (float f) rest h s e ends = number_scalar (float_text f rest) (float_start f rest h) ∙ float_again f rest h ends
-scalar_again (datetime d) rest h s e ends = number_scalar (datetime_text d rest) (datetime_start d rest h) ∙ datetime_again d rest h ends
-scalar_again (array g es) rest h s e ends = absurd (omega arith)
-scalar_again (inline g ms) rest h s e ends = absurd (omega arith)
+scalar_again (basic ps) rest h e ends = rw (one_quote ps rest h ends.no_quote, basic_again ps rest h) refl
+scalar_again (literal text) rest h e ends = rw (one_apostrophe text rest h ends.no_apostrophe, literal_again text rest h) refl
+scalar_again (multi_basic ps) rest h e ends = rw (multi_basic_again ps rest h.0 h.1 h.2 ends.no_quote) refl
+scalar_again (multi_literal ps) rest h e ends = rw (multi_literal_again ps rest h.0 h.1 ends.no_apostrophe) refl
+scalar_again (boolean true) rest h e ends = refl
+scalar_again (boolean false) rest h e ends = refl
+scalar_again (integer n) rest h e ends = number_scalar (integer_text n rest) (integer_start n rest h) ∙ integer_again n rest h ends
+scalar_again (float f) rest h e ends = number_scalar (float_text f rest) (float_start f rest h) ∙ float_again f rest h ends
+scalar_again (datetime d) rest h e ends = number_scalar (datetime_text d rest) (datetime_start d rest h) ∙ datetime_again d rest h ends
+scalar_again (array g es) rest h e ends = absurd (omega arith)
+scalar_again (inline g ms) rest h e ends = absurd (omega arith)
 
 empty_again : (n : ℕ) (g rest : List ℕ) → All is_blank g → value_at (suc n) (left_brace ∷ (g ++ (right_brace ∷ rest))) ≡ Some (inline (blank_gap g) no_members, rest)
 unfolding value_at
@@ -80,7 +79,7 @@ unfolding value_at
 some_again n g ms rest hg h some again =
     let more = members ms (right_brace ∷ rest) in
     let begins = members_first ms (right_brace ∷ rest) h.valid some in
-    let enough : count ms ≤ length (left_brace ∷ (g ++ more)) = omega (arith, length-append g more, members_longer ms (right_brace ∷ rest) h.valid h.supported) in
+    let enough : count ms ≤ length (left_brace ∷ (g ++ more)) = omega (arith, length-append g more, members_longer ms (right_brace ∷ rest) h.valid) in
     rw (after_again is_blank g more hg begins.0, front_again is_blank g more hg begins.0, begins.1, members_again n (value_at n) (length (left_brace ∷ (g ++ more))) ms rest h some again enough) refl
 
 inline_blank : (n : ℕ) (g : List ℕ) (ms : Members) (rest : List ℕ) → All is_blank g → AreReadable n ms → AgainAll (value_at n) ms
@@ -101,7 +100,7 @@ unfolding value_at
 array_again n g es rest hg h again =
     let more = elements es (right_bracket ∷ rest) in
     let begins = elements_gapless es rest h.valid in
-    let enough : turns es ≤ length (left_bracket ∷ gap g more) = omega (arith, gap_longer g more, elements_longer es (right_bracket ∷ rest) h.valid h.supported) in
+    let enough : turns es ≤ length (left_bracket ∷ gap g more) = omega (arith, gap_longer g more, elements_longer es (right_bracket ∷ rest) h.valid) in
     rw (past_gap_again g more hg begins, front_gap_again g more hg begins, elements_again n (value_at n) (length (left_bracket ∷ gap g more)) es rest h again enough) refl
 
 -- a value that is one token begins neither an array nor an inline table
@@ -112,33 +111,33 @@ record IsFlat (b : ℕ) : Type 0 where
 flat_first : (b : ℕ) → is_start b ≡ true → IsFlat b
 flat_first b h = let n = number_first b h in record { no_bracket = n.no_bracket; no_brace = n.no_brace }
 
-flat_again : (n : ℕ) (v : Value) (rest : List ℕ) → IsValue v → IsSupportedValue v → depth v ≡ 0 → EndsValue rest → IsFlat (first (value v rest)) → value_at n (value v rest) ≡ Some (v, rest)
+flat_again : (n : ℕ) (v : Value) (rest : List ℕ) → IsValue v → depth v ≡ 0 → EndsValue rest → IsFlat (first (value v rest)) → value_at n (value v rest) ≡ Some (v, rest)
 unfolding value_at
-flat_again zero v rest h s e ends other = scalar_again v rest h s e ends
-flat_again (suc n) v rest h s e ends other = rw (other.no_bracket, other.no_brace) (scalar_again v rest h s e ends)
+flat_again zero v rest h e ends other = scalar_again v rest h e ends
+flat_again (suc n) v rest h e ends other = rw (other.no_bracket, other.no_brace) (scalar_again v rest h e ends)
 
 mutual
-  pub value_again : (v : Value) (n : ℕ) → IsValue v → IsSupportedValue v → depth v ≤ n → Again (value_at n) v
-  value_again (basic ps) n h s le rest ends = flat_again n (basic ps) rest h s refl ends (record { no_bracket = refl; no_brace = refl })
-  value_again (literal text) n h s le rest ends = flat_again n (literal text) rest h s refl ends (record { no_bracket = refl; no_brace = refl })
-  value_again (multi_basic ps) n h s le rest ends = flat_again n (multi_basic ps) rest h s refl ends (record { no_bracket = refl; no_brace = refl })
-  value_again (multi_literal ps) n h s le rest ends = flat_again n (multi_literal ps) rest h s refl ends (record { no_bracket = refl; no_brace = refl })
-  value_again (boolean true) n h s le rest ends = flat_again n (boolean true) rest h s refl ends (record { no_bracket = refl; no_brace = refl })
-  value_again (boolean false) n h s le rest ends = flat_again n (boolean false) rest h s refl ends (record { no_bracket = refl; no_brace = refl })
-  value_again (integer i) n h s le rest ends = flat_again n (integer i) rest h s refl ends (flat_first (first (integer_text i rest)) (integer_start i rest h))
-  value_again (float f) n h s le rest ends = flat_again n (float f) rest h s refl ends (flat_first (first (float_text f rest)) (float_start f rest h))
-  value_again (datetime d) n h s le rest ends = flat_again n (datetime d) rest h s refl ends (flat_first (first (datetime_text d rest)) (datetime_start d rest h))
-  value_again (array g es) zero h s le rest ends = absurd (omega arith)
-  value_again (array g es) (suc n) h s le rest ends = array_again n g es rest h.0 (record { valid = h.1; supported = s; shallow = omega arith }) (each_again es n h.1 s (omega arith))
-  value_again (inline g ms) zero h s le rest ends = absurd (omega arith)
-  value_again (inline g ms) (suc n) h s le rest ends = inline_again n g ms rest h.0 (record { valid = h.1; supported = s; shallow = omega arith }) (all_again ms n h.1 s (omega arith))
+  pub value_again : (v : Value) (n : ℕ) → IsValue v → depth v ≤ n → Again (value_at n) v
+  value_again (basic ps) n h le rest ends = flat_again n (basic ps) rest h refl ends (record { no_bracket = refl; no_brace = refl })
+  value_again (literal text) n h le rest ends = flat_again n (literal text) rest h refl ends (record { no_bracket = refl; no_brace = refl })
+  value_again (multi_basic ps) n h le rest ends = flat_again n (multi_basic ps) rest h refl ends (record { no_bracket = refl; no_brace = refl })
+  value_again (multi_literal ps) n h le rest ends = flat_again n (multi_literal ps) rest h refl ends (record { no_bracket = refl; no_brace = refl })
+  value_again (boolean true) n h le rest ends = flat_again n (boolean true) rest h refl ends (record { no_bracket = refl; no_brace = refl })
+  value_again (boolean false) n h le rest ends = flat_again n (boolean false) rest h refl ends (record { no_bracket = refl; no_brace = refl })
+  value_again (integer i) n h le rest ends = flat_again n (integer i) rest h refl ends (flat_first (first (integer_text i rest)) (integer_start i rest h))
+  value_again (float f) n h le rest ends = flat_again n (float f) rest h refl ends (flat_first (first (float_text f rest)) (float_start f rest h))
+  value_again (datetime d) n h le rest ends = flat_again n (datetime d) rest h refl ends (flat_first (first (datetime_text d rest)) (datetime_start d rest h))
+  value_again (array g es) zero h le rest ends = absurd (omega arith)
+  value_again (array g es) (suc n) h le rest ends = array_again n g es rest h.0 (record { valid = h.1; shallow = omega arith }) (each_again es n h.1 (omega arith))
+  value_again (inline g ms) zero h le rest ends = absurd (omega arith)
+  value_again (inline g ms) (suc n) h le rest ends = inline_again n g ms rest h.0 (record { valid = h.1; shallow = omega arith }) (all_again ms n h.1 (omega arith))
 
-  each_again : (es : Elements) (n : ℕ) → AreElements es → AreSupportedElements es → elements_depth es ≤ n → AgainElements (value_at n) es
-  each_again no_elements n h s le = tt
-  each_again (last_element v g) n h s le = value_again v n h.0 s le
-  each_again (element v g h2 es) n h s le = (value_again v n h.0 s.0 (omega arith), each_again es n h.3 s.1 (omega arith))
+  each_again : (es : Elements) (n : ℕ) → AreElements es → elements_depth es ≤ n → AgainElements (value_at n) es
+  each_again no_elements n h le = tt
+  each_again (last_element v g) n h le = value_again v n h.0 le
+  each_again (element v g h2 es) n h le = (value_again v n h.0 (omega arith), each_again es n h.3 (omega arith))
 
-  all_again : (ms : Members) (n : ℕ) → AreMembers ms → AreSupportedMembers ms → members_depth ms ≤ n → AgainAll (value_at n) ms
-  all_again no_members n h s le = tt
-  all_again (last_member k a b v c) n h s le = value_again v n h.3 s le
-  all_again (member k a b v c d ms) n h s le = (value_again v n h.3 s.0 (omega arith), all_again ms n h.6 s.1 (omega arith))
+  all_again : (ms : Members) (n : ℕ) → AreMembers ms → members_depth ms ≤ n → AgainAll (value_at n) ms
+  all_again no_members n h le = tt
+  all_again (last_member k a b v c) n h le = value_again v n h.3 le
+  all_again (member k a b v c d ms) n h le = (value_again v n h.3 (omega arith), all_again ms n h.6 (omega arith))

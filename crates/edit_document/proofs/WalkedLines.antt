@@ -10,7 +10,6 @@ use Rattle.edit_document.specs.Characters.{equals, left_bracket, right_bracket}
 use Rattle.edit_document.specs.Strings.{◌·◌, LineEnd, line_end, name, Dotted as DottedPart, Key}
 use Rattle.edit_document.specs.Strings as strings
 use Rattle.edit_document.specs.Grammar.{value, Statement, pair, header, element_header, statement, IsStatement, comment, empty_line, full_line, Lines, one_line, more_lines, lines, AreLines, Text}
-use Rattle.edit_document.specs.Supported.{IsSupportedStatement, AreSupportedLines}
 use Rattle.edit_document.specs.Assertions.{key, index, Place, at, same_place, together, resolved, Kind, dotted, leaf, super, header_kind, array_kind, element_kind, Assertion, asserts, names, elements_at, fronts, header_place, prefix_after, of_statement, of_lines, assertions}
 use Rattle.edit_document.specs.Tree.{kind_at}
 use Rattle.edit_document.specs.Written.{in_statement, in_lines, values}
@@ -196,20 +195,20 @@ module _ (bytes : List ℕ) (spots : List Spot) (t : ℕ) (made : List Assertion
 
 -- ---- statements
 
-statement_stated : (bytes : List ℕ) (s : Statement) (rest : List ℕ) (spots : List Spot) (made : List Assertion) (written : List Placed) (t : ℕ) (p : Place) → IsStatement s → IsSupportedStatement s → IsUtf8 bytes → Ends bytes (statement s rest)
+statement_stated : (bytes : List ℕ) (s : Statement) (rest : List ℕ) (spots : List Spot) (made : List Assertion) (written : List Placed) (t : ℕ) (p : Place) → IsStatement s → IsUtf8 bytes → Ends bytes (statement s rest)
     → Stands made written spots → IsEven made → StandsAt spots t p
     → Stated spots (made ++ of_statement made p s) (written ++ spans (in_statement p s rest)) (prefix_after made p s) (walked bytes (statement_marks s rest) (settled_state spots (t ∷ [])))
-statement_stated bytes (pair k a b v) rest spots made written t p h s u ends st even there =
+statement_stated bytes (pair k a b v) rest spots made written t p h u ends st even there =
     let before = pair_before spots made written [] t p false (name k.first) (key_names k) in
     stated_along (walked_key bytes k (a ++ (equals ∷ (b ++ value v rest))) (value_marks v rest) (settled_state spots (t ∷ [])) h.0 u ends)
     (pair_stated spots (made ++ of_statement made p (pair k a b v)) (written ++ spans (in_statement p (pair k a b v) rest)) t p (walked bytes (value_marks v rest) (waits (settled_state spots (t ∷ [])) (names k))) there
-    (value_leads bytes v rest before h.3 s u (ends_pair bytes k a b (value v rest) ends) (pair_is_before spots made written [] t p false (name k.first) (key_names k) st there refl)))
-statement_stated bytes (header a k b) rest spots made written t p h s u ends st even there =
+    (value_leads bytes v rest before h.3 u (ends_pair bytes k a b (value v rest) ends) (pair_is_before spots made written [] t p false (name k.first) (key_names k) st there refl)))
+statement_stated bytes (header a k b) rest spots made written t p h u ends st even there =
     let whole = statement (header a k b) rest in
     let key_ends : Ends bytes (strings.key k (b ++ (right_bracket ∷ rest))) = ends_past bytes a (strings.key k (b ++ (right_bracket ∷ rest))) (ends_one bytes left_bracket (a ++ strings.key k (b ++ (right_bracket ∷ rest))) ends) in
     subst (λ (w : List Placed). Stated spots (made ++ of_statement made p (header a k b)) w (prefix_after made p (header a k b)) (walked bytes (statement_marks (header a k b) rest) (settled_state spots (t ∷ [])))) (sym (append-nil written))
     (stated_along (walked_key bytes k (b ++ (right_bracket ∷ rest)) (mark kinds.Header whole rest ∷ []) (settled_state spots (t ∷ [])) h.1 u key_ends) (header_stated bytes spots t made written k whole rest st even))
-statement_stated bytes (element_header a k b) rest spots made written t p h s u ends st even there =
+statement_stated bytes (element_header a k b) rest spots made written t p h u ends st even there =
     let whole = statement (element_header a k b) rest in
     let end = b ++ (right_bracket ∷ (right_bracket ∷ rest)) in
     let key_ends : Ends bytes (strings.key k end) = ends_past bytes a (strings.key k end) (ends_one bytes left_bracket (a ++ strings.key k end) (ends_one bytes left_bracket (left_bracket ∷ (a ++ strings.key k end)) ends)) in
@@ -246,28 +245,28 @@ last_line : {spots : List Spot} {made : List Assertion} {written : List Placed} 
 last_line (stated now j e s there g) = ended now (j ∷ []) e s
 last_line (halts e c) = stuck e c
 
-pub lines_walked : (bytes : List ℕ) (ls : Lines) (spots : List Spot) (made : List Assertion) (written : List Placed) (t : ℕ) (p : Place) → AreLines ls → AreSupportedLines ls → IsUtf8 bytes → Ends bytes (lines ls) → Stands made written spots → IsEven made → StandsAt spots t p
+pub lines_walked : (bytes : List ℕ) (ls : Lines) (spots : List Spot) (made : List Assertion) (written : List Placed) (t : ℕ) (p : Place) → AreLines ls → IsUtf8 bytes → Ends bytes (lines ls) → Stands made written spots → IsEven made → StandsAt spots t p
     → Walked (of_lines made p ls) (written ++ spans (in_lines made p ls)) (walked bytes (lines_marks ls) (settled_state spots (t ∷ [])))
-lines_walked bytes (one_line (empty_line a c)) spots made written t p h s u ends st even there =
+lines_walked bytes (one_line (empty_line a c)) spots made written t p h u ends st even there =
     ended spots (t ∷ []) (walked_none bytes (settled_state spots (t ∷ []))) (subst (λ (w : List Placed). Stands made w spots) (sym (append-nil written)) st)
-lines_walked bytes (one_line (full_line a s b c)) spots made written t p h sup u ends st even there =
-    last_line (statement_stated bytes s (b ++ comment c []) spots made written t p h.1 sup u (ends_past bytes a (statement s (b ++ comment c [])) ends) st even there)
-lines_walked bytes (more_lines (empty_line a c) e ls) spots made written t p h s u ends st even there =
-    lines_walked bytes ls spots made written t p h.1 s.1 u (ends_line_end bytes e (lines ls) (ends_line bytes (empty_line a c) (line_end e (lines ls)) ends)) st even there
-lines_walked bytes (more_lines (full_line a s b c) e ls) spots made written t p h sup u ends st even there =
+lines_walked bytes (one_line (full_line a s b c)) spots made written t p h u ends st even there =
+    last_line (statement_stated bytes s (b ++ comment c []) spots made written t p h.1 u (ends_past bytes a (statement s (b ++ comment c [])) ends) st even there)
+lines_walked bytes (more_lines (empty_line a c) e ls) spots made written t p h u ends st even there =
+    lines_walked bytes ls spots made written t p h.1 u (ends_line_end bytes e (lines ls) (ends_line bytes (empty_line a c) (line_end e (lines ls)) ends)) st even there
+lines_walked bytes (more_lines (full_line a s b c) e ls) spots made written t p h u ends st even there =
     let after = b ++ comment c (line_end e (lines ls)) in
     let more_ends : Ends bytes (lines ls) = ends_line_end bytes e (lines ls) (ends_line bytes (full_line a s b c) (line_end e (lines ls)) ends) in
     let next = made ++ of_statement made p s in
     let here = spans (in_statement p s after) in
-    let one = statement_stated bytes s after spots made written t p h.0.1 sup.0 u (ends_past bytes a (statement s after) ends) st even there in
+    let one = statement_stated bytes s after spots made written t p h.0.1 u (ends_past bytes a (statement s after) ends) st even there in
     let all = then_lines bytes (statement_marks s after) (lines_marks ls) (settled_state spots (t ∷ [])) spots next (of_lines next (prefix_after made p s) ls) (written ++ here) ((written ++ here) ++ spans (in_lines next (prefix_after made p s) ls)) (prefix_after made p s) one (clear_lines next (prefix_after made p s) ls)
-    (λ now j st2 there2. lines_walked bytes ls now next (written ++ here) j (prefix_after made p s) h.1 sup.1 u more_ends st2 (even_statement made p s even) there2) in
+    (λ now j st2 there2. lines_walked bytes ls now next (written ++ here) j (prefix_after made p s) h.1 u more_ends st2 (even_statement made p s even) there2) in
     subst (λ (w : List Placed). Walked (of_lines made p (more_lines (full_line a s b c) e ls)) w (walked bytes (lines_marks (more_lines (full_line a s b c) e ls)) (settled_state spots (t ∷ []))))
     (append_assoc written here (spans (in_lines next (prefix_after made p s) ls)) ∙ ap (λ (w : List Placed). written ++ w) (sym (map-append placed (in_statement p s after) (in_lines next (prefix_after made p s) ls)))) all
 
 -- the walk over the marks of a text
-pub text_walked : (bytes : List ℕ) (form : Text) → AreLines form.lines → AreSupportedLines form.lines → IsUtf8 bytes → Ends bytes (lines form.lines) → Walked (assertions form) (map placed (values form)) (walked bytes (text_marks form) start)
-text_walked bytes form h s u ends = lines_walked bytes form.lines _ [] [] 0 [] h s u ends stands_start (λ p. refl) stands_start.tree.root
+pub text_walked : (bytes : List ℕ) (form : Text) → AreLines form.lines → IsUtf8 bytes → Ends bytes (lines form.lines) → Walked (assertions form) (map placed (values form)) (walked bytes (text_marks form) start)
+text_walked bytes form h u ends = lines_walked bytes form.lines _ [] [] 0 [] h u ends stands_start (λ p. refl) stands_start.tree.root
 
 -- and as many arrays as elements are asserted
 pub text_even : (form : Text) → IsEven (assertions form)

@@ -9,7 +9,6 @@ use Rattle.edit_document.specs.declared.nodes.Taken.TheVariants.{Dotted}
 use Rattle.edit_document.specs.Characters.{comma, equals, right_bracket, right_brace}
 use Rattle.edit_document.specs.Strings.{name, basic_text, literal_text, Dotted as DottedPart, Key}
 use Rattle.edit_document.specs.Grammar.{Between, gap, Value, basic, literal, multi_basic, multi_literal, boolean, integer, float, datetime, array, inline, Elements, no_elements, last_element, element, Members, no_members, last_member, member, value, elements, members, IsValue, AreElements, AreMembers}
-use Rattle.edit_document.specs.Supported.{IsSupportedValue, AreSupportedElements, AreSupportedMembers}
 use Rattle.edit_document.specs.Assertions.{key, index, Place, at, Kind, dotted, leaf, Assertion, asserts, names, named, of_key, of_value, of_elements, of_members}
 use Rattle.edit_document.specs.Tree.{kind_at, count_elements}
 use Rattle.edit_document.specs.Written.{valued, inside, in_elements, in_members}
@@ -163,70 +162,70 @@ member_is_before : (spots : List Spot) (made : List Assertion) (written : List P
 member_is_before spots made written base t p k st there deep = pair_is_before spots made written base t p true (name k.first) (map (λ (d : DottedPart). name d.part) k.others) st there deep
 
 mutual
-  pub value_leads : (bytes : List ℕ) (v : Value) (rest : List ℕ) (b : Before) → IsValue v → IsSupportedValue v → IsUtf8 bytes → Ends bytes (value v rest) → IsBefore b → LeadsBy b v rest (walked bytes (value_marks v rest) b.waiting)
-  value_leads bytes (basic ps) rest b h s u ends at_value =
+  pub value_leads : (bytes : List ℕ) (v : Value) (rest : List ℕ) (b : Before) → IsValue v → IsUtf8 bytes → Ends bytes (value v rest) → IsBefore b → LeadsBy b v rest (walked bytes (value_marks v rest) b.waiting)
+  value_leads bytes (basic ps) rest b h u ends at_value =
       scalar_leads bytes (mark kinds.BasicString (basic_text ps rest) rest) b (basic ps) rest (basic_step bytes ps rest h u ends) refl refl at_value
-  value_leads bytes (literal text) rest b h s u ends at_value =
+  value_leads bytes (literal text) rest b h u ends at_value =
       scalar_leads bytes (mark kinds.LiteralString (literal_text text rest) rest) b (literal text) rest (literal_step bytes text rest h u ends) refl refl at_value
-  value_leads bytes (multi_basic ps) rest b h s u ends at_value =
+  value_leads bytes (multi_basic ps) rest b h u ends at_value =
       scalar_leads bytes (mark kinds.MultiBasicString (value (multi_basic ps) rest) rest) b (multi_basic ps) rest (multi_basic_step bytes ps rest h u ends) refl refl at_value
-  value_leads bytes (multi_literal ps) rest b h s u ends at_value =
+  value_leads bytes (multi_literal ps) rest b h u ends at_value =
       scalar_leads bytes (mark kinds.MultiLiteralString (value (multi_literal ps) rest) rest) b (multi_literal ps) rest (multi_literal_step bytes ps rest h u ends) refl refl at_value
-  value_leads bytes (boolean true) rest b h s u ends at_value = scalar_leads bytes (mark kinds.True (value (boolean true) rest) rest) b (boolean true) rest (true_step bytes rest) refl refl at_value
-  value_leads bytes (boolean false) rest b h s u ends at_value = scalar_leads bytes (mark kinds.False (value (boolean false) rest) rest) b (boolean false) rest (false_step bytes rest) refl refl at_value
-  value_leads bytes (integer i) rest b h s u ends at_value =
+  value_leads bytes (boolean true) rest b h u ends at_value = scalar_leads bytes (mark kinds.True (value (boolean true) rest) rest) b (boolean true) rest (true_step bytes rest) refl refl at_value
+  value_leads bytes (boolean false) rest b h u ends at_value = scalar_leads bytes (mark kinds.False (value (boolean false) rest) rest) b (boolean false) rest (false_step bytes rest) refl refl at_value
+  value_leads bytes (integer i) rest b h u ends at_value =
       scalar_leads bytes (mark kinds.Integer (value (integer i) rest) rest) b (integer i) rest (number_step bytes (integer i) rest h tt ends) refl refl at_value
-  value_leads bytes (float f) rest b h s u ends at_value =
+  value_leads bytes (float f) rest b h u ends at_value =
       scalar_leads bytes (mark kinds.Float (value (float f) rest) rest) b (float f) rest (number_step bytes (float f) rest h tt ends) refl refl at_value
-  value_leads bytes (datetime d) rest b h s u ends at_value =
+  value_leads bytes (datetime d) rest b h u ends at_value =
       scalar_leads bytes (mark kinds.DateTime (value (datetime d) rest) rest) b (datetime d) rest (number_step bytes (datetime d) rest h tt ends) refl refl at_value
-  value_leads bytes (array g es) rest b h s u ends at_value =
+  value_leads bytes (array g es) rest b h u ends at_value =
       let end = right_bracket ∷ rest in
       let in_brackets : Ends bytes (elements es (right_bracket ∷ rest)) = ends_gap bytes g (elements es (right_bracket ∷ rest)) (ends_one bytes 91 (gap g (elements es (right_bracket ∷ rest))) ends) in
       let open_span : Span = record { from = length (value (array g es) rest); to = length (gap g (elements es (right_bracket ∷ rest))) } in
       holder_leads bytes (array g es) rest (gap g (elements es (right_bracket ∷ rest))) (mark kinds.OpenArray (value (array g es) rest) (gap g (elements es (right_bracket ∷ rest)))) (mark kinds.CloseArray (right_bracket ∷ rest) rest) (elements_marks es (right_bracket ∷ rest)) b at_value
       (open_array bytes (value (array g es) rest) (gap g (elements es (right_bracket ∷ rest)))) (close_array bytes (right_bracket ∷ rest) rest)
-      (λ now j st there grows. elements_lead bytes es (right_bracket ∷ rest) now (b.made ++ b.keyed (array g es)) (b.written ++ (b.place, open_span) ∷ []) b.tables j b.place 0 (count_elements es) h.1 s u in_brackets st (array_new b now (b.written ++ (b.place, open_span) ∷ []) j g es at_value st there) (omega arith))
-  value_leads bytes (inline g ms) rest b h s u ends at_value =
+      (λ now j st there grows. elements_lead bytes es (right_bracket ∷ rest) now (b.made ++ b.keyed (array g es)) (b.written ++ (b.place, open_span) ∷ []) b.tables j b.place 0 (count_elements es) h.1 u in_brackets st (array_new b now (b.written ++ (b.place, open_span) ∷ []) j g es at_value st there) (omega arith))
+  value_leads bytes (inline g ms) rest b h u ends at_value =
       let in_braces : Ends bytes (members ms (right_brace ∷ rest)) = ends_gap bytes g (members ms (right_brace ∷ rest)) (ends_one bytes 123 (gap g (members ms (right_brace ∷ rest))) ends) in
       let open_span : Span = record { from = length (value (inline g ms) rest); to = length (gap g (members ms (right_brace ∷ rest))) } in
       holder_leads bytes (inline g ms) rest (gap g (members ms (right_brace ∷ rest))) (mark kinds.OpenTable (value (inline g ms) rest) (gap g (members ms (right_brace ∷ rest)))) (mark kinds.CloseTable (right_brace ∷ rest) rest) (members_marks ms (right_brace ∷ rest)) b at_value
       (open_table bytes (value (inline g ms) rest) (gap g (members ms (right_brace ∷ rest)))) (close_table bytes (right_brace ∷ rest) rest)
-      (λ now j st there grows. members_lead bytes ms (right_brace ∷ rest) now (b.made ++ b.keyed (inline g ms)) (b.written ++ (b.place, open_span) ∷ []) b.tables j b.place h.1 s u in_braces st there (at_value.deep j))
+      (λ now j st there grows. members_lead bytes ms (right_brace ∷ rest) now (b.made ++ b.keyed (inline g ms)) (b.written ++ (b.place, open_span) ∷ []) b.tables j b.place h.1 u in_braces st there (at_value.deep j))
 
-  pub elements_lead : (bytes : List ℕ) (es : Elements) (rest : List ℕ) (spots : List Spot) (made : List Assertion) (written : List Placed) (base : List ℕ) (t : ℕ) (p : Place) (i total : ℕ) → AreElements es → AreSupportedElements es → IsUtf8 bytes → Ends bytes (elements es rest)
+  pub elements_lead : (bytes : List ℕ) (es : Elements) (rest : List ℕ) (spots : List Spot) (made : List Assertion) (written : List Placed) (base : List ℕ) (t : ℕ) (p : Place) (i total : ℕ) → AreElements es → IsUtf8 bytes → Ends bytes (elements es rest)
       → Stands made written spots → IsArrayAt spots made t p i total → i + count_elements es ≡ total
       → Leads spots (made ++ of_elements p i es) (written ++ spans (in_elements p i es rest)) (base ++ t ∷ []) (walked bytes (elements_marks es rest) (settled_state spots (base ++ t ∷ [])))
-  elements_lead bytes no_elements rest spots made written base t p i total h s u ends st a count =
+  elements_lead bytes no_elements rest spots made written base t p i total h u ends st a count =
       leads spots (walked_none bytes (settled_state spots (base ++ t ∷ []))) (subst (λ (xs : List Assertion). Stands xs (written ++ []) spots) (sym (append-nil made)) (subst (λ (w : List Placed). Stands made w spots) (sym (append-nil written)) st)) (grows_same spots)
-  elements_lead bytes (last_element v g) rest spots made written base t p i total h s u ends st a count =
-      value_leads bytes v (gap g rest) (element_before spots made written base t p i) h.0 s u ends (element_is_before spots made written base t p i total st a (omega arith))
-  elements_lead bytes (element v g h2 es) rest spots made written base t p i total h s u ends st a count =
+  elements_lead bytes (last_element v g) rest spots made written base t p i total h u ends st a count =
+      value_leads bytes v (gap g rest) (element_before spots made written base t p i) h.0 u ends (element_is_before spots made written base t p i total st a (omega arith))
+  elements_lead bytes (element v g h2 es) rest spots made written base t p i total h u ends st a count =
       let after = gap g (comma ∷ gap h2 (elements es rest)) in
       let before = element_before spots made written base t p i in
       let one = valued (at p (index i)) v after ∷ inside (at p (index i)) v after in
       let asserted_one = asserts (at p (index i)) (at p (index i)) (leaf v) ∷ of_value (at p (index i)) v in
       let more_ends : Ends bytes (elements es rest) = ends_gap bytes h2 (elements es rest) (ends_one bytes comma (gap h2 (elements es rest)) (ends_gap bytes g (comma ∷ gap h2 (elements es rest)) (ends_value bytes v after ends))) in
       let first : Leads spots (made ++ asserted_one) (written ++ spans one) (base ++ t ∷ []) (walked bytes (value_marks v after) (settled_state spots (base ++ t ∷ []))) =
-      value_leads bytes v after before h.0 s.0 u ends (element_is_before spots made written base t p i total st a (omega arith)) in
+      value_leads bytes v after before h.0 u ends (element_is_before spots made written base t p i total st a (omega arith)) in
       let all = leads_then bytes (value_marks v after) (elements_marks es rest) (settled_state spots (base ++ t ∷ [])) spots (made ++ asserted_one) (of_elements p (suc i) es) (written ++ spans one) (spans (in_elements p (suc i) es rest)) (base ++ t ∷ []) (base ++ t ∷ []) first
-      (λ now st2 grows. elements_lead bytes es rest now (made ++ asserted_one) (written ++ spans one) base t p (suc i) total h.3 s.1 u more_ends st2 (array_more spots now made written (written ++ spans one) t p i total v st a st2 grows) (let c = count in omega arith)) in
+      (λ now st2 grows. elements_lead bytes es rest now (made ++ asserted_one) (written ++ spans one) base t p (suc i) total h.3 u more_ends st2 (array_more spots now made written (written ++ spans one) t p i total v st a st2 grows) (let c = count in omega arith)) in
       let same_made : (made ++ asserted_one) ++ of_elements p (suc i) es ≡ made ++ (asserted_one ++ of_elements p (suc i) es) = append_assoc made asserted_one (of_elements p (suc i) es) in
       let same_spans : (written ++ spans one) ++ spans (in_elements p (suc i) es rest) ≡ written ++ spans (one ++ in_elements p (suc i) es rest) =
       append_assoc written (spans one) (spans (in_elements p (suc i) es rest)) ∙ ap (λ (w : List Placed). written ++ w) (sym (map-append placed one (in_elements p (suc i) es rest))) in
       subst (λ (xs : List Assertion). Leads spots xs (written ++ spans (one ++ in_elements p (suc i) es rest)) (base ++ t ∷ []) (walked bytes (elements_marks (element v g h2 es) rest) (settled_state spots (base ++ t ∷ [])))) same_made
       (subst (λ (w : List Placed). Leads spots ((made ++ asserted_one) ++ of_elements p (suc i) es) w (base ++ t ∷ []) (walked bytes (elements_marks (element v g h2 es) rest) (settled_state spots (base ++ t ∷ [])))) same_spans all)
 
-  pub members_lead : (bytes : List ℕ) (ms : Members) (rest : List ℕ) (spots : List Spot) (made : List Assertion) (written : List Placed) (base : List ℕ) (t : ℕ) (p : Place) → AreMembers ms → AreSupportedMembers ms → IsUtf8 bytes → Ends bytes (members ms rest)
+  pub members_lead : (bytes : List ℕ) (ms : Members) (rest : List ℕ) (spots : List Spot) (made : List Assertion) (written : List Placed) (base : List ℕ) (t : ℕ) (p : Place) → AreMembers ms → IsUtf8 bytes → Ends bytes (members ms rest)
       → Stands made written spots → StandsAt spots t p → is_dotted_within (length (base ++ t ∷ [])) Dotted ≡ true
       → Leads spots (made ++ of_members p ms) (written ++ spans (in_members p ms rest)) (base ++ t ∷ []) (walked bytes (members_marks ms rest) (settled_state spots (base ++ t ∷ [])))
-  members_lead bytes no_members rest spots made written base t p h s u ends st there deep =
+  members_lead bytes no_members rest spots made written base t p h u ends st there deep =
       leads spots (walked_none bytes (settled_state spots (base ++ t ∷ []))) (subst (λ (xs : List Assertion). Stands xs (written ++ []) spots) (sym (append-nil made)) (subst (λ (w : List Placed). Stands made w spots) (sym (append-nil written)) st)) (grows_same spots)
-  members_lead bytes (last_member k a b v c) rest spots made written base t p h s u ends st there deep =
+  members_lead bytes (last_member k a b v c) rest spots made written base t p h u ends st there deep =
       let after = gap c rest in
       leads_along (walked_key bytes k (a ++ (equals ∷ (b ++ value v after))) (value_marks v after) (settled_state spots (base ++ t ∷ [])) h.0 u ends)
-      (value_leads bytes v after (member_before spots made written base t p k) h.3 s u (ends_pair bytes k a b (value v after) ends) (member_is_before spots made written base t p k st there deep))
-  members_lead bytes (member k a b v c d ms) rest spots made written base t p h s u ends st there deep =
+      (value_leads bytes v after (member_before spots made written base t p k) h.3 u (ends_pair bytes k a b (value v after) ends) (member_is_before spots made written base t p k st there deep))
+  members_lead bytes (member k a b v c d ms) rest spots made written base t p h u ends st there deep =
       let after = gap c (comma ∷ gap d (members ms rest)) in
       let before = member_before spots made written base t p k in
       let one = valued (named p (names k)) v after ∷ inside (named p (names k)) v after in
@@ -235,9 +234,9 @@ mutual
       let more_ends : Ends bytes (members ms rest) = ends_gap bytes d (members ms rest) (ends_one bytes comma (gap d (members ms rest)) (ends_gap bytes c (comma ∷ gap d (members ms rest)) (ends_value bytes v after value_ends))) in
       let first : Leads spots (made ++ asserted_one) (written ++ spans one) (base ++ t ∷ []) (walked bytes (key_marks k (a ++ (equals ∷ (b ++ value v after))) ++ value_marks v after) (settled_state spots (base ++ t ∷ []))) =
       leads_along (walked_key bytes k (a ++ (equals ∷ (b ++ value v after))) (value_marks v after) (settled_state spots (base ++ t ∷ [])) h.0 u ends)
-      (value_leads bytes v after before h.3 s.0 u value_ends (member_is_before spots made written base t p k st there deep)) in
+      (value_leads bytes v after before h.3 u value_ends (member_is_before spots made written base t p k st there deep)) in
       let all = leads_then bytes (key_marks k (a ++ (equals ∷ (b ++ value v after))) ++ value_marks v after) (members_marks ms rest) (settled_state spots (base ++ t ∷ [])) spots (made ++ asserted_one) (of_members p ms) (written ++ spans one) (spans (in_members p ms rest)) (base ++ t ∷ []) (base ++ t ∷ []) first
-      (λ now st2 grows. members_lead bytes ms rest now (made ++ asserted_one) (written ++ spans one) base t p h.6 s.1 u more_ends st2 (grows t p there) deep) in
+      (λ now st2 grows. members_lead bytes ms rest now (made ++ asserted_one) (written ++ spans one) base t p h.6 u more_ends st2 (grows t p there) deep) in
       let same_made : (made ++ asserted_one) ++ of_members p ms ≡ made ++ (asserted_one ++ of_members p ms) = append_assoc made asserted_one (of_members p ms) in
       let same_spans : (written ++ spans one) ++ spans (in_members p ms rest) ≡ written ++ spans (one ++ in_members p ms rest) =
       append_assoc written (spans one) (spans (in_members p ms rest)) ∙ ap (λ (w : List Placed). written ++ w) (sym (map-append placed one (in_members p ms rest))) in

@@ -4,6 +4,7 @@ use Rattle.std.specs.List.{AllByRecursion}
 use Rattle.edit_document.specs.Strings.{name, Key}
 use Rattle.edit_document.specs.Grammar.{Value, basic, literal, multi_basic, multi_literal, boolean, integer, float, datetime, array, inline, Elements, no_elements, last_element, element, Members, no_members, last_member, member, Statement, pair, header, element_header, empty_line, full_line, Lines, one_line, more_lines, Text, Spells}
 
+-- a step of a place: to the member of a name, or to the element of a number
 pub data Step : Type 0 where
   key : List ℕ → Step
   index : ℕ → Step
@@ -16,17 +17,20 @@ Place = List Step
 abbrev pub at : Place → Step → Place
 at place step = place ++ step ∷ []
 
+-- the two texts are the same
 abbrev pub same_bytes : List ℕ → List ℕ → Bool
 same_bytes [] [] = true
 same_bytes [] (c ∷ cs) = false
 same_bytes (b ∷ bs) [] = false
 same_bytes (b ∷ bs) (c ∷ cs) = b == c && same_bytes bs cs
 
+-- the two steps are the same
 abbrev pub same_step : Step → Step → Bool
 same_step (key a) (key b) = same_bytes a b
 same_step (index i) (index j) = i == j
 same_step _ _ = false
 
+-- the two places are the same
 abbrev pub same_place : Place → Place → Bool
 same_place [] [] = true
 same_place [] (t ∷ ts) = false
@@ -48,6 +52,7 @@ pub record Assertion : Type 0 where
   pub place : Place
   pub kind : Kind
 
+-- the assertion of a kind on a place, by a statement that names a place by its whole key
 abbrev pub asserts : Place → Place → Kind → Assertion
 asserts by place kind = record { by = by; place = place; kind = kind }
 
@@ -81,25 +86,30 @@ abbrev mutual
   of_value place (array g es) = of_elements place 0 es
   of_value place (inline ws ms) = of_members place ms
 
+  -- the elements of an array from the one of this number on: a Leaf on each, and what it asserts below itself
   pub of_elements : Place → ℕ → Elements → List Assertion
   of_elements place i no_elements = []
   of_elements place i (last_element v g) = asserts (at place (index i)) (at place (index i)) (leaf v) ∷ of_value (at place (index i)) v
   of_elements place i (element v g h es) = asserts (at place (index i)) (at place (index i)) (leaf v) ∷ (of_value (at place (index i)) v ++ of_elements place (suc i) es)
 
+  -- the pairs of an inline table: what their keys assert, and what their values assert below themselves
   pub of_members : Place → Members → List Assertion
   of_members place no_members = []
   of_members place (last_member k a b v c) = of_key true (named place (names k)) place (names k) v ++ of_value (named place (names k)) v
   of_members place (member k a b v c d ms) = (of_key true (named place (names k)) place (names k) v ++ of_value (named place (names k)) v) ++ of_members place ms
 
+-- what a pair under a header asserts: its key, and its value below itself
 abbrev pub of_pair : Place → Key → Value → List Assertion
 of_pair place k v = of_key false (named place (names k)) place (names k) v ++ of_value (named place (names k)) v
 
 -- ---- headers
 
+-- an array of tables
 abbrev pub is_array : Kind → Bool
 is_array array_kind = true
 is_array _ = false
 
+-- an array of tables on this place
 abbrev pub is_array_at : Place → Assertion → Bool
 is_array_at place a = is_array a.kind && same_place a.place place
 
@@ -118,6 +128,7 @@ fronts earlier by place [] = []
 fronts earlier by place (n ∷ []) = []
 fronts earlier by place (n ∷ m ∷ ns) = asserts by (resolved earlier (at place (key n))) super ∷ fronts earlier by (resolved earlier (at place (key n))) (m ∷ ns)
 
+-- the place of a header's last part, where each part before it goes on below the last element of an array
 abbrev pub header_place : List Assertion → Place → List (List ℕ) → Place
 header_place earlier place [] = place
 header_place earlier place (n ∷ []) = at place (key n)
@@ -148,6 +159,7 @@ of_statement earlier prefix (element_header a k b) =
     let element = at place (index (elements_at earlier place)) in
     fronts earlier element [] (names k) ++ asserts element place array_kind ∷ asserts element element element_kind ∷ []
 
+-- what lines assert, behind these assertions and under this header
 abbrev pub of_lines : List Assertion → Place → Lines → List Assertion
 of_lines earlier prefix (one_line (empty_line a c)) = earlier
 of_lines earlier prefix (one_line (full_line a s b c)) = earlier ++ of_statement earlier prefix s
@@ -178,6 +190,7 @@ abbrev pub NoClash : List Assertion → Type 0
 NoClash [] = ⊤
 NoClash (a ∷ made) = AllByRecursion (λ b. a.place ≡ b.place → together a.kind b.kind ≡ true) made × NoClash made
 
+-- no place has more than 80 steps
 abbrev pub AreShort : List Assertion → Type 0
 AreShort made = AllByRecursion (λ a. length a.place ≤ 80) made
 

@@ -63,6 +63,7 @@ past_break text =
 abbrev pub MultiSays : List ℕ → List ℕ → Type 0
 MultiSays content said = (ps : List Piece) × AllByRecursion IsMultiPiece ps × FoldsAreWhole ps × (content ≡ pieces quote ps []) × (said ≡ says_multi quote ps)
 
+-- the same between apostrophes
 abbrev pub RawSays : List ℕ → List ℕ → Type 0
 RawSays content said = (ps : List Piece) × AllByRecursion IsRawPiece ps × (content ≡ pieces apostrophe ps []) × (said ≡ says_multi apostrophe ps)
 

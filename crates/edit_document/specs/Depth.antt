@@ -4,6 +4,7 @@ use Rattle.edit_document.specs.Grammar.{Value, basic, literal, multi_basic, mult
 
 -- no array and no inline table is 0 deep, an empty one is 1 deep
 abbrev mutual
+  -- how deep a value is
   pub depth : Value → ℕ
   depth (basic ps) = 0
   depth (literal text) = 0
@@ -16,11 +17,13 @@ abbrev mutual
   depth (array g es) = suc (elements_depth es)
   depth (inline g ms) = suc (members_depth ms)
 
+  -- of elements, the greatest
   pub elements_depth : Elements → ℕ
   elements_depth no_elements = 0
   elements_depth (last_element v g) = depth v
   elements_depth (element v g h es) = max (depth v) (elements_depth es)
 
+  -- of members, the greatest of their values
   pub members_depth : Members → ℕ
   members_depth no_members = 0
   members_depth (last_member k a b v c) = depth v

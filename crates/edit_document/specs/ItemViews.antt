@@ -7,9 +7,11 @@ use Rattle.edit_document.specs.Tree.{View}
 use Rattle.edit_document.specs.Shown.{Shown, tree_of}
 use Rattle.edit_document.specs.Items.{viewed, place_numbered, view_numbered, names_in}
 
+-- the document of an item
 abbrev pub document_of : Item → Shown
 document_of i = i.document.now
 
+-- the place of an item
 abbrev pub place_of : Item → Place
 place_of i = place_numbered i.document.now i.node
 

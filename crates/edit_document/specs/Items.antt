@@ -11,6 +11,7 @@ use Rattle.edit_document.specs.Shown.{Shown, tree_of}
 
 -- ---- places
 
+-- the step that a step of the code stands for
 abbrev pub step_seen : WrittenStep → Step
 step_seen (Key name) = key (string_bytes name)
 step_seen (Index i) = index i
@@ -26,10 +27,12 @@ abbrev pub viewed : Option View → View
 viewed None = table []
 viewed (Some v) = v
 
+-- what a string says, and nothing of anything else
 abbrev pub string_in : View → Option (List ℕ)
 string_in (string bytes) = Some bytes
 string_in _ = None
 
+-- the truth value of a boolean, and nothing of anything else
 abbrev pub truth_in : View → Option Bool
 truth_in (truth b) = Some b
 truth_in _ = None
@@ -57,19 +60,23 @@ count_in (inline_table members) = length members
 count_in (table members) = length members
 count_in _ = 0
 
+-- a string
 abbrev pub is_string : View → Bool
 is_string (string bytes) = true
 is_string _ = false
 
+-- an inline table
 abbrev pub is_inline : View → Bool
 is_inline (inline_table members) = true
 is_inline _ = false
 
+-- a table or an inline table
 abbrev pub is_tabular : View → Bool
 is_tabular (inline_table members) = true
 is_tabular (table members) = true
 is_tabular _ = false
 
+-- an array that was written as a value
 abbrev pub is_static_array : View → Bool
 is_static_array (static_array n) = true
 is_static_array _ = false
@@ -88,9 +95,11 @@ type_name_of (table members) = codes "table"
 
 -- ---- nodes by number
 
+-- the place of the node of a number
 abbrev pub place_numbered : Shown → ℕ → Place
 place_numbered d n = (unwrap_or (slice_get d.nodes n) ([], table [])).0
 
+-- what stands at the place of the node of a number
 abbrev pub view_numbered : Shown → ℕ → View
 view_numbered d n = viewed (tree_of d (place_numbered d n))
 

@@ -43,6 +43,7 @@ abbrev pub token : MarkKind → Value → List ℕ → List Mark
 token kind v rest = mark kind (value v rest) rest ∷ []
 
 abbrev mutual
+  -- of a token its mark; of an array or an inline table a mark that opens it, the marks of what stands inside, and one that closes it
   pub value_marks : Value → List ℕ → List Mark
   value_marks (basic ps) rest = token kinds.BasicString (basic ps) rest
   value_marks (literal text) rest = token kinds.LiteralString (literal text) rest
@@ -60,6 +61,7 @@ abbrev mutual
       mark kinds.OpenTable (value (inline g ms) rest) (gap g (members ms (right_brace ∷ rest)))
       ∷ (members_marks ms (right_brace ∷ rest) ++ mark kinds.CloseTable (right_brace ∷ rest) rest ∷ [])
 
+  -- the marks of elements, one behind the other
   pub elements_marks : Elements → List ℕ → List Mark
   elements_marks no_elements rest = []
   elements_marks (last_element v g) rest = value_marks v (gap g rest)

@@ -23,10 +23,12 @@ is_decimal b = is_digit b 10
 
 -- digits of a class, with a single underscore between two of them where one stands
 abbrev mutual
+  -- a digit, and what may follow it
   pub are_digits : (ℕ → Bool) → List ℕ → Bool
   are_digits class [] = false
   are_digits class (b ∷ rest) = class b && are_more_digits class rest
 
+  -- nothing, a digit, or an underscore and a digit
   pub are_more_digits : (ℕ → Bool) → List ℕ → Bool
   are_more_digits class [] = true
   are_more_digits class (b ∷ rest) = if b == 95 then are_digits class rest else (class b && are_more_digits class rest)

@@ -198,6 +198,7 @@ pub record Pair : Type 0 where
   pub behind : List ℕ
   pub value : Value
 
+-- the pair at the front, whose value is read by this reader
 unfoldable pub pair_at : (List ℕ → Read Value) → List ℕ → Read Pair
 pair_at value_at text = do
   k ← key_at text

@@ -24,11 +24,13 @@ abbrev pub literal_or : Option (List ℕ) → Value → Value
 literal_or None v = v
 literal_or (Some said) v = literal_of said
 
+-- a value, or the literal that is to be written at its place
 abbrev pub put : Edits → Place → Value → Value
 put edits place v = literal_or (new_text edits place) v
 
 -- a value whose inner values are replaced at the places
 abbrev mutual
+  -- each value inside it gives way where a text is to be written
   pub replaced_inside : Edits → Place → Value → Value
   replaced_inside edits place (basic ps) = basic ps
   replaced_inside edits place (literal text) = literal text
@@ -41,12 +43,14 @@ abbrev mutual
   replaced_inside edits place (array g es) = array g (replaced_elements edits place 0 es)
   replaced_inside edits place (inline g ms) = inline g (replaced_members edits place ms)
 
+  -- the same of elements, from the one of this number on
   pub replaced_elements : Edits → Place → ℕ → Elements → Elements
   replaced_elements edits place i no_elements = no_elements
   replaced_elements edits place i (last_element v g) = last_element (put edits (at place (index i)) (replaced_inside edits (at place (index i)) v)) g
   replaced_elements edits place i (element v g h es) =
       element (put edits (at place (index i)) (replaced_inside edits (at place (index i)) v)) g h (replaced_elements edits place (suc i) es)
 
+  -- the same of members
   pub replaced_members : Edits → Place → Members → Members
   replaced_members edits place no_members = no_members
   replaced_members edits place (last_member k a b v c) =
@@ -58,6 +62,7 @@ abbrev mutual
 abbrev pub replaced_value : Edits → Place → Value → Value
 replaced_value edits place v = put edits place (replaced_inside edits place v)
 
+-- the same of a statement under a header
 abbrev pub replaced_statement : Edits → Place → Statement → Statement
 replaced_statement edits prefix (pair k a b v) = pair k a b (replaced_value edits (named prefix (names k)) v)
 replaced_statement edits prefix (header a k b) = header a k b

@@ -13,6 +13,7 @@ use Rattle.edit_document.specs.Replaces.{Edits, AreStrings, AreDistinct}
 abbrev pub Range : Type 0
 Range = ℕ × ℕ × List ℕ
 
+-- the range of a rewrite of the code
 abbrev pub range_of : Rewrite → Range
 range_of s = (s.start, s.end, s.text.now)
 

@@ -37,11 +37,13 @@ pub data View : Type 0 where
   inline_table : List Step → View
   table : List Step → View
 
+-- how many elements
 abbrev pub count_elements : Elements → ℕ
 count_elements no_elements = 0
 count_elements (last_element v g) = 1
 count_elements (element v g h es) = suc (count_elements es)
 
+-- what a value shows at its place
 abbrev pub view_of_value : List Assertion → Place → Value → View
 view_of_value made place (basic ps) = string (says quote ps)
 view_of_value made place (literal text) = string text
@@ -64,6 +66,7 @@ view_of_kind made place header_kind = table (members_of made place)
 view_of_kind made place element_kind = table (members_of made place)
 view_of_kind made place array_kind = table_array (elements_at made place)
 
+-- the kind of the first assertion on a place
 abbrev pub kind_at : List Assertion → Place → Option Kind
 kind_at [] place = None
 kind_at (a ∷ made) place = if same_place a.place place then Some a.kind else kind_at made place
@@ -73,6 +76,7 @@ abbrev pub view_in : List Assertion → Place → Option View
 view_in made [] = Some (table (members_of made []))
 view_in made (s ∷ ss) = option_map (view_of_kind made (s ∷ ss)) (kind_at made (s ∷ ss))
 
+-- what stands at a place of a text
 abbrev pub view_at : Text → Place → Option View
 view_at t place = view_in (assertions t) place
 

@@ -12,11 +12,13 @@ pub record Valued : Type 0 where
   pub value : Value
   pub after : List ℕ
 
+-- a value at a place, with the text that follows it
 abbrev pub valued : Place → Value → List ℕ → Valued
 valued place v after = record { place = place; value = v; after = after }
 
 -- the values inside a value, an outer one before those inside it
 abbrev mutual
+  -- those of an array or an inline table
   pub inside : Place → Value → List ℕ → List Valued
   inside place (basic ps) after = []
   inside place (literal text) after = []
@@ -29,6 +31,7 @@ abbrev mutual
   inside place (array g es) after = in_elements place 0 es (right_bracket ∷ after)
   inside place (inline g ms) after = in_members place ms (right_brace ∷ after)
 
+  -- each element from the one of this number on, and the values inside it
   pub in_elements : Place → ℕ → Elements → List ℕ → List Valued
   in_elements place i no_elements rest = []
   in_elements place i (last_element v g) rest = valued (at place (index i)) v (gap g rest) ∷ inside (at place (index i)) v (gap g rest)
@@ -36,6 +39,7 @@ abbrev mutual
       valued (at place (index i)) v (gap g (comma ∷ gap h (elements es rest)))
       ∷ (inside (at place (index i)) v (gap g (comma ∷ gap h (elements es rest))) ++ in_elements place (suc i) es rest)
 
+  -- each member's value, and the values inside it
   pub in_members : Place → Members → List ℕ → List Valued
   in_members place no_members rest = []
   in_members place (last_member k a b v c) rest = valued (named place (names k)) v (gap c rest) ∷ inside (named place (names k)) v (gap c rest)
@@ -61,10 +65,11 @@ in_lines earlier prefix (more_lines (full_line a s b c) e ls) =
 abbrev pub values : Text → List Valued
 values t = in_lines [] [] t.lines
 
--- where a value begins and ends, as numbers of bytes from the start of a text of this length
+-- where a value begins, as a number of bytes from the start of a text of this length
 abbrev pub start_of : ℕ → Valued → ℕ
 start_of total w = total - length (value w.value w.after)
 
+-- the same of its end
 abbrev pub end_of : ℕ → Valued → ℕ
 end_of total w = total - length w.after
 

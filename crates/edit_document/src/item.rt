@@ -18,6 +18,7 @@ impl<'a> Item<'a> {
     ghost use Rattle.edit_document.specs.Items.{place_numbered, string_in, truth_in, names_in, count_in, is_string, is_inline, is_tabular, is_static_array, type_name_of, Shows};
     ghost use Rattle.edit_document.specs.ItemViews.{document_of, place_of, view_of, keys_left, Finds};
 
+    /// The item of a node.
     pub(crate) fn new(document: &'a Document, node: usize) -> Item<'a>
         requires { node < length document.now.nodes }
         ensures document { document_of result ≡ document.now }
@@ -33,6 +34,7 @@ impl<'a> Item<'a> {
         self.document.stands(self.node)
     }
 
+    /// What stands at the item's place, but for its members.
     fn seen(self) -> Seen<'a>
         ensures { Shows (view_of self.entry) result }
     {
@@ -50,6 +52,7 @@ impl<'a> Item<'a> {
         }
     }
 
+    /// A boolean.
     pub fn as_bool(self) -> Option<bool>
         ensures { result ≡ truth_in (view_of self.entry) }
     {
@@ -111,6 +114,7 @@ impl<'a> Item<'a> {
         }
     }
 
+    /// Whether this is a string.
     pub fn is_str(self) -> bool
         ensures { result ≡ is_string (view_of self.entry) }
     {
@@ -132,6 +136,7 @@ impl<'a> Item<'a> {
         }
     }
 
+    /// Whether this is an inline table.
     pub fn is_inline_table(self) -> bool
         ensures { result ≡ is_inline (view_of self.entry) }
     {

@@ -30,6 +30,7 @@ fn push_body(out: &mut String, text: &str) -> Result<(), AllocError>
     out.push_str(&text[start..])
 }
 
+/// Whether a basic string cannot hold a byte as it is.
 fn needs_escape(byte: u8) -> bool
     ensures { result ≡ is_escaped byte }
 {
@@ -57,6 +58,7 @@ fn push_escape(out: &mut String, byte: u8) -> Result<(), AllocError>
     }
 }
 
+/// The hexadecimal digit of a number below sixteen.
 fn hex_digit(digit: u8) -> char
     requires { digit < 16 }
     ensures value { result ≡ digit_of digit }

@@ -47,6 +47,7 @@ fn kept_names<'a>(alloc: Global, parts: &[&'a str]) -> Result<Vec<&'a str>, Allo
     Ok(names)
 }
 
+/// Whether a part of a path leads nowhere else.
 fn is_idle(part: &str) -> bool
     ensures { IsTrue result ↔ IsIdle part.now }
 {

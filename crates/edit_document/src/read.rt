@@ -2,7 +2,6 @@
 ghost use Rattle.std.specs.Prelude.{◌≡◌, ◌≤◌, IfOk, IfErr, MatchResult, length};
 ghost use Rattle.edit_document.specs.Errors.{IsMemory};
 ghost use Rattle.edit_document.specs.Grammar.{Text, Spells};
-ghost use Rattle.edit_document.specs.Supported.{IsSupported};
 ghost use Rattle.edit_document.specs.Reading as reading;
 ghost use Rattle.edit_document.specs.Depth.{text_depth};
 ghost use Rattle.edit_document.specs.Marks.{text_marks, IsReadRefusal};
@@ -42,10 +41,10 @@ fn past_mark(text: &[u8]) -> &[u8]
 pub(crate) fn read_marks(alloc: Global, text: &[u8]) -> CargoResult<Vec<Mark>>
     // What is read is in the grammar.
     ensures found { IfOk result (λ v.
-        (form : Text) × Spells text.now form × IsSupported form × (text_depth form ≤ 80)
+        (form : Text) × Spells text.now form × (text_depth form ≤ 80)
         × (v.items ≡ text_marks form)) }
     // Whatever is in the grammar is read, in whichever way the text was split, unless memory runs out.
-    ensures only { (form : Text) → Spells text.now form → IsSupported form → text_depth form ≤ 80 →
+    ensures only { (form : Text) → Spells text.now form → text_depth form ≤ 80 →
         MatchResult result (λ v. v.items ≡ text_marks form) IsMemory }
     // The byte that a refusal tells lies in the text.
     ensures refused { IfErr result (IsReadRefusal (length text.now)) }

@@ -50,6 +50,7 @@ impl Walk {
         })
     }
 
+    /// The nodes, without the rest.
     fn into_nodes(self) -> Vec<Node>
         ensures { result ≡ self.nodes }
     {

@@ -37,18 +37,21 @@ pub(crate) fn first(s: &[u8]) -> u8
     byte_at(s, 0)
 }
 
+/// Whether this is white space: a tab or a space.
 fn is_blank(b: u8) -> bool
     ensures { result ≡ spec.is_blank b }
 {
     b == b'\t' || b == b' '
 }
 
+/// Whether a comment may hold this byte.
 fn is_ch(b: u8) -> bool
     ensures { result ≡ spec.is_ch b }
 {
     b == b'\t' || (b >= b' ' && b != 127)
 }
 
+/// Whether a bare key may hold this byte.
 pub(crate) fn is_bare(b: u8) -> bool
     ensures { result ≡ spec.is_bare b }
 {
@@ -59,12 +62,14 @@ pub(crate) fn is_bare(b: u8) -> bool
         || b == b'-'
 }
 
+/// Whether a basic string may hold this byte as it is.
 pub(crate) fn is_basic_ch(b: u8) -> bool
     ensures { result ≡ spec.is_basic_ch b }
 {
     is_ch(b) && b != b'"' && b != b'\\'
 }
 
+/// Whether this is a digit of the base.
 fn is_digit(b: u8, base: u32) -> bool
     requires low { 2 ≤ base }
     requires high { base ≤ 36 }
@@ -73,6 +78,7 @@ fn is_digit(b: u8, base: u32) -> bool
     char::from(b).is_digit(base)
 }
 
+/// Whether a byte is of the class.
 pub(crate) fn is_in(class: Class, b: u8) -> bool
     ensures { result ≡ class_test class b }
 {

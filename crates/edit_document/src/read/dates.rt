@@ -26,6 +26,7 @@ fn past_group(s: &[u8], n: usize, b: u8) -> Option<&[u8]>
     past(past_count(s, n)?, b)
 }
 
+/// What follows a date.
 #[tactic(auto, unfolding(crate::specs::ReadingNumbers::date_at))]
 fn past_date(s: &[u8]) -> Option<&[u8]>
     ensures { Skips result (reading.date_at s.now) }
@@ -51,6 +52,7 @@ fn past_second(s: &[u8]) -> Option<&[u8]>
     }
 }
 
+/// What follows a time, with its fraction of a second.
 #[tactic(auto, unfolding(crate::specs::ReadingNumbers::time_at))]
 fn past_time(s: &[u8]) -> Option<&[u8]>
     ensures { Skips result (reading.time_at s.now) }

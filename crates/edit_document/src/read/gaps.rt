@@ -5,6 +5,7 @@ ghost use Rattle.edit_document.specs.Noting.{Skips};
 
 use super::bytes::{Class, byte_at, first, is_in, past_run, skip};
 
+/// What follows a newline.
 #[tactic(auto, unfolding(crate::specs::Reading::line_end_at))]
 pub(crate) fn past_line_end(s: &[u8]) -> Option<&[u8]>
     ensures { Skips result (reading.line_end_at s.now) }

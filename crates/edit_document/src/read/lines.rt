@@ -3,7 +3,6 @@ ghost use Rattle.std.specs.Prelude.{◌≡◌, ◌<◌, ◌≤◌, slice_index, 
 ghost use Rattle.edit_document.specs.declared.read.marks.ReadError.TheVariants.{Memory};
 ghost use Rattle.edit_document.specs.Characters.{left_bracket};
 ghost use Rattle.edit_document.specs.Grammar.{Lines, AreLines, lines};
-ghost use Rattle.edit_document.specs.Supported.{AreSupportedLines};
 ghost use Rattle.edit_document.specs.Depth.{lines_depth};
 ghost use Rattle.edit_document.specs.Reading as reading;
 ghost use Rattle.edit_document.specs.Marks.{statement_marks, line_marks, lines_marks};
@@ -49,6 +48,7 @@ fn element_header<'a>(out: &mut Vec<Mark>, s: &'a [u8]) -> Result<&'a [u8], Read
     Ok(rest)
 }
 
+/// A pair, a header or the header of an element.
 #[tactic(auto, unfolding(crate::specs::Reading::statement_at))]
 fn statement<'a>(out: &mut Vec<Mark>, s: &'a [u8], depth: usize) -> Result<&'a [u8], ReadError>
     requires { depth < 1000 }
@@ -63,6 +63,7 @@ fn statement<'a>(out: &mut Vec<Mark>, s: &'a [u8], depth: usize) -> Result<&'a [
     header(out, s)
 }
 
+/// What follows a comment or nothing.
 fn past_comment(s: &[u8]) -> &[u8]
     ensures { result.now ≡ reading.past_comment s.now }
 {
@@ -73,12 +74,14 @@ fn past_comment(s: &[u8]) -> &[u8]
     }
 }
 
+/// Whether no statement begins here.
 fn is_line_over(b: u8) -> bool
     ensures { result ≡ reading.is_line_over b }
 {
     b == 0 || b == b'#' || b == b'\n' || b == b'\r'
 }
 
+/// A line, up to its newline.
 pub(crate) fn line<'a>(
     out: &mut Vec<Mark>,
     s: &'a [u8],
@@ -97,8 +100,8 @@ pub(crate) fn line<'a>(
 
 /// The marks of lines, with arrays and inline tables at most 80 deep in one another.
 pub(crate) fn lines(alloc: Global, text: &[u8]) -> Result<Vec<Mark>, ReadError>
-    ensures found { IfOk result (λ v. (form : Lines) × (text.now ≡ lines form) × AreLines form × AreSupportedLines form × (lines_depth form ≤ 80) × (v.items ≡ lines_marks form)) }
-    ensures only { (form : Lines) → text.now ≡ lines form → AreLines form → AreSupportedLines form → lines_depth form ≤ 80 → MatchResult result (λ v. v.items ≡ lines_marks form) (λ e. e ≡ Memory) }
+    ensures found { IfOk result (λ v. (form : Lines) × (text.now ≡ lines form) × AreLines form × (lines_depth form ≤ 80) × (v.items ≡ lines_marks form)) }
+    ensures only { (form : Lines) → text.now ≡ lines form → AreLines form → lines_depth form ≤ 80 → MatchResult result (λ v. v.items ≡ lines_marks form) (λ e. e ≡ Memory) }
 {
     let mut out = Vec::new(alloc);
     let mut rest = text;

@@ -7,6 +7,7 @@ use super::bytes::{Class, byte_at, first, is_basic_ch, is_in, past_run, skip};
 use super::gaps::past_line_end;
 use super::tokens::past_escape;
 
+/// Whether a newline may begin with this byte.
 fn is_line_break(b: u8) -> bool
     ensures { result ≡ reading.is_line_break b }
 {

@@ -86,6 +86,7 @@ fn past_sign(s: &[u8]) -> &[u8]
     }
 }
 
+/// Whether an exponent begins with this byte.
 fn is_power(b: u8) -> bool
     ensures { result ≡ reading.is_power b }
 {

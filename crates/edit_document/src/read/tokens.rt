@@ -76,6 +76,7 @@ fn past_basic(s: &[u8]) -> Option<&[u8]>
     None
 }
 
+/// What follows the closing apostrophe of a literal string.
 #[tactic(auto, unfolding(crate::specs::Reading::literal_at))]
 fn past_literal(s: &[u8]) -> Option<&[u8]>
     ensures { Skips result (reading.literal_at s.now) }

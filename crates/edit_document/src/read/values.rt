@@ -53,6 +53,7 @@ pub(crate) fn key<'a>(out: &mut Vec<Mark>, s: &'a [u8]) -> Result<&'a [u8], Read
     Err(ReadError::NotToml { left: rest.len() })
 }
 
+/// A value that is one token.
 fn scalar<'a>(out: &mut Vec<Mark>, s: &'a [u8]) -> Result<&'a [u8], ReadError>
     ensures { Notes value_marks out.old out.new result (reading.scalar_at s.now) }
 {
@@ -63,6 +64,7 @@ fn scalar<'a>(out: &mut Vec<Mark>, s: &'a [u8]) -> Result<&'a [u8], ReadError>
     Ok(rest)
 }
 
+/// A key, an equals sign and a value.
 #[cycle(values)]
 #[tactic(auto, unfolding(crate::specs::Reading::pair_at))]
 pub(crate) fn pair<'a>(
@@ -81,6 +83,7 @@ pub(crate) fn pair<'a>(
     value(out, past_run(rest, Class::Blank), depth)
 }
 
+/// The pairs of an inline table, and its closing brace.
 #[cycle(values)]
 fn members<'a>(
     out: &mut Vec<Mark>,
@@ -114,6 +117,7 @@ fn past_comma(s: &[u8]) -> &[u8]
     past_gap(skip(s, 1))
 }
 
+/// The elements of an array, and its closing bracket.
 #[cycle(values)]
 fn elements<'a>(
     out: &mut Vec<Mark>,
@@ -157,6 +161,7 @@ fn array<'a>(out: &mut Vec<Mark>, s: &'a [u8], depth: usize) -> Result<&'a [u8],
     elements(out, past_gap(behind), depth, s.len())
 }
 
+/// A value whose arrays and inline tables stand at most so deep.
 #[cycle(values)]
 #[tactic(auto, unfolding(crate::specs::Reading::value_at))]
 fn value<'a>(out: &mut Vec<Mark>, s: &'a [u8], depth: usize) -> Result<&'a [u8], ReadError>

@@ -39,13 +39,13 @@ returns-then-is_empty-clause-only c =
     only c.args.text.now d.0 c.line.new.out.items d.1 d.2
 
 pub returns-in_default-clause-only : goal.returns-in_default-clause-only
-returns-in_default-clause-only c form has valid part le =
+returns-in_default-clause-only c form has valid le =
     let k = one_less (length c.args.text.now + 1) c.lines._line c.lines-test.true in
     let r = c.in_ok-after_line.after_line.now in
     let p : (x : Line) × (line_at 80 c.lines.rest.now ≡ Some (x, r)) × (c.line.new.out.items ≡ c.lines.out.items ++ line_marks x r) = c.in_ok-after_line.ensures in
     let more : eqb (length r) 0 ≡ false = sym c.is_empty.ensures ∙ c.if-is_empty.false in
     let none : None ≡ rest_of (line_end_at r) = c.in_default.ensures in
-    absurd (refused c.args.text.now form (lines_broken (lines_at 80 (length c.args.text.now + 1) c.args.text.now) (length c.args.text.now + 1 - (c.lines._line + 1)) c.lines.rest.now r p.0 c.lines.out.items p.1 more none (rw k at c.lines.invariant)) has valid part le)
+    absurd (refused c.args.text.now form (lines_broken (lines_at 80 (length c.args.text.now + 1) c.args.text.now) (length c.args.text.now + 1 - (c.lines._line + 1)) c.lines.rest.now r p.0 c.lines.out.items p.1 more none (rw k at c.lines.invariant)) has valid le)
 
 pub lines-preserved : goal.lines-preserved
 lines-preserved c =
@@ -57,6 +57,6 @@ lines-preserved c =
     lines_turn (lines_at 80 (length c.args.text.now + 1) c.args.text.now) (length c.args.text.now + 1 - (c.lines._line + 1)) c.lines.rest.now r c.in-Some.next.now p.0 c.lines.out.items c.line.new.out.items p.1 more some p.2 (rw k at c.lines.invariant)
 
 pub returns-clause-only : goal.returns-clause-only
-returns-clause-only c form has valid part le =
+returns-clause-only c form has valid le =
     let k : length c.args.text.now + 1 - c.lines._line ≡ 0 = omega arith in
-    absurd (refused c.args.text.now form (lines_none (lines_at 80 (length c.args.text.now + 1) c.args.text.now) c.lines.rest.now c.lines.out.items (rw k at c.lines.invariant)) has valid part le)
+    absurd (refused c.args.text.now form (lines_none (lines_at 80 (length c.args.text.now + 1) c.args.text.now) c.lines.rest.now c.lines.out.items (rw k at c.lines.invariant)) has valid le)
