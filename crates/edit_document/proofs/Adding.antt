@@ -6,9 +6,6 @@ use Rattle.std.specs.Str.{bytes_eq}
 use Rattle.std.proofs.lemmas.Bool.Decides.{nat_tests}
 use Rattle.std.proofs.lemmas.List.{length-set, length_push, map-append}
 use Rattle.std.proofs.lemmas.Option.{slice_get_past, slice_get_read, same_Some}
-use Rattle.std.specs.String.{string_eq}
-use Rattle.indexmap.specs.IndexMap.{get_by_text, insert_entry}
-use Rattle.indexmap.proofs.CallerLemmas.{insert_entry-new}
 use Rattle.edit_document.specs.declared.nodes.Node.{Node}
 use Rattle.edit_document.specs.declared.nodes.Span.{Span}
 use Rattle.edit_document.specs.declared.nodes.Content.{Content}
@@ -16,7 +13,7 @@ use Rattle.edit_document.specs.declared.nodes.Taken.{Taken}
 use Rattle.edit_document.specs.declared.nodes.Taken.TheVariants.{Dotted, Value, Super, Header, Array, Element}
 use Rattle.edit_document.specs.Assertions.{key, index, Place, at}
 use Rattle.edit_document.specs.Taking.{joins, stronger}
-use Rattle.edit_document.specs.Nodes.{Shape, Spot, shape_of, Keeps, Holds, below}
+use Rattle.edit_document.specs.Nodes.{Shape, Spot, shape_of, entries_of, number_named, Keeps, Holds, below}
 use Rattle.edit_document.specs.Walk.{last_table, spot_at, child, target_of, with_taken, taken_again, with_member, with_element, added, element_added}
 use Rattle.edit_document.specs.WalkState.{Adds}
 use Rattle.edit_document.proofs.ListElements.{OneMore, OneSet, changed, in_push, in_set, newest, other, stood}
@@ -98,8 +95,8 @@ lookup_seen : {X : Type 0} (es : List (String Global × X)) (name : List ℕ) �
 lookup_seen [] name = refl
 lookup_seen {X} (e ∷ es) name = ap (λ (o : Option X). cond (bytes_eq name (string_bytes e.0)) (Some e.1) o) (lookup_seen es name)
 
-pub below_node : {text : List ℕ} (node : Node) (s : Spot) (name : List ℕ) → Keeps text node s → below s (key name) ≡ get_by_text node.members name
-below_node node s name k = ap (lookup (λ n. bytes_eq name n)) (sym k.members) ∙ lookup_seen node.members.entries name
+pub below_node : {text : List ℕ} (node : Node) (s : Spot) (name : List ℕ) → Keeps text node s → below s (key name) ≡ number_named node.members name
+below_node node s name k = ap (lookup (λ n. bytes_eq name n)) (sym k.members) ∙ lookup_seen (entries_of node.members) name
 
 pub child_past : {text : List ℕ} (nodes : List Node) (spots : List Spot) (t : ℕ) (name : List ℕ) → Holds text nodes spots → length nodes ≤ t → child spots t name ≡ None
 unfolding child
@@ -109,7 +106,7 @@ pub child_is : (spots : List Spot) (t : ℕ) (s : Spot) (name : List ℕ) → sl
 unfolding child
 child_is spots t s name e = rw e refl
 
-pub child_found : {text : List ℕ} (nodes : List Node) (spots : List Spot) (t : ℕ) (node : Node) (name : List ℕ) → Holds text nodes spots → t < length nodes → node ≡ get_or nodes t node → child spots t name ≡ get_by_text node.members name
+pub child_found : {text : List ℕ} (nodes : List Node) (spots : List Spot) (t : ℕ) (node : Node) (name : List ℕ) → Holds text nodes spots → t < length nodes → node ≡ get_or nodes t node → child spots t name ≡ number_named node.members name
 child_found nodes spots t node name holds lt is =
     let k = kept_at nodes spots t node holds lt is in
     child_is spots t k.spot name k.spot_is ∙ below_node node k.spot name k.keeps
@@ -172,7 +169,7 @@ pub record Inserted (old new : Node) (key : String Global) (count : ℕ) : Type 
   pub steps : new.steps ≡ old.steps
   pub span : new.span ≡ old.span
   pub elements : new.elements ≡ old.elements
-  pub entries : new.members.entries ≡ insert_entry string_eq old.members.entries key count
+  pub entries : entries_of new.members ≡ entries_of old.members ++ (key, count) ∷ []
 
 -- a node without members, one step below another
 pub record Starts (new : Node) (content : Content) (taken : Taken) (steps : ℕ) (span : Option Span) : Type 0 where
@@ -180,7 +177,7 @@ pub record Starts (new : Node) (content : Content) (taken : Taken) (steps : ℕ)
   pub taken_is : new.taken ≡ taken
   pub steps_are : new.steps ≡ steps + 1
   pub span_is : new.span ≡ span
-  pub empty : new.members.entries ≡ []
+  pub empty : entries_of new.members ≡ []
   pub none : new.elements.items ≡ []
 
 starts_keeps : (text : List ℕ) (new : Node) (content : Content) (taken : Taken) (steps : ℕ) (span : Option Span) (place : Place) → Starts new content taken steps span → length place ≡ steps + 1 → Keeps text new (spot_at place (shape_of text content) taken span)
@@ -193,30 +190,28 @@ starts_keeps text new content taken steps span place h e = record {
   span = h.span_is;
 }
 
-gained_keeps : {text : List ℕ} (old new : Node) (k : String Global) (count : ℕ) (s : Spot) → Keeps text old s → Inserted old new k count → get_by_text old.members (string_bytes k) ≡ None → Keeps text new (with_member s (string_bytes k) count)
-gained_keeps {text} old new k count s keeps i absent =
-    let entries : new.members.entries ≡ old.members.entries ++ (k, count) ∷ [] = i.entries ∙ insert_entry-new string_eq old.members k count absent in
+gained_keeps : {text : List ℕ} (old new : Node) (k : String Global) (count : ℕ) (s : Spot) → Keeps text old s → Inserted old new k count → Keeps text new (with_member s (string_bytes k) count)
+gained_keeps {text} old new k count s keeps i =
     record {
       shape = ap (shape_of text) i.content ∙ keeps.shape;
       taken = i.taken ∙ keeps.taken;
       steps = i.steps ∙ keeps.steps;
       members =
-          ap (map (λ (e : String Global × ℕ). (string_bytes e.0, e.1))) entries ∙ map-append (λ (e : String Global × ℕ). (string_bytes e.0, e.1)) old.members.entries ((k, count) ∷ [])
+          ap (map (λ (e : String Global × ℕ). (string_bytes e.0, e.1))) i.entries ∙ map-append (λ (e : String Global × ℕ). (string_bytes e.0, e.1)) (entries_of old.members) ((k, count) ∷ [])
           ∙ ap (λ (ms : List (List ℕ × ℕ)). ms ++ (string_bytes k, count) ∷ []) keeps.members;
       elements = ap (λ v. v.items) i.elements ∙ keeps.elements;
       span = i.span ∙ keeps.span;
     }
 
 pub add_done : {text : List ℕ} (nodes nodes2 : List Node) (spots : List Spot) (t count : ℕ) (old node2 last : Node) (name : String Global) (content : Content) (taken : Taken) (span : Option Span) → Holds text nodes spots → t < count → count ≡ length nodes
-    → old ≡ get_or nodes t old → old.steps < 80 → child spots t (string_bytes name) ≡ None → Inserted old node2 name count → Starts last content taken old.steps span → nodes2 ≡ slice_set nodes t node2 ++ last ∷ []
+    → old ≡ get_or nodes t old → old.steps < 80 → Inserted old node2 name count → Starts last content taken old.steps span → nodes2 ≡ slice_set nodes t node2 ++ last ∷ []
     → (made : List Spot) × (added spots t (string_bytes name) (shape_of text content) taken span ≡ Some (made, count)) × Holds text nodes2 made
-add_done {text} nodes nodes2 spots t count old node2 last name content taken span holds lt size was few none inserted starts made =
+add_done {text} nodes nodes2 spots t count old node2 last name content taken span holds lt size was few inserted starts made =
     let lt2 : t < length nodes = omega arith in
     let k = kept_at nodes spots t old holds lt2 was in
     let number : count ≡ length spots = size ∙ holds.len in
-    let absent : get_by_text old.members (string_bytes name) ≡ None = sym (child_found nodes spots t old (string_bytes name) holds lt2 was) ∙ none in
     let long : length (at k.spot.place (key (string_bytes name))) ≡ old.steps + 1 = length_push k.spot.place (key (string_bytes name)) ∙ ap (λ (n : ℕ). n + 1) (sym k.keeps.steps) in
-    let first = holds_set nodes spots t node2 (with_member k.spot (string_bytes name) count) holds lt2 (gained_keeps old node2 name count k.spot k.keeps inserted absent) in
+    let first = holds_set nodes spots t node2 (with_member k.spot (string_bytes name) count) holds lt2 (gained_keeps old node2 name count k.spot k.keeps inserted) in
     let both = holds_push (slice_set nodes t node2) (slice_set spots t (with_member k.spot (string_bytes name) count)) last (spot_at (at k.spot.place (key (string_bytes name))) (shape_of text content) taken span) first (starts_keeps text last content taken old.steps span (at k.spot.place (key (string_bytes name))) starts long) in
     let fits : length k.spot.place < 80 = (let e = k.keeps.steps in omega arith) in (
       slice_set spots t (with_member k.spot (string_bytes name) count) ++ spot_at (at k.spot.place (key (string_bytes name))) (shape_of text content) taken span ∷ [],
@@ -257,7 +252,7 @@ extended_keeps {text} old new count s keeps i = record {
   shape = ap (shape_of text) i.content ∙ keeps.shape;
   taken = i.taken ∙ keeps.taken;
   steps = i.steps ∙ keeps.steps;
-  members = ap (λ m. map (λ (e : String Global × ℕ). (string_bytes e.0, e.1)) m.entries) i.members ∙ keeps.members;
+  members = ap (λ m. map (λ (e : String Global × ℕ). (string_bytes e.0, e.1)) (entries_of m)) i.members ∙ keeps.members;
   elements = i.elements ∙ ap (λ (ns : List ℕ). ns ++ count ∷ []) keeps.elements;
   span = i.span ∙ keeps.span;
 }

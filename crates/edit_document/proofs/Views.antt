@@ -3,10 +3,8 @@ use Rattle.std.proofs.Common.{◌≡◌, ℕ, zero, suc, ◌+◌, ◌<◌, ◌�
 use Rattle.std.specs.Prelude.{map, slice_get, option_map, unwrap_or, MatchOption, IfSome, string_bytes}
 use Rattle.std.specs.Option.{option_copied}
 use Rattle.std.specs.Borrow.{Bor}
-use Rattle.std.specs.Map.Iter.{deref_pair}
 use Rattle.std.proofs.lemmas.Option.{slice_get-map, slice_get_past, slice_get_within, slice_get_read, same_Some}
 use Rattle.std.proofs.lemmas.List.{length-map, map-append, take_more, take-append-drop}
-use Rattle.indexmap.specs.IndexMap.{get_by_text}
 use Rattle.edit_document.specs.declared.nodes.Span.{Span}
 use Rattle.edit_document.specs.declared.nodes.Words.{Words}
 use Rattle.edit_document.specs.declared.nodes.Content.{Content}
@@ -18,7 +16,7 @@ use Rattle.edit_document.specs.declared.place.Step.{Step as WrittenStep}
 use Rattle.edit_document.specs.Assertions.{Step, key, index, Place, at, same_place}
 use Rattle.edit_document.specs.Tree.{View, table}
 use Rattle.edit_document.specs.Shown.{Shown, node_at, tree_of}
-use Rattle.edit_document.specs.Nodes.{Spot, Shape, names_of, view_of_shape, shown_spot, shape_of, Keeps, Holds, below, IsTree}
+use Rattle.edit_document.specs.Nodes.{Spot, Shape, names_of, view_of_shape, shown_spot, shape_of, entries_of, member_names, number_named, Keeps, Holds, below, IsTree}
 use Rattle.edit_document.specs.DocumentLayout.{spots_of, nodes_by, shown_by, shown_of, IsRead}
 use Rattle.edit_document.specs.Items.{step_seen, place_seen, viewed, place_numbered, view_numbered, key_names, names_in, count_in, Numbers, Shows}
 use Rattle.edit_document.proofs.SamePlace.{same_place_self, same_place_is, other_place, last_same, not_root}
@@ -68,7 +66,7 @@ node_none (t ∷ ts) place none =
 -- ---- a node of a document
 
 abbrev pub names_of_node : Node → List (List ℕ)
-names_of_node node = map (λ e. string_bytes e.0) node.members.entries
+names_of_node node = member_names node.members
 
 abbrev pub view_of_node : List ℕ → Node → View
 view_of_node text node = view_of_shape (shape_of text node.content) (names_of_node node) (length node.elements.items)
@@ -106,7 +104,7 @@ names_kept (e ∷ es) = ap (λ (ns : List (List ℕ)). string_bytes e.0 ∷ ns) 
 kept : {text : List ℕ} {node : Node} {spot : Spot} → Keeps text node spot → view_of_node text node ≡ view_of_spot spot
 kept {node} {spot} k =
     ap (λ (s : Shape). view_of_shape s (names_of_node node) (length node.elements.items)) k.shape
-    ∙ ap (λ (ns : List (List ℕ)). view_of_shape spot.shape ns (length node.elements.items)) (sym (names_kept node.members.entries) ∙ ap (map (λ (e : List ℕ × ℕ). e.0)) k.members)
+    ∙ ap (λ (ns : List (List ℕ)). view_of_shape spot.shape ns (length node.elements.items)) (sym (names_kept (entries_of node.members)) ∙ ap (map (λ (e : List ℕ × ℕ). e.0)) k.members)
     ∙ ap (λ (es : List ℕ). view_of_shape spot.shape (names_of spot) (length es)) k.elements
 
 pub found : (shown : Shown) (nodes : List Node) (n : ℕ) (node : Node) → (opens : Opened shown nodes) → n < length shown.nodes → node ≡ get_or nodes n node → Found shown nodes opens.spots n node
@@ -130,8 +128,8 @@ names_keys [] = refl
 names_keys (n ∷ ns) = ap (λ (m : List (List ℕ)). n ∷ m) (names_keys ns)
 
 -- how many members there are
-pub count_members : (node : Node) → length (map key (names_of_node node)) ≡ length node.members.entries
-count_members node = length-map (names_of_node node) key ∙ length-map node.members.entries (λ e. string_bytes e.0)
+pub count_members : (node : Node) → length (map key (names_of_node node)) ≡ length (entries_of node.members)
+count_members node = length-map (names_of_node node) key ∙ length-map (entries_of node.members) (λ e. string_bytes e.0)
 
 abbrev pub IsText : Content → Type 0
 IsText x = (s : Words) × (x ≡ content.Text s)
@@ -185,21 +183,9 @@ pub count_elements : (shown : Shown) (nodes : List Node) (spots : List Spot) (n 
 count_elements shown nodes spots n node f (inl t) = count_shown shown nodes spots n node content.Array f t
 count_elements shown nodes spots n node f (inr t) = count_shown shown nodes spots n node content.Tables f t
 
-pub count_tabular : (shown : Shown) (nodes : List Node) (spots : List Spot) (n : ℕ) (node : Node) → Found shown nodes spots n node → (node.content ≡ content.Inline) ⊎ (node.content ≡ content.Table) → count_in (view_numbered shown n) ≡ length node.members.entries
+pub count_tabular : (shown : Shown) (nodes : List Node) (spots : List Spot) (n : ℕ) (node : Node) → Found shown nodes spots n node → (node.content ≡ content.Inline) ⊎ (node.content ≡ content.Table) → count_in (view_numbered shown n) ≡ length (entries_of node.members)
 count_tabular shown nodes spots n node f (inl t) = count_shown shown nodes spots n node content.Inline f t ∙ count_members node
 count_tabular shown nodes spots n node f (inr t) = count_shown shown nodes spots n node content.Table f t ∙ count_members node
-
--- the name of a member by its number
-pub name_some : (node : Node) (k : ℕ) (name : Bor (String Global)) (number : Bor ℕ) (r : Option (Bor (String Global) × Bor ℕ)) → option_map deref_pair r ≡ slice_get node.members.entries k
-    → r ≡ Some (name, number) → slice_get (names_of_node node) k ≡ Some (string_bytes name.now)
-name_some node k name number r e is =
-    slice_get-map (λ (e : String Global × ℕ). string_bytes e.0) node.members.entries k
-    ∙ ap (option_map (λ (e : String Global × ℕ). string_bytes e.0)) (sym e ∙ ap (option_map deref_pair) is)
-
-pub name_none : (node : Node) (k : ℕ) (r : Option (Bor (String Global) × Bor ℕ)) → option_map deref_pair r ≡ slice_get node.members.entries k → r ≡ None → slice_get (names_of_node node) k ≡ None
-name_none node k r e is =
-    slice_get-map (λ (e : String Global × ℕ). string_bytes e.0) node.members.entries k
-    ∙ ap (option_map (λ (e : String Global × ℕ). string_bytes e.0)) (sym e ∙ ap (option_map deref_pair) is)
 
 -- what a node shows
 abbrev pub shows_content : List ℕ → Node → Content → Seen → Type 0
@@ -239,7 +225,7 @@ part_here shown nodes n node x (Some m) opens f e =
     let l : length shown.nodes ≡ length opens.spots = ap length opens.nodes_are ∙ length-map opens.spots shown_spot in
     (ap (tree_of shown) (sym place) ∙ tree ∙ ap (λ (v : View). Some v) (sym view), place_spot shown opens.spots m s.0 opens.nodes_are s.1 ∙ place, omega arith)
 
-pub member_here : (shown : Shown) (nodes : List Node) (n : ℕ) (node : Node) (name : List ℕ) (r : Option ℕ) → (opens : Opened shown nodes) → Found shown nodes opens.spots n node → r ≡ get_by_text node.members name
+pub member_here : (shown : Shown) (nodes : List Node) (n : ℕ) (node : Node) (name : List ℕ) (r : Option ℕ) → (opens : Opened shown nodes) → Found shown nodes opens.spots n node → r ≡ number_named node.members name
     → Numbers shown (at (place_numbered shown n) (key name)) r
 member_here shown nodes n node name r opens f e = part_here shown nodes n node (key name) r opens f (e ∙ sym (below_node node f.spot name f.keeps))
 

@@ -1,13 +1,16 @@
 -- The nodes of a document: one for each place that a statement asserts, the root first and then in the order of first assertions.
-use Rattle.std.specs.Prelude.{◌≡◌, ℕ, ◌-◌, Bool, ◌&&◌, ◌||◌, nat_lt, nat_le, if◌then◌else◌, List, [], length, map, slice_get, slice_index, slice_range, Option, Some, string_bytes, ◌⊎◌}
+use Rattle.std.specs.Prelude.{◌≡◌, ℕ, ◌-◌, Bool, ◌&&◌, ◌||◌, nat_lt, nat_le, if◌then◌else◌, List, [], length, map, slice_get, slice_index, slice_range, Option, Some, None, String, string_bytes, ◌⊎◌}
+use Rattle.std.specs.Global.{Box, Global}
 use Rattle.std.specs.Map.{lookup}
 use Rattle.std.specs.Str.{bytes_eq}
+use Rattle.indexmap.specs.IndexMap.{IndexMap}
 use Rattle.edit_document.specs.declared.nodes.Span.{Span}
 use Rattle.edit_document.specs.declared.nodes.Words.{Words}
 use Rattle.edit_document.specs.declared.nodes.Words.TheVariants.{Kept, Made}
 use Rattle.edit_document.specs.declared.nodes.Content.{Content}
 use Rattle.edit_document.specs.declared.nodes.Content.TheVariants as content
 use Rattle.edit_document.specs.declared.nodes.Taken.{Taken}
+use Rattle.edit_document.specs.declared.nodes.Members.{Members}
 use Rattle.edit_document.specs.declared.nodes.Node.{Node}
 use Rattle.edit_document.specs.Assertions.{Step, key, index, Place, at}
 use Rattle.edit_document.specs.declared.read.marks.MarkKind.{MarkKind}
@@ -86,9 +89,26 @@ shape_of text content.Inline = inline
 shape_of text content.Table = section
 shape_of text content.Tables = sections
 
+-- the names and numbers in a table of members, and none where there is no table
+abbrev pub entries_in : {S : Type 0} → Option (Box (IndexMap (String Global) ℕ S)) → List (String Global × ℕ)
+entries_in None = []
+entries_in (Some boxed) = boxed.value.entries
+
+-- the names and numbers of members
+abbrev pub entries_of : Members → List (String Global × ℕ)
+entries_of members = entries_in members.table
+
+-- the names of members
+abbrev pub member_names : Members → List (List ℕ)
+member_names members = map (λ e. string_bytes e.0) (entries_of members)
+
+-- the number of the member of a name
+abbrev pub number_named : Members → List ℕ → Option ℕ
+number_named members name = lookup (λ k. bytes_eq name (string_bytes k)) (entries_of members)
+
 -- the names and numbers of a node's members
 abbrev pub members_of_node : Node → List (List ℕ × ℕ)
-members_of_node node = map (λ e. (string_bytes e.0, e.1)) node.members.entries
+members_of_node node = map (λ e. (string_bytes e.0, e.1)) (entries_of node.members)
 
 -- a node keeps a spot of the document of a text; of its place it keeps how many steps there are
 pub record Keeps (text : List ℕ) (node : Node) (spot : Spot) : Type 0 where

@@ -8,8 +8,7 @@ ghost use Rattle.edit_document.specs.Walk.{child, last_table, target_of, taken_a
 ghost use Rattle.edit_document.specs.WalkState.{Adds, Puts};
 
 use crate::errors::CargoResult;
-use crate::nodes::{Content, Node, Span, Taken};
-use indexmap::IndexMap;
+use crate::nodes::{Content, Members, Node, Span, Taken};
 use std::alloc::Global;
 
 /// Whether a place that is taken so may be taken again.
@@ -65,7 +64,7 @@ fn find(nodes: &[Node], number: usize, name: &str) -> Option<usize>
         return None;
     }
     let node = &nodes[number];
-    node.members.get(name).copied()
+    node.members.get(name)
 }
 
 /// The last table of an array of tables.
@@ -136,13 +135,13 @@ fn add(
         return Ok(None);
     }
     let steps = node.steps + 1;
-    node.members.insert(name, count)?;
+    node.members.insert(alloc, name, count)?;
     nodes.push(Node {
         content,
         taken,
         steps,
         span,
-        members: IndexMap::new(alloc),
+        members: Members::none(),
         elements: Vec::new(alloc),
     })?;
     Ok(Some(count))
@@ -175,7 +174,7 @@ pub(crate) fn add_element(
         taken,
         steps,
         span,
-        members: IndexMap::new(alloc),
+        members: Members::none(),
         elements: Vec::new(alloc),
     })?;
     Ok(Some(count))

@@ -144,10 +144,7 @@ impl Document {
             | Content::DateTime(_)
             | Content::Array
             | Content::Tables => None,
-            Content::Inline | Content::Table => {
-                let (name, _) = node.members.get_index(index)?;
-                Some(name.as_str())
-            }
+            Content::Inline | Content::Table => node.members.name(index),
         }
     }
 
@@ -157,7 +154,7 @@ impl Document {
         ensures { Numbers self.now (at (place_numbered self.now number) (key_step key.now)) result }
     {
         let node = &self.nodes[number];
-        node.members.get(key).copied()
+        node.members.get(key)
     }
 
     /// A node stands at its place.

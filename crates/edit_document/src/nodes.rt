@@ -1,8 +1,11 @@
 //! The table of nodes of a document.
-ghost use Rattle.std.specs.Prelude.{◌≡◌};
-ghost use Rattle.edit_document.specs.Nodes.{bytes_at, bytes_of};
+ghost use Rattle.std.specs.Prelude.{◌≡◌, [], ◌∷◌, ◌++◌, None, IfOk, IfErr, length, option_map, slice_get, string_bytes};
+ghost use Rattle.edit_document.specs.Errors.{IsMemory};
+ghost use Rattle.edit_document.specs.Nodes.{bytes_at, bytes_of, entries_of, member_names, number_named};
 
+use crate::errors::CargoResult;
 use indexmap::IndexMap;
+use std::alloc::Global;
 
 /// Where a value is written: how many bytes there are from its first byte to the text's end, and from its own end
 /// to the text's end.
@@ -56,6 +59,75 @@ pub(crate) enum Taken {
     Element,
 }
 
+/// The numbers of the members of a place by their names, in the order of their first assertions. Most places have
+/// none, and no table of them.
+#[derive(Drop)]
+pub(crate) struct Members {
+    table: Option<Box<IndexMap<String, usize>>>,
+}
+
+impl Members {
+    pub(crate) fn none() -> Members
+        ensures { entries_of result ≡ [] }
+    {
+        Members { table: None }
+    }
+
+    pub(crate) fn len(&self) -> usize
+        ensures { result ≡ length (entries_of self.now) }
+    {
+        match &self.table {
+            Some(table) => table.len(),
+            None => 0,
+        }
+    }
+
+    /// The number of the member of a name.
+    pub(crate) fn get(&self, name: &str) -> Option<usize>
+        ensures { result ≡ number_named self.now name.now }
+    {
+        match &self.table {
+            Some(table) => table.get(name).copied(),
+            None => None,
+        }
+    }
+
+    /// The name of the member that comes behind so many others.
+    pub(crate) fn name(&self, index: usize) -> Option<&str>
+        ensures { option_map (λ s. s.now) result ≡ slice_get (member_names self.now) index }
+    {
+        match &self.table {
+            Some(table) => {
+                let (name, _) = table.get_index(index)?;
+                Some(name.as_str())
+            }
+            None => None,
+        }
+    }
+
+    /// Takes the table out, or makes one where there is none.
+    fn take_table(&mut self, alloc: Global) -> CargoResult<Box<IndexMap<String, usize>>>
+        ensures entries { IfOk result (λ table. table.value.entries ≡ entries_of self.old) }
+        ensures refused { IfErr result IsMemory }
+    {
+        match self.table.take() {
+            Some(table) => Ok(table),
+            None => Ok(Box::new(alloc, IndexMap::new(alloc))?),
+        }
+    }
+
+    /// Adds a member.
+    pub(crate) fn insert(&mut self, alloc: Global, name: String, number: usize) -> CargoResult<()>
+        ensures added { number_named self.old (string_bytes name) ≡ None → IfOk result (λ _. entries_of self.new ≡ entries_of self.old ++ (name, number) ∷ []) }
+        ensures refused { IfErr result IsMemory }
+    {
+        let mut table = self.take_table(alloc)?;
+        table.insert(name, number)?;
+        self.table = Some(table);
+        Ok(())
+    }
+}
+
 /// A place that a statement asserts.
 #[derive(Drop)]
 pub(crate) struct Node {
@@ -65,8 +137,7 @@ pub(crate) struct Node {
     pub(crate) steps: usize,
     /// Where its value is written, if it has one.
     pub(crate) span: Option<Span>,
-    /// The numbers of its members by their names, in the order of their first assertions.
-    pub(crate) members: IndexMap<String, usize>,
+    pub(crate) members: Members,
     /// The numbers of its elements, where it is an array or an array of tables.
     pub(crate) elements: Vec<usize>,
 }

@@ -9,10 +9,9 @@ ghost use Rattle.std.specs.List.{AllByRecursion};
 
 use crate::assertions::{add_element, assert_member, reach};
 use crate::errors::{CargoResult, Error};
-use crate::nodes::{Content, Node, Span, Taken};
+use crate::nodes::{Content, Members, Node, Span, Taken};
 use crate::read::{Mark, MarkKind};
 use crate::words::{told, worded};
-use indexmap::IndexMap;
 use std::alloc::Global;
 
 /// The nodes so far; the numbers of the header and of the arrays and inline tables that are open, the innermost last;
@@ -26,18 +25,18 @@ pub(crate) struct Walk {
 }
 
 impl Walk {
-    /// The root alone.
-    fn new(alloc: Global) -> CargoResult<Walk>
+    /// The root alone, with room for so many nodes.
+    fn new(alloc: Global, count: usize) -> CargoResult<Walk>
         ensures root { IfOk result (λ w. (text : List ℕ) → Walks text w start) }
         ensures refused { IfErr result IsMemory }
     {
-        let mut nodes = Vec::new(alloc);
+        let mut nodes = Vec::with_capacity(alloc, count)?;
         nodes.push(Node {
             content: Content::Table,
             taken: Taken::Header,
             steps: 0,
             span: None,
-            members: IndexMap::new(alloc),
+            members: Members::none(),
             elements: Vec::new(alloc),
         })?;
         let mut tables = Vec::new(alloc);
@@ -266,7 +265,7 @@ pub(crate) fn nodes_of(alloc: Global, text: &str, marks: &[Mark]) -> CargoResult
         → MatchResult result (λ v. KeepsState text.now v.items (walked text.now marks.now start)) (λ e. (IsMemory e → ⊥) → walked text.now marks.now start ≡ None) }
     ensures refused { IfErr result (IsReadRefusal (length text.now)) }
 {
-    let mut walk = Walk::new(alloc)?;
+    let mut walk = Walk::new(alloc, marks.len())?;
     'marks: for mark in marks {
         if !walk.take(alloc, text, *mark)? {
             return Err(Error::NotToml {

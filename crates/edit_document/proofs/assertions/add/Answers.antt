@@ -1,7 +1,7 @@
 use Rattle.std.proofs.Common.{◌≡◌, ◌<◌, ◌≤◌, length, ◌∙◌, refl, arith, sym}
 use Rattle.std.specs.Prelude.{string_bytes}
 use Rattle.edit_document.specs.Nodes.{shape_of}
-use Rattle.edit_document.proofs.Adding.{added_past, deepest, not_deepest, add_stopped, add_done}
+use Rattle.edit_document.proofs.Adding.{added_past, child_found, deepest, not_deepest, add_stopped, add_done}
 use Rattle.edit_document.proofs.assertions.add.Goals as goal
 
 pub returns-then-number-count-clause-added : goal.returns-then-number-count-clause-added
@@ -16,8 +16,10 @@ returns-then-is_deepest-clause-added c text spots holds none =
 
 pub returns-clause-added : goal.returns-clause-added
 returns-clause-added c text spots holds none =
+    let inside : c.args.number < length c.args.nodes.now.items = let k = c.args.nodes.now.ok.0 in let n : c.len-count.result ≡ c.args.nodes.now.len = c.len-count.ensures in let l = c.if-number-count.false in omega arith in
+    let absent = sym (child_found c.args.nodes.now.items spots c.args.number c.index_mut-node.result.now (string_bytes c.args.name) holds inside c.index_mut-node.ensures.value) ∙ none in
     add_done c.args.nodes.now.items c.push.new.self.items spots c.args.number c.len-count.result c.index_mut-node.result.now (record c.index_mut-node.result.now { members = c.insert.new.self }) _ c.args.name c.args.content c.args.taken c.args.span holds
-    c.if-number-count.false (c.len-count.ensures ∙ c.args.nodes.now.ok.0) c.index_mut-node.ensures.value (not_deepest c.index_mut-node.result.now.steps (sym c.is_deepest.ensures ∙ c.if-is_deepest.false)) none
-    (record { content = refl; taken = refl; steps = refl; span = refl; elements = refl; entries = (c.in_ok-insert.ensures {u = tt}).entries })
-    (record { content_is = refl; taken_is = refl; steps_are = refl; span_is = refl; empty = c.new.ensures.empty; none = c.new-2.ensures.items })
+    c.if-number-count.false (c.len-count.ensures ∙ c.args.nodes.now.ok.0) c.index_mut-node.ensures.value (not_deepest c.index_mut-node.result.now.steps (sym c.is_deepest.ensures ∙ c.if-is_deepest.false))
+    (record { content = refl; taken = refl; steps = refl; span = refl; elements = refl; entries = (c.in_ok-insert.ensures {u = tt}).added absent })
+    (record { content_is = refl; taken_is = refl; steps_are = refl; span_is = refl; empty = c.none.ensures; none = c.new.ensures.items })
     (c.in_ok-push.ensures {u = tt}).items

@@ -7,5 +7,4 @@ returns-then-number-nodes c text spots holds = sym (child_past c.args.nodes.now 
 
 pub returns : goal.returns
 returns c text spots holds =
-    c.copied.ensures ∙ c.get.ensures.value
-    ∙ sym (child_found c.args.nodes.now spots c.args.number c.index-nodes-number.result c.args.name.now holds c.if-number-nodes.false c.index-nodes-number.is)
+    c.get.ensures ∙ sym (child_found c.args.nodes.now spots c.args.number c.index-nodes-number.result c.args.name.now holds c.if-number-nodes.false c.index-nodes-number.is)

@@ -1,4 +1,3 @@
-use Rattle.std.proofs.Common.{◌∙◌}
 use Rattle.edit_document.proofs.Views.{opened, within, found, member_here}
 use Rattle.edit_document.proofs.document.Document.member.Goals as goal
 
@@ -8,4 +7,4 @@ index-node-requires c = within c.args.self.now c.self.inside.nodes.items c.self.
 pub returns : goal.returns
 returns c =
     let f = found c.args.self.now c.self.inside.nodes.items c.args.number c.index-node.result.now (opened c.self.inside c.args.self.now c.self.invariant c.self.view_is) c.requires c.index-node.ensures in
-    member_here c.args.self.now c.self.inside.nodes.items c.args.number c.index-node.result.now c.args.key.now c.copied.result (opened c.self.inside c.args.self.now c.self.invariant c.self.view_is) f (c.copied.ensures ∙ c.get.ensures.value)
+    member_here c.args.self.now c.self.inside.nodes.items c.args.number c.index-node.result.now c.args.key.now c.get.result (opened c.self.inside c.args.self.now c.self.invariant c.self.view_is) f c.get.ensures

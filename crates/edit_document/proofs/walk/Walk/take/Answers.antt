@@ -1,8 +1,8 @@
-use Rattle.std.proofs.Common.{Option, sym, subst, ap, ◌∙◌, ◌≡◌, Some}
-use Rattle.std.specs.Prelude.{IfOk, string_bytes}
+use Rattle.std.proofs.Common.{Option, sym, subst}
+use Rattle.std.specs.Prelude.{IfOk}
 use Rattle.edit_document.specs.declared.read.marks.MarkKind.TheVariants as kinds
-use Rattle.edit_document.specs.Nodes.{Shape, shape_of, shape_said}
-use Rattle.edit_document.specs.Walk.{State, entered, span_of_mark}
+use Rattle.edit_document.specs.Nodes.{shape_of}
+use Rattle.edit_document.specs.Walk.{State}
 use Rattle.edit_document.specs.WalkState.{Goes}
 use Rattle.edit_document.proofs.Closing.{step_is, goes_named, word_step, close_step}
 use Rattle.edit_document.proofs.walk.Walk.take.Goals as goal
