@@ -51,10 +51,10 @@ abbrev given : List ℕ → Case → Case
 given req e = record e { selected = Some req }
 
 -- the requirement that a word gives is taken
-pub explicit_taken : (o : Options) → o.pinned ≡ false → o.incompatible ≡ false → o.compatible ≡ true
+pub explicit_taken : (o : Options)
     → decision o (given (codes "1.1") (entry (codes "1.0") (Some (version 1 2 3)) (Some (version 1 2 3)))) ≡ record { new = codes "1.1"; change = Some change.Explicit; reason = None }
 unfolding semver_on_literals digits
-explicit_taken o p i c = rw (p, i, c) refl
+explicit_taken o = refl
 
 -- a pinned requirement stays also then
 pub explicit_pinned : (o : Options) → o.pinned ≡ false → o.incompatible ≡ false → o.compatible ≡ true

@@ -9,7 +9,7 @@ use Rattle.edit_document.specs.Grammar.{Text}
 use Rattle.edit_document.specs.Replaces.{Edits, replaced, written}
 use Rattle.edit_document.specs.Supported.{IsManifest}
 use Rattle.edit_document.specs.Tree.{view_at}
-use Rattle.edit_document.proofs.ReplacedDocuments.{one_form}
+use Rattle.edit_document.proofs.Shallow.{one_form}
 use Rattle.edit_document.proofs.ReplacedStrings.{strings_view}
 use Rattle.edit_record.specs.Requirement.{cut}
 use Rattle.edit_record.specs.RustVersions.{Numbers}
