@@ -76,7 +76,7 @@ bytes_at text span = cut_from text (length text - span.from) (length text - span
 -- what a string of a text says
 abbrev pub bytes_of : List ℕ → Words → List ℕ
 bytes_of text (Kept span) = bytes_at text span
-bytes_of text (Made s) = string_bytes s
+bytes_of text (Made boxed) = string_bytes boxed.value
 
 -- what stands at a node's place, but for its members, in the document of a text
 abbrev pub shape_of : List ℕ → Content → Shape

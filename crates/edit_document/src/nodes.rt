@@ -20,8 +20,8 @@ pub(crate) struct Span {
 pub(crate) enum Words {
     /// What stands there in the text, between the delimiters.
     Kept(Span),
-    /// What is said otherwise than it is written.
-    Made(String),
+    /// What is said otherwise than it is written, which few strings are.
+    Made(Box<String>),
 }
 
 /// What stands at a place, but for its members.
@@ -212,7 +212,7 @@ pub(crate) struct Node {
     pub(crate) content: Content,
     pub(crate) taken: Taken,
     /// How many steps there are from the root.
-    pub(crate) steps: usize,
+    pub(crate) steps: u8,
     /// Where its value is written, if it has one.
     pub(crate) span: Option<Span>,
     pub(crate) members: Members,
