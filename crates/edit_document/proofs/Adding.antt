@@ -13,7 +13,7 @@ use Rattle.edit_document.specs.declared.nodes.Taken.{Taken}
 use Rattle.edit_document.specs.declared.nodes.Taken.TheVariants.{Dotted, Value, Super, Header, Array, Element}
 use Rattle.edit_document.specs.Assertions.{key, index, Place, at}
 use Rattle.edit_document.specs.Taking.{joins, stronger}
-use Rattle.edit_document.specs.Nodes.{Shape, Spot, shape_of, entries_of, number_named, Keeps, Holds, below}
+use Rattle.edit_document.specs.Nodes.{Shape, Spot, shape_of, entries_of, number_in, Keeps, Holds, below}
 use Rattle.edit_document.specs.Walk.{last_table, spot_at, child, target_of, with_taken, taken_again, with_member, with_element, added, element_added}
 use Rattle.edit_document.specs.WalkState.{Adds}
 use Rattle.edit_document.proofs.ListElements.{OneMore, OneSet, changed, in_push, in_set, newest, other, stood}
@@ -95,7 +95,7 @@ lookup_seen : {X : Type 0} (es : List (String Global × X)) (name : List ℕ) �
 lookup_seen [] name = refl
 lookup_seen {X} (e ∷ es) name = ap (λ (o : Option X). cond (bytes_eq name (string_bytes e.0)) (Some e.1) o) (lookup_seen es name)
 
-pub below_node : {text : List ℕ} (node : Node) (s : Spot) (name : List ℕ) → Keeps text node s → below s (key name) ≡ number_named node.members name
+pub below_node : {text : List ℕ} (node : Node) (s : Spot) (name : List ℕ) → Keeps text node s → below s (key name) ≡ number_in (entries_of node.members) name
 below_node node s name k = ap (lookup (λ n. bytes_eq name n)) (sym k.members) ∙ lookup_seen (entries_of node.members) name
 
 pub child_past : {text : List ℕ} (nodes : List Node) (spots : List Spot) (t : ℕ) (name : List ℕ) → Holds text nodes spots → length nodes ≤ t → child spots t name ≡ None
@@ -106,7 +106,7 @@ pub child_is : (spots : List Spot) (t : ℕ) (s : Spot) (name : List ℕ) → sl
 unfolding child
 child_is spots t s name e = rw e refl
 
-pub child_found : {text : List ℕ} (nodes : List Node) (spots : List Spot) (t : ℕ) (node : Node) (name : List ℕ) → Holds text nodes spots → t < length nodes → node ≡ get_or nodes t node → child spots t name ≡ number_named node.members name
+pub child_found : {text : List ℕ} (nodes : List Node) (spots : List Spot) (t : ℕ) (node : Node) (name : List ℕ) → Holds text nodes spots → t < length nodes → node ≡ get_or nodes t node → child spots t name ≡ number_in (entries_of node.members) name
 child_found nodes spots t node name holds lt is =
     let k = kept_at nodes spots t node holds lt is in
     child_is spots t k.spot name k.spot_is ∙ below_node node k.spot name k.keeps

@@ -77,6 +77,7 @@ pub mod WalkedLines
 pub mod Decoded
 pub mod Contents
 pub mod Kept
+pub mod NameLists
 pub mod StandardFacts
 pub mod NumberFacts
 pub mod ArrayFacts

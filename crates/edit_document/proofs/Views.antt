@@ -16,7 +16,7 @@ use Rattle.edit_document.specs.declared.place.Step.{Step as WrittenStep}
 use Rattle.edit_document.specs.Assertions.{Step, key, index, Place, at, same_place}
 use Rattle.edit_document.specs.Tree.{View, table}
 use Rattle.edit_document.specs.Shown.{Shown, node_at, tree_of}
-use Rattle.edit_document.specs.Nodes.{Spot, Shape, names_of, view_of_shape, shown_spot, shape_of, entries_of, member_names, number_named, Keeps, Holds, below, IsTree}
+use Rattle.edit_document.specs.Nodes.{Spot, Shape, names_of, view_of_shape, shown_spot, shape_of, entries_of, names_in as names_among, number_in, Keeps, Holds, below, IsTree}
 use Rattle.edit_document.specs.DocumentLayout.{spots_of, nodes_by, shown_by, shown_of, IsRead}
 use Rattle.edit_document.specs.Items.{step_seen, place_seen, viewed, place_numbered, view_numbered, key_names, names_in, count_in, Numbers, Shows}
 use Rattle.edit_document.proofs.SamePlace.{same_place_self, same_place_is, other_place, last_same, not_root}
@@ -66,7 +66,7 @@ node_none (t ∷ ts) place none =
 -- ---- a node of a document
 
 abbrev pub names_of_node : Node → List (List ℕ)
-names_of_node node = member_names node.members
+names_of_node node = names_among (entries_of node.members)
 
 abbrev pub view_of_node : List ℕ → Node → View
 view_of_node text node = view_of_shape (shape_of text node.content) (names_of_node node) (length node.elements.items)
@@ -225,7 +225,7 @@ part_here shown nodes n node x (Some m) opens f e =
     let l : length shown.nodes ≡ length opens.spots = ap length opens.nodes_are ∙ length-map opens.spots shown_spot in
     (ap (tree_of shown) (sym place) ∙ tree ∙ ap (λ (v : View). Some v) (sym view), place_spot shown opens.spots m s.0 opens.nodes_are s.1 ∙ place, omega arith)
 
-pub member_here : (shown : Shown) (nodes : List Node) (n : ℕ) (node : Node) (name : List ℕ) (r : Option ℕ) → (opens : Opened shown nodes) → Found shown nodes opens.spots n node → r ≡ number_named node.members name
+pub member_here : (shown : Shown) (nodes : List Node) (n : ℕ) (node : Node) (name : List ℕ) (r : Option ℕ) → (opens : Opened shown nodes) → Found shown nodes opens.spots n node → r ≡ number_in (entries_of node.members) name
     → Numbers shown (at (place_numbered shown n) (key name)) r
 member_here shown nodes n node name r opens f e = part_here shown nodes n node (key name) r opens f (e ∙ sym (below_node node f.spot name f.keeps))
 

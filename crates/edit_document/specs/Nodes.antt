@@ -1,5 +1,5 @@
 -- The nodes of a document: one for each place that a statement asserts, the root first and then in the order of first assertions.
-use Rattle.std.specs.Prelude.{◌≡◌, ℕ, ◌-◌, Bool, ◌&&◌, ◌||◌, nat_lt, nat_le, if◌then◌else◌, List, [], length, map, slice_get, slice_index, slice_range, Option, Some, None, String, string_bytes, ◌⊎◌}
+use Rattle.std.specs.Prelude.{◌≡◌, ℕ, ◌-◌, ◌++◌, Bool, ◌&&◌, ◌||◌, nat_lt, nat_le, if◌then◌else◌, List, [], length, map, slice_get, slice_index, slice_range, Option, Some, None, String, string_bytes, ◌⊎◌}
 use Rattle.std.specs.Global.{Box, Global}
 use Rattle.std.specs.Map.{lookup}
 use Rattle.std.specs.Str.{bytes_eq}
@@ -10,6 +10,7 @@ use Rattle.edit_document.specs.declared.nodes.Words.TheVariants.{Kept, Made}
 use Rattle.edit_document.specs.declared.nodes.Content.{Content}
 use Rattle.edit_document.specs.declared.nodes.Content.TheVariants as content
 use Rattle.edit_document.specs.declared.nodes.Taken.{Taken}
+use Rattle.edit_document.specs.declared.nodes.Lookup.{Lookup}
 use Rattle.edit_document.specs.declared.nodes.Members.{Members}
 use Rattle.edit_document.specs.declared.nodes.Node.{Node}
 use Rattle.edit_document.specs.Assertions.{Step, key, index, Place, at}
@@ -75,7 +76,7 @@ bytes_at text span = cut_from text (length text - span.from) (length text - span
 -- what a string of a text says
 abbrev pub bytes_of : List ℕ → Words → List ℕ
 bytes_of text (Kept span) = bytes_at text span
-bytes_of text (Made s) = string_bytes s
+bytes_of text (Made boxed) = string_bytes boxed.value
 
 -- what stands at a node's place, but for its members, in the document of a text
 abbrev pub shape_of : List ℕ → Content → Shape
@@ -94,17 +95,21 @@ abbrev pub entries_in : {S : Type 0} → Option (Box (IndexMap (String Global) �
 entries_in None = []
 entries_in (Some boxed) = boxed.value.entries
 
+-- the names and numbers that are looked up
+abbrev pub looked_up : Lookup → List (String Global × ℕ)
+looked_up names = entries_in names.table
+
 -- the names and numbers of members
 abbrev pub entries_of : Members → List (String Global × ℕ)
-entries_of members = entries_in members.table
+entries_of members = members.few.items ++ looked_up members.others
 
--- the names of members
-abbrev pub member_names : Members → List (List ℕ)
-member_names members = map (λ e. string_bytes e.0) (entries_of members)
+-- the names alone
+abbrev pub names_in : List (String Global × ℕ) → List (List ℕ)
+names_in entries = map (λ e. string_bytes e.0) entries
 
--- the number of the member of a name
-abbrev pub number_named : Members → List ℕ → Option ℕ
-number_named members name = lookup (λ k. bytes_eq name (string_bytes k)) (entries_of members)
+-- the number of a name
+abbrev pub number_in : List (String Global × ℕ) → List ℕ → Option ℕ
+number_in entries name = lookup (λ k. bytes_eq name (string_bytes k)) entries
 
 -- the names and numbers of a node's members
 abbrev pub members_of_node : Node → List (List ℕ × ℕ)

@@ -141,7 +141,7 @@ fn add(
         taken,
         steps,
         span,
-        members: Members::none(),
+        members: Members::none(alloc),
         elements: Vec::new(alloc),
     })?;
     Ok(Some(count))
@@ -174,7 +174,7 @@ pub(crate) fn add_element(
         taken,
         steps,
         span,
-        members: Members::none(),
+        members: Members::none(alloc),
         elements: Vec::new(alloc),
     })?;
     Ok(Some(count))

@@ -65,6 +65,7 @@ impl Document {
     {
         let marks = read_marks(alloc, text.as_bytes())?;
         let nodes = nodes_of(alloc, text, marks.as_slice())?;
+        drop(marks);
         let text = String::from_str(alloc, text)?;
         Ok(Document { text, nodes })
     }

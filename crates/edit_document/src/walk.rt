@@ -36,7 +36,7 @@ impl Walk {
             taken: Taken::Header,
             steps: 0,
             span: None,
-            members: Members::none(),
+            members: Members::none(alloc),
             elements: Vec::new(alloc),
         })?;
         let mut tables = Vec::new(alloc);

@@ -26,7 +26,7 @@ fn words_of(alloc: Global, text: &str, mark: Mark) -> CargoResult<Words>
     if is_plain(mark.kind, content(text, mark)) {
         Ok(Words::Kept(content_span(text, mark)))
     } else {
-        Ok(Words::Made(told(alloc, text, mark)?))
+        Ok(Words::Made(Box::new(alloc, told(alloc, text, mark)?)?))
     }
 }
 

@@ -1,15 +1,12 @@
-use Rattle.std.proofs.Common.{◌≡◌, ℕ, List, [], ◌∷◌, ◌++◌, ap, ◌∙◌, String, Global}
+use Rattle.std.proofs.Common.{ℕ, List, [], ◌∷◌, ◌++◌, sym, ap, ◌∙◌, append_assoc, String, Global}
 use Rattle.std.specs.Prelude.{string_bytes}
-use Rattle.std.specs.Map.{lookup}
-use Rattle.std.specs.Str.{bytes_eq}
-use Rattle.std.specs.String.{string_eq}
-use Rattle.indexmap.proofs.CallerLemmas.{insert_entry-new}
-use Rattle.edit_document.specs.Nodes.{entries_of}
+use Rattle.std.proofs.lemmas.Result.{IfOk-weaker}
+use Rattle.edit_document.specs.Nodes.{looked_up}
+use Rattle.edit_document.proofs.NameLists.{none_behind}
 use Rattle.edit_document.proofs.nodes.Members.insert.Goals as goal
 
 pub returns-clause-added : goal.returns-clause-added
 returns-clause-added c none =
-    let name = c.args.name in
-    let seen : c.deref_mut.result.now.entries ≡ entries_of c.args.self.now = ap (λ m. m.entries) c.deref_mut.ensures.value ∙ (c.in_ok-table.ensures {u = tt}).entries in
-    let absent = ap (lookup (λ (k : String Global). bytes_eq (string_bytes name) (string_bytes k))) seen ∙ none in
-    (c.in_ok-insert.ensures {u = tt}).entries ∙ insert_entry-new string_eq c.deref_mut.result.now name c.args.number absent ∙ ap (λ (es : List (String Global × ℕ)). es ++ (name, c.args.number) ∷ []) seen
+    let few = c.args.self.now.few.items in
+    let others = looked_up c.args.self.now.others in
+    IfOk-weaker c.insert.result _ _ (λ x e. ap (λ (es : List (String Global × ℕ)). few ++ es) e ∙ sym (append_assoc few others ((c.args.name, c.args.number) ∷ []))) (c.insert.ensures.added (none_behind few others (string_bytes c.args.name) none))
