@@ -1,5 +1,4 @@
-use Rattle.std.proofs.Common.{◌≡◌, ◌≤◌, List, [], ℕ, ap₂, sym, ◌∙◌, true≢false, arith}
-use Rattle.std.specs.Str.{IsCharBoundary}
+use Rattle.std.proofs.Common.{ℕ, ap₂, sym, ◌∙◌, true≢false, arith}
 use Rattle.edit_document.specs.Nodes.{cut_from, bytes_at}
 use Rattle.edit_document.proofs.Kept.{cut_is, cut_none}
 use Rattle.edit_document.proofs.nodes.cut.Goals as goal

@@ -1,4 +1,4 @@
-use Rattle.std.proofs.Common.{Some, None, refl, subst}
+use Rattle.std.proofs.Common.{Some, refl, subst}
 use Rattle.edit_document.specs.Nodes.{shape_of}
 use Rattle.edit_document.specs.Walk.{entered_at}
 use Rattle.edit_document.specs.WalkState.{Settles}
