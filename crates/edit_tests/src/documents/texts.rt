@@ -7,7 +7,8 @@ use std::test::Fail;
 /// A manifest with one dependency as an inline table.
 pub const MANIFEST: &str = "[dependencies]\nserde = { version = '1.0', optional = true } # keep\n";
 
-/// Whether a text is read, what it is, and the text; a row ends at `~`.
+/// Whether a text is read, what it is, and the text; a row ends at `~` (the examples of TOML 1.0.0, "Comment", "Key/Value
+/// Pair", "String", "Boolean", and texts near them).
 const DOCUMENTS: &str = "\
 yes|read nothing|~\
 yes|read an empty header|[a]\n~\
@@ -24,7 +25,28 @@ yes|read a byte order mark alone|\u{feff}~\
 yes|read a byte order mark first|\u{feff}[a]\n~\
 no|read two byte order marks|\u{feff}\u{feff}[a]\n~\
 no|read a byte order mark behind|[a]\n\u{feff}~\
-no|read an unknown escape|a = \"\\x\"\n";
+no|read an unknown escape|a = \"\\x\"\n~\
+no|read a surrogate|a = \"\\ud800\"~\
+no|read no scalar value|a = \"\\U00110000\"~\
+no|read two digits|a = \"\\u12\"~\
+no|read a basic string on two lines|a = \"b\nc\"~\
+no|read a literal string on two lines|a = 'b\nc'~\
+no|read an apostrophe in a literal string|a = 'b'c'~\
+yes|read literal strings|winpath = 'C:\\Users\\nodejs\\templates'\nquoted = 'Tom \"Dubs\" Preston-Werner'\nregex = '<\\i\\c*\\s*>'\n~\
+yes|read comments|# This is a full-line comment\nkey = \"value\"  # This is a comment at the end of a line\nanother = \"# This is not a comment\"\n~\
+yes|read a tab in a comment|#\ta\n~\
+no|read a control character in a comment|# \u{1}\n~\
+no|read a deleted character in a comment|# \u{7f}\n~\
+yes|read lines that end with CR LF|a = 1\r\nb = 2\r\n~\
+no|read a carriage return alone|a = 1\rb = 2\n~\
+no|read a key alone|key = # INVALID\n~\
+no|read a value alone|= \"no key name\"  # INVALID\n~\
+no|read two pairs on a line|first = \"Tom\" last = \"Preston-Werner\" # INVALID\n~\
+yes|read truths|bool1 = true\nbool2 = false\n~\
+no|read a truth in capital letters|a = True\n~\
+2|len p|[[p]]\n[p.q]\n[[p]]\n[p.q]\n~\
+table|type p/#0/q|[[p]]\n[p.q]\n[[p]]\n[p.q]\n~\
+table|type p/#1/q|[[p]]\n[p.q]\n[[p]]\n[p.q]\n";
 
 #[test]
 fn reads_exactly_documents(rt: HostRuntime) -> Result<(), Fail> {
