@@ -34,11 +34,11 @@ first key (d ∷ ds) = cond (bytes_eq key d.key) (Some d.source) (first key ds)
 abbrev pub crates_io_index : List ℕ
 crates_io_index = codes "sparse+https://index.crates.io/"
 
--- the key of crates.io (Cargo reference, "Source Replacement", Configuration)
+-- the key of the default registry (Cargo reference, "Source Replacement", Configuration)
 abbrev pub crates_io : List ℕ
 crates_io = codes "crates-io"
 
--- a source with the address of crates.io where it has none (own)
+-- a source with the default registry's address where it has none (own)
 abbrev pub with_default : Source → Source
 with_default s = record { registry = Some (unwrap_or s.registry crates_io_index); replace_with = s.replace_with }
 
@@ -46,7 +46,7 @@ with_default s = record { registry = Some (unwrap_or s.registry crates_io_index)
 abbrev pub no_source : Source
 no_source = record { registry = None; replace_with = None }
 
--- whether a registry is that of crates.io: none is given, or its address (own)
+-- whether a registry is the default one: none is given, or its address (own)
 abbrev pub is_default : Option (List ℕ) → Bool
 is_default None = true
 is_default (Some registry) = bytes_eq registry crates_io_index
@@ -56,7 +56,7 @@ abbrev pub head_key : Option (List ℕ) → List ℕ
 head_key None = crates_io
 head_key (Some registry) = cond (bytes_eq registry crates_io_index) crates_io registry
 
--- the source at which a registry begins, where its key is defined as this: that of crates.io need not be defined, and has an address (own)
+-- the source at which a registry begins, where its key is defined as this: that of the default registry need not be defined, and has an address (own)
 abbrev pub head_source_of : Option (List ℕ) → Option Source → Option Source
 head_source_of registry defined = cond (is_default registry) (Some (with_default (unwrap_or defined no_source))) defined
 
@@ -64,7 +64,7 @@ head_source_of registry defined = cond (is_default registry) (Some (with_default
 abbrev pub head_source : List Definition → Option (List ℕ) → Option Source
 head_source ds registry = head_source_of registry (first (head_key registry) ds)
 
--- the source found at a key: where the address of crates.io is itself the key, it has that address where it gives none (own)
+-- the source found at a key: where the default registry's address is itself the key, it has that address where it gives none (own)
 abbrev pub addressed : List ℕ → Option Source → Option Source
 addressed key None = None
 addressed key (Some s) = Some (cond (bytes_eq key crates_io_index) (with_default s) s)

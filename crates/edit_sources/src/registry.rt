@@ -28,7 +28,7 @@ fn url_of(alloc: Global, address: &str) -> CargoResult<Url>
     }
 }
 
-/// The address of a registry: none, or the address of crates.io, begins at the key `crates-io`, and
+/// The address of a registry: none, or the default registry's address, begins at the key `crates-io`, and
 /// another at its own key; each `replace-with` names the next key, and the last source has the address.
 ///
 /// `configs` are in the order of their precedence, the first one first. `RegistryNotFound` where no

@@ -13,10 +13,10 @@ use edit_document::{CargoResult, Error};
 use std::alloc::{AllocError, Global};
 use std::collections::BTreeMap;
 
-/// The address of the index of crates.io, where no configuration gives another.
+/// The address of the default registry's index, where no configuration gives another.
 pub const CRATES_IO_INDEX: &str = "sparse+https://index.crates.io/";
 
-/// The key of crates.io in configurations.
+/// The key of the default registry in configurations.
 const CRATES_IO_REGISTRY: &str = "crates-io";
 
 /// What the first definition of a key says.
@@ -99,7 +99,7 @@ fn first_definitions<'a>(
     Ok(sources)
 }
 
-/// The source with the address of crates.io where it has none.
+/// The source with the default registry's address where it has none.
 fn with_default(source: Source<'_>) -> Source<'_>
     ensures { source_texts result ≡ spec.with_default (source_texts source.entry) }
 {
@@ -109,7 +109,7 @@ fn with_default(source: Source<'_>) -> Source<'_>
     }
 }
 
-/// The source that was found at a key, with an address where the key is that of crates.io.
+/// The source that was found at a key, with an address where the key is that of the default registry.
 fn addressed<'a>(key: &str, source: Source<'a>) -> Source<'a>
     ensures { Some (source_texts result) ≡ spec.addressed key.now (Some (source_texts source.entry)) }
 {
@@ -119,7 +119,7 @@ fn addressed<'a>(key: &str, source: Source<'a>) -> Source<'a>
     source
 }
 
-/// Whether a registry is that of crates.io.
+/// Whether a registry is the default one.
 fn is_default(registry: Option<&str>) -> bool
     ensures { result ≡ spec.is_default (given registry.entry) }
 {
