@@ -1,3 +1,4 @@
+pub mod Causing
 pub mod CommandLemmas
 pub mod Faults
 pub mod Heights

@@ -1,7 +1,8 @@
 -- What a run of the program leaves of the files.
-use Rattle.std.specs.Prelude.{◌⊎◌, ℕ, List}
+use Rattle.std.specs.Prelude.{◌≡◌, ◌⊎◌, ℕ, List, Some, true, codes, option_map}
+use Rattle.clap.specs.Words.{subcommand_of, takes}
 use Rattle.edit_sources.specs.Store.{Files, SameFiles}
-use Rattle.edit_cli.specs.CommandLine.{AsksFor}
+use Rattle.edit_cli.specs.CommandLine.{AsksFor, edit_app}
 use Rattle.edit_cli.specs.Upgrading.{IsCutShort, IsUpgraded}
 
 -- the manifest that the words name was upgraded
@@ -18,9 +19,17 @@ pub record HasCutShort (words : List (List ℕ)) (current : List ℕ) (old new :
   pub asks : AsksFor words manifest index
   pub cut_short : IsCutShort current manifest index old new
 
+-- the command line does not take the words: they are at fault, or ask for help or the version
+abbrev pub AreNotTaken : List (List ℕ) → Type 0
+AreNotTaken words = takes edit_app words ≡ true → ⊥
+
+-- the words do not ask for an upgrade: the command line does not take them, or they name another subcommand
+abbrev pub AskForNone : List (List ℕ) → Type 0
+AskForNone words = takes edit_app words ≡ true → option_map (λ p. p.0) (subcommand_of edit_app words) ≡ Some (codes "upgrade") → ⊥
+
 -- a run that is done: the manifest that the words name was upgraded, or help or the version was shown
 abbrev pub IsDone : List (List ℕ) → List ℕ → Files → Files → Type 0
-IsDone words current old new = SameFiles old new ⊎ HasUpgraded words current old new
+IsDone words current old new = (AreNotTaken words × SameFiles old new) ⊎ HasUpgraded words current old new
 
 -- a run that was refused: each file is as it was, or the write of the manifest was refused
 abbrev pub IsRefused : List (List ℕ) → List ℕ → Files → Files → Type 0

@@ -1,6 +1,7 @@
 //! The program over any files and any writers.
 ghost use Rattle.std.specs.Prelude.{◌≡◌, ◌≤◌, map, true};
-ghost use Rattle.edit_cli.specs.Runs.{IsDone, IsRefused};
+ghost use Rattle.clap.specs.Words.{kind_of};
+ghost use Rattle.edit_cli.specs.Runs.{AskForNone, IsDone, IsRefused};
 
 #[cfg(test)]
 mod tests;
@@ -23,7 +24,8 @@ pub(crate) fn refuse<E: io::Write>(error: Error, err: &mut E) -> u8
 
 /// Prints what `clap` says in place of matches: 0 for help and version, 2 for a fault of the command line.
 fn fault<O: io::Write, E: io::Write>(error: &clap::Error, out: &mut O, err: &mut E) -> u8
-    ensures { result ≤ 2 }
+    ensures status { result ≤ 2 }
+    ensures memory { kind_of error.now ≡ ErrorKind.OutOfMemory → result ≡ 1 }
 {
     if error.kind() == ErrorKind::OutOfMemory {
         return refuse(Error::Memory, err);
@@ -54,6 +56,7 @@ pub(crate) fn run<S: Store, T: Store + Drop, O: io::Write, E: io::Write>(
 ) -> u8
     ensures status { result ≤ 2 }
     ensures faulty { result ≡ 2 → files.new ≡ files.old }
+    ensures fault { result ≡ 2 → AskForNone (map (λ w. w.now) words.now) }
     ensures done { result ≡ 0 → S.tells files.old ≡ true
         → IsDone (map (λ w. w.now) words.now) current.now (S.file_at files.old) (S.file_at files.new) }
     ensures refused { result ≡ 1 → S.tells files.old ≡ true

@@ -6,6 +6,8 @@ ghost use Rattle.edit_document.specs.declared.errors.DeviceCall.TheVariants as c
 ghost use Rattle.edit_record.specs.RustVersions.{numbers_of};
 ghost use Rattle.edit_sources.specs.ConfigurationFiles.{OnlyReads};
 ghost use Rattle.edit_sources.specs.Store.{SameFiles};
+ghost use Rattle.cargo_edit.specs.Causes.{IsBadManifest};
+ghost use Rattle.edit_cli.specs.Causes.{IsIndexCause, IsManifestCause, IsPlanCause, IsUpgradeCause};
 ghost use Rattle.edit_cli.specs.Located.{IsFault};
 ghost use Rattle.edit_cli.specs.Upgrading.{HasRust, IsCutShort, IsDefault, IsIndexRead, IsManifestRead, IsPlanned, IsTorn, IsUpgraded, IsWritten, own_rust, package_text};
 
@@ -57,7 +59,9 @@ fn own_rust_version(alloc: Global, document: &Document) -> CargoResult<Option<Ru
 }
 
 // What reports call the manifest.
-fn own_name(alloc: Global, document: &Document) -> CargoResult<String> {
+fn own_name(alloc: Global, document: &Document) -> CargoResult<String>
+    ensures { IfErr result IsMemory }
+{
     let name = package_text(document, "name").unwrap_or("virtual workspace");
     Ok(String::from_str(alloc, name)?)
 }
@@ -67,6 +71,7 @@ fn input_of(alloc: Global, path: String, bytes: Vec<u8>) -> CargoResult<Input>
     ensures path { IfOk result (λ i. i.path ≡ path) }
     ensures bytes { IfOk result (λ i. i.bytes ≡ bytes) }
     ensures version { IfOk result (λ i. HasRust bytes.items (option_map numbers_of i.rust_version)) }
+    ensures refused { IfErr result (IsBadManifest bytes.items) }
 {
     let Ok(text) = str::from_utf8(&bytes) else {
         return Err(Error::NotUtf8);
@@ -92,6 +97,9 @@ fn read_manifest<S: Store>(
     ensures store { OnlyReads (S.tells files.old) (S.tells files.new) (S.file_at files.old) (S.file_at files.new) (S.faults files.old) (S.faults files.new) }
     ensures read { IfOk result (λ i. S.tells files.old ≡ true → IsManifestRead (S.file_at files.old) current.now named.now
         (string_bytes i.path) i.bytes.items (option_map numbers_of i.rust_version)) }
+    ensures refused { IfErr result (λ e. IsFault call.Kind (S.faults files.old) (S.faults files.new) e
+        ⊎ (IsFault call.Read (S.faults files.old) (S.faults files.new) e
+        ⊎ (S.tells files.old ≡ true → IsManifestCause (S.file_at files.old) current.now named.now e))) }
 {
     let path = find(alloc, files, named, current)?;
     let Some(bytes) = files.read(alloc, path.as_str())? else {
@@ -109,6 +117,8 @@ fn read_index<S: Store>(
 ) -> CargoResult<FileIndex>
     ensures store { OnlyReads (S.tells files.old) (S.tells files.new) (S.file_at files.old) (S.file_at files.new) (S.faults files.old) (S.faults files.new) }
     ensures read { IfOk result (λ i. S.tells files.old ≡ true → IsIndexRead (S.file_at files.old) current.now named.now i) }
+    ensures refused { IfErr result (λ e. IsFault call.Read (S.faults files.old) (S.faults files.new) e
+        ⊎ (S.tells files.old ≡ true → IsIndexCause (S.file_at files.old) current.now named.now e)) }
 {
     let path = absolute(alloc, current, named)?;
     let Some(lines) = files.read(alloc, path.as_str())? else {
@@ -157,14 +167,17 @@ fn no_configurations(alloc: Global) -> CargoResult<Vec<Vec<Config>>>
 
 // The outputs of the plan for a manifest over an index.
 fn outputs_for(alloc: Global, input: Input, index: FileIndex) -> CargoResult<Vec<Output>>
-    ensures { IfOk result (λ v. IsPlanned (string_bytes input.path) input.bytes.items (option_map numbers_of input.rust_version) index v.items) }
+    ensures ok { IfOk result (λ v. IsPlanned (string_bytes input.path) input.bytes.items (option_map numbers_of input.rust_version) index v.items) }
+    ensures refused { IfErr result (λ e. IsMemory e ⊎ IsPlanCause input.bytes.items index e) }
 {
     let mut cache = IndexCache::new(alloc, index);
     let inputs = one_input(alloc, input)?;
     let configs = no_configurations(alloc)?;
     let options = default_options(alloc);
-    let plan = plan_upgrade(alloc, &options, &inputs, &configs, &mut cache)?;
-    Ok(plan.outputs)
+    match plan_upgrade(alloc, &options, &inputs, &configs, &mut cache) {
+        Ok(plan) => Ok(plan.outputs),
+        Err(error) => Err(error),
+    }
 }
 
 // Writes the output of a plan for one manifest, where there is one.
@@ -194,6 +207,9 @@ pub(crate) fn upgrade<S: Store>(
     // a refusal before the write leaves each file as it was
     ensures refused { OnErr result (S.tells files.old ≡ true → SameFiles (S.file_at files.old) (S.file_at files.new)
         ⊎ IsCutShort current.now words.now.manifest_path.now words.now.index_file.now (S.file_at files.old) (S.file_at files.new)) }
+    // and each refusal has its cause
+    ensures why { IfErr result (IsUpgradeCause (S.tells files.old) (S.file_at files.old) current.now words.now.manifest_path.now
+        words.now.index_file.now (S.faults files.old) (S.faults files.new)) }
 {
     let input = read_manifest(alloc, words.manifest_path, current, files)?;
     let index = read_index(alloc, words.index_file, current, files)?;
