@@ -1,5 +1,5 @@
 -- Build metadata plays no part in what a requirement admits, nor in what raising it gives.
-use Rattle.std.proofs.Common.{◌≡◌, ◌++◌, ◌∷◌, [], List, ℕ, Ok, Err, Option, Some, None, true, length, map, refl, ap, ◌∙◌, sym, append-nil, inl}
+use Rattle.std.proofs.Common.{◌≡◌, ◌++◌, ◌∷◌, [], List, ℕ, Ok, Err, Option, Some, None, length, map, refl, ap, ◌∙◌, sym, append-nil}
 use Rattle.std.specs.Prelude.{◌==◌, ◌&&◌, ◌||◌, Bool, not, Result, nat_lt}
 use Rattle.std.specs.List.{list_all, list_any}
 use Rattle.std.specs.Ordering.{is_gt, is_lt}
@@ -7,7 +7,7 @@ use Rattle.semver.specs.Order.{pre_cmp}
 use Rattle.semver.specs.declared.Op.{Op}
 use Rattle.semver.specs.declared.Op.TheVariants as op
 use Rattle.std.specs.Fmt.{decimal}
-use Rattle.semver.specs.Grammar.{IsValid, is_build}
+use Rattle.semver.specs.Grammar.{IsValid}
 use Rattle.semver.specs.Identifiers.{marked, parts_text}
 use Rattle.semver.specs.Parse.{Held, Parts, req_of, version_parts}
 use Rattle.semver.specs.declared.error.Error as semver_error

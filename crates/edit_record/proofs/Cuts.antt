@@ -1,9 +1,9 @@
 -- The text of a version before its build metadata, as a requirement.
-use Rattle.std.proofs.Common.{◌≡◌, ◌<◌, ◌+◌, ◌%◌, ◌^◌, ◌++◌, ◌∷◌, [], List, ℕ, suc, Ok, Some, Bool, true, false, refl, ap, ◌∙◌, sym, subst, arith, append_assoc, append-nil, inl, inr}
+use Rattle.std.proofs.Common.{◌≡◌, ◌<◌, ◌+◌, ◌%◌, ◌^◌, ◌++◌, ◌∷◌, [], List, ℕ, suc, Ok, Some, true, false, refl, ap, ◌∙◌, sym, subst, arith, append_assoc, append-nil, inl, inr}
 use Rattle.std.specs.Prelude.{◌==◌, ◌||◌, nat_eq}
 use Rattle.std.specs.Cmp.Lexicographic.{nat_list_eq_equiv, pointwise}
 use Rattle.std.specs.Fmt.{decimal}
-use Rattle.std.specs.List.{list_all, list_any, position_or_len}
+use Rattle.std.specs.List.{list_all, position_or_len}
 use Rattle.std.proofs.lemmas.Bool.{cases_Bool, eqb-true}
 use Rattle.std.proofs.lemmas.Fmt.{decimal_by_steps}
 use Rattle.std.proofs.lemmas.List.Folds.{list_any-append}
@@ -17,7 +17,7 @@ use Rattle.semver.proofs.Grammar.{version_parts-sound}
 use Rattle.edit_record.specs.Laws.{IsPlainRequirement, holds_plus}
 use Rattle.edit_record.specs.Requirement.{after_patch, cut, dotted, led_as, plain_text, requirement_text, starts_with_caret, star, unsigned_text}
 use Rattle.edit_record.proofs.Narrows.{left_of, right_of}
-use Rattle.edit_record.proofs.Reading.{IsWritable, caret-number, reads-unsigned-all}
+use Rattle.edit_record.proofs.ReadingAgain.{IsWritable, caret-number, reads-unsigned-all}
 
 pub plus-append : (xs ys : List ℕ) → holds_plus (xs ++ ys) ≡ (holds_plus xs || holds_plus ys)
 plus-append xs ys = list_any-append (λ b. b == 43) xs ys

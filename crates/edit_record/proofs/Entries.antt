@@ -1,6 +1,6 @@
 -- The order of entries, and what the greatest of them says of versions.
-use Rattle.std.proofs.Common.{◌≡◌, ◌++◌, ◌∷◌, [], List, ℕ, Option, Some, None, Bool, true, false, length, refl, ap, ◌∙◌, sym, subst, inl, inr}
-use Rattle.std.specs.Prelude.{All, ◌==◌, ◌||◌, IsTrue, is_some, unwrap_or, option_and_then}
+use Rattle.std.proofs.Common.{◌≡◌, ◌++◌, ◌∷◌, [], List, ℕ, Option, Some, None, Bool, true, false, refl, ap, ◌∙◌, sym, inl, inr}
+use Rattle.std.specs.Prelude.{All, IsTrue, is_some, unwrap_or, option_and_then}
 use Rattle.std.specs.Cmp.{IsTotalOrder, on_total}
 use Rattle.std.specs.List.{filter_map}
 use Rattle.std.specs.Ordering.{is_le}
@@ -18,9 +18,7 @@ use Rattle.edit_record.specs.declared.dependency.Dependency.{Dependency}
 use Rattle.edit_record.specs.declared.dependency.Source.{Source}
 use Rattle.std.proofs.lemmas.List.Elements.{All-cons, All-head, All-nil, All-tail, filter_map-append}
 use Rattle.semver.specs.Grammar.{IsValid}
-use Rattle.semver.specs.Parse.{version_parts}
 use Rattle.semver.proofs.Grammar.{version_parts-sound}
-use Rattle.edit_record.specs.Admissible.{version_read}
 use Rattle.edit_record.specs.Records.{source_version, version_of}
 use Rattle.edit_record.specs.Requirement.{cut, plain_text}
 use Rattle.edit_record.specs.VersionOrder.{full_order}

@@ -18,7 +18,7 @@ use Rattle.edit_record.specs.Requirement.{after_patch, comparator_text, dotted, 
 use Rattle.edit_record.proofs.Dashes.{dash-append, decimal-no_dash}
 use Rattle.edit_record.proofs.Fixed.{none-first}
 use Rattle.edit_record.proofs.Narrows.{left_of, pre-self, right_of}
-use Rattle.edit_record.proofs.Reading.{IsSmall, IsWritable, tidy}
+use Rattle.edit_record.proofs.ReadingAgain.{IsSmall, IsWritable, tidy}
 use Rattle.edit_record.proofs.Shapes.{IsShaped}
 
 -- ---- operators

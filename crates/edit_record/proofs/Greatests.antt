@@ -8,7 +8,7 @@ use Rattle.std.specs.Cmp.{IsTotalOrder}
 use Rattle.std.specs.declared.cmp.Ordering.{Ordering}
 use Rattle.std.specs.declared.cmp.Ordering.TheVariants.{Less, Equal, Greater}
 use Rattle.std.proofs.lemmas.List.Elements.{All-append, All-cons, All-drop, All-head, All-nil, All-push, All-same, All-weaker}
-use Rattle.edit_record.specs.Greatest.{IsGreatest, IsGreatestKept, advance, pick}
+use Rattle.edit_record.specs.Greatest.{IsGreatest, IsGreatestKept, advance}
 
 module _ {X : Type 0} (keep : X → Bool) (cmp : X → X → Ordering) (o : IsTotalOrder cmp) where
   -- none was kept, and this one is not

@@ -1,10 +1,10 @@
 -- What it says of an entry that it is kept.
-use Rattle.std.proofs.Common.{◌≡◌, List, ℕ, Option, Some, None, Ok, Err, Bool, true, false, refl, ap, ◌∙◌, sym, subst, inl, inr}
-use Rattle.std.specs.Prelude.{Result, if◌then◌else◌, is_some, option_map}
+use Rattle.std.proofs.Common.{◌≡◌, List, ℕ, Option, Some, None, Ok, Err, Bool, true, false, refl, ap, ◌∙◌, sym, inl, inr}
+use Rattle.std.specs.Prelude.{Result, if◌then◌else◌, option_map}
 use Rattle.std.proofs.lemmas.Bool.{cases_Bool}
 use Rattle.semver.specs.Parse.{Parts, version_parts}
 use Rattle.semver.specs.declared.error.Error.{Error}
-use Rattle.edit_record.specs.Admissible.{admissible, asked_rust, candidate_in, if_fits, if_passes, if_read, is_kept, is_too_new, kept_in, version_in, version_read}
+use Rattle.edit_record.specs.Admissible.{admissible, asked_rust, candidate_in, if_fits, if_passes, if_read, is_too_new, kept_in, version_in, version_read}
 use Rattle.edit_record.specs.IndexEntry.{IndexEntry}
 use Rattle.edit_record.specs.RustVersions.{Numbers}
 

@@ -1,6 +1,6 @@
 -- A version that was written into a requirement is the greatest again, over the same versions.
-use Rattle.std.proofs.Common.{◌≡◌, ◌<◌, ◌∷◌, [], List, ℕ, Ok, Err, Option, Some, None, Bool, true, false, length, refl, ap, ◌∙◌, sym, subst, arith, inl, inr}
-use Rattle.std.specs.Prelude.{All, Result, ◌⊎◌}
+use Rattle.std.proofs.Common.{◌≡◌, ◌<◌, ◌∷◌, [], List, ℕ, Ok, Some, true, false, length, refl, ap, ◌∙◌, sym, subst, arith, inl, inr}
+use Rattle.std.specs.Prelude.{All, Result}
 use Rattle.std.specs.Ordering.{is_ge}
 use Rattle.std.proofs.lemmas.List.Elements.{All-cons, All-nil}
 use Rattle.semver.specs.Grammar.{IsValid}

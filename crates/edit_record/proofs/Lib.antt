@@ -1,9 +1,11 @@
 pub mod Texts
 pub mod Raising
 pub mod Reading
+pub mod ReadingAgain
 pub mod Shapes
 pub mod Fixed
 pub mod Narrows
+pub mod Reaching
 pub mod Dashes
 pub mod Forms
 pub mod PreReleases

@@ -8,10 +8,10 @@ use Rattle.semver.specs.Grammar.{IsValid, is_pre_release}
 use Rattle.semver.specs.Parse.{Held, Parts}
 use Rattle.semver.specs.declared.Op.{Op}
 use Rattle.semver.specs.declared.Op.TheVariants as op
-use Rattle.edit_record.specs.Requirement.{Raised, Nothing, Text, Unread, Unsupported, after_patch, comparator_text, cut, dotted, led_as, more_text, raise, raised, requirement_text, sign, star, starts_with_caret, plain_text, unsigned_text, without_caret}
+use Rattle.edit_record.specs.Requirement.{Text, after_patch, comparator_text, cut, dotted, led_as, more_text, raise, raised, requirement_text, sign, star, starts_with_caret, plain_text, unsigned_text, without_caret}
 use Rattle.edit_record.proofs.Cuts.{cut-before, decimal-no_plus, plain_text-no_plus, plus-append, pre-no_plus}
 use Rattle.edit_record.proofs.Fixed.{raised-read, raised-reads}
-use Rattle.edit_record.proofs.Reading.{IsSmall, IsWritable}
+use Rattle.edit_record.proofs.ReadingAgain.{IsSmall, IsWritable}
 use Rattle.edit_record.specs.Laws.{IsVersion, holds_plus}
 
 none-append : (xs ys : List ℕ) → holds_plus xs ≡ false → holds_plus ys ≡ false → holds_plus (xs ++ ys) ≡ false

@@ -1,10 +1,10 @@
 -- Which versions are offered beside those that a requirement admits.
-use Rattle.std.proofs.Common.{◌≡◌, ◌<◌, List, ℕ, Bool, true, false, length, refl, ap, ◌∙◌, sym, arith, inl, inr, eqb-true}
+use Rattle.std.proofs.Common.{◌≡◌, ◌<◌, List, ℕ, Bool, true, false, length, refl, ◌∙◌, sym, arith, inl, inr, eqb-true}
 use Rattle.std.specs.Prelude.{◌⊎◌, ◌==◌, ◌||◌, IsTrue}
 use Rattle.std.proofs.lemmas.Bool.{cases_Bool}
 use Rattle.semver.specs.Parse.{Parts}
 use Rattle.semver.proofs.Segments.{not_zero}
-use Rattle.edit_record.specs.Laws.{Admits, holds_dash}
+use Rattle.edit_record.specs.Laws.{holds_dash}
 use Rattle.edit_record.specs.Selection.{is_admitted, is_allowed, is_offered}
 use Rattle.edit_record.proofs.Outcomes.{admitted}
 use Rattle.edit_record.proofs.PreReleases.{admits-dash}

@@ -18,8 +18,9 @@ use Rattle.edit_record.specs.Selection.{admits_read, is_admitted}
 use Rattle.edit_record.proofs.Dashes.{req-dash}
 use Rattle.edit_record.proofs.Forms.{least-all, operators-same, raised_text-dash}
 use Rattle.edit_record.proofs.Fixed.{IsRaised, raised-fixed, raised-read, raised-reads}
-use Rattle.edit_record.proofs.Narrows.{keeps, left_of, narrows, reaches-plain, reaches-three}
-use Rattle.edit_record.proofs.Reading.{tidy}
+use Rattle.edit_record.proofs.Narrows.{left_of, narrows}
+use Rattle.edit_record.proofs.Reaching.{keeps, reaches-plain, reaches-three}
+use Rattle.edit_record.proofs.ReadingAgain.{tidy}
 use Rattle.edit_record.proofs.Shapes.{req-shape}
 
 -- ---- versions

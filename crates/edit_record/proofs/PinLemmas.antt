@@ -1,10 +1,8 @@
 -- Raising keeps whether a requirement pins.
-use Rattle.std.proofs.Common.{◌≡◌, ◌∷◌, [], List, ℕ, Ok, Bool, map, refl, ap, ◌∙◌, sym}
+use Rattle.std.proofs.Common.{◌≡◌, ◌∷◌, [], List, ℕ, map, refl, ap, ◌∙◌, sym}
 use Rattle.std.specs.Prelude.{◌||◌}
 use Rattle.std.specs.List.{list_any}
-use Rattle.semver.specs.Identifiers.{comparator_view}
-use Rattle.semver.specs.Parse.{Held, req_of}
-use Rattle.semver.specs.declared.Comparator.{Comparator}
+use Rattle.semver.specs.Parse.{Held}
 use Rattle.semver.specs.declared.Op.{Op}
 use Rattle.edit_record.specs.Laws.{HasSameOperators}
 use Rattle.edit_record.specs.Pins.{has_pin, has_pin_read, is_pin}

@@ -1,10 +1,10 @@
 -- What is written is read: the text of a comparator, and of a list of them, reads back.
-use Rattle.std.proofs.Common.{◌≡◌, ◌<◌, ◌≤◌, ◌+◌, ◌%◌, ◌^◌, ◌++◌, ◌∷◌, [], List, ℕ, zero, suc, Ok, Option, Some, None, Bool, true, false, length, map, refl, ap, ◌∙◌, sym, subst, arith, append_assoc, append-nil, inl, inr}
-use Rattle.std.specs.Prelude.{Result, if◌then◌else◌, ◌==◌, ◌&&◌, codes}
+use Rattle.std.proofs.Common.{◌≡◌, ◌<◌, ◌+◌, ◌%◌, ◌^◌, ◌++◌, ◌∷◌, [], List, ℕ, Ok, Option, Some, None, Bool, true, false, length, refl, ap, ◌∙◌, sym, subst, arith, inl, inr}
+use Rattle.std.specs.Prelude.{Result, if◌then◌else◌, ◌==◌, ◌&&◌}
 use Rattle.std.specs.Char.{is_ascii_digit}
 use Rattle.std.specs.Fmt.{decimal}
-use Rattle.std.specs.List.{AllByRecursion, list_all}
-use Rattle.std.proofs.lemmas.Bool.{cases_Bool, eq-eqb, eqb-true}
+use Rattle.std.specs.List.{list_all}
+use Rattle.std.proofs.lemmas.Bool.{cases_Bool, eqb-true}
 use Rattle.std.proofs.lemmas.Bool.Decides.{nat_tests}
 use Rattle.std.proofs.lemmas.Fmt.{decimal_by_steps}
 use Rattle.std.proofs.lemmas.List.{drop_at, take_at}
@@ -12,16 +12,14 @@ use Rattle.semver.specs.Grammar.{is_pre_identifier, is_pre_release}
 use Rattle.semver.specs.Identifiers.{marked}
 use Rattle.semver.specs.Order.{parts}
 use Rattle.semver.specs.OrderLaws.{join-parts, join_dots, parts-shape}
-use Rattle.semver.specs.Parse.{◌>>=◌, Held, Parsed, build_part, comparator_of, has, identifier_len, identifier_of, minor_part, next_text, numeric, op_of, patch_part, pre_part, prepend, req_from, req_of, scan, strip_spaces, wildcard_of}
+use Rattle.semver.specs.Parse.{◌>>=◌, Held, Parsed, build_part, has, identifier_len, identifier_of, minor_part, numeric, op_of, patch_part, pre_part, scan, strip_spaces, wildcard_of}
 use Rattle.semver.specs.declared.error.Error.{Error}
 use Rattle.semver.specs.declared.error.Position.{Position}
 use Rattle.semver.specs.declared.error.Position.TheVariants as place
 use Rattle.semver.specs.declared.Op.{Op}
 use Rattle.semver.specs.declared.Op.TheVariants as op
 use Rattle.semver.proofs.Numerals.{numeric-of_text, starts_digit}
-use Rattle.semver.proofs.Requirements.{req-end, req-more}
 use Rattle.semver.proofs.Segments.{good, not_zero, scan-all, stops}
-use Rattle.edit_record.specs.Requirement.{after_patch, comparator_text, dotted, is_inequality, more_text, requirement_text, sign, starts_with_caret, star, unsigned_text}
 
 -- ---- the front of a number
 
@@ -36,7 +34,7 @@ decimal-front n fits = decimal_by_steps Front
     n fits
 
 -- a digit is no other byte
-digit-is_not : (b k : ℕ) → is_ascii_digit b ≡ true → is_ascii_digit k ≡ false → (b == k) ≡ false
+pub digit-is_not : (b k : ℕ) → is_ascii_digit b ≡ true → is_ascii_digit k ≡ false → (b == k) ≡ false
 digit-is_not b k d e = elim (cases_Bool (b == k)) [
   | inl same ↦ cc (sym d ∙ ap (λ x. is_ascii_digit x) (eqb-true b k same) ∙ e)
   | inr other ↦ other
@@ -110,14 +108,14 @@ after_major default o n rest fits stop =
     rw (strip-number n rest fits, numeric-of_text place.Major n rest fits stop) refl
 
 -- one number
-reads-major : (default : Bool) (o : Op) (n : ℕ) (t : Option (List ℕ)) → n < 2 ^ 64
+pub reads-major : (default : Bool) (o : Op) (n : ℕ) (t : Option (List ℕ)) → n < 2 ^ 64
     → Gives (from_major default o (decimal n ++ tail t)) (o, n, None, None, []) t
 unfolding strip_spaces
 reads-major default o n None fits = (place.Major, after_major default o n [] fits refl)
 reads-major default o n (Some r) fits = (place.Major, after_major default o n (44 ∷ r) fits refl)
 
 -- one number and a star
-reads-major_star : (o : Op) (n : ℕ) (t : Option (List ℕ)) → n < 2 ^ 64
+pub reads-major_star : (o : Op) (n : ℕ) (t : Option (List ℕ)) → n < 2 ^ 64
     → Gives (from_major true o (decimal n ++ (46 ∷ 42 ∷ tail t))) (op.Wildcard, n, None, None, []) t
 unfolding strip_spaces
 reads-major_star o n None fits = (place.Minor, after_major true o n (46 ∷ 42 ∷ []) fits refl)
@@ -129,7 +127,7 @@ after_minor : (default : Bool) (o : Op) (m : ℕ) (rest : List ℕ) → m < 2 ^ 
 after_minor default o m rest fits stop =
     rw (wildcard-number m rest fits, numeric-of_text place.Minor m rest fits stop) refl
 
-reads-minor : (default : Bool) (o : Op) (n m : ℕ) (t : Option (List ℕ)) → n < 2 ^ 64 → m < 2 ^ 64
+pub reads-minor : (default : Bool) (o : Op) (n m : ℕ) (t : Option (List ℕ)) → n < 2 ^ 64 → m < 2 ^ 64
     → Gives (from_major default o (decimal n ++ (46 ∷ (decimal m ++ tail t)))) (o, n, Some m, None, []) t
 unfolding strip_spaces
 reads-minor default o n m None fits small =
@@ -138,7 +136,7 @@ reads-minor default o n m (Some r) fits small =
     (place.Minor, after_major default o n (46 ∷ (decimal m ++ 44 ∷ r)) fits refl ∙ rw (after_minor default o m (44 ∷ r) small refl) refl)
 
 -- two numbers and a star
-reads-minor_star : (o : Op) (n m : ℕ) (t : Option (List ℕ)) → n < 2 ^ 64 → m < 2 ^ 64
+pub reads-minor_star : (o : Op) (n m : ℕ) (t : Option (List ℕ)) → n < 2 ^ 64 → m < 2 ^ 64
     → Gives (from_major true o (decimal n ++ (46 ∷ (decimal m ++ (46 ∷ 42 ∷ tail t))))) (op.Wildcard, n, Some m, None, []) t
 unfolding strip_spaces
 reads-minor_star o n m None fits small =
@@ -207,7 +205,7 @@ ends-pre o n m p [] (Some r) valid = (place.Patch, refl)
 ends-pre o n m p (b ∷ rest) None valid = (place.Pre, rw (pre-whole b rest [] valid refl) refl)
 ends-pre o n m p (b ∷ rest) (Some r) valid = (place.Pre, rw (pre-whole b rest (44 ∷ r) valid refl) refl)
 
-reads-patch : (default : Bool) (o : Op) (n m p : ℕ) (pre : List ℕ) (t : Option (List ℕ)) → n < 2 ^ 64 → m < 2 ^ 64 → p < 2 ^ 64
+pub reads-patch : (default : Bool) (o : Op) (n m p : ℕ) (pre : List ℕ) (t : Option (List ℕ)) → n < 2 ^ 64 → m < 2 ^ 64 → p < 2 ^ 64
     → is_pre_release pre ≡ true
     → Gives (from_major default o (decimal n ++ (46 ∷ (decimal m ++ (46 ∷ (decimal p ++ (marked 45 pre ++ tail t))))))) (o, n, Some m, Some p, pre) t
 reads-patch default o n m p pre t fits small tiny valid =
@@ -219,190 +217,3 @@ reads-patch default o n m p pre t fits small tiny valid =
           ∙ rw (after_minor default o m (46 ∷ (decimal p ++ rest)) small refl)
           (rw (after_patch_number default o m p rest tiny stop) e.1),
     )
-
--- ---- whole comparators
-
--- a pre-release is read only after a patch number
-abbrev pub read_pre : Option ℕ → List ℕ → List ℕ
-read_pre None pre = []
-read_pre (Some p) pre = pre
-
--- what the text of a comparator is read as
-abbrev pub tidy : Held → Held
-tidy c = (c.0, c.1, c.2, c.3, read_pre c.3 c.4)
-
-abbrev pub IsSmall : Option ℕ → Type 0
-IsSmall None = Unit {0}
-IsSmall (Some n) = n < 2 ^ 64
-
--- what the text of a comparator must not lose
-pub record IsWritable (c : Held) : Type 0 where
-  pub major : c.1 < 2 ^ 64
-  pub minor : IsSmall c.2
-  pub patch : IsSmall c.3
-  pub nested : c.2 ≡ None → c.3 ≡ None
-  pub starred : c.0 ≡ op.Wildcard → c.3 ≡ None
-  pub valid : (p : ℕ) → c.3 ≡ Some p → is_pre_release c.4 ≡ true
-  pub equality : is_inequality c.0 ≡ false
-
-two-text : (a b t : List ℕ) → (a ++ (46 ∷ (b ++ []))) ++ t ≡ a ++ (46 ∷ (b ++ t))
-two-text a b t = append_assoc a (46 ∷ (b ++ [])) t ∙ ap (λ l. a ++ (46 ∷ (l ++ t))) (append-nil b)
-
-three-text : (a b c d t : List ℕ) → (a ++ (46 ∷ (b ++ (46 ∷ (c ++ (d ++ [])))))) ++ t ≡ a ++ (46 ∷ (b ++ (46 ∷ (c ++ (d ++ t)))))
-three-text a b c d t =
-    append_assoc a (46 ∷ (b ++ (46 ∷ (c ++ (d ++ []))))) t
-    ∙ ap (λ l. a ++ (46 ∷ l)) (append_assoc b (46 ∷ (c ++ (d ++ []))) t)
-    ∙ ap (λ l. a ++ (46 ∷ (b ++ (46 ∷ l)))) (append_assoc c (d ++ []) t)
-    ∙ ap (λ l. a ++ (46 ∷ (b ++ (46 ∷ (c ++ (l ++ t)))))) (append-nil d)
-
-plain : (default : Bool) (o : Op) (n : ℕ) (m p : Option ℕ) (pre : List ℕ) (t : Option (List ℕ)) → n < 2 ^ 64 → IsSmall m → IsSmall p
-    → (m ≡ None → p ≡ None) → ((k : ℕ) → p ≡ Some k → is_pre_release pre ≡ true)
-    → Gives (from_major default o ((decimal n ++ (dotted m ++ (dotted p ++ (after_patch p pre ++ [])))) ++ tail t)) (o, n, m, p, read_pre p pre) t
-plain default o n None None pre t fits sm sp nested valid =
-    subst (λ (x : List ℕ). Gives (from_major default o (x ++ tail t)) (o, n, None, None, []) t) (sym (append-nil (decimal n))) (reads-major default o n t fits)
-plain default o n None (Some p) pre t fits sm sp nested valid = cc (nested refl)
-plain default o n (Some m) None pre t fits sm sp nested valid =
-    subst (λ (x : List ℕ). Gives (from_major default o x) (o, n, Some m, None, []) t) (sym (two-text (decimal n) (decimal m) (tail t))) (reads-minor default o n m t fits sm)
-plain default o n (Some m) (Some p) pre t fits sm sp nested valid =
-    subst (λ (x : List ℕ). Gives (from_major default o x) (o, n, Some m, Some p, pre) t)
-    (sym (three-text (decimal n) (decimal m) (decimal p) (marked 45 pre) (tail t)))
-    (reads-patch default o n m p pre t fits sm sp (valid p refl))
-
-starry : (o : Op) (n : ℕ) (m : Option ℕ) (t : Option (List ℕ)) → n < 2 ^ 64 → IsSmall m
-    → Gives (from_major true o ((decimal n ++ (dotted m ++ codes ".*")) ++ tail t)) (op.Wildcard, n, m, None, []) t
-starry o n None t fits sm =
-    subst (λ (x : List ℕ). Gives (from_major true o x) (op.Wildcard, n, None, None, []) t)
-    (sym (append_assoc (decimal n) (46 ∷ 42 ∷ []) (tail t))) (reads-major_star o n t fits)
-starry o n (Some m) t fits sm =
-    subst (λ (x : List ℕ). Gives (from_major true o x) (op.Wildcard, n, Some m, None, []) t)
-    (sym (append_assoc (decimal n) (46 ∷ (decimal m ++ (46 ∷ 42 ∷ []))) (tail t) ∙ ap (λ l. decimal n ++ (46 ∷ l)) (append_assoc (decimal m) (46 ∷ 42 ∷ []) (tail t))))
-    (reads-minor_star o n m t fits sm)
-
--- a comparator with no sign
-bare : (input : List ℕ) → op_of input ≡ (op.Caret, input) → comparator_of input ≡ from_major true op.Caret input
-bare input e =
-    ap (λ (q : Op × List ℕ). from_major (length input == length q.1) q.0 q.1) e
-    ∙ ap (λ b. from_major b op.Caret input) (eq-eqb (length input) (length input) refl)
-
-bare-number : (n : ℕ) (w rest : List ℕ) → n < 2 ^ 64
-    → comparator_of ((decimal n ++ w) ++ rest) ≡ from_major true op.Caret ((decimal n ++ w) ++ rest)
-bare-number n w rest fits =
-    let assoc : (decimal n ++ w) ++ rest ≡ decimal n ++ (w ++ rest) = append_assoc (decimal n) w rest in
-    bare ((decimal n ++ w) ++ rest)
-    (subst (λ (x : List ℕ). op_of x ≡ (op.Caret, x)) (sym assoc) (op-number n (w ++ rest) fits))
-
--- the text of a comparator is read as that, whatever may follow it
-reads-of : (o : Op) (n : ℕ) (m p : Option ℕ) (pre : List ℕ) (t : Option (List ℕ)) → IsWritable (o, n, m, p, pre)
-    → Gives (comparator_of (comparator_text (o, n, m, p, pre) ++ tail t)) (o, n, m, p, read_pre p pre) t
-reads-of op.Exact n m p pre t w = plain _ op.Exact n m p pre t w.major w.minor w.patch w.nested w.valid
-reads-of op.Tilde n m p pre t w = plain _ op.Tilde n m p pre t w.major w.minor w.patch w.nested w.valid
-reads-of op.Caret n m p pre t w = plain _ op.Caret n m p pre t w.major w.minor w.patch w.nested w.valid
-reads-of op.Wildcard n m None pre t w =
-    let g = starry op.Caret n m t w.major w.minor in
-    (g.0, bare-number n (dotted m ++ codes ".*") (tail t) w.major ∙ g.1)
-reads-of op.Wildcard n m (Some p) pre t w = cc (w.starred refl)
-reads-of op.Greater n m p pre t w = cc w.equality
-reads-of op.GreaterEq n m p pre t w = cc w.equality
-reads-of op.Less n m p pre t w = cc w.equality
-reads-of op.LessEq n m p pre t w = cc w.equality
-
-pub reads : (c : Held) (t : Option (List ℕ)) → IsWritable c → Gives (comparator_of (comparator_text c ++ tail t)) (tidy c) t
-reads c t w = reads-of c.0 c.1 c.2 c.3 c.4 t w
-
--- the `^` of a comparator may be left out
-pub reads-unsigned : (c : Held) (t : Option (List ℕ)) → IsWritable c → c.0 ≡ op.Caret
-    → Gives (comparator_of (unsigned_text c ++ tail t)) (tidy c) t
-reads-unsigned c t w e =
-    let none : star c.0 c.3 ≡ [] = rw e refl in
-    let g = plain true op.Caret c.1 c.2 c.3 c.4 t w.major w.minor w.patch w.nested w.valid in
-    (g.0, rw none (bare-number c.1 (dotted c.2 ++ (dotted c.3 ++ (after_patch c.3 c.4 ++ []))) (tail t) w.major ∙ rw e g.1))
-
--- ---- lists of comparators
-
-strip-bare : (n : ℕ) (w rest : List ℕ) → n < 2 ^ 64 → strip_spaces ((decimal n ++ w) ++ rest) ≡ (decimal n ++ w) ++ rest
-strip-bare n w rest fits =
-    subst (λ (x : List ℕ). strip_spaces x ≡ x) (sym (append_assoc (decimal n) w rest)) (strip-number n (w ++ rest) fits)
-
-wildcard-bare : (n : ℕ) (w rest : List ℕ) → n < 2 ^ 64 → wildcard_of ((decimal n ++ w) ++ rest) ≡ None
-wildcard-bare n w rest fits =
-    subst (λ (x : List ℕ). wildcard_of x ≡ None) (sym (append_assoc (decimal n) w rest)) (wildcard-number n (w ++ rest) fits)
-
--- no space leads a comparator
-strip-of : (o : Op) (n : ℕ) (w rest : List ℕ) → n < 2 ^ 64 → strip_spaces ((sign o ++ (decimal n ++ w)) ++ rest) ≡ (sign o ++ (decimal n ++ w)) ++ rest
-unfolding strip_spaces
-strip-of op.Exact n w rest fits = refl
-strip-of op.Greater n w rest fits = refl
-strip-of op.GreaterEq n w rest fits = refl
-strip-of op.Less n w rest fits = refl
-strip-of op.LessEq n w rest fits = refl
-strip-of op.Tilde n w rest fits = refl
-strip-of op.Caret n w rest fits = refl
-strip-of op.Wildcard n w rest fits = strip-bare n w rest fits
-
--- a comparator does not begin with a star
-wildcard-none : (o : Op) (n : ℕ) (w rest : List ℕ) → n < 2 ^ 64 → wildcard_of ((sign o ++ (decimal n ++ w)) ++ rest) ≡ None
-wildcard-none op.Exact n w rest fits = refl
-wildcard-none op.Greater n w rest fits = refl
-wildcard-none op.GreaterEq n w rest fits = refl
-wildcard-none op.Less n w rest fits = refl
-wildcard-none op.LessEq n w rest fits = refl
-wildcard-none op.Tilde n w rest fits = refl
-wildcard-none op.Caret n w rest fits = refl
-wildcard-none op.Wildcard n w rest fits = wildcard-bare n w rest fits
-
--- what follows a comparator, before the comparators after it
-abbrev pub more_of : List Held → Option (List ℕ)
-more_of [] = None
-more_of (c ∷ cs) = Some (32 ∷ (comparator_text c ++ more_text cs))
-
-pub more_text-tail : (cs : List Held) → more_text cs ≡ tail (more_of cs)
-more_text-tail [] = refl
-more_text-tail (c ∷ cs) = refl
-
-next-stripped : (pos : Position) (d : Held) (rest : List ℕ) → d.1 < 2 ^ 64
-    → next_text pos (44 ∷ 32 ∷ (comparator_text d ++ rest)) ≡ Ok (Some (comparator_text d ++ rest))
-unfolding strip_spaces
-next-stripped pos d rest fits =
-    ap (λ (x : List ℕ). Ok (Some x)) (strip-of d.0 d.1 (dotted d.2 ++ (dotted d.3 ++ (after_patch d.3 d.4 ++ star d.0 d.3))) rest fits)
-
--- a list of comparators reads back, after a first one that was read
-reads-from : (n : ℕ) (input : List ℕ) (c : Held) (cs : List Held) → Gives (comparator_of input) c (more_of cs)
-    → AllByRecursion IsWritable cs → length cs ≤ n → req_from (suc n) input ≡ Ok (c ∷ map tidy cs)
-reads-from n input c [] g all le = req-end n input (c.0, c.1, c.2, c.3, c.4, g.0, []) g.1 refl
-reads-from zero input c (d ∷ ds) g all le = absurd (omega arith)
-reads-from (suc k) input c (d ∷ ds) g all le =
-    let text = comparator_text d ++ more_text ds in
-    let p : Parsed = (c.0, c.1, c.2, c.3, c.4, g.0, 44 ∷ 32 ∷ text) in
-    let next = next-stripped g.0 d (more_text ds) all.0.major in
-    let read : Gives (comparator_of text) (tidy d) (more_of ds) =
-    subst (λ (x : List ℕ). Gives (comparator_of (comparator_text d ++ x)) (tidy d) (more_of ds)) (sym (more_text-tail ds)) (reads d (more_of ds) all.0) in
-    let rest = reads-from k text (tidy d) ds read all.1 (omega arith) in
-    req-more (suc k) input p text g.1 next ∙ ap (λ r. prepend (c ∷ []) r) rest
-
--- the text of comparators reads back
-pub reads-all : (c : Held) (cs : List Held) → IsWritable c → AllByRecursion IsWritable cs → length cs ≤ 31
-    → req_of (requirement_text (c ∷ cs)) ≡ Ok (map tidy (c ∷ cs))
-reads-all c cs w all le =
-    let rest = dotted c.2 ++ (dotted c.3 ++ (after_patch c.3 c.4 ++ star c.0 c.3)) in
-    let strip : strip_spaces (comparator_text c ++ more_text cs) ≡ comparator_text c ++ more_text cs = strip-of c.0 c.1 rest (more_text cs) w.major in
-    let none : wildcard_of (comparator_text c ++ more_text cs) ≡ None = wildcard-none c.0 c.1 rest (more_text cs) w.major in
-    let read : Gives (comparator_of (comparator_text c ++ more_text cs)) (tidy c) (more_of cs) =
-    subst (λ (x : List ℕ). Gives (comparator_of (comparator_text c ++ x)) (tidy c) (more_of cs)) (sym (more_text-tail cs)) (reads c (more_of cs) w) in
-    rw (strip, none) (reads-from 31 _ (tidy c) cs read all le)
-
--- and without the `^` that leads it
-pub reads-unsigned-all : (c : Held) (cs : List Held) → IsWritable c → c.0 ≡ op.Caret → AllByRecursion IsWritable cs → length cs ≤ 31
-    → req_of (unsigned_text c ++ more_text cs) ≡ Ok (map tidy (c ∷ cs))
-reads-unsigned-all c cs w e all le =
-    let rest = dotted c.2 ++ (dotted c.3 ++ (after_patch c.3 c.4 ++ star c.0 c.3)) in
-    let strip : strip_spaces (unsigned_text c ++ more_text cs) ≡ unsigned_text c ++ more_text cs = strip-bare c.1 rest (more_text cs) w.major in
-    let none : wildcard_of (unsigned_text c ++ more_text cs) ≡ None = wildcard-bare c.1 rest (more_text cs) w.major in
-    let read : Gives (comparator_of (unsigned_text c ++ more_text cs)) (tidy c) (more_of cs) =
-    subst (λ (x : List ℕ). Gives (comparator_of (unsigned_text c ++ x)) (tidy c) (more_of cs)) (sym (more_text-tail cs)) (reads-unsigned c (more_of cs) w e) in
-    rw (strip, none) (reads-from 31 _ (tidy c) cs read all le)
-
--- a text that leads with a digit leads with no `^`
-pub caret-number : (n : ℕ) (w rest : List ℕ) → n < 2 ^ 64 → starts_with_caret ((decimal n ++ w) ++ rest) ≡ false
-caret-number n w rest fits =
-    let f = decimal-front n fits in
-    rw (f.2, digit-is_not f.0 94 f.3 refl) refl

@@ -1,8 +1,6 @@
 -- Lemmas on increments.
-use Rattle.std.proofs.Common.{◌≡◌, ◌<◌, ◌+◌, ◌^◌, ◌∷◌, [], List, ℕ, Ok, Err, Option, Some, None, Bool, true, false, refl, ap, ◌∙◌, sym, subst, arith, rules, inl, inr, length, lt-ltb, ltb-true}
-use Rattle.std.specs.Prelude.{◌==◌, ◌&&◌, Result, IsTrue, if◌then◌else◌, nat_lt}
-use Rattle.std.specs.Char.{is_ascii_digit}
-use Rattle.std.specs.List.{list_all}
+use Rattle.std.proofs.Common.{◌≡◌, ◌<◌, ◌+◌, ◌^◌, List, ℕ, Ok, Err, Option, Some, None, true, false, refl, subst, arith, rules, inl, inr, length, lt-ltb, ltb-true}
+use Rattle.std.specs.Prelude.{Result, nat_lt}
 use Rattle.std.specs.Str.Parse.{ParsesUnsigned, digits_value}
 use Rattle.std.proofs.lemmas.Bool.{cases_Bool}
 use Rattle.std.proofs.lemmas.Str.Parse.{IsNumeralModel, numerals_by_value, parse_digits}
@@ -13,9 +11,9 @@ use Rattle.semver.specs.Parse.{Parts, only_identifier}
 use Rattle.semver.specs.declared.error.Error as semver_error
 use Rattle.semver.specs.declared.error.Position.TheVariants as place
 use Rattle.semver.proofs.Grammar.{is_build-only}
-use Rattle.std.specs.Ordering.{nat_cmp, ordering_then}
+use Rattle.std.specs.Ordering.{nat_cmp}
 use Rattle.std.specs.declared.cmp.Ordering.TheVariants.{Equal, Greater}
-use Rattle.edit_record.specs.Increments.{AtEnd, Refused, To, if_fits, next_major, next_minor, next_patch, number_of}
+use Rattle.edit_record.specs.Increments.{AtEnd, Refused, if_fits, next_major, next_minor, next_patch, number_of}
 use Rattle.edit_record.specs.VersionOrder.{full_order}
 
 pub fits-not : (n : ℕ) (v : Parts) → (n < 2 ^ 64 → ⊥) → if_fits n v ≡ Refused AtEnd

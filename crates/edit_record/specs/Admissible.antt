@@ -1,8 +1,7 @@
 -- Which of the versions that an index tells of may be chosen (Cargo reference, "The Manifest Format", rust-version, and "cargo yank").
-use Rattle.std.specs.Prelude.{ℕ, Bool, false, if◌then◌else◌, Option, Some, None, Result, Ok, Err, option_and_then, option_map, is_some, unwrap_or, [], map, List}
+use Rattle.std.specs.Prelude.{ℕ, Bool, false, if◌then◌else◌, Option, Some, None, Result, Ok, Err, option_and_then, option_map, is_some, unwrap_or, [], List}
 use Rattle.std.specs.List.{filter_map}
 use Rattle.std.specs.declared.cmp.Ordering.{Ordering}
-use Rattle.semver.specs.Identifiers.{parts_of}
 use Rattle.semver.specs.Parse.{Held, Parts, version_parts}
 use Rattle.semver.specs.declared.error.Error.{Error}
 use Rattle.edit_record.specs.Admits.{admits}

@@ -1,6 +1,5 @@
 -- What a call that changes a version answers.
 use Rattle.std.specs.Prelude.{◌≡◌, false, List, ℕ, Result, Ok, Err, string_bytes}
-use Rattle.std.specs.Borrow.{Bor}
 use Rattle.semver.specs.Grammar.{is_build}
 use Rattle.semver.specs.Identifiers.{parts_of, parts_text}
 use Rattle.semver.specs.Parse.{Parts}

@@ -1,6 +1,6 @@
 -- Versions of Rust, as a manifest or an index names them (Cargo reference, "The Manifest Format", rust-version).
-use Rattle.std.specs.Prelude.{◌≡◌, ℕ, List, [], ◌∷◌, Bool, false, nat_lt, ◌==◌, ◌&&◌, ◌||◌, Option, Some, None, Result, Ok, Err, unwrap_or}
-use Rattle.semver.specs.Parse.{Held, Parts, req_of}
+use Rattle.std.specs.Prelude.{ℕ, List, [], ◌∷◌, Bool, nat_lt, ◌==◌, ◌&&◌, ◌||◌, Option, Some, None, Result, Ok, Err, unwrap_or}
+use Rattle.semver.specs.Parse.{Held, req_of}
 use Rattle.semver.specs.declared.error.Error.{Error}
 use Rattle.semver.specs.declared.Op.TheVariants as op
 use Rattle.edit_record.specs.declared.fetch.RustVersion.{RustVersion}

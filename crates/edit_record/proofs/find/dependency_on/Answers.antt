@@ -1,6 +1,6 @@
 use Rattle.std.proofs.Common.{List, ℕ, ◌∙◌, ap, sym, subst, refl}
 use Rattle.std.specs.Prelude.{string_bytes}
-use Rattle.edit_record.specs.Records.{IsBare, IsRegistryDependency}
+use Rattle.edit_record.specs.Records.{IsRegistryDependency}
 use Rattle.edit_record.specs.Requirement.{cut}
 use Rattle.edit_record.specs.declared.dependency.Dependency.{Dependency}
 use Rattle.edit_record.proofs.find.dependency_on.Goals as goal

@@ -1,4 +1,4 @@
-use Rattle.std.proofs.Common.{◌∙◌, None, Option, ap, map, subst}
+use Rattle.std.proofs.Common.{Option, ap, map, subst}
 use Rattle.std.specs.Prelude.{option_copied, option_map}
 use Rattle.edit_record.specs.Admissible.{entry_order, is_kept, is_wanted}
 use Rattle.edit_record.specs.Greatest.{IsGreatest}

@@ -1,5 +1,4 @@
-use Rattle.std.proofs.Common.{◌≡◌, ◌∙◌, rules, sym, subst, List, ℕ, true, Err, inl, inr}
-use Rattle.semver.specs.Grammar.{is_build}
+use Rattle.std.proofs.Common.{◌≡◌, rules, sym, Err}
 use Rattle.semver.specs.Identifiers.{build_text}
 use Rattle.semver.specs.Parse.{only_identifier}
 use Rattle.semver.specs.declared.error.Position.TheVariants as place

@@ -1,5 +1,5 @@
 use Rattle.std.proofs.Common.{◌∙◌, sym}
-use Rattle.edit_record.proofs.Steps.{number-err, number-not, number-ok}
+use Rattle.edit_record.proofs.Steps.{number-err, number-ok}
 use Rattle.edit_record.proofs.version.read_number.Goals as goal
 
 pub returns-in-Ok : goal.returns-in-Ok
