@@ -4,6 +4,6 @@ use std::alloc::Global;
 use std::test::Fail;
 
 /// A refusal's number and text, with a space between them.
-pub fn told(alloc: Global, error: Error) -> Result<String, Fail> {
+pub(crate) fn told(alloc: Global, error: Error) -> Result<String, Fail> {
     Ok(format!(in alloc; "{} {error}", error.number())?)
 }

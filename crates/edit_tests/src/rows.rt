@@ -5,25 +5,25 @@ use std::test::Fail;
 
 /// The ends of the rows of a table, and of the fields of a row.
 #[derive(Clone, Copy)]
-pub struct Ends {
-    pub row: char,
-    pub field: char,
+pub(crate) struct Ends {
+    pub(crate) row: char,
+    pub(crate) field: char,
 }
 
 /// A row a line, and its fields between bars.
-pub const LINES: Ends = Ends {
+pub(crate) const LINES: Ends = Ends {
     row: '\n',
     field: '|',
 };
 
 /// A row ends at a tilde, since its text has lines, and its fields are between bars.
-pub const TILDES: Ends = Ends {
+pub(crate) const TILDES: Ends = Ends {
     row: '~',
     field: '|',
 };
 
 /// A row ends at a semicolon, and is both what is wanted and the argument.
-pub const SEMICOLONS: Ends = Ends {
+pub(crate) const SEMICOLONS: Ends = Ends {
     row: ';',
     field: '@',
 };
@@ -37,7 +37,7 @@ fn cut(text: &str, end: char) -> (&str, &str) {
 }
 
 /// Asserts each row of a table: what is wanted, the call, and the argument, which is the rest of the row.
-pub fn rows_hold<F: Fn(Global, &str, &str) -> Result<String, Fail> + Drop>(
+pub(crate) fn rows_hold<F: Fn(Global, &str, &str) -> Result<String, Fail> + Drop>(
     rt: &impl Abort,
     alloc: Global,
     table: &str,

@@ -71,7 +71,7 @@ fn asked(alloc: Global, document: Document, call: &str, text: &str) -> Result<St
 }
 
 /// What is answered about a text: `read` and a remark, `set` with a place and a string, or a question and a place.
-pub fn answer(alloc: Global, call: &str, argument: &str) -> Result<String, Fail> {
+pub(crate) fn answer(alloc: Global, call: &str, argument: &str) -> Result<String, Fail> {
     let text = text_named(argument);
     match Document::read(alloc, text) {
         Ok(document) => asked(alloc, document, call, text),
@@ -92,7 +92,7 @@ fn repeated(alloc: Global, parts: &str, count: usize) -> Result<String, AllocErr
 }
 
 /// Whether a text is read in which each second part between carets stands as often as the call says.
-pub fn deep(alloc: Global, call: &str, argument: &str) -> Result<String, Fail> {
+pub(crate) fn deep(alloc: Global, call: &str, argument: &str) -> Result<String, Fail> {
     let text = repeated(alloc, argument, call.parse().unwrap_or(0))?;
     answer(alloc, "read", text.as_str())
 }

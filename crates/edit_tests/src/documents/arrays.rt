@@ -4,7 +4,7 @@ use crate::rows::{LINES, TILDES, rows_hold};
 use std::test::Fail;
 
 /// The arrays of the standard's section, but for the one with strings over several lines.
-pub const ARRAYS: &str = "integers = [ 1, 2, 3 ]
+pub(crate) const ARRAYS: &str = "integers = [ 1, 2, 3 ]
 colors = [ \"red\", \"yellow\", \"green\" ]
 nested_arrays_of_ints = [ [ 1, 2 ], [3, 4, 5] ]
 nested_mixed_array = [ [ 1, 2 ], [\"a\", \"b\", \"c\"] ]

@@ -170,7 +170,7 @@ fn refuses_keys_and_headers(rt: HostRuntime) -> Result<(), Fail> {
 }
 
 /// A document, of which rows name the places.
-pub const FRUITS: &str = "\
+pub(crate) const FRUITS: &str = "\
 physical.color = \"orange\"
 animal = { type.name = \"pug\", type.age = \"two\" }
 

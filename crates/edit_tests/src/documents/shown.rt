@@ -4,7 +4,7 @@ use std::alloc::{AllocError, Global};
 use std::test::Fail;
 
 /// The steps of a place: keys, and indexes behind a number sign, with slashes between them; none of the empty text.
-pub fn place_of(alloc: Global, place: &str) -> Result<Vec<Step>, AllocError> {
+pub(crate) fn place_of(alloc: Global, place: &str) -> Result<Vec<Step>, AllocError> {
     let mut steps = Vec::new(alloc);
     if place.is_empty() {
         return Ok(steps);
@@ -76,7 +76,7 @@ fn type_at(alloc: Global, document: &Document, place: &str) -> Result<String, Al
 }
 
 /// What a document answers to a question about a place; `-` where nothing stands.
-pub fn shown(
+pub(crate) fn shown(
     alloc: Global,
     document: &Document,
     question: &str,

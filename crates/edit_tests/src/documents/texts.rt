@@ -5,7 +5,8 @@ use std::alloc::{AllocError, Global};
 use std::test::Fail;
 
 /// A manifest with one dependency as an inline table.
-pub const MANIFEST: &str = "[dependencies]\nserde = { version = '1.0', optional = true } # keep\n";
+pub(crate) const MANIFEST: &str =
+    "[dependencies]\nserde = { version = '1.0', optional = true } # keep\n";
 
 /// Whether a text is read, what it is, and the text; a row ends at `~` (the examples of TOML 1.0.0, "Comment", "Key/Value
 /// Pair", "String", "Boolean", and texts near them).

@@ -55,7 +55,11 @@ fn push_lines(lines: &mut String, name: &str, versions: &str) -> Result<(), Fail
 }
 
 /// An index that has these versions of each of these names.
-pub fn index_of(alloc: Global, names: &str, versions: &str) -> Result<IndexCache<FileIndex>, Fail> {
+pub(crate) fn index_of(
+    alloc: Global,
+    names: &str,
+    versions: &str,
+) -> Result<IndexCache<FileIndex>, Fail> {
     let mut lines = String::new(alloc);
     for name in names.split(' ') {
         push_lines(&mut lines, name, versions)?;
@@ -145,7 +149,7 @@ fn telling(alloc: Global, plan: &UpgradePlan) -> Result<String, Fail> {
 }
 
 /// What is told of the plan for a manifest, if the plan for what it writes changes nothing.
-pub fn outcome(
+pub(crate) fn outcome(
     alloc: Global,
     flags: &str,
     bytes: &[u8],

@@ -6,17 +6,17 @@ use std::alloc::{AllocError, Global};
 use std::test::Fail;
 
 /// A version that a row names.
-pub fn version(alloc: Global, text: &str) -> Result<Version, Fail> {
+pub(crate) fn version(alloc: Global, text: &str) -> Result<Version, Fail> {
     Ok(Version::parse(alloc, text)?)
 }
 
 /// A requirement that a row names.
-pub fn requirement(alloc: Global, text: &str) -> Result<VersionReq, Fail> {
+pub(crate) fn requirement(alloc: Global, text: &str) -> Result<VersionReq, Fail> {
     Ok(VersionReq::parse(alloc, text)?)
 }
 
 /// An entry of the crate `x`, with a Rust version or, of the empty text, none.
-pub fn entry(
+pub(crate) fn entry(
     alloc: Global,
     version: &str,
     yanked: bool,
@@ -36,7 +36,7 @@ pub fn entry(
 }
 
 /// The name of a dependency, its version and its new name; `-` for none.
-pub fn shown(alloc: Global, dependency: &Dependency) -> Result<String, AllocError> {
+pub(crate) fn shown(alloc: Global, dependency: &Dependency) -> Result<String, AllocError> {
     let name = dependency.name.as_str();
     let version = dependency.version().unwrap_or("-");
     let rename = dependency.rename.as_ref().map_or("-", |text| text.as_str());
@@ -44,7 +44,7 @@ pub fn shown(alloc: Global, dependency: &Dependency) -> Result<String, AllocErro
 }
 
 /// The text that a requirement is raised to, `-` for none, or the refusal.
-pub fn upgraded(alloc: Global, req: &str, version_text: &str) -> Result<String, Fail> {
+pub(crate) fn upgraded(alloc: Global, req: &str, version_text: &str) -> Result<String, Fail> {
     let version = version(alloc, version_text)?;
     match upgrade_requirement(alloc, req, &version) {
         Ok(Some(text)) => Ok(text),

@@ -55,7 +55,7 @@ fn bad_bytes(rt: HostRuntime) -> Result<(), Fail> {
 }
 
 /// The entries of an answer, a yanked one with `!`.
-pub fn entries(alloc: Global, krate: &IndexKrate) -> Result<String, Fail> {
+pub(crate) fn entries(alloc: Global, krate: &IndexKrate) -> Result<String, Fail> {
     let mut seen = String::new(alloc);
     for entry in &krate.versions {
         let mark = if entry.yanked { '!' } else { '.' };
@@ -85,7 +85,7 @@ fn looks<R: Abort, I: Index>(rt: &R, alloc: Global, index: &mut I, rows: &str) -
 }
 
 /// The lines of two crates.
-pub const TWO: &[u8] =
+pub(crate) const TWO: &[u8] =
     b"{\"name\":\"a\",\"vers\":\"1.0.0\"}\r\n \t\n{\"name\":\"b\",\"vers\":\"2.0.0\"}\n{\"name\":\"a\",\"vers\":\"1.1.0\",\"yanked\":true,\"rust_version\":null}\n";
 
 // A name, an address, the name that is looked for, and what is wanted.
@@ -126,14 +126,19 @@ no UTF-8|file:///%FF|a/b|28 invalid file path file:///%FF
 U+0000|file:///%00|a/b|28 invalid file path file:///%00";
 
 /// Puts a field's lines at a path.
-pub fn put(alloc: Global, store: &mut MemoryStore, path: &str, lines: &str) -> Result<(), Fail> {
+pub(crate) fn put(
+    alloc: Global,
+    store: &mut MemoryStore,
+    path: &str,
+    lines: &str,
+) -> Result<(), Fail> {
     let lines = unfolded(alloc, lines)?;
     store.write(alloc, path, lines.as_bytes())?;
     Ok(())
 }
 
 /// The files of a table, in memory.
-pub fn files_of(alloc: Global, rows: &str) -> Result<MemoryStore, Fail> {
+pub(crate) fn files_of(alloc: Global, rows: &str) -> Result<MemoryStore, Fail> {
     let mut store = MemoryStore::new(alloc);
     for row in rows.lines() {
         put(alloc, &mut store, field(row, 0), field(row, 1))?;

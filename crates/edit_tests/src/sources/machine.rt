@@ -47,7 +47,7 @@ the new text in place|read|/d/e||three
 a file beside stays|read|/d/e.new-3||taken";
 
 /// A new folder of the test's own.
-pub fn folder(rt: &HostRuntime, name: &str) -> Result<String, Fail> {
+pub(crate) fn folder(rt: &HostRuntime, name: &str) -> Result<String, Fail> {
     let id = process::id(rt.process());
     let folder = format!(in rt.alloc(); "/tmp/edit-tests-{id}-{name}")?;
     fs::create_dir_all(rt, folder.as_str())?;

@@ -34,7 +34,12 @@ fn write<S: Store>(alloc: Global, store: &mut S, path: &str, new: &str) -> Resul
 }
 
 /// What a step gives. Its row has a name, a call, a path and the text that is written.
-pub fn step<S: Store>(alloc: Global, store: &mut S, path: &str, row: &str) -> Result<String, Fail> {
+pub(crate) fn step<S: Store>(
+    alloc: Global,
+    store: &mut S,
+    path: &str,
+    row: &str,
+) -> Result<String, Fail> {
     match field(row, 1) {
         "kind" => kind(alloc, store, path),
         "read" => read(alloc, store, path),
@@ -45,7 +50,7 @@ pub fn step<S: Store>(alloc: Global, store: &mut S, path: &str, row: &str) -> Re
 }
 
 /// Takes the steps of a table in turn. Behind what its step needs, a row has what is wanted.
-pub fn steps<R: Abort, S: Store>(
+pub(crate) fn steps<R: Abort, S: Store>(
     rt: &R,
     alloc: Global,
     store: &mut S,

@@ -7,7 +7,7 @@ use std::path::PathBuf;
 
 /// The files of a runtime, none of which is moved.
 #[derive(Drop)]
-pub struct Unmoved<R>(pub R);
+pub(crate) struct Unmoved<R>(pub R);
 
 /// The answer to a call that is not made here.
 fn unsupported() -> io::Error {
