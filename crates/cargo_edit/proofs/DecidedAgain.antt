@@ -7,11 +7,11 @@ use Rattle.std.proofs.lemmas.Bool.{cases_Bool}
 use Rattle.semver.specs.Grammar.{IsValid}
 use Rattle.semver.specs.Parse.{Held, Parts, req_of}
 use Rattle.semver.specs.declared.Op.{Op}
-use Rattle.edit_record.specs.Laws.{HasSameOperators}
-use Rattle.edit_record.specs.Requirement.{Nothing, Raised, Text, Unread, Unsupported, raise}
-use Rattle.edit_record.specs.Selection.{IsCompatible, IsLatest, is_admitted, is_offered}
-use Rattle.edit_record.proofs.Orders.{greatest-has, greatest-same}
-use Rattle.edit_record.proofs.Outcomes.{form-of, text-outcome, valid-version}
+use Rattle.edit_version.specs.Laws.{HasSameOperators}
+use Rattle.edit_version.specs.Requirement.{Nothing, Raised, Text, Unread, Unsupported, raise}
+use Rattle.edit_version.specs.Selection.{IsCompatible, IsLatest, is_admitted, is_offered}
+use Rattle.edit_version.proofs.Orders.{greatest-has, greatest-same}
+use Rattle.edit_version.proofs.Outcomes.{form-of, text-outcome, valid-version}
 use Rattle.cargo_edit.specs.Decision.{Case, decision, first_row, has_pin_read, is_pin, row_change, row_of, row_text, text_or, when}
 use Rattle.cargo_edit.specs.declared.upgrade.Options.{Options}
 use Rattle.cargo_edit.proofs.Narrowing.{latest-lands}

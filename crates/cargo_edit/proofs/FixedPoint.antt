@@ -9,15 +9,15 @@ use Rattle.semver.specs.Grammar.{IsValid}
 use Rattle.semver.specs.OrderLaws.{same_text}
 use Rattle.semver.specs.Parse.{Parts, req_of}
 use Rattle.edit_document.specs.Assertions.{Place}
-use Rattle.edit_record.specs.Greatest.{IsGreatest, advance}
-use Rattle.edit_record.specs.Laws.{holds_plus}
-use Rattle.edit_record.specs.Requirement.{Nothing, Raised, Text, Unread, Unsupported, cut, plain_text, raise}
-use Rattle.edit_record.specs.Selection.{IsCompatible, IsLatest, is_admitted, is_offered}
-use Rattle.edit_record.specs.VersionOrder.{full_order}
-use Rattle.edit_record.proofs.Greatests.{advanced}
-use Rattle.edit_record.proofs.NoPlus.{cut-none, plain-whole, raised-whole}
-use Rattle.edit_record.proofs.Orders.{full_total, greatest-has}
-use Rattle.edit_record.proofs.Outcomes.{valid-version}
+use Rattle.edit_version.specs.Greatest.{IsGreatest, advance}
+use Rattle.edit_version.specs.Laws.{holds_plus}
+use Rattle.edit_version.specs.Requirement.{Nothing, Raised, Text, Unread, Unsupported, cut, plain_text, raise}
+use Rattle.edit_version.specs.Selection.{IsCompatible, IsLatest, is_admitted, is_offered}
+use Rattle.edit_version.specs.VersionOrder.{full_order}
+use Rattle.edit_version.proofs.Greatests.{advanced}
+use Rattle.edit_version.proofs.NoPlus.{cut-none, plain-whole, raised-whole}
+use Rattle.edit_version.proofs.Orders.{full_total, greatest-has}
+use Rattle.edit_version.proofs.Outcomes.{valid-version}
 use Rattle.cargo_edit.specs.Decision.{Outcome, compatible_text, decision, first_row, given, kept, latest_text, left_out, may_jump, row_change, row_of, row_text, text_or, to_compatible, to_latest, unless_old, unread, when}
 use Rattle.cargo_edit.specs.Headline.{HasNoChange}
 use Rattle.cargo_edit.specs.Records.{Seen}

@@ -10,14 +10,14 @@ use Rattle.std.proofs.lemmas.List.Elements.{All-cons, All-nil}
 use Rattle.semver.specs.Grammar.{IsValid}
 use Rattle.semver.specs.Parse.{Parts, req_of}
 use Rattle.edit_document.specs.Tree.{view_at}
-use Rattle.edit_record.specs.Laws.{Admits, precedence}
-use Rattle.edit_record.specs.Requirement.{plain_text}
-use Rattle.edit_record.specs.RustVersions.{Numbers}
-use Rattle.edit_record.specs.Selection.{IsCompatible, IsLatest, is_admitted, is_offered}
-use Rattle.edit_record.specs.VersionOrder.{full_order}
-use Rattle.edit_record.proofs.Builds.{admits-without_build, plain_text-read, without_build}
+use Rattle.edit_version.specs.Laws.{Admits, precedence}
+use Rattle.edit_version.specs.Requirement.{plain_text}
+use Rattle.edit_version.specs.RustVersions.{Numbers}
+use Rattle.edit_version.specs.Selection.{IsCompatible, IsLatest, is_admitted, is_offered}
+use Rattle.edit_version.specs.VersionOrder.{full_order}
+use Rattle.edit_version.proofs.Builds.{admits-without_build, plain_text-read, without_build}
 use Rattle.edit_record.proofs.Entries.{all-valid}
-use Rattle.edit_record.proofs.Orders.{greatest-has, precedence_total}
+use Rattle.edit_version.proofs.Orders.{greatest-has, precedence_total}
 use Rattle.edit_sources.specs.Index.{answer_of}
 use Rattle.cargo_edit.specs.Decision.{decision, newer, or_else}
 use Rattle.cargo_edit.specs.Headline.{IsVersionTold, LatestIsNotLess, Narrows, Reaches}

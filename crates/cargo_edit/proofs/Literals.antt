@@ -4,12 +4,12 @@ use Rattle.std.specs.Prelude.{not, option_map, if◌then◌else◌}
 use Rattle.std.specs.List.{AllByRecursion, cons_option, filter, filter_map, list_all}
 use Rattle.std.proofs.lemmas.Bool.{cases_Bool}
 use Rattle.edit_document.specs.Assertions.{Assertion, assertions, Kind, Place, Step, array_kind, dotted, element_kind, header_kind, index, key, leaf, same_bytes, same_place, same_step, super}
-use Rattle.edit_document.specs.Grammar.{Value, array, basic, boolean, datetime, float, inline, integer, literal, multi_basic, multi_literal}
+use Rattle.edit_syntax.specs.Grammar.{Value, array, basic, boolean, datetime, float, inline, integer, literal, multi_basic, multi_literal}
 use Rattle.edit_document.specs.Items.{key_names, names_in}
 use Rattle.edit_document.specs.Replaces.{AreDistinct, AreStrings, is_string}
 use Rattle.edit_document.specs.Shown.{Shown, ShowsTree, tree_of}
 use Rattle.edit_document.specs.Tree.{View, fractional, inline_table, kind_at, members_of, moment, once, static_array, string, table, table_array, truth, view_at, view_of_kind, whole}
-use Rattle.edit_document.specs.Grammar as grammar
+use Rattle.edit_syntax.specs.Grammar as grammar
 use Rattle.cargo_edit.specs.declared.upgrade.Change.{Change}
 use Rattle.cargo_edit.specs.Entries.{Tree, dependencies, entry_names, entry_place, member_names}
 use Rattle.cargo_edit.specs.Records.{Seen, is_known, seen, seen_at, seen_view, seen_with, version_place}

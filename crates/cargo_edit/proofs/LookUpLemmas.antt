@@ -5,8 +5,8 @@ use Rattle.std.specs.Option.{option_or}
 use Rattle.std.specs.Str.{bytes_eq}
 use Rattle.std.proofs.lemmas.Bool.{cases_Bool, cases_lt}
 use Rattle.std.proofs.lemmas.List.Elements.{All-contains, All-contains_itself, All-head, All-weaker, Contains-append_right}
-use Rattle.edit_document.specs.Errors.{IsMemory, number_of}
-use Rattle.edit_document.specs.declared.errors.Error.{Error}
+use Rattle.edit_base.specs.Errors.{IsMemory, number_of}
+use Rattle.edit_base.specs.declared.errors.Error.{Error}
 use Rattle.edit_sources.specs.Index.{Outcomes, SameOutcomes, answer_of}
 use Rattle.edit_sources.specs.Store.{raised}
 use Rattle.url.specs.Parts as url

@@ -5,15 +5,15 @@ use Rattle.std.specs.Cmp.Lexicographic.{nat_list_eq_equiv, pointwise}
 use Rattle.std.specs.Ordering.{is_le}
 use Rattle.semver.specs.Grammar.{IsValid}
 use Rattle.semver.specs.Parse.{Parts, req_of}
-use Rattle.edit_record.specs.Laws.{Admits, IsNarrower}
-use Rattle.edit_record.specs.Requirement.{Nothing, Raised, Text, Unread, Unsupported, plain_text, raise}
-use Rattle.edit_record.specs.Selection.{IsCompatible, IsLatest, is_admitted, is_offered}
-use Rattle.edit_record.specs.VersionOrder.{full_order}
-use Rattle.edit_record.proofs.Greatests.{wider, wider-found}
-use Rattle.edit_record.proofs.Lands.{Lands, outcome-lands, plain-lands}
-use Rattle.edit_record.proofs.Offers.{admitted-offered}
-use Rattle.edit_record.proofs.Orders.{full_total, greatest-has}
-use Rattle.edit_record.proofs.Outcomes.{admitted, narrower-of, text-outcome, valid-version}
+use Rattle.edit_version.specs.Laws.{Admits, IsNarrower}
+use Rattle.edit_version.specs.Requirement.{Nothing, Raised, Text, Unread, Unsupported, plain_text, raise}
+use Rattle.edit_version.specs.Selection.{IsCompatible, IsLatest, is_admitted, is_offered}
+use Rattle.edit_version.specs.VersionOrder.{full_order}
+use Rattle.edit_version.proofs.Greatests.{wider, wider-found}
+use Rattle.edit_version.proofs.Lands.{Lands, outcome-lands, plain-lands}
+use Rattle.edit_version.proofs.Offers.{admitted-offered}
+use Rattle.edit_version.proofs.Orders.{full_total, greatest-has}
+use Rattle.edit_version.proofs.Outcomes.{admitted, narrower-of, text-outcome, valid-version}
 use Rattle.cargo_edit.specs.Decision.{Case, compatible_text, decision, is_set_aside, latest_text, may_jump, newer, text_or, unless, when}
 use Rattle.cargo_edit.specs.declared.upgrade.Change.TheVariants as change
 use Rattle.cargo_edit.specs.declared.upgrade.Options.{Options}

@@ -5,14 +5,14 @@ use Rattle.std.specs.List.{AllByRecursion}
 use Rattle.std.proofs.lemmas.List.Elements.{All-head, All-tail}
 use Rattle.semver.specs.Grammar.{IsValid}
 use Rattle.edit_document.specs.Assertions.{Place}
-use Rattle.edit_document.specs.Grammar.{Text}
+use Rattle.edit_syntax.specs.Grammar.{Text}
 use Rattle.edit_document.specs.Replaces.{Edits, replaced, written}
 use Rattle.edit_document.specs.Supported.{IsManifest}
 use Rattle.edit_document.specs.Tree.{view_at}
 use Rattle.edit_document.proofs.Shallow.{one_form}
 use Rattle.edit_document.proofs.ReplacedStrings.{strings_view}
-use Rattle.edit_record.specs.Requirement.{cut}
-use Rattle.edit_record.specs.RustVersions.{Numbers}
+use Rattle.edit_version.specs.Requirement.{cut}
+use Rattle.edit_version.specs.RustVersions.{Numbers}
 use Rattle.cargo_edit.specs.Entries.{Tree, entry_names}
 use Rattle.cargo_edit.specs.Headline.{HasNoChange, IsFixedPoint, NeedSame, bytes_after}
 use Rattle.cargo_edit.specs.Looks.{told_setting}

@@ -4,13 +4,13 @@ use Rattle.std.specs.Prelude.{All, Contains, IsSome, IsUtf8, option_map, string_
 use Rattle.std.proofs.lemmas.List.{get_or-map, length-map}
 use Rattle.std.proofs.lemmas.Slice.Zip.{AllZip-long}
 use Rattle.std.proofs.lemmas.List.Elements.{All-head, All-tail, All-weaker, Contains-get_or}
-use Rattle.edit_document.specs.Errors.{IsMemory}
-use Rattle.edit_document.specs.Grammar.{Text}
+use Rattle.edit_base.specs.Errors.{IsMemory}
+use Rattle.edit_syntax.specs.Grammar.{Text}
 use Rattle.edit_document.specs.Shown.{Shown, ShowsTree, tree_of}
 use Rattle.edit_document.specs.Supported.{IsManifest}
 use Rattle.edit_document.specs.Tree.{view_at}
-use Rattle.edit_document.specs.declared.errors.Error.{Error}
-use Rattle.edit_record.specs.RustVersions.{Numbers}
+use Rattle.edit_base.specs.declared.errors.Error.{Error}
+use Rattle.edit_version.specs.RustVersions.{Numbers}
 use Rattle.edit_sources.specs.Index.{Outcomes, answer_of}
 use Rattle.semver.specs.Parse.{Parts}
 use Rattle.url.specs.Parts as url

@@ -7,16 +7,16 @@ use Rattle.semver.specs.Grammar.{IsValid}
 use Rattle.semver.specs.OrderLaws.{same_text}
 use Rattle.semver.specs.Parse.{Held, Parts, req_of}
 use Rattle.semver.specs.declared.error.Error as semver_error
-use Rattle.edit_record.specs.Greatest.{IsGreatestKept}
-use Rattle.edit_record.specs.Requirement.{Nothing, Raised, Text, Unread, Unsupported, plain_text, raise, raise_all, raise_read, unless_same}
-use Rattle.edit_record.specs.Selection.{IsCompatible, IsLatest, is_admitted, is_offered}
-use Rattle.edit_record.specs.VersionOrder.{full_order}
-use Rattle.edit_record.proofs.Builds.{plain-same, raise-same}
-use Rattle.edit_record.proofs.Greatests.{wider-found}
-use Rattle.edit_record.proofs.Lands.{Lands, latest-again, near-again, near-is, outcome-lands, plain_text-parts}
-use Rattle.edit_record.proofs.Offers.{admitted-offered, dash-offered, offered-dash, offered-plain, plain-offered, release-or}
-use Rattle.edit_record.proofs.Orders.{fewer, greatest-has, greatest-same}
-use Rattle.edit_record.proofs.Outcomes.{admitted, narrower-of, nothing-outcome, settled-of, text-outcome, valid-version}
+use Rattle.edit_version.specs.Greatest.{IsGreatestKept}
+use Rattle.edit_version.specs.Requirement.{Nothing, Raised, Text, Unread, Unsupported, plain_text, raise, raise_all, raise_read, unless_same}
+use Rattle.edit_version.specs.Selection.{IsCompatible, IsLatest, is_admitted, is_offered}
+use Rattle.edit_version.specs.VersionOrder.{full_order}
+use Rattle.edit_version.proofs.Builds.{plain-same, raise-same}
+use Rattle.edit_version.proofs.Greatests.{wider-found}
+use Rattle.edit_version.proofs.Lands.{Lands, latest-again, near-again, near-is, outcome-lands, plain_text-parts}
+use Rattle.edit_version.proofs.Offers.{admitted-offered, dash-offered, offered-dash, offered-plain, plain-offered, release-or}
+use Rattle.edit_version.proofs.Orders.{fewer, greatest-has, greatest-same}
+use Rattle.edit_version.proofs.Outcomes.{admitted, narrower-of, nothing-outcome, settled-of, text-outcome, valid-version}
 use Rattle.cargo_edit.specs.Decision.{newer, text_or}
 use Rattle.cargo_edit.proofs.Taken.{far_text, near_text}
 

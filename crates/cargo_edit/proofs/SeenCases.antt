@@ -5,7 +5,7 @@ use Rattle.std.specs.List.{list_all}
 use Rattle.edit_document.specs.Assertions.{Place}
 use Rattle.edit_document.specs.Items.{is_tabular, names_in}
 use Rattle.edit_document.specs.Tree.{View, fractional, inline_table, moment, static_array, string, table, table_array, truth, whole}
-use Rattle.edit_record.specs.Requirement.{cut}
+use Rattle.edit_version.specs.Requirement.{cut}
 use Rattle.cargo_edit.specs.Entries.{Tree, entry_place}
 use Rattle.cargo_edit.specs.Records.{Seen, is_known, seen_at, seen_view, seen_with, version_place}
 use Rattle.cargo_edit.proofs.SeenLemmas.{is_plain}

@@ -4,7 +4,7 @@ use Rattle.std.specs.Prelude.{nat_eq, option_and_then}
 use Rattle.std.specs.Cmp.Lexicographic.{pointwise}
 use Rattle.std.proofs.lemmas.Bool.{cases_Bool}
 use Rattle.semver.specs.Parse.{Parts}
-use Rattle.edit_record.specs.Requirement.{plain_text, raise}
+use Rattle.edit_version.specs.Requirement.{plain_text, raise}
 use Rattle.cargo_edit.specs.Decision.{first_row, newer, row_change, row_text, text_or, unless_old, when}
 use Rattle.cargo_edit.specs.declared.upgrade.Change.{Change}
 use Rattle.cargo_edit.specs.declared.upgrade.Change.TheVariants as change

@@ -8,7 +8,7 @@ use Rattle.edit_document.specs.Items.{names_in}
 use Rattle.edit_document.specs.Replaces.{Edits, written}
 use Rattle.edit_document.specs.Tree.{View, fractional, inline_table, moment, static_array, string, table, table_array, truth, whole}
 use Rattle.edit_document.proofs.SamePlace.{not_below, other_place, same_bytes_is, same_place_is, same_place_self}
-use Rattle.edit_record.specs.Requirement.{cut}
+use Rattle.edit_version.specs.Requirement.{cut}
 use Rattle.cargo_edit.specs.Entries.{Tree, dependencies, entry_names, entry_place, member_names}
 use Rattle.cargo_edit.specs.Records.{Seen, is_known, seen, seen_at, seen_view, seen_with, version_place}
 use Rattle.cargo_edit.specs.Rows.{Line, with_write, write_at, writes}

@@ -1,10 +1,10 @@
 -- Why a plan is refused.
 use Rattle.std.specs.Prelude.{◌≡◌, ℕ, List, map, ◌⊎◌, IsUtf8}
-use Rattle.edit_document.specs.Errors.{IsMemory, number_of}
-use Rattle.edit_document.specs.Grammar.{Text}
+use Rattle.edit_base.specs.Errors.{IsMemory, number_of}
+use Rattle.edit_syntax.specs.Grammar.{Text}
 use Rattle.edit_document.specs.Supported.{IsManifest}
 use Rattle.edit_document.specs.Tree.{view_at}
-use Rattle.edit_document.specs.declared.errors.Error.{Error}
+use Rattle.edit_base.specs.declared.errors.Error.{Error}
 use Rattle.edit_sources.specs.Index.{Outcomes}
 use Rattle.url.specs.Parts as url
 use Rattle.url.specs.Parts.{serialize}

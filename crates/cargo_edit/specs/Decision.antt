@@ -7,8 +7,8 @@ use Rattle.semver.specs.Parse.{Held, Parts, req_of}
 use Rattle.semver.specs.declared.error.Error.{Error}
 use Rattle.semver.specs.declared.Op.{Op}
 use Rattle.semver.specs.declared.Op.TheVariants as op
-use Rattle.edit_record.specs.Requirement.{Raised, Unread, Nothing, Unsupported, Text, raise}
-use Rattle.edit_record.specs.Requirement.{plain_text}
+use Rattle.edit_version.specs.Requirement.{Raised, Unread, Nothing, Unsupported, Text, raise}
+use Rattle.edit_version.specs.Requirement.{plain_text}
 use Rattle.cargo_edit.specs.declared.upgrade.Change.{Change}
 use Rattle.cargo_edit.specs.declared.upgrade.Change.TheVariants as change
 use Rattle.cargo_edit.specs.declared.upgrade.Options.{Options}

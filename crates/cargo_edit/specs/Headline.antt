@@ -2,7 +2,7 @@
 use Rattle.std.specs.Prelude.{◌≡◌, ◌↔◌, ℕ, List, [], ◌∷◌, All, Option, Some, None, Ok, IsOk, IsSome, IsTrue, length}
 use Rattle.std.specs.Ordering.{is_ge}
 use Rattle.semver.specs.Parse.{Parts, req_of, version_parts}
-use Rattle.edit_record.specs.Laws.{Admits, precedence}
+use Rattle.edit_version.specs.Laws.{Admits, precedence}
 use Rattle.cargo_edit.specs.Outputs.{HasOutputs}
 use Rattle.cargo_edit.specs.Rows.{Line, Setting}
 use Rattle.cargo_edit.specs.Upgraded.{HasRows, IsNeeded}

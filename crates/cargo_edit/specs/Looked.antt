@@ -1,8 +1,8 @@
 -- How looks are made, one after another.
 use Rattle.std.specs.Prelude.{◌≡◌, ◌⊎◌, ℕ, List, [], ◌∷◌, ◌++◌, Bool, false, ◌&&◌, IsSome, Some, None, Ok, Err, All, is_some, string_bytes}
 use Rattle.std.specs.Str.{bytes_eq}
-use Rattle.edit_document.specs.Errors.{number_of}
-use Rattle.edit_document.specs.declared.errors.Error.{Error}
+use Rattle.edit_base.specs.Errors.{number_of}
+use Rattle.edit_base.specs.declared.errors.Error.{Error}
 use Rattle.edit_sources.specs.Index.{IsLookRefusal, Outcomes, SameOutcomes, answer_of}
 use Rattle.edit_sources.specs.Store.{raised}
 use Rattle.url.specs.Parts as url

@@ -3,7 +3,7 @@ use Rattle.std.specs.Prelude.{◌≡◌, ℕ, List, [], ◌∷◌, Bool, ◌&&�
 use Rattle.std.specs.Str.{bytes_eq}
 use Rattle.edit_record.specs.IndexEntry.{IndexEntry}
 use Rattle.edit_record.specs.Admissible.{admissible_in}
-use Rattle.edit_record.specs.RustVersions.{Numbers}
+use Rattle.edit_version.specs.RustVersions.{Numbers}
 use Rattle.edit_sources.specs.IndexCache.{kept_at}
 use Rattle.edit_sources.specs.Index.{Outcomes, answer_of}
 use Rattle.edit_sources.specs.declared.cache.IndexCache.{IndexCache}

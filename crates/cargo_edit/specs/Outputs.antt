@@ -1,7 +1,7 @@
 -- What a plan writes: the new bytes of the manifests whose rows have a change.
 use Rattle.std.specs.Prelude.{◌≡◌, ◌≢◌, ℕ, List, [], ◌∷◌, string_bytes}
 use Rattle.edit_document.specs.Assertions.{Place}
-use Rattle.edit_document.specs.Grammar.{Text}
+use Rattle.edit_syntax.specs.Grammar.{Text}
 use Rattle.edit_document.specs.Replaces.{Edits, Replaces, written}
 use Rattle.edit_document.specs.Shown.{Shown, tree_of}
 use Rattle.edit_document.specs.Supported.{IsManifest}

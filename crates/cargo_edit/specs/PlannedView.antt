@@ -1,6 +1,6 @@
 -- The rows of a manifest and what they rest on, as the program has them.
 use Rattle.std.specs.Prelude.{◌≡◌, ℕ, List, IsUtf8, length, map}
-use Rattle.edit_document.specs.Grammar.{Text}
+use Rattle.edit_syntax.specs.Grammar.{Text}
 use Rattle.edit_document.specs.Shown.{ShowsTree}
 use Rattle.edit_document.specs.Supported.{IsManifest}
 use Rattle.edit_document.specs.Tree.{view_at}

@@ -3,7 +3,7 @@ use Rattle.std.specs.Prelude.{◌≡◌, List, Option, Some, None, Result, Ok, E
 use Rattle.semver.specs.Parse.{Held}
 use Rattle.semver.specs.declared.VersionReq.{VersionReq}
 use Rattle.semver.specs.declared.error.Error.{Error}
-use Rattle.edit_record.specs.Requirement.{comparators_of}
+use Rattle.edit_version.specs.Requirement.{comparators_of}
 
 -- the requirement that was read, by its comparators; none where the text is not one (own)
 abbrev pub IsReading : Result (List Held) Error → Option VersionReq → Type 0

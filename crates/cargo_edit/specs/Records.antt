@@ -5,7 +5,7 @@ use Rattle.std.specs.List.{filter_map, list_all}
 use Rattle.edit_document.specs.Assertions.{key, Place, at, same_bytes}
 use Rattle.edit_document.specs.Tree.{View, string, inline_table, table}
 use Rattle.edit_document.specs.Items.{names_in}
-use Rattle.edit_record.specs.Requirement.{cut}
+use Rattle.edit_version.specs.Requirement.{cut}
 use Rattle.cargo_edit.specs.Entries.{Tree, entry_names, entry_place}
 
 -- an entry that a plan sees

@@ -3,8 +3,8 @@ use Rattle.std.specs.Prelude.{◌≡◌, ℕ, List, [], ◌∷◌, false, Option
 use Rattle.std.specs.List.{AllZip}
 use Rattle.edit_document.specs.Assertions.{Place}
 use Rattle.semver.specs.Parse.{Parts}
-use Rattle.edit_record.specs.Requirement.{plain_text}
-use Rattle.edit_record.specs.Selection.{IsCompatible, IsLatest}
+use Rattle.edit_version.specs.Requirement.{plain_text}
+use Rattle.edit_version.specs.Selection.{IsCompatible, IsLatest}
 use Rattle.cargo_edit.specs.Decision.{Case, Choice, decision, newer, or_else}
 use Rattle.cargo_edit.specs.Records.{Seen}
 use Rattle.cargo_edit.specs.declared.upgrade.Change.{Change}

@@ -1,6 +1,6 @@
 -- What a plan gives for a manifest: its rows, and the looks that they rest on.
 use Rattle.std.specs.Prelude.{◌≡◌, ℕ, List, map, Contains}
-use Rattle.edit_document.specs.Grammar.{Text}
+use Rattle.edit_syntax.specs.Grammar.{Text}
 use Rattle.edit_document.specs.Supported.{IsManifest}
 use Rattle.edit_document.specs.Tree.{view_at}
 use Rattle.cargo_edit.specs.Address.{default_address}

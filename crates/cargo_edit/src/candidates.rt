@@ -1,18 +1,19 @@
 //! The versions that an index tells of and that may be taken.
 ghost use Rattle.std.specs.Prelude.{◌≡◌, ◌++◌, [], IfErr, IfOk, OnOk, map, option_copied, option_map};
 ghost use Rattle.std.specs.List.{cons_option};
-ghost use Rattle.edit_document.specs.Errors.{IsMemory};
+ghost use Rattle.edit_base.specs.Errors.{IsMemory};
 ghost use Rattle.edit_record.specs.Admissible.{admissible, admissible_in, is_wanted};
-ghost use Rattle.edit_record.specs.Greatest.{IsGreatest, advance, pick};
+ghost use Rattle.edit_version.specs.Greatest.{IsGreatest, advance, pick};
 ghost use Rattle.edit_record.specs.IndexEntry.{entry_of};
-ghost use Rattle.edit_record.specs.Requirement.{comparators_of};
-ghost use Rattle.edit_record.specs.RustVersions.{numbers_of};
-ghost use Rattle.edit_record.specs.VersionOrder.{full_order};
+ghost use Rattle.edit_version.specs.Requirement.{comparators_of};
+ghost use Rattle.edit_version.specs.RustVersions.{numbers_of};
+ghost use Rattle.edit_version.specs.VersionOrder.{full_order};
 ghost use Rattle.std.specs.Ordering.{is_lt};
 ghost use Rattle.semver.specs.Identifiers.{parts_of};
 
-use edit_document::CargoResult;
-use edit_record::{IndexVersion, RustVersion, admits, read_candidate};
+use edit_base::CargoResult;
+use edit_version::{RustVersion, admits};
+use edit_record::{IndexVersion, read_candidate};
 use semver::{Version, VersionReq};
 use std::alloc::Global;
 

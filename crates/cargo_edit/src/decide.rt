@@ -1,17 +1,17 @@
 //! The decision for one entry.
-ghost use Rattle.edit_document.specs.Errors.{IsMemory};
+ghost use Rattle.edit_base.specs.Errors.{IsMemory};
 ghost use Rattle.cargo_edit.specs.declared.upgrade.Reason.TheVariants as reason;
 ghost use Rattle.std.specs.Prelude.{◌≡◌, if◌then◌else◌, Some, None, false, IfErr, IfOk, option_and_then, option_copied, option_map, string_bytes};
 ghost use Rattle.cargo_edit.specs.Decision.{decision, newer, or_else, same_text, text_or, unless_old};
 ghost use Rattle.cargo_edit.specs.Decided.{case_view, choice_view, decision_by, jumps_by, raised_choice};
-ghost use Rattle.edit_record.specs.Requirement.{plain_text};
-ghost use Rattle.edit_record.specs.Requirement.{raise};
+ghost use Rattle.edit_version.specs.Requirement.{plain_text};
+ghost use Rattle.edit_version.specs.Requirement.{raise};
 ghost use Rattle.semver.specs.Identifiers.{parts_of};
 
 use crate::requirement::{Pin, read_pin};
 use crate::upgrade::{Change, Options, Reason};
-use edit_document::{CargoResult, Error};
-use edit_record::upgrade_requirement;
+use edit_base::{CargoResult, Error};
+use edit_version::upgrade_requirement;
 use semver::Version;
 use std::alloc::{AllocError, Global};
 

@@ -4,14 +4,14 @@ ghost use Rattle.std.specs.BTreeSet.{contains_text};
 ghost use Rattle.std.specs.List.{list_any};
 ghost use Rattle.std.specs.List.Sorted.{IsStrictlySortedBy};
 ghost use Rattle.std.specs.Str.{bytes_eq};
-ghost use Rattle.edit_document.specs.Errors.{IsMemory};
+ghost use Rattle.edit_base.specs.Errors.{IsMemory};
 ghost use Rattle.cargo_edit.specs.Lines.{line_of};
 ghost use Rattle.cargo_edit.specs.Lists.{changed_names, is_held_incompatible, is_held_pinned, unreadable_text, warning_of, warning_view, warnings_of};
 
 use crate::names::{Names, add_name};
 use crate::requirement::read_pin;
 use crate::upgrade::{Reason, Row, Warning};
-use edit_document::CargoResult;
+use edit_base::CargoResult;
 use std::alloc::{AllocError, Global};
 use std::collections::BTreeSet;
 

@@ -1,7 +1,7 @@
 //! The looks of a plan.
 ghost use Rattle.std.specs.Prelude.{◌≡◌, ◌≤◌, ◌⊎◌, ◌&&◌, ℕ, List, Some, None, Ok, false, IfErr, IfOk, IfSome, IsSome, OnOk, map, option_copied, option_map, string_bytes};
 ghost use Rattle.std.specs.Str.{bytes_eq};
-ghost use Rattle.edit_document.specs.Errors.{IsMemory};
+ghost use Rattle.edit_base.specs.Errors.{IsMemory};
 ghost use Rattle.edit_sources.specs.Index.{SameOutcomes, answer_of};
 ghost use Rattle.edit_sources.specs.IndexCache.{index_of};
 ghost use Rattle.url.specs.Parser.{parse_url};
@@ -14,7 +14,7 @@ ghost use Rattle.cargo_edit.specs.Looks.{kept_by};
 use crate::names::{Names, add_name, has_name};
 use crate::seen::Entry;
 use crate::upgrade::Look;
-use edit_document::{CargoResult, Error};
+use edit_base::{CargoResult, Error};
 use edit_sources::cache::IndexCache;
 use edit_sources::index::{Index, IndexKrate};
 use std::alloc::Global;

@@ -1,7 +1,7 @@
 //! The plan of an upgrade.
 ghost use Rattle.std.specs.Prelude.{◌≡◌, [], All, IfErr, IfOk, IfSome, IsUtf8, MatchOption, length, map, option_map, slice_get, string_bytes};
-ghost use Rattle.edit_document.specs.Errors.{IsMemory};
-ghost use Rattle.edit_record.specs.RustVersions.{numbers_of};
+ghost use Rattle.edit_base.specs.Errors.{IsMemory};
+ghost use Rattle.edit_version.specs.RustVersions.{numbers_of};
 ghost use Rattle.edit_sources.specs.IndexCache.{index_of};
 ghost use Rattle.cargo_edit.specs.Address.{default_address};
 ghost use Rattle.cargo_edit.specs.Causes.{IsCause};
@@ -18,7 +18,7 @@ use crate::lists::{has_incompatible, has_pinned, modified_names, unreadable_warn
 use crate::planned::{Planned, plan_input};
 use crate::upgrade::{Input, Options, Output, UpgradePlan};
 use crate::writes::written;
-use edit_document::CargoResult;
+use edit_base::CargoResult;
 use edit_sources::{Config, Index, IndexCache};
 use std::alloc::Global;
 

@@ -1,9 +1,9 @@
 //! What is planned for one manifest.
 ghost use Rattle.std.specs.Prelude.{◌≡◌, IfErr, IfOk, IsUtf8, OnOk, map, option_map};
-ghost use Rattle.edit_document.specs.Grammar.{Text};
+ghost use Rattle.edit_syntax.specs.Grammar.{Text};
 ghost use Rattle.edit_document.specs.Shown.{ShowsTree};
 ghost use Rattle.edit_document.specs.Supported.{IsManifest};
-ghost use Rattle.edit_record.specs.RustVersions.{numbers_of};
+ghost use Rattle.edit_version.specs.RustVersions.{numbers_of};
 ghost use Rattle.edit_sources.specs.IndexCache.{index_of};
 ghost use Rattle.cargo_edit.specs.Address.{default_address};
 ghost use Rattle.cargo_edit.specs.Causes.{IsBadManifest, IsCause};
@@ -17,7 +17,8 @@ use crate::looks::{default_registry, look_up};
 use crate::rows::decided_rows;
 use crate::seen::{Entry, seen_entries};
 use crate::upgrade::{Input, Look, Options, Row};
-use edit_document::{CargoResult, Document, Error};
+use edit_base::{CargoResult, Error};
+use edit_document::Document;
 use edit_sources::cache::IndexCache;
 use edit_sources::index::Index;
 use std::alloc::Global;

@@ -1,12 +1,12 @@
 //! What the text of a requirement says.
 ghost use Rattle.std.specs.List.{list_any};
 ghost use Rattle.std.specs.Prelude.{◌≡◌, ◌||◌, IfErr, IfOk, is_ok};
-ghost use Rattle.edit_document.specs.Errors.{IsMemory};
+ghost use Rattle.edit_base.specs.Errors.{IsMemory};
 ghost use Rattle.semver.specs.Parse.{req_of};
 ghost use Rattle.cargo_edit.specs.Decision.{has_pin_read, is_pin};
 ghost use Rattle.cargo_edit.specs.Readings.{IsReading};
 
-use edit_document::{CargoResult, Error};
+use edit_base::{CargoResult, Error};
 use semver::{Comparator, Op, VersionReq};
 use std::alloc::{AllocError, Global};
 

@@ -1,11 +1,11 @@
 //! The rows of entries.
 ghost use Rattle.std.specs.Prelude.{◌≡◌, None, IfErr, IfOk, List, Option, false, map, option_copied, option_map, string_bytes};
-ghost use Rattle.edit_document.specs.Errors.{IsMemory};
+ghost use Rattle.edit_base.specs.Errors.{IsMemory};
 ghost use Rattle.edit_record.specs.IndexEntry.{entry_of};
 ghost use Rattle.edit_record.specs.Admissible.{admissible_in};
-ghost use Rattle.edit_record.specs.Requirement.{plain_text};
-ghost use Rattle.edit_record.specs.RustVersions.{Numbers, numbers_of};
-ghost use Rattle.edit_record.specs.Selection.{IsCompatible, IsLatest};
+ghost use Rattle.edit_version.specs.Requirement.{plain_text};
+ghost use Rattle.edit_version.specs.RustVersions.{Numbers, numbers_of};
+ghost use Rattle.edit_version.specs.Selection.{IsCompatible, IsLatest};
 ghost use Rattle.semver.specs.Identifiers.{parts_of};
 ghost use Rattle.url.specs.Parts.{serialize};
 ghost use Rattle.cargo_edit.specs.Decision.{decision, newer, or_else};
@@ -19,8 +19,9 @@ use crate::decide::{decide, plain_version};
 use crate::requirement::read_requirement;
 use crate::seen::{Entry, copied_place};
 use crate::upgrade::{Options, Row};
-use edit_document::CargoResult;
-use edit_record::{IndexVersion, RustVersion, allows_prerelease};
+use edit_base::CargoResult;
+use edit_version::{RustVersion, allows_prerelease};
+use edit_record::IndexVersion;
 use edit_sources::cache::IndexCache;
 use edit_sources::index::Index;
 use semver::Version;

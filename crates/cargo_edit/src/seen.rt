@@ -2,18 +2,19 @@
 ghost use Rattle.std.specs.Prelude.{◌≡◌, ◌&&◌, ◌||◌, [], ◌∷◌, ◌++◌, codes, IfErr, IfOk, map, option_map, string_bytes};
 ghost use Rattle.std.specs.List.{list_all};
 ghost use Rattle.edit_document.specs.Assertions.{at, key, same_bytes};
-ghost use Rattle.edit_document.specs.Errors.{IsMemory};
+ghost use Rattle.edit_base.specs.Errors.{IsMemory};
 ghost use Rattle.edit_document.specs.ItemViews.{document_of, place_of, view_of};
 ghost use Rattle.edit_document.specs.Shown.{tree_of};
 ghost use Rattle.edit_document.specs.Tree.{string};
 ghost use Rattle.edit_document.specs.Items.{is_tabular, names_in, place_seen, step_seen};
-ghost use Rattle.edit_record.specs.Requirement.{cut};
+ghost use Rattle.edit_version.specs.Requirement.{cut};
 ghost use Rattle.cargo_edit.specs.Entries.{dependencies, entry_place};
 ghost use Rattle.cargo_edit.specs.Found.{seen_of};
 ghost use Rattle.cargo_edit.specs.Records.{is_known, seen, seen_at, seen_with, version_place};
 
-use edit_document::{CargoResult, Document, Item, Place, Step};
-use edit_record::cut;
+use edit_base::CargoResult;
+use edit_document::{Document, Item, Place, Step};
+use edit_version::cut;
 use std::alloc::Global;
 
 /// An entry that is seen.

@@ -1,7 +1,7 @@
 //! What is planned for the entries of manifests.
 
 use edit_document::Place;
-use edit_record::RustVersion;
+use edit_version::RustVersion;
 use edit_sources::index::IndexKrate;
 use url::Url;
 

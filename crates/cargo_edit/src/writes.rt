@@ -1,7 +1,7 @@
 //! What the rows of a manifest write into it.
 ghost use Rattle.std.specs.Prelude.{◌≡◌, ◌++◌, [], IfErr, IfOk, MatchOption, OnOk, length, map, option_to_list, string_bytes};
-ghost use Rattle.edit_document.specs.Errors.{IsMemory};
-ghost use Rattle.edit_document.specs.Grammar.{Text};
+ghost use Rattle.edit_base.specs.Errors.{IsMemory};
+ghost use Rattle.edit_syntax.specs.Grammar.{Text};
 ghost use Rattle.edit_document.specs.Ranges.{edits_seen};
 ghost use Rattle.edit_document.specs.Shown.{ShowsTree};
 ghost use Rattle.cargo_edit.specs.Outputs.{IsRewritten};
@@ -13,7 +13,8 @@ ghost use Rattle.cargo_edit.specs.Rows.{with_write, write_at, writes};
 
 use crate::seen::{Entry, copied_place};
 use crate::upgrade::Row;
-use edit_document::{CargoResult, Document, Place};
+use edit_base::CargoResult;
+use edit_document::{Document, Place};
 use std::alloc::Global;
 
 // What a row writes at the version literal of its entry, where it has a change.

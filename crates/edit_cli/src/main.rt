@@ -6,7 +6,7 @@ mod locate;
 mod run;
 mod upgrade;
 
-use edit_document::{CargoResult, Error};
+use edit_base::{CargoResult, Error};
 use edit_sources::HostStore;
 use std::io::ErrorKind;
 use std::process::ExitCode;

@@ -7,7 +7,7 @@ use Rattle.std.proofs.lemmas.Bool.Decides.{nat_tests}
 use Rattle.std.proofs.lemmas.List.{length-set, length_push, map-append}
 use Rattle.std.proofs.lemmas.Option.{slice_get_past, slice_get_read, same_Some}
 use Rattle.edit_document.specs.declared.nodes.Node.{Node}
-use Rattle.edit_document.specs.declared.nodes.Span.{Span}
+use Rattle.edit_syntax.specs.declared.span.Span.{Span}
 use Rattle.edit_document.specs.declared.nodes.Content.{Content}
 use Rattle.edit_document.specs.declared.nodes.Taken.{Taken}
 use Rattle.edit_document.specs.declared.nodes.Taken.TheVariants.{Dotted, Value, Super, Header, Array, Element}
@@ -16,7 +16,7 @@ use Rattle.edit_document.specs.Taking.{joins, stronger}
 use Rattle.edit_document.specs.Nodes.{Shape, Spot, shape_of, entries_of, number_in, Keeps, Holds, below}
 use Rattle.edit_document.specs.Walk.{last_table, spot_at, child, target_of, with_taken, taken_again, with_member, with_element, added, element_added}
 use Rattle.edit_document.specs.WalkState.{Adds}
-use Rattle.edit_document.proofs.ListElements.{OneMore, OneSet, changed, in_push, in_set, newest, other, stood}
+use Rattle.edit_syntax.proofs.ListElements.{OneMore, OneSet, changed, in_push, in_set, newest, other, stood}
 
 -- ---- nodes and spots
 

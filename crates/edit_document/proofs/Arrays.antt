@@ -3,7 +3,7 @@ use Rattle.std.proofs.Common.{◌≡◌, ℕ, zero, suc, ◌<◌, List, [], ◌�
 use Rattle.std.specs.Prelude.{slice_get}
 use Rattle.std.proofs.lemmas.Bool.{cases_lt}
 use Rattle.std.proofs.lemmas.Option.{slice_get_within}
-use Rattle.edit_document.specs.Grammar.{Between, array, Elements}
+use Rattle.edit_syntax.specs.Grammar.{Between, array, Elements}
 use Rattle.edit_document.specs.Assertions.{index, at, Kind, leaf, Assertion}
 use Rattle.edit_document.specs.Tree.{kind_at, count_elements}
 use Rattle.edit_document.specs.DocumentLayout.{Placed}

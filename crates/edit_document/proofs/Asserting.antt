@@ -7,7 +7,7 @@ use Rattle.std.proofs.lemmas.Bool.{cases_lt}
 use Rattle.std.proofs.lemmas.List.{append-nil, length_push, map-append}
 use Rattle.std.proofs.lemmas.Option.{slice_get_past}
 use Rattle.std.proofs.lemmas.Slice.Eq.{bytes_eq-Decides}
-use Rattle.edit_document.specs.declared.nodes.Span.{Span}
+use Rattle.edit_syntax.specs.declared.span.Span.{Span}
 use Rattle.edit_document.specs.declared.nodes.Taken.{Taken}
 use Rattle.edit_document.specs.declared.nodes.Taken.TheVariants as takings
 use Rattle.edit_document.specs.declared.nodes.Taken.TheVariants.{Dotted, Super, Header, Array, Element}
@@ -17,7 +17,7 @@ use Rattle.edit_document.specs.Taking.{taken_of, joins}
 use Rattle.edit_document.specs.Nodes.{Spot, StandsAt, below}
 use Rattle.edit_document.specs.Walk.{spot_at, target_of, with_taken, taken_again, with_member, with_element, added, element_added, numbered, asserted}
 use Rattle.edit_document.proofs.SamePlace.{not_root}
-use Rattle.edit_document.proofs.ListElements.{get_front, get_last, equal_or}
+use Rattle.edit_syntax.proofs.ListElements.{get_front, get_last, equal_or}
 use Rattle.edit_document.proofs.Adding.{child_is, target_other, added_long, added_made, element_long, element_made}
 use Rattle.edit_document.proofs.Reaching.{asserted_new, asserted_old}
 use Rattle.edit_document.proofs.MoreAssertions.{first_kind, allowed, IsClear, clash_last, short_last}

@@ -4,18 +4,18 @@ use Rattle.std.specs.Prelude.{option_map, map, slice_get, slice_set, string_byte
 use Rattle.std.specs.List.{AllByRecursion}
 use Rattle.std.proofs.lemmas.Option.{slice_get_read, slice_get-get_or, slice_get_within}
 use Rattle.edit_document.specs.declared.nodes.Node.{Node}
-use Rattle.edit_document.specs.declared.nodes.Span.{Span}
+use Rattle.edit_syntax.specs.declared.span.Span.{Span}
 use Rattle.edit_document.specs.declared.walk.Walk.{Walk}
-use Rattle.edit_document.specs.declared.read.marks.Mark.{Mark}
-use Rattle.edit_document.specs.declared.read.marks.MarkKind.{MarkKind}
-use Rattle.edit_document.specs.declared.read.marks.MarkKind.TheVariants as kinds
-use Rattle.edit_document.specs.Reading.{◌>>=◌}
+use Rattle.edit_syntax.specs.declared.read.marks.Mark.{Mark}
+use Rattle.edit_syntax.specs.declared.read.marks.MarkKind.{MarkKind}
+use Rattle.edit_syntax.specs.declared.read.marks.MarkKind.TheVariants as kinds
+use Rattle.edit_syntax.specs.Reading.{◌>>=◌}
 use Rattle.edit_document.specs.Nodes.{Shape, shape_said, Spot, Holds}
 use Rattle.edit_document.specs.Walk.{State, said, last_of, without_last, awaiting, entered, closed, span_of_mark, worded, act, step, start, walked}
 use Rattle.edit_document.specs.WalkState.{Walks, Goes, SaysAt, is_said, IsToken, KeepsState}
 use Rattle.edit_document.proofs.Below.{all_at}
 use Rattle.edit_document.proofs.Ends.{take_length}
-use Rattle.edit_document.proofs.ListElements.{drop_from}
+use Rattle.edit_syntax.proofs.ListElements.{drop_from}
 use Rattle.edit_document.proofs.Adding.{spot_of_node, holds_set}
 use Rattle.edit_document.proofs.Walks.{walked_first, walked_stops, walked_none}
 use Rattle.edit_document.proofs.Walking.{turns}

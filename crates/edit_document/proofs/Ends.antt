@@ -5,14 +5,14 @@ use Rattle.std.specs.List.{AllByRecursion}
 use Rattle.std.specs.Str.Parse.{digits_value}
 use Rattle.std.proofs.lemmas.List.{append-nil}
 use Rattle.std.proofs.lemmas.Str.{IsUtf8-append, IsUtf8-nil, IsUtf8-encode, IsUtf8-take, IsUtf8-drop, IsUtf8-from_ascii, IsCharBoundary-before_ascii, IsCharBoundary-after_ascii}
-use Rattle.edit_document.specs.Characters.{quote, backslash, equals, is_bare, All}
-use Rattle.edit_document.specs.Strings.{Piece, plain, letter, short, long, feed, fold, delimiter, pieces, says, IsBasicPiece, Part, part, LineEnd, line_end, lf, crlf, Key, key, is_escape, escaped, is_hex, is_scalar}
-use Rattle.edit_document.specs.Grammar.{Between, gap, Value, Members, value, members, Statement, statement, Line, line}
+use Rattle.edit_syntax.specs.Characters.{quote, backslash, equals, is_bare, All}
+use Rattle.edit_syntax.specs.Strings.{Piece, plain, letter, short, long, feed, fold, delimiter, pieces, says, IsBasicPiece, Part, part, LineEnd, line_end, lf, crlf, Key, key, is_escape, escaped, is_hex, is_scalar}
+use Rattle.edit_syntax.specs.Grammar.{Between, gap, Value, Members, value, members, Statement, statement, Line, line}
 use Rattle.std.specs.Char.{IsScalar}
 use Rattle.std.proofs.lemmas.Bool.Decides.{nat_tests}
 use Rattle.edit_document.specs.Walk.{suffix}
-use Rattle.edit_document.proofs.PutBefore.{Relation, IsKept, key_before, pair_before, gap_before, value_before, members_before, statement_before, line_before}
-use Rattle.edit_document.proofs.ListElements.{get_seam}
+use Rattle.edit_syntax.proofs.PutBefore.{Relation, IsKept, key_before, pair_before, gap_before, value_before, members_before, statement_before, line_before}
+use Rattle.edit_syntax.proofs.ListElements.{get_seam}
 
 -- the text ends so
 abbrev pub Ends : List ℕ → List ℕ → Type 0

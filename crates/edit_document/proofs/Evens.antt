@@ -1,7 +1,7 @@
 -- Behind each statement every array of tables has as many elements as were asserted of it.
 use Rattle.std.proofs.Common.{◌≡◌, ℕ, suc, Bool, true, false, cond, ◌&&◌, List, [], ◌∷◌, ◌++◌, Some, refl, sym, ap, ◌∙◌, ◌⊎◌, inl, inr, append_assoc, subst}
 use Rattle.std.specs.List.{AllByRecursion}
-use Rattle.edit_document.specs.Grammar.{Value, basic, literal, multi_basic, multi_literal, boolean, integer, float, datetime, array, inline, Elements, no_elements, last_element, element, Members, no_members, last_member, member, Statement, pair, header, element_header}
+use Rattle.edit_syntax.specs.Grammar.{Value, basic, literal, multi_basic, multi_literal, boolean, integer, float, datetime, array, inline, Elements, no_elements, last_element, element, Members, no_members, last_member, member, Statement, pair, header, element_header}
 use Rattle.edit_document.specs.Assertions.{key, index, Place, at, same_place, Kind, dotted, leaf, super, header_kind, array_kind, element_kind, Assertion, asserts, together, NoClash, names, named, of_key, of_value, of_elements, of_members, is_array, is_array_at, elements_at, resolved, fronts, header_place, of_statement}
 use Rattle.edit_document.specs.Tree.{kind_at}
 use Rattle.edit_document.proofs.SamePlace.{same_place_is, last_same, other_place, same_place_self, place_or}

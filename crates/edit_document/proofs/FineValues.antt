@@ -1,8 +1,8 @@
 -- Each value of a well-formed text is well formed.
 use Rattle.std.proofs.Common.{ℕ, suc, List, [], ◌∷◌, ◌++◌}
 use Rattle.std.specs.List.{AllByRecursion}
-use Rattle.edit_document.specs.Characters.{right_bracket, right_brace}
-use Rattle.edit_document.specs.Grammar.{Value, basic, literal, multi_basic, multi_literal, boolean, integer, float, datetime, array, inline, IsValue, Elements, no_elements, last_element, element, AreElements, Members, no_members, last_member, member, AreMembers, Statement, pair, header, element_header, IsStatement, empty_line, full_line, Lines, one_line, more_lines, AreLines}
+use Rattle.edit_syntax.specs.Characters.{right_bracket, right_brace}
+use Rattle.edit_syntax.specs.Grammar.{Value, basic, literal, multi_basic, multi_literal, boolean, integer, float, datetime, array, inline, IsValue, Elements, no_elements, last_element, element, AreElements, Members, no_members, last_member, member, AreMembers, Statement, pair, header, element_header, IsStatement, empty_line, full_line, Lines, one_line, more_lines, AreLines}
 use Rattle.edit_document.specs.Assertions.{Place, index, at, names, named, Assertion, of_statement, prefix_after}
 use Rattle.edit_document.specs.Written.{Valued, inside, in_elements, in_members, in_statement, in_lines}
 

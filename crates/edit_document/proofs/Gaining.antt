@@ -3,7 +3,7 @@ use Rattle.std.proofs.Common.{◌≡◌, ℕ, suc, ◌+◌, ◌<◌, Bool, true,
 use Rattle.std.specs.Prelude.{slice_get, slice_set}
 use Rattle.std.proofs.lemmas.List.{length_push}
 use Rattle.std.proofs.lemmas.List.Elements.{filter_map-append}
-use Rattle.edit_document.specs.declared.nodes.Span.{Span}
+use Rattle.edit_syntax.specs.declared.span.Span.{Span}
 use Rattle.edit_document.specs.Assertions.{Step, key, index, Place, at, Kind, Assertion, together}
 use Rattle.edit_document.specs.Tree.{members_of, kind_at}
 use Rattle.edit_document.specs.Items.{name_of_step, key_names}

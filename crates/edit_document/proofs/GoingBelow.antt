@@ -5,7 +5,7 @@ use Rattle.std.proofs.lemmas.Bool.Decides.{nat_tests}
 use Rattle.std.proofs.lemmas.Option.{slice_get_past}
 use Rattle.edit_document.specs.declared.nodes.Taken.TheVariants.{Super}
 use Rattle.edit_document.specs.Assertions.{key, index, Place, at, Kind, dotted, leaf, super, header_kind, array_kind, element_kind, Assertion, asserts, elements_at, resolved}
-use Rattle.edit_document.specs.Grammar.{Value, basic, literal, multi_basic, multi_literal, boolean, integer, float, datetime, array, inline}
+use Rattle.edit_syntax.specs.Grammar.{Value, basic, literal, multi_basic, multi_literal, boolean, integer, float, datetime, array, inline}
 use Rattle.edit_document.specs.Tree.{kind_at}
 use Rattle.edit_document.specs.DocumentLayout.{shape_of_value, Placed}
 use Rattle.edit_document.specs.Nodes.{Shape, section, Spot, below}

@@ -1,13 +1,13 @@
 -- Where a key leads: each part before the last asserts a place, and the last one the place that is named.
 use Rattle.std.proofs.Common.{◌≡◌, ℕ, Bool, true, false, List, [], ◌∷◌, ◌++◌, map, Option, Some, None, refl, sym, ap, subst, ◌∙◌, ◌⊎◌, inl, inr, append_assoc}
 use Rattle.std.proofs.lemmas.List.{append-nil}
-use Rattle.edit_document.specs.declared.nodes.Span.{Span}
+use Rattle.edit_syntax.specs.declared.span.Span.{Span}
 use Rattle.edit_document.specs.declared.nodes.Taken.{Taken}
 use Rattle.edit_document.specs.declared.nodes.Taken.TheVariants.{Dotted, Value, Super}
-use Rattle.edit_document.specs.Grammar.{Value as Written}
+use Rattle.edit_syntax.specs.Grammar.{Value as Written}
 use Rattle.edit_document.specs.Assertions.{key, Place, at, Kind, dotted, leaf, super, array_kind, Assertion, asserts, named, of_key, elements_at, resolved, fronts, header_place}
 use Rattle.edit_document.specs.Tree.{kind_at}
-use Rattle.edit_document.specs.Reading.{◌>>=◌}
+use Rattle.edit_syntax.specs.Reading.{◌>>=◌}
 use Rattle.edit_document.specs.DocumentLayout.{shape_of_value, Placed}
 use Rattle.edit_document.specs.Taking.{taken_of}
 use Rattle.edit_document.specs.Nodes.{Shape, section, Spot, StandsAt}

@@ -2,20 +2,20 @@
 use Rattle.std.proofs.Common.{◌≡◌, ℕ, ◌+◌, ◌-◌, ◌<◌, Bool, true, false, cond, List, [], ◌∷◌, ◌++◌, length, map, take, Option, Some, None, refl, sym, ap, subst, ◌∙◌, inl, inr, append_assoc, length-append, arith}
 use Rattle.std.specs.Prelude.{slice_get, slice_set}
 use Rattle.std.proofs.lemmas.Option.{slice_get_past, slice_get_within}
-use Rattle.edit_document.specs.declared.read.marks.Mark.{Mark}
-use Rattle.edit_document.specs.declared.nodes.Span.{Span}
+use Rattle.edit_syntax.specs.declared.read.marks.Mark.{Mark}
+use Rattle.edit_syntax.specs.declared.span.Span.{Span}
 use Rattle.edit_document.specs.declared.nodes.Taken.{Taken}
 use Rattle.edit_document.specs.declared.nodes.Taken.TheVariants.{Dotted, Value}
-use Rattle.edit_document.specs.Grammar.{Between, Elements, array, Value as Written}
+use Rattle.edit_syntax.specs.Grammar.{Between, Elements, array, Value as Written}
 use Rattle.edit_document.specs.Assertions.{key, index, Place, at, same_place, Kind, dotted, leaf, Assertion, asserts, named, of_key, together}
 use Rattle.edit_document.specs.Tree.{kind_at, count_elements}
 use Rattle.edit_document.specs.DocumentLayout.{shape_of_value, Placed, span_at}
-use Rattle.edit_document.specs.Reading.{◌>>=◌}
+use Rattle.edit_syntax.specs.Reading.{◌>>=◌}
 use Rattle.edit_document.specs.Nodes.{Shape, Spot, StandsAt, below}
 use Rattle.edit_document.specs.Walk.{State, last_of, without_last, element_added, asserted, front_shape, reached, settled_state, is_dotted_within, settled, entered_at, closed, walked}
 use Rattle.edit_document.proofs.SamePlace.{same_place_self, other_place, place_or}
 use Rattle.edit_document.proofs.Ends.{take_length}
-use Rattle.edit_document.proofs.ListElements.{OneSet, changed, other, in_set}
+use Rattle.edit_syntax.proofs.ListElements.{OneSet, changed, other, in_set}
 use Rattle.edit_document.proofs.MoreAssertions.{first_kind, allowed, IsClear, clear_front, clash_last}
 use Rattle.edit_document.proofs.MoreMembers.{is_headed}
 use Rattle.edit_document.proofs.Trees.{Grows, grows_then, grows_set, tree_set}

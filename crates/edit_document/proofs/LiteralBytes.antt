@@ -2,9 +2,9 @@
 use Rattle.std.proofs.Common.{◌≡◌, ℕ, ◌+◌, ◌-◌, ◌<◌, ◌≤◌, true, false, ◌==◌, nat_lt, List, [], ◌∷◌, ◌++◌, map, length, get_or, take, drop, length-drop, get_or-drop, append_assoc, append-nil, take_all, refl, ap, ◌∙◌, lit<, arith}
 use Rattle.std.proofs.lemmas.Bool.Decides.{nat_tests}
 use Rattle.std.proofs.lemmas.List.{drop_more, take_more, drop_all}
-use Rattle.edit_document.specs.Characters.{quote}
+use Rattle.edit_syntax.specs.Characters.{quote}
 use Rattle.edit_document.specs.Literals.{literal_piece, literal_body, literal_bytes, escaped, is_escaped}
-use Rattle.edit_document.proofs.PutBefore.{piece_rest, pieces_rest}
+use Rattle.edit_syntax.proofs.PutBefore.{piece_rest, pieces_rest}
 
 pub literal_parts : (said : List ℕ) → literal_bytes said ≡ quote ∷ (literal_body said ++ quote ∷ [])
 literal_parts said = ap (λ (l : List ℕ). quote ∷ l) (pieces_rest quote (map literal_piece said) (quote ∷ []))

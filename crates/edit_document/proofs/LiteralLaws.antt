@@ -3,9 +3,9 @@ use Rattle.std.proofs.Common.{◌≡◌, ℕ, zero, suc, ◌<◌, ◌≤◌, Boo
 use Rattle.std.proofs.lemmas.Bool.{and_parts, cases_lt, eqb-true}
 use Rattle.std.specs.List.{AllByRecursion, list_all}
 use Rattle.std.specs.Str.Parse.{digits_value}
-use Rattle.edit_document.specs.Characters.{quote, is_basic_ch, All}
-use Rattle.edit_document.specs.Strings.{Piece, plain, letter, short, long, feed, fold, delimiter, is_escape, is_hex, is_scalar, IsBasicPiece, said, says}
-use Rattle.edit_document.specs.Grammar.{IsValue}
+use Rattle.edit_syntax.specs.Characters.{quote, is_basic_ch, All}
+use Rattle.edit_syntax.specs.Strings.{Piece, plain, letter, short, long, feed, fold, delimiter, is_escape, is_hex, is_scalar, IsBasicPiece, said, says}
+use Rattle.edit_syntax.specs.Grammar.{IsValue}
 use Rattle.edit_document.specs.Assertions.{same_bytes}
 use Rattle.edit_document.specs.Literals.{literal_piece, literal_of}
 use Rattle.edit_document.proofs.SamePlace.{same_bytes_is}

@@ -7,7 +7,7 @@ use Rattle.edit_document.specs.Assertions.{Step, key, index, Place, at, same_ste
 use Rattle.edit_document.specs.Tree.{step_from, once, members_of, kind_at}
 use Rattle.edit_document.proofs.SamePlace.{same_step_self, same_step_is, same_place_self, other_place, last_same}
 use Rattle.edit_document.proofs.Below.{step_from_at, step_from_is}
-use Rattle.edit_document.proofs.Cases.{or_false}
+use Rattle.edit_syntax.proofs.Cases.{or_false}
 
 -- ---- members
 

@@ -3,13 +3,13 @@
 use Rattle.std.proofs.Common.{◌≡◌, ℕ, suc, Bool, true, false, ◌-◌, nat_lt, if◌then◌else◌, cond, List, [], ◌∷◌, ◌++◌, map, None, Some, refl, sym, ap, ap₂, ◌∙◌, subst, ◌⊎◌, inl, inr, ⊎_elim, true≢false, append_assoc}
 use Rattle.std.proofs.lemmas.Bool.{and_parts, and_from}
 use Rattle.std.specs.List.{AllByRecursion}
-use Rattle.edit_document.specs.Strings.{Key, name}
-use Rattle.edit_document.specs.Grammar.{Value, basic, literal, multi_basic, multi_literal, boolean, integer, float, datetime, array, inline, Elements, no_elements, last_element, element, Members, no_members, last_member, member, Statement, pair, header, element_header, empty_line, full_line, Lines, one_line, more_lines, Text}
+use Rattle.edit_syntax.specs.Strings.{Key, name}
+use Rattle.edit_syntax.specs.Grammar.{Value, basic, literal, multi_basic, multi_literal, boolean, integer, float, datetime, array, inline, Elements, no_elements, last_element, element, Members, no_members, last_member, member, Statement, pair, header, element_header, empty_line, full_line, Lines, one_line, more_lines, Text}
 use Rattle.edit_document.specs.Assertions.{Place, Step, key, index, at, same_step, same_place, Kind, dotted, leaf, super, header_kind, array_kind, element_kind, Assertion, asserts, names, named, of_key, of_value, of_elements, of_members, of_pair, is_array, is_array_at, elements_at, resolved, fronts, header_place, of_statement, prefix_after, of_lines, assertions, together, NoClash}
 use Rattle.edit_document.specs.Tree.{kind_at}
 use Rattle.edit_document.specs.Replaces.{is_below}
 use Rattle.edit_document.proofs.ThinnedLines.{leaf_alone}
-use Rattle.edit_document.proofs.Cases.{by_test}
+use Rattle.edit_syntax.proofs.Cases.{by_test}
 use Rattle.edit_document.proofs.SamePlace.{same_step_is, same_place_is, same_place_self}
 
 -- places may lie below one of this kind

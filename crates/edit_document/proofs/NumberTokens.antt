@@ -2,20 +2,20 @@
 use Rattle.std.proofs.Common.{◌≡◌, ℕ, ◌<◌, ◌-◌, true, List, [], ◌∷◌, ◌++◌, length, take, Option, Some, refl, sym, ap, subst, ◌∙◌, arith}
 use Rattle.std.specs.List.{AllByRecursion}
 use Rattle.std.proofs.lemmas.Bool.Decides.{nat_tests}
-use Rattle.edit_document.specs.declared.read.marks.Mark.{Mark}
-use Rattle.edit_document.specs.declared.read.marks.MarkKind.{MarkKind}
-use Rattle.edit_document.specs.declared.read.marks.MarkKind.TheVariants as kinds
-use Rattle.edit_document.specs.Characters.{is_ascii, All}
-use Rattle.edit_document.specs.Grammar.{Value, integer, float, datetime, value, IsValue}
-use Rattle.edit_document.specs.Reading.{◌>>=◌}
+use Rattle.edit_syntax.specs.declared.read.marks.Mark.{Mark}
+use Rattle.edit_syntax.specs.declared.read.marks.MarkKind.{MarkKind}
+use Rattle.edit_syntax.specs.declared.read.marks.MarkKind.TheVariants as kinds
+use Rattle.edit_syntax.specs.Characters.{is_ascii, All}
+use Rattle.edit_syntax.specs.Grammar.{Value, integer, float, datetime, value, IsValue}
+use Rattle.edit_syntax.specs.Reading.{◌>>=◌}
 use Rattle.edit_document.specs.Nodes.{shape_said}
 use Rattle.edit_document.specs.DocumentLayout.{span_of, shape_of_value}
-use Rattle.edit_document.specs.Noting.{value_kind}
-use Rattle.edit_document.specs.Marks.{mark}
+use Rattle.edit_syntax.specs.Noting.{value_kind}
+use Rattle.edit_syntax.specs.Marks.{mark}
 use Rattle.edit_document.specs.Walk.{said, suffix, as_text, State, entered, step}
 use Rattle.edit_document.specs.WalkState.{IsToken}
-use Rattle.edit_document.proofs.NumberLaws.{IsNumber}
-use Rattle.edit_document.proofs.Enclosed.{value_rest, integer_ascii, float_ascii, datetime_ascii}
+use Rattle.edit_syntax.proofs.NumberLaws.{IsNumber}
+use Rattle.edit_syntax.proofs.Enclosed.{value_rest, integer_ascii, float_ascii, datetime_ascii}
 use Rattle.edit_document.proofs.Ends.{Ends, Small, ascii_text}
 use Rattle.edit_document.proofs.WalkedTokens.{said_word}
 

@@ -4,10 +4,10 @@ use Rattle.std.specs.List.{list_any}
 use Rattle.std.specs.Global.{Vec}
 use Rattle.std.specs.Prelude.{string_bytes, is_some}
 use Rattle.std.proofs.lemmas.List.{map-append, length-map}
-use Rattle.edit_document.proofs.Members.{contained_among}
+use Rattle.edit_syntax.proofs.Members.{contained_among}
 use Rattle.edit_document.proofs.UniqueValues.{listed_value}
 use Rattle.edit_document.specs.declared.replace.Rewrite.{Rewrite}
-use Rattle.edit_document.specs.Grammar.{Value, Text, text}
+use Rattle.edit_syntax.specs.Grammar.{Value, Text, text}
 use Rattle.edit_document.specs.Assertions.{Place, Assertion, leaf, same_place, assertions}
 use Rattle.edit_document.specs.Tree.{View, view_at, kind_at, is_value_at}
 use Rattle.edit_document.specs.declared.place.Step.{Step as WrittenStep}
@@ -24,7 +24,7 @@ use Rattle.edit_document.proofs.SortedRanges.{AreRangesFor, Rewrites, ranges_rew
 use Rattle.edit_document.proofs.LocatedEdits.{first_of_distinct}
 use Rattle.std.specs.Str.{IsUtf8}
 use Rattle.edit_document.proofs.SwappedTexts.{apart_none, replaced_swaps}
-use Rattle.edit_document.proofs.Cases.{by_test}
+use Rattle.edit_syntax.proofs.Cases.{by_test}
 
 -- a document's replacement at places none of which lies below another
 pub replaces_apart : (edits : Edits) (old new : List ℕ) (form : Text) → IsManifest old form → AreApart edits form → new ≡ text (replaced edits form) → Replaces edits old new

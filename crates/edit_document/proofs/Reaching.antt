@@ -3,13 +3,13 @@ use Rattle.std.proofs.Common.{◌≡◌, ℕ, ◌+◌, ◌<◌, true, List, [], 
 use Rattle.std.specs.Prelude.{map, string_bytes}
 use Rattle.std.proofs.lemmas.Option.{slice_get_read}
 use Rattle.edit_document.specs.declared.nodes.Node.{Node}
-use Rattle.edit_document.specs.declared.nodes.Span.{Span}
+use Rattle.edit_syntax.specs.declared.span.Span.{Span}
 use Rattle.edit_document.specs.declared.nodes.Taken.{Taken}
-use Rattle.edit_document.specs.Reading.{◌>>=◌}
+use Rattle.edit_syntax.specs.Reading.{◌>>=◌}
 use Rattle.edit_document.specs.Nodes.{Shape, Spot, Holds}
 use Rattle.edit_document.specs.Walk.{child, target_of, taken_again, added, asserted_at, asserted, numbered, reached}
 use Rattle.edit_document.specs.WalkState.{Adds, Puts}
-use Rattle.edit_document.proofs.ListElements.{drop_from}
+use Rattle.edit_syntax.proofs.ListElements.{drop_from}
 
 -- ---- members asserted
 

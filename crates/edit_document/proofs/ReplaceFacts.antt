@@ -1,8 +1,8 @@
 -- Literals and replacements that are worked out: one literal, two literals in any order, and places where nothing is written.
 use Rattle.std.proofs.Common.{◌≡◌, ℕ, List, [], ◌∷◌, Some, None, refl, false}
 use Rattle.std.specs.Prelude.{codes}
-use Rattle.edit_document.specs.Strings.{Key, bare, lf, plain}
-use Rattle.edit_document.specs.Grammar.{Value, basic, literal, inline, blank, last_member, member, pair, header, full_line, one_line, more_lines, Text, text}
+use Rattle.edit_syntax.specs.Strings.{Key, bare, lf, plain}
+use Rattle.edit_syntax.specs.Grammar.{Value, basic, literal, inline, blank, last_member, member, pair, header, full_line, one_line, more_lines, Text, text}
 use Rattle.edit_document.specs.Assertions.{Place, key}
 use Rattle.edit_document.specs.Tree.{view_at, string}
 use Rattle.edit_document.specs.Literals.{literal_bytes}

@@ -1,6 +1,6 @@
 -- What is read again of a text with literals written into it.
 use Rattle.std.proofs.Common.{◌≡◌, ℕ, List, cond, Option, None, sym, ap, ◌∙◌, subst}
-use Rattle.edit_document.specs.Grammar.{Text, text}
+use Rattle.edit_syntax.specs.Grammar.{Text, text}
 use Rattle.edit_document.specs.Assertions.{Place}
 use Rattle.edit_document.specs.Tree.{View, view_at}
 use Rattle.edit_document.specs.Supported.{IsManifest}

@@ -2,7 +2,7 @@
 use Rattle.std.proofs.Common.{◌≡◌, ℕ, true, false, ◌&&◌, ◌||◌, cond, List, [], ◌∷◌, Option, None, Some, option_map, refl, sym, ap, ◌∙◌, subst, inl, inr, true≢false}
 use Rattle.std.proofs.lemmas.Bool.{and_parts}
 use Rattle.std.specs.List.{list_any}
-use Rattle.edit_document.specs.Grammar.{Value, basic, literal, multi_basic, multi_literal, boolean, integer, float, datetime, array, inline, Text}
+use Rattle.edit_syntax.specs.Grammar.{Value, basic, literal, multi_basic, multi_literal, boolean, integer, float, datetime, array, inline, Text}
 use Rattle.edit_document.specs.Assertions.{Place, same_place, Kind, dotted, leaf, super, header_kind, array_kind, element_kind, Assertion, assertions, NoClash, IsDocument}
 use Rattle.edit_document.specs.Tree.{View, string, view_at, view_of_kind, kind_at, is_value_at}
 use Rattle.edit_document.specs.Replaces.{Edits, new_text, replaced, is_below, is_below_any, written, emptied, is_string, AreStrings}
@@ -10,7 +10,7 @@ use Rattle.edit_document.proofs.SamePlaces.{not_below_itself}
 use Rattle.edit_document.proofs.Thinned.{is_leaf}
 use Rattle.edit_document.proofs.NothingBelow.{HasLeaf, opens, leaf_there}
 use Rattle.edit_document.proofs.ReplacedTree.{HasValue, AreApart, edit_above, nothing_below, replaced_view}
-use Rattle.edit_document.proofs.Cases.{by_test}
+use Rattle.edit_syntax.proofs.Cases.{by_test}
 use Rattle.edit_document.proofs.SamePlace.{same_place_is}
 
 -- ---- one value

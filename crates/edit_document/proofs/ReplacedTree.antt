@@ -1,6 +1,6 @@
 -- A document with strings written at places is a document again, of the same part of the grammar, with the tree that is meant.
 use Rattle.std.proofs.Common.{◌≡◌, ℕ, suc, true, false, ◌||◌, cond, List, [], ◌∷◌, ◌++◌, Option, None, Some, option_map, refl, sym, ap, ◌∙◌, true≢false}
-use Rattle.edit_document.specs.Grammar.{Value, basic, literal, multi_basic, multi_literal, boolean, integer, float, datetime, array, inline, Elements, no_elements, last_element, element, Members, no_members, last_member, member, Statement, pair, header, element_header, empty_line, full_line, Lines, one_line, more_lines, Text, text, IsValue, AreElements, AreMembers, IsMember, IsStatement, AreLines}
+use Rattle.edit_syntax.specs.Grammar.{Value, basic, literal, multi_basic, multi_literal, boolean, integer, float, datetime, array, inline, Elements, no_elements, last_element, element, Members, no_members, last_member, member, Statement, pair, header, element_header, empty_line, full_line, Lines, one_line, more_lines, Text, text, IsValue, AreElements, AreMembers, IsMember, IsStatement, AreLines}
 use Rattle.edit_document.specs.Assertions.{Place, Step, at, index, names, named, same_place, leaf, Assertion, of_statement, assertions, prefix_after, NoClash, IsDocument}
 use Rattle.edit_document.specs.Tree.{View, string, view_at, view_of_kind, kind_at}
 use Rattle.edit_document.specs.Supported.{IsManifest}
@@ -11,7 +11,7 @@ use Rattle.edit_document.proofs.Thinned.{Thin, none}
 use Rattle.edit_document.proofs.ThinnedLines.{thin_lines, thin_short, thin_no_clash}
 use Rattle.edit_document.proofs.ThinnedViews.{thin_view, thin_literal}
 use Rattle.edit_document.proofs.NothingBelow.{opens, shut_below, Rooted, done, next, rooted}
-use Rattle.edit_document.proofs.Cases.{by_test}
+use Rattle.edit_syntax.proofs.Cases.{by_test}
 use Rattle.edit_document.proofs.Parts.{has_kind}
 use Rattle.edit_document.proofs.SamePlace.{same_place_self}
 

@@ -3,7 +3,7 @@ use Rattle.std.proofs.Common.{◌≡◌, ℕ, Bool, true, false, ◌&&◌, List,
 use Rattle.std.proofs.lemmas.Bool.{and_parts, and_from}
 use Rattle.edit_document.specs.Assertions.{Place, Step, key, at, same_step, named}
 use Rattle.edit_document.specs.Replaces.{is_below}
-use Rattle.edit_document.proofs.Cases.{by_test}
+use Rattle.edit_syntax.proofs.Cases.{by_test}
 use Rattle.edit_document.proofs.SamePlace.{same_step_is, same_step_self}
 
 -- ---- below

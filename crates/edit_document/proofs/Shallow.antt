@@ -1,11 +1,11 @@
 -- In a document arrays and inline tables stand at most 80 deep in one another, since places are short; so a document has one form.
 use Rattle.std.proofs.Common.{◌≡◌, ℕ, suc, ◌+◌, ◌≤◌, Bool, true, false, List, [], ◌∷◌, ◌++◌, map, length, Some, refl, ap, ◌∙◌, arith, length-append, sym}
-use Rattle.edit_document.specs.Grammar.{Value, basic, literal, multi_basic, multi_literal, boolean, integer, float, datetime, array, inline, Elements, no_elements, last_element, element, Members, no_members, last_member, member, Statement, pair, header, element_header, empty_line, full_line, Lines, one_line, more_lines, Text}
+use Rattle.edit_syntax.specs.Grammar.{Value, basic, literal, multi_basic, multi_literal, boolean, integer, float, datetime, array, inline, Elements, no_elements, last_element, element, Members, no_members, last_member, member, Statement, pair, header, element_header, empty_line, full_line, Lines, one_line, more_lines, Text}
 use Rattle.edit_document.specs.Assertions.{Place, key, index, at, names, named, Assertion, of_key, of_value, of_elements, of_members, of_statement, prefix_after, of_lines, AreShort, IsDocument}
 use Rattle.edit_document.specs.Supported.{IsManifest}
-use Rattle.edit_document.specs.Depth.{depth, elements_depth, members_depth, statement_depth, lines_depth, text_depth}
-use Rattle.edit_document.specs.FormOf.{form_of}
-use Rattle.edit_document.proofs.LineLaws.{read_again}
+use Rattle.edit_syntax.specs.Depth.{depth, elements_depth, members_depth, statement_depth, lines_depth, text_depth}
+use Rattle.edit_syntax.specs.FormOf.{form_of}
+use Rattle.edit_syntax.proofs.LineLaws.{read_again}
 
 short_left : (xs ys : List Assertion) → AreShort (xs ++ ys) → AreShort xs
 short_left [] ys h = tt

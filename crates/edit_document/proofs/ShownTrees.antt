@@ -2,7 +2,7 @@
 use Rattle.std.proofs.Common.{◌≡◌, ℕ, ◌<◌, Bool, true, false, cond, not, List, [], ◌∷◌, length, Option, Some, None, is_some, refl, sym, ap, subst, ◌∙◌}
 use Rattle.std.specs.Prelude.{map, option_map, slice_get}
 use Rattle.std.specs.List.{AllByRecursion, filter}
-use Rattle.edit_document.specs.Grammar.{Value, basic, literal, multi_basic, multi_literal, boolean, integer, float, datetime, array, inline, Between, Elements}
+use Rattle.edit_syntax.specs.Grammar.{Value, basic, literal, multi_basic, multi_literal, boolean, integer, float, datetime, array, inline, Between, Elements}
 use Rattle.edit_document.specs.Assertions.{Step, key, index, Place, at, same_step, Kind, dotted, leaf, super, header_kind, array_kind, element_kind, Assertion, elements_at}
 use Rattle.edit_document.specs.Tree.{once, members_of, View, static_array, count_elements, inline_table, table, table_array, view_of_value, view_of_kind, kind_at, view_in}
 use Rattle.edit_document.specs.Shown.{node_at}
@@ -16,7 +16,7 @@ use Rattle.edit_document.proofs.Standing.{Lists, shape_of_kind, Tells, Stands}
 use Rattle.edit_document.proofs.Arrays.{elements_full}
 use Rattle.edit_document.proofs.Evens.{IsEven}
 use Rattle.edit_document.proofs.Views.{node_first, node_none}
-use Rattle.edit_document.proofs.Cases.{or_false}
+use Rattle.edit_syntax.proofs.Cases.{or_false}
 
 -- ---- the members of a table are keys
 

@@ -2,11 +2,11 @@
 use Rattle.std.proofs.Common.{◌≡◌, ℕ, zero, suc, ◌<◌, ◌≤◌, Bool, true, false, cond, ◌&&◌, List, [], ◌∷◌, ◌++◌, length, Option, Some, None, refl, sym, ap, ap₂, subst, ◌∙◌, inl, inr}
 use Rattle.std.specs.Prelude.{slice_get, slice_set}
 use Rattle.std.proofs.lemmas.Option.{slice_get_within, same_Some}
-use Rattle.edit_document.specs.declared.nodes.Span.{Span}
+use Rattle.edit_syntax.specs.declared.span.Span.{Span}
 use Rattle.edit_document.specs.declared.nodes.Taken.{Taken}
 use Rattle.edit_document.specs.declared.nodes.Taken.TheVariants.{Header}
 use Rattle.edit_document.specs.DocumentLayout.{shape_of_value, Placed, span_at}
-use Rattle.edit_document.specs.Grammar.{array}
+use Rattle.edit_syntax.specs.Grammar.{array}
 use Rattle.edit_document.specs.Assertions.{Step, key, index, Place, at, same_place, Kind, dotted, leaf, super, header_kind, array_kind, element_kind, Assertion, together, AreShort}
 use Rattle.edit_document.specs.Tree.{members_of, kind_at, count_elements}
 use Rattle.edit_document.specs.Items.{key_names}
@@ -15,7 +15,7 @@ use Rattle.edit_document.specs.Nodes.{Shape, scalar, section, sections, Spot, na
 use Rattle.edit_document.specs.Nodes as shapes
 use Rattle.edit_document.specs.Walk.{spot_at, with_taken}
 use Rattle.edit_document.proofs.SamePlace.{same_place_self, same_place_is, other_place, last_same, not_root}
-use Rattle.edit_document.proofs.ListElements.{OneSet, changed, other, in_set, slice_get_same}
+use Rattle.edit_syntax.proofs.ListElements.{OneSet, changed, other, in_set, slice_get_same}
 use Rattle.edit_document.proofs.Takings.{together_is, stronger_is}
 use Rattle.edit_document.proofs.MoreAssertions.{kind_stays, kind_else, kind_back, first_kind, first_stays, first_is, allowed, allowed_else, allowed_here, IsClear, clear_more}
 use Rattle.edit_document.proofs.MoreMembers.{members_again, is_element, is_headed, elements_below, elements_stay}

@@ -3,10 +3,10 @@ use Rattle.std.proofs.Common.{◌≡◌, true, refl}
 use Rattle.std.specs.Prelude.{codes, is_some}
 use Rattle.std.specs.Str.{is_utf8, chars}
 use Rattle.std.proofs.lemmas.Str.{IsUtf8-from_is_utf8}
-use Rattle.edit_document.specs.Grammar.{Text}
+use Rattle.edit_syntax.specs.Grammar.{Text}
 use Rattle.edit_document.specs.Supported.{IsManifest}
 use Rattle.edit_document.specs.DocumentLayout.{spots_of}
-use Rattle.edit_document.specs.Reading.{read_text, lines_at, line_end_at, line_at, statement_at, value_at, elements_at, gap_at, between_at, members_at, pair_at, scalar_at, header_at, element_header_at, key_at, dotted_at, part_at, literal_at, basic_at, pieces_at, piece_at}
+use Rattle.edit_syntax.specs.Reading.{read_text, lines_at, line_end_at, line_at, statement_at, value_at, elements_at, gap_at, between_at, members_at, pair_at, scalar_at, header_at, element_header_at, key_at, dotted_at, part_at, literal_at, basic_at, pieces_at, piece_at}
 use Rattle.edit_document.specs.Walk.{said, child, target_of, taken_again, added, element_added, asserted, reached, settled, step, walked}
 use Rattle.edit_document.proofs.Documents.{no_document}
 

@@ -3,15 +3,15 @@ use Rattle.std.proofs.Common.{◌≡◌, ℕ, suc, true, List, [], ◌∷◌, �
 use Rattle.std.proofs.lemmas.Bool.{and_parts, and_from}
 use Rattle.std.proofs.lemmas.List.Elements.{filter_map-append}
 use Rattle.std.specs.List.{AllByRecursion, filter_map, cons_option}
-use Rattle.edit_document.specs.Characters.{comma, left_bracket, right_bracket, left_brace, right_brace}
-use Rattle.edit_document.specs.Strings.{line_end, Key}
-use Rattle.edit_document.specs.Grammar.{gap, Value, basic, literal, multi_basic, multi_literal, boolean, integer, float, datetime, array, inline, value, Elements, no_elements, last_element, element, elements, Members, no_members, last_member, member, members, Statement, pair, header, element_header, statement, empty_line, full_line, comment, Lines, one_line, more_lines, lines, Text, text}
+use Rattle.edit_syntax.specs.Characters.{comma, left_bracket, right_bracket, left_brace, right_brace}
+use Rattle.edit_syntax.specs.Strings.{line_end, Key}
+use Rattle.edit_syntax.specs.Grammar.{gap, Value, basic, literal, multi_basic, multi_literal, boolean, integer, float, datetime, array, inline, value, Elements, no_elements, last_element, element, elements, Members, no_members, last_member, member, members, Statement, pair, header, element_header, statement, empty_line, full_line, comment, Lines, one_line, more_lines, lines, Text, text}
 use Rattle.edit_document.specs.Assertions.{Place, index, at, named, names, Assertion, of_statement, prefix_after}
 use Rattle.edit_document.specs.Literals.{literal_of}
 use Rattle.edit_document.specs.Written.{Valued, valued, inside, in_elements, in_members, in_statement, in_lines}
 use Rattle.edit_document.specs.Replaces.{Edits, new_text, literal_or, put, replaced_inside, replaced_elements, replaced_members, replaced_statement, replaced_lines, replaced, edited, Swaps, rest, next, is_below}
 use Rattle.edit_document.proofs.SamePlaces.{is_within, within_same, below_at, within_at, within_named}
-use Rattle.edit_document.proofs.PutBefore.{IsKept, put_before, end_before, gap_before, pair_before, value_before, line_before, comment_before, statement_before, mark_before}
+use Rattle.edit_syntax.proofs.PutBefore.{IsKept, put_before, end_before, gap_before, pair_before, value_before, line_before, comment_before, statement_before, mark_before}
 use Rattle.edit_document.proofs.Thinned.{edited_below}
 use Rattle.edit_document.proofs.ReplacedTree.{AreApart}
 

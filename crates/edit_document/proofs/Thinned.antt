@@ -1,14 +1,14 @@
 -- Assertions of which some leaves have other values, and from which what stood below these is gone.
 use Rattle.std.proofs.Common.{◌≡◌, ℕ, suc, Bool, true, false, ◌||◌, cond, List, [], ◌∷◌, ◌++◌, map, Option, None, Some, refl, sym, ap, ◌∙◌, subst, append_assoc}
 use Rattle.std.specs.List.{AllByRecursion}
-use Rattle.edit_document.specs.Strings.{Key}
-use Rattle.edit_document.specs.Grammar.{Value, basic, literal, multi_basic, multi_literal, boolean, integer, float, datetime, array, inline, Elements, no_elements, last_element, element, Members, no_members, last_member, member}
+use Rattle.edit_syntax.specs.Strings.{Key}
+use Rattle.edit_syntax.specs.Grammar.{Value, basic, literal, multi_basic, multi_literal, boolean, integer, float, datetime, array, inline, Elements, no_elements, last_element, element, Members, no_members, last_member, member}
 use Rattle.edit_document.specs.Assertions.{Place, key, index, at, same_place, Kind, leaf, Assertion, asserts, names, named, of_key, of_value, of_elements, of_members, of_pair, is_array}
 use Rattle.edit_document.specs.Tree.{view_of_value, count_elements, static_array}
 use Rattle.edit_document.specs.Literals.{literal_of}
 use Rattle.edit_document.specs.Replaces.{Edits, new_text, literal_or, put, replaced_inside, replaced_elements, replaced_members, is_below, is_below_any}
 use Rattle.edit_document.proofs.SamePlaces.{is_within, within_same, below_at, within_at, within_named}
-use Rattle.edit_document.proofs.Cases.{by_test}
+use Rattle.edit_syntax.proofs.Cases.{by_test}
 use Rattle.edit_document.proofs.SamePlace.{same_place_is}
 
 abbrev pub is_leaf : Kind → Bool

@@ -2,7 +2,7 @@
 use Rattle.std.proofs.Common.{◌≡◌, ℕ, Bool, true, false, ◌&&◌, ◌||◌, if◌then◌else◌, cond, List, [], ◌∷◌, Option, None, Some, option_map, refl, sym, ap, ◌∙◌, subst, ◌⊎◌, inl, inr, ⊎_elim, true≢false}
 use Rattle.std.proofs.lemmas.Bool.{and_parts}
 use Rattle.std.specs.List.{filter_map, cons_option}
-use Rattle.edit_document.specs.Grammar.{Value, basic, literal, multi_basic, multi_literal, boolean, integer, float, datetime, array, inline}
+use Rattle.edit_syntax.specs.Grammar.{Value, basic, literal, multi_basic, multi_literal, boolean, integer, float, datetime, array, inline}
 use Rattle.edit_document.specs.Assertions.{Place, Step, same_step, same_place, Kind, dotted, leaf, super, header_kind, array_kind, element_kind, Assertion, elements_at}
 use Rattle.edit_document.specs.Tree.{table, table_array, inline_table, view_of_value, view_of_kind, members_of, kind_at, view_in, step_from, once}
 use Rattle.edit_document.specs.Literals.{literal_of}
@@ -10,7 +10,7 @@ use Rattle.edit_document.specs.Replaces.{Edits, new_text, is_below, is_below_any
 use Rattle.edit_document.proofs.SamePlaces.{is_within, within_cases}
 use Rattle.edit_document.proofs.Thinned.{Thin, none, keep, swap, lose, is_leaf}
 use Rattle.edit_document.proofs.ThinnedLines.{thin_count}
-use Rattle.edit_document.proofs.Cases.{by_test, or_false}
+use Rattle.edit_syntax.proofs.Cases.{by_test, or_false}
 use Rattle.edit_document.proofs.SamePlace.{same_step_is, same_place_is, same_step_self, same_place_self}
 
 -- a place that is none of the edited ones, and below none

@@ -6,7 +6,7 @@ use Rattle.std.proofs.lemmas.Option.{slice_get_within, same_Some}
 use Rattle.edit_document.specs.Assertions.{Step, key, index, Place, at, same_step}
 use Rattle.edit_document.specs.Nodes.{Spot, StandsAt, below, IsBelow, IsTree}
 use Rattle.edit_document.proofs.SamePlace.{same_step_self, same_step_is}
-use Rattle.edit_document.proofs.ListElements.{get_front, get_last, get_set_same, get_set_other, equal_or, OneSet, changed, other, in_set, OneMore, stood, newest, in_push}
+use Rattle.edit_syntax.proofs.ListElements.{get_front, get_last, get_set_same, get_set_other, equal_or, OneSet, changed, other, in_set, OneMore, stood, newest, in_push}
 
 -- what stood still stands
 abbrev pub Grows : List Spot → List Spot → Type 0

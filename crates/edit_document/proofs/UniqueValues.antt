@@ -3,15 +3,15 @@ use Rattle.std.proofs.Common.{◌≡◌, ℕ, suc, Bool, true, false, ◌&&◌, 
 use Rattle.std.proofs.lemmas.List.Elements.{filter_map-append}
 use Rattle.std.proofs.lemmas.Bool.{and_parts}
 use Rattle.std.specs.List.{AllByRecursion, filter_map, cons_option, list_any}
-use Rattle.edit_document.specs.Characters.{comma, right_bracket, right_brace}
-use Rattle.edit_document.specs.Strings.{Key, line_end}
-use Rattle.edit_document.specs.Grammar.{gap, Value, basic, literal, multi_basic, multi_literal, boolean, integer, float, datetime, array, inline, Elements, no_elements, last_element, element, elements, Members, no_members, last_member, member, members, Statement, pair, header, element_header, empty_line, full_line, comment, Lines, one_line, more_lines, lines, Text}
+use Rattle.edit_syntax.specs.Characters.{comma, right_bracket, right_brace}
+use Rattle.edit_syntax.specs.Strings.{Key, line_end}
+use Rattle.edit_syntax.specs.Grammar.{gap, Value, basic, literal, multi_basic, multi_literal, boolean, integer, float, datetime, array, inline, Elements, no_elements, last_element, element, elements, Members, no_members, last_member, member, members, Statement, pair, header, element_header, empty_line, full_line, comment, Lines, one_line, more_lines, lines, Text}
 use Rattle.edit_document.specs.Assertions.{Place, key, index, at, names, named, Kind, dotted, leaf, super, header_kind, array_kind, element_kind, Assertion, of_key, of_value, of_elements, of_members, fronts, resolved, of_statement, prefix_after, of_lines, assertions, together, same_place, NoClash}
 use Rattle.edit_document.specs.Tree.{is_value_at}
 use Rattle.edit_document.specs.Written.{Valued, valued, inside, in_elements, in_members, in_statement, in_lines, values}
-use Rattle.edit_document.proofs.Members.{Among, among_all, among_map, map_among, filter_among}
+use Rattle.edit_syntax.proofs.Members.{Among, among_all, among_map, map_among, filter_among}
 use Rattle.edit_document.proofs.Thinned.{is_leaf}
-use Rattle.edit_document.proofs.Cases.{by_test}
+use Rattle.edit_syntax.proofs.Cases.{by_test}
 use Rattle.edit_document.proofs.SamePlace.{same_place_is, same_place_self}
 
 abbrev leaf_place : Assertion → Option Place

@@ -2,9 +2,9 @@
 use Rattle.std.proofs.Common.{◌≡◌, ℕ, ◌-◌, ◌<◌, Bool, true, false, cond, List, [], ◌∷◌, map, length, get_or, Option, None, Some, option_map, refl, sym, ap, subst, ◌∙◌, inl, inr}
 use Rattle.std.specs.Prelude.{string_bytes}
 use Rattle.edit_document.specs.declared.nodes.Node.{Node}
-use Rattle.edit_document.specs.declared.nodes.Span.{Span}
+use Rattle.edit_syntax.specs.declared.span.Span.{Span}
 use Rattle.edit_document.specs.declared.document.Document.TheInside.{Inside}
-use Rattle.edit_document.specs.Grammar.{Text, text}
+use Rattle.edit_syntax.specs.Grammar.{Text, text}
 use Rattle.edit_document.specs.Assertions.{Place, same_place, Assertion, Kind, assertions}
 use Rattle.edit_document.specs.Tree.{View, table, members_of, view_of_kind, kind_at, view_in, is_value_at}
 use Rattle.edit_document.specs.Supported.{IsManifest}
@@ -14,12 +14,12 @@ use Rattle.edit_document.specs.DocumentLayout.{span_of, placed, span_at, shown_o
 use Rattle.edit_document.specs.Items.{place_numbered}
 use Rattle.edit_document.specs.Written.{Valued, values, IsWrittenAt}
 use Rattle.edit_document.proofs.SamePlace.{same_place_self, same_place_is}
-use Rattle.edit_document.proofs.Members.{Among, among_contained}
+use Rattle.edit_syntax.proofs.Members.{Among, among_contained}
 use Rattle.edit_document.proofs.UniqueValues.{value_listed}
 use Rattle.edit_document.proofs.ReplacedStrings.{told_value}
 use Rattle.edit_document.proofs.ShownForms.{shown_bytes, form_same, open_spots, shows_tree}
 use Rattle.edit_document.proofs.Views.{Opened, found}
-use Rattle.edit_document.proofs.Cases.{by_test}
+use Rattle.edit_syntax.proofs.Cases.{by_test}
 
 -- ---- the span that is told at a place is that of a value there
 

@@ -5,7 +5,7 @@ use Rattle.std.specs.Option.{option_copied}
 use Rattle.std.specs.Borrow.{Bor}
 use Rattle.std.proofs.lemmas.Option.{slice_get-map, slice_get_past, slice_get_within, slice_get_read, same_Some}
 use Rattle.std.proofs.lemmas.List.{length-map, map-append, take_more, take-append-drop}
-use Rattle.edit_document.specs.declared.nodes.Span.{Span}
+use Rattle.edit_syntax.specs.declared.span.Span.{Span}
 use Rattle.edit_document.specs.declared.nodes.Words.{Words}
 use Rattle.edit_document.specs.declared.nodes.Content.{Content}
 use Rattle.edit_document.specs.declared.nodes.Content.TheVariants as content
@@ -20,7 +20,7 @@ use Rattle.edit_document.specs.Nodes.{Spot, Shape, names_of, view_of_shape, show
 use Rattle.edit_document.specs.DocumentLayout.{spots_of, nodes_by, shown_by, shown_of, IsRead}
 use Rattle.edit_document.specs.Items.{step_seen, place_seen, viewed, place_numbered, view_numbered, key_names, names_in, count_in, Numbers, Shows}
 use Rattle.edit_document.proofs.SamePlace.{same_place_self, same_place_is, other_place, last_same, not_root}
-use Rattle.edit_document.proofs.ListElements.{slice_get_same}
+use Rattle.edit_syntax.proofs.ListElements.{slice_get_same}
 use Rattle.edit_document.proofs.Adding.{spot_of_node, below_node}
 
 -- a document that is open: its spots, and the nodes that keep them

@@ -3,22 +3,22 @@ use Rattle.std.proofs.Common.{◌≡◌, ℕ, ◌+◌, true, false, List, [], �
 use Rattle.std.specs.Prelude.{IsUtf8}
 use Rattle.std.proofs.lemmas.Bool.Decides.{nat_tests}
 use Rattle.std.proofs.lemmas.List.{append-nil}
-use Rattle.edit_document.specs.declared.read.marks.Mark.{Mark}
-use Rattle.edit_document.specs.declared.read.marks.MarkKind.TheVariants as kinds
-use Rattle.edit_document.specs.declared.nodes.Span.{Span}
+use Rattle.edit_syntax.specs.declared.read.marks.Mark.{Mark}
+use Rattle.edit_syntax.specs.declared.read.marks.MarkKind.TheVariants as kinds
+use Rattle.edit_syntax.specs.declared.span.Span.{Span}
 use Rattle.edit_document.specs.declared.nodes.Taken.TheVariants.{Dotted}
-use Rattle.edit_document.specs.Characters.{quote}
-use Rattle.edit_document.specs.Strings.{Piece, says, basic_text, literal_text}
-use Rattle.edit_document.specs.Grammar.{Value, basic, literal, boolean, value, IsValue}
+use Rattle.edit_syntax.specs.Characters.{quote}
+use Rattle.edit_syntax.specs.Strings.{Piece, says, basic_text, literal_text}
+use Rattle.edit_syntax.specs.Grammar.{Value, basic, literal, boolean, value, IsValue}
 use Rattle.edit_document.specs.Assertions.{index, Place, at, Assertion, of_value}
 use Rattle.edit_document.specs.Tree.{string, truth, kind_at}
 use Rattle.edit_document.specs.Written.{Valued, valued, inside}
 use Rattle.edit_document.specs.DocumentLayout.{shape_of_value, span_of, Placed, placed, span_at}
-use Rattle.edit_document.specs.Reading.{◌>>=◌}
+use Rattle.edit_syntax.specs.Reading.{◌>>=◌}
 use Rattle.edit_document.specs.Nodes.{Shape, scalar, Spot, StandsAt}
 use Rattle.edit_document.specs.Nodes as shapes
 use Rattle.edit_document.specs.Walk.{State, said, settled_state, is_dotted_within, entered_at, entered, opened, closed, step, walked}
-use Rattle.edit_document.specs.Marks.{mark}
+use Rattle.edit_syntax.specs.Marks.{mark}
 use Rattle.edit_document.proofs.Ends.{Ends}
 use Rattle.edit_document.proofs.MoreAssertions.{IsClear, clear_front}
 use Rattle.edit_document.proofs.Trees.{Grows, grows_then}

@@ -3,21 +3,21 @@ use Rattle.std.proofs.Common.{◌≡◌, ℕ, Bool, true, false, cond, List, [],
 use Rattle.std.specs.Prelude.{slice_get, IsUtf8}
 use Rattle.std.proofs.lemmas.List.{append-nil, map-append}
 use Rattle.std.proofs.lemmas.Option.{same_Some}
-use Rattle.edit_document.specs.declared.read.marks.Mark.{Mark}
-use Rattle.edit_document.specs.declared.read.marks.MarkKind.TheVariants as kinds
+use Rattle.edit_syntax.specs.declared.read.marks.Mark.{Mark}
+use Rattle.edit_syntax.specs.declared.read.marks.MarkKind.TheVariants as kinds
 use Rattle.edit_document.specs.declared.nodes.Taken.TheVariants.{Super, Header, Array, Element}
-use Rattle.edit_document.specs.Characters.{equals, left_bracket, right_bracket}
-use Rattle.edit_document.specs.Strings.{◌·◌, LineEnd, line_end, name, Dotted as DottedPart, Key}
-use Rattle.edit_document.specs.Strings as strings
-use Rattle.edit_document.specs.Grammar.{value, Statement, pair, header, element_header, statement, IsStatement, comment, empty_line, full_line, Lines, one_line, more_lines, lines, AreLines, Text}
+use Rattle.edit_syntax.specs.Characters.{equals, left_bracket, right_bracket}
+use Rattle.edit_syntax.specs.Strings.{◌·◌, LineEnd, line_end, name, Dotted as DottedPart, Key}
+use Rattle.edit_syntax.specs.Strings as strings
+use Rattle.edit_syntax.specs.Grammar.{value, Statement, pair, header, element_header, statement, IsStatement, comment, empty_line, full_line, Lines, one_line, more_lines, lines, AreLines, Text}
 use Rattle.edit_document.specs.Assertions.{key, index, Place, at, same_place, together, resolved, Kind, dotted, leaf, super, header_kind, array_kind, element_kind, Assertion, asserts, names, elements_at, fronts, header_place, prefix_after, of_statement, of_lines, assertions}
 use Rattle.edit_document.specs.Tree.{kind_at}
 use Rattle.edit_document.specs.Written.{in_statement, in_lines, values}
 use Rattle.edit_document.specs.DocumentLayout.{Placed, placed}
-use Rattle.edit_document.specs.Reading.{◌>>=◌}
+use Rattle.edit_syntax.specs.Reading.{◌>>=◌}
 use Rattle.edit_document.specs.Nodes.{section, sections, Spot, StandsAt}
 use Rattle.edit_document.specs.Walk.{State, element_added, settled_state, settled, turned, headed, element_headed, step, start, walked}
-use Rattle.edit_document.specs.Marks.{mark, value_marks, statement_marks, lines_marks, text_marks}
+use Rattle.edit_syntax.specs.Marks.{mark, value_marks, statement_marks, lines_marks, text_marks}
 use Rattle.edit_document.proofs.Ends.{Ends, ends_past, ends_one, ends_pair, ends_line, ends_line_end}
 use Rattle.edit_document.proofs.SamePlace.{not_root}
 use Rattle.edit_document.proofs.MoreAssertions.{first_kind, first_is, kind_stays, kind_new, IsClear, clear_front, clash_last, allowed}

@@ -4,16 +4,16 @@ use Rattle.std.specs.Prelude.{map, option_map, IsUtf8}
 use Rattle.std.specs.List.{AllByRecursion}
 use Rattle.std.proofs.lemmas.List.{append-nil}
 use Rattle.std.proofs.lemmas.Str.{is_utf8-from_IsUtf8}
-use Rattle.edit_document.specs.declared.read.marks.Mark.{Mark}
-use Rattle.edit_document.specs.Characters.{quote, apostrophe, is_blank, is_bare, is_literal_ch, All}
-use Rattle.edit_document.specs.Strings.{Piece, pieces, says, IsBasicPiece, Part, bare, basic_part, literal_part, part, IsPart, name, basic_text, literal_text, Dotted, dotted, Key, IsKey}
-use Rattle.edit_document.specs.Strings as strings
+use Rattle.edit_syntax.specs.declared.read.marks.Mark.{Mark}
+use Rattle.edit_syntax.specs.Characters.{quote, apostrophe, is_blank, is_bare, is_literal_ch, All}
+use Rattle.edit_syntax.specs.Strings.{Piece, pieces, says, IsBasicPiece, Part, bare, basic_part, literal_part, part, IsPart, name, basic_text, literal_text, Dotted, dotted, Key, IsKey}
+use Rattle.edit_syntax.specs.Strings as strings
 use Rattle.edit_document.specs.Assertions.{names}
-use Rattle.edit_document.specs.Reading.{◌>>=◌}
+use Rattle.edit_syntax.specs.Reading.{◌>>=◌}
 use Rattle.edit_document.specs.Nodes.{Spot}
 use Rattle.edit_document.specs.Walk.{suffix, basic_said, literal_said, as_text, said, State, awaiting, settled_state, step, walked}
-use Rattle.edit_document.specs.Marks.{part_mark, dotted_marks, key_marks}
-use Rattle.edit_document.proofs.TokenLaws.{basic_again, literal_again}
+use Rattle.edit_syntax.specs.Marks.{part_mark, dotted_marks, key_marks}
+use Rattle.edit_syntax.proofs.TokenLaws.{basic_again, literal_again}
 use Rattle.edit_document.proofs.Ends.{Ends, ends_past, ends_one, ends_part, suffix_is, take_length, text_before, text_behind, ascii_text, bare_small, says_text}
 use Rattle.edit_document.proofs.Walks.{walked_first}
 

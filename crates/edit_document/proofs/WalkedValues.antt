@@ -3,19 +3,19 @@ use Rattle.std.proofs.Common.{◌≡◌, ℕ, suc, ◌+◌, ◌<◌, ◌≤◌, 
 use Rattle.std.specs.Prelude.{IsUtf8}
 use Rattle.std.proofs.lemmas.List.{append-nil, length_push, map-append}
 use Rattle.std.proofs.lemmas.Option.{slice_get_past}
-use Rattle.edit_document.specs.declared.read.marks.MarkKind.TheVariants as kinds
-use Rattle.edit_document.specs.declared.nodes.Span.{Span}
+use Rattle.edit_syntax.specs.declared.read.marks.MarkKind.TheVariants as kinds
+use Rattle.edit_syntax.specs.declared.span.Span.{Span}
 use Rattle.edit_document.specs.declared.nodes.Taken.TheVariants.{Dotted}
-use Rattle.edit_document.specs.Characters.{comma, equals, right_bracket, right_brace}
-use Rattle.edit_document.specs.Strings.{name, basic_text, literal_text, Dotted as DottedPart, Key}
-use Rattle.edit_document.specs.Grammar.{Between, gap, Value, basic, literal, multi_basic, multi_literal, boolean, integer, float, datetime, array, inline, Elements, no_elements, last_element, element, Members, no_members, last_member, member, value, elements, members, IsValue, AreElements, AreMembers}
+use Rattle.edit_syntax.specs.Characters.{comma, equals, right_bracket, right_brace}
+use Rattle.edit_syntax.specs.Strings.{name, basic_text, literal_text, Dotted as DottedPart, Key}
+use Rattle.edit_syntax.specs.Grammar.{Between, gap, Value, basic, literal, multi_basic, multi_literal, boolean, integer, float, datetime, array, inline, Elements, no_elements, last_element, element, Members, no_members, last_member, member, value, elements, members, IsValue, AreElements, AreMembers}
 use Rattle.edit_document.specs.Assertions.{key, index, Place, at, Kind, dotted, leaf, Assertion, asserts, names, named, of_key, of_value, of_elements, of_members}
 use Rattle.edit_document.specs.Tree.{kind_at, count_elements}
 use Rattle.edit_document.specs.Written.{valued, inside, in_elements, in_members}
 use Rattle.edit_document.specs.DocumentLayout.{Placed, placed}
 use Rattle.edit_document.specs.Nodes.{Spot, StandsAt}
 use Rattle.edit_document.specs.Walk.{settled_state, is_dotted_within, walked}
-use Rattle.edit_document.specs.Marks.{mark, key_marks, value_marks, elements_marks, members_marks}
+use Rattle.edit_syntax.specs.Marks.{mark, key_marks, value_marks, elements_marks, members_marks}
 use Rattle.edit_document.proofs.Ends.{Ends, ends_one, ends_pair, ends_gap, ends_value}
 use Rattle.edit_document.proofs.SamePlace.{same_place_self, other_place, last_same, not_root, not_below}
 use Rattle.edit_document.proofs.MoreAssertions.{first_kind, first_stays, first_is}

@@ -1,10 +1,10 @@
 -- The walk over marks, one after the other.
 use Rattle.std.proofs.Common.{◌≡◌, ℕ, ◌+◌, ◌-◌, List, [], ◌∷◌, ◌++◌, length, Option, Some, None, refl, ap, ◌∙◌, length-append, arith}
 use Rattle.std.specs.Prelude.{slice_get}
-use Rattle.edit_document.specs.declared.read.marks.Mark.{Mark}
-use Rattle.edit_document.specs.Reading.{◌>>=◌}
+use Rattle.edit_syntax.specs.declared.read.marks.Mark.{Mark}
+use Rattle.edit_syntax.specs.Reading.{◌>>=◌}
 use Rattle.edit_document.specs.Walk.{State, last_of, step, walked}
-use Rattle.edit_document.proofs.ListElements.{get_last}
+use Rattle.edit_syntax.proofs.ListElements.{get_last}
 
 bind_some : {A : Type 0} (o : Option A) → (o >>= λ x. Some x) ≡ o
 bind_some None = refl

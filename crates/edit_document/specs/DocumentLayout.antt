@@ -1,20 +1,20 @@
 -- What a document keeps of its text, and what it shows.
 use Rattle.std.specs.Prelude.{◌≡◌, ℕ, List, [], ◌∷◌, length, map, slice_get, Option, Some, None, if◌then◌else◌, string_bytes}
-use Rattle.edit_document.specs.declared.nodes.Span.{Span}
+use Rattle.edit_syntax.specs.declared.span.Span.{Span}
 use Rattle.edit_document.specs.declared.document.Document.TheInside.{Inside}
-use Rattle.edit_document.specs.Characters.{quote, apostrophe}
-use Rattle.edit_document.specs.Strings.{says, says_multi}
-use Rattle.edit_document.specs.Numbers.{integer_text, float_text, datetime_text}
-use Rattle.edit_document.specs.Grammar.{Value, basic, literal, multi_basic, multi_literal, boolean, integer, float, datetime, array, inline, value, Text}
+use Rattle.edit_syntax.specs.Characters.{quote, apostrophe}
+use Rattle.edit_syntax.specs.Strings.{says, says_multi}
+use Rattle.edit_syntax.specs.Numbers.{integer_text, float_text, datetime_text}
+use Rattle.edit_syntax.specs.Grammar.{Value, basic, literal, multi_basic, multi_literal, boolean, integer, float, datetime, array, inline, value, Text}
 use Rattle.edit_document.specs.Assertions.{Place, same_place}
 use Rattle.edit_document.specs.Tree.{View, string, truth, whole, fractional, moment, view_at}
 use Rattle.edit_document.specs.Supported.{IsManifest}
-use Rattle.edit_document.specs.Reading.{◌>>=◌}
-use Rattle.edit_document.specs.Marks.{text_marks}
+use Rattle.edit_syntax.specs.Reading.{◌>>=◌}
+use Rattle.edit_syntax.specs.Marks.{text_marks}
 use Rattle.edit_document.specs.Shown.{Shown, node_at}
 use Rattle.edit_document.specs.Nodes.{Shape, scalar, Spot, shown_spot, Holds, IsTree}
 use Rattle.edit_document.specs.Nodes as shapes
-use Rattle.edit_document.specs.FormOf.{form_of}
+use Rattle.edit_syntax.specs.FormOf.{form_of}
 use Rattle.edit_document.specs.Walk.{start, walked}
 use Rattle.edit_document.specs.Written.{Valued, values}
 

@@ -1,8 +1,8 @@
 -- The string literal of a text: how a new string is written (TOML 1.0.0, "String", basic strings).
 use Rattle.std.specs.Prelude.{ℕ, Bool, ◌+◌, ◌/◌, ◌%◌, ◌||◌, ◌==◌, nat_lt, if◌then◌else◌, List, [], ◌∷◌, map}
-use Rattle.edit_document.specs.Characters.{quote, backslash}
-use Rattle.edit_document.specs.Strings.{Piece, plain, letter, short, piece, pieces}
-use Rattle.edit_document.specs.Grammar.{Value, basic, value}
+use Rattle.edit_syntax.specs.Characters.{quote, backslash}
+use Rattle.edit_syntax.specs.Strings.{Piece, plain, letter, short, piece, pieces}
+use Rattle.edit_syntax.specs.Grammar.{Value, basic, value}
 
 -- an upper-case hexadecimal digit
 abbrev pub hex_digit : ℕ → ℕ

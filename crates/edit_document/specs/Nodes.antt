@@ -4,7 +4,7 @@ use Rattle.std.specs.Global.{Box, Global}
 use Rattle.std.specs.Map.{lookup}
 use Rattle.std.specs.Str.{bytes_eq}
 use Rattle.indexmap.specs.IndexMap.{IndexMap}
-use Rattle.edit_document.specs.declared.nodes.Span.{Span}
+use Rattle.edit_syntax.specs.declared.span.Span.{Span}
 use Rattle.edit_document.specs.declared.nodes.Words.{Words}
 use Rattle.edit_document.specs.declared.nodes.Words.TheVariants.{Kept, Made}
 use Rattle.edit_document.specs.declared.nodes.Content.{Content}
@@ -14,8 +14,8 @@ use Rattle.edit_document.specs.declared.nodes.Lookup.{Lookup}
 use Rattle.edit_document.specs.declared.nodes.Members.{Members}
 use Rattle.edit_document.specs.declared.nodes.Node.{Node}
 use Rattle.edit_document.specs.Assertions.{Step, key, index, Place, at}
-use Rattle.edit_document.specs.declared.read.marks.MarkKind.{MarkKind}
-use Rattle.edit_document.specs.declared.read.marks.MarkKind.TheVariants as kinds
+use Rattle.edit_syntax.specs.declared.read.marks.MarkKind.{MarkKind}
+use Rattle.edit_syntax.specs.declared.read.marks.MarkKind.TheVariants as kinds
 use Rattle.edit_document.specs.Tree.{View, string, truth, whole, fractional, moment, static_array, table_array, inline_table, table}
 
 -- what stands at a place, but for its members

@@ -1,7 +1,7 @@
 -- Strings written at places: the form that a text then has, the bytes that are kept, and the tree that is meant.
 use Rattle.std.specs.Prelude.{◌≡◌, ℕ, suc, Bool, true, false, ◌&&◌, ◌||◌, if◌then◌else◌, List, [], ◌∷◌, ◌++◌, Option, Some, None, option_map, ⊤}
 use Rattle.std.specs.List.{AllByRecursion, filter_map}
-use Rattle.edit_document.specs.Grammar.{Value, basic, literal, multi_basic, multi_literal, boolean, integer, float, datetime, array, inline, value, Elements, no_elements, last_element, element, Members, no_members, last_member, member, Statement, pair, header, element_header, empty_line, full_line, Lines, one_line, more_lines, Text, text}
+use Rattle.edit_syntax.specs.Grammar.{Value, basic, literal, multi_basic, multi_literal, boolean, integer, float, datetime, array, inline, value, Elements, no_elements, last_element, element, Members, no_members, last_member, member, Statement, pair, header, element_header, empty_line, full_line, Lines, one_line, more_lines, Text, text}
 use Rattle.edit_document.specs.Assertions.{Place, index, at, names, named, same_step, same_place, Assertion, of_statement, prefix_after}
 use Rattle.edit_document.specs.Tree.{View, string, view_at}
 use Rattle.edit_document.specs.Supported.{IsManifest}

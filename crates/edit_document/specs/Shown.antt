@@ -1,7 +1,7 @@
 -- What a document shows: its bytes, and what stands at each place that a statement asserts.
 use Rattle.std.specs.Prelude.{◌≡◌, ℕ, List, [], ◌∷◌, Option, Some, None, if◌then◌else◌}
 use Rattle.edit_document.specs.Assertions.{Place, same_place}
-use Rattle.edit_document.specs.Grammar.{Text}
+use Rattle.edit_syntax.specs.Grammar.{Text}
 use Rattle.edit_document.specs.Tree.{View, view_at}
 
 -- the bytes, and each place with its view, the root first and then in the order of first assertions

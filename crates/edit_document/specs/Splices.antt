@@ -3,7 +3,7 @@ use Rattle.std.specs.Prelude.{◌≡◌, ℕ, ◌≤◌, List, [], ◌∷◌, �
 use Rattle.std.specs.Str.{IsCharBoundary}
 use Rattle.edit_document.specs.declared.replace.Rewrite.{Rewrite}
 use Rattle.edit_document.specs.Literals.{literal_bytes}
-use Rattle.edit_document.specs.Grammar.{Text}
+use Rattle.edit_syntax.specs.Grammar.{Text}
 use Rattle.edit_document.specs.Assertions.{Place, IsDocument}
 use Rattle.edit_document.specs.Tree.{view_at}
 use Rattle.edit_document.specs.Written.{Valued, start_of, end_of, IsWrittenAt}

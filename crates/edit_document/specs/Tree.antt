@@ -1,10 +1,10 @@
 -- The tree of a document: what stands at each place, and its members in the order of their first assertions.
 use Rattle.std.specs.Prelude.{◌≡◌, ℕ, suc, Bool, true, false, not, ◌&&◌, if◌then◌else◌, List, [], ◌∷◌, Option, Some, None, option_map}
 use Rattle.std.specs.List.{filter, list_any, filter_map}
-use Rattle.edit_document.specs.Characters.{quote, apostrophe}
-use Rattle.edit_document.specs.Strings.{says, says_multi}
-use Rattle.edit_document.specs.Numbers.{integer_text, float_text, datetime_text}
-use Rattle.edit_document.specs.Grammar.{Value, basic, literal, multi_basic, multi_literal, boolean, integer, float, datetime, array, inline, Elements, no_elements, last_element, element, Text}
+use Rattle.edit_syntax.specs.Characters.{quote, apostrophe}
+use Rattle.edit_syntax.specs.Strings.{says, says_multi}
+use Rattle.edit_syntax.specs.Numbers.{integer_text, float_text, datetime_text}
+use Rattle.edit_syntax.specs.Grammar.{Value, basic, literal, multi_basic, multi_literal, boolean, integer, float, datetime, array, inline, Elements, no_elements, last_element, element, Text}
 use Rattle.edit_document.specs.Assertions.{Step, Place, same_step, same_place, Kind, dotted, leaf, super, header_kind, array_kind, element_kind, Assertion, assertions, elements_at}
 
 -- the step from a place to a place below it, where there is one step

@@ -2,15 +2,15 @@
 -- what it has to do with the assertions of a form is proved in proofs/.
 use Rattle.std.specs.Prelude.{ℕ, ◌-◌, Bool, true, false, nat_le, nat_lt, if◌then◌else◌, List, [], ◌∷◌, ◌++◌, length, take, drop, slice_get, slice_set, Option, Some, None, option_map, option_to_list, unwrap_or}
 use Rattle.std.specs.Str.{is_utf8}
-use Rattle.edit_document.specs.declared.read.marks.Mark.{Mark}
-use Rattle.edit_document.specs.declared.read.marks.MarkKind.{MarkKind}
-use Rattle.edit_document.specs.declared.read.marks.MarkKind.TheVariants as kinds
-use Rattle.edit_document.specs.declared.nodes.Span.{Span}
+use Rattle.edit_syntax.specs.declared.read.marks.Mark.{Mark}
+use Rattle.edit_syntax.specs.declared.read.marks.MarkKind.{MarkKind}
+use Rattle.edit_syntax.specs.declared.read.marks.MarkKind.TheVariants as kinds
+use Rattle.edit_syntax.specs.declared.span.Span.{Span}
 use Rattle.edit_document.specs.declared.nodes.Taken.{Taken}
 use Rattle.edit_document.specs.declared.nodes.Taken.TheVariants.{Dotted, Value, Super, Header, Array, Element}
-use Rattle.edit_document.specs.Characters.{quote, apostrophe}
-use Rattle.edit_document.specs.Strings.{says, says_multi}
-use Rattle.edit_document.specs.Reading.{◌>>=◌, basic_at, literal_at, multi_at}
+use Rattle.edit_syntax.specs.Characters.{quote, apostrophe}
+use Rattle.edit_syntax.specs.Strings.{says, says_multi}
+use Rattle.edit_syntax.specs.Reading.{◌>>=◌, basic_at, literal_at, multi_at}
 use Rattle.edit_document.specs.Assertions.{Place, key, index, at}
 use Rattle.edit_document.specs.Tree.{truth}
 use Rattle.edit_document.specs.Nodes.{Shape, shape_said, scalar, listed, inline, section, sections, Spot, below}

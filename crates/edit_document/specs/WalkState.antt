@@ -1,11 +1,11 @@
 -- The state of the walk over marks, as the code keeps it.
 use Rattle.std.specs.Prelude.{◌≡◌, ℕ, Bool, true, false, List, ◌++◌, length, map, Option, Some, None, option_map, string_bytes}
-use Rattle.edit_document.specs.declared.read.marks.Mark.{Mark}
-use Rattle.edit_document.specs.declared.read.marks.MarkKind.{MarkKind}
-use Rattle.edit_document.specs.declared.read.marks.MarkKind.TheVariants as kinds
+use Rattle.edit_syntax.specs.declared.read.marks.Mark.{Mark}
+use Rattle.edit_syntax.specs.declared.read.marks.MarkKind.{MarkKind}
+use Rattle.edit_syntax.specs.declared.read.marks.MarkKind.TheVariants as kinds
 use Rattle.edit_document.specs.declared.nodes.Node.{Node}
 use Rattle.edit_document.specs.declared.walk.Walk.{Walk}
-use Rattle.edit_document.specs.Decoding.{delimited, Says}
+use Rattle.edit_syntax.specs.Decoding.{delimited, Says}
 use Rattle.edit_document.specs.Nodes.{Spot, Holds}
 use Rattle.edit_document.specs.Walk.{State, said}
 

@@ -1,9 +1,9 @@
 -- Where the values of a text stand: each with its place and the text behind it.
 use Rattle.std.specs.Prelude.{◌≡◌, ℕ, suc, ◌-◌, List, [], ◌∷◌, ◌++◌, length}
 use Rattle.std.specs.List.{Contains}
-use Rattle.edit_document.specs.Characters.{comma, right_bracket, right_brace}
-use Rattle.edit_document.specs.Strings.{◌·◌, line_end}
-use Rattle.edit_document.specs.Grammar.{gap, Value, basic, literal, multi_basic, multi_literal, boolean, integer, float, datetime, array, inline, value, Elements, no_elements, last_element, element, elements, Members, no_members, last_member, member, members, Statement, pair, header, element_header, empty_line, full_line, comment, Lines, one_line, more_lines, lines, Text, text}
+use Rattle.edit_syntax.specs.Characters.{comma, right_bracket, right_brace}
+use Rattle.edit_syntax.specs.Strings.{◌·◌, line_end}
+use Rattle.edit_syntax.specs.Grammar.{gap, Value, basic, literal, multi_basic, multi_literal, boolean, integer, float, datetime, array, inline, value, Elements, no_elements, last_element, element, elements, Members, no_members, last_member, member, members, Statement, pair, header, element_header, empty_line, full_line, comment, Lines, one_line, more_lines, lines, Text, text}
 use Rattle.edit_document.specs.Assertions.{Place, index, at, names, named, Assertion, of_statement, prefix_after}
 
 -- a value, and the text behind it

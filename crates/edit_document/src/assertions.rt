@@ -1,14 +1,15 @@
 //! What an assertion makes of the nodes: a new node, or an old one whose place is taken again.
 ghost use Rattle.std.specs.Prelude.{◌≡◌, ℕ, List, IfOk, IfErr, None, map, nat_le, string_bytes};
-ghost use Rattle.edit_document.specs.Errors.{IsMemory};
+ghost use Rattle.edit_base.specs.Errors.{IsMemory};
 ghost use Rattle.edit_document.specs.Nodes.{Spot, Holds, shape_of};
 ghost use Rattle.edit_document.specs.Taking as taking;
 ghost use Rattle.edit_document.specs.declared.nodes.Taken.TheVariants.{Super};
 ghost use Rattle.edit_document.specs.Walk.{child, last_table, target_of, taken_again, added, element_added, asserted, front_shape, reached};
 ghost use Rattle.edit_document.specs.WalkState.{Adds, Puts};
 
-use crate::errors::CargoResult;
-use crate::nodes::{Content, Members, Node, Span, Taken};
+use edit_base::errors::CargoResult;
+use crate::nodes::{Content, Members, Node, Taken};
+use edit_syntax::Span;
 use std::alloc::Global;
 
 /// Whether a place that is taken so may be taken again.

@@ -1,9 +1,10 @@
 //! The table of nodes of a document.
 ghost use Rattle.std.specs.Prelude.{◌≡◌, ◌<◌, ◌^◌, [], ◌∷◌, ◌++◌, None, IfOk, IfErr, IsTrue, length, option_map, slice_get, string_bytes};
-ghost use Rattle.edit_document.specs.Errors.{IsMemory};
-ghost use Rattle.edit_document.specs.Nodes.{bytes_at, bytes_of, looked_up, entries_of, names_in, number_in};
+ghost use Rattle.edit_base.specs.Errors.{IsMemory};
+ghost use Rattle.edit_document.specs.Nodes.{bytes_of, looked_up, entries_of, names_in, number_in};
+ghost use Rattle.edit_syntax.specs.Spans.{bytes_at};
 
-use crate::errors::CargoResult;
+use edit_base::errors::CargoResult;
 use indexmap::IndexMap;
 use std::alloc::Global;
 

@@ -1,7 +1,7 @@
 //! Literals written in the place of values.
 ghost use Rattle.std.specs.Prelude.{◌≡◌, IfOk, IfErr, true, map, string_bytes};
-ghost use Rattle.edit_document.specs.Errors.{IsMemory};
-ghost use Rattle.edit_document.specs.Grammar.{Text, text as text_of};
+ghost use Rattle.edit_base.specs.Errors.{IsMemory};
+ghost use Rattle.edit_syntax.specs.Grammar.{Text, text as text_of};
 ghost use Rattle.edit_document.specs.Items.{place_seen};
 ghost use Rattle.edit_document.specs.Ranges.{one_edit, edits_seen};
 ghost use Rattle.edit_document.specs.Replaces.{Edits, replaced, written, emptied, is_string, AreStrings, AreDistinct, Replaces};
@@ -12,7 +12,7 @@ ghost use Rattle.edit_document.specs.Supported.{IsManifest};
 ghost use Rattle.edit_document.specs.Tree.{is_value_at, view_at};
 
 use crate::document::Document;
-use crate::errors::CargoResult;
+use edit_base::errors::CargoResult;
 use crate::literal::push_literal;
 use crate::place::{Place, Step};
 use std::alloc::Global;

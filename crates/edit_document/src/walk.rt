@@ -1,16 +1,17 @@
 //! The walk over the marks of a text, which makes its nodes.
 ghost use Rattle.std.specs.Prelude.{◌≡◌, ◌∷◌, [], ℕ, List, IfOk, IfErr, MatchResult, length, string_bytes, Some, None};
-ghost use Rattle.edit_document.specs.Errors.{IsMemory};
+ghost use Rattle.edit_base.specs.Errors.{IsMemory};
 ghost use Rattle.edit_document.specs.Nodes.{shape_of};
 ghost use Rattle.edit_document.specs.Walk.{State, awaiting, is_dotted_within, settled, entered_at, entered, opened, closed, headed, element_headed, start, step, walked};
 ghost use Rattle.edit_document.specs.WalkState.{Walks, Goes, Settles, IsToken, KeepsState};
-ghost use Rattle.edit_document.specs.Marks.{IsReadRefusal};
+ghost use Rattle.edit_syntax.specs.Marks.{IsReadRefusal};
 ghost use Rattle.std.specs.List.{AllByRecursion};
 
 use crate::assertions::{add_element, assert_member, reach};
-use crate::errors::{CargoResult, Error};
-use crate::nodes::{Content, Members, Node, Span, Taken};
-use crate::read::{Mark, MarkKind};
+use edit_base::errors::{CargoResult, Error};
+use crate::nodes::{Content, Members, Node, Taken};
+use edit_syntax::Span;
+use edit_syntax::read::{Mark, MarkKind};
 use crate::words::{told, worded};
 use std::alloc::Global;
 

@@ -1,13 +1,13 @@
 //! What the tokens of a text say and show.
 ghost use Rattle.std.specs.Prelude.{◌≡◌, ℕ, List, IfOk, IfErr, string_bytes};
-ghost use Rattle.edit_document.specs.Errors.{IsMemory};
+ghost use Rattle.edit_base.specs.Errors.{IsMemory};
 ghost use Rattle.edit_document.specs.Nodes.{bytes_of, shape_of, shape_said};
 ghost use Rattle.edit_document.specs.WalkState.{SaysAt};
 
-use crate::errors::CargoResult;
+use edit_base::errors::CargoResult;
 use crate::nodes::{Content, Words};
-use crate::read::decode::{content, content_span, is_plain, said};
-use crate::read::{Mark, MarkKind};
+use edit_syntax::read::decode::{content, content_span, is_plain, said};
+use edit_syntax::read::{Mark, MarkKind};
 use std::alloc::Global;
 
 /// What the token of a mark says.

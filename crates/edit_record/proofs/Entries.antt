@@ -9,24 +9,24 @@ use Rattle.std.proofs.lemmas.Bool.{cases_Bool}
 use Rattle.semver.specs.Parse.{Parts}
 use Rattle.edit_record.specs.Admissible.{admissible, admissible_in, entry_order, if_passes, is_kept, version_in}
 use Rattle.edit_record.specs.Finding.{IsFound, IsFoundAtLeast}
-use Rattle.edit_record.specs.Greatest.{IsGreatest, IsGreatestKept}
+use Rattle.edit_version.specs.Greatest.{IsGreatest, IsGreatestKept}
 use Rattle.edit_record.specs.IndexEntry.{IndexEntry}
-use Rattle.edit_record.specs.Laws.{holds_dash}
-use Rattle.edit_record.specs.RustVersions.{Numbers}
-use Rattle.edit_record.specs.Selection.{is_admitted, is_allowed}
+use Rattle.edit_version.specs.Laws.{holds_dash}
+use Rattle.edit_version.specs.RustVersions.{Numbers}
+use Rattle.edit_version.specs.Selection.{is_admitted, is_allowed}
 use Rattle.edit_record.specs.declared.dependency.Dependency.{Dependency}
 use Rattle.edit_record.specs.declared.dependency.Source.{Source}
 use Rattle.std.proofs.lemmas.List.Elements.{All-cons, All-head, All-nil, All-tail, filter_map-append}
 use Rattle.semver.specs.Grammar.{IsValid}
 use Rattle.semver.proofs.Grammar.{version_parts-sound}
 use Rattle.edit_record.specs.Records.{source_version, version_of}
-use Rattle.edit_record.specs.Requirement.{cut, plain_text}
-use Rattle.edit_record.specs.VersionOrder.{full_order}
-use Rattle.edit_record.proofs.Builds.{cut-text}
-use Rattle.edit_record.proofs.Greatests.{wider, wider-found}
+use Rattle.edit_version.specs.Requirement.{cut, plain_text}
+use Rattle.edit_version.specs.VersionOrder.{full_order}
+use Rattle.edit_version.proofs.Builds.{cut-text}
+use Rattle.edit_version.proofs.Greatests.{wider, wider-found}
 use Rattle.edit_record.proofs.Kept.{admissible-version, read-parts}
-use Rattle.edit_record.proofs.Offers.{admitted-allowed}
-use Rattle.edit_record.proofs.Orders.{full_total}
+use Rattle.edit_version.proofs.Offers.{admitted-allowed}
+use Rattle.edit_version.proofs.Orders.{full_total}
 
 -- the order of entries is total
 pub entry_total : IsTotalOrder entry_order

@@ -6,7 +6,7 @@ use Rattle.semver.specs.Parse.{Parts, version_parts}
 use Rattle.semver.specs.declared.error.Error.{Error}
 use Rattle.edit_record.specs.Admissible.{admissible, asked_rust, candidate_in, if_fits, if_passes, if_read, is_too_new, kept_in, version_in, version_read}
 use Rattle.edit_record.specs.IndexEntry.{IndexEntry}
-use Rattle.edit_record.specs.RustVersions.{Numbers}
+use Rattle.edit_version.specs.RustVersions.{Numbers}
 
 passes-some : (test : Parts → Bool) (o : Option Parts) (v : Parts) → if_passes test o ≡ Some v → (o ≡ Some v) × (test v ≡ true)
 passes-some test None v h = cc h

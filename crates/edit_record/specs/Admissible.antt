@@ -4,11 +4,11 @@ use Rattle.std.specs.List.{filter_map}
 use Rattle.std.specs.declared.cmp.Ordering.{Ordering}
 use Rattle.semver.specs.Parse.{Held, Parts, version_parts}
 use Rattle.semver.specs.declared.error.Error.{Error}
-use Rattle.edit_record.specs.Admits.{admits}
+use Rattle.edit_version.specs.Admits.{admits}
 use Rattle.edit_record.specs.IndexEntry.{IndexEntry}
-use Rattle.edit_record.specs.RustVersions.{Numbers, is_above, rust_of}
-use Rattle.edit_record.specs.Selection.{is_allowed}
-use Rattle.edit_record.specs.VersionOrder.{full_order}
+use Rattle.edit_version.specs.RustVersions.{Numbers, is_above, rust_of}
+use Rattle.edit_version.specs.Selection.{is_allowed}
+use Rattle.edit_version.specs.VersionOrder.{full_order}
 
 -- what was read, where it was
 abbrev pub if_read : Result Parts Error → Option Parts

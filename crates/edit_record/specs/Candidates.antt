@@ -2,7 +2,7 @@
 use Rattle.std.specs.Prelude.{Option, option_map}
 use Rattle.semver.specs.Identifiers.{parts_of}
 use Rattle.semver.specs.Parse.{Parts}
-use Rattle.edit_record.specs.RustVersions.{Numbers, numbers_of}
+use Rattle.edit_version.specs.RustVersions.{Numbers, numbers_of}
 use Rattle.edit_record.specs.declared.find.Candidate.{Candidate}
 
 -- the version that was read, and the Rust version that the entry asks for (own)

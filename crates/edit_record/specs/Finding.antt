@@ -3,10 +3,10 @@ use Rattle.std.specs.Prelude.{◌≡◌, Bool, List, Option, Some, None, true}
 use Rattle.std.specs.Ordering.{is_le}
 use Rattle.semver.specs.Parse.{Parts}
 use Rattle.edit_record.specs.Admissible.{entry_order, is_kept}
-use Rattle.edit_record.specs.Greatest.{IsGreatest, IsGreatestKept}
+use Rattle.edit_version.specs.Greatest.{IsGreatest, IsGreatestKept}
 use Rattle.edit_record.specs.IndexEntry.{IndexEntry}
 use Rattle.edit_record.specs.Records.{IsRegistryDependency}
-use Rattle.edit_record.specs.RustVersions.{Numbers}
+use Rattle.edit_version.specs.RustVersions.{Numbers}
 use Rattle.edit_record.specs.declared.dependency.Dependency.{Dependency}
 
 -- the greatest of the admissible entries whose versions pass a test, the last of equal ones, as a dependency; none where none is (own)

@@ -1,17 +1,5 @@
-pub mod Requirement
-pub mod Admits
-pub mod Laws
-pub mod VersionOrder
-pub mod Greatest
-pub mod Selection
-pub mod RustVersions
 pub mod IndexEntry
-pub mod Refusals
 pub mod Records
 pub mod Admissible
 pub mod Finding
 pub mod Candidates
-pub mod Increments
-pub mod Changed
-pub mod CrateWords
-pub mod Pins

@@ -1,7 +1,7 @@
 -- The record of an entry of a dependency table (Cargo reference, "Specifying Dependencies").
 use Rattle.std.specs.Prelude.{◌≡◌, ℕ, List, Option, Some, None, option_and_then, option_map, string_bytes}
 use Rattle.std.specs.BTreeMap.{btree_map_len}
-use Rattle.edit_record.specs.Requirement.{cut}
+use Rattle.edit_version.specs.Requirement.{cut}
 use Rattle.edit_record.specs.declared.dependency.Dependency.{Dependency}
 use Rattle.edit_record.specs.declared.dependency.RegistrySource.{RegistrySource}
 use Rattle.edit_record.specs.declared.dependency.Source.{Source}

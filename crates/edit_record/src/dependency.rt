@@ -1,12 +1,12 @@
 //! What an entry of a dependency table says.
 ghost use Rattle.std.specs.Prelude.{◌≡◌, [], None, Some, IfOk, IfErr, option_map, string_bytes};
-ghost use Rattle.edit_document.specs.Errors.{IsMemory};
+ghost use Rattle.edit_base.specs.Errors.{IsMemory};
 ghost use Rattle.edit_record.specs.Records.{IsBare, source_version, version_of};
-ghost use Rattle.edit_record.specs.Requirement.{cut};
+ghost use Rattle.edit_version.specs.Requirement.{cut};
 ghost use Rattle.edit_record.specs.declared.dependency.Source.TheVariants.{Registry, Path, Git, Workspace};
 
-use crate::requirement::before_plus;
-use edit_document::errors::CargoResult;
+use edit_version::requirement::before_plus;
+use edit_base::errors::CargoResult;
 use std::alloc::Global;
 use std::collections::BTreeMap;
 

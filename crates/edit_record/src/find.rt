@@ -1,26 +1,27 @@
 //! The choice of a version among the entries of an index.
 ghost use Rattle.std.specs.Prelude.{◌≡◌, ℕ, List, None, Some, Ok, not, IfOk, IfErr, IsTrue, map, option_and_then, option_copied, option_map, string_bytes};
-ghost use Rattle.edit_document.specs.Errors.{IsMemory};
+ghost use Rattle.edit_base.specs.Errors.{IsMemory};
 ghost use Rattle.edit_record.specs.Admissible.{admissible, asked_rust, candidate_in, entry_order, is_kept, is_too_new, is_wanted, kept_in, version_in, version_read};
-ghost use Rattle.edit_record.specs.Admits.{admits};
+ghost use Rattle.edit_version.specs.Admits.{admits};
 ghost use Rattle.edit_record.specs.Candidates.{candidate_view};
 ghost use Rattle.edit_record.specs.Finding.{IsFound, IsFoundAtLeast};
-ghost use Rattle.edit_record.specs.Greatest.{IsGreatest, IsGreatestKept, advance, pick};
+ghost use Rattle.edit_version.specs.Greatest.{IsGreatest, IsGreatestKept, advance, pick};
 ghost use Rattle.edit_record.specs.IndexEntry.{IndexEntry, entry_of};
-ghost use Rattle.edit_record.specs.Laws.{holds_dash};
+ghost use Rattle.edit_version.specs.Laws.{holds_dash};
 ghost use Rattle.edit_record.specs.Records.{IsRegistryDependency};
-ghost use Rattle.edit_record.specs.Requirement.{comparators_of};
-ghost use Rattle.edit_record.specs.RustVersions.{is_above, numbers_of, rust_of};
-ghost use Rattle.edit_record.specs.Selection.{is_admitted, is_allowed};
-ghost use Rattle.edit_record.specs.VersionOrder.{full_order};
+ghost use Rattle.edit_version.specs.Requirement.{comparators_of};
+ghost use Rattle.edit_version.specs.RustVersions.{is_above, numbers_of, rust_of};
+ghost use Rattle.edit_version.specs.Selection.{is_admitted, is_allowed};
+ghost use Rattle.edit_version.specs.VersionOrder.{full_order};
 ghost use Rattle.std.specs.Ordering.{is_lt};
 ghost use Rattle.semver.specs.Identifiers.{parts_of};
 ghost use Rattle.semver.specs.Parse.{Parts, req_of, version_parts};
 
 use crate::dependency::{Dependency, RegistrySource, Source};
-use crate::fetch::{IndexVersion, RustVersion, rust_version_of};
-use crate::requirement::admits;
-use edit_document::errors::{CargoResult, Error};
+use crate::fetch::IndexVersion;
+use edit_version::rust_version::{RustVersion, rust_version_of};
+use edit_version::requirement::admits;
+use edit_base::errors::{CargoResult, Error};
 use semver::{Version, VersionReq};
 use std::alloc::{AllocError, Global};
 

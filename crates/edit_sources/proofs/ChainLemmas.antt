@@ -7,9 +7,9 @@ use Rattle.std.specs.Cmp.Lexicographic.{slice_cmp}
 use Rattle.std.specs.Ordering.{nat_cmp}
 use Rattle.std.proofs.lemmas.List.Folds.{list_any-append}
 use Rattle.std.proofs.lemmas.Map.Text.{btree_map_updates_str}
-use Rattle.edit_document.specs.Errors.{IsMemory}
-use Rattle.edit_document.specs.declared.errors.Error.{Error}
-use Rattle.edit_document.specs.declared.errors.Error.TheVariants.{RegistryNotFound, SourceNotFound}
+use Rattle.edit_base.specs.Errors.{IsMemory}
+use Rattle.edit_base.specs.declared.errors.Error.{Error}
+use Rattle.edit_base.specs.declared.errors.Error.TheVariants.{RegistryNotFound, SourceNotFound}
 use Rattle.edit_sources.specs.Configuration as said
 use Rattle.edit_sources.specs.SourceReplacement.{Definition, first, is_used, addressed, head_source, head_source_of, head_key, crates_io_index, crates_io, Reaches, HasNoHead, BreaksAt}
 use Rattle.edit_sources.specs.SourceReplacement.Reaches.{head, next}

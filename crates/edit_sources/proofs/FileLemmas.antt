@@ -7,8 +7,8 @@ use Rattle.std.proofs.Math.Nat.{eq-or-lt_of_le}
 use Rattle.std.proofs.lemmas.List.{append-nil, map-append, map_more, take-append-drop, drop_more}
 use Rattle.std.proofs.lemmas.List.Elements.{filter_map-append}
 use Rattle.std.proofs.lemmas.Slice.Zip.{all_zipped_more}
-use Rattle.edit_document.specs.Paths.{joined}
-use Rattle.edit_document.specs.declared.errors.Error.{Error}
+use Rattle.edit_base.specs.Paths.{joined}
+use Rattle.edit_base.specs.declared.errors.Error.{Error}
 use Rattle.edit_sources.specs.Store.{Files, SameFiles, raised}
 use Rattle.edit_sources.specs.Sources.{or_else}
 use Rattle.edit_sources.specs.ConfigurationFiles.{standing, file_in, files_in, IsReadFrom, IsReadOf, HasFailed, FileFails, PlaceFails}

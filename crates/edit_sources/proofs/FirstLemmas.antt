@@ -15,11 +15,11 @@ use Rattle.std.proofs.lemmas.List.Sorted.{ranks_by, sorted_far}
 use Rattle.std.proofs.lemmas.Option.{get_or_from_slice_get, slice_get_within, slice_get-get_or}
 use Rattle.semver.specs.Parse.{Parts}
 use Rattle.edit_record.specs.Admissible.{asked_rust, candidate_in, entry_order, if_fits, if_passes, is_kept, is_too_new, version_in}
-use Rattle.edit_record.specs.Greatest.{IsGreatest, IsGreatestKept}
+use Rattle.edit_version.specs.Greatest.{IsGreatest, IsGreatestKept}
 use Rattle.edit_record.specs.IndexEntry.{IndexEntry}
-use Rattle.edit_record.specs.RustVersions.{Numbers}
-use Rattle.edit_record.specs.VersionOrder.{full_order}
-use Rattle.edit_record.proofs.Orders.{full_total}
+use Rattle.edit_version.specs.RustVersions.{Numbers}
+use Rattle.edit_version.specs.VersionOrder.{full_order}
+use Rattle.edit_version.proofs.Orders.{full_total}
 use Rattle.edit_sources.specs.Ranking.{IsRanking, Ranking, Tells, passes, rank_order}
 
 -- the order of ranks is total

@@ -4,8 +4,8 @@ use Rattle.std.specs.Prelude.{codes}
 use Rattle.std.specs.Str.{bytes_eq}
 use Rattle.std.proofs.lemmas.Bool.{false_from_ne_true}
 use Rattle.std.proofs.lemmas.Slice.Eq.{bytes_eq-Decides}
-use Rattle.edit_document.specs.Paths.{IsFolderOf}
-use Rattle.edit_document.specs.Paths.IsFolderOf.{above, below_root, bare}
+use Rattle.edit_base.specs.Paths.{IsFolderOf}
+use Rattle.edit_base.specs.Paths.IsFolderOf.{above, below_root, bare}
 
 -- how far a folder is from the root: the root is the least
 abbrev pub height : List ℕ → ℕ

@@ -16,7 +16,7 @@ use Rattle.std.proofs.lemmas.List.Sorted.{All-permutation, IsPermutation-map, li
 use Rattle.semver.specs.Parse.{Parts}
 use Rattle.edit_record.specs.Admissible.{candidate_in}
 use Rattle.edit_record.specs.IndexEntry.{IndexEntry, entry_of}
-use Rattle.edit_record.specs.RustVersions.{Numbers}
+use Rattle.edit_version.specs.RustVersions.{Numbers}
 use Rattle.edit_sources.specs.Ranking.{Tells, IsRanking, ranking, rank_at, rank_of, rank_order, ranks_from}
 use Rattle.edit_sources.specs.declared.ranking.Rank.{Rank}
 

@@ -2,10 +2,10 @@
 use Rattle.std.specs.Prelude.{◌≡◌, ◌≢◌, ◌≤◌, ℕ, List, [], ◌∷◌, ◌++◌, map, Option, Some, None, option_map, Bool, true, codes, ⊤, string_bytes}
 use Rattle.std.specs.List.{filter_map, AllZip}
 use Rattle.std.specs.Option.{option_to_list}
-use Rattle.edit_document.specs.Paths.{joined, IsFolderOf}
-use Rattle.edit_document.specs.declared.errors.Error.{Error}
-use Rattle.edit_document.specs.declared.errors.Error.TheVariants.{Device}
-use Rattle.edit_document.specs.declared.errors.DeviceCall.TheVariants.{Read}
+use Rattle.edit_base.specs.Paths.{joined, IsFolderOf}
+use Rattle.edit_base.specs.declared.errors.Error.{Error}
+use Rattle.edit_base.specs.declared.errors.Error.TheVariants.{Device}
+use Rattle.edit_base.specs.declared.errors.DeviceCall.TheVariants.{Read}
 use Rattle.edit_sources.specs.Store.{Files, SameFiles, raised}
 use Rattle.edit_sources.specs.Configuration.{Says, SaysNothing}
 use Rattle.url.specs.Parts.{Parts}

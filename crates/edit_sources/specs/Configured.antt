@@ -1,8 +1,8 @@
 -- Configurations as contracts see them, and the refusal of a configuration file.
 use Rattle.std.specs.Prelude.{◌≡◌, ℕ, List, Option, None, Ok, Err, map, option_map, String, string_bytes}
 use Rattle.std.specs.declared.alloc.Global.{Global}
-use Rattle.edit_document.specs.declared.errors.Error.{Error}
-use Rattle.edit_document.specs.declared.errors.Error.TheVariants as refusal
+use Rattle.edit_base.specs.declared.errors.Error.{Error}
+use Rattle.edit_base.specs.declared.errors.Error.TheVariants as refusal
 use Rattle.std.specs.Borrow.{Bor}
 use Rattle.url.specs.Parser.{parse_url}
 use Rattle.url.specs.Parts.{Parts}

@@ -1,8 +1,8 @@
 -- What a look in an index may give (Cargo reference, "Registries", index format).
 use Rattle.std.specs.Prelude.{◌≡◌, ℕ, ◌≤◌, ◌⊎◌, ◌↔◌, List, map, Option, option_map, Result, Ok, Err, IfErr}
 use Rattle.url.specs.Parts.{Parts}
-use Rattle.edit_document.specs.declared.errors.Error.{Error}
-use Rattle.edit_document.specs.Errors.{number_of, IsMemory}
+use Rattle.edit_base.specs.declared.errors.Error.{Error}
+use Rattle.edit_base.specs.Errors.{number_of, IsMemory}
 use Rattle.edit_record.specs.IndexEntry.{IndexEntry, entry_of}
 use Rattle.edit_sources.specs.Store.{raised}
 use Rattle.edit_sources.specs.declared.index.IndexKrate.{IndexKrate}

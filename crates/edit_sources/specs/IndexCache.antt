@@ -4,8 +4,8 @@ use Rattle.std.specs.List.{list_any}
 use Rattle.std.specs.Str.{bytes_eq}
 use Rattle.std.specs.BTreeMap.{get_by_text}
 use Rattle.url.specs.Parts.{Parts, serialize}
-use Rattle.edit_document.specs.declared.errors.Error.{Error}
-use Rattle.edit_document.specs.Errors.{number_of, IsMemory}
+use Rattle.edit_base.specs.declared.errors.Error.{Error}
+use Rattle.edit_base.specs.Errors.{number_of, IsMemory}
 use Rattle.edit_sources.specs.Index.{Outcomes, SameOutcomes, HasLookCause, IsLookRefusal, answer_of}
 use Rattle.edit_sources.specs.declared.index.IndexKrate.{IndexKrate}
 use Rattle.edit_sources.specs.Kept.{IsRanked}

@@ -5,9 +5,9 @@ use Rattle.std.specs.Str.{IsUtf8}
 use Rattle.serde_json.specs.Data.{Data, null, boolean, number, string, array, object}
 use Rattle.serde_json.specs.Read.{read}
 use Rattle.serde_json.specs.Find.{get, as_str}
-use Rattle.edit_document.specs.declared.errors.Error.{Error}
-use Rattle.edit_document.specs.declared.errors.Error.TheVariants.{IndexLine}
-use Rattle.edit_document.specs.Errors.{IsMemory}
+use Rattle.edit_base.specs.declared.errors.Error.{Error}
+use Rattle.edit_base.specs.declared.errors.Error.TheVariants.{IndexLine}
+use Rattle.edit_base.specs.Errors.{IsMemory}
 use Rattle.edit_record.specs.IndexEntry.{IndexEntry}
 
 -- whether a version is yanked: not where nothing says so (Cargo reference, "Registries", yanked)

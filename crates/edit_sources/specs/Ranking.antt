@@ -8,8 +8,8 @@ use Rattle.semver.specs.Identifiers.{parts_of}
 use Rattle.semver.specs.Parse.{Parts}
 use Rattle.edit_record.specs.Admissible.{candidate_in, is_too_new}
 use Rattle.edit_record.specs.IndexEntry.{IndexEntry, entry_of}
-use Rattle.edit_record.specs.RustVersions.{Numbers, numbers_of}
-use Rattle.edit_record.specs.VersionOrder.{full_order}
+use Rattle.edit_version.specs.RustVersions.{Numbers, numbers_of}
+use Rattle.edit_version.specs.VersionOrder.{full_order}
 use Rattle.edit_sources.specs.declared.ranking.Rank.{Rank}
 use Rattle.edit_sources.specs.declared.ranking.Ranked.{Ranked}
 

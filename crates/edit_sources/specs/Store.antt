@@ -1,9 +1,9 @@
 -- What a store promises: files as a map from paths to bytes, and a count of faults (own).
 use Rattle.std.specs.Prelude.{◌≡◌, ◌≢◌, ℕ, ◌-◌, ◌^◌, ◌<◌, ◌≤◌, ◌⊎◌, ◌++◌, List, ◌∷◌, Option, Some, Bool, true, IsSome, IsNone, Result, IfErr, codes}
-use Rattle.edit_document.specs.declared.errors.DeviceCall.{DeviceCall}
-use Rattle.edit_document.specs.declared.errors.Error.{Error}
-use Rattle.edit_document.specs.declared.errors.Error.TheVariants.{Device}
-use Rattle.edit_document.specs.Errors.{IsMemory}
+use Rattle.edit_base.specs.declared.errors.DeviceCall.{DeviceCall}
+use Rattle.edit_base.specs.declared.errors.Error.{Error}
+use Rattle.edit_base.specs.declared.errors.Error.TheVariants.{Device}
+use Rattle.edit_base.specs.Errors.{IsMemory}
 use Rattle.edit_sources.specs.declared.store.Kind.{Kind}
 use Rattle.edit_sources.specs.declared.store.Kind.TheVariants.{File, Folder, Absent}
 

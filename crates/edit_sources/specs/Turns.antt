@@ -1,9 +1,9 @@
 -- A store whose one fault comes at a given call (own).
 use Rattle.std.specs.Prelude.{◌≡◌, ℕ, zero, suc, ◌+◌, Option, Some, None, Result, IfErr, IsErrAnd, ◌⊎◌}
-use Rattle.edit_document.specs.declared.errors.DeviceCall.{DeviceCall}
-use Rattle.edit_document.specs.declared.errors.Error.{Error}
-use Rattle.edit_document.specs.declared.errors.Error.TheVariants.{Device}
-use Rattle.edit_document.specs.Errors.{IsMemory}
+use Rattle.edit_base.specs.declared.errors.DeviceCall.{DeviceCall}
+use Rattle.edit_base.specs.declared.errors.Error.{Error}
+use Rattle.edit_base.specs.declared.errors.Error.TheVariants.{Device}
+use Rattle.edit_base.specs.Errors.{IsMemory}
 use Rattle.edit_sources.specs.Store.{raised}
 use Rattle.edit_sources.specs.declared.fault_store.FaultStore.{FaultStore}
 

@@ -2,7 +2,7 @@
 ghost use Rattle.std.specs.Prelude.{◌≡◌, ◌≢◌, ◌⊎◌, ◌↔◌, ℕ, List, Some, None, Ok, IsSome, IsTrue, IfOk, IfErr, IfSome, OnOk, OnErr, Option, option_and_then, option_map, option_copied};
 ghost use Rattle.std.specs.BTreeMap.{get_by_text};
 ghost use Rattle.url.specs.Parts.{serialize};
-ghost use Rattle.edit_document.specs.Errors.{IsMemory};
+ghost use Rattle.edit_base.specs.Errors.{IsMemory};
 ghost use Rattle.edit_sources.specs.Index.{IsLookError, answer_of};
 ghost use Rattle.edit_sources.specs.IndexCache.{Fetches, Ranks, SameKept, SameKeptBut, has_version, index_of, kept_at, krate_at, ranking_at};
 ghost use Rattle.edit_sources.specs.Kept.{IsRanked};
@@ -10,7 +10,7 @@ ghost use Rattle.edit_sources.specs.Kept.{IsRanked};
 use crate::index::{Index, IndexKrate};
 use crate::kept::Kept;
 use crate::ranking::Ranked;
-use edit_document::errors::CargoResult;
+use edit_base::errors::CargoResult;
 use std::alloc::Global;
 use std::collections::BTreeMap;
 use std::mem;

@@ -1,13 +1,13 @@
 //! What configuration files say of registries and sources.
 ghost use Rattle.std.specs.Prelude.{◌≡◌, ◌⊎◌, IfOk, IfErr, IfSome, map, option_map, string_bytes};
-ghost use Rattle.edit_document.specs.Errors.{IsMemory};
+ghost use Rattle.edit_base.specs.Errors.{IsMemory};
 ghost use Rattle.toml.specs.Data.{get_member};
 ghost use Rattle.toml.specs.View.{view, table_view};
 ghost use Rattle.edit_sources.specs.Configuration as said;
 ghost use Rattle.edit_sources.specs.Configuration.{Configuration, Says, SaysNothing, configuration_of, entries_of, table_of};
 ghost use Rattle.edit_sources.specs.Configured.{IsConfigRefusal, configuration, registry_entry, source_entry, source_view};
 
-use edit_document::{CargoResult, Error};
+use edit_base::{CargoResult, Error};
 use std::alloc::{AllocError, Global};
 use toml::{Table, Value};
 

@@ -1,13 +1,13 @@
 //! Files in memory, one call of which fails.
 ghost use Rattle.std.specs.Prelude.{◌≡◌, ◌↔◌, ◌⊎◌, ℕ, List, Some, true, IsTrue, IfOk, IfErr, OnOk, take, option_map};
-ghost use Rattle.edit_document.specs.Errors.{IsMemory};
+ghost use Rattle.edit_base.specs.Errors.{IsMemory};
 ghost use Rattle.edit_sources.specs.Store.{HasCause, SameFiles, SameBut, StandsAt, raised};
 ghost use Rattle.edit_sources.specs.Memory.{files_in};
 ghost use Rattle.edit_sources.specs.Turns.{calls_left, bytes_left, faults_of, one_less, TakesTurn};
 
 use crate::memory_store::MemoryStore;
 use crate::store::{Kind, Store};
-use edit_document::errors::{CargoResult, DeviceCall, Error};
+use edit_base::errors::{CargoResult, DeviceCall, Error};
 use std::alloc::Global;
 
 /// A store in memory whose call number `at`, from 0 over `kind`, `read` and `write`, fails once.

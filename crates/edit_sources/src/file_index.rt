@@ -9,7 +9,7 @@ ghost use Rattle.edit_sources.specs.IndexLines.{RefusesLines, lines_of};
 use crate::crate_name::is_crate_name;
 use crate::index::{Index, IndexKrate, copied};
 use crate::index_lines::read_lines;
-use edit_document::errors::{CargoResult, Error};
+use edit_base::errors::{CargoResult, Error};
 use edit_record::fetch::IndexVersion;
 use std::alloc::{AllocError, Global};
 use std::collections::BTreeMap;

@@ -1,11 +1,11 @@
 //! The files of the machine.
 ghost use Rattle.std.specs.Prelude.{◌≡◌, ◌⊎◌, ℕ, List, None, false};
-ghost use Rattle.edit_document.specs.Errors.{IsMemory};
+ghost use Rattle.edit_base.specs.Errors.{IsMemory};
 ghost use Rattle.edit_sources.specs.Store.{raised};
 
 use crate::replace::replace;
 use crate::store::{Kind, Store};
-use edit_document::errors::{CargoResult, DeviceCall, Error};
+use edit_base::errors::{CargoResult, DeviceCall, Error};
 use std::alloc::Global;
 use std::fs::Files;
 use std::io::ErrorKind;

@@ -1,11 +1,11 @@
 //! What an index answers.
 ghost use Rattle.std.specs.Prelude.{◌≡◌, ℕ, List, Option, Result, Ok, IfOk, IfErr, map};
 ghost use Rattle.url.specs.Parts.{Parts};
-ghost use Rattle.edit_document.specs.Errors.{IsMemory};
+ghost use Rattle.edit_base.specs.Errors.{IsMemory};
 ghost use Rattle.edit_record.specs.IndexEntry.{IndexEntry, entry_of};
 ghost use Rattle.edit_sources.specs.Index.{HasLookCause, SameOutcomes, answer_of, entries_of};
 
-use edit_document::errors::CargoResult;
+use edit_base::errors::CargoResult;
 use edit_record::fetch::IndexVersion;
 use std::alloc::Global;
 use url::Url;

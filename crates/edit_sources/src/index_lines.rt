@@ -1,13 +1,13 @@
 //! The lines of an index file.
 ghost use Rattle.std.specs.Prelude.{◌≡◌, ◌==◌, ◌⊎◌, ◌+◌, ℕ, Ok, Err, IfOk, IfErr, IsTrue, map, MatchResult, string_bytes, option_map, option_and_then};
-ghost use Rattle.edit_document.specs.Errors.{IsMemory};
-ghost use Rattle.edit_document.specs.declared.errors.Error.TheVariants.{IndexLine};
+ghost use Rattle.edit_base.specs.Errors.{IsMemory};
+ghost use Rattle.edit_base.specs.declared.errors.Error.TheVariants.{IndexLine};
 ghost use Rattle.edit_record.specs.IndexEntry.{IndexEntry, entry_of};
 ghost use Rattle.edit_sources.specs.IndexLines.{IsIndexLine, LinesSay, RefusesLines, is_blank, lines_of, yanked_of, rust_version_of};
 ghost use Rattle.serde_json.specs.View.{view};
 ghost use Rattle.serde_json.specs.Find.{as_str};
 
-use edit_document::errors::{CargoResult, Error};
+use edit_base::errors::{CargoResult, Error};
 use edit_record::fetch::IndexVersion;
 use serde_json::Value;
 use std::alloc::{AllocError, Global};

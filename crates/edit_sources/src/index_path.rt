@@ -2,12 +2,12 @@
 ghost use Rattle.std.specs.Prelude.{◌≡◌, [], ◌∷◌, ◌++◌, ◌-◌, ◌==◌, ◌<◌, ◌⊎◌, true, false, codes, length, slice_index, All, IfOk, IfErr, OnOk, MatchOption, string_bytes};
 ghost use Rattle.std.specs.List.{list_any};
 ghost use Rattle.percent_encoding.specs.Percent.{percent_decode};
-ghost use Rattle.edit_document.specs.Errors.{IsMemory, number_of};
+ghost use Rattle.edit_base.specs.Errors.{IsMemory, number_of};
 ghost use Rattle.edit_sources.specs.LocalIndex.{HasNoFolder, HasNoIndexPath, IsFolderOf, IsFolderText, IsIndexPath, below, ends_with_slash};
 ghost use Rattle.edit_sources.specs.Names.{folders, is_crate_name, layout};
 
 use crate::crate_name::is_crate_name;
-use edit_document::errors::{CargoResult, Error};
+use edit_base::errors::{CargoResult, Error};
 use percent_encoding::percent_decode;
 use std::alloc::{AllocError, Global};
 use std::str;

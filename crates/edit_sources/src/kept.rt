@@ -1,11 +1,11 @@
 //! An answer that is kept, with its ranking once it was asked for.
 ghost use Rattle.std.specs.Prelude.{◌≡◌, IfErr, OnOk, OnErr};
-ghost use Rattle.edit_document.specs.Errors.{IsMemory};
+ghost use Rattle.edit_base.specs.Errors.{IsMemory};
 ghost use Rattle.edit_sources.specs.Kept.{FitsAnswer, FitsAnswer-prop, IsRanked};
 
 use crate::index::IndexKrate;
 use crate::ranking::Ranked;
-use edit_document::errors::CargoResult;
+use edit_base::errors::CargoResult;
 use std::alloc::Global;
 
 /// An answer of an index, and the ranking of its entries.

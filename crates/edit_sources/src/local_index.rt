@@ -5,7 +5,7 @@ use crate::index::{Index, IndexKrate};
 use crate::index_lines::read_lines;
 use crate::index_path::index_path;
 use crate::store::Store;
-use edit_document::errors::CargoResult;
+use edit_base::errors::CargoResult;
 use std::alloc::Global;
 use url::Url;
 

@@ -4,7 +4,7 @@ ghost use Rattle.std.specs.BTreeMap.{get_by_text};
 ghost use Rattle.edit_sources.specs.Memory.{files_in, IsBelow};
 
 use crate::store::{Kind, Store};
-use edit_document::errors::CargoResult;
+use edit_base::errors::CargoResult;
 use std::alloc::Global;
 use std::collections::BTreeMap;
 

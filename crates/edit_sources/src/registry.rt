@@ -1,6 +1,6 @@
 //! The address of a registry.
 ghost use Rattle.std.specs.Prelude.{◌≡◌, ◌⊎◌, true, IfOk, IfErr, None, Ok};
-ghost use Rattle.edit_document.specs.Errors.{IsMemory};
+ghost use Rattle.edit_base.specs.Errors.{IsMemory};
 ghost use Rattle.edit_sources.specs.ConfigurationFiles.{OnlyReads, HasFailed, ConfigsFail, ConfiguredUrl, HasNoConfiguredUrl};
 ghost use Rattle.url.specs.Parser.{parse_url};
 ghost use Rattle.url.specs.Parts.{Parts};
@@ -8,7 +8,7 @@ ghost use Rattle.edit_sources.specs.Configured.{given, HasAddress, IsNoUrl, HasN
 
 use crate::config::{Config, read_configs};
 use crate::store::Store;
-use edit_document::{CargoResult, Error};
+use edit_base::{CargoResult, Error};
 use std::alloc::Global;
 use url::{ParseError, Url};
 

@@ -1,9 +1,9 @@
 //! Files that may fail.
 ghost use Rattle.std.specs.Prelude.{◌≡◌, ℕ, List, Option, Some, Bool, true, IfOk, OnOk, option_map};
-ghost use Rattle.edit_document.specs.declared.errors.DeviceCall.TheVariants as call;
+ghost use Rattle.edit_base.specs.declared.errors.DeviceCall.TheVariants as call;
 ghost use Rattle.edit_sources.specs.Store.{HasCause, SameFiles, SameBut, StandsAt};
 
-use edit_document::errors::{CargoResult, DeviceCall};
+use edit_base::errors::{CargoResult, DeviceCall};
 use std::alloc::Global;
 
 /// What stands at a path.

@@ -1,5 +1,5 @@
 //! What a refusal says.
-use edit_document::Error;
+use edit_base::Error;
 use std::alloc::Global;
 use std::test::Fail;
 

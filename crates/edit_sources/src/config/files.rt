@@ -2,15 +2,15 @@
 ghost use Rattle.std.specs.Prelude.{◌≡◌, ◌⊎◌, ◌++◌, ℕ, List, true, IfOk, IfErr, OnOk, map, string_bytes};
 ghost use Rattle.std.specs.List.{AllZip};
 ghost use Rattle.std.specs.Option.{option_to_list};
-ghost use Rattle.edit_document.specs.Errors.{IsMemory};
-ghost use Rattle.edit_document.specs.Paths.{texts};
+ghost use Rattle.edit_base.specs.Errors.{IsMemory};
+ghost use Rattle.edit_base.specs.Paths.{texts};
 ghost use Rattle.edit_sources.specs.Configured.{given};
 ghost use Rattle.edit_sources.specs.ConfigurationFiles.{IsUpwards, IsSearched, OnlyReads, IsReadOf, IsReadFrom, HasFailed, FileFails, PlaceFails, AreConfigs, ConfigsFail, standing, file_in, files_in};
 
 use super::Config;
 use crate::store::Store;
-use edit_document::CargoResult;
-use edit_document::paths::{folder, join};
+use edit_base::CargoResult;
+use edit_base::paths::{folder, join};
 use std::alloc::{AllocError, Global};
 
 /// The folders of a file, from its own upwards to the root.

@@ -1,15 +1,15 @@
 //! The chain of sources from a registry to its address.
 ghost use Rattle.std.specs.Prelude.{◌≡◌, ◌⊎◌, ℕ, List, [], ◌∷◌, IfOk, IfErr, OnOk, map, option_map, String, string_bytes};
 ghost use Rattle.std.specs.declared.alloc.Global.{Global};
-ghost use Rattle.edit_document.specs.Errors.{IsMemory};
-ghost use Rattle.edit_document.specs.declared.errors.Error.TheVariants.{RegistryNotFound, SourceNotFound};
+ghost use Rattle.edit_base.specs.Errors.{IsMemory};
+ghost use Rattle.edit_base.specs.declared.errors.Error.TheVariants.{RegistryNotFound, SourceNotFound};
 ghost use Rattle.edit_sources.specs.SourceReplacement as spec;
 ghost use Rattle.edit_sources.specs.SourceReplacement.{first, registry_definition, source_definition};
 ghost use Rattle.edit_sources.specs.Configured.{all_definitions, given, registry_entry, source_entry, HasNoUrl};
 ghost use Rattle.edit_sources.specs.Sources.{source_texts, found, Adds};
 
 use crate::config::{Config, ConfigSource};
-use edit_document::{CargoResult, Error};
+use edit_base::{CargoResult, Error};
 use std::alloc::{AllocError, Global};
 use std::collections::BTreeMap;
 

@@ -4,7 +4,8 @@ use super::keys::FRUITS;
 use super::shown::{place_of, shown};
 use super::texts::MANIFEST;
 use crate::refusals::told;
-use edit_document::{Document, Error};
+use edit_base::Error;
+use edit_document::Document;
 use std::alloc::{AllocError, Global};
 use std::test::Fail;
 

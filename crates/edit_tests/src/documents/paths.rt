@@ -1,7 +1,7 @@
 //! Rows of paths.
 use crate::refusals::told;
 use crate::rows::{LINES, rows_hold};
-use edit_document::paths::{folder, join, normal, relative};
+use edit_base::paths::{folder, join, normal, relative};
 use std::alloc::Global;
 use std::test::Fail;
 

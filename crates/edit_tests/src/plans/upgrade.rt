@@ -2,7 +2,7 @@
 use crate::fields::text;
 use crate::refusals::told;
 use cargo_edit::{Input, Options, Row, UpgradePlan, plan_upgrade};
-use edit_document::CargoResult;
+use edit_base::CargoResult;
 use edit_sources::{FileIndex, IndexCache};
 use std::alloc::Global;
 use std::str;

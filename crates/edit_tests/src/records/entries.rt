@@ -2,7 +2,7 @@
 use super::parts::{entry, requirement, shown, version};
 use crate::refusals::told;
 use crate::rows::{LINES, rows_hold};
-use edit_document::CargoResult;
+use edit_base::CargoResult;
 use edit_record::{
     Candidate, Dependency, IndexVersion, RustVersion, dependency_on, find_compatible_version,
     find_latest_version, read_candidate,

@@ -1,7 +1,7 @@
 //! Rows of requirements that are raised, read and refused.
 use super::parts::{requirement, upgraded, version};
 use crate::rows::{LINES, SEMICOLONS, rows_hold};
-use edit_record::{admits, allows_prerelease};
+use edit_version::{admits, allows_prerelease};
 use std::alloc::Global;
 use std::test::Fail;
 

@@ -2,8 +2,9 @@
 use super::parts::{entry, upgraded, version};
 use crate::refusals::told;
 use crate::rows::{LINES, SEMICOLONS, rows_hold};
-use edit_document::CargoResult;
-use edit_record::{Candidate, VersionExt, cut, read_candidate};
+use edit_base::CargoResult;
+use edit_version::{VersionExt, cut};
+use edit_record::{Candidate, read_candidate};
 use semver::Version;
 use std::alloc::Global;
 use std::test::Fail;

@@ -2,7 +2,7 @@
 use super::looks::{TWO, entries, files_of};
 use crate::fields::{field, same, text};
 use crate::refusals::told;
-use edit_document::CargoResult;
+use edit_base::CargoResult;
 use edit_record::Dependency;
 use edit_sources::{FaultStore, FileIndex, Index, IndexCache, IndexKrate, LocalIndex, Ranked};
 use semver::VersionReq;

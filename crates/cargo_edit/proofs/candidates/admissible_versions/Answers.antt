@@ -3,7 +3,7 @@ use Rattle.std.specs.Prelude.{option_map}
 use Rattle.std.specs.List.{filter_map}
 use Rattle.edit_record.specs.Admissible.{admissible}
 use Rattle.edit_record.specs.IndexEntry.{entry_of}
-use Rattle.edit_record.specs.RustVersions.{numbers_of}
+use Rattle.edit_version.specs.RustVersions.{numbers_of}
 use Rattle.semver.specs.Identifiers.{parts_of}
 use Rattle.cargo_edit.proofs.Steps.{kept-option, taken-more}
 use Rattle.cargo_edit.proofs.candidates.admissible_versions.Goals as goal

@@ -1,9 +1,9 @@
 use Rattle.std.proofs.Common.{map, take}
 use Rattle.std.specs.Prelude.{option_copied, option_map}
 use Rattle.edit_record.specs.Admissible.{is_wanted}
-use Rattle.edit_record.specs.Greatest.{IsGreatest}
-use Rattle.edit_record.specs.Requirement.{comparators_of}
-use Rattle.edit_record.specs.VersionOrder.{full_order}
+use Rattle.edit_version.specs.Greatest.{IsGreatest}
+use Rattle.edit_version.specs.Requirement.{comparators_of}
+use Rattle.edit_version.specs.VersionOrder.{full_order}
 use Rattle.semver.specs.Identifiers.{parts_of}
 use Rattle.cargo_edit.proofs.candidates.greatest.Given as goal
 

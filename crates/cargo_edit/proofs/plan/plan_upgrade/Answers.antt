@@ -1,6 +1,6 @@
 use Rattle.std.proofs.Common.{map}
 use Rattle.std.specs.Prelude.{option_map, string_bytes}
-use Rattle.edit_record.specs.RustVersions.{numbers_of}
+use Rattle.edit_version.specs.RustVersions.{numbers_of}
 use Rattle.edit_sources.specs.IndexCache.{index_of}
 use Rattle.cargo_edit.specs.Address.{default_address}
 use Rattle.cargo_edit.specs.Causes.{IsCause}

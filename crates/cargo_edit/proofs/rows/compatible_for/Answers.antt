@@ -1,8 +1,8 @@
 use Rattle.std.proofs.Common.{List, map, subst, sym}
 use Rattle.std.specs.Prelude.{Result, option_copied, option_map}
-use Rattle.edit_record.specs.Greatest.{IsGreatest}
-use Rattle.edit_record.specs.Selection.{admits_read}
-use Rattle.edit_record.specs.VersionOrder.{full_order}
+use Rattle.edit_version.specs.Greatest.{IsGreatest}
+use Rattle.edit_version.specs.Selection.{admits_read}
+use Rattle.edit_version.specs.VersionOrder.{full_order}
 use Rattle.semver.specs.Identifiers.{parts_of}
 use Rattle.semver.specs.Parse.{Held}
 use Rattle.semver.specs.declared.error.Error.{Error}

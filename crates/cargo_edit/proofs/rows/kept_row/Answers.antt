@@ -1,6 +1,6 @@
 use Rattle.std.proofs.Common.{◌∙◌, List, ℕ, ap, subst}
 use Rattle.std.specs.Prelude.{IfOk, option_map}
-use Rattle.edit_record.specs.RustVersions.{numbers_of}
+use Rattle.edit_version.specs.RustVersions.{numbers_of}
 use Rattle.semver.specs.Parse.{Parts}
 use Rattle.url.specs.Parts.{serialize}
 use Rattle.cargo_edit.specs.Found.{seen_of}

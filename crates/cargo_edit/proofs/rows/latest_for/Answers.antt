@@ -1,8 +1,8 @@
 use Rattle.std.proofs.Common.{Bool, map, subst}
 use Rattle.std.specs.Prelude.{option_copied, option_map}
-use Rattle.edit_record.specs.Greatest.{IsGreatest}
-use Rattle.edit_record.specs.Selection.{is_allowed}
-use Rattle.edit_record.specs.VersionOrder.{full_order}
+use Rattle.edit_version.specs.Greatest.{IsGreatest}
+use Rattle.edit_version.specs.Selection.{is_allowed}
+use Rattle.edit_version.specs.VersionOrder.{full_order}
 use Rattle.semver.specs.Identifiers.{parts_of}
 use Rattle.cargo_edit.proofs.rows.latest_for.Goals as goal
 

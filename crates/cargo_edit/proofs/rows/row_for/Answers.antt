@@ -1,6 +1,6 @@
 use Rattle.std.proofs.Common.{◌∙◌, List, ℕ, ap, subst}
 use Rattle.std.specs.Prelude.{map, option_copied, option_map}
-use Rattle.edit_record.specs.Selection.{IsCompatible, IsLatest}
+use Rattle.edit_version.specs.Selection.{IsCompatible, IsLatest}
 use Rattle.semver.specs.Identifiers.{parts_of}
 use Rattle.semver.specs.Parse.{Parts}
 use Rattle.cargo_edit.specs.Found.{seen_of}

@@ -4,8 +4,8 @@ use Rattle.semver.specs.Identifiers.{parts_of}
 use Rattle.semver.specs.declared.Version.{Version}
 use Rattle.edit_record.specs.Admissible.{is_wanted}
 use Rattle.edit_record.specs.IndexEntry.{entry_of}
-use Rattle.edit_record.specs.Requirement.{comparators_of}
-use Rattle.edit_record.specs.RustVersions.{numbers_of}
+use Rattle.edit_version.specs.Requirement.{comparators_of}
+use Rattle.edit_version.specs.RustVersions.{numbers_of}
 use Rattle.edit_record.proofs.Kept.{kept-version}
 use Rattle.edit_record.proofs.find.advanced.Goals as goal
 

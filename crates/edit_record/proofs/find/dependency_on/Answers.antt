@@ -1,7 +1,7 @@
 use Rattle.std.proofs.Common.{List, ℕ, ◌∙◌, ap, sym, subst, refl}
 use Rattle.std.specs.Prelude.{string_bytes}
 use Rattle.edit_record.specs.Records.{IsRegistryDependency}
-use Rattle.edit_record.specs.Requirement.{cut}
+use Rattle.edit_version.specs.Requirement.{cut}
 use Rattle.edit_record.specs.declared.dependency.Dependency.{Dependency}
 use Rattle.edit_record.proofs.find.dependency_on.Goals as goal
 

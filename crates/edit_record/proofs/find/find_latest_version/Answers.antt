@@ -1,13 +1,13 @@
 use Rattle.std.proofs.Common.{Bool, Err, List, Ok, Option, Result, map, ℕ}
 use Rattle.std.specs.Prelude.{IfOk, IsTrue, option_map}
-use Rattle.edit_document.specs.declared.errors.Error.{Error}
+use Rattle.edit_base.specs.declared.errors.Error.{Error}
 use Rattle.edit_record.specs.Admissible.{entry_order, is_kept}
 use Rattle.edit_record.specs.Finding.{IsFound, IsFoundAtLeast}
-use Rattle.edit_record.specs.Greatest.{IsGreatestKept}
+use Rattle.edit_version.specs.Greatest.{IsGreatestKept}
 use Rattle.edit_record.specs.IndexEntry.{IndexEntry, entry_of}
-use Rattle.edit_record.specs.Laws.{holds_dash}
-use Rattle.edit_record.specs.RustVersions.{Numbers, numbers_of}
-use Rattle.edit_record.specs.Selection.{is_admitted, is_allowed}
+use Rattle.edit_version.specs.Laws.{holds_dash}
+use Rattle.edit_version.specs.RustVersions.{Numbers, numbers_of}
+use Rattle.edit_version.specs.Selection.{is_admitted, is_allowed}
 use Rattle.edit_record.specs.declared.dependency.Dependency.{Dependency}
 use Rattle.edit_record.proofs.Entries.{found-at_least}
 use Rattle.edit_record.proofs.find.find_latest_version.Goals as goal

@@ -3,7 +3,7 @@ use Rattle.std.specs.Prelude.{◌⊎◌}
 use Rattle.std.proofs.lemmas.Result.{IfErr-weaker, IfOk-weaker}
 use Rattle.url.specs.Parser.{parse_url}
 use Rattle.url.specs.Parts.{Parts}
-use Rattle.edit_document.specs.Errors.{IsMemory}
+use Rattle.edit_base.specs.Errors.{IsMemory}
 use Rattle.edit_sources.specs.SourceReplacement.{Address}
 use Rattle.edit_sources.specs.Configured.{all_definitions, given, HasAddress, HasNoUrl, IsNoUrl}
 use Rattle.edit_sources.specs.Configured.HasNoUrl.{no_address, no_url}

@@ -1,6 +1,6 @@
 use Rattle.std.proofs.Common.{ℕ, List, sym, subst, length}
 use Rattle.std.proofs.lemmas.Result.{err_from_is_err_and}
-use Rattle.edit_document.specs.Grammar.{Spells}
+use Rattle.edit_syntax.specs.Grammar.{Spells}
 use Rattle.edit_document.specs.Shown.{ShowsTree}
 use Rattle.edit_document.specs.DocumentLayout.{shown_by}
 use Rattle.edit_document.proofs.Documents.{Walked, read_done, read_is, shows_any, shows_form, shallow, refused_memory, answer_memory}

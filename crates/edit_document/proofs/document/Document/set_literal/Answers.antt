@@ -1,5 +1,5 @@
 use Rattle.std.proofs.Common.{ℕ, List, None, cond, ap, sym, subst, ◌∙◌, rules}
-use Rattle.edit_document.specs.Errors.{IsMemory}
+use Rattle.edit_base.specs.Errors.{IsMemory}
 use Rattle.edit_document.specs.Items.{place_seen}
 use Rattle.edit_document.specs.Ranges.{one_edit}
 use Rattle.edit_document.specs.Replaces.{replaced, emptied, is_below_any}

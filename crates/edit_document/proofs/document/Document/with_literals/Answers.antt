@@ -7,7 +7,7 @@ use Rattle.edit_document.specs.Assertions.{Place, IsDocument}
 use Rattle.edit_document.specs.Ranges.{edits_seen}
 use Rattle.edit_document.specs.Splices.{range_of, Locates}
 use Rattle.edit_document.specs.Tree.{view_at}
-use Rattle.edit_document.specs.Grammar.{Text, text as text_of}
+use Rattle.edit_syntax.specs.Grammar.{Text, text as text_of}
 use Rattle.edit_document.specs.Supported.{IsManifest}
 use Rattle.edit_document.specs.Replaces.{Replaces, replaced, written, is_string}
 use Rattle.edit_document.proofs.ReplacedDocuments.{tree_again}

@@ -1,5 +1,5 @@
 use Rattle.std.proofs.Common.{take, map}
-use Rattle.edit_document.specs.Grammar.{Text}
+use Rattle.edit_syntax.specs.Grammar.{Text}
 use Rattle.edit_document.specs.Ranges.{edits_seen}
 use Rattle.edit_document.specs.Splices.{range_of, AreRanges}
 use Rattle.edit_document.specs.Supported.{IsManifest}

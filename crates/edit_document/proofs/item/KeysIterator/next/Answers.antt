@@ -1,6 +1,6 @@
 use Rattle.std.proofs.Common.{sym}
 use Rattle.edit_document.specs.Items.{names_in, view_numbered}
-use Rattle.edit_document.proofs.ListElements.{drop_from}
+use Rattle.edit_syntax.proofs.ListElements.{drop_from}
 use Rattle.edit_document.proofs.item.KeysIterator.next.Goals as goal
 
 pub returns-clause-steps : goal.returns-clause-steps

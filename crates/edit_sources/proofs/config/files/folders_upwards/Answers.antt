@@ -1,7 +1,7 @@
 use Rattle.std.proofs.Common.{◌≡◌, ◌≢◌, ℕ, List, [], ◌∷◌, ◌++◌, Bor, ap, sym, ◌∙◌, subst, rules}
 use Rattle.std.specs.Prelude.{codes}
 use Rattle.std.proofs.lemmas.List.{map_push}
-use Rattle.edit_document.specs.Paths.{texts}
+use Rattle.edit_base.specs.Paths.{texts}
 use Rattle.edit_sources.specs.ConfigurationFiles.{Climbs}
 use Rattle.edit_sources.specs.ConfigurationFiles.Climbs.{begin, step}
 use Rattle.edit_sources.proofs.FolderLemmas.{folder-some, height-folder}

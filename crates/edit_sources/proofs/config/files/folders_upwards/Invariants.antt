@@ -1,6 +1,6 @@
 use Rattle.std.proofs.Common.{◌<◌, length}
 use Rattle.std.specs.Str.{IsUtf8}
-use Rattle.edit_document.specs.Paths.{IsFolderOf, texts}
+use Rattle.edit_base.specs.Paths.{IsFolderOf, texts}
 use Rattle.edit_sources.specs.ConfigurationFiles.{Climbs}
 use Rattle.edit_sources.proofs.FolderLemmas.{height}
 use Rattle.edit_sources.proofs.config.files.folders_upwards.Given as goal

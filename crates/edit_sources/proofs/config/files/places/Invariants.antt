@@ -1,6 +1,6 @@
 use Rattle.std.proofs.Common.{◌≡◌, map, take, string_bytes}
 use Rattle.std.specs.Prelude.{codes}
-use Rattle.edit_document.specs.Paths.{joined, texts}
+use Rattle.edit_base.specs.Paths.{joined, texts}
 use Rattle.edit_sources.proofs.config.files.places.Given as goal
 
 abbrev pub invariant-loop-folder : goal.invariant-loop-folder

@@ -3,8 +3,8 @@ use Rattle.std.specs.Prelude.{option_copied, option_map}
 use Rattle.std.specs.List.{find}
 use Rattle.edit_record.specs.Admissible.{is_wanted}
 use Rattle.edit_record.specs.IndexEntry.{entry_of}
-use Rattle.edit_record.specs.Requirement.{comparators_of}
-use Rattle.edit_record.specs.RustVersions.{numbers_of}
+use Rattle.edit_version.specs.Requirement.{comparators_of}
+use Rattle.edit_version.specs.RustVersions.{numbers_of}
 use Rattle.edit_sources.specs.Ranking.{passes, rank_of}
 use Rattle.edit_sources.proofs.FirstLemmas.{find-map, greatest_first, none_first}
 use Rattle.edit_sources.proofs.ranking.Ranked.best.Goals as goal

@@ -1,8 +1,8 @@
 use Rattle.std.specs.Prelude.{option_map}
 use Rattle.std.proofs.lemmas.Result.{IfOk-weaker}
 use Rattle.edit_record.specs.Finding.{IsFound}
-use Rattle.edit_record.specs.RustVersions.{numbers_of}
-use Rattle.edit_record.specs.Selection.{is_allowed}
+use Rattle.edit_version.specs.RustVersions.{numbers_of}
+use Rattle.edit_version.specs.Selection.{is_allowed}
 use Rattle.edit_record.proofs.Entries.{found-at_least}
 use Rattle.edit_sources.proofs.ranking.Ranked.latest.Goals as goal
 

@@ -1,8 +1,0 @@
-use Rattle.std.proofs.Common.{◌≡◌, ◌+◌, ◌-◌, length}
-use Rattle.edit_document.specs.Reading.{spaces_at}
-use Rattle.edit_document.proofs.Loops.{rest_of}
-use Rattle.edit_document.proofs.read.multi.past_spaces.Given as goal
-
--- what follows the white space from here follows it
-abbrev pub invariant-spaces : goal.invariant-spaces
-invariant-spaces l = rest_of (spaces_at (length l.s + 1 - l._space) l.rest) ≡ rest_of (spaces_at (length l.s + 1) l.s)

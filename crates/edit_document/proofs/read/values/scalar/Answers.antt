@@ -1,5 +1,0 @@
-use Rattle.edit_document.proofs.NotedTokens.{scalar_noted}
-use Rattle.edit_document.proofs.read.values.scalar.Goals as goal
-
-pub returns : goal.returns
-returns c = scalar_noted c.args.out.now.items c.note.new.out.items c.in-Some.kind c.args.s.now c.in-Some.rest.now c.in-Some.ensures c.in_ok-note.ensures

@@ -1,0 +1,37 @@
+-- A plan over a cache that kept nothing before.
+use Rattle.std.proofs.Common.{◌≡◌, ℕ, List, Option, Some, None, Ok, ap, sym, ◌∙◌, subst, ⊎_elim, option_map}
+use Rattle.std.proofs.Math.Path.{fun_ext}
+use Rattle.std.specs.Prelude.{◌⊎◌}
+use Rattle.edit_base.specs.declared.errors.Error.{Error}
+use Rattle.edit_record.specs.IndexEntry.{IndexEntry}
+use Rattle.edit_sources.specs.FileIndex.{FileGives}
+use Rattle.edit_sources.specs.Index.{answer_of}
+use Rattle.edit_sources.specs.IndexCache.{index_of, kept_at}
+use Rattle.edit_sources.specs.declared.cache.IndexCache.{IndexCache}
+use Rattle.edit_sources.specs.declared.file_index.FileIndex.{FileIndex}
+use Rattle.cargo_edit.specs.Causes.{IsCause}
+use Rattle.cargo_edit.specs.Looks.{Kept, kept_by}
+use Rattle.edit_program.specs.Causes.{IsPlanCause}
+
+nothing_kept : (cache : IndexCache FileIndex) → ((address name : List ℕ) → kept_at cache address name ≡ None) → (address name : List ℕ) → kept_by cache address name ≡ None
+nothing_kept cache empty address name = ap (option_map answer_of) (empty address name)
+
+-- an answer that was looked up is one that the index gives
+pub one_given : (cache : IndexCache FileIndex) (index : FileIndex) (address name : List ℕ) (answer : Option (List IndexEntry)) → index_of cache ≡ index → ((at of : List ℕ) → kept_at cache at of ≡ None)
+    → (kept_by cache address name ≡ Some answer) ⊎ FileGives (index_of cache) name (Ok answer)
+    → FileGives index name (Ok answer)
+one_given cache index address name answer is empty given = ⊎_elim
+    (λ kept. absurd (let none : None ≡ Some answer = sym (nothing_kept cache empty address name) ∙ kept in cc))
+    (λ gives. subst (λ (i : FileIndex). FileGives i name (Ok answer)) is gives)
+    given
+
+-- a plan that is refused over such a cache has its cause in the index
+pub no_plan : (cache : IndexCache FileIndex) (index : FileIndex) (bytes : List ℕ) (kept : Kept) (e : Error) → index_of cache ≡ index → ((at of : List ℕ) → kept_at cache at of ≡ None)
+    → IsCause bytes (λ address name outcome. FileGives (index_of cache) name outcome) (kept_by cache) kept 0 0 e → IsPlanCause bytes index e
+no_plan cache index bytes kept e is empty cause =
+    let none : kept_by cache ≡ (λ address name. None) = fun_ext (λ address. fun_ext (nothing_kept cache empty address)) in
+    record {
+      kept = kept;
+      cause = subst (λ (old : Kept). IsCause bytes (λ address name outcome. FileGives index name outcome) old kept 0 0 e) none
+          (subst (λ (i : FileIndex). IsCause bytes (λ address name outcome. FileGives i name outcome) (kept_by cache) kept 0 0 e) is cause);
+    }

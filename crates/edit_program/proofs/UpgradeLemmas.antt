@@ -1,0 +1,27 @@
+-- An upgrade whose write was refused.
+use Rattle.std.proofs.Common.{◌≡◌, ℕ, List, Option, Bool, true, ◌∙◌, subst}
+use Rattle.std.specs.Prelude.{slice_get}
+use Rattle.edit_version.specs.RustVersions.{Numbers}
+use Rattle.edit_sources.specs.Store.{Files, SameFiles}
+use Rattle.edit_sources.specs.declared.file_index.FileIndex.{FileIndex}
+use Rattle.cargo_edit.specs.declared.upgrade.Output.{Output}
+use Rattle.edit_program.specs.Upgrading.{IsCutShort, IsIndexRead, IsManifestRead, IsPlanned, IsTorn}
+use Rattle.edit_program.proofs.Passing.{as_before, same_twice}
+
+-- what was read, planned and written after another leaves the store as the clause says
+pub cut_short : (tells told_mid : Bool) (old mid now new : Files) (current named index_named path bytes : List ℕ) (rust : Option Numbers) (index : FileIndex) (outputs : List Output) (first : Option Output)
+    → told_mid ≡ tells → SameFiles old mid → SameFiles mid now
+    → (tells ≡ true → IsManifestRead old current named path bytes rust) → (told_mid ≡ true → IsIndexRead mid current index_named index)
+    → IsPlanned path bytes rust index outputs → first ≡ slice_get outputs 0 → IsTorn first now new
+    → tells ≡ true → IsCutShort current named index_named old new
+cut_short tells told_mid old mid now new current named index_named path bytes rust index outputs first same_told same1 same2 manifest indexed planned is torn t = record {
+  path = path;
+  bytes = bytes;
+  rust = rust;
+  index = index;
+  outputs = outputs;
+  manifest = manifest t;
+  indexed = as_before (λ files. IsIndexRead files current index_named index) old mid same1 (indexed (same_told ∙ t));
+  planned = planned;
+  torn = subst (λ o. IsTorn o old new) is (as_before (λ files. IsTorn first files new) old now (same_twice old mid now same1 same2) torn);
+}

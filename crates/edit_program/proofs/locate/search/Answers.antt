@@ -1,0 +1,38 @@
+use Rattle.std.proofs.Common.{◌≡◌, ◌≢◌, ◌∙◌, ⊎_elim, inl, inr, rules, arith}
+use Rattle.std.specs.Prelude.{codes}
+use Rattle.edit_program.proofs.Passing.{passed_more, passed_none, none_above}
+use Rattle.edit_program.proofs.locate.search.Goals as goal
+
+pub folders-init : goal.folders-init
+folders-init g c = record {
+  utf8 = c.utf8.start;
+  store = search rules;
+  passed = passed_none (g.S.Store.tells c.args.files.now) (g.S.Store.file_at c.args.files.now) c.args.start.now;
+}
+
+pub folders-preserved : goal.folders-preserved
+folders-preserved g c =
+    let before = c.folders.invariant in
+    let on : c.folders.dir.now ≢ codes "/" = search rules in
+    record {
+      utf8 = c.folder-dir.utf8;
+      store = record {
+        tells = c.manifest_at.ensures.store.tells ∙ before.store.tells;
+        files = λ path. c.manifest_at.ensures.store.files path ∙ before.store.files path;
+        later = omega (arith, before.store.later, c.manifest_at.ensures.store.later);
+      };
+      passed = passed_more _ _ _ (g.S.Store.file_at c.folders.files) _ c.folders.dir.now _ before.store.tells before.store.files before.passed on c.folder-dir.ensures
+          (rw c.in-Ok-None.field-0-is at c.in-Ok-None.ensures.found);
+    }
+
+pub returns-in-Ok-None-manifest_at-clause-refused : goal.returns-in-Ok-None-manifest_at-clause-refused
+returns-in-Ok-None-manifest_at-clause-refused g c =
+    let before = c.folders.invariant in
+    let root : c.folders.dir.now ≡ codes "/" = search rules in
+    ⊎_elim (λ memory. inl (inl memory))
+    (λ named. inr (λ t. (
+      named,
+      none_above _ _ _ (g.S.Store.file_at c.folders.files) _ c.folders.dir.now before.store.tells before.store.files before.passed root
+          (rw c.in-Ok-None-manifest_at.field-0-is at c.in-Ok-None-manifest_at.ensures.found) t,
+    )))
+    c.not_found.ensures

@@ -1,0 +1,12 @@
+pub mod Characters
+pub mod Strings
+pub mod Numbers
+pub mod Grammar
+pub mod Depth
+pub mod Marks
+pub mod FormOf
+pub mod ReadingSteps
+pub mod ReadingNumbers
+pub mod Reading
+pub mod Noting
+pub mod Decoding

@@ -1,0 +1,130 @@
+//! Steps over the bytes of a text.
+ghost use Rattle.std.specs.Prelude.{◌≡◌, ◌≤◌, length, drop, slice_index, option_map};
+ghost use Rattle.std.specs.List.{prefix_len};
+ghost use Rattle.std.specs.Char as chars;
+ghost use Rattle.edit_syntax.specs.Characters as spec;
+ghost use Rattle.edit_syntax.specs.Reading as reading;
+ghost use Rattle.edit_syntax.specs.Noting.{class_test};
+
+/// The sets of bytes of which runs are read.
+#[derive(Clone, Copy)]
+pub(crate) enum Class {
+    Blank,
+    Comment,
+    Bare,
+    Literal,
+    Unescaped,
+    Spacing,
+    Decimal,
+    Hexadecimal,
+    Octal,
+    Binary,
+}
+
+/// The byte at `index`, or 0 past the end.
+#[inline]
+pub(crate) fn byte_at(s: &[u8], index: usize) -> u8
+    ensures { result ≡ slice_index s.now index }
+{
+    s.get(index).copied().unwrap_or(0)
+}
+
+/// The first byte, or 0.
+#[inline]
+pub(crate) fn first(s: &[u8]) -> u8
+    ensures { result ≡ reading.first s.now }
+{
+    byte_at(s, 0)
+}
+
+/// Whether this is white space: a tab or a space.
+fn is_blank(b: u8) -> bool
+    ensures { result ≡ spec.is_blank b }
+{
+    b == b'\t' || b == b' '
+}
+
+/// Whether a comment may hold this byte.
+fn is_ch(b: u8) -> bool
+    ensures { result ≡ spec.is_ch b }
+{
+    b == b'\t' || (b >= b' ' && b != 127)
+}
+
+/// Whether a bare key may hold this byte.
+pub(crate) fn is_bare(b: u8) -> bool
+    ensures { result ≡ spec.is_bare b }
+{
+    (b >= b'A' && b <= b'Z')
+        || (b >= b'a' && b <= b'z')
+        || (b >= b'0' && b <= b'9')
+        || b == b'_'
+        || b == b'-'
+}
+
+/// Whether a basic string may hold this byte as it is.
+pub(crate) fn is_basic_ch(b: u8) -> bool
+    ensures { result ≡ spec.is_basic_ch b }
+{
+    is_ch(b) && b != b'"' && b != b'\\'
+}
+
+/// Whether this is a digit of the base.
+fn is_digit(b: u8, base: u32) -> bool
+    requires low { 2 ≤ base }
+    requires high { base ≤ 36 }
+    ensures { result ≡ chars.is_digit b base }
+{
+    char::from(b).is_digit(base)
+}
+
+/// Whether a byte is of the class.
+pub(crate) fn is_in(class: Class, b: u8) -> bool
+    ensures { result ≡ class_test class b }
+{
+    match class {
+        Class::Blank => is_blank(b),
+        Class::Comment => is_ch(b),
+        Class::Bare => is_bare(b),
+        Class::Literal => is_ch(b) && b != b'\'',
+        Class::Unescaped => b != b'\\',
+        Class::Spacing => is_blank(b) || b == b'\n' || b == b'\r',
+        Class::Decimal => is_digit(b, 10),
+        Class::Hexadecimal => is_digit(b, 16),
+        Class::Octal => is_digit(b, 8),
+        Class::Binary => is_digit(b, 2),
+    }
+}
+
+/// How many bytes at the front are of the class.
+pub(crate) fn run_len(s: &[u8], class: Class) -> usize
+    ensures len { result ≡ prefix_len (class_test class) s.now }
+    ensures within { result ≤ length s.now }
+{
+    s.iter().take_while(|b| is_in(class, **b)).count()
+}
+
+/// What follows the first `n` bytes, or nothing where there are fewer.
+pub(crate) fn skip(s: &[u8], n: usize) -> &[u8]
+    ensures { result.now ≡ drop n s.now }
+{
+    if n <= s.len() { &s[n..] } else { &[] }
+}
+
+/// What follows the longest front of the class.
+pub(crate) fn past_run(s: &[u8], class: Class) -> &[u8]
+    ensures { result.now ≡ reading.after (class_test class) s.now }
+{
+    skip(s, run_len(s, class))
+}
+
+/// What follows the first byte, where it is this one.
+pub(crate) fn past(s: &[u8], b: u8) -> Option<&[u8]>
+    ensures { option_map (λ rest. rest.now) result ≡ reading.past b s.now }
+{
+    if first(s) == b {
+        Some(skip(s, 1))
+    } else {
+        None
+    }
+}

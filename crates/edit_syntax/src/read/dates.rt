@@ -1,0 +1,111 @@
+//! Where dates and times end.
+ghost use Rattle.std.specs.Prelude.{◌≡◌};
+ghost use Rattle.edit_syntax.specs.ReadingNumbers as reading;
+ghost use Rattle.edit_syntax.specs.Noting.{Skips, seen_token, told_token, value_kind};
+
+use super::bytes::{Class, first, is_in, past, past_run, run_len, skip};
+use super::marks::MarkKind;
+
+/// What follows `n` digits.
+#[tactic(auto, unfolding(crate::specs::ReadingNumbers::count_at))]
+fn past_count(s: &[u8], n: usize) -> Option<&[u8]>
+    ensures { Skips result (reading.count_at n s.now) }
+{
+    if n <= run_len(s, Class::Decimal) {
+        Some(skip(s, n))
+    } else {
+        None
+    }
+}
+
+/// What follows `n` digits and this byte behind them.
+#[tactic(auto, unfolding(crate::specs::ReadingNumbers::group_at))]
+fn past_group(s: &[u8], n: usize, b: u8) -> Option<&[u8]>
+    ensures { Skips result (reading.group_at n b s.now) }
+{
+    past(past_count(s, n)?, b)
+}
+
+/// What follows a date.
+#[tactic(auto, unfolding(crate::specs::ReadingNumbers::date_at))]
+fn past_date(s: &[u8]) -> Option<&[u8]>
+    ensures { Skips result (reading.date_at s.now) }
+{
+    let month = past_group(s, 4, b'-')?;
+    let day = past_group(month, 2, b'-')?;
+    past_count(day, 2)
+}
+
+/// What follows a fraction of a second or nothing.
+#[tactic(auto, unfolding(crate::specs::ReadingNumbers::second_at))]
+fn past_second(s: &[u8]) -> Option<&[u8]>
+    ensures { Skips result (reading.second_at s.now) }
+{
+    if first(s) != b'.' {
+        return Some(s);
+    }
+    let digits = skip(s, 1);
+    if is_in(Class::Decimal, first(digits)) {
+        Some(past_run(digits, Class::Decimal))
+    } else {
+        None
+    }
+}
+
+/// What follows a time, with its fraction of a second.
+#[tactic(auto, unfolding(crate::specs::ReadingNumbers::time_at))]
+fn past_time(s: &[u8]) -> Option<&[u8]>
+    ensures { Skips result (reading.time_at s.now) }
+{
+    let minute = past_group(s, 2, b':')?;
+    let second = past_group(minute, 2, b':')?;
+    let fraction = past_count(second, 2)?;
+    past_second(fraction)
+}
+
+/// What follows an offset or nothing.
+#[tactic(auto, unfolding(crate::specs::ReadingNumbers::offset_at))]
+fn past_offset(s: &[u8]) -> Option<&[u8]>
+    ensures { Skips result (reading.offset_at s.now) }
+{
+    if first(s) == b'Z' || first(s) == b'z' {
+        return Some(skip(s, 1));
+    }
+    if first(s) == b'+' || first(s) == b'-' {
+        let minute = past_group(skip(s, 1), 2, b':')?;
+        return past_count(minute, 2);
+    }
+    Some(s)
+}
+
+/// Whether a time follows a date.
+fn joins(s: &[u8]) -> bool
+    ensures { result ≡ reading.joins s.now }
+{
+    first(s) == b'T'
+        || first(s) == b't'
+        || (first(s) == b' ' && is_in(Class::Decimal, first(skip(s, 1))))
+}
+
+/// What follows a date, or a date and a time.
+#[tactic(auto, unfolding(crate::specs::ReadingNumbers::dated_at))]
+pub(crate) fn past_dated(s: &[u8]) -> Option<(MarkKind, &[u8])>
+    ensures { seen_token result ≡ told_token value_kind (reading.dated_at s.now) }
+{
+    let behind = past_date(s)?;
+    if !joins(behind) {
+        return Some((MarkKind::DateTime, behind));
+    }
+    let offset = past_time(skip(behind, 1))?;
+    let rest = past_offset(offset)?;
+    Some((MarkKind::DateTime, rest))
+}
+
+/// The kind of a time, and what follows it.
+#[tactic(auto, unfolding(crate::specs::ReadingNumbers::timed_at))]
+pub(crate) fn past_timed(s: &[u8]) -> Option<(MarkKind, &[u8])>
+    ensures { seen_token result ≡ told_token value_kind (reading.timed_at s.now) }
+{
+    let rest = past_time(s)?;
+    Some((MarkKind::DateTime, rest))
+}

@@ -1,0 +1,196 @@
+//! What keys and strings say.
+ghost use Rattle.std.specs.Prelude.{◌≡◌, ℕ, ◌+◌, ◌-◌, ◌<◌, ◌≤◌, List, [], length, take, drop, ◌++◌, false, IfOk, IfErr, IsTrue, string_bytes, encode_utf8};
+ghost use Rattle.std.specs.Str.{IsCharBoundary};
+ghost use Rattle.edit_base.specs.Errors.{IsMemory};
+ghost use Rattle.edit_syntax.specs.Spans.{bytes_at};
+ghost use Rattle.edit_syntax.specs.Characters.{quote};
+ghost use Rattle.std.specs.Str.Parse.{digits_value};
+ghost use Rattle.edit_syntax.specs.Strings as strings;
+ghost use Rattle.edit_syntax.specs.Strings.{Piece, piece, IsBasicPiece, IsMultiPiece, NamesScalar};
+ghost use Rattle.edit_syntax.specs.ReadingSteps as reading;
+ghost use Rattle.edit_syntax.specs.Decoding as decoding;
+ghost use Rattle.edit_syntax.specs.Decoding.{delimiter, delimited, IsEscape, IsMarked, FoldStops, LineSays, Says};
+
+use super::bytes::{Class, byte_at, first, is_in, run_len, skip};
+use super::marks::{Mark, MarkKind};
+use super::tokens::scalar;
+use edit_base::errors::CargoResult;
+use crate::span::Span;
+use std::alloc::Global;
+
+/// How long the delimiter of a token is.
+fn delimiter_len(kind: MarkKind) -> usize
+    ensures { result ≡ length (delimiter kind) }
+{
+    match kind {
+        MarkKind::BasicPart | MarkKind::LiteralPart => 1,
+        MarkKind::BasicString | MarkKind::LiteralString => 1,
+        MarkKind::MultiBasicString | MarkKind::MultiLiteralString => 3,
+        _ => 0,
+    }
+}
+
+/// What stands between the delimiters of the token with this mark, as it is written.
+pub(crate) fn content(text: &str, mark: Mark) -> &str
+    // However the text is split at the token.
+    ensures { (before content rest said : List ℕ) → text.now ≡ before ++ delimited mark.kind content rest →
+        mark.from ≡ length (delimited mark.kind content rest) → mark.to ≡ length rest →
+        Says mark.kind content said → result.now ≡ content }
+{
+    let width = delimiter_len(mark.kind);
+    let start = text.len().saturating_sub(mark.from) + width;
+    let end = text.len().saturating_sub(mark.to).saturating_sub(width);
+    text.get(start..end).unwrap_or("")
+}
+
+/// Where the content of the token with this mark stands.
+pub(crate) fn content_span(text: &str, mark: Mark) -> Span
+    // However the text is split at the token.
+    ensures { (before content rest said : List ℕ) → text.now ≡ before ++ delimited mark.kind content rest →
+        mark.from ≡ length (delimited mark.kind content rest) → mark.to ≡ length rest →
+        Says mark.kind content said → bytes_at text.now result ≡ content }
+{
+    let from = mark.from.saturating_sub(delimiter_len(mark.kind));
+    Span {
+        from,
+        to: from.saturating_sub(content(text, mark).len()),
+    }
+}
+
+/// Whether a content of this kind says what is written.
+pub(crate) fn is_plain(kind: MarkKind, content: &str) -> bool
+    ensures { (said : List ℕ) → Says kind content.now said → IsTrue result → content.now ≡ said }
+{
+    match kind {
+        MarkKind::BasicPart | MarkKind::BasicString => {
+            run_len(content.as_bytes(), Class::Unescaped) >= content.len()
+        }
+        MarkKind::MultiBasicString | MarkKind::MultiLiteralString => false,
+        _ => true,
+    }
+}
+
+/// The character that the letter of an escape names.
+fn escaped(letter: u8) -> char
+    ensures { result ≡ strings.escaped letter }
+{
+    match letter {
+        b'b' => '\u{8}',
+        b't' => '\t',
+        b'n' => '\n',
+        b'f' => '\u{c}',
+        b'r' => '\r',
+        other => char::from(other),
+    }
+}
+
+/// The character that the first `n` digits name.
+fn coded(bytes: &[u8], n: usize) -> char
+    requires { n ≤ 8 }
+    ensures { (digits rest : List ℕ) → bytes.now ≡ digits ++ rest → NamesScalar n digits →
+        result ≡ digits_value 16 digits }
+{
+    if bytes.len() < n {
+        return char::REPLACEMENT_CHARACTER;
+    }
+    scalar(&bytes[..n]).unwrap_or(char::REPLACEMENT_CHARACTER)
+}
+
+/// The character that the escape at the front names, and how many bytes the escape has.
+fn escape(bytes: &[u8]) -> (char, usize)
+    ensures some { 2 ≤ result.1 }
+    ensures names { (p : Piece) (rest : List ℕ) → IsEscape p → IsBasicPiece p → bytes.now ≡ piece quote p rest →
+        (encode_utf8 result.0 ≡ strings.said quote p) × (result.1 ≡ length (piece quote p [])) }
+{
+    let letter = byte_at(bytes, 1);
+    if letter == b'u' {
+        return (coded(skip(bytes, 2), 4), 6);
+    }
+    if letter == b'U' {
+        return (coded(skip(bytes, 2), 8), 10);
+    }
+    (escaped(letter), 2)
+}
+
+/// The first `n` bytes of a text, where it may be cut there.
+fn front(s: &str, n: usize) -> &str
+    ensures { IsCharBoundary s.now n → result.now ≡ take n s.now }
+{
+    match s.split_at_checked(n) {
+        Some((front, _)) => front,
+        None => "",
+    }
+}
+
+/// What follows the first `n` bytes of a text, where it may be cut there.
+fn behind(s: &str, n: usize) -> &str
+    ensures text { IsCharBoundary s.now n → result.now ≡ drop n s.now }
+    ensures shorter { length result.now ≤ length s.now - n }
+{
+    match s.split_at_checked(n) {
+        Some((_, behind)) => behind,
+        None => "",
+    }
+}
+
+/// Takes the escape or the fold at the front, and tells how many bytes it has.
+fn push_piece(out: &mut String, bytes: &[u8]) -> CargoResult<usize>
+    ensures says { (p : Piece) (rest : List ℕ) → IsMarked p → IsMultiPiece p → FoldStops p (reading.first rest) → bytes.now ≡ piece quote p rest →
+        IfOk result (λ n. (string_bytes out.new ≡ string_bytes out.old ++ strings.said quote p) × (n ≡ length (piece quote p []))) }
+    ensures some { IfOk result (λ n. 1 ≤ n) }
+    ensures refused { IfErr result IsMemory }
+{
+    if is_in(Class::Spacing, byte_at(bytes, 1)) {
+        return Ok(1 + run_len(skip(bytes, 1), Class::Spacing));
+    }
+    let (named, len) = escape(bytes);
+    out.push(named)?;
+    Ok(len)
+}
+
+/// What the content of a basic string says, but for a newline that is left out.
+fn decoded(alloc: Global, content: &str) -> CargoResult<String>
+    ensures text { (said : List ℕ) → LineSays content.now said → IfOk result (λ s. string_bytes s ≡ said) }
+    ensures refused { IfErr result IsMemory }
+{
+    let mut out = String::new(alloc);
+    let mut rest = content;
+    'pieces: for _piece in 0..content.len() + 1 {
+        let run = run_len(rest.as_bytes(), Class::Unescaped);
+        out.push_str(front(rest, run))?;
+        let tail = behind(rest, run);
+        if tail.is_empty() {
+            return Ok(out);
+        }
+        let len = push_piece(&mut out, tail.as_bytes())?;
+        rest = behind(tail, len);
+    }
+    Ok(out)
+}
+
+/// What follows a newline that comes first.
+fn past_break(content: &str) -> &str
+    ensures { result.now ≡ decoding.past_break content.now }
+{
+    let bytes = content.as_bytes();
+    if first(bytes) == b'\n' {
+        return behind(content, 1);
+    }
+    if first(bytes) == b'\r' && byte_at(bytes, 1) == b'\n' {
+        return behind(content, 2);
+    }
+    content
+}
+
+/// What a content of this kind says.
+pub(crate) fn said(alloc: Global, kind: MarkKind, content: &str) -> CargoResult<String>
+    ensures text { (said : List ℕ) → Says kind content.now said → IfOk result (λ s. string_bytes s ≡ said) }
+    ensures refused { IfErr result IsMemory }
+{
+    match kind {
+        MarkKind::BasicPart | MarkKind::BasicString => decoded(alloc, content),
+        MarkKind::MultiBasicString => decoded(alloc, past_break(content)),
+        MarkKind::MultiLiteralString => Ok(String::from_str(alloc, past_break(content))?),
+        _ => Ok(String::from_str(alloc, content)?),
+    }
+}

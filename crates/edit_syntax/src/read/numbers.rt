@@ -1,0 +1,203 @@
+//! Where numbers end, and what begins as one.
+ghost use Rattle.std.specs.Prelude.{◌≡◌, ℕ, ◌≤◌, ◌==◌, ◌&&◌, List, length, slice_index};
+ghost use Rattle.std.specs.List.{prefix_len};
+ghost use Rattle.edit_syntax.specs.Numbers as numbers;
+ghost use Rattle.edit_syntax.specs.Numbers.{Sign, Base};
+ghost use Rattle.edit_syntax.specs.ReadingNumbers as reading;
+ghost use Rattle.edit_syntax.specs.ReadingSteps as steps;
+ghost use Rattle.edit_syntax.specs.Noting.{Skips, seen_token, told_token, value_kind, class_test};
+
+use super::bytes::{Class, byte_at, first, is_in, past_run, skip};
+use super::dates::{past_dated, past_timed};
+use super::marks::MarkKind;
+
+/// Whether these are digits of the class, with single underscores between them.
+fn are_digits(s: &[u8], class: Class) -> bool
+    ensures { result ≡ numbers.are_digits (class_test class) s.now }
+{
+    let mut wanted = true;
+    for b in s {
+        if !wanted && *b == b'_' {
+            wanted = true;
+        } else if is_in(class, *b) {
+            wanted = false;
+        } else {
+            return false;
+        }
+    }
+    !wanted
+}
+
+/// Whether these are the digits of a decimal integer.
+fn is_whole(s: &[u8]) -> bool
+    ensures { result ≡ numbers.is_whole s.now }
+{
+    match s {
+        [] => false,
+        [digit] => is_in(Class::Decimal, *digit),
+        [digit, _, ..] => *digit >= b'1' && are_digits(s, Class::Decimal),
+    }
+}
+
+/// How many bytes at the front are digits of the class or underscores.
+fn digits_len(s: &[u8], class: Class) -> usize
+    ensures len { result ≡ prefix_len (reading.is_marked (class_test class)) s.now }
+    ensures within { result ≤ length s.now }
+{
+    s.iter()
+        .take_while(|b| is_in(class, **b) || **b == b'_')
+        .count()
+}
+
+/// What follows the digits at the front.
+#[tactic(auto, unfolding(crate::specs::ReadingNumbers::digits_at))]
+fn past_digits(s: &[u8], class: Class) -> Option<&[u8]>
+    ensures { Skips result (reading.digits_at (class_test class) s.now) }
+{
+    let len = digits_len(s, class);
+    if are_digits(&s[..len], class) {
+        Some(skip(s, len))
+    } else {
+        None
+    }
+}
+
+/// What follows the whole part of a number.
+#[tactic(auto, unfolding(crate::specs::ReadingNumbers::whole_at))]
+fn past_whole(s: &[u8]) -> Option<&[u8]>
+    ensures { Skips result (reading.whole_at s.now) }
+{
+    let len = digits_len(s, Class::Decimal);
+    if is_whole(&s[..len]) {
+        Some(skip(s, len))
+    } else {
+        None
+    }
+}
+
+/// What follows a sign or none.
+fn past_sign(s: &[u8]) -> &[u8]
+    ensures { result.now ≡ reading.past_sign s.now }
+{
+    if first(s) == b'+' || first(s) == b'-' {
+        skip(s, 1)
+    } else {
+        s
+    }
+}
+
+/// Whether an exponent begins with this byte.
+fn is_power(b: u8) -> bool
+    ensures { result ≡ reading.is_power b }
+{
+    b == b'e' || b == b'E'
+}
+
+/// What follows an exponent, from its letter on.
+#[tactic(auto, unfolding(crate::specs::ReadingNumbers::exponent_at))]
+fn past_exponent(s: &[u8]) -> Option<&[u8]>
+    ensures { Skips result (reading.exponent_at s.now) }
+{
+    past_digits(past_sign(skip(s, 1)), Class::Decimal)
+}
+
+/// The kind of a float, and what follows it, from behind its fraction on.
+#[tactic(auto, unfolding(crate::specs::ReadingNumbers::fraction_read))]
+fn behind_fraction(s: &[u8]) -> Option<(MarkKind, &[u8])>
+    ensures { (sign : Sign) (whole fraction : List ℕ) → seen_token result ≡ told_token value_kind (reading.fraction_read sign whole fraction s.now) }
+{
+    if is_power(first(s)) {
+        let rest = past_exponent(s)?;
+        return Some((MarkKind::Float, rest));
+    }
+    Some((MarkKind::Float, s))
+}
+
+/// The kind of a number, and what follows it, from behind its whole part on.
+#[tactic(auto, unfolding(crate::specs::ReadingNumbers::whole_read))]
+fn behind_whole(s: &[u8]) -> Option<(MarkKind, &[u8])>
+    ensures { (sign : Sign) (whole : List ℕ) → seen_token result ≡ told_token value_kind (reading.whole_read sign whole s.now) }
+{
+    if first(s) == b'.' {
+        let behind = past_digits(skip(s, 1), Class::Decimal)?;
+        return behind_fraction(behind);
+    }
+    if is_power(first(s)) {
+        let rest = past_exponent(s)?;
+        return Some((MarkKind::Float, rest));
+    }
+    Some((MarkKind::Integer, s))
+}
+
+/// Whether these three bytes come next.
+pub(crate) fn begins(s: &[u8], word: [u8; 3]) -> bool
+    ensures { result ≡ reading.begins (slice_index word 0) (slice_index word 1) (slice_index word 2) s.now }
+{
+    first(s) == word[0] && byte_at(s, 1) == word[1] && byte_at(s, 2) == word[2]
+}
+
+/// The kind of a decimal number, and what follows it, from behind its sign on.
+#[tactic(auto, unfolding(crate::specs::ReadingNumbers::decimal_at))]
+fn past_decimal(s: &[u8]) -> Option<(MarkKind, &[u8])>
+    ensures { (sign : Sign) → seen_token result ≡ told_token value_kind (reading.decimal_at sign s.now) }
+{
+    if begins(s, *b"inf") {
+        return Some((MarkKind::Float, skip(s, 3)));
+    }
+    if begins(s, *b"nan") {
+        return Some((MarkKind::Float, skip(s, 3)));
+    }
+    let behind = past_whole(s)?;
+    behind_whole(behind)
+}
+
+/// The kind of an integer with a prefix, and what follows it, from behind the prefix on.
+#[tactic(auto, unfolding(crate::specs::ReadingNumbers::based_at))]
+fn past_based(s: &[u8], class: Class) -> Option<(MarkKind, &[u8])>
+    ensures { (base : Base) → class_test class ≡ numbers.base_digit base → seen_token result ≡ told_token value_kind (reading.based_at base s.now) }
+{
+    let rest = past_digits(s, class)?;
+    Some((MarkKind::Integer, rest))
+}
+
+/// Whether a prefix of this letter comes next.
+fn has_prefix(s: &[u8], letter: u8) -> bool
+    ensures { result ≡ (steps.first s.now == 48 && slice_index s.now 1 == letter) }
+{
+    first(s) == b'0' && byte_at(s, 1) == letter
+}
+
+/// The kind of what has no sign, and what follows it.
+#[tactic(auto, unfolding(crate::specs::ReadingNumbers::unsigned_at))]
+fn past_unsigned(s: &[u8]) -> Option<(MarkKind, &[u8])>
+    ensures { seen_token result ≡ told_token value_kind (reading.unsigned_at s.now) }
+{
+    let behind = first(past_run(s, Class::Decimal));
+    if behind == b'-' {
+        return past_dated(s);
+    }
+    if behind == b':' {
+        return past_timed(s);
+    }
+    if has_prefix(s, b'x') {
+        return past_based(skip(s, 2), Class::Hexadecimal);
+    }
+    if has_prefix(s, b'o') {
+        return past_based(skip(s, 2), Class::Octal);
+    }
+    if has_prefix(s, b'b') {
+        return past_based(skip(s, 2), Class::Binary);
+    }
+    past_decimal(s)
+}
+
+/// The kind of a number, a date or a time, and what follows it.
+#[tactic(auto, unfolding(crate::specs::ReadingNumbers::number_at))]
+pub(crate) fn past_number(s: &[u8]) -> Option<(MarkKind, &[u8])>
+    ensures { seen_token result ≡ told_token value_kind (reading.number_at s.now) }
+{
+    if first(s) == b'+' || first(s) == b'-' {
+        return past_decimal(skip(s, 1));
+    }
+    past_unsigned(s)
+}

@@ -1,0 +1,145 @@
+//! Where strings, parts of keys and values that are one token end.
+ghost use Rattle.std.specs.Prelude.{◌≡◌, ℕ, ◌≤◌, List, length, slice_index};
+ghost use Rattle.edit_syntax.specs.Reading as reading;
+ghost use Rattle.edit_syntax.specs.Strings.{Piece};
+ghost use Rattle.edit_syntax.specs.Noting.{Skips, seen_token, told_token, value_kind};
+ghost use Rattle.edit_syntax.specs.Marks.{part_kind};
+
+use super::bytes::{Class, byte_at, first, is_bare, is_basic_ch, past, past_run, skip};
+use super::marks::MarkKind;
+use super::multi::past_multi;
+use super::numbers::{begins, past_number};
+
+/// The scalar value that these hexadecimal digits name.
+pub(crate) fn scalar(digits: &[u8]) -> Option<char>
+    requires { length digits.now ≤ 8 }
+    ensures { result ≡ reading.scalar digits.now }
+{
+    let mut code: u32 = 0;
+    for digit in digits {
+        code = code * 16 + char::from(*digit).to_digit(16)?;
+    }
+    char::from_u32(code)
+}
+
+/// What follows `n` digits that name a scalar value.
+fn past_code(s: &[u8], n: usize) -> Option<&[u8]>
+    requires { n ≤ 8 }
+    ensures { (made : List ℕ → Piece) → Skips result (reading.coded_at made n s.now) }
+{
+    if s.len() < n {
+        return None;
+    }
+    let _code = scalar(&s[..n])?;
+    Some(skip(s, n))
+}
+
+/// What follows an escape, from its backslash on.
+#[tactic(auto, unfolding(crate::specs::Reading::escape_at))]
+pub(crate) fn past_escape(s: &[u8]) -> Option<&[u8]>
+    ensures { Skips result (reading.escape_at s.now) }
+{
+    match byte_at(s, 1) {
+        b'b' | b't' | b'n' | b'f' | b'r' | b'"' | b'\\' => Some(skip(s, 2)),
+        b'u' => past_code(skip(s, 2), 4),
+        b'U' => past_code(skip(s, 2), 8),
+        _ => None,
+    }
+}
+
+/// What follows one byte or one escape of a basic string.
+#[tactic(auto, unfolding(crate::specs::Reading::piece_at))]
+fn past_piece(s: &[u8]) -> Option<&[u8]>
+    ensures { Skips result (reading.piece_at s.now) }
+{
+    if first(s) == b'\\' {
+        return past_escape(s);
+    }
+    if is_basic_ch(first(s)) {
+        Some(skip(s, 1))
+    } else {
+        None
+    }
+}
+
+/// What follows the closing quote of a basic string.
+fn past_basic(s: &[u8]) -> Option<&[u8]>
+    ensures { Skips result (reading.basic_at s.now) }
+{
+    let mut rest = s;
+    'pieces: for _piece in 0..s.len() {
+        if first(rest) == b'"' {
+            return Some(skip(rest, 1));
+        }
+        rest = past_piece(rest)?;
+    }
+    None
+}
+
+/// What follows the closing apostrophe of a literal string.
+#[tactic(auto, unfolding(crate::specs::Reading::literal_at))]
+fn past_literal(s: &[u8]) -> Option<&[u8]>
+    ensures { Skips result (reading.literal_at s.now) }
+{
+    past(past_run(s, Class::Literal), b'\'')
+}
+
+/// The kind of a key's part, and what follows it.
+#[tactic(auto, unfolding(crate::specs::Reading::part_at))]
+pub(crate) fn past_part(s: &[u8]) -> Option<(MarkKind, &[u8])>
+    ensures { seen_token result ≡ told_token part_kind (reading.part_at s.now) }
+{
+    let b = first(s);
+    if b == b'"' {
+        let rest = past_basic(skip(s, 1))?;
+        return Some((MarkKind::BasicPart, rest));
+    }
+    if b == b'\'' {
+        let rest = past_literal(skip(s, 1))?;
+        return Some((MarkKind::LiteralPart, rest));
+    }
+    if is_bare(b) {
+        return Some((MarkKind::BarePart, past_run(s, Class::Bare)));
+    }
+    None
+}
+
+/// Whether these four bytes come next.
+fn starts(s: &[u8], word: [u8; 4]) -> bool
+    ensures { result ≡ reading.starts (slice_index word 0) (slice_index word 1) (slice_index word 2) (slice_index word 3) s.now }
+{
+    first(s) == word[0]
+        && byte_at(s, 1) == word[1]
+        && byte_at(s, 2) == word[2]
+        && byte_at(s, 3) == word[3]
+}
+
+/// The kind of a value that is one token, and what follows it.
+#[tactic(auto, unfolding(crate::specs::Reading::scalar_at))]
+pub(crate) fn past_scalar(s: &[u8]) -> Option<(MarkKind, &[u8])>
+    ensures { seen_token result ≡ told_token value_kind (reading.scalar_at s.now) }
+{
+    if begins(s, *b"\"\"\"") {
+        let rest = past_multi(skip(s, 3), b'"')?;
+        return Some((MarkKind::MultiBasicString, rest));
+    }
+    if begins(s, *b"'''") {
+        let rest = past_multi(skip(s, 3), b'\'')?;
+        return Some((MarkKind::MultiLiteralString, rest));
+    }
+    if first(s) == b'"' {
+        let rest = past_basic(skip(s, 1))?;
+        return Some((MarkKind::BasicString, rest));
+    }
+    if first(s) == b'\'' {
+        let rest = past_literal(skip(s, 1))?;
+        return Some((MarkKind::LiteralString, rest));
+    }
+    if starts(s, *b"true") {
+        return Some((MarkKind::True, skip(s, 4)));
+    }
+    if starts(s, *b"fals") && byte_at(s, 4) == b'e' {
+        return Some((MarkKind::False, skip(s, 5)));
+    }
+    past_number(s)
+}

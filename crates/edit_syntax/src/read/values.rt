@@ -1,0 +1,189 @@
+//! Keys, values and pairs, noted down from left to right.
+ghost use Rattle.std.specs.Prelude.{◌≡◌, ◌+◌, ◌<◌, drop};
+ghost use Rattle.edit_syntax.specs.Characters.{left_bracket};
+ghost use Rattle.edit_syntax.specs.Reading as reading;
+ghost use Rattle.edit_syntax.specs.Marks.{mark, key_marks, value_marks};
+ghost use Rattle.edit_syntax.specs.Noting.{Notes, Noted, part_marks, array_marks, pair_marks, inner_marks};
+
+use super::bytes::{Class, first, past, past_run, skip};
+use super::gaps::past_gap;
+use super::marks::{Mark, MarkKind, ReadError};
+use super::tokens::{past_part, past_scalar};
+
+/// Notes the token that stands before `to` in `from`.
+pub(crate) fn note(
+    out: &mut Vec<Mark>,
+    kind: MarkKind,
+    from: &[u8],
+    to: &[u8],
+) -> Result<(), ReadError>
+    ensures { Noted out.old out.new result (mark kind from.now to.now) }
+{
+    out.push(Mark {
+        kind,
+        from: from.len(),
+        to: to.len(),
+    })?;
+    Ok(())
+}
+
+/// A part of a key.
+fn part<'a>(out: &mut Vec<Mark>, s: &'a [u8]) -> Result<&'a [u8], ReadError>
+    ensures { Notes part_marks out.old out.new result (reading.part_at s.now) }
+{
+    let Some((kind, rest)) = past_part(s) else {
+        return Err(ReadError::NotToml { left: s.len() });
+    };
+    note(out, kind, s, rest)?;
+    Ok(rest)
+}
+
+/// A key: a part, and more of them behind dots.
+pub(crate) fn key<'a>(out: &mut Vec<Mark>, s: &'a [u8]) -> Result<&'a [u8], ReadError>
+    ensures { Notes key_marks out.old out.new result (reading.key_at s.now) }
+{
+    let mut rest = part(out, s)?;
+    'parts: for _part in 0..s.len() {
+        let dot = past_run(rest, Class::Blank);
+        if first(dot) != b'.' {
+            return Ok(rest);
+        }
+        rest = part(out, past_run(skip(dot, 1), Class::Blank))?;
+    }
+    Err(ReadError::NotToml { left: rest.len() })
+}
+
+/// A value that is one token.
+fn scalar<'a>(out: &mut Vec<Mark>, s: &'a [u8]) -> Result<&'a [u8], ReadError>
+    ensures { Notes value_marks out.old out.new result (reading.scalar_at s.now) }
+{
+    let Some((kind, rest)) = past_scalar(s) else {
+        return Err(ReadError::NotToml { left: s.len() });
+    };
+    note(out, kind, s, rest)?;
+    Ok(rest)
+}
+
+/// A key, an equals sign and a value.
+#[cycle(values)]
+#[tactic(auto, unfolding(crate::specs::Reading::pair_at))]
+pub(crate) fn pair<'a>(
+    out: &mut Vec<Mark>,
+    s: &'a [u8],
+    depth: usize,
+) -> Result<&'a [u8], ReadError>
+    requires { depth < 1000 }
+    ensures { Notes pair_marks out.old out.new result (reading.pair_at (reading.value_at depth) s.now) }
+{
+    let after_key = key(out, s)?;
+    let sign = past_run(after_key, Class::Blank);
+    let Some(rest) = past(sign, b'=') else {
+        return Err(ReadError::NotToml { left: sign.len() });
+    };
+    value(out, past_run(rest, Class::Blank), depth)
+}
+
+/// The pairs of an inline table, and its closing brace.
+#[cycle(values)]
+fn members<'a>(
+    out: &mut Vec<Mark>,
+    s: &'a [u8],
+    depth: usize,
+    count: usize,
+) -> Result<&'a [u8], ReadError>
+    requires { depth < 1000 }
+    ensures { Notes inner_marks out.old out.new result (reading.members_at (reading.value_at depth) count s.now) }
+{
+    let mut rest = s;
+    'members: for _member in 0..count {
+        let after_value = pair(out, rest, depth)?;
+        let end = past_run(after_value, Class::Blank);
+        if first(end) != b',' {
+            let Some(after) = past(end, b'}') else {
+                return Err(ReadError::NotToml { left: end.len() });
+            };
+            note(out, MarkKind::CloseTable, end, after)?;
+            return Ok(after);
+        }
+        rest = past_run(skip(end, 1), Class::Blank);
+    }
+    Err(ReadError::NotToml { left: rest.len() })
+}
+
+/// What follows a comma and the gap behind it.
+fn past_comma(s: &[u8]) -> &[u8]
+    ensures { result.now ≡ reading.past_gap (drop 1 s.now) }
+{
+    past_gap(skip(s, 1))
+}
+
+/// The elements of an array, and its closing bracket.
+#[cycle(values)]
+fn elements<'a>(
+    out: &mut Vec<Mark>,
+    s: &'a [u8],
+    depth: usize,
+    count: usize,
+) -> Result<&'a [u8], ReadError>
+    requires { depth < 1000 }
+    ensures { Notes array_marks out.old out.new result (reading.elements_at (reading.value_at depth) count s.now) }
+{
+    let mut rest = s;
+    'elements: for _element in 0..count {
+        if first(rest) == b']' {
+            let after = skip(rest, 1);
+            note(out, MarkKind::CloseArray, rest, after)?;
+            return Ok(after);
+        }
+        let after_value = value(out, rest, depth)?;
+        let end = past_gap(after_value);
+        if first(end) != b',' {
+            let Some(after) = past(end, b']') else {
+                return Err(ReadError::NotToml { left: end.len() });
+            };
+            note(out, MarkKind::CloseArray, end, after)?;
+            return Ok(after);
+        }
+        rest = past_comma(end);
+    }
+    Err(ReadError::NotToml { left: rest.len() })
+}
+
+/// An array whose elements stand at most so deep.
+#[cycle(values)]
+fn array<'a>(out: &mut Vec<Mark>, s: &'a [u8], depth: usize) -> Result<&'a [u8], ReadError>
+    requires shallow { depth < 1000 }
+    requires opened { reading.first s.now ≡ left_bracket }
+    ensures { Notes value_marks out.old out.new result (reading.value_at (depth + 1) s.now) }
+{
+    let behind = skip(s, 1);
+    note(out, MarkKind::OpenArray, s, behind)?;
+    elements(out, past_gap(behind), depth, s.len())
+}
+
+/// A value whose arrays and inline tables stand at most so deep.
+#[cycle(values)]
+#[tactic(auto, unfolding(crate::specs::Reading::value_at))]
+fn value<'a>(out: &mut Vec<Mark>, s: &'a [u8], depth: usize) -> Result<&'a [u8], ReadError>
+    requires { depth < 1000 }
+    ensures { Notes value_marks out.old out.new result (reading.value_at depth s.now) }
+{
+    if depth == 0 {
+        return scalar(out, s);
+    }
+    if first(s) == b'[' {
+        return array(out, s, depth - 1);
+    }
+    if first(s) != b'{' {
+        return scalar(out, s);
+    }
+    let behind = skip(s, 1);
+    note(out, MarkKind::OpenTable, s, behind)?;
+    let inner = past_run(behind, Class::Blank);
+    if first(inner) == b'}' {
+        let after = skip(inner, 1);
+        note(out, MarkKind::CloseTable, inner, after)?;
+        return Ok(after);
+    }
+    members(out, inner, depth - 1, s.len())
+}

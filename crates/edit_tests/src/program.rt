@@ -1,0 +1,184 @@
+//! The program's rows, over files in memory.
+use super::*;
+use edit_base::paths::join;
+use edit_sources::{FaultStore, HostStore, MemoryStore};
+use std::test::Fail;
+use std::{fs, process, str};
+
+const MANIFEST: &str = "[dependencies]\nserde = { version = '1.0', optional = true } # keep\n";
+
+const RAISED: &str = "[dependencies]\nserde = { version = \"1.2\", optional = true } # keep\n";
+
+const ODD_NAME: &str = "[dependencies]\n'no name' = '1'\n";
+
+const INDEX: &str = "{\"name\":\"serde\",\"vers\":\"1.2.3\"}\n";
+
+const WORDS: &str = "upgrade --manifest-path Cargo.toml --index-file index.json";
+
+/// Each row: what it shows, the files, which call of the store fails (9: none), the words (`-`: the usual ones), and
+/// the status, the manifest afterwards and what was printed on standard error.
+const ROWS: &str = "\
+raises one manifest|mi|9|-|0 raised \
+@nothing there|i|9|-|1 none Error: Failed to get cargo file metadata
+@a folder in its place|b|9|-|1 none Error: Failed to read manifest contents
+@absent index|m|9|-|1 manifest Error: Failed to get cargo file metadata
+@no text, before the index|u|9|-|1 other Error: Failed to read manifest contents
+@no document, before the index|d|9|-|1 other Error: Unable to parse Cargo.toml
+@a folder for the index|mf|9|-|1 manifest Error: Failed to get cargo file metadata
+@a malformed line|ml|9|-|1 manifest Error: Invalid index line 1
+@a name that no index has|oi|9|-|1 odd name Error: Invalid crate name `no name`
+@found above|snm|9|upgrade --manifest-path a/./b/ --index-file ../w//index.json|1 manifest Error: Invalid index line 2
+@not found above|sn|9|upgrade --manifest-path a/./b/ --index-file ../w//index.json|1 none Error: Unable to find Cargo.toml for /w/a/b
+@the look fails|mi|0|-|1 manifest Error: Failed to look at a path
+@the manifest's read fails|mi|1|-|1 manifest Error: Failed to read a file
+@the index file's read fails|mi|2|-|1 manifest Error: Failed to read a file
+@the write fails after four bytes|mi|3|-|1 cut Error: Failed to write updated Cargo.toml
+";
+
+/// Rows of which the status alone is compared.
+const STATUSES: &str = "\
+help||9|upgrade --help|0 \
+@version||9|upgrade -V|0 \
+@a flag that none has||9|upgrade --nope|2 \
+@no index file||9|upgrade --manifest-path Cargo.toml|2 \
+@no manifest||9|upgrade --index-file index.json|2 \
+@no words||9||2 ";
+
+/// The field of a row, from 0.
+fn field(row: &str, number: usize) -> &str {
+    row.split('|').nth(number).unwrap_or("")
+}
+
+/// Where a file of a row stands.
+fn path_of(file: char) -> &'static str {
+    match file {
+        'm' | 'u' | 'd' | 'o' => "/w/Cargo.toml",
+        'b' => "/w/Cargo.toml/x",
+        's' => "/w/a/b/x",
+        'f' => "/w/index.json/x",
+        _ => "/w/index.json",
+    }
+}
+
+/// What a file of a row holds.
+fn bytes_of(file: char) -> &'static [u8] {
+    match file {
+        'm' => MANIFEST.as_bytes(),
+        'o' => ODD_NAME.as_bytes(),
+        'i' => INDEX.as_bytes(),
+        'u' => b"\xff".as_slice(),
+        'd' => b"a = 1 2",
+        'l' => b"{\"name\":\"a\"}",
+        'n' => b"\n{}\n",
+        _ => b"",
+    }
+}
+
+/// What a row calls these bytes of a manifest.
+fn name_of(bytes: &[u8]) -> &'static str {
+    if bytes == MANIFEST.as_bytes() {
+        "manifest"
+    } else if bytes == RAISED.as_bytes() {
+        "raised"
+    } else if bytes == ODD_NAME.as_bytes() {
+        "odd name"
+    } else if bytes == b"[dep".as_slice() {
+        "cut"
+    } else {
+        "other"
+    }
+}
+
+/// The files of a row.
+fn stored(alloc: Global, letters: &str) -> Option<MemoryStore> {
+    let mut files = MemoryStore::new(alloc);
+    for letter in letters.chars() {
+        files.write(alloc, path_of(letter), bytes_of(letter)).ok()?;
+    }
+    Some(files)
+}
+
+/// The last field of a row, as it was.
+fn shown(alloc: Global, status: u8, after: Option<&[u8]>, err: &[u8]) -> Option<String> {
+    let err = str::from_utf8(err).ok()?;
+    let after = match after {
+        Some(bytes) => name_of(bytes),
+        None => "none",
+    };
+    format!(in alloc; "{status} {after} {err}").ok()
+}
+
+/// Runs words over files, from a folder.
+fn outcome<S: Store>(alloc: Global, words: &[&str], folder: &str, files: &mut S) -> Option<String> {
+    let path = join(alloc, folder, "Cargo.toml").ok()?;
+    let index_files = MemoryStore::new(alloc);
+    let mut out = Vec::new(alloc);
+    let mut err = Vec::new(alloc);
+    let status = run(
+        alloc,
+        words,
+        folder,
+        None,
+        files,
+        index_files,
+        &mut out,
+        &mut err,
+    );
+    let after = files.read(alloc, path.as_str()).ok()?;
+    shown(alloc, status, after.as_deref(), &err)
+}
+
+/// The words of a row.
+fn words_of<'a>(alloc: Global, text: &'a str) -> Option<Vec<&'a str>> {
+    let text = if text == "-" { WORDS } else { text };
+    text.split_ascii_whitespace().collect(alloc).ok()
+}
+
+/// Runs a row.
+fn ran(alloc: Global, row: &str) -> Option<String> {
+    let at = field(row, 2).parse().ok()?;
+    let words = words_of(alloc, field(row, 3))?;
+    let inner = stored(alloc, field(row, 1))?;
+    let mut files = FaultStore::new(inner, at, 4);
+    outcome(alloc, words.as_slice(), "/w", &mut files)
+}
+
+#[test]
+fn rows(rt: HostRuntime) -> Result<(), Fail> {
+    for row in ROWS.split('@') {
+        let seen = ran(rt.alloc(), row).ok_or("no outcome")?;
+        assert_eq!(rt; seen.as_str(), field(row, 4), "{row}");
+    }
+    for row in STATUSES.split('@') {
+        let seen = ran(rt.alloc(), row).ok_or("no outcome")?;
+        assert!(rt; seen.starts_with(field(row, 4)), "{row}");
+    }
+    Ok(())
+}
+
+/// Writes a file into a folder of the machine.
+fn put(rt: &HostRuntime, folder: &str, name: &str, text: &str) -> Option<()> {
+    let path = join(rt.alloc(), folder, name).ok()?;
+    fs::write(rt, path.as_str(), text.as_bytes()).ok()
+}
+
+/// Runs the usual words over files of the machine, in a folder.
+fn ran_in(rt: &HostRuntime, folder: &str) -> Option<String> {
+    fs::create_dir_all(rt, folder).ok()?;
+    put(rt, folder, "Cargo.toml", MANIFEST)?;
+    put(rt, folder, "index.json", INDEX)?;
+    let words = words_of(rt.alloc(), "-")?;
+    let mut files = HostStore::new(rt.clone().ok()?);
+    let seen = outcome(rt.alloc(), words.as_slice(), folder, &mut files)?;
+    fs::remove_dir_all(rt, folder).ok()?;
+    Some(seen)
+}
+
+#[test]
+fn real_files(rt: HostRuntime) -> Result<(), Fail> {
+    let id = process::id(rt.process());
+    let folder = format!(in rt.alloc(); "/tmp/cargo-edit-{id}")?;
+    let seen = ran_in(&rt, folder.as_str()).ok_or("no outcome")?;
+    assert_eq!(rt; seen.as_str(), "0 raised ");
+    Ok(())
+}

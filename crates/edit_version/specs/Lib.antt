@@ -1,0 +1,12 @@
+pub mod Requirement
+pub mod Admits
+pub mod Laws
+pub mod VersionOrder
+pub mod Greatest
+pub mod Selection
+pub mod RustVersions
+pub mod Refusals
+pub mod Increments
+pub mod Changed
+pub mod CrateWords
+pub mod Pins

@@ -1,0 +1,116 @@
+//! Words that name a crate, and perhaps a requirement.
+ghost use Rattle.std.specs.Prelude.{◌≡◌, [], IfErr, IfOk, OnOk, None, Some, encode_utf8, length, map, option_map, string_bytes};
+ghost use Rattle.std.specs.List.{after_first, before_first, filter};
+ghost use Rattle.std.specs.Str.{chars};
+ghost use Rattle.edit_base.specs.Errors.{IsMemory};
+ghost use Rattle.edit_version.specs.CrateWords.{IsNamedBy, IsReadOrAbsent, IsRefusedName, IsRefusedRequirement, IsRefusedWord, is_name_char, listed, unfit, word_name, word_requirement};
+ghost use Rattle.edit_version.specs.Refusals.{IsUnread};
+
+use crate::requirement::read_requirement;
+use edit_base::errors::{CargoResult, Error};
+use std::alloc::{AllocError, Global};
+use unicode::properties::{GeneralCategory, GeneralCategoryGroup, is_alphabetic};
+
+/// A crate's name, and perhaps a requirement.
+#[derive(Debug, Drop)]
+pub struct CrateSpec {
+    pub name: String,
+    pub version_req: Option<String>,
+}
+
+fn is_name_char(c: char) -> bool
+    ensures { result ≡ is_name_char c }
+{
+    c == '-'
+        || c == '_'
+        || is_alphabetic(c)
+        || GeneralCategoryGroup::Number.contains(GeneralCategory::for_char(c))
+}
+
+// The characters of a name that no name may have.
+fn unfit(alloc: Global, name: &str) -> Result<Vec<char>, AllocError>
+    ensures { IfOk result (λ v. v.items ≡ unfit name.now) }
+{
+    name.chars().filter(|c| !is_name_char(*c)).collect(alloc)
+}
+
+// Characters joined by a comma and a space.
+fn listed(alloc: Global, characters: &[char]) -> Result<String, AllocError>
+    ensures { IfOk result (λ s. string_bytes s ≡ listed characters.now) }
+{
+    let mut out = String::new(alloc);
+    let [first, rest @ ..] = characters else {
+        return Ok(out);
+    };
+    out.push(*first)?;
+    'rest: for c in rest {
+        out.push_str(", ")?;
+        out.push(*c)?;
+    }
+    Ok(out)
+}
+
+// Refuses a name with a character that no name may have.
+fn check_name(alloc: Global, name: &str) -> CargoResult<()>
+    ensures ok { OnOk result (unfit name.now ≡ []) }
+    ensures refused { IfErr result (λ e. IsRefusedName name.now e) }
+{
+    let characters = unfit(alloc, name)?;
+    if characters.is_empty() {
+        return Ok(());
+    }
+    Err(Error::InvalidName {
+        name: String::from_str(alloc, name)?,
+        characters: listed(alloc, &characters)?,
+    })
+}
+
+// The requirement of a word, where it is one.
+fn check_requirement(alloc: Global, req: Option<&str>) -> CargoResult<Option<String>>
+    ensures ok { IfOk result (λ o. (option_map string_bytes o ≡ option_map (λ s. s.now) req.entry) × IsReadOrAbsent (option_map (λ s. s.now) req.entry)) }
+    ensures refused { IfErr result (λ e. IsRefusedRequirement (option_map (λ s. s.now) req.entry) e) }
+{
+    let Some(req) = req else {
+        return Ok(None);
+    };
+    let _read = read_requirement(alloc, req)?;
+    Ok(Some(String::from_str(alloc, req)?))
+}
+
+// A word before and after its first `@`.
+fn split_word(word: &str) -> (&str, Option<&str>)
+    ensures name { result.0.now ≡ word_name word.now }
+    ensures requirement { option_map (λ s. s.now) result.1 ≡ word_requirement word.now }
+{
+    match word.split_once('@') {
+        Some((name, req)) => (name, Some(req)),
+        None => (word, None),
+    }
+}
+
+impl CrateSpec {
+    /// Reads a word as `serde` or `serde@1.0`, of which the name may be empty.
+    ///
+    /// Refused with 20 where the name has a character that is no letter and no number of Unicode, no `-` and
+    /// no `_`, and with 14 where the text after the first `@` is no requirement.
+    pub fn resolve(alloc: Global, word: &str) -> CargoResult<CrateSpec>
+        ensures ok { IfOk result (λ s. IsNamedBy word.now s) }
+        ensures refused { IfErr result (λ e. IsRefusedWord word.now e) }
+    {
+        let (name, req) = split_word(word);
+        check_name(alloc, name)?;
+        let version_req = check_requirement(alloc, req)?;
+        Ok(CrateSpec {
+            name: String::from_str(alloc, name)?,
+            version_req,
+        })
+    }
+
+    /// The same as `resolve`.
+    pub fn from_str(alloc: Global, word: &str) -> CargoResult<CrateSpec>
+        ensures ok { IfOk result (λ s. IsNamedBy word.now s) }
+        ensures refused { IfErr result (λ e. IsRefusedWord word.now e) }
+    {
+        CrateSpec::resolve(alloc, word)
+    }
+}

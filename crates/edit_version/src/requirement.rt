@@ -1,0 +1,138 @@
+//! Requirements raised to a version.
+ghost use Rattle.std.specs.Prelude.{◌≡◌, ◌<◌, ◌^◌, false, length, IfErr, IfOk, IfSome, IsTrue, Ok, string_bytes};
+ghost use Rattle.edit_version.specs.Admits.{admits};
+ghost use Rattle.edit_version.specs.Laws.{Admits, AdmitsNoLower, CanReach, IsNarrower, IsPlainRequirement, IsReadable, IsRelease, IsSettled, KeepsForm, holds_dash, holds_plus, text_after};
+ghost use Rattle.edit_version.specs.Refusals.{IsAnswer, IsUnread};
+ghost use Rattle.edit_version.specs.Requirement.{comparators_of, cut, raise};
+ghost use Rattle.semver.specs.Identifiers.{parts_of};
+ghost use Rattle.semver.specs.Parse.{Parts, req_of, version_parts};
+
+use crate::requirement_text::{comparator_string, first_inequality, led_as, raised_text};
+use edit_base::errors::{CargoResult, Error};
+use semver::{Version, VersionReq};
+use std::alloc::{AllocError, Global};
+
+// Reads a requirement.
+pub(crate) fn read_requirement(alloc: Global, req: &str) -> CargoResult<VersionReq>
+    ensures ok { IfOk result (λ r. req_of req.now ≡ Ok (comparators_of r)) }
+    ensures refused { IfErr result (λ e. IsUnread req.now e) }
+{
+    match VersionReq::parse(alloc, req) {
+        Ok(parsed) => Ok(parsed),
+        Err(error) => {
+            if error == semver::Error::from(AllocError) {
+                return Err(Error::Memory);
+            }
+            Err(Error::InvalidRequirement {
+                text: String::from_str(alloc, req)?,
+            })
+        }
+    }
+}
+
+// The requirement `req` raised to `version`, where that is another text.
+fn raised_requirement(alloc: Global, req: &str, version: &Version) -> CargoResult<Option<String>>
+    ensures { IsAnswer (raise req.now (parts_of version.now)) req.now result }
+{
+    let parsed = read_requirement(alloc, req)?;
+    if parsed.comparators.is_empty() {
+        return Ok(None);
+    }
+    if let Some(comparator) = first_inequality(&parsed.comparators) {
+        return Err(Error::Unsupported {
+            comparator: comparator_string(alloc, comparator)?,
+        });
+    }
+    let text = raised_text(alloc, &parsed.comparators, version)?;
+    let text = led_as(req, text.as_str());
+    if text == req {
+        return Ok(None);
+    }
+    Ok(Some(String::from_str(alloc, text)?))
+}
+
+// A number of 64 bits, for proofs over the numbers of a version.
+fn bounded(number: u64)
+    ensures { number < 2 ^ 64 }
+{}
+
+/// The requirement `req` raised to `version`, none where that is the same text: each number that stands
+/// in `req` becomes the version's, and each comparator but a wildcard takes its pre-release.
+///
+/// Refused with 14 where `req` is no requirement, and with 15 where a comparator of it is `>`, `>=`, `<`
+/// or `<=`, with the first of these.
+pub fn upgrade_requirement(
+    alloc: Global,
+    req: &str,
+    version: &Version,
+) -> CargoResult<Option<String>>
+    ensures answer { IsAnswer (raise req.now (parts_of version.now)) req.now result }
+
+    // Below, for a version with a pre-release that can be read or none, of the text that stands
+    // afterwards: the new one, or `req` where there is none. Raising again changes nothing:
+    ensures settled { IsReadable (parts_of version.now)
+        → IfOk result (λ o. IsSettled (text_after o req.now) (parts_of version.now)) }
+    // it admits the version, if that has no pre-release or `req` has comparators, all of three numbers;
+    ensures reach { IsReadable (parts_of version.now) → IfOk result (λ o. CanReach req.now (parts_of version.now)
+        → Admits (text_after o req.now) (parts_of version.now)) }
+    // it admits nothing that `req` does not, if `req` admits the version;
+    ensures narrower { IsReadable (parts_of version.now) → IfOk result (λ o. Admits req.now (parts_of version.now)
+        → IsNarrower req.now (text_after o req.now) (parts_of version.now)) }
+    // the operators stay, and a `-` stays where the version has a pre-release;
+    ensures form { IsReadable (parts_of version.now)
+        → IfOk result (λ o. KeepsForm req.now (text_after o req.now) (parts_of version.now)) }
+    // it admits nothing lower than the version, if that has a pre-release and `req` a `-`;
+    ensures no_lower { IsReadable (parts_of version.now)
+        → IfOk result (λ o. AdmitsNoLower req.now (text_after o req.now) (parts_of version.now)) }
+    // it has no `-` where the version has no pre-release;
+    ensures release { IsReadable (parts_of version.now)
+        → IfOk result (λ o. IsRelease (text_after o req.now) (parts_of version.now)) }
+    // and a new text has no `+`.
+    ensures no_plus { IsReadable (parts_of version.now)
+        → IfOk result (λ o. IfSome o (λ s. holds_plus (string_bytes s) ≡ false)) }
+{
+    bounded(version.major);
+    bounded(version.minor);
+    bounded(version.patch);
+    raised_requirement(alloc, req, version)
+}
+
+// The text before the first `+`, or all of it.
+pub(crate) fn before_plus(text: &str) -> &str
+    ensures { result.now ≡ cut text.now }
+{
+    match text.split_once('+') {
+        Some((front, _)) => front,
+        None => text,
+    }
+}
+
+/// The text before the first `+`, or all of it: a version without its build metadata.
+pub fn cut(text: &str) -> &str
+    ensures value { result.now ≡ cut text.now }
+    // of a version, a requirement of one caret, which raising to the version leaves as it is
+    ensures plain { (v : Parts) → version_parts text.now ≡ Ok v → IsPlainRequirement result.now v }
+{
+    before_plus(text)
+}
+
+fn has_dash(text: &str) -> bool
+    ensures { result ≡ holds_dash text.now }
+{
+    text.as_bytes().iter().any(|byte| *byte == b'-')
+}
+
+/// Whether a requirement's text has a `-`, as each has that admits a pre-release.
+pub fn allows_prerelease(req: &str) -> bool
+    ensures value { result ≡ holds_dash req.now }
+    ensures admits { (w : Parts) → Admits req.now w → 0 < length w.3 → IsTrue result }
+{
+    has_dash(req)
+}
+
+/// Whether a requirement admits a version, by the documented meaning of each operator.
+pub fn admits(req: &VersionReq, version: &Version) -> bool
+    ensures { result ≡ admits (comparators_of req.now) (parts_of version.now) }
+{
+    req.matches(version)
+}
