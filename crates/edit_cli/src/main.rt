@@ -1,12 +1,8 @@
 //! The program `cargo-edit`.
 #![tactic(auto)]
 
-mod arguments;
-mod locate;
-mod run;
-mod upgrade;
-
 use edit_base::{CargoResult, Error};
+use edit_program::run;
 use edit_sources::HostStore;
 use std::io::ErrorKind;
 use std::process::ExitCode;
@@ -15,7 +11,10 @@ use std::{env, io};
 fn main(rt: HostRuntime) -> ExitCode {
     match start(&rt) {
         Ok(status) => ExitCode::from(status),
-        Err(error) => ExitCode::from(run::refuse(error, &mut rt.stderr())),
+        Err(error) => {
+            let _ = writeln!(rt.stderr(), "Error: {error}");
+            ExitCode::from(1)
+        },
     }
 }
 
@@ -31,7 +30,7 @@ fn start(rt: &HostRuntime) -> CargoResult<u8> {
     };
     let mut files = HostStore::new(rt.clone()?);
     let index_files = HostStore::new(rt.clone()?);
-    Ok(run::run(
+    Ok(run(
         alloc,
         texts.as_slice(),
         current,

@@ -46,6 +46,7 @@ pub mod WalkedValues
 pub mod WalkedHolders
 pub mod WalkedLines
 pub mod NameLists
+pub mod ShapedStrings
 pub mod ShownForms
 pub mod ReplacedDocuments
 pub mod Walking

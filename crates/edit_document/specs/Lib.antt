@@ -14,3 +14,9 @@ pub mod ItemViews
 pub mod Walk
 pub mod WalkState
 pub mod Ranges
+pub use Rattle.edit_base.specs.Errors
+pub use Rattle.edit_base.specs.Paths
+pub use Rattle.edit_syntax.specs.Characters
+pub use Rattle.edit_syntax.specs.Strings
+pub use Rattle.edit_syntax.specs.Numbers
+pub use Rattle.edit_syntax.specs.Grammar

@@ -5,6 +5,7 @@ use Rattle.std.specs.Map.{lookup}
 use Rattle.std.specs.Str.{bytes_eq}
 use Rattle.indexmap.specs.IndexMap.{IndexMap}
 use Rattle.edit_syntax.specs.declared.span.Span.{Span}
+use Rattle.edit_syntax.specs.Spans.{bytes_at}
 use Rattle.edit_document.specs.declared.nodes.Words.{Words}
 use Rattle.edit_document.specs.declared.nodes.Words.TheVariants.{Kept, Made}
 use Rattle.edit_document.specs.declared.nodes.Content.{Content}
@@ -60,18 +61,6 @@ abbrev pub shown_spot : Spot → Place × View
 shown_spot s = (s.place, view_of_shape s.shape (names_of s) (length s.elements))
 
 -- ---- what the table of nodes keeps of each spot
-
--- a character begins at this byte, or the bytes end before it
-abbrev pub is_boundary : List ℕ → ℕ → Bool
-is_boundary bytes i = nat_le i (length bytes) && (nat_lt (slice_index bytes i) 128 || nat_le 192 (slice_index bytes i))
-
--- the bytes from one byte to another, or none where they cut a character
-abbrev pub cut_from : List ℕ → ℕ → ℕ → List ℕ
-cut_from bytes i j = if nat_le i j && is_boundary bytes i && is_boundary bytes j then slice_range bytes i j else []
-
--- the bytes of a text that stand there
-unfoldable pub bytes_at : List ℕ → Span → List ℕ
-bytes_at text span = cut_from text (length text - span.from) (length text - span.to)
 
 -- what a string of a text says
 abbrev pub bytes_of : List ℕ → Words → List ℕ

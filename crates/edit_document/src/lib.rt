@@ -1,20 +1,18 @@
-//! The lossless manifest document, paths as texts, and the errors of every crate above.
+//! The lossless manifest document: its tree, its items, and edits that keep every other byte.
 #![tactic(auto)]
 
 mod assertions;
 pub mod document;
-pub mod errors;
 pub mod item;
 mod literal;
 mod nodes;
-pub mod paths;
 pub mod place;
-mod read;
 mod replace;
 mod walk;
 mod words;
 
 pub use document::Document;
-pub use errors::{CargoResult, DeviceCall, Error, MergedCommand, MissingKind, MissingNames};
+pub use edit_base::{CargoResult, DeviceCall, Error, MergedCommand, MissingKind, MissingNames};
+pub use edit_base::{errors, paths};
 pub use item::{Item, Keys};
 pub use place::{Place, Step};

@@ -5,16 +5,9 @@ ghost use Rattle.edit_document.specs.Nodes.{bytes_of, looked_up, entries_of, nam
 ghost use Rattle.edit_syntax.specs.Spans.{bytes_at};
 
 use edit_base::errors::CargoResult;
+use edit_syntax::Span;
 use indexmap::IndexMap;
 use std::alloc::Global;
-
-/// Where a value is written: how many bytes there are from its first byte to the text's end, and from its own end
-/// to the text's end.
-#[derive(Clone, Copy, Debug, PartialEq, Eq)]
-pub(crate) struct Span {
-    pub(crate) from: usize,
-    pub(crate) to: usize,
-}
 
 /// What a string says, after escapes.
 #[derive(Drop)]

@@ -3,9 +3,6 @@ ghost use Rattle.std.specs.Prelude.{◌≡◌, ◌≤◌, map, true};
 ghost use Rattle.clap.specs.Words.{kind_of};
 ghost use Rattle.edit_program.specs.Runs.{AskForNone, IsDone, IsRefused};
 
-#[cfg(test)]
-mod tests;
-
 use crate::arguments::{command, upgrade_words};
 use crate::upgrade::upgrade;
 use clap::error::ErrorKind;
@@ -15,7 +12,7 @@ use std::alloc::Global;
 use std::io;
 
 /// Prints a refusal, and answers its status, also where the printing fails.
-pub(crate) fn refuse<E: io::Write>(error: Error, err: &mut E) -> u8
+fn refuse<E: io::Write>(error: Error, err: &mut E) -> u8
     ensures { result ≡ 1 }
 {
     let _ = writeln!(err, "Error: {error}");
@@ -44,7 +41,7 @@ fn fault<O: io::Write, E: io::Write>(error: &clap::Error, out: &mut O, err: &mut
 /// printed on `err` behind `Error: `, 2 a fault of the command line. `current` is the absolute folder that relative
 /// paths start from. Manifests and the index file are read and written through `files`; `index_files` serves the
 /// indexes of folders, and `cargo_home` the configurations, which no command reads so far.
-pub(crate) fn run<S: Store, T: Store + Drop, O: io::Write, E: io::Write>(
+pub fn run<S: Store, T: Store + Drop, O: io::Write, E: io::Write>(
     alloc: Global,
     words: &[&str],
     current: &str,

@@ -1,15 +1,9 @@
 //! What an index tells of a crate, and the choice of one of its versions.
-ghost use Rattle.std.specs.Prelude.{◌≡◌, IfOk, IfErr, IsSome, Some, map, option_copied, option_map, string_bytes};
+ghost use Rattle.std.specs.Prelude.{◌≡◌, IfOk, IfErr, Some, option_copied, option_map, string_bytes};
 ghost use Rattle.edit_base.specs.Errors.{IsMemory};
 ghost use Rattle.edit_record.specs.IndexEntry.{entry_of};
-ghost use Rattle.edit_version.specs.Refusals.{IsNoRustVersion};
-ghost use Rattle.edit_version.specs.Requirement.{comparators_of};
-ghost use Rattle.edit_version.specs.RustVersions.{numbers_of, rust_numbers, rust_of};
-ghost use Rattle.semver.specs.Identifiers.{comparator_view};
 
-use edit_version::requirement::read_requirement;
-use edit_base::errors::{CargoResult, Error};
-use semver::{Comparator, Op, Version, VersionReq};
+use edit_base::errors::CargoResult;
 use std::alloc::{AllocError, Global};
 
 /// What an index tells of one version of a crate: the crate's name, the version's text, whether it is

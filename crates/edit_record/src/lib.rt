@@ -1,19 +1,14 @@
-//! Records of a manifest's entries, versions and requirements, and the choice of a version.
+//! Records of a manifest's entries, what an index tells of a crate, and the choice of a version.
 #![tactic(auto)]
 
-pub mod crate_spec;
 pub mod dependency;
 pub mod fetch;
 pub mod find;
-pub mod requirement;
-mod requirement_text;
-pub mod version;
 
-pub use crate_spec::CrateSpec;
 pub use dependency::{Dependency, GitSource, PathSource, RegistrySource, Source, WorkspaceSource};
-pub use fetch::{IndexVersion, RustVersion};
+pub use edit_version::{CrateSpec, RustVersion, VersionExt};
+pub use edit_version::{admits, allows_prerelease, cut, upgrade_requirement};
+pub use fetch::IndexVersion;
 pub use find::{
     Candidate, dependency_on, find_compatible_version, find_latest_version, read_candidate,
 };
-pub use requirement::{admits, allows_prerelease, cut, upgrade_requirement};
-pub use version::VersionExt;

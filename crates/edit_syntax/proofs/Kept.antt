@@ -12,8 +12,6 @@ use Rattle.edit_syntax.specs.declared.read.marks.MarkKind.TheVariants.{BasicPart
 use Rattle.edit_syntax.specs.Characters.{is_unescaped}
 use Rattle.edit_syntax.specs.Decoding as decoding
 use Rattle.edit_syntax.specs.Decoding.{delimited, LineSays, Says}
-use Rattle.edit_document.specs.Tree.{string}
-use Rattle.edit_document.specs.Nodes.{scalar, shape_said}
 use Rattle.edit_syntax.specs.Spans.{is_boundary, cut_from, bytes_at}
 use Rattle.edit_syntax.proofs.Decoded.{content_found}
 use Rattle.edit_syntax.proofs.Escapes.{done}
@@ -77,10 +75,3 @@ plain_line content said (ps, all, folds, spelled, says) le =
 pub plain_basic : (kind : MarkKind) (content said : List ℕ) → (kind ≡ BasicPart) ⊎ (kind ≡ BasicString) → Says kind content said → length content ≤ prefix_len is_unescaped content → content ≡ said
 plain_basic kind content said (inl e) h le = plain_line content said (basic_line content said (subst (λ (k : MarkKind). Says k content said) e h)) le
 plain_basic kind content said (inr e) h le = plain_line content said (basic_line content said (subst (λ (k : MarkKind). Says k content said) e h)) le
-
--- what is no number, no date and no time shows a string
-pub string_shape : (kind : MarkKind) (said : List ℕ) → (kind ≡ Integer → ⊥) → (kind ≡ Float → ⊥) → (kind ≡ DateTime → ⊥) → scalar (string said) ≡ shape_said kind said
-string_shape Integer said a b c = absurd (a refl)
-string_shape Float said a b c = absurd (b refl)
-string_shape DateTime said a b c = absurd (c refl)
-string_shape _ said a b c = refl

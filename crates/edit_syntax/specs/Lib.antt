@@ -4,6 +4,7 @@ pub mod Numbers
 pub mod Grammar
 pub mod Depth
 pub mod Marks
+pub mod Spans
 pub mod FormOf
 pub mod ReadingSteps
 pub mod ReadingNumbers

@@ -8,10 +8,10 @@ ghost use Rattle.edit_syntax.specs.Marks.{text_marks, IsReadRefusal};
 
 mod bytes;
 mod dates;
-pub(crate) mod decode;
+pub mod decode;
 mod gaps;
 mod lines;
-mod marks;
+pub mod marks;
 mod multi;
 mod numbers;
 mod tokens;
@@ -19,10 +19,10 @@ mod values;
 
 use edit_base::errors::{CargoResult, Error};
 use bytes::{byte_at, first, skip};
-pub(crate) use decode::{content, said};
+pub use decode::{content, content_span, is_plain, said};
 use lines::lines;
 use marks::ReadError;
-pub(crate) use marks::{Mark, MarkKind};
+pub use marks::{Mark, MarkKind};
 use std::alloc::Global;
 
 /// What follows a byte order mark or nothing.
@@ -38,7 +38,7 @@ fn past_mark(text: &[u8]) -> &[u8]
 
 /// The marks of a text, with arrays and inline tables at most 80 deep in one another.
 /// A refusal tells the byte at which the part begins that could not be read.
-pub(crate) fn read_marks(alloc: Global, text: &[u8]) -> CargoResult<Vec<Mark>>
+pub fn read_marks(alloc: Global, text: &[u8]) -> CargoResult<Vec<Mark>>
     // What is read is in the grammar.
     ensures found { IfOk result (λ v.
         (form : Text) × Spells text.now form × (text_depth form ≤ 80)

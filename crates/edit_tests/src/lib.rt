@@ -10,6 +10,8 @@ mod fields;
 #[cfg(test)]
 mod plans;
 #[cfg(test)]
+mod program;
+#[cfg(test)]
 mod records;
 #[cfg(test)]
 mod refusals;

@@ -1,5 +1,5 @@
 //! The program's rows, over files in memory.
-use super::*;
+use edit_program::run;
 use edit_base::paths::join;
 use edit_sources::{FaultStore, HostStore, MemoryStore};
 use std::test::Fail;

@@ -13,7 +13,7 @@ use semver::{Version, VersionReq};
 use std::alloc::{AllocError, Global};
 
 // Reads a requirement.
-pub(crate) fn read_requirement(alloc: Global, req: &str) -> CargoResult<VersionReq>
+pub fn read_requirement(alloc: Global, req: &str) -> CargoResult<VersionReq>
     ensures ok { IfOk result (λ r. req_of req.now ≡ Ok (comparators_of r)) }
     ensures refused { IfErr result (λ e. IsUnread req.now e) }
 {
@@ -98,7 +98,7 @@ pub fn upgrade_requirement(
 }
 
 // The text before the first `+`, or all of it.
-pub(crate) fn before_plus(text: &str) -> &str
+pub fn before_plus(text: &str) -> &str
     ensures { result.now ≡ cut text.now }
 {
     match text.split_once('+') {

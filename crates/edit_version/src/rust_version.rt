@@ -1,7 +1,5 @@
 //! Versions of Rust, as manifests and indexes name them.
-ghost use Rattle.std.specs.Prelude.{◌≡◌, IfOk, IfErr, IsSome, Some, map, option_copied, option_map, string_bytes};
-ghost use Rattle.edit_base.specs.Errors.{IsMemory};
-ghost use Rattle.edit_record.specs.IndexEntry.{entry_of};
+ghost use Rattle.std.specs.Prelude.{◌≡◌, IfOk, IfErr, IsSome, Some, map, option_map};
 ghost use Rattle.edit_version.specs.Refusals.{IsNoRustVersion};
 ghost use Rattle.edit_version.specs.Requirement.{comparators_of};
 ghost use Rattle.edit_version.specs.RustVersions.{numbers_of, rust_numbers, rust_of};
@@ -10,7 +8,7 @@ ghost use Rattle.semver.specs.Identifiers.{comparator_view};
 use crate::requirement::read_requirement;
 use edit_base::errors::{CargoResult, Error};
 use semver::{Comparator, Op, Version, VersionReq};
-use std::alloc::{AllocError, Global};
+use std::alloc::Global;
 
 /// A version of Rust, ordered by its numbers.
 #[derive(Clone, Copy, Debug, PartialEq, Eq, PartialOrd, Ord, Hash)]
@@ -73,7 +71,7 @@ impl From<&Version> for RustVersion {
 }
 
 // The Rust version that comparators name, none where they are not one caret without pre-release.
-pub(crate) fn rust_version_of(comparators: &[Comparator]) -> Option<RustVersion>
+pub fn rust_version_of(comparators: &[Comparator]) -> Option<RustVersion>
     ensures { option_map numbers_of result ≡ rust_numbers (map comparator_view comparators.now) }
 {
     match comparators {

@@ -31,7 +31,7 @@ fn delimiter_len(kind: MarkKind) -> usize
 }
 
 /// What stands between the delimiters of the token with this mark, as it is written.
-pub(crate) fn content(text: &str, mark: Mark) -> &str
+pub fn content(text: &str, mark: Mark) -> &str
     // However the text is split at the token.
     ensures { (before content rest said : List ℕ) → text.now ≡ before ++ delimited mark.kind content rest →
         mark.from ≡ length (delimited mark.kind content rest) → mark.to ≡ length rest →
@@ -44,7 +44,7 @@ pub(crate) fn content(text: &str, mark: Mark) -> &str
 }
 
 /// Where the content of the token with this mark stands.
-pub(crate) fn content_span(text: &str, mark: Mark) -> Span
+pub fn content_span(text: &str, mark: Mark) -> Span
     // However the text is split at the token.
     ensures { (before content rest said : List ℕ) → text.now ≡ before ++ delimited mark.kind content rest →
         mark.from ≡ length (delimited mark.kind content rest) → mark.to ≡ length rest →
@@ -58,7 +58,7 @@ pub(crate) fn content_span(text: &str, mark: Mark) -> Span
 }
 
 /// Whether a content of this kind says what is written.
-pub(crate) fn is_plain(kind: MarkKind, content: &str) -> bool
+pub fn is_plain(kind: MarkKind, content: &str) -> bool
     ensures { (said : List ℕ) → Says kind content.now said → IsTrue result → content.now ≡ said }
 {
     match kind {
@@ -183,7 +183,7 @@ fn past_break(content: &str) -> &str
 }
 
 /// What a content of this kind says.
-pub(crate) fn said(alloc: Global, kind: MarkKind, content: &str) -> CargoResult<String>
+pub fn said(alloc: Global, kind: MarkKind, content: &str) -> CargoResult<String>
     ensures text { (said : List ℕ) → Says kind content.now said → IfOk result (λ s. string_bytes s ≡ said) }
     ensures refused { IfErr result IsMemory }
 {

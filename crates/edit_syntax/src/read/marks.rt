@@ -6,7 +6,7 @@ use std::alloc::{AllocError, AllocFailed};
 
 /// What a mark stands for.
 #[derive(Clone, Copy, Debug, PartialEq, Eq)]
-pub(crate) enum MarkKind {
+pub enum MarkKind {
     /// A part of a key. Those of one key follow one another, and behind the last comes what the key is for:
     /// the first mark of a pair's value, or the mark of a header.
     BarePart,
@@ -35,15 +35,15 @@ pub(crate) enum MarkKind {
 /// A token of a text: how many bytes there are from its first byte to the text's end, and from its own end
 /// to the text's end.
 #[derive(Clone, Copy, Debug, PartialEq, Eq)]
-pub(crate) struct Mark {
-    pub(crate) kind: MarkKind,
-    pub(crate) from: usize,
-    pub(crate) to: usize,
+pub struct Mark {
+    pub kind: MarkKind,
+    pub from: usize,
+    pub to: usize,
 }
 
 /// Why reading stops: out of memory, or nothing of the grammar begins where so many bytes are left.
 #[derive(Debug, Drop)]
-pub(crate) enum ReadError {
+pub enum ReadError {
     Memory,
     NotToml { left: usize },
 }

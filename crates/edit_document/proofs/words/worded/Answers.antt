@@ -1,7 +1,7 @@
 use Rattle.std.proofs.Common.{List, ℕ, ap, ◌∙◌}
 use Rattle.edit_document.specs.Tree.{string}
 use Rattle.edit_document.specs.Nodes.{scalar}
-use Rattle.edit_syntax.proofs.Kept.{string_shape}
+use Rattle.edit_document.proofs.ShapedStrings.{string_shape}
 use Rattle.edit_document.proofs.words.worded.Goals as goal
 
 pub returns-in_ok-words_of-in_default-clause-shows : goal.returns-in_ok-words_of-in_default-clause-shows

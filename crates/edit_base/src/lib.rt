@@ -1,0 +1,7 @@
+//! Why calls are refused, and paths as texts: what every crate above stands on.
+#![tactic(auto)]
+
+pub mod errors;
+pub mod paths;
+
+pub use errors::{CargoResult, DeviceCall, Error, MergedCommand, MissingKind, MissingNames};

@@ -1,0 +1,13 @@
+//! Versions, requirements, the words that name a crate, and versions of Rust.
+#![tactic(auto)]
+
+pub mod crate_spec;
+pub mod requirement;
+mod requirement_text;
+pub mod rust_version;
+pub mod version;
+
+pub use crate_spec::CrateSpec;
+pub use requirement::{admits, allows_prerelease, cut, upgrade_requirement};
+pub use rust_version::RustVersion;
+pub use version::VersionExt;
