@@ -7,7 +7,7 @@ ghost use Rattle.edit_version.specs.Requirement.{comparators_of};
 ghost use Rattle.edit_version.specs.RustVersions.{numbers_of, rust_numbers, rust_of};
 ghost use Rattle.semver.specs.Identifiers.{comparator_view};
 
-use edit_version::requirement::read_requirement;
+use edit_version::requirement::required;
 use edit_base::errors::{CargoResult, Error};
 use semver::{Comparator, Op, Version, VersionReq};
 use std::alloc::{AllocError, Global};
