@@ -145,7 +145,7 @@ impl Document {
             | Content::DateTime(_)
             | Content::Array
             | Content::Tables => None,
-            Content::Inline | Content::Table => node.members.name(index),
+            Content::Inline | Content::Table => node.members.name(self.text.as_str(), index),
         }
     }
 
@@ -155,7 +155,7 @@ impl Document {
         ensures { Numbers self.now (at (place_numbered self.now number) (key_step key.now)) result }
     {
         let node = &self.nodes[number];
-        node.members.get(key)
+        node.members.get(self.text.as_str(), key)
     }
 
     /// A node stands at its place.
@@ -199,8 +199,9 @@ impl Document {
         Some(number)
     }
 
-    /// The text is a document, and what it shows is the tree of each form that it has.
-    pub(crate) fn has_form(&self)
+    /// For proofs: the text is a document, and shows the tree of each form that it has. It does nothing, and a
+    /// caller that is lent a document calls it to know these two.
+    pub fn has_form(&self)
         ensures some { (form : Text) × IsManifest self.now.bytes form }
         ensures shows { (form : Text) → IsManifest self.now.bytes form → ShowsTree self.now form }
     {

@@ -7,8 +7,11 @@ pub mod find;
 
 pub use dependency::{Dependency, GitSource, PathSource, RegistrySource, Source, WorkspaceSource};
 pub use edit_version::{CrateSpec, RustVersion, VersionExt};
-pub use edit_version::{admits, allows_prerelease, cut, upgrade_requirement};
+pub use edit_version::{
+    Requirement, admits, allows_prerelease, cut, read_requirement, upgrade_requirement,
+};
 pub use fetch::IndexVersion;
 pub use find::{
-    Candidate, dependency_on, find_compatible_version, find_latest_version, read_candidate,
+    Candidate, dependency_on, find_compatible_version, find_latest_version, is_for, is_wanted,
+    read_candidate,
 };

@@ -5,6 +5,8 @@ pub mod FileLemmas
 pub mod FirstLemmas
 pub mod FolderLemmas
 pub mod FrontLemmas
+pub mod LineLemmas
 pub mod NameLemmas
+pub mod OutcomeLemmas
 pub mod RankLemmas
 pub mod SourceLemmas

@@ -19,7 +19,6 @@ pub mod Orders
 pub mod Offers
 pub mod Builds
 pub mod Lands
-pub mod PinLemmas
 pub mod Steps
 mod Joined
 mod WorkedFacts

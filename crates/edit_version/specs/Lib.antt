@@ -9,4 +9,4 @@ pub mod Refusals
 pub mod Increments
 pub mod Changed
 pub mod CrateWords
-pub mod Pins
+pub mod ReadRequirement

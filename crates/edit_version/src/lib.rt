@@ -8,6 +8,8 @@ pub mod rust_version;
 pub mod version;
 
 pub use crate_spec::CrateSpec;
-pub use requirement::{admits, allows_prerelease, cut, upgrade_requirement};
+pub use requirement::{
+    Requirement, admits, allows_prerelease, cut, read_requirement, upgrade_requirement,
+};
 pub use rust_version::RustVersion;
 pub use version::VersionExt;
