@@ -14,7 +14,7 @@ fn main(rt: HostRuntime) -> ExitCode {
         Err(error) => {
             let _ = writeln!(rt.stderr(), "Error: {error}");
             ExitCode::from(1)
-        },
+        }
     }
 }
 

@@ -4,6 +4,7 @@
 mod arguments;
 mod locate;
 mod program;
+mod refusal;
 mod upgrade;
 
 pub use program::run;

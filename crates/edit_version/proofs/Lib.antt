@@ -22,3 +22,4 @@ pub mod Lands
 pub mod Steps
 mod Joined
 mod WorkedFacts
+mod WorkedRows
