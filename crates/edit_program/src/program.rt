@@ -79,8 +79,9 @@ fn answer<S: Store, O: io::Write, E: io::Write>(
 
 /// Runs the words, which begin with the subcommand, and answers the status: 0 done, 1 a refusal, whose text is
 /// printed on `err` behind `Error: `, with its place in a second line where it is known, 2 a fault of the command line.
-/// `current` is the absolute folder that relative paths start from. Manifests and the index file are read and written through `files`; `index_files` serves the
-/// indexes of folders, and `cargo_home` the configurations, which no command reads so far.
+/// `current` is the absolute folder that relative paths start from. Manifests and the index file are read and written
+/// through `files`; `index_files` serves the indexes of folders, and `cargo_home` the configurations, which no command
+/// reads so far.
 pub fn run<S: Store, T: Store + Drop, O: io::Write, E: io::Write>(
     alloc: Global,
     words: &[&str],
