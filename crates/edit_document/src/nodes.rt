@@ -216,8 +216,8 @@ pub(crate) struct Node {
 fn cut(text: &str, span: Span) -> &str
     ensures { result.now ≡ bytes_at text.now span }
 {
-    let start = text.len().saturating_sub(span.from);
-    let end = text.len().saturating_sub(span.to);
+    let start = text.len().saturating_sub(span.from as usize);
+    let end = text.len().saturating_sub(span.to as usize);
     if start <= end && text.is_char_boundary(start) && text.is_char_boundary(end) {
         &text[start..end]
     } else {

@@ -33,12 +33,12 @@ pub enum MarkKind {
 }
 
 /// A token of a text: how many bytes there are from its first byte to the text's end, and from its own end
-/// to the text's end.
+/// to the text's end. A text of 4 GB and more is refused for want of memory, which its marks would take ten times.
 #[derive(Clone, Copy, Debug, PartialEq, Eq)]
 pub struct Mark {
     pub kind: MarkKind,
-    pub from: usize,
-    pub to: usize,
+    pub from: u32,
+    pub to: u32,
 }
 
 /// Why reading stops: out of memory, or nothing of the grammar begins where so many bytes are left.
