@@ -52,7 +52,6 @@ pub mod Walking
 pub mod Closing
 pub mod TextTokens
 pub mod Documents
-pub mod StandingFacts
 pub mod FromReader
 pub mod OnTexts
 pub mod StandardKeys
