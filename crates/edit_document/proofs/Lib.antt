@@ -53,7 +53,6 @@ pub mod Walking
 pub mod Closing
 pub mod TextTokens
 pub mod Documents
-pub mod StandingFacts
 pub mod FromReader
 pub mod OnTexts
 pub mod StandardKeys

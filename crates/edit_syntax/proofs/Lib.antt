@@ -30,7 +30,3 @@ pub mod Decoded
 pub mod Contents
 pub mod Kept
 pub mod StandardFacts
-pub mod NumberFacts
-pub mod ArrayFacts
-pub mod MultiFacts
-pub mod KeyFacts
