@@ -27,6 +27,5 @@ pub mod NotedElements
 pub mod NotedLines
 pub mod ListElements
 pub mod Decoded
-pub mod Contents
 pub mod Kept
 pub mod StandardFacts

@@ -3,7 +3,7 @@ use Rattle.std.proofs.Common.{◌≡◌, ◌<◌, ◌++◌, ◌∷◌, [], List,
 use Rattle.std.specs.Prelude.{◌⊎◌, ◌==◌, ◌||◌, Result, not}
 use Rattle.std.specs.Fmt.{decimal}
 use Rattle.std.specs.List.{list_all, list_any}
-use Rattle.std.proofs.lemmas.Bool.{cases_Bool}
+use Rattle.std.proofs.lemmas.Bool.{cases_Bool, or_right}
 use Rattle.std.proofs.lemmas.List.{take-append-drop}
 use Rattle.semver.specs.Parse.{Held, Minor, Parsed, Parts, Patch, build_part, comparator_in, comparator_of, first_or_equal, has, identifier_len, identifier_of, minor_of, minor_part, next_text, numeric, op_of, patch_number, patch_of, patch_part, pre_part, req_after, req_from, req_next, req_of, strip_spaces, wild_req, wildcard_of}
 use Rattle.semver.specs.declared.error.Error.{Error}
@@ -33,12 +33,8 @@ ends-cons b xs rest e = (b ∷ e.0, ap (λ (l : List ℕ). b ∷ l) e.1)
 ends-trans : (xs ys zs : List ℕ) → Ends xs ys → Ends ys zs → Ends xs zs
 ends-trans xs ys zs e f = (e.0 ++ f.0, e.1 ∙ ap (λ (l : List ℕ). e.0 ++ l) f.1 ∙ sym (append_assoc e.0 f.0 zs))
 
-or-right : (x y : Bool) → y ≡ true → (x || y) ≡ true
-or-right true y h = refl
-or-right false y h = h
-
 ends-dash : (xs rest : List ℕ) → Ends xs rest → holds_dash rest ≡ true → holds_dash xs ≡ true
-ends-dash xs rest e h = ap holds_dash e.1 ∙ dash-append e.0 rest ∙ or-right (holds_dash e.0) (holds_dash rest) h
+ends-dash xs rest e h = ap holds_dash e.1 ∙ dash-append e.0 rest ∙ or_right (holds_dash e.0) (holds_dash rest) h
 
 ends-strip : (xs : List ℕ) → Ends xs (strip_spaces xs)
 unfolding strip_spaces
@@ -255,7 +251,7 @@ names-has_pre : (w : Parts) (cs : List Held) → list_any (λ c. names_pre c w) 
 names-has_pre w [] h = cc h
 names-has_pre w (c ∷ cs) h = elim (or-cases (names_pre c w) (list_any (λ d. names_pre d w) cs) h) [
   | inl here ↦ let mine : has_pre c ≡ true = right_of _ _ here in rw mine refl
-  | inr later ↦ or-right (has_pre c) (list_any has_pre cs) (names-has_pre w cs later)
+  | inr later ↦ or_right (has_pre c) (list_any has_pre cs) (names-has_pre w cs later)
 ]
 
 -- a requirement that admits a pre-release has a dash
