@@ -16,7 +16,7 @@ use Rattle.cargo_edit.specs.Decision.{Case, decision, first_row, has_pin_read, i
 use Rattle.cargo_edit.specs.declared.upgrade.Options.{Options}
 use Rattle.cargo_edit.proofs.Narrowing.{latest-lands}
 use Rattle.cargo_edit.proofs.RaisedAgain.{compatible-far, compatible-near, latest-settles}
-use Rattle.cargo_edit.proofs.Taken.{far-some, far_text, near-some, near_text, newer-latest, when-some}
+use Rattle.cargo_edit.proofs.TakenVersions.{far-some, far_text, near-some, near_text, newer-latest, when-some}
 
 -- ---- pinned entries
 

@@ -32,7 +32,7 @@ use Rattle.cargo_edit.specs.declared.upgrade.Change.{Change}
 use Rattle.cargo_edit.specs.declared.upgrade.Options.{Options}
 use Rattle.cargo_edit.proofs.DecidedAgain.{again}
 use Rattle.cargo_edit.proofs.HeadlineRows.{offered-valid}
-use Rattle.cargo_edit.proofs.Taken.{far-some, near-some, newer-latest, when-some}
+use Rattle.cargo_edit.proofs.TakenVersions.{far-some, near-some, newer-latest, when-some}
 use Rattle.cargo_edit.proofs.WrittenEntries.{old_after, renew, renewed}
 
 -- ---- there are rows for each list of entries

@@ -11,7 +11,7 @@ pub mod WriteLemmas
 pub mod Literals
 pub mod ListLemmas
 pub mod PlanLemmas
-pub mod Taken
+pub mod TakenVersions
 pub mod Narrowing
 pub mod HeadlineRows
 pub mod RaisedAgain

@@ -17,7 +17,7 @@ use Rattle.edit_version.proofs.Outcomes.{admitted, narrower-of, text-outcome, va
 use Rattle.cargo_edit.specs.Decision.{Case, compatible_text, decision, is_set_aside, latest_text, may_jump, newer, text_or, unless, when}
 use Rattle.cargo_edit.specs.declared.upgrade.Change.TheVariants as change
 use Rattle.cargo_edit.specs.declared.upgrade.Options.{Options}
-use Rattle.cargo_edit.proofs.Taken.{compatible-taken, far-some, latest-taken, near-some, newer-latest, when-some}
+use Rattle.cargo_edit.proofs.TakenVersions.{compatible-taken, far-some, latest-taken, near-some, newer-latest, when-some}
 
 -- the requirement that the compatible version was written into narrows the old one
 narrow-of : (xs : List Parts) (old t : List ℕ) (u : Parts) (r : Raised) → All IsValid xs → IsCompatible old xs (Some u)

@@ -18,7 +18,7 @@ use Rattle.edit_version.proofs.Offers.{admitted-offered, dash-offered, offered-d
 use Rattle.edit_version.proofs.Orders.{fewer, greatest-has, greatest-same}
 use Rattle.edit_version.proofs.Outcomes.{admitted, narrower-of, nothing-outcome, settled-of, text-outcome, valid-version}
 use Rattle.cargo_edit.specs.Decision.{newer, text_or}
-use Rattle.cargo_edit.proofs.Taken.{far_text, near_text}
+use Rattle.cargo_edit.proofs.TakenVersions.{far_text, near_text}
 
 -- a latest version with the compatible one's text is not newer
 pub newer-none : (u v : Parts) → plain_text v ≡ plain_text u → newer (Some v) (Some u) ≡ None

@@ -13,5 +13,21 @@ mod seen;
 pub mod upgrade;
 mod writes;
 
+pub use edit_base::{
+    CargoResult, DeviceCall, Error, MergedCommand, MissingKind, MissingNames, errors, paths,
+};
+pub use edit_document::{Document, Item, Keys, Place, Step};
+pub use edit_record::{
+    Candidate, CrateSpec, Dependency, GitSource, IndexVersion, PathSource, RegistrySource,
+    RustVersion, Source, VersionExt, WorkspaceSource, admits, allows_prerelease, cut,
+    dependency_on, find_compatible_version, find_latest_version, is_for, is_wanted, read_candidate,
+    read_requirement, upgrade_requirement,
+};
+pub use edit_sources::config::read_configs;
+pub use edit_sources::registry::{registry_url, resolve};
+pub use edit_sources::{
+    Config, ConfigSource, FaultStore, FileIndex, HostStore, Index, IndexCache, IndexKrate, Kind,
+    LocalIndex, MemoryStore, Ranked, Store,
+};
 pub use plan::{plan_documents, plan_upgrade};
 pub use upgrade::{Change, Input, Look, Options, Output, Reason, Row, UpgradePlan, Warning};

@@ -1,8 +1,8 @@
 //! What is planned for the entries of manifests.
 
 use edit_document::Place;
-use edit_version::RustVersion;
 use edit_sources::index::IndexKrate;
+use edit_version::RustVersion;
 use url::Url;
 
 /// What an upgrade may do.

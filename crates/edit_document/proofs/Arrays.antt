@@ -10,7 +10,7 @@ use Rattle.edit_document.specs.DocumentLayout.{Placed}
 use Rattle.edit_document.specs.Nodes.{Spot}
 use Rattle.edit_document.proofs.SamePlace.{not_root}
 use Rattle.edit_document.proofs.MoreAssertions.{first_kind}
-use Rattle.edit_document.proofs.Standing.{Lists, Stands, was_asserted, step_below}
+use Rattle.edit_document.proofs.AssertedSpots.{Lists, Stands, was_asserted, step_below}
 
 -- an element stands where a spot lists it
 listed_stands : (made : List Assertion) (written : List Placed) (spots : List Spot) (t : ℕ) (s : Spot) (i : ℕ) → Stands made written spots → slice_get spots t ≡ Some s → i < length s.elements → (k : Kind) × (kind_at made (at s.place (index i)) ≡ Some k)

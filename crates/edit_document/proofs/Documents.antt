@@ -24,7 +24,7 @@ use Rattle.edit_document.specs.WalkState.{IsToken, KeepsState}
 use Rattle.edit_syntax.proofs.LineLaws.{read_again}
 use Rattle.edit_document.proofs.Ends.{Ends}
 use Rattle.edit_document.proofs.Shallow.{shallow as shallow_form, manifest_form, one_form}
-use Rattle.edit_document.proofs.Standing.{Stands}
+use Rattle.edit_document.proofs.AssertedSpots.{Stands}
 use Rattle.edit_document.proofs.WalkedLines.{Walked as Walks, ended, stuck, text_walked, text_even}
 use Rattle.edit_document.proofs.ShownTrees.{AreFull, tree_shown}
 use Rattle.edit_document.proofs.Parts.{any_stands, has_kind, text_whole}

@@ -19,7 +19,7 @@ use Rattle.edit_document.specs.Written.{values}
 use Rattle.edit_document.specs.DocumentLayout.{placed, spots_of, nodes_by}
 use Rattle.edit_syntax.proofs.LineLaws.{IsReadText, lines_found, lines_read}
 use Rattle.edit_syntax.proofs.LineSound.{AreGoodLines}
-use Rattle.edit_document.proofs.Evens.{IsEven}
+use Rattle.edit_document.proofs.ArrayCounts.{IsEven}
 use Rattle.edit_document.proofs.WalkedLines.{Walked, ended, stuck, text_even}
 use Rattle.edit_document.proofs.SamePlace.{same_step_is, same_place_is}
 use Rattle.edit_document.proofs.ShownTrees.{tree_shown}

@@ -20,7 +20,7 @@ use Rattle.edit_document.specs.WalkState.{IsToken}
 use Rattle.edit_syntax.proofs.MultiReadAgain.{multi_basic_again, multi_literal_again}
 use Rattle.edit_document.proofs.Ends.{Ends, suffix_is, take_length, text_before, text_behind, one_text, past_ascii, hex_small, escape_small, escaped_small, scalar_is}
 use Rattle.edit_document.proofs.WalkedTokens.{text_is}
-use Rattle.edit_syntax.proofs.Enclosed.{value_rest}
+use Rattle.edit_syntax.proofs.ValueEdges.{value_rest}
 use Rattle.edit_syntax.proofs.PutBefore.{pieces_rest}
 
 -- ---- what these strings say is a text

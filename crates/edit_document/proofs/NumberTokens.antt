@@ -15,7 +15,7 @@ use Rattle.edit_syntax.specs.Marks.{mark}
 use Rattle.edit_document.specs.Walk.{said, suffix, as_text, State, entered, step}
 use Rattle.edit_document.specs.WalkState.{IsToken}
 use Rattle.edit_syntax.proofs.NumberLaws.{IsNumber}
-use Rattle.edit_syntax.proofs.Enclosed.{value_rest, integer_ascii, float_ascii, datetime_ascii}
+use Rattle.edit_syntax.proofs.ValueEdges.{value_rest, integer_ascii, float_ascii, datetime_ascii}
 use Rattle.edit_document.proofs.Ends.{Ends, Small, ascii_text}
 use Rattle.edit_document.proofs.WalkedTokens.{said_word}
 

@@ -7,7 +7,7 @@ use Rattle.edit_document.specs.Tree.{View, string, view_at, view_of_kind, kind_a
 use Rattle.std.specs.List.{AllByRecursion, list_any}
 use Rattle.edit_document.specs.Replaces.{Edits, new_text, replaced, is_below, is_below_any, written, emptied, is_string, AreStrings, AreValues, AreOutside}
 use Rattle.edit_document.proofs.SamePlaces.{not_below_itself}
-use Rattle.edit_document.proofs.Thinned.{is_leaf}
+use Rattle.edit_document.proofs.ThinnedForms.{is_leaf}
 use Rattle.edit_document.proofs.NothingBelow.{HasLeaf, opens, leaf_there}
 use Rattle.edit_document.proofs.ReplacedTree.{HasValue, AreApart, edit_above, nothing_below, replaced_view}
 use Rattle.edit_syntax.proofs.Cases.{by_test}

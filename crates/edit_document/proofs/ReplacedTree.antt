@@ -7,7 +7,7 @@ use Rattle.edit_document.specs.Supported.{IsManifest}
 use Rattle.edit_document.specs.Literals.{literal_of}
 use Rattle.edit_document.specs.Replaces.{Edits, new_text, literal_or, put, replaced_inside, replaced_elements, replaced_members, replaced_statement, replaced_lines, replaced, is_below, is_below_any, written, emptied}
 use Rattle.edit_document.proofs.LiteralLaws.{literal_is_value, literal_says}
-use Rattle.edit_document.proofs.Thinned.{Thin, none}
+use Rattle.edit_document.proofs.ThinnedForms.{Thin, none}
 use Rattle.edit_document.proofs.ThinnedLines.{thin_lines, thin_short, thin_no_clash}
 use Rattle.edit_document.proofs.ThinnedViews.{thin_view, thin_literal}
 use Rattle.edit_document.proofs.NothingBelow.{opens, shut_below, Rooted, done, next, rooted}

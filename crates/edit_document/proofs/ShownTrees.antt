@@ -12,9 +12,9 @@ use Rattle.edit_document.specs.Nodes.{Spot, names_of, view_of_shape, shown_spot}
 use Rattle.edit_document.proofs.SamePlace.{same_step_self}
 use Rattle.edit_document.proofs.MoreAssertions.{first_kind, first_is}
 use Rattle.edit_document.proofs.MoreMembers.{is_headed, steps, has, has_step}
-use Rattle.edit_document.proofs.Standing.{Lists, shape_of_kind, Tells, Stands}
+use Rattle.edit_document.proofs.AssertedSpots.{Lists, shape_of_kind, Tells, Stands}
 use Rattle.edit_document.proofs.Arrays.{elements_full}
-use Rattle.edit_document.proofs.Evens.{IsEven}
+use Rattle.edit_document.proofs.ArrayCounts.{IsEven}
 use Rattle.edit_document.proofs.Views.{node_first, node_none}
 use Rattle.edit_syntax.proofs.Cases.{or_false}
 

@@ -8,7 +8,7 @@ use Rattle.edit_document.specs.Written.{Valued, values, start_of, end_of}
 use Rattle.edit_document.specs.Replaces.{Edits, new_text, replaced, edited}
 use Rattle.edit_document.specs.Splices.{Range, spliced, AreInOrder, ranges_of, IsRangeFor}
 use Rattle.edit_syntax.proofs.Members.{Among, contained_among, among_all, among_map, map_among, among_filter, filter_among}
-use Rattle.edit_syntax.proofs.Enclosed.{IsEnclosed, value_enclosed}
+use Rattle.edit_syntax.proofs.ValueEdges.{IsEnclosed, value_enclosed}
 use Rattle.edit_document.proofs.FineValues.{values_fine}
 use Rattle.edit_document.proofs.UniqueValues.{values_unique}
 use Rattle.edit_document.proofs.SwappedTexts.{NoneBelow, replaced_swaps, edit_of}

@@ -10,7 +10,7 @@ use Rattle.edit_document.specs.Literals.{literal_of, literal_bytes}
 use Rattle.edit_document.specs.Written.{Valued, start_of}
 use Rattle.edit_document.specs.Replaces.{Swaps, rest, next}
 use Rattle.edit_document.specs.Splices.{Range, spliced, AreInOrder, ranges_of}
-use Rattle.edit_syntax.proofs.Enclosed.{value_rest, IsEnclosed}
+use Rattle.edit_syntax.proofs.ValueEdges.{value_rest, IsEnclosed}
 
 -- ---- the bytes
 

@@ -12,7 +12,7 @@ use Rattle.edit_document.specs.Written.{Valued, valued, inside, in_elements, in_
 use Rattle.edit_document.specs.Replaces.{Edits, new_text, literal_or, put, replaced_inside, replaced_elements, replaced_members, replaced_statement, replaced_lines, replaced, edited, Swaps, rest, next, is_below}
 use Rattle.edit_document.proofs.SamePlaces.{is_within, within_same, below_at, within_at, within_named}
 use Rattle.edit_syntax.proofs.PutBefore.{IsKept, put_before, end_before, gap_before, pair_before, value_before, line_before, comment_before, statement_before, mark_before}
-use Rattle.edit_document.proofs.Thinned.{edited_below}
+use Rattle.edit_document.proofs.ThinnedForms.{edited_below}
 use Rattle.edit_document.proofs.ReplacedTree.{AreApart}
 
 pub swaps_one : (more : List (Valued × List ℕ)) → IsKept (Swaps more)

@@ -4,7 +4,7 @@ use Rattle.std.specs.List.{AllByRecursion}
 use Rattle.edit_syntax.specs.Grammar.{Value, Statement, pair, header, element_header, empty_line, full_line, Lines, one_line, more_lines}
 use Rattle.edit_document.specs.Assertions.{Place, key, index, at, same_place, Kind, dotted, leaf, super, header_kind, array_kind, element_kind, Assertion, asserts, names, is_array_at, elements_at, resolved, fronts, header_place, of_statement, prefix_after, of_lines, together, NoClash, AreShort}
 use Rattle.edit_document.specs.Replaces.{Edits, replaced_statement, replaced_lines}
-use Rattle.edit_document.proofs.Thinned.{Thin, none, keep, swap, lose, HasNoLeaf, thin_same, thin_append, thin_pair}
+use Rattle.edit_document.proofs.ThinnedForms.{Thin, none, keep, swap, lose, HasNoLeaf, thin_same, thin_append, thin_pair}
 
 -- ---- later statements assert the same behind the thinned assertions
 

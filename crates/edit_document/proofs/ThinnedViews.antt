@@ -8,7 +8,7 @@ use Rattle.edit_document.specs.Tree.{table, table_array, inline_table, view_of_v
 use Rattle.edit_document.specs.Literals.{literal_of}
 use Rattle.edit_document.specs.Replaces.{Edits, new_text, is_below, is_below_any}
 use Rattle.edit_document.proofs.SamePlaces.{is_within, within_cases}
-use Rattle.edit_document.proofs.Thinned.{Thin, none, keep, swap, lose, is_leaf}
+use Rattle.edit_document.proofs.ThinnedForms.{Thin, none, keep, swap, lose, is_leaf}
 use Rattle.edit_document.proofs.ThinnedLines.{thin_count}
 use Rattle.edit_syntax.proofs.Cases.{by_test, or_false}
 use Rattle.edit_document.proofs.SamePlace.{same_step_is, same_place_is, same_step_self, same_place_self}

@@ -10,7 +10,7 @@ use Rattle.edit_document.specs.Assertions.{Place, key, index, at, names, named, 
 use Rattle.edit_document.specs.Tree.{is_value_at}
 use Rattle.edit_document.specs.Written.{Valued, valued, inside, in_elements, in_members, in_statement, in_lines, values}
 use Rattle.edit_syntax.proofs.Members.{Among, among_all, among_map, map_among, filter_among}
-use Rattle.edit_document.proofs.Thinned.{is_leaf}
+use Rattle.edit_document.proofs.ThinnedForms.{is_leaf}
 use Rattle.edit_syntax.proofs.Cases.{by_test}
 use Rattle.edit_document.proofs.SamePlace.{same_place_is, same_place_self}
 

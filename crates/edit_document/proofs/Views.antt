@@ -21,7 +21,7 @@ use Rattle.edit_document.specs.DocumentLayout.{spots_of, nodes_by, shown_by, sho
 use Rattle.edit_document.specs.Items.{step_seen, place_seen, viewed, place_numbered, view_numbered, key_names, names_in, count_in, Numbers, Shows}
 use Rattle.edit_document.proofs.SamePlace.{same_place_self, same_place_is, other_place, last_same, not_root}
 use Rattle.edit_syntax.proofs.ListElements.{slice_get_same}
-use Rattle.edit_document.proofs.Adding.{spot_of_node, below_node}
+use Rattle.edit_document.proofs.SpotNodes.{spot_of_node, below_node}
 
 -- a document that is open: its spots, and the nodes that keep them
 pub record Opened (shown : Shown) (nodes : List Node) : Type 0 where

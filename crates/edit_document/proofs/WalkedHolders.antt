@@ -22,12 +22,12 @@ use Rattle.edit_syntax.specs.Marks.{mark}
 use Rattle.edit_document.proofs.Ends.{Ends}
 use Rattle.edit_document.proofs.MoreAssertions.{IsClear, clear_front}
 use Rattle.edit_document.proofs.Trees.{Grows, grows_then}
-use Rattle.edit_document.proofs.Standing.{Stands, nothing_under}
+use Rattle.edit_document.proofs.AssertedSpots.{Stands, nothing_under}
 use Rattle.edit_document.proofs.NothingBelow.{HasLeaf}
 use Rattle.edit_document.proofs.Parts.{kind_append}
 use Rattle.edit_document.proofs.Walks.{walked_one, walked_first, walked_stops, walked_append}
 use Rattle.edit_document.proofs.WalkedTokens.{said_basic, said_literal}
-use Rattle.edit_document.proofs.Leading.{Leads, leads, stops, leads_along, Enters, enters, bars, closed_leads}
+use Rattle.edit_document.proofs.KeyWalks.{Leads, leads, stops, leads_along, Enters, enters, bars, closed_leads}
 
 -- where the values of a list are written
 abbrev pub spans : List Valued → List Placed

@@ -23,13 +23,13 @@ use Rattle.edit_document.proofs.SamePlace.{not_root}
 use Rattle.edit_document.proofs.MoreAssertions.{first_kind, first_is, kind_stays, kind_new, IsClear, clear_front, clash_last, allowed}
 use Rattle.edit_document.proofs.MoreMembers.{is_headed, elements_below, elements_stay}
 use Rattle.edit_document.proofs.Trees.{Grows, grows_then}
-use Rattle.edit_document.proofs.Standing.{Stands, stands_start}
-use Rattle.edit_document.proofs.Asserting.{Makes, makes, fails, element_makes}
-use Rattle.edit_document.proofs.Landing.{header_lands}
-use Rattle.edit_document.proofs.Evens.{IsEven, arrays_alone, even_statement}
+use Rattle.edit_document.proofs.AssertedSpots.{Stands, stands_start}
+use Rattle.edit_document.proofs.MemberAssertions.{Makes, makes, fails, element_makes}
+use Rattle.edit_document.proofs.KeyPlaces.{header_lands}
+use Rattle.edit_document.proofs.ArrayCounts.{IsEven, arrays_alone, even_statement}
 use Rattle.edit_document.proofs.Walks.{walked_one, walked_none, walked_append}
 use Rattle.edit_document.proofs.WalkedTokens.{waits, walked_key}
-use Rattle.edit_document.proofs.Leading.{Leads, leads, stops, Enters, enters, bars, settled_enters}
+use Rattle.edit_document.proofs.KeyWalks.{Leads, leads, stops, Enters, enters, bars, settled_enters}
 use Rattle.edit_document.proofs.WalkedValues.{pair_before, pair_is_before, value_leads}
 use Rattle.edit_document.proofs.WalkedHolders.{spans}
 use Rattle.std.proofs.lemmas.Bool.{and_parts}

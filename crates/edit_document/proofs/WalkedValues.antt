@@ -20,7 +20,7 @@ use Rattle.edit_document.proofs.Ends.{Ends, ends_one, ends_pair, ends_gap, ends_
 use Rattle.edit_document.proofs.SamePlace.{same_place_self, other_place, last_same, not_root, not_below}
 use Rattle.edit_document.proofs.MoreAssertions.{first_kind, first_stays, first_is}
 use Rattle.edit_document.proofs.Trees.{Grows, grows_same}
-use Rattle.edit_document.proofs.Standing.{Stands, nothing_below_spot}
+use Rattle.edit_document.proofs.AssertedSpots.{Stands, nothing_below_spot}
 use Rattle.edit_document.proofs.NothingBelow.{HasLeaf, leaf_there}
 use Rattle.edit_document.proofs.Parts.{deep_value, kind_deep, kind_append}
 use Rattle.edit_document.proofs.Arrays.{elements_are, elements_none_at}
@@ -28,7 +28,7 @@ use Rattle.edit_document.proofs.Walks.{walked_none}
 use Rattle.edit_document.proofs.WalkedTokens.{waits, walked_key}
 use Rattle.edit_document.proofs.NumberTokens.{number_step}
 use Rattle.edit_document.proofs.MultiTokens.{multi_basic_step, multi_literal_step}
-use Rattle.edit_document.proofs.Leading.{Leads, leads, leads_along, leads_then, pair_enters, element_enters, element_vacant, vacant}
+use Rattle.edit_document.proofs.KeyWalks.{Leads, leads, leads_along, leads_then, pair_enters, element_enters, element_vacant, vacant}
 use Rattle.edit_document.proofs.WalkedHolders.{holder_leads, spans, basic_step, literal_step, true_step, false_step, Before, IsBefore, bare_at, LeadsBy, scalar_leads, open_array, close_array, open_table, close_table, deeper}
 
 -- ---- before a value

@@ -7,8 +7,8 @@ ghost use Rattle.edit_document.specs.declared.nodes.Taken.TheVariants.{Super};
 ghost use Rattle.edit_document.specs.Walk.{child, last_table, target_of, taken_again, added, element_added, asserted, front_shape, reached};
 ghost use Rattle.edit_document.specs.WalkState.{Adds, Puts};
 
-use edit_base::errors::CargoResult;
 use crate::nodes::{Content, Members, Node, Taken, Words, copied, words_in};
+use edit_base::errors::CargoResult;
 use edit_syntax::Span;
 use std::alloc::Global;
 

@@ -10,12 +10,12 @@ ghost use Rattle.edit_document.specs.Ranges.{HasRange};
 ghost use Rattle.edit_syntax.specs.Marks.{IsReadRefusal};
 ghost use Rattle.edit_document.specs.Items.{place_numbered, view_numbered, names_in, count_in, place_seen, Shows, Numbers};
 
-use edit_base::errors::CargoResult;
 use crate::item::Item;
 use crate::nodes::{Content, Node, words_in};
 use crate::place::Step;
-use edit_syntax::read::read_marks;
 use crate::walk::nodes_of;
+use edit_base::errors::CargoResult;
+use edit_syntax::read::read_marks;
 use std::alloc::Global;
 use std::fmt;
 use std::marker::Model;

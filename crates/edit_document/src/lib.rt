@@ -12,7 +12,8 @@ mod walk;
 mod words;
 
 pub use document::Document;
-pub use edit_base::{CargoResult, DeviceCall, Error, MergedCommand, MissingKind, MissingNames};
-pub use edit_base::{errors, paths};
+pub use edit_base::{
+    CargoResult, DeviceCall, Error, MergedCommand, MissingKind, MissingNames, errors, paths,
+};
 pub use item::{Item, Keys};
 pub use place::{Place, Step};

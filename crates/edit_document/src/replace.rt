@@ -12,9 +12,9 @@ ghost use Rattle.edit_document.specs.Supported.{IsManifest};
 ghost use Rattle.edit_document.specs.Tree.{is_value_at, view_at};
 
 use crate::document::Document;
-use edit_base::errors::CargoResult;
 use crate::literal::push_literal;
 use crate::place::{Place, Step};
+use edit_base::errors::CargoResult;
 use std::alloc::Global;
 
 /// Another text for the value that is written from `start` to `end`.

@@ -8,11 +8,11 @@ ghost use Rattle.edit_syntax.specs.Marks.{IsReadRefusal};
 ghost use Rattle.std.specs.List.{AllByRecursion};
 
 use crate::assertions::{add_element, assert_member, reach};
-use edit_base::errors::{CargoResult, Error};
 use crate::nodes::{Content, Members, Node, Taken, Words};
+use crate::words::{worded, words_of};
+use edit_base::errors::{CargoResult, Error};
 use edit_syntax::Span;
 use edit_syntax::read::{Mark, MarkKind};
-use crate::words::{worded, words_of};
 use std::alloc::Global;
 
 /// The nodes so far; the numbers of the header and of the arrays and inline tables that are open, the innermost last;

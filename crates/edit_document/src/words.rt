@@ -4,8 +4,8 @@ ghost use Rattle.edit_base.specs.Errors.{IsMemory};
 ghost use Rattle.edit_document.specs.Nodes.{bytes_of, shape_of, shape_said};
 ghost use Rattle.edit_document.specs.WalkState.{SaysAt};
 
-use edit_base::errors::CargoResult;
 use crate::nodes::{Content, Words};
+use edit_base::errors::CargoResult;
 use edit_syntax::read::decode::{content, content_span, is_plain, said};
 use edit_syntax::read::{Mark, MarkKind};
 use std::alloc::Global;

@@ -1,8 +1,8 @@
-pub mod Causing
+pub mod CauseLemmas
 pub mod CommandFacts
 pub mod CommandLemmas
 pub mod Faults
 pub mod Heights
-pub mod Passing
-pub mod Planning
+pub mod PassedWords
+pub mod PlanLemmas
 pub mod UpgradeLemmas

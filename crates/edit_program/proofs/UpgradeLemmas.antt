@@ -6,7 +6,7 @@ use Rattle.edit_sources.specs.Store.{Files, SameFiles}
 use Rattle.edit_sources.specs.declared.file_index.FileIndex.{FileIndex}
 use Rattle.cargo_edit.specs.declared.upgrade.Output.{Output}
 use Rattle.edit_program.specs.Upgrading.{IsCutShort, IsIndexRead, IsManifestRead, IsPlanned, IsTorn, IsUpgraded, IsWritten}
-use Rattle.edit_program.proofs.Passing.{as_before, same_twice}
+use Rattle.edit_program.proofs.PassedWords.{as_before, same_twice}
 
 -- what was read, planned and written after another leaves the store as the clause says
 pub cut_short : (tells told_mid : Bool) (old mid now new : Files) (current named index_named path bytes : List ℕ) (rust : Option Numbers) (index : FileIndex) (outputs : List Output) (first : Option Output)

@@ -19,8 +19,8 @@ use crate::refusal::{RunResult, at_byte, at_path};
 use cargo_edit::{Input, Options, Output, plan_documents};
 use edit_base::{CargoResult, Error};
 use edit_document::Document;
-use edit_version::RustVersion;
 use edit_sources::{Config, FileIndex, IndexCache, Store};
+use edit_version::RustVersion;
 use std::alloc::Global;
 use std::slice::from_ref;
 

@@ -5,8 +5,8 @@ ghost use Rattle.edit_record.specs.Records.{IsBare, source_version, version_of};
 ghost use Rattle.edit_version.specs.Requirement.{cut};
 ghost use Rattle.edit_record.specs.declared.dependency.Source.TheVariants.{Registry, Path, Git, Workspace};
 
-use edit_version::requirement::before_plus;
 use edit_base::errors::CargoResult;
+use edit_version::requirement::before_plus;
 use std::alloc::Global;
 use std::collections::BTreeMap;
 

@@ -19,9 +19,9 @@ ghost use Rattle.semver.specs.Parse.{Parts, req_of, version_parts};
 
 use crate::dependency::{Dependency, RegistrySource, Source};
 use crate::fetch::IndexVersion;
-use edit_version::rust_version::{RustVersion, rust_version_of};
-use edit_version::requirement::{admits, read_requirement};
 use edit_base::errors::{CargoResult, Error};
+use edit_version::requirement::{admits, read_requirement};
+use edit_version::rust_version::{RustVersion, rust_version_of};
 use semver::{Version, VersionReq};
 use std::alloc::{AllocError, Global};
 

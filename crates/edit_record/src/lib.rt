@@ -6,9 +6,9 @@ pub mod fetch;
 pub mod find;
 
 pub use dependency::{Dependency, GitSource, PathSource, RegistrySource, Source, WorkspaceSource};
-pub use edit_version::{CrateSpec, RustVersion, VersionExt};
 pub use edit_version::{
-    Requirement, admits, allows_prerelease, cut, read_requirement, upgrade_requirement,
+    CrateSpec, Requirement, RustVersion, VersionExt, admits, allows_prerelease, cut,
+    read_requirement, upgrade_requirement,
 };
 pub use fetch::IndexVersion;
 pub use find::{

@@ -20,8 +20,8 @@ ghost use Rattle.edit_sources.specs.Ranking.{passes, rank_at, rank_of, ranks_fro
 use edit_base::errors::CargoResult;
 use edit_record::dependency::Dependency;
 use edit_record::fetch::IndexVersion;
-use edit_version::rust_version::RustVersion;
 use edit_record::find::{dependency_on, is_for, is_wanted, read_candidate};
+use edit_version::rust_version::RustVersion;
 use semver::{Version, VersionReq};
 use std::alloc::Global;
 use std::cmp::Reverse;

@@ -14,7 +14,7 @@ use Rattle.edit_syntax.specs.Decoding.{IsEscape, IsMarked, FoldStops, is_spacing
 use Rattle.edit_syntax.specs.Reading.{scalar, first}
 use Rattle.edit_syntax.proofs.TokenLaws.{list_of_all, basic_ch_not, prefix_len_run}
 use Rattle.edit_syntax.proofs.PutBefore.{piece_rest}
-use Rattle.edit_syntax.proofs.Decoded.{Ascii, utf8_behind}
+use Rattle.edit_syntax.proofs.DelimitedContents.{Ascii, utf8_behind}
 
 -- ---- codes
 

@@ -14,7 +14,7 @@ use Rattle.edit_syntax.specs.Characters.{is_unescaped}
 use Rattle.edit_syntax.specs.Decoding as decoding
 use Rattle.edit_syntax.specs.Decoding.{delimited, LineSays, Says}
 use Rattle.edit_syntax.specs.Spans.{is_boundary, cut_from, bytes_at}
-use Rattle.edit_syntax.proofs.Decoded.{content_found}
+use Rattle.edit_syntax.proofs.DelimitedContents.{content_found}
 use Rattle.edit_syntax.proofs.Escapes.{done}
 use Rattle.edit_syntax.proofs.LineContents.{basic_line}
 

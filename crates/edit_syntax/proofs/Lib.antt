@@ -1,11 +1,10 @@
-pub mod PutBefore
+-- Lists and loops
 pub mod Cases
-pub mod Escapes
-pub mod LineContents
-pub mod Enclosed
 pub mod Members
+pub mod ListElements
 pub mod Loops
 pub mod MultiLoops
+-- Tokens: keys, strings, numbers, dates and times
 pub mod Codes
 pub mod TokenLaws
 pub mod KeyLaws
@@ -15,17 +14,24 @@ pub mod NumberLaws
 pub mod NumberReadAgain
 pub mod NumberEnds
 pub mod DateReadAgain
+-- Values and lines
 pub mod GapLaws
 pub mod ValueLaws
 pub mod ValueReadAgain
 pub mod MembersReadAgain
 pub mod LineLaws
 pub mod LineSound
-pub mod NotedValues
+pub mod ValueEdges
+pub mod PutBefore
+-- The marks that the code notes
 pub mod NotedTokens
+pub mod NotedValues
 pub mod NotedElements
 pub mod NotedLines
-pub mod ListElements
-pub mod Decoded
+-- What tokens say
+pub mod Escapes
+pub mod LineContents
+pub mod DelimitedContents
 pub mod Kept
+-- Worked examples
 pub mod StandardFacts

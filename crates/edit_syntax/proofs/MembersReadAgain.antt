@@ -16,7 +16,7 @@ use Rattle.edit_syntax.specs.ReadingNumbers.{begins}
 use Rattle.edit_syntax.proofs.NumberReadAgain.{is_start, integer_start, float_start}
 use Rattle.edit_syntax.proofs.NumberEnds.{EndsValue, ends_value}
 use Rattle.edit_syntax.proofs.DateReadAgain.{datetime_start}
-use Rattle.edit_syntax.proofs.Enclosed.{value_rest}
+use Rattle.edit_syntax.proofs.ValueEdges.{value_rest}
 
 -- the reader reads this value, under what may follow it
 abbrev pub Again : (List ℕ → Read Value) → Value → Type 0

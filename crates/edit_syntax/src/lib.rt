@@ -4,6 +4,5 @@
 pub mod read;
 pub mod span;
 
-pub use read::read_marks;
-pub use read::{Mark, MarkKind};
+pub use read::{Mark, MarkKind, read_marks};
 pub use span::Span;

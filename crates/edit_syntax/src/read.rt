@@ -17,9 +17,9 @@ mod numbers;
 mod tokens;
 mod values;
 
-use edit_base::errors::{CargoResult, Error};
 use bytes::{byte_at, first, skip};
 pub use decode::{content, content_span, is_plain, said};
+use edit_base::errors::{CargoResult, Error};
 use lines::lines;
 use marks::ReadError;
 pub use marks::{Mark, MarkKind};

@@ -1,6 +1,6 @@
 //! The program's rows, over files in memory.
-use edit_program::run;
 use edit_base::paths::join;
+use edit_program::run;
 use edit_sources::{FaultStore, HostStore, MemoryStore, Store};
 use std::alloc::Global;
 use std::test::Fail;

@@ -17,7 +17,7 @@ use Rattle.semver.proofs.Grammar.{version_parts-sound}
 use Rattle.edit_version.specs.Laws.{IsPlainRequirement, holds_plus}
 use Rattle.edit_version.specs.Requirement.{after_patch, cut, dotted, led_as, plain_text, requirement_text, starts_with_caret, star, unsigned_text}
 use Rattle.edit_version.proofs.Narrows.{left_of, right_of}
-use Rattle.edit_version.proofs.ReadingAgain.{IsWritable, caret-number, reads-unsigned-all}
+use Rattle.edit_version.proofs.ComparatorReadings.{IsWritable, caret-number, reads-unsigned-all}
 
 pub plus-append : (xs ys : List ℕ) → holds_plus (xs ++ ys) ≡ (holds_plus xs || holds_plus ys)
 plus-append xs ys = list_any-append (λ b. b == 43) xs ys

@@ -16,9 +16,9 @@ use Rattle.edit_version.specs.Admits.{accepts, pre_reaches}
 use Rattle.edit_version.specs.Laws.{holds_dash, precedence}
 use Rattle.edit_version.specs.Requirement.{after_patch, comparator_text, dotted, is_inequality, led_as, more_text, raised, raised_pre, renumbered, requirement_text, sign, star, starts_with_caret, unsigned_text, without_caret}
 use Rattle.edit_version.proofs.Dashes.{dash-append, decimal-no_dash}
-use Rattle.edit_version.proofs.Fixed.{none-first}
+use Rattle.edit_version.proofs.FixedTexts.{none-first}
 use Rattle.edit_version.proofs.Narrows.{left_of, pre-self, right_of}
-use Rattle.edit_version.proofs.ReadingAgain.{IsSmall, IsWritable, tidy}
+use Rattle.edit_version.proofs.ComparatorReadings.{IsSmall, IsWritable, tidy}
 use Rattle.edit_version.proofs.Shapes.{IsShaped}
 
 -- ---- operators

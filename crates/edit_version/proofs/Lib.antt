@@ -1,25 +1,30 @@
+-- Requirements as texts
 pub mod Texts
-pub mod Raising
-pub mod Reading
-pub mod ReadingAgain
+pub mod ComparatorTexts
+pub mod ComparatorReadings
 pub mod Shapes
-pub mod Fixed
+pub mod RaiseLemmas
+-- The laws of raising
+pub mod FixedTexts
 pub mod Narrows
-pub mod Reaching
+pub mod ReachLaws
 pub mod Dashes
 pub mod Forms
 pub mod PreReleases
 pub mod Cuts
 pub mod NoPlus
 pub mod Outcomes
-pub mod Upgraded
-pub mod Matching
+pub mod UpgradeLaws
+-- What versions are admitted, and the greatest of them
+pub mod MatchLemmas
 pub mod Greatests
 pub mod Orders
 pub mod Offers
 pub mod Builds
 pub mod Lands
+-- Increments and words
 pub mod Steps
-mod Joined
+mod JoinedTexts
+-- Worked examples
 mod WorkedFacts
 mod WorkedRows

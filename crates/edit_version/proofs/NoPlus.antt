@@ -10,8 +10,8 @@ use Rattle.semver.specs.declared.Op.{Op}
 use Rattle.semver.specs.declared.Op.TheVariants as op
 use Rattle.edit_version.specs.Requirement.{Text, after_patch, comparator_text, cut, dotted, led_as, more_text, raise, raised, requirement_text, sign, star, starts_with_caret, plain_text, unsigned_text, without_caret}
 use Rattle.edit_version.proofs.Cuts.{cut-before, decimal-no_plus, plain_text-no_plus, plus-append, pre-no_plus}
-use Rattle.edit_version.proofs.Fixed.{raised-read, raised-reads}
-use Rattle.edit_version.proofs.ReadingAgain.{IsSmall, IsWritable}
+use Rattle.edit_version.proofs.FixedTexts.{raised-read, raised-reads}
+use Rattle.edit_version.proofs.ComparatorReadings.{IsSmall, IsWritable}
 use Rattle.edit_version.specs.Laws.{IsVersion, holds_plus}
 
 none-append : (xs ys : List ℕ) → holds_plus xs ≡ false → holds_plus ys ≡ false → holds_plus (xs ++ ys) ≡ false

@@ -17,10 +17,10 @@ use Rattle.edit_version.specs.Requirement.{Nothing, Text, is_inequality, led_as,
 use Rattle.edit_version.specs.Selection.{admits_read, is_admitted}
 use Rattle.edit_version.proofs.Dashes.{req-dash}
 use Rattle.edit_version.proofs.Forms.{least-all, operators-same, raised_text-dash}
-use Rattle.edit_version.proofs.Fixed.{IsRaised, raised-fixed, raised-read, raised-reads}
+use Rattle.edit_version.proofs.FixedTexts.{IsRaised, raised-fixed, raised-read, raised-reads}
 use Rattle.edit_version.proofs.Narrows.{left_of, narrows}
-use Rattle.edit_version.proofs.Reaching.{keeps, reaches-plain, reaches-three}
-use Rattle.edit_version.proofs.ReadingAgain.{tidy}
+use Rattle.edit_version.proofs.ReachLaws.{keeps, reaches-plain, reaches-three}
+use Rattle.edit_version.proofs.ComparatorReadings.{tidy}
 use Rattle.edit_version.proofs.Shapes.{req-shape}
 
 -- ---- versions

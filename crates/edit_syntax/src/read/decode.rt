@@ -14,8 +14,8 @@ ghost use Rattle.edit_syntax.specs.Decoding.{delimiter, delimited, IsEscape, IsM
 use super::bytes::{Class, byte_at, first, is_in, run_len, skip};
 use super::marks::{Mark, MarkKind};
 use super::tokens::scalar;
-use edit_base::errors::CargoResult;
 use crate::span::Span;
+use edit_base::errors::CargoResult;
 use std::alloc::Global;
 
 /// How long the delimiter of a token is.

@@ -1,7 +1,7 @@
 //! What the tests of records make and tell.
 use crate::refusals::told;
-use edit_version::upgrade_requirement;
 use edit_record::{Dependency, IndexVersion};
+use edit_version::upgrade_requirement;
 use semver::{Version, VersionReq};
 use std::alloc::{AllocError, Global};
 use std::test::Fail;

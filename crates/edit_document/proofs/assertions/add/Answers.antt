@@ -1,6 +1,6 @@
 use Rattle.std.proofs.Common.{◌≡◌, ◌<◌, ◌≤◌, length, ◌∙◌, refl, arith, sym}
 use Rattle.edit_document.specs.Nodes.{bytes_of, shape_of}
-use Rattle.edit_document.proofs.Adding.{added_past, kept_at, child_found, deepest, not_deepest, add_stopped, add_done}
+use Rattle.edit_document.proofs.SpotNodes.{added_past, kept_at, child_found, deepest, not_deepest, add_stopped, add_done}
 use Rattle.edit_document.proofs.assertions.add.Goals as goal
 
 pub returns-then-number-count-clause-added : goal.returns-then-number-count-clause-added

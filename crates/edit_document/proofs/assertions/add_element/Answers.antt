@@ -1,6 +1,6 @@
 use Rattle.std.proofs.Common.{◌≡◌, ◌<◌, ◌≤◌, length, ◌∙◌, refl, arith, sym}
 use Rattle.edit_document.specs.Nodes.{shape_of}
-use Rattle.edit_document.proofs.Adding.{element_past, deepest, not_deepest, element_stopped, element_done}
+use Rattle.edit_document.proofs.SpotNodes.{element_past, deepest, not_deepest, element_stopped, element_done}
 use Rattle.edit_document.proofs.assertions.add_element.Goals as goal
 
 pub returns-then-number-count-clause-added : goal.returns-then-number-count-clause-added

@@ -4,7 +4,7 @@ use Rattle.edit_document.specs.declared.nodes.Node.{Node}
 use Rattle.edit_document.specs.Nodes.{Spot, bytes_of, shape_of, Holds}
 use Rattle.edit_document.specs.Walk.{child, taken_again}
 use Rattle.edit_document.specs.WalkState.{Adds, Puts}
-use Rattle.edit_document.proofs.Reaching.{asserted_new, asserted_again, asserted_refused}
+use Rattle.edit_document.proofs.KeyFronts.{asserted_new, asserted_again, asserted_refused}
 use Rattle.edit_document.proofs.assertions.assert_member.Goals as goal
 
 pub returns-in_default-clause-made : goal.returns-in_default-clause-made

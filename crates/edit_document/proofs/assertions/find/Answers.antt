@@ -1,5 +1,5 @@
 use Rattle.std.proofs.Common.{sym, ◌∙◌}
-use Rattle.edit_document.proofs.Adding.{kept_at, child_past, child_found}
+use Rattle.edit_document.proofs.SpotNodes.{kept_at, child_past, child_found}
 use Rattle.edit_document.proofs.assertions.find.Goals as goal
 
 pub returns-then-number-nodes : goal.returns-then-number-nodes

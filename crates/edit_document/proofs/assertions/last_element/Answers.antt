@@ -1,6 +1,6 @@
 use Rattle.std.proofs.Common.{ℕ, Option, sym, ap, ◌∙◌}
 use Rattle.std.specs.Prelude.{unwrap_or}
-use Rattle.edit_document.proofs.Adding.{target_past, target_found}
+use Rattle.edit_document.proofs.SpotNodes.{target_past, target_found}
 use Rattle.edit_document.proofs.assertions.last_element.Goals as goal
 
 pub returns-then-number-nodes : goal.returns-then-number-nodes

@@ -3,7 +3,7 @@ use Rattle.std.specs.Prelude.{map}
 use Rattle.std.proofs.lemmas.List.{drop_all}
 use Rattle.edit_document.specs.Nodes.{bytes_of, shape_of}
 use Rattle.edit_document.specs.Walk.{front_shape, reached}
-use Rattle.edit_document.proofs.Reaching.{Reaches, reaches_next, front_made, reaches_turn, reaches_stop, reaches_end}
+use Rattle.edit_document.proofs.KeyFronts.{Reaches, reaches_next, front_made, reaches_turn, reaches_stop, reaches_end}
 use Rattle.edit_document.proofs.assertions.reach.Goals as goal
 
 pub returns-in-None-clause-made : goal.returns-in-None-clause-made

@@ -2,7 +2,7 @@ use Rattle.std.proofs.Common.{List, drop}
 use Rattle.std.specs.Prelude.{map}
 use Rattle.edit_document.specs.Nodes.{Spot, bytes_of, Holds}
 use Rattle.edit_document.specs.Walk.{front_shape, reached}
-use Rattle.edit_document.proofs.Reaching.{Reaches}
+use Rattle.edit_document.proofs.KeyFronts.{Reaches}
 use Rattle.edit_document.proofs.assertions.reach.Given as goal
 
 -- the parts that are left lead on from the table

@@ -1,5 +1,5 @@
 use Rattle.std.proofs.Common.{◌≡◌, ◌<◌, ◌≤◌, length, sym, ◌∙◌, arith}
-use Rattle.edit_document.proofs.Adding.{again_past, again_stopped, again_done}
+use Rattle.edit_document.proofs.SpotNodes.{again_past, again_stopped, again_done}
 use Rattle.edit_document.proofs.assertions.take_again.Goals as goal
 
 pub returns-then-number-len : goal.returns-then-number-len

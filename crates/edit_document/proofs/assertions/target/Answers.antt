@@ -1,7 +1,7 @@
 use Rattle.std.proofs.Common.{sym, ap, ◌∙◌}
 use Rattle.edit_document.specs.declared.nodes.Taken.{Taken}
 use Rattle.edit_document.specs.Walk.{target_of}
-use Rattle.edit_document.proofs.Adding.{target_other}
+use Rattle.edit_document.proofs.SpotNodes.{target_other}
 use Rattle.edit_document.proofs.assertions.target.Goals as goal
 
 pub returns-in_default : goal.returns-in_default

@@ -3,7 +3,7 @@ use Rattle.std.proofs.lemmas.List.{drop_all}
 use Rattle.edit_document.specs.declared.nodes.Node.{Node}
 use Rattle.edit_document.specs.Walk.{start, walked}
 use Rattle.edit_document.specs.WalkState.{KeepsState}
-use Rattle.edit_document.proofs.Closing.{Along, along_start, along_end, turn_on, turn_off}
+use Rattle.edit_document.proofs.WalkEnds.{Along, along_start, along_end, turn_on, turn_off}
 use Rattle.edit_document.proofs.walk.nodes_of.Goals as goal
 
 pub marks-init : goal.marks-init

@@ -1,7 +1,7 @@
 use Rattle.std.proofs.Common.{drop}
 use Rattle.std.specs.List.{AllByRecursion}
 use Rattle.edit_document.specs.WalkState.{IsToken}
-use Rattle.edit_document.proofs.Closing.{Along}
+use Rattle.edit_document.proofs.WalkEnds.{Along}
 use Rattle.edit_document.proofs.walk.nodes_of.Given as goal
 
 -- the walk is in the state behind the marks so far

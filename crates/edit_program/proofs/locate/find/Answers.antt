@@ -2,7 +2,7 @@ use Rattle.std.proofs.Common.{⊎_elim, inl, inr}
 use Rattle.std.proofs.lemmas.Result.{IfErr-weaker, IfOk-weaker}
 use Rattle.edit_base.specs.declared.errors.DeviceCall.TheVariants as call
 use Rattle.edit_program.proofs.Faults.{fault_later}
-use Rattle.edit_program.proofs.Passing.{none_found, nothing_there, path_named, path_nearest}
+use Rattle.edit_program.proofs.PassedWords.{none_found, nothing_there, path_named, path_nearest}
 use Rattle.edit_program.proofs.locate.find.Goals as goal
 
 pub returns-in-Ok-File-clause-found : goal.returns-in-Ok-File-clause-found

@@ -2,7 +2,7 @@ use denote.Shadow.{shadow}
 use denote.Text.{Utf8}
 use Rattle.edit_sources.specs.Store.{OnlyReads}
 use Rattle.edit_program.proofs.Heights.{height}
-use Rattle.edit_program.proofs.Passing.{HasPassed}
+use Rattle.edit_program.proofs.PassedWords.{HasPassed}
 use Rattle.edit_program.proofs.locate.search.Given as goal
 
 abbrev pub invariant-folders : goal.invariant-folders

@@ -10,8 +10,8 @@ use Rattle.cargo_edit.specs.Outputs.{HasOutputs}
 use Rattle.cargo_edit.specs.Upgraded.{HasItsOutputs, HasItsRows, HasRows}
 use Rattle.cargo_edit.specs.declared.upgrade.Output.{Output}
 use Rattle.cargo_edit.proofs.InputLemmas.{needed-first, of-each, of-entry_cause, only-outputs}
-use Rattle.edit_program.proofs.Causing.{refusal_same}
-use Rattle.edit_program.proofs.Planning.{no_plan, one_given}
+use Rattle.edit_program.proofs.CauseLemmas.{refusal_same}
+use Rattle.edit_program.proofs.PlanLemmas.{no_plan, one_given}
 use Rattle.edit_program.proofs.upgrade.outputs_for.Goals as goal
 
 pub returns-clause-ok : goal.returns-clause-ok

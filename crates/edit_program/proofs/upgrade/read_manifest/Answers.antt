@@ -1,5 +1,5 @@
 use Rattle.std.proofs.Common.{inr, string_bytes}
-use Rattle.edit_program.proofs.Causing.{folder_there}
+use Rattle.edit_program.proofs.CauseLemmas.{folder_there}
 use Rattle.edit_program.proofs.upgrade.read_manifest.Goals as goal
 
 pub returns-in-Ok-None-clause-refused : goal.returns-in-Ok-None-clause-refused

@@ -2,7 +2,7 @@ use Rattle.std.proofs.Common.{◌≡◌, inr, rules, string_bytes}
 use Rattle.std.proofs.lemmas.Result.{IfErr-weaker, on_err_weaker, on_ok_weaker}
 use Rattle.std.specs.Prelude.{option_copied, option_map, slice_get}
 use Rattle.edit_version.specs.RustVersions.{numbers_of}
-use Rattle.edit_program.proofs.Causing.{index_cause, manifest_cause, plan_cause, refusal_has, refusal_made, write_cause}
+use Rattle.edit_program.proofs.CauseLemmas.{index_cause, manifest_cause, plan_cause, refusal_has, refusal_made, write_cause}
 use Rattle.edit_program.proofs.UpgradeLemmas.{cut_short, upgraded}
 use Rattle.edit_program.proofs.upgrade.upgrade.Goals as goal
 

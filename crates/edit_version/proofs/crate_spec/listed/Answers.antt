@@ -1,4 +1,4 @@
-use Rattle.edit_version.proofs.Joined.{listed-grown}
+use Rattle.edit_version.proofs.JoinedTexts.{listed-grown}
 use Rattle.edit_version.proofs.crate_spec.listed.Goals as goal
 
 pub rest-preserved : goal.rest-preserved

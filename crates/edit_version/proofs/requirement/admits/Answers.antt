@@ -1,5 +1,5 @@
 use Rattle.std.proofs.Common.{◌∙◌}
-use Rattle.edit_version.proofs.Matching.{matches_admits}
+use Rattle.edit_version.proofs.MatchLemmas.{matches_admits}
 use Rattle.edit_version.proofs.requirement.admits.Goals as goal
 
 pub returns : goal.returns

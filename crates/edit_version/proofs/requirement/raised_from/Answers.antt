@@ -1,7 +1,7 @@
 use Rattle.std.proofs.Common.{◌≡◌, ◌∙◌, sym, ap, false, true, rules}
 use Rattle.std.specs.Prelude.{length, ◌==◌, nat_eq}
 use Rattle.std.specs.Cmp.Lexicographic.{pointwise}
-use Rattle.edit_version.proofs.Raising.{copied_none, other_text, raise_text, raise_unsupported, same_nothing}
+use Rattle.edit_version.proofs.RaiseLemmas.{copied_none, other_text, raise_text, raise_unsupported, same_nothing}
 use Rattle.edit_version.specs.Requirement.{Text, led_as, unless_same}
 use Rattle.semver.specs.Identifiers.{comparator_view, parts_of}
 use Rattle.edit_version.proofs.requirement.raised_from.Goals as goal

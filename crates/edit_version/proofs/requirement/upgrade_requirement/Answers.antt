@@ -1,6 +1,6 @@
 use Rattle.semver.specs.Identifiers.{parts_of}
 use Rattle.edit_version.proofs.Outcomes.{readable}
-use Rattle.edit_version.proofs.Upgraded.{form, narrower, no_lower, no_plus, reach, release, settled}
+use Rattle.edit_version.proofs.UpgradeLaws.{form, narrower, no_lower, no_plus, reach, release, settled}
 use Rattle.edit_version.proofs.requirement.upgrade_requirement.Goals as goal
 
 pub returns-clause-settled : goal.returns-clause-settled

@@ -1,6 +1,6 @@
 use Rattle.std.proofs.Common.{◌∙◌}
 use Rattle.edit_document.specs.Items.{place_seen}
-use Rattle.edit_document.proofs.Promised.{range_tells}
+use Rattle.edit_document.proofs.ReplacementLaws.{range_tells}
 use Rattle.edit_document.proofs.document.Document.is_value.Goals as goal
 
 pub returns : goal.returns

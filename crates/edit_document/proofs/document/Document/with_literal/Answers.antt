@@ -3,7 +3,7 @@ use Rattle.std.specs.Prelude.{string_bytes}
 use Rattle.std.proofs.lemmas.Result.{IfOk-weaker}
 use Rattle.edit_document.specs.Items.{place_seen}
 use Rattle.edit_document.specs.Supported.{IsManifest}
-use Rattle.edit_document.proofs.Promised.{one_rewrite, replaces_one}
+use Rattle.edit_document.proofs.ReplacementLaws.{one_rewrite, replaces_one}
 use Rattle.edit_document.proofs.document.Document.with_literal.Goals as goal
 
 pub splice-requires : goal.splice-requires

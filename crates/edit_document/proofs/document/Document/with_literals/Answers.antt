@@ -11,7 +11,7 @@ use Rattle.edit_syntax.specs.Grammar.{Text, text as text_of}
 use Rattle.edit_document.specs.Supported.{IsManifest}
 use Rattle.edit_document.specs.Replaces.{Replaces, replaced, written, emptied}
 use Rattle.edit_document.proofs.ReplacedDocuments.{tree_again}
-use Rattle.edit_document.proofs.Promised.{value_at, range_seen, ranged_more, all_ranges, replaces_apart}
+use Rattle.edit_document.proofs.ReplacementLaws.{value_at, range_seen, ranged_more, all_ranges, replaces_apart}
 use Rattle.edit_document.proofs.ReplacedStrings.{values_apart}
 use Rattle.edit_document.specs.Shown.{tree_of}
 use Rattle.edit_document.proofs.document.Document.with_literals.Goals as goal

@@ -2,7 +2,7 @@ use Rattle.std.proofs.Common.{◌≡◌, ◌++◌, Option, Some, None, refl, sym
 use Rattle.std.specs.Prelude.{option_to_list}
 use Rattle.edit_document.specs.declared.nodes.Words.{Words}
 use Rattle.edit_document.specs.declared.walk.Walk.{Walk}
-use Rattle.edit_document.proofs.Walking.{awaits}
+use Rattle.edit_document.proofs.WalkSteps.{awaits}
 use Rattle.edit_document.proofs.walk.Walk.await_name.Goals as goal
 use Rattle.edit_document.proofs.walk.Walk.await_name.Goals.{in-Some+in_ok-push, in_default}
 

@@ -1,7 +1,7 @@
 use Rattle.std.proofs.Common.{◌≡◌, ◌<◌, Some, ap, sym, ◌∙◌, refl, length, arith}
 use Rattle.edit_document.specs.Walk.{last_of, without_last}
 use Rattle.edit_document.proofs.Walks.{last_push}
-use Rattle.edit_document.proofs.Closing.{without_push, goes_closed, closed_bare}
+use Rattle.edit_document.proofs.WalkEnds.{without_push, goes_closed, closed_bare}
 use Rattle.edit_document.proofs.walk.Walk.close.Goals as goal
 
 pub returns-in_default-span : goal.returns-in_default-span

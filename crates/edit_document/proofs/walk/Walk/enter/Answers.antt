@@ -2,7 +2,7 @@ use Rattle.std.proofs.Common.{sym, subst}
 use Rattle.edit_document.specs.Nodes.{shape_of}
 use Rattle.edit_document.specs.Walk.{entered_at, entered}
 use Rattle.edit_document.specs.WalkState.{Goes}
-use Rattle.edit_document.proofs.Walking.{goes_settled}
+use Rattle.edit_document.proofs.WalkSteps.{goes_settled}
 use Rattle.edit_document.proofs.walk.Walk.enter.Goals as goal
 
 pub returns-clause-goes : goal.returns-clause-goes

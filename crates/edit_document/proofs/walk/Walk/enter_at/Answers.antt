@@ -1,7 +1,7 @@
 use Rattle.std.proofs.Common.{◌≡◌, Some, ap, sym, ◌∙◌, refl}
 use Rattle.edit_document.specs.Nodes.{shape_of}
 use Rattle.edit_document.specs.Walk.{last_of}
-use Rattle.edit_document.proofs.Walking.{if_ok_map, settles_element, settles_named}
+use Rattle.edit_document.proofs.WalkSteps.{if_ok_map, settles_element, settles_named}
 use Rattle.edit_document.proofs.walk.Walk.enter_at.Goals as goal
 
 pub returns-in-None-clause-goes : goal.returns-in-None-clause-goes

@@ -3,7 +3,7 @@ use Rattle.edit_document.specs.declared.nodes.Taken.TheVariants.{Super, Array, E
 use Rattle.edit_document.specs.Nodes.{section, sections}
 use Rattle.edit_document.specs.Walk.{settled, element_added}
 use Rattle.edit_document.specs.WalkState.{Puts, Settles}
-use Rattle.edit_document.proofs.Walking.{goes_element, element_unheaded, element_refused}
+use Rattle.edit_document.proofs.WalkSteps.{goes_element, element_unheaded, element_refused}
 use Rattle.edit_document.proofs.walk.Walk.head_element.Goals as goal
 
 pub returns-clause-goes : goal.returns-clause-goes

@@ -2,7 +2,7 @@ use Rattle.std.proofs.Common.{Some, refl, subst}
 use Rattle.edit_document.specs.Nodes.{shape_of}
 use Rattle.edit_document.specs.Walk.{entered_at}
 use Rattle.edit_document.specs.WalkState.{Settles}
-use Rattle.edit_document.proofs.Walking.{goes_opened, opened_refused}
+use Rattle.edit_document.proofs.WalkSteps.{goes_opened, opened_refused}
 use Rattle.edit_document.proofs.walk.Walk.open.Goals as goal
 
 pub returns-clause-goes : goal.returns-clause-goes

@@ -3,7 +3,7 @@ use Rattle.std.specs.Prelude.{option_map, map}
 use Rattle.edit_document.specs.Nodes.{bytes_of, shape_of}
 use Rattle.edit_document.specs.Walk.{front_shape, is_dotted_within, reached}
 use Rattle.edit_document.specs.WalkState.{Puts}
-use Rattle.edit_document.proofs.Walking.{if_ok_map, settled_unnamed, reach_of, settled_unreached, settles}
+use Rattle.edit_document.proofs.WalkSteps.{if_ok_map, settled_unnamed, reach_of, settled_unreached, settles}
 use Rattle.edit_document.proofs.walk.Walk.settle.Goals as goal
 
 pub returns-in_default-clause-goes : goal.returns-in_default-clause-goes

@@ -4,7 +4,7 @@ use Rattle.edit_syntax.specs.declared.read.marks.MarkKind.TheVariants as kinds
 use Rattle.edit_document.specs.Nodes.{shape_of}
 use Rattle.edit_document.specs.Walk.{State}
 use Rattle.edit_document.specs.WalkState.{Goes}
-use Rattle.edit_document.proofs.Closing.{step_is, goes_named, word_step, close_step}
+use Rattle.edit_document.proofs.WalkEnds.{step_is, goes_named, word_step, close_step}
 use Rattle.edit_document.proofs.walk.Walk.take.Goals as goal
 
 pub returns-in_ok-await_name-in-BarePart-clause-goes : goal.returns-in_ok-await_name-in-BarePart-clause-goes

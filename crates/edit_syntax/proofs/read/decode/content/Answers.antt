@@ -1,6 +1,6 @@
 use Rattle.std.proofs.Common.{◌+◌, length, ap, ◌∙◌, arith}
 use Rattle.std.specs.Borrow.{Bor}
-use Rattle.edit_syntax.proofs.Decoded.{IsContentAt, content_found, content_range, got_content}
+use Rattle.edit_syntax.proofs.DelimitedContents.{IsContentAt, content_found, content_range, got_content}
 use Rattle.edit_syntax.proofs.read.decode.content.Goals as goal
 
 pub returns : goal.returns

@@ -17,9 +17,9 @@ use Rattle.edit_document.specs.WalkState.{Walks, Goes, SaysAt, is_said, IsToken,
 use Rattle.edit_document.proofs.Below.{all_at}
 use Rattle.edit_document.proofs.Ends.{take_length}
 use Rattle.edit_syntax.proofs.ListElements.{drop_from}
-use Rattle.edit_document.proofs.Adding.{spot_of_node, holds_set}
+use Rattle.edit_document.proofs.SpotNodes.{spot_of_node, holds_set}
 use Rattle.edit_document.proofs.Walks.{walked_first, walked_stops, walked_none}
-use Rattle.edit_document.proofs.Walking.{turns}
+use Rattle.edit_document.proofs.WalkSteps.{turns}
 
 -- ---- spans
 

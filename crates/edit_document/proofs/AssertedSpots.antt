@@ -16,7 +16,7 @@ use Rattle.edit_document.specs.Nodes as shapes
 use Rattle.edit_document.specs.Walk.{spot_at, with_taken}
 use Rattle.edit_document.proofs.SamePlace.{same_place_self, same_place_is, other_place, last_same, not_root}
 use Rattle.edit_syntax.proofs.ListElements.{OneSet, changed, other, in_set, slice_get_same}
-use Rattle.edit_document.proofs.Takings.{together_is, stronger_is}
+use Rattle.edit_document.proofs.TakenPairs.{together_is, stronger_is}
 use Rattle.edit_document.proofs.MoreAssertions.{kind_stays, kind_else, kind_back, first_kind, first_stays, first_is, allowed, allowed_else, allowed_here, IsClear, clear_more}
 use Rattle.edit_document.proofs.MoreMembers.{members_again, is_element, is_headed, elements_below, elements_stay}
 use Rattle.edit_document.proofs.Trees.{grows_set, tree_set}

@@ -12,13 +12,13 @@ use Rattle.edit_document.specs.DocumentLayout.{shape_of_value, Placed}
 use Rattle.edit_document.specs.Taking.{taken_of}
 use Rattle.edit_document.specs.Nodes.{Shape, section, Spot, StandsAt}
 use Rattle.edit_document.specs.Walk.{asserted, front_shape, reached}
-use Rattle.edit_document.proofs.Reaching.{reached_none, reached_more}
+use Rattle.edit_document.proofs.KeyFronts.{reached_none, reached_more}
 use Rattle.edit_document.proofs.MoreAssertions.{kind_stays, IsClear, clear_front}
 use Rattle.edit_document.proofs.MoreMembers.{is_element, elements_below, elements_stay}
 use Rattle.edit_document.proofs.Trees.{Grows, grows_then}
-use Rattle.edit_document.proofs.Standing.{noted, shape_of_kind, Stands}
-use Rattle.edit_document.proofs.Asserting.{Makes, makes, fails, makes_along, member_makes}
-use Rattle.edit_document.proofs.GoingBelow.{super_makes}
+use Rattle.edit_document.proofs.AssertedSpots.{noted, shape_of_kind, Stands}
+use Rattle.edit_document.proofs.MemberAssertions.{Makes, makes, fails, makes_along, member_makes}
+use Rattle.edit_document.proofs.HeaderFronts.{super_makes}
 use Rattle.edit_document.proofs.WalkedTokens.{fore, rear}
 
 -- the spots stand for these assertions, and a place has a number; or the assertions clash

@@ -11,11 +11,11 @@ use Rattle.edit_document.specs.DocumentLayout.{shape_of_value, Placed}
 use Rattle.edit_document.specs.Nodes.{Shape, section, Spot, below}
 use Rattle.edit_document.specs.Walk.{last_of, last_table, target_of, taken_again, numbered, asserted}
 use Rattle.edit_document.proofs.SamePlace.{not_root}
-use Rattle.edit_document.proofs.Adding.{child_is, target_is}
-use Rattle.edit_document.proofs.Reaching.{asserted_new, asserted_old}
+use Rattle.edit_document.proofs.SpotNodes.{child_is, target_is}
+use Rattle.edit_document.proofs.KeyFronts.{asserted_new, asserted_old}
 use Rattle.edit_document.proofs.MoreMembers.{is_headed, elements_below, elements_none}
-use Rattle.edit_document.proofs.Standing.{shape_of_kind, Stands, was_asserted, nothing_below_spot, nothing_under}
-use Rattle.edit_document.proofs.Asserting.{Makes, makes_along, again_makes, added_makes}
+use Rattle.edit_document.proofs.AssertedSpots.{shape_of_kind, Stands, was_asserted, nothing_below_spot, nothing_under}
+use Rattle.edit_document.proofs.MemberAssertions.{Makes, makes_along, again_makes, added_makes}
 
 resolved_by : (earlier : List Assertion) (p : Place) (n : ℕ) → elements_at earlier p ≡ n → resolved earlier p ≡ cond (nat_lt 0 n) (at p (index (n - 1))) p
 resolved_by earlier p n e = ap (λ (m : ℕ). cond (nat_lt 0 m) (at p (index (m - 1))) p) e

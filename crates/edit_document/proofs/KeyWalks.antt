@@ -19,13 +19,13 @@ use Rattle.edit_syntax.proofs.ListElements.{OneSet, changed, other, in_set}
 use Rattle.edit_document.proofs.MoreAssertions.{first_kind, allowed, IsClear, clear_front, clash_last}
 use Rattle.edit_document.proofs.MoreMembers.{is_headed}
 use Rattle.edit_document.proofs.Trees.{Grows, grows_then, grows_set, tree_set}
-use Rattle.edit_document.proofs.Standing.{Tells, Stands, nothing_below_spot}
-use Rattle.edit_document.proofs.Asserting.{Makes, makes, fails, element_makes}
+use Rattle.edit_document.proofs.AssertedSpots.{Tells, Stands, nothing_below_spot}
+use Rattle.edit_document.proofs.MemberAssertions.{Makes, makes, fails, element_makes}
 use Rattle.edit_document.proofs.ThinnedLines.{leaf_alone}
 use Rattle.edit_document.proofs.Walks.{walked_append, last_push}
-use Rattle.edit_document.proofs.Walking.{settled_is, entered_is, enters_element}
+use Rattle.edit_document.proofs.WalkSteps.{settled_is, entered_is, enters_element}
 use Rattle.edit_document.proofs.WalkedTokens.{waits, waits_are, fore, rear}
-use Rattle.edit_document.proofs.Landing.{Lands, lands, misses, landed, pair_lands}
+use Rattle.edit_document.proofs.KeyPlaces.{Lands, lands, misses, landed, pair_lands}
 use Rattle.std.proofs.lemmas.Bool.{and_parts}
 
 -- the walk goes on with these assertions, or they clash

@@ -7,7 +7,7 @@ use Rattle.edit_base.specs.declared.errors.Error.{Error}
 use Rattle.edit_version.specs.Laws.{Admits, AdmitsNoLower, CanReach, KeepsForm, IsNarrower, IsRelease, IsSettled, IsVersion, holds_plus, text_after}
 use Rattle.edit_version.specs.Refusals.{IsAnswer}
 use Rattle.edit_version.specs.Requirement.{raise}
-use Rattle.edit_version.proofs.Fixed.{raised-read}
+use Rattle.edit_version.proofs.FixedTexts.{raised-read}
 use Rattle.edit_version.proofs.NoPlus.{raised-no_plus}
 use Rattle.edit_version.proofs.Outcomes.{IsOutcome, form-of, narrower-of, no_lower-of, reach-of, read-nothing, release-no_dash, settled-of}
 

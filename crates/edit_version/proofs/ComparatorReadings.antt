@@ -12,7 +12,7 @@ use Rattle.semver.specs.declared.Op.{Op}
 use Rattle.semver.specs.declared.Op.TheVariants as op
 use Rattle.semver.proofs.Requirements.{req-end, req-more}
 use Rattle.edit_version.specs.Requirement.{after_patch, comparator_text, dotted, is_inequality, more_text, requirement_text, sign, starts_with_caret, star, unsigned_text}
-use Rattle.edit_version.proofs.Reading.{decimal-front, digit-is_not, strip-number, wildcard-number, op-number, tail, from_major, Gives, reads-major, reads-major_star, reads-minor, reads-minor_star, reads-patch}
+use Rattle.edit_version.proofs.ComparatorTexts.{decimal-front, digit-is_not, strip-number, wildcard-number, op-number, tail, from_major, Gives, reads-major, reads-major_star, reads-minor, reads-minor_star, reads-patch}
 
 -- ---- whole comparators
 

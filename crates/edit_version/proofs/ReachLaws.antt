@@ -16,8 +16,8 @@ use Rattle.semver.specs.declared.Op.{Op}
 use Rattle.semver.specs.declared.Op.TheVariants as op
 use Rattle.edit_version.specs.Admits.{accepts, admits, agrees, caret_after, is_given, names_pre, pre_reaches, tilde_patch}
 use Rattle.edit_version.specs.Requirement.{is_inequality, raised, raised_pre, renumbered}
-use Rattle.edit_version.proofs.Fixed.{none-first}
-use Rattle.edit_version.proofs.ReadingAgain.{read_pre, tidy}
+use Rattle.edit_version.proofs.FixedTexts.{none-first}
+use Rattle.edit_version.proofs.ComparatorReadings.{read_pre, tidy}
 use Rattle.edit_version.proofs.Shapes.{IsShaped}
 use Rattle.edit_version.proofs.Narrows.{left_of, right_of, both, pre-self, named-pre, read-given, or-cases, is_allowed}
 

@@ -18,13 +18,13 @@ use Rattle.edit_document.specs.Nodes.{Spot, StandsAt, below}
 use Rattle.edit_document.specs.Walk.{spot_at, target_of, with_taken, taken_again, with_member, with_element, added, element_added, numbered, asserted}
 use Rattle.edit_document.proofs.SamePlace.{not_root}
 use Rattle.edit_syntax.proofs.ListElements.{get_front, get_last, equal_or}
-use Rattle.edit_document.proofs.Adding.{child_is, target_other, added_long, added_made, element_long, element_made}
-use Rattle.edit_document.proofs.Reaching.{asserted_new, asserted_old}
+use Rattle.edit_document.proofs.SpotNodes.{child_is, target_other, added_long, added_made, element_long, element_made}
+use Rattle.edit_document.proofs.KeyFronts.{asserted_new, asserted_old}
 use Rattle.edit_document.proofs.MoreAssertions.{first_kind, allowed, IsClear, clash_last, short_last}
 use Rattle.edit_document.proofs.MoreMembers.{is_element, is_headed}
 use Rattle.edit_document.proofs.Trees.{Grows, grows_set, Gains}
-use Rattle.edit_document.proofs.Standing.{IsIndexed, noted, shape_of_kind, Stands, stands_again}
-use Rattle.edit_document.proofs.Gaining.{Shows, stands_gained, gained_grows, gained_last}
+use Rattle.edit_document.proofs.AssertedSpots.{IsIndexed, noted, shape_of_kind, Stands, stands_again}
+use Rattle.edit_document.proofs.NewAssertions.{Shows, stands_gained, gained_grows, gained_last}
 
 -- the spots stand for one assertion more, whose place has a number; or it clashes
 pub data Makes (made : List Assertion) (written : List Placed) (spots : List Spot) (a : Assertion) (more : List Placed) (r : Option (List Spot × ℕ)) : Type 0 where

@@ -12,11 +12,11 @@ use Rattle.edit_document.specs.Taking.{taken_of, joins}
 use Rattle.edit_document.specs.Nodes.{Spot, names_of, StandsAt, below}
 use Rattle.edit_document.specs.Walk.{spot_at}
 use Rattle.edit_document.proofs.SamePlace.{last_same, not_root, not_below, place_or}
-use Rattle.edit_document.proofs.Takings.{together_is}
+use Rattle.edit_document.proofs.TakenPairs.{together_is}
 use Rattle.edit_document.proofs.MoreAssertions.{kind_stays, kind_new, kind_else, kind_back, first_kind, first_stays, first_is, allowed_else, allowed_here, allowed_none, clear_more}
 use Rattle.edit_document.proofs.MoreMembers.{members_new, members_else, members_none, is_element, is_headed, elements_below, elements_stay, elements_grow, elements_else, elements_none}
 use Rattle.edit_document.proofs.Trees.{Grows, Gains, grown, last_is, tree_gain, each_gain}
-use Rattle.edit_document.proofs.Standing.{IsIndexed, indexed_stays, noted, span_else, span_here, shape_of_kind, Tells, Stands, was_asserted, nothing_below_spot, nothing_under}
+use Rattle.edit_document.proofs.AssertedSpots.{IsIndexed, indexed_stays, noted, span_else, span_here, shape_of_kind, Tells, Stands, was_asserted, nothing_below_spot, nothing_under}
 
 abbrev pub is_index : Step → Bool
 is_index (key n) = false

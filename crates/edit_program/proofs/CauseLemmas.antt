@@ -15,7 +15,7 @@ use Rattle.edit_program.specs.Located.{IsFault, IsManifestAt, IsManifestPath, Is
 use Rattle.edit_program.specs.Located.IsManifestAt.{named, nearest}
 use Rattle.edit_program.specs.Upgrading.{IsIndexRead, IsManifestRead}
 use Rattle.edit_program.proofs.Faults.{fault_later}
-use Rattle.edit_program.proofs.Passing.{as_before}
+use Rattle.edit_program.proofs.PassedWords.{as_before}
 
 no_file : (o : Option (List ℕ)) → is_some o ≡ true → None ≡ o → ⊥
 no_file o some none = let bad : false ≡ true = subst (λ (x : Option (List ℕ)). is_some x ≡ true) (sym none) some in cc

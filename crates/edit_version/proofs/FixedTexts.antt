@@ -13,7 +13,7 @@ use Rattle.semver.specs.declared.Op.{Op}
 use Rattle.semver.specs.declared.Op.TheVariants as op
 use Rattle.edit_version.specs.Laws.{IsVersion}
 use Rattle.edit_version.specs.Requirement.{Nothing, Text, after_patch, comparator_text, dotted, is_inequality, led_as, more_text, raise, raise_all, raise_read, raised, raised_pre, renumbered, requirement_text, sign, star, starts_with_caret, unless_same, without_caret}
-use Rattle.edit_version.proofs.ReadingAgain.{IsSmall, IsWritable, caret-number, read_pre, reads-all, reads-unsigned-all, tidy}
+use Rattle.edit_version.proofs.ComparatorReadings.{IsSmall, IsWritable, caret-number, read_pre, reads-all, reads-unsigned-all, tidy}
 use Rattle.edit_version.proofs.Shapes.{IsShaped, req-shape}
 
 -- ---- raised comparators can be written
