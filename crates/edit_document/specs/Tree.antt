@@ -28,7 +28,7 @@ members_of made place = once (filter_map (λ a. step_from place a.place) made)
 pub data View : Type 0 where
   string : List ℕ → View
   truth : Bool → View
-  -- made written
+  -- as written
   whole : List ℕ → View
   fractional : List ℕ → View
   moment : List ℕ → View
@@ -80,7 +80,7 @@ view_in made (s ∷ ss) = option_map (view_of_kind made (s ∷ ss)) (kind_at mad
 abbrev pub view_at : Text → Place → Option View
 view_at t place = view_in (assertions t) place
 
--- the place was written made a value behind an equals sign or made an array's element
+-- the place was written as a value behind an equals sign or as an array's element
 abbrev pub is_value_at : Text → Place → Bool
 is_value_at t place = list_any (λ a. same_place a.place place && is_leaf a.kind) (assertions t)
   where
