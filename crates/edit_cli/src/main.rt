@@ -4,7 +4,7 @@
 use edit_base::{CargoResult, Error};
 use edit_program::run;
 use edit_sources::HostStore;
-use std::io::ErrorKind;
+use std::io::{ErrorKind, Write};
 use std::process::ExitCode;
 use std::{env, io};
 
