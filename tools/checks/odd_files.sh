@@ -16,7 +16,7 @@ for odd in "$room/pipe" /dev/null /dev/zero; do
   status=0
   upgrade "$odd" "$first/index.json" || status=$?
   [ "$status" = 1 ] || { echo "$odd: status $status"; exit 1; }
-  [ "$(cat "$room/err")" = 'Error: Failed to get cargo file metadata' ] || { echo "$odd:"; cat "$room/err"; exit 1; }
+  [ "$(head -n 1 "$room/err")" = 'Error: Failed to get cargo file metadata' ] || { echo "$odd:"; cat "$room/err"; exit 1; }
 done
 mkdir -p "$room/above/in/the/way"
 mkfifo "$room/above/in/Cargo.toml"

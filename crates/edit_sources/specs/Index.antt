@@ -48,10 +48,6 @@ RefusesLook old new address name e =
     IsMemory e
     ⊎ (IsGivenRefusal old.gives address name e ⊎ ((number_of e ≡ 3) × raised old.faults new.faults))
 
--- the same, without the count (own)
-abbrev pub IsLookError : Outcomes → Parts → List ℕ → Error → Type 0
-IsLookError gives address name e = IsMemory e ⊎ (IsGivenRefusal gives address name e ⊎ (number_of e ≡ 3))
-
 -- the count of faults never falls, and a look is refused only for such a cause (own)
 pub record HasLookCause {T : Type 0} (old new : IndexView) (address : Parts) (name : List ℕ)
     (result : Result T Error) : Type 0 where
