@@ -5,6 +5,7 @@ pub mod FileLemmas
 pub mod FirstLemmas
 pub mod FolderLemmas
 pub mod FrontLemmas
+pub mod LineLemmas
 pub mod NameLemmas
 pub mod RankLemmas
 pub mod SourceLemmas

@@ -7,7 +7,7 @@ use crate::replace::replace;
 use crate::store::{Kind, Store};
 use edit_document::errors::{CargoResult, DeviceCall, Error};
 use std::alloc::Global;
-use std::fs::Files;
+use std::fs::{File, Files};
 use std::io::ErrorKind;
 use std::{fs, io};
 
@@ -18,7 +18,7 @@ pub struct HostStore<R> {
     failed: u64,
 }
 
-impl<R: Files + Alloc<A = Global> + Drop> HostStore<R> {
+impl<R: Files<File = File> + Alloc<A = Global> + Drop> HostStore<R> {
     ghost use Rattle.edit_sources.specs.Host.{host_faults};
 
     /// The files that the runtime reaches.
@@ -40,7 +40,7 @@ impl<R: Files + Alloc<A = Global> + Drop> HostStore<R> {
     }
 }
 
-impl<R: Files + Alloc<A = Global> + Drop> Store for HostStore<R> {
+impl<R: Files<File = File> + Alloc<A = Global> + Drop> Store for HostStore<R> {
     ghost tells = { λ _. false };
 
     ghost file_at = { λ _ _. None };
@@ -49,8 +49,9 @@ impl<R: Files + Alloc<A = Global> + Drop> Store for HostStore<R> {
 
     fn kind(&mut self, _alloc: Global, path: &str) -> CargoResult<Kind> {
         match fs::metadata(&self.rt, path) {
+            Ok(metadata) if metadata.is_file() => Ok(Kind::File),
             Ok(metadata) if metadata.is_dir() => Ok(Kind::Folder),
-            Ok(_) => Ok(Kind::File),
+            Ok(_) => Ok(Kind::Absent),
             Err(error) if is_absent(error.kind()) => Ok(Kind::Absent),
             Err(error) => Err(self.refused(DeviceCall::Kind, error)),
         }

@@ -12,13 +12,7 @@ use edit_record::fetch::IndexVersion;
 use serde_json::Value;
 use std::alloc::{AllocError, Global};
 
-/// The lines of a file.
-fn lines<'a>(alloc: Global, bytes: &'a [u8]) -> Result<Vec<&'a [u8]>, AllocError>
-    ensures { IfOk result (λ v. map (λ x. x.now) v.items ≡ lines_of bytes.now) }
-{
-    bytes.split(|b| *b == b'\n').collect(alloc)
-}
-
+/// Whether a line has nothing but spaces, tabs and carriage returns.
 fn blank(line: &[u8]) -> bool
     ensures { result ≡ is_blank line.now }
 {
@@ -58,6 +52,7 @@ fn rust_version<'a>(value: Option<&'a Value>) -> Option<Option<&'a str>>
     }
 }
 
+/// A text that need not be there, on memory of its own.
 fn copied(alloc: Global, text: Option<&str>) -> Result<Option<String>, AllocError>
     ensures { IfOk result (λ t. option_map string_bytes t ≡ option_map (λ s. s.now) text.entry) }
 {
@@ -104,16 +99,8 @@ pub fn read_lines(alloc: Global, bytes: &[u8]) -> CargoResult<Vec<IndexVersion>>
     ensures entries { IfOk result (λ v. LinesSay (lines_of bytes.now) (map entry_of v.items)) }
     ensures refused { IfErr result (RefusesLines (lines_of bytes.now)) }
 {
-    let lines = lines(alloc, bytes)?;
-    read_each(alloc, &lines)
-}
-
-fn read_each(alloc: Global, lines: &[&[u8]]) -> CargoResult<Vec<IndexVersion>>
-    ensures entries { IfOk result (λ v. LinesSay (map (λ x. x.now) lines.now) (map entry_of v.items)) }
-    ensures refused { IfErr result (RefusesLines (map (λ x. x.now) lines.now)) }
-{
-    let mut entries = Vec::with_capacity(alloc, lines.len())?;
-    for (i, line) in lines.iter().enumerate() {
+    let mut entries = Vec::new(alloc);
+    'lines: for (i, line) in bytes.split(|b| *b == b'\n').enumerate() {
         if blank(line) {
             continue;
         }

@@ -2,6 +2,7 @@
 //! configurations name.
 #![tactic(auto)]
 
+mod beside;
 pub mod cache;
 pub mod config;
 mod crate_name;

@@ -1,18 +1,17 @@
 //! How a file of the machine is written, so that a fault leaves the old bytes whole.
+use crate::beside::make_beside;
 use std::alloc::Global;
-use std::fs::{Files, Metadata, OpenFile, OpenOptions};
+use std::fs::{File, Files, Metadata, OpenOptions};
 use std::io::{ErrorKind, Write};
-use std::os::unix::fs::{MetadataExt, OpenOptionsExt, chown};
+use std::os::unix::fs::{MetadataExt, chown};
 use std::{fs, io};
-
-/// How many names beside a file are tried.
-const NAMES: u32 = 16;
 
 /// Writes a whole file, a link followed.
 ///
 /// The bytes are written beside the file, flushed to the disk, and moved over it. A file that does
-/// not stand yet, that is no regular file, or beside which none can be made, is written in place.
-pub(crate) fn replace<R: Files + Alloc<A = Global>>(
+/// not stand yet, or in whose folder none may be made, is written in place. What is no regular file
+/// is refused.
+pub(crate) fn replace<R: Files<File = File> + Alloc<A = Global>>(
     rt: &R,
     alloc: Global,
     path: &str,
@@ -26,7 +25,7 @@ pub(crate) fn replace<R: Files + Alloc<A = Global>>(
     let target = target.as_path().as_str();
     let old = fs::metadata(rt, target)?;
     if !old.is_file() {
-        return fs::write(rt, target, bytes);
+        return Err(io::Error::from(ErrorKind::InvalidInput));
     }
     may_write(rt, target, &old)?;
     match make_beside(rt, alloc, target)? {
@@ -44,33 +43,10 @@ fn may_write<R: Files>(rt: &R, path: &str, old: &Metadata) -> io::Result<()> {
     Ok(())
 }
 
-/// A new empty file beside a file, and its path; none where none can be made.
-fn make_beside<R: Files>(
-    rt: &R,
-    alloc: Global,
-    path: &str,
-) -> io::Result<Option<(R::File, String)>> {
-    for n in 0..NAMES {
-        let name = format!(in alloc; "{path}.new-{n}")?;
-        let made = OpenOptions::new()
-            .write(true)
-            .create_new(true)
-            .mode(0o600)
-            .open(rt, name.as_str());
-        match made {
-            Ok(file) => return Ok(Some((file, name))),
-            Err(error) if error.kind() == ErrorKind::AlreadyExists => {}
-            Err(error) if error.kind() == ErrorKind::OutOfMemory => return Err(error),
-            Err(_) => return Ok(None),
-        }
-    }
-    Ok(None)
-}
-
 /// Fills the file beside and moves it over the other one. It is removed where a step fails.
-fn move_over<R: Files>(
+fn move_over<R: Files<File = File>>(
     rt: &R,
-    file: &mut R::File,
+    file: &mut File,
     beside: &str,
     path: &str,
     old: &Metadata,
@@ -87,9 +63,9 @@ fn move_over<R: Files>(
 }
 
 /// Writes the bytes to the disk, and gives the file the owner and the permissions of the old one.
-fn fill<R: Files>(
+fn fill<R: Files<File = File>>(
     rt: &R,
-    file: &mut R::File,
+    file: &mut File,
     beside: &str,
     old: &Metadata,
     bytes: &[u8],

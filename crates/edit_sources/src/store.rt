@@ -6,7 +6,8 @@ ghost use Rattle.edit_sources.specs.Store.{HasCause, SameFiles, SameBut, StandsA
 use edit_document::errors::{CargoResult, DeviceCall};
 use std::alloc::Global;
 
-/// What stands at a path.
+/// What stands at a path: a regular file, a folder, or neither. A pipe or a device of the machine is
+/// neither.
 #[derive(Clone, Copy, Debug, PartialEq, Eq)]
 pub enum Kind {
     File,
