@@ -7,5 +7,6 @@ pub mod FolderLemmas
 pub mod FrontLemmas
 pub mod LineLemmas
 pub mod NameLemmas
+pub mod OutcomeLemmas
 pub mod RankLemmas
 pub mod SourceLemmas

@@ -4,6 +4,10 @@ use Rattle.std.specs.List.{list_any}
 use Rattle.std.specs.Str.{IsUtf8}
 use Rattle.percent_encoding.specs.Percent.{percent_decode}
 use Rattle.url.specs.Parts.{Parts, has_host}
+use Rattle.edit_document.specs.declared.errors.Error.{Error}
+use Rattle.edit_document.specs.declared.errors.Error.TheVariants.{IndexLine}
+use Rattle.edit_document.specs.Errors.{number_of}
+use Rattle.edit_record.specs.IndexEntry.{IndexEntry}
 use Rattle.edit_sources.specs.Index.{Outcome}
 use Rattle.edit_sources.specs.IndexLines.{LinesSay, IsBadLine, lines_of}
 use Rattle.edit_sources.specs.Names.{is_crate_name, layout}
@@ -60,8 +64,36 @@ HasNoIndexPath address name n =
 abbrev pub StandsIn : Bool → Files → List ℕ → List ℕ → Type 0
 StandsIn tells files path bytes = tells ≡ true → files path ≡ Some bytes
 
--- what a look gives: none where no file stands, the entries of its lines, a refusal of the path, or 30 for a bad line (own)
+-- a name has no file at an address (own)
+pub record HasNoFile (tells : Bool) (files : Files) (address : Parts) (name : List ℕ) : Type 0 where
+  pub path : List ℕ
+  pub at : IsIndexPath address name path
+  pub absent : tells ≡ true → files path ≡ None
+
+-- the lines of the file of a name say these entries (own)
+pub record HasEntries (tells : Bool) (files : Files) (address : Parts) (name : List ℕ) (entries : List IndexEntry) : Type 0 where
+  pub path : List ℕ
+  pub bytes : List ℕ
+  pub at : IsIndexPath address name path
+  pub stands : StandsIn tells files path bytes
+  pub say : LinesSay (lines_of bytes) entries
+
+-- the first bad line of the file of a name has this number (own)
+pub record HasBadLine (tells : Bool) (files : Files) (address : Parts) (name : List ℕ) (line : ℕ) : Type 0 where
+  pub path : List ℕ
+  pub bytes : List ℕ
+  pub at : IsIndexPath address name path
+  pub stands : StandsIn tells files path bytes
+  pub bad : IsBadLine (lines_of bytes) line
+
+-- what a look gives: no file, the entries of its lines, a refusal of the path, or 30 for a bad line (own)
 abbrev pub LocalGives : Bool → Files → Parts → List ℕ → Outcome → Type 0
-LocalGives tells files address name (Ok None) = (path : List ℕ) × IsIndexPath address name path × (tells ≡ true → files path ≡ None)
-LocalGives tells files address name (Ok (Some entries)) = (path : List ℕ) × (bytes : List ℕ) × IsIndexPath address name path × StandsIn tells files path bytes × LinesSay (lines_of bytes) entries
-LocalGives tells files address name (Err n) = HasNoIndexPath address name n ⊎ ((n ≡ 30) × ((path : List ℕ) × (bytes : List ℕ) × (line : ℕ) × IsIndexPath address name path × StandsIn tells files path bytes × IsBadLine (lines_of bytes) line))
+LocalGives tells files address name (Ok None) = HasNoFile tells files address name
+LocalGives tells files address name (Ok (Some entries)) = HasEntries tells files address name entries
+LocalGives tells files address name (Err n) =
+    HasNoIndexPath address name n ⊎ ((n ≡ 30) × ((line : ℕ) × HasBadLine tells files address name line))
+
+-- a refusal 30 has the number of the first bad line (own)
+abbrev pub NumbersLine : Bool → Files → Parts → List ℕ → Error → Type 0
+NumbersLine tells files address name e =
+    number_of e ≡ 30 → (line : ℕ) × (e ≡ IndexLine line) × HasBadLine tells files address name line

@@ -1,5 +1,8 @@
 //! An index in files, one for each name.
-ghost use Rattle.std.specs.Prelude.{◌≡◌};
+ghost use Rattle.std.specs.Prelude.{◌≡◌, Ok, IfOk, IfErr};
+ghost use Rattle.edit_sources.specs.ConfigurationFiles.{OnlyReads};
+ghost use Rattle.edit_sources.specs.Index.{HasLookCause, SameOutcomes, answer_of};
+ghost use Rattle.edit_sources.specs.LocalIndex.{LocalGives, NumbersLine, store_of};
 
 use crate::index::{Index, IndexKrate};
 use crate::index_lines::read_lines;
@@ -17,8 +20,6 @@ pub struct LocalIndex<S> {
 }
 
 impl<S: Store> LocalIndex<S> {
-    ghost use Rattle.edit_sources.specs.LocalIndex.{store_of};
-
     /// An index in the files of a store.
     pub fn new(store: S) -> LocalIndex<S>
         ensures { store_of result ≡ store }
@@ -28,18 +29,23 @@ impl<S: Store> LocalIndex<S> {
 }
 
 impl<S: Store> Index for LocalIndex<S> {
-    ghost use Rattle.edit_sources.specs.LocalIndex.{LocalGives};
-
     ghost gives = { λ i. LocalGives (S.tells i.store) (S.file_at i.store) };
 
     ghost faults = { λ i. S.faults i.store };
 
-    fn look(
-        &mut self,
-        alloc: Global,
-        registry: &Url,
-        name: &str,
-    ) -> CargoResult<Option<IndexKrate>> {
+    fn look(&mut self, alloc: Global, registry: &Url, name: &str) -> CargoResult<Option<IndexKrate>>
+        ensures same { SameOutcomes (LocalGives (S.tells (store_of self.old)) (S.file_at (store_of self.old)))
+            (LocalGives (S.tells (store_of self.new)) (S.file_at (store_of self.new))) }
+        ensures given { IfOk result (λ k. LocalGives (S.tells (store_of self.old)) (S.file_at (store_of self.old))
+            registry.now name.now (Ok (answer_of k))) }
+        ensures cause { HasLookCause (LocalGives (S.tells (store_of self.old)) (S.file_at (store_of self.old)))
+            registry.now name.now (S.faults (store_of self.old)) (S.faults (store_of self.new)) result }
+        // no file changes
+        ensures reads { OnlyReads (S.tells (store_of self.old)) (S.tells (store_of self.new)) (S.file_at (store_of self.old))
+            (S.file_at (store_of self.new)) (S.faults (store_of self.old)) (S.faults (store_of self.new)) }
+        // a refusal 30 names the first bad line
+        ensures line { IfErr result (NumbersLine (S.tells (store_of self.old)) (S.file_at (store_of self.old)) registry.now name.now) }
+    {
         let path = match index_path(alloc, registry, name) {
             Ok(path) => path,
             Err(error) => return Err(error),

@@ -1,9 +1,12 @@
 //! Files of the machine, below a folder of a test's own.
-use super::steps::step;
+use super::steps::{step, write};
 use super::unmoved::Unmoved;
 use crate::fields::{field, same, text};
+use edit_document::paths::folder as folder_of;
 use edit_sources::{HostStore, Store};
-use std::fs::Permissions;
+use std::alloc::Global;
+use std::fs::{File, Permissions};
+use std::io::Write;
 use std::os::unix::fs::{MetadataExt, PermissionsExt, symlink};
 use std::process::Abort;
 use std::test::Fail;
@@ -24,7 +27,7 @@ not for all|set mode|/b|640|done
 a new text|write|/b|two|written
 it is there|read|/b||two
 the permissions stay|mode|/b||640
-no file beside|kind|/b.new-0||absent
+no file beside|kind|/cargo-edit.new-0||absent
 for reading alone|set mode|/b|444|done
 no fault yet|faults|||0
 may not be written|write|/b|three|3 Failed to write updated Cargo.toml
@@ -41,10 +44,23 @@ no file can be made in it|set mode|/d|555|done
 written in place|write|/d/e|two|written
 as before|set mode|/d|755|done
 the text in place|read|/d/e||two
+what killed runs left|leave|/d/e||done
+written beside|write|/d/e|three|written
+the new text|read|/d/e||three
+the first name is free again|kind|/d/cargo-edit.new-0||absent
+what another run fills|held|/d/e|four|written
+the newer text|read|/d/e||four
+it is not taken|read|/d/cargo-edit.new-0||held
 each name beside it|crowd|/d/e||done
-in place again|write|/d/e|three|written
-the new text in place|read|/d/e||three
-a file beside stays|read|/d/e.new-3||taken";
+a second name|same|/d/e||done
+not in place|write|/d/e|five|written
+the newest text|read|/d/e||five
+the second name parts|read|/d/e.same||four
+no further file|kind|/d/cargo-edit.new-16||absent
+a device is no file|kind|/../../dev/null||absent
+a device has a text|read|/../../dev/null||
+a device is not written|write|/../../dev/null|six|3 Failed to write updated Cargo.toml
+a second fault|faults|||2";
 
 /// A new folder of the test's own.
 pub(crate) fn folder(rt: &HostRuntime, name: &str) -> Result<String, Fail> {
@@ -68,13 +84,49 @@ fn link(rt: &HostRuntime, path: &str) -> Result<(), Fail> {
     Ok(())
 }
 
-/// Takes each name beside a file.
-fn crowd(rt: &HostRuntime, path: &str) -> Result<(), Fail> {
+/// The path of a name beside a file.
+fn beside(alloc: Global, path: &str, n: u32) -> Result<String, Fail> {
+    let folder = folder_of(path);
+    Ok(format!(in alloc; "{folder}/cargo-edit.new-{n}")?)
+}
+
+/// Leaves files beside a file, as runs that are killed do.
+fn leave(rt: &HostRuntime, path: &str) -> Result<(), Fail> {
     for n in 0..16u32 {
-        let beside = format!(in rt.alloc(); "{path}.new-{n}")?;
-        fs::write(rt, beside.as_str(), "taken")?;
+        fs::write(rt, beside(rt.alloc(), path, n)?.as_str(), "taken")?;
     }
     Ok(())
+}
+
+/// Takes each name beside a file by a folder, which no run leaves.
+fn crowd(rt: &HostRuntime, path: &str) -> Result<(), Fail> {
+    for n in 0..16u32 {
+        let name = beside(rt.alloc(), path, n)?;
+        let _ = fs::remove_file(rt, name.as_str());
+        fs::create_dir(rt, name.as_str())?;
+    }
+    Ok(())
+}
+
+/// Gives a file a second name.
+fn name_again(rt: &HostRuntime, path: &str) -> Result<(), Fail> {
+    let name = format!(in rt.alloc(); "{path}.same")?;
+    fs::hard_link(rt, path, name.as_str())?;
+    Ok(())
+}
+
+/// What a write gives while another run fills the first file beside.
+fn write_held<S: Store>(
+    rt: &HostRuntime,
+    store: &mut S,
+    path: &str,
+    row: &str,
+) -> Result<String, Fail> {
+    let name = beside(rt.alloc(), path, 0)?;
+    let mut file = File::create(rt, name.as_str())?;
+    file.write_all(b"held")?;
+    file.lock()?;
+    write(rt.alloc(), store, path, field(row, 3))
 }
 
 /// A file's permissions, in octal digits.
@@ -96,7 +148,9 @@ fn change(rt: &HostRuntime, path: &str, row: &str) -> Result<bool, Fail> {
         "folder" => fs::create_dir(rt, path)?,
         "set mode" => set_mode(rt, path, field(row, 3))?,
         "link" => link(rt, path)?,
+        "leave" => leave(rt, path)?,
         "crowd" => crowd(rt, path)?,
+        "same" => name_again(rt, path)?,
         _ => return Ok(false),
     }
     Ok(true)
@@ -115,6 +169,7 @@ fn outcome<S: Store>(
     match field(row, 1) {
         "mode" => mode(rt, path),
         "is link" => is_link(rt, path),
+        "held" => write_held(rt, store, path, row),
         _ => step(rt.alloc(), store, path, row),
     }
 }
@@ -161,7 +216,7 @@ an old file|put|/a|old|done
 the new one is not moved|write|/a|new|3 Failed to write updated Cargo.toml
 a fault|faults|||1
 the old text|read|/a||old
-no file beside|kind|/a.new-0||absent";
+no file beside|kind|/cargo-edit.new-0||absent";
 
 #[test]
 fn removes_the_file_beside(rt: HostRuntime) -> Result<(), Fail> {

@@ -26,7 +26,12 @@ fn read<S: Store>(alloc: Global, store: &mut S, path: &str) -> Result<String, Fa
 }
 
 /// What becomes of a write.
-fn write<S: Store>(alloc: Global, store: &mut S, path: &str, new: &str) -> Result<String, Fail> {
+pub(crate) fn write<S: Store>(
+    alloc: Global,
+    store: &mut S,
+    path: &str,
+    new: &str,
+) -> Result<String, Fail> {
     match store.write(alloc, path, new.as_bytes()) {
         Ok(()) => text(alloc, "written"),
         Err(error) => told(alloc, error),
