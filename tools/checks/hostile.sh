@@ -5,9 +5,9 @@ room=$(mktemp -d)
 trap 'rm -rf "$room"' EXIT
 ulimit -s 1024
 printf '{"name":"a","vers":"1.0.0"}\n' > "$room/index.json"
-refused() { # name, status wanted
+refused() { # name, status wanted, and in how many seconds
   status=0
-  timeout 10 "$PROGRAM" upgrade --manifest-path "$room/Cargo.toml" --index-file "$room/index.json" 2> "$room/err" || status=$?
+  timeout "${3:-10}" "$PROGRAM" upgrade --manifest-path "$room/Cargo.toml" --index-file "$room/index.json" 2> "$room/err" || status=$?
   [ "$status" = "$2" ] || { echo "$1: status $status in place of $2"; cat "$room/err"; exit 1; }
 }
 PROGRAM=$1
@@ -29,6 +29,9 @@ done
 { repeat '[[a]]
 ' 100000; } > "$room/Cargo.toml"
 refused '100,000 elements' 0
+# names that one hash, of a seed that is known, would put at one place of a table
+awk 'BEGIN { for (i = 0; i < 50000; i++) printf "VCt84XxmJ16jGQv_PwRfGXPs%08d = 1\n", i }' > "$room/Cargo.toml"
+refused '50,000 names that collide' 0 2
 { printf 'a = "'; repeat x 1000000; printf '"\n'; } > "$room/Cargo.toml"
 refused 'a line of a megabyte' 0
 text='[dependencies]\nserde = { version = '"'"'1.0'"'"', optional = true } # keep\n'

@@ -1,10 +1,10 @@
 -- What assertions make of spots and of the nodes that keep them.
-use Rattle.std.proofs.Common.{◌≡◌, ℕ, zero, suc, ◌+◌, ◌<◌, ◌≤◌, true, false, cond, List, [], ◌∷◌, ◌++◌, length, get_or, Option, Some, None, refl, sym, ap, subst, ◌∙◌, arith, String, Global}
-use Rattle.std.specs.Prelude.{map, slice_get, slice_set, string_bytes, nat_le, unwrap_or}
+use Rattle.std.proofs.Common.{◌≡◌, ℕ, zero, suc, ◌+◌, ◌<◌, ◌≤◌, true, false, List, [], ◌∷◌, ◌++◌, length, get_or, Option, Some, None, refl, sym, ap, subst, ◌∙◌, arith}
+use Rattle.std.specs.Prelude.{slice_get, slice_set, nat_le, unwrap_or}
 use Rattle.std.specs.Map.{lookup}
 use Rattle.std.specs.Str.{bytes_eq}
 use Rattle.std.proofs.lemmas.Bool.Decides.{nat_tests}
-use Rattle.std.proofs.lemmas.List.{length-set, length_push, map-append}
+use Rattle.std.proofs.lemmas.List.{length-set, length_push}
 use Rattle.std.proofs.lemmas.Option.{slice_get_past, slice_get_read, same_Some}
 use Rattle.edit_document.specs.declared.nodes.Node.{Node}
 use Rattle.edit_document.specs.declared.nodes.Span.{Span}
@@ -13,7 +13,7 @@ use Rattle.edit_document.specs.declared.nodes.Taken.{Taken}
 use Rattle.edit_document.specs.declared.nodes.Taken.TheVariants.{Dotted, Value, Super, Header, Array, Element}
 use Rattle.edit_document.specs.Assertions.{key, index, Place, at}
 use Rattle.edit_document.specs.Taking.{joins, stronger}
-use Rattle.edit_document.specs.Nodes.{Shape, Spot, shape_of, entries_of, number_in, Keeps, Holds, below}
+use Rattle.edit_document.specs.Nodes.{Shape, Spot, shape_of, entries_of, number_in, IsIndexed, Keeps, Holds, below}
 use Rattle.edit_document.specs.Walk.{last_table, spot_at, child, target_of, with_taken, taken_again, with_member, with_element, added, element_added}
 use Rattle.edit_document.specs.WalkState.{Adds}
 use Rattle.edit_document.proofs.ListElements.{OneMore, OneSet, changed, in_push, in_set, newest, other, stood}
@@ -86,17 +86,13 @@ again_done {text} nodes spots t node old taken now holds lt is was granted stron
     let test : joins k.spot.taken taken ≡ true = ap (λ (b : Taken). joins b taken) (sym k.keeps.taken) ∙ granted in
     let keeps : Keeps text (record old { taken = now }) (with_taken k.spot taken) =
     subst (λ (n : Node). Keeps text (record n { taken = now }) (with_taken k.spot taken)) (sym one)
-    (record { shape = k.keeps.shape; taken = strong ∙ ap (λ (b : Taken). stronger b taken) k.keeps.taken; steps = k.keeps.steps; members = k.keeps.members; elements = k.keeps.elements; span = k.keeps.span }) in
+    (record { shape = k.keeps.shape; taken = strong ∙ ap (λ (b : Taken). stronger b taken) k.keeps.taken; steps = k.keeps.steps; members = k.keeps.members; indexed = k.keeps.indexed; elements = k.keeps.elements; span = k.keeps.span }) in
     (slice_set spots t (with_taken k.spot taken), rw (k.spot_is, test) refl, holds_set nodes spots t (record old { taken = now }) (with_taken k.spot taken) holds lt keeps)
 
 -- ---- members by name
 
-lookup_seen : {X : Type 0} (es : List (String Global × X)) (name : List ℕ) → lookup (λ n. bytes_eq name n) (map (λ e. (string_bytes e.0, e.1)) es) ≡ lookup (λ a. bytes_eq name (string_bytes a)) es
-lookup_seen [] name = refl
-lookup_seen {X} (e ∷ es) name = ap (λ (o : Option X). cond (bytes_eq name (string_bytes e.0)) (Some e.1) o) (lookup_seen es name)
-
-pub below_node : {text : List ℕ} (node : Node) (s : Spot) (name : List ℕ) → Keeps text node s → below s (key name) ≡ number_in (entries_of node.members) name
-below_node node s name k = ap (lookup (λ n. bytes_eq name n)) (sym k.members) ∙ lookup_seen (entries_of node.members) name
+pub below_node : {text : List ℕ} (node : Node) (s : Spot) (name : List ℕ) → Keeps text node s → below s (key name) ≡ number_in (entries_of text node.members) name
+below_node node s name k = ap (lookup (λ n. bytes_eq name n)) (sym k.members)
 
 pub child_past : {text : List ℕ} (nodes : List Node) (spots : List Spot) (t : ℕ) (name : List ℕ) → Holds text nodes spots → length nodes ≤ t → child spots t name ≡ None
 unfolding child
@@ -106,7 +102,7 @@ pub child_is : (spots : List Spot) (t : ℕ) (s : Spot) (name : List ℕ) → sl
 unfolding child
 child_is spots t s name e = rw e refl
 
-pub child_found : {text : List ℕ} (nodes : List Node) (spots : List Spot) (t : ℕ) (node : Node) (name : List ℕ) → Holds text nodes spots → t < length nodes → node ≡ get_or nodes t node → child spots t name ≡ number_in (entries_of node.members) name
+pub child_found : {text : List ℕ} (nodes : List Node) (spots : List Spot) (t : ℕ) (node : Node) (name : List ℕ) → Holds text nodes spots → t < length nodes → node ≡ get_or nodes t node → child spots t name ≡ number_in (entries_of text node.members) name
 child_found nodes spots t node name holds lt is =
     let k = kept_at nodes spots t node holds lt is in
     child_is spots t k.spot name k.spot_is ∙ below_node node k.spot name k.keeps
@@ -162,62 +158,64 @@ add_stopped nodes spots t node name shape taken span holds lt is le =
     let k = kept_at nodes spots t node holds lt is in
     added_long spots t name shape taken span k.spot k.spot_is (let e = k.keeps.steps in omega arith)
 
--- a node into whose members a key was inserted, where none of its name was
-pub record Inserted (old new : Node) (key : String Global) (count : ℕ) : Type 0 where
+-- a node into whose members a name was inserted, where it was not
+pub record Inserted (text : List ℕ) (old new : Node) (name : List ℕ) (count : ℕ) : Type 0 where
   pub content : new.content ≡ old.content
   pub taken : new.taken ≡ old.taken
   pub steps : new.steps ≡ old.steps
   pub span : new.span ≡ old.span
   pub elements : new.elements ≡ old.elements
-  pub entries : entries_of new.members ≡ entries_of old.members ++ (key, count) ∷ []
+  pub entries : entries_of text new.members ≡ entries_of text old.members ++ (name, count) ∷ []
+  pub indexed : IsIndexed text new.members
 
 -- a node without members, one step below another
-pub record Starts (new : Node) (content : Content) (taken : Taken) (steps : ℕ) (span : Option Span) : Type 0 where
+pub record Starts (text : List ℕ) (new : Node) (content : Content) (taken : Taken) (steps : ℕ) (span : Option Span) : Type 0 where
   pub content_is : new.content ≡ content
   pub taken_is : new.taken ≡ taken
   pub steps_are : new.steps ≡ steps + 1
   pub span_is : new.span ≡ span
-  pub empty : entries_of new.members ≡ []
+  pub empty : entries_of text new.members ≡ []
+  pub indexed : IsIndexed text new.members
   pub none : new.elements.items ≡ []
 
-starts_keeps : (text : List ℕ) (new : Node) (content : Content) (taken : Taken) (steps : ℕ) (span : Option Span) (place : Place) → Starts new content taken steps span → length place ≡ steps + 1 → Keeps text new (spot_at place (shape_of text content) taken span)
+starts_keeps : (text : List ℕ) (new : Node) (content : Content) (taken : Taken) (steps : ℕ) (span : Option Span) (place : Place) → Starts text new content taken steps span → length place ≡ steps + 1 → Keeps text new (spot_at place (shape_of text content) taken span)
 starts_keeps text new content taken steps span place h e = record {
   shape = ap (shape_of text) h.content_is;
   taken = h.taken_is;
   steps = h.steps_are ∙ sym e;
-  members = ap (map (λ (e : String Global × ℕ). (string_bytes e.0, e.1))) h.empty;
+  members = h.empty;
+  indexed = h.indexed;
   elements = h.none;
   span = h.span_is;
 }
 
-gained_keeps : {text : List ℕ} (old new : Node) (k : String Global) (count : ℕ) (s : Spot) → Keeps text old s → Inserted old new k count → Keeps text new (with_member s (string_bytes k) count)
-gained_keeps {text} old new k count s keeps i =
+gained_keeps : {text : List ℕ} (old new : Node) (name : List ℕ) (count : ℕ) (s : Spot) → Keeps text old s → Inserted text old new name count → Keeps text new (with_member s name count)
+gained_keeps {text} old new name count s keeps i =
     record {
       shape = ap (shape_of text) i.content ∙ keeps.shape;
       taken = i.taken ∙ keeps.taken;
       steps = i.steps ∙ keeps.steps;
-      members =
-          ap (map (λ (e : String Global × ℕ). (string_bytes e.0, e.1))) i.entries ∙ map-append (λ (e : String Global × ℕ). (string_bytes e.0, e.1)) (entries_of old.members) ((k, count) ∷ [])
-          ∙ ap (λ (ms : List (List ℕ × ℕ)). ms ++ (string_bytes k, count) ∷ []) keeps.members;
+      members = i.entries ∙ ap (λ (ms : List (List ℕ × ℕ)). ms ++ (name, count) ∷ []) keeps.members;
+      indexed = i.indexed;
       elements = ap (λ v. v.items) i.elements ∙ keeps.elements;
       span = i.span ∙ keeps.span;
     }
 
-pub add_done : {text : List ℕ} (nodes nodes2 : List Node) (spots : List Spot) (t count : ℕ) (old node2 last : Node) (name : String Global) (content : Content) (taken : Taken) (span : Option Span) → Holds text nodes spots → t < count → count ≡ length nodes
-    → old ≡ get_or nodes t old → old.steps < 80 → Inserted old node2 name count → Starts last content taken old.steps span → nodes2 ≡ slice_set nodes t node2 ++ last ∷ []
-    → (made : List Spot) × (added spots t (string_bytes name) (shape_of text content) taken span ≡ Some (made, count)) × Holds text nodes2 made
+pub add_done : {text : List ℕ} (nodes nodes2 : List Node) (spots : List Spot) (t count : ℕ) (old node2 last : Node) (name : List ℕ) (content : Content) (taken : Taken) (span : Option Span) → Holds text nodes spots → t < count → count ≡ length nodes
+    → old ≡ get_or nodes t old → old.steps < 80 → Inserted text old node2 name count → Starts text last content taken old.steps span → nodes2 ≡ slice_set nodes t node2 ++ last ∷ []
+    → (made : List Spot) × (added spots t name (shape_of text content) taken span ≡ Some (made, count)) × Holds text nodes2 made
 add_done {text} nodes nodes2 spots t count old node2 last name content taken span holds lt size was few inserted starts made =
     let lt2 : t < length nodes = omega arith in
     let k = kept_at nodes spots t old holds lt2 was in
     let number : count ≡ length spots = size ∙ holds.len in
-    let long : length (at k.spot.place (key (string_bytes name))) ≡ old.steps + 1 = length_push k.spot.place (key (string_bytes name)) ∙ ap (λ (n : ℕ). n + 1) (sym k.keeps.steps) in
-    let first = holds_set nodes spots t node2 (with_member k.spot (string_bytes name) count) holds lt2 (gained_keeps old node2 name count k.spot k.keeps inserted) in
-    let both = holds_push (slice_set nodes t node2) (slice_set spots t (with_member k.spot (string_bytes name) count)) last (spot_at (at k.spot.place (key (string_bytes name))) (shape_of text content) taken span) first (starts_keeps text last content taken old.steps span (at k.spot.place (key (string_bytes name))) starts long) in
+    let long : length (at k.spot.place (key name)) ≡ old.steps + 1 = length_push k.spot.place (key name) ∙ ap (λ (n : ℕ). n + 1) (sym k.keeps.steps) in
+    let first = holds_set nodes spots t node2 (with_member k.spot name count) holds lt2 (gained_keeps old node2 name count k.spot k.keeps inserted) in
+    let both = holds_push (slice_set nodes t node2) (slice_set spots t (with_member k.spot name count)) last (spot_at (at k.spot.place (key name)) (shape_of text content) taken span) first (starts_keeps text last content taken old.steps span (at k.spot.place (key name)) starts long) in
     let fits : length k.spot.place < 80 = (let e = k.keeps.steps in omega arith) in (
-      slice_set spots t (with_member k.spot (string_bytes name) count) ++ spot_at (at k.spot.place (key (string_bytes name))) (shape_of text content) taken span ∷ [],
-      added_made spots t (string_bytes name) (shape_of text content) taken span k.spot k.spot_is fits
-          ∙ ap (λ (n : ℕ). Some (slice_set spots t (with_member k.spot (string_bytes name) n) ++ spot_at (at k.spot.place (key (string_bytes name))) (shape_of text content) taken span ∷ [], n)) (sym number),
-      subst (λ (ns : List Node). Holds text ns (slice_set spots t (with_member k.spot (string_bytes name) count) ++ spot_at (at k.spot.place (key (string_bytes name))) (shape_of text content) taken span ∷ [])) (sym made) both,
+      slice_set spots t (with_member k.spot name count) ++ spot_at (at k.spot.place (key name)) (shape_of text content) taken span ∷ [],
+      added_made spots t name (shape_of text content) taken span k.spot k.spot_is fits
+          ∙ ap (λ (n : ℕ). Some (slice_set spots t (with_member k.spot name n) ++ spot_at (at k.spot.place (key name)) (shape_of text content) taken span ∷ [], n)) (sym number),
+      subst (λ (ns : List Node). Holds text ns (slice_set spots t (with_member k.spot name count) ++ spot_at (at k.spot.place (key name)) (shape_of text content) taken span ∷ [])) (sym made) both,
     )
 
 pub element_past : {text : List ℕ} (nodes : List Node) (spots : List Spot) (t : ℕ) (shape : Shape) (taken : Taken) (span : Option Span) → Holds text nodes spots → length nodes ≤ t → element_added spots t shape taken span ≡ None
@@ -252,13 +250,14 @@ extended_keeps {text} old new count s keeps i = record {
   shape = ap (shape_of text) i.content ∙ keeps.shape;
   taken = i.taken ∙ keeps.taken;
   steps = i.steps ∙ keeps.steps;
-  members = ap (λ m. map (λ (e : String Global × ℕ). (string_bytes e.0, e.1)) (entries_of m)) i.members ∙ keeps.members;
+  members = ap (entries_of text) i.members ∙ keeps.members;
+  indexed = subst (IsIndexed text) (sym i.members) keeps.indexed;
   elements = i.elements ∙ ap (λ (ns : List ℕ). ns ++ count ∷ []) keeps.elements;
   span = i.span ∙ keeps.span;
 }
 
 pub element_done : {text : List ℕ} (nodes nodes2 : List Node) (spots : List Spot) (t count : ℕ) (old node2 last : Node) (content : Content) (taken : Taken) (span : Option Span) → Holds text nodes spots → t < count → count ≡ length nodes → old ≡ get_or nodes t old → old.steps < 80 → Extended old node2 count
-    → Starts last content taken old.steps span → nodes2 ≡ slice_set nodes t node2 ++ last ∷ [] → (made : List Spot) × (element_added spots t (shape_of text content) taken span ≡ Some (made, count)) × Holds text nodes2 made
+    → Starts text last content taken old.steps span → nodes2 ≡ slice_set nodes t node2 ++ last ∷ [] → (made : List Spot) × (element_added spots t (shape_of text content) taken span ≡ Some (made, count)) × Holds text nodes2 made
 element_done {text} nodes nodes2 spots t count old node2 last content taken span holds lt size was few extended starts made =
     let lt2 : t < length nodes = omega arith in
     let k = kept_at nodes spots t old holds lt2 was in

@@ -1,16 +1,17 @@
 -- How the walk over marks ends an array or an inline table, takes one mark, and takes them all.
-use Rattle.std.proofs.Common.{◌≡◌, ℕ, ◌+◌, ◌-◌, ◌<◌, Bool, true, false, List, [], ◌∷◌, ◌++◌, length, take, drop, get_or, Option, Some, None, refl, sym, ap, subst, ◌∙◌, ◌⊎◌, inl, inr, length-append, arith, String, Global}
-use Rattle.std.specs.Prelude.{option_map, map, slice_get, slice_set, string_bytes}
+use Rattle.std.proofs.Common.{◌≡◌, ℕ, ◌+◌, ◌-◌, ◌<◌, Bool, true, false, List, [], ◌∷◌, ◌++◌, length, take, drop, get_or, Option, Some, None, refl, sym, ap, subst, ◌∙◌, ◌⊎◌, inl, inr, length-append, arith}
+use Rattle.std.specs.Prelude.{option_map, map, slice_get, slice_set}
 use Rattle.std.specs.List.{AllByRecursion}
 use Rattle.std.proofs.lemmas.Option.{slice_get_read, slice_get-get_or, slice_get_within}
 use Rattle.edit_document.specs.declared.nodes.Node.{Node}
 use Rattle.edit_document.specs.declared.nodes.Span.{Span}
+use Rattle.edit_document.specs.declared.nodes.Words.{Words}
 use Rattle.edit_document.specs.declared.walk.Walk.{Walk}
 use Rattle.edit_document.specs.declared.read.marks.Mark.{Mark}
 use Rattle.edit_document.specs.declared.read.marks.MarkKind.{MarkKind}
 use Rattle.edit_document.specs.declared.read.marks.MarkKind.TheVariants as kinds
 use Rattle.edit_document.specs.Reading.{◌>>=◌}
-use Rattle.edit_document.specs.Nodes.{Shape, shape_said, Spot, Holds}
+use Rattle.edit_document.specs.Nodes.{Shape, shape_said, Spot, bytes_of, Holds}
 use Rattle.edit_document.specs.Walk.{State, said, last_of, without_last, awaiting, entered, closed, span_of_mark, worded, act, step, start, walked}
 use Rattle.edit_document.specs.WalkState.{Walks, Goes, SaysAt, is_said, IsToken, KeepsState}
 use Rattle.edit_document.proofs.Below.{all_at}
@@ -30,7 +31,7 @@ pub holds_spanned : {text : List ℕ} (nodes : List Node) (spots : List Spot) (t
 holds_spanned nodes spots t old s span holds a b =
     let k = holds.each t old s a b in
     holds_set nodes spots t (record old { span = span }) (spanned s span) holds (slice_get_within nodes t old a)
-    (record { shape = k.shape; taken = k.taken; steps = k.steps; members = k.members; elements = k.elements; span = refl })
+    (record { shape = k.shape; taken = k.taken; steps = k.steps; members = k.members; indexed = k.indexed; elements = k.elements; span = refl })
 
 closed_is : (st : State) (to number : ℕ) (s : Spot) → last_of st.tables ≡ Some number → slice_get st.spots number ≡ Some s
     → closed st to ≡ (s.span >>= λ span. let next : State = record { spots = slice_set st.spots number (spanned s (Some (record { from = span.from; to = to }))); tables = without_last st.tables; fronts = st.fronts; name = st.name } in Some next)
@@ -54,8 +55,8 @@ goes_closed {text} old walk st to number node span w top lt is has ns ts fs n =
       record {
         holds = subst (λ (xs : List Node). Holds text xs (slice_set st.spots number (spanned s.0 span2))) (sym ns) (holds_spanned old.nodes.items st.spots number node s.0 span2 w.holds there s.1);
         tables = ts ∙ ap without_last w.tables;
-        fronts = ap (map string_bytes) fs ∙ w.fronts;
-        name = ap (option_map string_bytes) n ∙ w.name;
+        fronts = ap (map (bytes_of text)) fs ∙ w.fronts;
+        name = ap (option_map (bytes_of text)) n ∙ w.name;
       },
     )
 
@@ -79,16 +80,16 @@ unfolding step
 step_is bytes m st k e = ap (λ (j : MarkKind). act j bytes m st) e
 
 -- a name waits
-named_by : (walk old : Walk) (bytes : List ℕ) (m : Mark) (st : State) (s : String Global) (k : MarkKind) → m.kind ≡ k → is_said k ≡ true → act k bytes m st ≡ (said bytes m >>= λ n. Some (awaiting st n)) → Walks bytes old st → IsToken bytes m
-    → ((n : List ℕ) → SaysAt bytes m n → string_bytes s ≡ n) → ((x : State) → Walks bytes old x → Walks bytes walk (awaiting x (string_bytes s))) → Goes bytes walk (step bytes m st) true
+named_by : (walk old : Walk) (bytes : List ℕ) (m : Mark) (st : State) (s : Words) (k : MarkKind) → m.kind ≡ k → is_said k ≡ true → act k bytes m st ≡ (said bytes m >>= λ n. Some (awaiting st n)) → Walks bytes old st → IsToken bytes m
+    → ((n : List ℕ) → SaysAt bytes m n → bytes_of bytes s ≡ n) → ((x : State) → Walks bytes old x → Walks bytes walk (awaiting x (bytes_of bytes s))) → Goes bytes walk (step bytes m st) true
 named_by walk old bytes m st s k kind says does w token told waits =
     let t = token (ap is_said kind ∙ says) in
-    let here : step bytes m st ≡ Some (awaiting st (string_bytes s)) =
+    let here : step bytes m st ≡ Some (awaiting st (bytes_of bytes s)) =
     step_is bytes m st k kind ∙ does ∙ ap (λ (o : Option (List ℕ)). o >>= λ n. Some (awaiting st n)) t.1 ∙ ap (λ (n : List ℕ). Some (awaiting st n)) (sym (told t.0 t.2)) in
-    (awaiting st (string_bytes s), here, waits st w)
+    (awaiting st (bytes_of bytes s), here, waits st w)
 
-pub goes_named : (walk old : Walk) (bytes : List ℕ) (m : Mark) (st : State) (s : String Global) → (m.kind ≡ kinds.BarePart) ⊎ ((m.kind ≡ kinds.BasicPart) ⊎ (m.kind ≡ kinds.LiteralPart)) → Walks bytes old st → IsToken bytes m
-    → ((n : List ℕ) → SaysAt bytes m n → string_bytes s ≡ n) → ((x : State) → Walks bytes old x → Walks bytes walk (awaiting x (string_bytes s))) → Goes bytes walk (step bytes m st) true
+pub goes_named : (walk old : Walk) (bytes : List ℕ) (m : Mark) (st : State) (s : Words) → (m.kind ≡ kinds.BarePart) ⊎ ((m.kind ≡ kinds.BasicPart) ⊎ (m.kind ≡ kinds.LiteralPart)) → Walks bytes old st → IsToken bytes m
+    → ((n : List ℕ) → SaysAt bytes m n → bytes_of bytes s ≡ n) → ((x : State) → Walks bytes old x → Walks bytes walk (awaiting x (bytes_of bytes s))) → Goes bytes walk (step bytes m st) true
 goes_named walk old bytes m st s (inl e) = named_by walk old bytes m st s kinds.BarePart e refl refl
 goes_named walk old bytes m st s (inr (inl e)) = named_by walk old bytes m st s kinds.BasicPart e refl refl
 goes_named walk old bytes m st s (inr (inr e)) = named_by walk old bytes m st s kinds.LiteralPart e refl refl

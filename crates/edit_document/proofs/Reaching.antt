@@ -1,12 +1,13 @@
 -- Members that are asserted, and the front parts of a key, as the code takes them.
-use Rattle.std.proofs.Common.{◌≡◌, ℕ, ◌+◌, ◌<◌, true, List, [], ◌∷◌, length, drop, get_or, Option, Some, None, refl, sym, ap, subst, ◌∙◌, String, Global}
-use Rattle.std.specs.Prelude.{map, string_bytes}
+use Rattle.std.proofs.Common.{◌≡◌, ℕ, ◌+◌, ◌<◌, true, List, [], ◌∷◌, length, drop, get_or, Option, Some, None, refl, sym, ap, subst, ◌∙◌}
+use Rattle.std.specs.Prelude.{map}
 use Rattle.std.proofs.lemmas.Option.{slice_get_read}
 use Rattle.edit_document.specs.declared.nodes.Node.{Node}
 use Rattle.edit_document.specs.declared.nodes.Span.{Span}
 use Rattle.edit_document.specs.declared.nodes.Taken.{Taken}
+use Rattle.edit_document.specs.declared.nodes.Words.{Words}
 use Rattle.edit_document.specs.Reading.{◌>>=◌}
-use Rattle.edit_document.specs.Nodes.{Shape, Spot, Holds}
+use Rattle.edit_document.specs.Nodes.{Shape, Spot, bytes_of, Holds}
 use Rattle.edit_document.specs.Walk.{child, target_of, taken_again, added, asserted_at, asserted, numbered, reached}
 use Rattle.edit_document.specs.WalkState.{Adds, Puts}
 use Rattle.edit_document.proofs.ListElements.{drop_from}
@@ -71,10 +72,10 @@ pub reaches_end : {text : List ℕ} (nodes : List Node) (total : Option (List Sp
 reaches_end nodes total t shape taken r = (r.spots, r.same ∙ reached_none r.spots t shape taken, r.holds)
 
 -- the next front part
-pub reaches_next : {text : List ℕ} (nodes : List Node) (total : Option (List Spot × ℕ)) (t i : ℕ) (fronts : List (String Global)) (item : String Global) (shape : Shape) (taken : Taken) → i < length fronts → item ≡ get_or fronts i item
-    → Reaches text nodes total t (map string_bytes (drop i fronts)) shape taken → Reaches text nodes total t (string_bytes item ∷ map string_bytes (drop (i + 1) fronts)) shape taken
+pub reaches_next : {text : List ℕ} (nodes : List Node) (total : Option (List Spot × ℕ)) (t i : ℕ) (fronts : List Words) (item : Words) (shape : Shape) (taken : Taken) → i < length fronts → item ≡ get_or fronts i item
+    → Reaches text nodes total t (map (bytes_of text) (drop i fronts)) shape taken → Reaches text nodes total t (bytes_of text item ∷ map (bytes_of text) (drop (i + 1) fronts)) shape taken
 reaches_next {text} nodes total t i fronts item shape taken lt is r =
-    subst (λ (ns : List (String Global)). Reaches text nodes total t (map string_bytes ns) shape taken) (drop_from fronts i item (slice_get_read fronts (length fronts) i item refl lt is)) r
+    subst (λ (ns : List Words). Reaches text nodes total t (map (bytes_of text) ns) shape taken) (drop_from fronts i item (slice_get_read fronts (length fronts) i item refl lt is)) r
 
 pub front_made : (text : List ℕ) (nodes : List Node) (spots : List Spot) (t : ℕ) (seen name : List ℕ) (made shape : Shape) (taken : Taken) (r q : Option ℕ) → seen ≡ name → made ≡ shape → r ≡ q → Puts text nodes (asserted spots t seen made taken None) r → Puts text nodes (asserted spots t name shape taken None) q
 front_made text nodes spots t seen name made shape taken r q a b e h =

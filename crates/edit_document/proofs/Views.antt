@@ -1,5 +1,5 @@
 -- What the table of nodes tells of a document.
-use Rattle.std.proofs.Common.{◌≡◌, ℕ, zero, suc, ◌+◌, ◌<◌, ◌≤◌, Bool, true, false, List, [], ◌∷◌, ◌++◌, length, get_or, take, drop, Option, Some, None, refl, sym, ap, subst, ◌∙◌, ◌⊎◌, inl, inr, arith, append_assoc, append-nil, String, Global}
+use Rattle.std.proofs.Common.{◌≡◌, ℕ, zero, suc, ◌+◌, ◌<◌, ◌≤◌, Bool, true, false, List, [], ◌∷◌, ◌++◌, length, get_or, take, drop, Option, Some, None, refl, sym, ap, subst, ◌∙◌, ◌⊎◌, inl, inr, arith, append_assoc, append-nil}
 use Rattle.std.specs.Prelude.{map, slice_get, option_map, unwrap_or, MatchOption, IfSome, string_bytes}
 use Rattle.std.specs.Option.{option_copied}
 use Rattle.std.specs.Borrow.{Bor}
@@ -65,11 +65,11 @@ node_none (t ∷ ts) place none =
 
 -- ---- a node of a document
 
-abbrev pub names_of_node : Node → List (List ℕ)
-names_of_node node = names_among (entries_of node.members)
+abbrev pub names_of_node : List ℕ → Node → List (List ℕ)
+names_of_node text node = names_among (entries_of text node.members)
 
 abbrev pub view_of_node : List ℕ → Node → View
-view_of_node text node = view_of_shape (shape_of text node.content) (names_of_node node) (length node.elements.items)
+view_of_node text node = view_of_shape (shape_of text node.content) (names_of_node text node) (length node.elements.items)
 
 pub record Found (shown : Shown) (nodes : List Node) (spots : List Spot) (n : ℕ) (node : Node) : Type 0 where
   pub spot : Spot
@@ -97,14 +97,10 @@ within shown nodes len n opens size lt =
     let m : length shown.nodes ≡ length opens.spots = ap length opens.nodes_are ∙ length-map opens.spots shown_spot in
     omega arith
 
-names_kept : (es : List (String Global × ℕ)) → map (λ (e : List ℕ × ℕ). e.0) (map (λ (e : String Global × ℕ). (string_bytes e.0, e.1)) es) ≡ map (λ (e : String Global × ℕ). string_bytes e.0) es
-names_kept [] = refl
-names_kept (e ∷ es) = ap (λ (ns : List (List ℕ)). string_bytes e.0 ∷ ns) (names_kept es)
-
 kept : {text : List ℕ} {node : Node} {spot : Spot} → Keeps text node spot → view_of_node text node ≡ view_of_spot spot
-kept {node} {spot} k =
-    ap (λ (s : Shape). view_of_shape s (names_of_node node) (length node.elements.items)) k.shape
-    ∙ ap (λ (ns : List (List ℕ)). view_of_shape spot.shape ns (length node.elements.items)) (sym (names_kept (entries_of node.members)) ∙ ap (map (λ (e : List ℕ × ℕ). e.0)) k.members)
+kept {text} {node} {spot} k =
+    ap (λ (s : Shape). view_of_shape s (names_of_node text node) (length node.elements.items)) k.shape
+    ∙ ap (λ (ns : List (List ℕ)). view_of_shape spot.shape ns (length node.elements.items)) (ap names_among k.members)
     ∙ ap (λ (es : List ℕ). view_of_shape spot.shape (names_of spot) (length es)) k.elements
 
 pub found : (shown : Shown) (nodes : List Node) (n : ℕ) (node : Node) → (opens : Opened shown nodes) → n < length shown.nodes → node ≡ get_or nodes n node → Found shown nodes opens.spots n node
@@ -128,8 +124,8 @@ names_keys [] = refl
 names_keys (n ∷ ns) = ap (λ (m : List (List ℕ)). n ∷ m) (names_keys ns)
 
 -- how many members there are
-pub count_members : (node : Node) → length (map key (names_of_node node)) ≡ length (entries_of node.members)
-count_members node = length-map (names_of_node node) key ∙ length-map (entries_of node.members) (λ e. string_bytes e.0)
+pub count_members : (text : List ℕ) (node : Node) → length (map key (names_of_node text node)) ≡ length (entries_of text node.members)
+count_members text node = length-map (names_of_node text node) key ∙ length-map (entries_of text node.members) (λ e. e.0)
 
 abbrev pub IsText : Content → Type 0
 IsText x = (s : Words) × (x ≡ content.Text s)
@@ -150,8 +146,8 @@ IsDateTime x = (s : Span) × (x ≡ content.DateTime s)
 abbrev pub IsScalar : Content → Type 0
 IsScalar x = IsText x ⊎ (IsTruth x ⊎ (IsInteger x ⊎ (IsFloat x ⊎ IsDateTime x)))
 
-names_of_content : (shown : Shown) (nodes : List Node) (spots : List Spot) (n : ℕ) (node : Node) (x : Content) → Found shown nodes spots n node → node.content ≡ x → names_in (view_numbered shown n) ≡ names_in (view_of_shape (shape_of shown.bytes x) (names_of_node node) (length node.elements.items))
-names_of_content shown nodes spots n node x f is = ap names_in f.view ∙ ap (λ (y : Content). names_in (view_of_shape (shape_of shown.bytes y) (names_of_node node) (length node.elements.items))) is
+names_of_content : (shown : Shown) (nodes : List Node) (spots : List Spot) (n : ℕ) (node : Node) (x : Content) → Found shown nodes spots n node → node.content ≡ x → names_in (view_numbered shown n) ≡ names_in (view_of_shape (shape_of shown.bytes x) (names_of_node shown.bytes node) (length node.elements.items))
+names_of_content shown nodes spots n node x f is = ap names_in f.view ∙ ap (λ (y : Content). names_in (view_of_shape (shape_of shown.bytes y) (names_of_node shown.bytes node) (length node.elements.items))) is
 
 -- what shows no names, and what does
 pub names_none : (shown : Shown) (nodes : List Node) (spots : List Spot) (n : ℕ) (node : Node) → Found shown nodes spots n node → IsText node.content ⊎ (IsTruth node.content ⊎ (IsInteger node.content ⊎ (IsFloat node.content ⊎ (IsDateTime node.content ⊎ ((node.content ≡ content.Array) ⊎ (node.content ≡ content.Tables))))))
@@ -164,13 +160,13 @@ names_none shown nodes spots n node f (inr (inr (inr (inr (inl t))))) = names_of
 names_none shown nodes spots n node f (inr (inr (inr (inr (inr (inl t)))))) = names_of_content shown nodes spots n node content.Array f t
 names_none shown nodes spots n node f (inr (inr (inr (inr (inr (inr t)))))) = names_of_content shown nodes spots n node content.Tables f t
 
-pub names_tabular : (shown : Shown) (nodes : List Node) (spots : List Spot) (n : ℕ) (node : Node) → Found shown nodes spots n node → (node.content ≡ content.Inline) ⊎ (node.content ≡ content.Table) → names_in (view_numbered shown n) ≡ names_of_node node
-names_tabular shown nodes spots n node f (inl t) = names_of_content shown nodes spots n node content.Inline f t ∙ names_keys (names_of_node node)
-names_tabular shown nodes spots n node f (inr t) = names_of_content shown nodes spots n node content.Table f t ∙ names_keys (names_of_node node)
+pub names_tabular : (shown : Shown) (nodes : List Node) (spots : List Spot) (n : ℕ) (node : Node) → Found shown nodes spots n node → (node.content ≡ content.Inline) ⊎ (node.content ≡ content.Table) → names_in (view_numbered shown n) ≡ names_of_node shown.bytes node
+names_tabular shown nodes spots n node f (inl t) = names_of_content shown nodes spots n node content.Inline f t ∙ names_keys (names_of_node shown.bytes node)
+names_tabular shown nodes spots n node f (inr t) = names_of_content shown nodes spots n node content.Table f t ∙ names_keys (names_of_node shown.bytes node)
 
 -- a node of this content has so many parts
-pub count_shown : (shown : Shown) (nodes : List Node) (spots : List Spot) (n : ℕ) (node : Node) (x : Content) → Found shown nodes spots n node → node.content ≡ x → count_in (view_numbered shown n) ≡ count_in (view_of_shape (shape_of shown.bytes x) (names_of_node node) (length node.elements.items))
-count_shown shown nodes spots n node x f is = ap count_in f.view ∙ ap (λ (y : Content). count_in (view_of_shape (shape_of shown.bytes y) (names_of_node node) (length node.elements.items))) is
+pub count_shown : (shown : Shown) (nodes : List Node) (spots : List Spot) (n : ℕ) (node : Node) (x : Content) → Found shown nodes spots n node → node.content ≡ x → count_in (view_numbered shown n) ≡ count_in (view_of_shape (shape_of shown.bytes x) (names_of_node shown.bytes node) (length node.elements.items))
+count_shown shown nodes spots n node x f is = ap count_in f.view ∙ ap (λ (y : Content). count_in (view_of_shape (shape_of shown.bytes y) (names_of_node shown.bytes node) (length node.elements.items))) is
 
 pub count_scalar : (shown : Shown) (nodes : List Node) (spots : List Spot) (n : ℕ) (node : Node) → Found shown nodes spots n node → IsScalar node.content → count_in (view_numbered shown n) ≡ 0
 count_scalar shown nodes spots n node f (inl t) = count_shown shown nodes spots n node (content.Text t.0) f t.1
@@ -183,13 +179,13 @@ pub count_elements : (shown : Shown) (nodes : List Node) (spots : List Spot) (n 
 count_elements shown nodes spots n node f (inl t) = count_shown shown nodes spots n node content.Array f t
 count_elements shown nodes spots n node f (inr t) = count_shown shown nodes spots n node content.Tables f t
 
-pub count_tabular : (shown : Shown) (nodes : List Node) (spots : List Spot) (n : ℕ) (node : Node) → Found shown nodes spots n node → (node.content ≡ content.Inline) ⊎ (node.content ≡ content.Table) → count_in (view_numbered shown n) ≡ length (entries_of node.members)
-count_tabular shown nodes spots n node f (inl t) = count_shown shown nodes spots n node content.Inline f t ∙ count_members node
-count_tabular shown nodes spots n node f (inr t) = count_shown shown nodes spots n node content.Table f t ∙ count_members node
+pub count_tabular : (shown : Shown) (nodes : List Node) (spots : List Spot) (n : ℕ) (node : Node) → Found shown nodes spots n node → (node.content ≡ content.Inline) ⊎ (node.content ≡ content.Table) → count_in (view_numbered shown n) ≡ length (entries_of shown.bytes node.members)
+count_tabular shown nodes spots n node f (inl t) = count_shown shown nodes spots n node content.Inline f t ∙ count_members shown.bytes node
+count_tabular shown nodes spots n node f (inr t) = count_shown shown nodes spots n node content.Table f t ∙ count_members shown.bytes node
 
 -- what a node shows
 abbrev pub shows_content : List ℕ → Node → Content → Seen → Type 0
-shows_content text node x s = Shows (view_of_shape (shape_of text x) (names_of_node node) (length node.elements.items)) s
+shows_content text node x s = Shows (view_of_shape (shape_of text x) (names_of_node text node) (length node.elements.items)) s
 
 pub shows : (shown : Shown) (nodes : List Node) (spots : List Spot) (n : ℕ) (node : Node) (x : Content) (s : Seen) → Found shown nodes spots n node → node.content ≡ x → shows_content shown.bytes node x s → Shows (view_numbered shown n) s
 shows shown nodes spots n node x s f is h = subst (λ (v : View). Shows v s) (sym f.view) (subst (λ (y : Content). shows_content shown.bytes node y s) (sym is) h)
@@ -225,7 +221,7 @@ part_here shown nodes n node x (Some m) opens f e =
     let l : length shown.nodes ≡ length opens.spots = ap length opens.nodes_are ∙ length-map opens.spots shown_spot in
     (ap (tree_of shown) (sym place) ∙ tree ∙ ap (λ (v : View). Some v) (sym view), place_spot shown opens.spots m s.0 opens.nodes_are s.1 ∙ place, omega arith)
 
-pub member_here : (shown : Shown) (nodes : List Node) (n : ℕ) (node : Node) (name : List ℕ) (r : Option ℕ) → (opens : Opened shown nodes) → Found shown nodes opens.spots n node → r ≡ number_in (entries_of node.members) name
+pub member_here : (shown : Shown) (nodes : List Node) (n : ℕ) (node : Node) (name : List ℕ) (r : Option ℕ) → (opens : Opened shown nodes) → Found shown nodes opens.spots n node → r ≡ number_in (entries_of shown.bytes node.members) name
     → Numbers shown (at (place_numbered shown n) (key name)) r
 member_here shown nodes n node name r opens f e = part_here shown nodes n node (key name) r opens f (e ∙ sym (below_node node f.spot name f.keeps))
 

@@ -1,14 +1,15 @@
 -- The steps of the walk over marks, as the code takes them.
-use Rattle.std.proofs.Common.{◌≡◌, ℕ, Bool, true, List, [], ◌∷◌, ◌++◌, length, Option, Some, None, is_some, Result, Ok, Err, refl, sym, ap, ap₂, subst, ◌∙◌, String, Global}
-use Rattle.std.specs.Prelude.{IfOk, option_map, option_to_list, map, string_bytes}
+use Rattle.std.proofs.Common.{◌≡◌, ℕ, Bool, true, List, [], ◌∷◌, ◌++◌, length, Option, Some, None, is_some, Result, Ok, Err, refl, sym, ap, ap₂, subst, ◌∙◌}
+use Rattle.std.specs.Prelude.{IfOk, option_map, option_to_list, map}
 use Rattle.std.proofs.lemmas.List.{map-append}
 use Rattle.edit_document.specs.declared.nodes.Node.{Node}
 use Rattle.edit_document.specs.declared.nodes.Span.{Span}
+use Rattle.edit_document.specs.declared.nodes.Words.{Words}
 use Rattle.edit_document.specs.declared.nodes.Taken.{Taken}
 use Rattle.edit_document.specs.declared.nodes.Taken.TheVariants.{Dotted, Value, Super, Header, Array, Element}
 use Rattle.edit_document.specs.declared.walk.Walk.{Walk}
 use Rattle.edit_document.specs.Reading.{◌>>=◌}
-use Rattle.edit_document.specs.Nodes.{Shape, section, sections, Spot, Holds}
+use Rattle.edit_document.specs.Nodes.{Shape, section, sections, Spot, bytes_of, Holds}
 use Rattle.edit_document.specs.Walk.{State, last_of, asserted, element_added, front_shape, reached, awaiting, settled_state, is_dotted_within, settled, entered_below, entered_at, opened, turned, headed, element_headed}
 use Rattle.edit_document.specs.WalkState.{Puts, Walks, Goes, Settles}
 
@@ -19,18 +20,18 @@ if_ok_map (Err e) h f = tt
 -- ---- names and keys
 
 -- the names of the front parts are those behind the ones that waited
-pub awaits : {text : List ℕ} (old walk : Walk) (st : State) (name : String Global) → Walks text old st → walk.nodes.items ≡ old.nodes.items → walk.tables.items ≡ old.tables.items → walk.fronts.items ≡ old.fronts.items ++ option_to_list old.name → walk.name ≡ Some name
-    → Walks text walk (awaiting st (string_bytes name))
+pub awaits : {text : List ℕ} (old walk : Walk) (st : State) (name : Words) → Walks text old st → walk.nodes.items ≡ old.nodes.items → walk.tables.items ≡ old.tables.items → walk.fronts.items ≡ old.fronts.items ++ option_to_list old.name → walk.name ≡ Some name
+    → Walks text walk (awaiting st (bytes_of text name))
 awaits {text} old walk st name w ns ts fs n = record {
   holds = subst (λ (xs : List Node). Holds text xs st.spots) (sym ns) w.holds;
   tables = ts ∙ w.tables;
   fronts =
-      ap (map string_bytes) fs ∙ map-append string_bytes old.fronts.items (option_to_list old.name)
+      ap (map (bytes_of text)) fs ∙ map-append (bytes_of text) old.fronts.items (option_to_list old.name)
       ∙ ap₂ (λ (a : List (List ℕ)) (b : List (List ℕ)). a ++ b) w.fronts (listed old.name ∙ ap option_to_list w.name);
-  name = ap (option_map string_bytes) n;
+  name = ap (option_map (bytes_of text)) n;
 }
   where
-    listed : (o : Option (String Global)) → map string_bytes (option_to_list o) ≡ option_to_list (option_map string_bytes o)
+    listed : (o : Option Words) → map (bytes_of text) (option_to_list o) ≡ option_to_list (option_map (bytes_of text) o)
     listed None = refl
     listed (Some s) = refl
 
@@ -70,7 +71,7 @@ settles text walk st number front shape taken span name spots table r n reach ts
     go (Some k) (made, e, holds) = (
       settled_state made st.tables,
       ap (λ (o : Option (List Spot × ℕ)). o >>= λ q. Some (settled_state q.0 st.tables, q.1)) e,
-      record { holds = holds; tables = ts; fronts = ap (map string_bytes) fs; name = ap (option_map string_bytes) none },
+      record { holds = holds; tables = ts; fronts = ap (map (bytes_of text)) fs; name = ap (option_map (bytes_of text)) none },
     )
 
 pub entered_is : (st : State) (shape : Shape) (span : Option Span) (number : ℕ) (name : List ℕ) → last_of st.tables ≡ Some number → st.name ≡ Some name → entered_at st shape span ≡ settled st number Dotted shape Value span
@@ -89,7 +90,7 @@ enters_element st shape span number t n = ap (λ (o : Option ℕ). o >>= λ k. e
 pub settles_element : {text : List ℕ} (old walk : Walk) (st : State) (shape : Shape) (span : Option Span) (number : ℕ) (r : Option ℕ) → Walks text old st → last_of old.tables.items ≡ Some number → old.name ≡ None → Puts text walk.nodes.items (element_added st.spots number shape Value span) r
     → walk.tables.items ≡ old.tables.items → walk.fronts.items ≡ old.fronts.items → walk.name ≡ old.name → Settles text walk (entered_at st shape span) r
 settles_element {text} old walk st shape span number r w top bare puts ts fs n =
-    let name : st.name ≡ None = sym w.name ∙ ap (option_map string_bytes) bare in
+    let name : st.name ≡ None = sym w.name ∙ ap (option_map (bytes_of text)) bare in
     subst (λ (o : Option (State × ℕ)). Settles text walk o r) (sym (enters_element st shape span number (ap last_of (sym w.tables) ∙ top) name)) (go r puts)
   where
     go : (r : Option ℕ) → Puts text walk.nodes.items (element_added st.spots number shape Value span) r → Settles text walk (element_added st.spots number shape Value span >>= λ q. spots_of_state st q) r
@@ -97,15 +98,15 @@ settles_element {text} old walk st shape span number r w top bare puts ts fs n =
     go (Some k) (made, e, holds) = (
       record st { spots = made },
       ap (λ (o : Option (List Spot × ℕ)). o >>= λ q. spots_of_state st q) e,
-      record { holds = holds; tables = ts ∙ w.tables; fronts = ap (map string_bytes) fs ∙ w.fronts; name = ap (option_map string_bytes) n ∙ w.name },
+      record { holds = holds; tables = ts ∙ w.tables; fronts = ap (map (bytes_of text)) fs ∙ w.fronts; name = ap (option_map (bytes_of text)) n ∙ w.name },
     )
 
 -- where a key waits it settles
-pub settles_named : {text : List ℕ} (old walk : Walk) (st : State) (shape : Shape) (span : Option Span) (number : ℕ) (name : String Global) (r : Option ℕ) → Walks text old st → last_of old.tables.items ≡ Some number → old.name ≡ Some name → Settles text walk (settled st number Dotted shape Value span) r
+pub settles_named : {text : List ℕ} (old walk : Walk) (st : State) (shape : Shape) (span : Option Span) (number : ℕ) (name : Words) (r : Option ℕ) → Walks text old st → last_of old.tables.items ≡ Some number → old.name ≡ Some name → Settles text walk (settled st number Dotted shape Value span) r
     → Settles text walk (entered_at st shape span) r
 settles_named {text} old walk st shape span number name r w top waits settles =
-    let named : st.name ≡ Some (string_bytes name) = sym w.name ∙ ap (option_map string_bytes) waits in
-    subst (λ (o : Option (State × ℕ)). Settles text walk o r) (sym (entered_is st shape span number (string_bytes name) (ap last_of (sym w.tables) ∙ top) named)) settles
+    let named : st.name ≡ Some (bytes_of text name) = sym w.name ∙ ap (option_map (bytes_of text)) waits in
+    subst (λ (o : Option (State × ℕ)). Settles text walk o r) (sym (entered_is st shape span number (bytes_of text name) (ap last_of (sym w.tables) ∙ top) named)) settles
 
 pub goes_settled : (text : List ℕ) (walk : Walk) (o : Option (State × ℕ)) (r : Option ℕ) → Settles text walk o r → Goes text walk (o >>= λ q. Some q.0) (is_some r)
 goes_settled text walk o None e = ap (λ (x : Option (State × ℕ)). x >>= λ q. Some q.0) e
@@ -120,8 +121,8 @@ goes_opened text middle walk st shape span number (next, e, w) ns ts fs n = (
   record {
     holds = subst (λ (xs : List Node). Holds text xs next.spots) (sym ns) w.holds;
     tables = ts ∙ ap (λ (xs : List ℕ). xs ++ number ∷ []) w.tables;
-    fronts = ap (map string_bytes) fs ∙ w.fronts;
-    name = ap (option_map string_bytes) n ∙ w.name;
+    fronts = ap (map (bytes_of text)) fs ∙ w.fronts;
+    name = ap (option_map (bytes_of text)) n ∙ w.name;
   },
 )
 
@@ -133,8 +134,8 @@ pub turns : {text : List ℕ} (old walk : Walk) (st : State) (number : ℕ) → 
 turns {text} old walk st number w ns ts fs n = record {
   holds = subst (λ (xs : List Node). Holds text xs st.spots) (sym ns) w.holds;
   tables = ts;
-  fronts = ap (map string_bytes) fs ∙ w.fronts;
-  name = ap (option_map string_bytes) n ∙ w.name;
+  fronts = ap (map (bytes_of text)) fs ∙ w.fronts;
+  name = ap (option_map (bytes_of text)) n ∙ w.name;
 }
 
 pub goes_headed : (text : List ℕ) (middle walk : Walk) (st : State) (number : ℕ) → Settles text middle (settled st 0 Super section Header None) (Some number) → ((s : State) → Walks text middle s → Walks text walk (record s { tables = number ∷ [] })) → Goes text walk (headed st) true
@@ -157,7 +158,7 @@ pub goes_element : (text : List ℕ) (middle walk : Walk) (nodes : Walk) (st : S
     → nodes.tables.items ≡ middle.tables.items → nodes.fronts.items ≡ middle.fronts.items → nodes.name ≡ middle.name → ((s : State) → Walks text nodes s → Walks text walk (record s { tables = element ∷ [] })) → Goes text walk (element_headed st) true
 goes_element text middle walk nodes st number element (next, e, w) puts ts fs n turn =
     let p = puts next.spots w.holds in
-    let inner : Walks text nodes (record next { spots = p.0 }) = record { holds = p.2; tables = ts ∙ w.tables; fronts = ap (map string_bytes) fs ∙ w.fronts; name = ap (option_map string_bytes) n ∙ w.name } in (
+    let inner : Walks text nodes (record next { spots = p.0 }) = record { holds = p.2; tables = ts ∙ w.tables; fronts = ap (map (bytes_of text)) fs ∙ w.fronts; name = ap (option_map (bytes_of text)) n ∙ w.name } in (
       turned (record next { spots = p.0 }, element),
       ap (λ (o : Option (State × ℕ)). o >>= λ r. with_element_of r) e ∙ ap (λ (o : Option (List Spot × ℕ)). o >>= λ q. Some (turned (record next { spots = q.0 }, q.1))) p.1,
       turn (record next { spots = p.0 }) inner,

@@ -1,9 +1,9 @@
 -- The nodes of a document: one for each place that a statement asserts, the root first and then in the order of first assertions.
-use Rattle.std.specs.Prelude.{◌≡◌, ℕ, ◌-◌, ◌++◌, Bool, ◌&&◌, ◌||◌, nat_lt, nat_le, if◌then◌else◌, List, [], length, map, slice_get, slice_index, slice_range, Option, Some, None, String, string_bytes, ◌⊎◌}
+use Rattle.std.specs.Prelude.{◌≡◌, ℕ, ◌-◌, Bool, ◌&&◌, ◌||◌, nat_lt, nat_le, if◌then◌else◌, List, [], length, map, drop, slice_get, slice_index, slice_range, Option, Some, None, String, string_bytes, ◌⊎◌}
 use Rattle.std.specs.Global.{Box, Global}
 use Rattle.std.specs.Map.{lookup}
 use Rattle.std.specs.Str.{bytes_eq}
-use Rattle.indexmap.specs.IndexMap.{IndexMap}
+use Rattle.std.specs.BTreeMap.{BTreeMap, get_by_text}
 use Rattle.edit_document.specs.declared.nodes.Span.{Span}
 use Rattle.edit_document.specs.declared.nodes.Words.{Words}
 use Rattle.edit_document.specs.declared.nodes.Words.TheVariants.{Kept, Made}
@@ -11,6 +11,7 @@ use Rattle.edit_document.specs.declared.nodes.Content.{Content}
 use Rattle.edit_document.specs.declared.nodes.Content.TheVariants as content
 use Rattle.edit_document.specs.declared.nodes.Taken.{Taken}
 use Rattle.edit_document.specs.declared.nodes.Lookup.{Lookup}
+use Rattle.edit_document.specs.declared.nodes.Member.{Member}
 use Rattle.edit_document.specs.declared.nodes.Members.{Members}
 use Rattle.edit_document.specs.declared.nodes.Node.{Node}
 use Rattle.edit_document.specs.Assertions.{Step, key, index, Place, at}
@@ -73,7 +74,7 @@ cut_from bytes i j = if nat_le i j && is_boundary bytes i && is_boundary bytes j
 unfoldable pub bytes_at : List ℕ → Span → List ℕ
 bytes_at text span = cut_from text (length text - span.from) (length text - span.to)
 
--- what a string of a text says
+-- what a string or a name of a text says
 abbrev pub bytes_of : List ℕ → Words → List ℕ
 bytes_of text (Kept span) = bytes_at text span
 bytes_of text (Made boxed) = string_bytes boxed.value
@@ -90,37 +91,42 @@ shape_of text content.Inline = inline
 shape_of text content.Table = section
 shape_of text content.Tables = sections
 
--- the names and numbers in a table of members, and none where there is no table
-abbrev pub entries_in : {S : Type 0} → Option (Box (IndexMap (String Global) ℕ S)) → List (String Global × ℕ)
-entries_in None = []
-entries_in (Some boxed) = boxed.value.entries
+-- the number that a table has of a name, and none where there is no table
+abbrev pub number_by : Option (Box (BTreeMap (String Global) ℕ)) → List ℕ → Option ℕ
+number_by None name = None
+number_by (Some boxed) name = get_by_text boxed.value name
 
--- the names and numbers that are looked up
-abbrev pub looked_up : Lookup → List (String Global × ℕ)
-looked_up names = entries_in names.table
+-- the number that a look-up has of a name
+abbrev pub number_of : Lookup → List ℕ → Option ℕ
+number_of names name = number_by names.table name
+
+-- the names of some members of a text, and their numbers
+abbrev pub entries_in : List ℕ → List Member → List (List ℕ × ℕ)
+entries_in text members = map (λ e. (bytes_of text e.name, e.number)) members
 
 -- the names and numbers of members
-abbrev pub entries_of : Members → List (String Global × ℕ)
-entries_of members = members.few.items ++ looked_up members.others
+abbrev pub entries_of : List ℕ → Members → List (List ℕ × ℕ)
+entries_of text members = entries_in text members.list.items
 
 -- the names alone
-abbrev pub names_in : List (String Global × ℕ) → List (List ℕ)
-names_in entries = map (λ e. string_bytes e.0) entries
+abbrev pub names_in : List (List ℕ × ℕ) → List (List ℕ)
+names_in entries = map (λ e. e.0) entries
 
 -- the number of a name
-abbrev pub number_in : List (String Global × ℕ) → List ℕ → Option ℕ
-number_in entries name = lookup (λ k. bytes_eq name (string_bytes k)) entries
+abbrev pub number_in : List (List ℕ × ℕ) → List ℕ → Option ℕ
+number_in entries name = lookup (λ n. bytes_eq name n) entries
 
--- the names and numbers of a node's members
-abbrev pub members_of_node : Node → List (List ℕ × ℕ)
-members_of_node node = map (λ e. (string_bytes e.0, e.1)) (entries_of node.members)
+-- all members but the first few are looked up by their names
+abbrev pub IsIndexed : List ℕ → Members → Type 0
+IsIndexed text members = (name : List ℕ) → number_of members.others name ≡ number_in (drop 8 (entries_of text members)) name
 
 -- a node keeps a spot of the document of a text; of its place it keeps how many steps there are
 pub record Keeps (text : List ℕ) (node : Node) (spot : Spot) : Type 0 where
   pub shape : shape_of text node.content ≡ spot.shape
   pub taken : node.taken ≡ spot.taken
   pub steps : node.steps ≡ length spot.place
-  pub members : members_of_node node ≡ spot.members
+  pub members : entries_of text node.members ≡ spot.members
+  pub indexed : IsIndexed text node.members
   pub elements : node.elements.items ≡ spot.elements
   pub span : node.span ≡ spot.span
 

@@ -1,12 +1,12 @@
 -- The state of the walk over marks, as the code keeps it.
-use Rattle.std.specs.Prelude.{◌≡◌, ℕ, Bool, true, false, List, ◌++◌, length, map, Option, Some, None, option_map, string_bytes}
+use Rattle.std.specs.Prelude.{◌≡◌, ℕ, Bool, true, false, List, ◌++◌, length, map, Option, Some, None, option_map}
 use Rattle.edit_document.specs.declared.read.marks.Mark.{Mark}
 use Rattle.edit_document.specs.declared.read.marks.MarkKind.{MarkKind}
 use Rattle.edit_document.specs.declared.read.marks.MarkKind.TheVariants as kinds
 use Rattle.edit_document.specs.declared.nodes.Node.{Node}
 use Rattle.edit_document.specs.declared.walk.Walk.{Walk}
 use Rattle.edit_document.specs.Decoding.{delimited, Says}
-use Rattle.edit_document.specs.Nodes.{Spot, Holds}
+use Rattle.edit_document.specs.Nodes.{Spot, bytes_of, Holds}
 use Rattle.edit_document.specs.Walk.{State, said}
 
 -- the nodes keep the spots that were made, or none were made
@@ -23,8 +23,8 @@ Puts text nodes made (Some number) = (spots : List Spot) × (made ≡ Some (spot
 pub record Walks (text : List ℕ) (walk : Walk) (st : State) : Type 0 where
   pub holds : Holds text walk.nodes.items st.spots
   pub tables : walk.tables.items ≡ st.tables
-  pub fronts : map string_bytes walk.fronts.items ≡ st.fronts
-  pub name : option_map string_bytes walk.name ≡ st.name
+  pub fronts : map (bytes_of text) walk.fronts.items ≡ st.fronts
+  pub name : option_map (bytes_of text) walk.name ≡ st.name
 
 -- the walk is in the state that follows, or none follows
 abbrev pub Goes : List ℕ → Walk → Option State → Bool → Type 0

@@ -1,14 +1,14 @@
 //! What an assertion makes of the nodes: a new node, or an old one whose place is taken again.
-ghost use Rattle.std.specs.Prelude.{◌≡◌, ℕ, List, IfOk, IfErr, None, map, nat_le, string_bytes};
+ghost use Rattle.std.specs.Prelude.{◌≡◌, ℕ, List, IfOk, IfErr, None, map, nat_le};
 ghost use Rattle.edit_document.specs.Errors.{IsMemory};
-ghost use Rattle.edit_document.specs.Nodes.{Spot, Holds, shape_of};
+ghost use Rattle.edit_document.specs.Nodes.{Spot, Holds, bytes_of, shape_of};
 ghost use Rattle.edit_document.specs.Taking as taking;
 ghost use Rattle.edit_document.specs.declared.nodes.Taken.TheVariants.{Super};
 ghost use Rattle.edit_document.specs.Walk.{child, last_table, target_of, taken_again, added, element_added, asserted, front_shape, reached};
 ghost use Rattle.edit_document.specs.WalkState.{Adds, Puts};
 
 use crate::errors::CargoResult;
-use crate::nodes::{Content, Members, Node, Span, Taken};
+use crate::nodes::{Content, Members, Node, Span, Taken, Words, copied, words_in};
 use std::alloc::Global;
 
 /// Whether a place that is taken so may be taken again.
@@ -57,14 +57,14 @@ fn take_again(nodes: &mut Vec<Node>, number: usize, taken: Taken) -> bool
 }
 
 /// The number of the member of a name.
-fn find(nodes: &[Node], number: usize, name: &str) -> Option<usize>
-    ensures { (text : List ℕ) (spots : List Spot) → Holds text nodes.now spots → result ≡ child spots number name.now }
+fn find(text: &str, nodes: &[Node], number: usize, name: &str) -> Option<usize>
+    ensures { (spots : List Spot) → Holds text.now nodes.now spots → result ≡ child spots number name.now }
 {
     if number >= nodes.len() {
         return None;
     }
     let node = &nodes[number];
-    node.members.get(name)
+    node.members.get(text, name)
 }
 
 /// The last table of an array of tables.
@@ -115,15 +115,16 @@ fn is_deepest(node: &Node) -> bool
 /// which comes last, or nothing where it would have more than 80 steps.
 fn add(
     alloc: Global,
+    text: &str,
     nodes: &mut Vec<Node>,
     number: usize,
-    name: String,
+    name: Words,
     content: Content,
     taken: Taken,
     span: Option<Span>,
 ) -> CargoResult<Option<usize>>
-    ensures added { (text : List ℕ) (spots : List Spot) → Holds text nodes.old.items spots → child spots number (string_bytes name) ≡ None
-        → IfOk result (Puts text nodes.new.items (added spots number (string_bytes name) (shape_of text content) taken span)) }
+    ensures added { (spots : List Spot) → Holds text.now nodes.old.items spots → child spots number (bytes_of text.now name) ≡ None
+        → IfOk result (Puts text.now nodes.new.items (added spots number (bytes_of text.now name) (shape_of text.now content) taken span)) }
     ensures refused { IfErr result IsMemory }
 {
     let count = nodes.len();
@@ -135,7 +136,7 @@ fn add(
         return Ok(None);
     }
     let steps = node.steps + 1;
-    node.members.insert(alloc, name, count)?;
+    node.members.insert(alloc, text, name, count)?;
     nodes.push(Node {
         content,
         taken,
@@ -184,19 +185,20 @@ pub(crate) fn add_element(
 /// number of the node whose place is taken, or nothing where it may not be.
 pub(crate) fn assert_member(
     alloc: Global,
+    text: &str,
     nodes: &mut Vec<Node>,
     number: usize,
-    name: String,
+    name: Words,
     content: Content,
     taken: Taken,
     span: Option<Span>,
 ) -> CargoResult<Option<usize>>
-    ensures made { (text : List ℕ) (spots : List Spot) → Holds text nodes.old.items spots
-        → IfOk result (Puts text nodes.new.items (asserted spots number (string_bytes name) (shape_of text content) taken span)) }
+    ensures made { (spots : List Spot) → Holds text.now nodes.old.items spots
+        → IfOk result (Puts text.now nodes.new.items (asserted spots number (bytes_of text.now name) (shape_of text.now content) taken span)) }
     ensures refused { IfErr result IsMemory }
 {
-    let Some(member) = find(nodes, number, name.as_str()) else {
-        return add(alloc, nodes, number, name, content, taken, span);
+    let Some(member) = find(text, nodes, number, words_in(text, &name)) else {
+        return add(alloc, text, nodes, number, name, content, taken, span);
     };
     let place = target(nodes, member, taken);
     if !take_again(nodes, place, taken) {
@@ -209,21 +211,22 @@ pub(crate) fn assert_member(
 /// it takes a place.
 pub(crate) fn reach(
     alloc: Global,
+    text: &str,
     nodes: &mut Vec<Node>,
     number: usize,
-    fronts: &[String],
+    fronts: &[Words],
     is_inline: bool,
     taken: Taken,
 ) -> CargoResult<Option<usize>>
-    ensures made { (text : List ℕ) (spots : List Spot) → Holds text nodes.old.items spots
-        → IfOk result (Puts text nodes.new.items (reached spots number (map string_bytes fronts.now) (front_shape is_inline) taken)) }
+    ensures made { (spots : List Spot) → Holds text.now nodes.old.items spots
+        → IfOk result (Puts text.now nodes.new.items (reached spots number (map (bytes_of text.now) fronts.now) (front_shape is_inline) taken)) }
     ensures refused { IfErr result IsMemory }
 {
     let mut table = number;
     'fronts: for front in fronts {
-        let name = String::from_str(alloc, front.as_str())?;
+        let name = copied(alloc, front)?;
         let content = front_content(is_inline);
-        match assert_member(alloc, nodes, table, name, content, taken, None)? {
+        match assert_member(alloc, text, nodes, table, name, content, taken, None)? {
             Some(next) => table = next,
             None => return Ok(None),
         }

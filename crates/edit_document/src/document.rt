@@ -145,7 +145,7 @@ impl Document {
             | Content::DateTime(_)
             | Content::Array
             | Content::Tables => None,
-            Content::Inline | Content::Table => node.members.name(index),
+            Content::Inline | Content::Table => node.members.name(self.text.as_str(), index),
         }
     }
 
@@ -155,7 +155,7 @@ impl Document {
         ensures { Numbers self.now (at (place_numbered self.now number) (key_step key.now)) result }
     {
         let node = &self.nodes[number];
-        node.members.get(key)
+        node.members.get(self.text.as_str(), key)
     }
 
     /// A node stands at its place.

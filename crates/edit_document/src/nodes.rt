@@ -1,11 +1,13 @@
 //! The table of nodes of a document.
-ghost use Rattle.std.specs.Prelude.{◌≡◌, ◌<◌, ◌^◌, [], ◌∷◌, ◌++◌, None, IfOk, IfErr, IsTrue, length, option_map, slice_get, string_bytes};
+ghost use Rattle.std.specs.Prelude.{◌≡◌, ℕ, List, [], ◌∷◌, ◌++◌, None, Some, IfOk, IfErr, if◌then◌else◌, length, option_map, slice_get, string_bytes, take};
+ghost use Rattle.std.specs.BTreeMap.{get_by_text};
+ghost use Rattle.std.specs.Str.{bytes_eq};
 ghost use Rattle.edit_document.specs.Errors.{IsMemory};
-ghost use Rattle.edit_document.specs.Nodes.{bytes_at, bytes_of, looked_up, entries_of, names_in, number_in};
+ghost use Rattle.edit_document.specs.Nodes.{bytes_at, bytes_of, number_of, entries_in, entries_of, names_in, number_in, IsIndexed};
 
 use crate::errors::CargoResult;
-use indexmap::IndexMap;
 use std::alloc::Global;
+use std::collections::BTreeMap;
 
 /// Where a value is written: how many bytes there are from its first byte to the text's end, and from its own end
 /// to the text's end.
@@ -15,12 +17,12 @@ pub(crate) struct Span {
     pub(crate) to: usize,
 }
 
-/// What a string says, after escapes.
+/// What a string or a name says, after escapes.
 #[derive(Drop)]
 pub(crate) enum Words {
     /// What stands there in the text, between the delimiters.
     Kept(Span),
-    /// What is said otherwise than it is written, which few strings are.
+    /// What is said otherwise than it is written, which few strings and names are.
     Made(Box<String>),
 }
 
@@ -59,38 +61,22 @@ pub(crate) enum Taken {
     Element,
 }
 
-/// Numbers by names, in the order in which they came, and no table where there are none.
+/// Numbers by names, and no table where there are none.
 #[derive(Drop)]
 pub(crate) struct Lookup {
-    table: Option<Box<IndexMap<String, usize>>>,
+    table: Option<Box<BTreeMap<String, usize>>>,
 }
 
 impl Lookup {
     fn none() -> Lookup
-        ensures { looked_up result ≡ [] }
+        ensures { (name : List ℕ) → number_of result name ≡ None }
     {
         Lookup { table: None }
     }
 
-    fn is_none(&self) -> bool
-        ensures { IsTrue result → looked_up self.now ≡ [] }
-    {
-        self.table.is_none()
-    }
-
-    fn len(&self) -> usize
-        ensures len { result ≡ length (looked_up self.now) }
-        ensures small { result < 2 ^ 63 }
-    {
-        match &self.table {
-            Some(table) => table.len(),
-            None => 0,
-        }
-    }
-
     /// The number of a name.
     fn get(&self, name: &str) -> Option<usize>
-        ensures { result ≡ number_in (looked_up self.now) name.now }
+        ensures { result ≡ number_of self.now name.now }
     {
         match &self.table {
             Some(table) => table.get(name).copied(),
@@ -98,33 +84,20 @@ impl Lookup {
         }
     }
 
-    /// The name that comes behind so many others.
-    fn name(&self, index: usize) -> Option<&str>
-        ensures { option_map (λ s. s.now) result ≡ slice_get (names_in (looked_up self.now)) index }
-    {
-        match &self.table {
-            Some(table) => {
-                let (name, _) = table.get_index(index)?;
-                Some(name.as_str())
-            }
-            None => None,
-        }
-    }
-
     /// Takes the table out, or makes one where there is none.
-    fn take_table(&mut self, alloc: Global) -> CargoResult<Box<IndexMap<String, usize>>>
-        ensures entries { IfOk result (λ table. table.value.entries ≡ looked_up self.old) }
+    fn take_table(&mut self, alloc: Global) -> CargoResult<Box<BTreeMap<String, usize>>>
+        ensures same { IfOk result (λ table. (name : List ℕ) → get_by_text table.value name ≡ number_of self.old name) }
         ensures refused { IfErr result IsMemory }
     {
         match self.table.take() {
             Some(table) => Ok(table),
-            None => Ok(Box::new(alloc, IndexMap::new(alloc))?),
+            None => Ok(Box::new(alloc, BTreeMap::new(alloc))?),
         }
     }
 
     /// Adds a name.
     fn insert(&mut self, alloc: Global, name: String, number: usize) -> CargoResult<()>
-        ensures added { number_in (looked_up self.old) (string_bytes name) ≡ None → IfOk result (λ _. looked_up self.new ≡ looked_up self.old ++ (name, number) ∷ []) }
+        ensures added { IfOk result (λ _. (other : List ℕ) → number_of self.new other ≡ (if bytes_eq (string_bytes name) other then Some number else number_of self.old other)) }
         ensures refused { IfErr result IsMemory }
     {
         let mut table = self.take_table(alloc)?;
@@ -134,24 +107,31 @@ impl Lookup {
     }
 }
 
+/// The name of a member, and its number.
+#[derive(Drop)]
+pub(crate) struct Member {
+    name: Words,
+    number: usize,
+}
+
 /// How many members are looked through one by one.
 const FEW: usize = 8;
 
-/// The numbers of the members of a place by their names, in the order of their first assertions: the first few, and
-/// those behind them.
+/// The members of a place in the order of their first assertions, and the numbers of those behind the first few by
+/// their names.
 #[derive(Drop)]
 pub(crate) struct Members {
-    few: Vec<(String, usize)>,
+    list: Vec<Member>,
     others: Lookup,
 }
 
 /// The number of a name, which is looked for one by one.
-fn number_among(members: &[(String, usize)], name: &str) -> Option<usize>
-    ensures { result ≡ number_in members.now name.now }
+fn number_among(text: &str, members: &[Member], name: &str) -> Option<usize>
+    ensures { result ≡ number_in (entries_in text.now members.now) name.now }
 {
     'members: for member in members {
-        if name == member.0.as_str() {
-            return Some(member.1);
+        if name == words_in(text, &member.name) {
+            return Some(member.number);
         }
     }
     None
@@ -159,50 +139,68 @@ fn number_among(members: &[(String, usize)], name: &str) -> Option<usize>
 
 impl Members {
     pub(crate) fn none(alloc: Global) -> Members
-        ensures { entries_of result ≡ [] }
+        ensures empty { (text : List ℕ) → entries_of text result ≡ [] }
+        ensures indexed { (text : List ℕ) → IsIndexed text result }
     {
         Members {
-            few: Vec::new(alloc),
+            list: Vec::new(alloc),
             others: Lookup::none(),
         }
     }
 
     pub(crate) fn len(&self) -> usize
-        ensures { result ≡ length (entries_of self.now) }
+        ensures { (text : List ℕ) → result ≡ length (entries_of text self.now) }
     {
-        self.few.len() + self.others.len()
+        self.list.len()
+    }
+
+    /// The first few members.
+    fn few(&self) -> &[Member]
+        ensures { result.now ≡ take 8 self.now.list.items }
+    {
+        if self.list.len() <= FEW {
+            self.list.as_slice()
+        } else {
+            &self.list[..FEW]
+        }
     }
 
     /// The number of the member of a name.
-    pub(crate) fn get(&self, name: &str) -> Option<usize>
-        ensures { result ≡ number_in (entries_of self.now) name.now }
+    pub(crate) fn get(&self, text: &str, name: &str) -> Option<usize>
+        ensures { IsIndexed text.now self.now → result ≡ number_in (entries_of text.now self.now) name.now }
     {
-        match number_among(&self.few, name) {
+        match number_among(text, self.few(), name) {
             Some(number) => Some(number),
             None => self.others.get(name),
         }
     }
 
     /// The name of the member that comes behind so many others.
-    pub(crate) fn name(&self, index: usize) -> Option<&str>
-        ensures { option_map (λ s. s.now) result ≡ slice_get (names_in (entries_of self.now)) index }
+    pub(crate) fn name<'a>(&'a self, text: &'a str, index: usize) -> Option<&'a str>
+        ensures { option_map (λ s. s.now) result ≡ slice_get (names_in (entries_of text.now self.now)) index }
     {
-        if index < self.few.len() {
-            return Some(self.few[index].0.as_str());
-        }
-        self.others.name(index - self.few.len())
+        let member = self.list.get(index)?;
+        Some(words_in(text, &member.name))
     }
 
     /// Adds a member.
-    pub(crate) fn insert(&mut self, alloc: Global, name: String, number: usize) -> CargoResult<()>
-        ensures added { number_in (entries_of self.old) (string_bytes name) ≡ None → IfOk result (λ _. entries_of self.new ≡ entries_of self.old ++ (name, number) ∷ []) }
+    pub(crate) fn insert(
+        &mut self,
+        alloc: Global,
+        text: &str,
+        name: Words,
+        number: usize,
+    ) -> CargoResult<()>
+        ensures added { IfOk result (λ _. entries_of text.now self.new ≡ entries_of text.now self.old ++ (bytes_of text.now name, number) ∷ []) }
+        ensures indexed { IsIndexed text.now self.old → number_in (entries_of text.now self.old) (bytes_of text.now name) ≡ None → IfOk result (λ _. IsIndexed text.now self.new) }
         ensures refused { IfErr result IsMemory }
     {
-        if self.others.is_none() && self.few.len() < FEW {
-            self.few.push((name, number))?;
-            return Ok(());
+        if self.list.len() >= FEW {
+            let copy = String::from_str(alloc, words_in(text, &name))?;
+            self.others.insert(alloc, copy, number)?;
         }
-        self.others.insert(alloc, name, number)
+        self.list.push(Member { name, number })?;
+        Ok(())
     }
 }
 
@@ -233,12 +231,26 @@ fn cut(text: &str, span: Span) -> &str
     }
 }
 
-/// What a string of a text says.
+/// What a string or a name of a text says.
 pub(crate) fn words_in<'a>(text: &'a str, words: &'a Words) -> &'a str
     ensures { result.now ≡ bytes_of text.now words.now }
 {
     match words {
         Words::Kept(span) => cut(text, *span),
         Words::Made(said) => said.as_str(),
+    }
+}
+
+/// The same words once more.
+pub(crate) fn copied(alloc: Global, words: &Words) -> CargoResult<Words>
+    ensures same { (text : List ℕ) → IfOk result (λ copy. bytes_of text copy ≡ bytes_of text words.now) }
+    ensures refused { IfErr result IsMemory }
+{
+    match words {
+        Words::Kept(span) => Ok(Words::Kept(*span)),
+        Words::Made(said) => {
+            let copy = String::from_str(alloc, said.as_str())?;
+            Ok(Words::Made(Box::new(alloc, copy)?))
+        }
     }
 }

@@ -1,7 +1,7 @@
 //! The walk over the marks of a text, which makes its nodes.
-ghost use Rattle.std.specs.Prelude.{◌≡◌, ◌∷◌, [], ℕ, List, IfOk, IfErr, MatchResult, length, string_bytes, Some, None};
+ghost use Rattle.std.specs.Prelude.{◌≡◌, ◌∷◌, [], ℕ, List, IfOk, IfErr, MatchResult, length, Some, None};
 ghost use Rattle.edit_document.specs.Errors.{IsMemory};
-ghost use Rattle.edit_document.specs.Nodes.{shape_of};
+ghost use Rattle.edit_document.specs.Nodes.{bytes_of, shape_of};
 ghost use Rattle.edit_document.specs.Walk.{State, awaiting, is_dotted_within, settled, entered_at, entered, opened, closed, headed, element_headed, start, step, walked};
 ghost use Rattle.edit_document.specs.WalkState.{Walks, Goes, Settles, IsToken, KeepsState};
 ghost use Rattle.edit_document.specs.Marks.{IsReadRefusal};
@@ -9,9 +9,9 @@ ghost use Rattle.std.specs.List.{AllByRecursion};
 
 use crate::assertions::{add_element, assert_member, reach};
 use crate::errors::{CargoResult, Error};
-use crate::nodes::{Content, Members, Node, Span, Taken};
+use crate::nodes::{Content, Members, Node, Span, Taken, Words};
 use crate::read::{Mark, MarkKind};
-use crate::words::{told, worded};
+use crate::words::{worded, words_of};
 use std::alloc::Global;
 
 /// The nodes so far; the numbers of the header and of the arrays and inline tables that are open, the innermost last;
@@ -20,8 +20,8 @@ use std::alloc::Global;
 pub(crate) struct Walk {
     nodes: Vec<Node>,
     tables: Vec<usize>,
-    fronts: Vec<String>,
-    name: Option<String>,
+    fronts: Vec<Words>,
+    name: Option<Words>,
 }
 
 impl Walk {
@@ -63,8 +63,8 @@ impl Walk {
     }
 
     /// A part of a key waits, behind those before it.
-    fn await_name(&mut self, name: String) -> CargoResult<()>
-        ensures goes { IfOk result (λ _. (text : List ℕ) (st : State) → Walks text self.old st → Walks text self.new (awaiting st (string_bytes name))) }
+    fn await_name(&mut self, name: Words) -> CargoResult<()>
+        ensures goes { IfOk result (λ _. (text : List ℕ) (st : State) → Walks text self.old st → Walks text self.new (awaiting st (bytes_of text name))) }
         ensures refused { IfErr result IsMemory }
     {
         if let Some(front) = self.name.take() {
@@ -88,13 +88,14 @@ impl Walk {
     fn settle(
         &mut self,
         alloc: Global,
+        text: &str,
         number: usize,
         front: Taken,
         content: Content,
         taken: Taken,
         span: Option<Span>,
     ) -> CargoResult<Option<usize>>
-        ensures goes { (text : List ℕ) (st : State) → Walks text self.old st → IfOk result (Settles text self.new (settled st number front (shape_of text content) taken span)) }
+        ensures goes { (st : State) → Walks text.now self.old st → IfOk result (Settles text.now self.new (settled st number front (shape_of text.now content) taken span)) }
         ensures refused { IfErr result IsMemory }
     {
         let Some(name) = self.name.take() else {
@@ -103,6 +104,7 @@ impl Walk {
         let is_inline = self.is_within(front);
         let Some(table) = reach(
             alloc,
+            text,
             &mut self.nodes,
             number,
             &self.fronts,
@@ -113,42 +115,66 @@ impl Walk {
             return Ok(None);
         };
         self.fronts.clear();
-        assert_member(alloc, &mut self.nodes, table, name, content, taken, span)
+        assert_member(
+            alloc,
+            text,
+            &mut self.nodes,
+            table,
+            name,
+            content,
+            taken,
+            span,
+        )
     }
 
     /// A value enters the innermost table or array. Answers the number of its node.
     fn enter_at(
         &mut self,
         alloc: Global,
+        text: &str,
         content: Content,
         span: Option<Span>,
     ) -> CargoResult<Option<usize>>
-        ensures goes { (text : List ℕ) (st : State) → Walks text self.old st → IfOk result (Settles text self.new (entered_at st (shape_of text content) span)) }
+        ensures goes { (st : State) → Walks text.now self.old st → IfOk result (Settles text.now self.new (entered_at st (shape_of text.now content) span)) }
         ensures refused { IfErr result IsMemory }
     {
         let Some(number) = self.tables.last().copied() else {
             return Ok(None);
         };
         match &self.name {
-            Some(_) => self.settle(alloc, number, Taken::Dotted, content, Taken::Value, span),
+            Some(_) => self.settle(
+                alloc,
+                text,
+                number,
+                Taken::Dotted,
+                content,
+                Taken::Value,
+                span,
+            ),
             None => add_element(alloc, &mut self.nodes, number, content, Taken::Value, span),
         }
     }
 
     /// A value enters the innermost table or array.
-    fn enter(&mut self, alloc: Global, content: Content, span: Option<Span>) -> CargoResult<bool>
-        ensures goes { (text : List ℕ) (st : State) → Walks text self.old st → IfOk result (Goes text self.new (entered st (shape_of text content) span)) }
+    fn enter(
+        &mut self,
+        alloc: Global,
+        text: &str,
+        content: Content,
+        span: Option<Span>,
+    ) -> CargoResult<bool>
+        ensures goes { (st : State) → Walks text.now self.old st → IfOk result (Goes text.now self.new (entered st (shape_of text.now content) span)) }
         ensures refused { IfErr result IsMemory }
     {
-        Ok(self.enter_at(alloc, content, span)?.is_some())
+        Ok(self.enter_at(alloc, text, content, span)?.is_some())
     }
 
     /// An array or an inline table opens.
-    fn open(&mut self, alloc: Global, content: Content, span: Span) -> CargoResult<bool>
-        ensures goes { (text : List ℕ) (st : State) → Walks text self.old st → IfOk result (Goes text self.new (opened st (shape_of text content) (Some span))) }
+    fn open(&mut self, alloc: Global, text: &str, content: Content, span: Span) -> CargoResult<bool>
+        ensures goes { (st : State) → Walks text.now self.old st → IfOk result (Goes text.now self.new (opened st (shape_of text.now content) (Some span))) }
         ensures refused { IfErr result IsMemory }
     {
-        let Some(number) = self.enter_at(alloc, content, Some(span))? else {
+        let Some(number) = self.enter_at(alloc, text, content, Some(span))? else {
             return Ok(false);
         };
         self.tables.push(number)?;
@@ -187,11 +213,19 @@ impl Walk {
     }
 
     /// The waiting key becomes a header.
-    fn head(&mut self, alloc: Global) -> CargoResult<bool>
-        ensures goes { (text : List ℕ) (st : State) → Walks text self.old st → IfOk result (Goes text self.new (headed st)) }
+    fn head(&mut self, alloc: Global, text: &str) -> CargoResult<bool>
+        ensures goes { (st : State) → Walks text.now self.old st → IfOk result (Goes text.now self.new (headed st)) }
         ensures refused { IfErr result IsMemory }
     {
-        let Some(number) = self.settle(alloc, 0, Taken::Super, Content::Table, Taken::Header, None)?
+        let Some(number) = self.settle(
+            alloc,
+            text,
+            0,
+            Taken::Super,
+            Content::Table,
+            Taken::Header,
+            None,
+        )?
         else {
             return Ok(false);
         };
@@ -200,11 +234,19 @@ impl Walk {
     }
 
     /// The waiting key becomes the header of an element.
-    fn head_element(&mut self, alloc: Global) -> CargoResult<bool>
-        ensures goes { (text : List ℕ) (st : State) → Walks text self.old st → IfOk result (Goes text self.new (element_headed st)) }
+    fn head_element(&mut self, alloc: Global, text: &str) -> CargoResult<bool>
+        ensures goes { (st : State) → Walks text.now self.old st → IfOk result (Goes text.now self.new (element_headed st)) }
         ensures refused { IfErr result IsMemory }
     {
-        let Some(number) = self.settle(alloc, 0, Taken::Super, Content::Tables, Taken::Array, None)?
+        let Some(number) = self.settle(
+            alloc,
+            text,
+            0,
+            Taken::Super,
+            Content::Tables,
+            Taken::Array,
+            None,
+        )?
         else {
             return Ok(false);
         };
@@ -234,7 +276,7 @@ impl Walk {
         };
         match mark.kind {
             MarkKind::BarePart | MarkKind::BasicPart | MarkKind::LiteralPart => {
-                let name = told(alloc, text, mark)?;
+                let name = words_of(alloc, text, mark)?;
                 self.await_name(name)?;
                 Ok(true)
             }
@@ -246,15 +288,15 @@ impl Walk {
             | MarkKind::Float
             | MarkKind::DateTime => {
                 let content = worded(alloc, text, mark)?;
-                self.enter(alloc, content, Some(span))
+                self.enter(alloc, text, content, Some(span))
             }
-            MarkKind::True => self.enter(alloc, Content::Truth(true), Some(span)),
-            MarkKind::False => self.enter(alloc, Content::Truth(false), Some(span)),
-            MarkKind::OpenArray => self.open(alloc, Content::Array, span),
-            MarkKind::OpenTable => self.open(alloc, Content::Inline, span),
+            MarkKind::True => self.enter(alloc, text, Content::Truth(true), Some(span)),
+            MarkKind::False => self.enter(alloc, text, Content::Truth(false), Some(span)),
+            MarkKind::OpenArray => self.open(alloc, text, Content::Array, span),
+            MarkKind::OpenTable => self.open(alloc, text, Content::Inline, span),
             MarkKind::CloseArray | MarkKind::CloseTable => Ok(self.close(mark.to)),
-            MarkKind::Header => self.head(alloc),
-            MarkKind::ElementHeader => self.head_element(alloc),
+            MarkKind::Header => self.head(alloc, text),
+            MarkKind::ElementHeader => self.head_element(alloc, text),
         }
     }
 }

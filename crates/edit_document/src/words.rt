@@ -1,5 +1,5 @@
 //! What the tokens of a text say and show.
-ghost use Rattle.std.specs.Prelude.{◌≡◌, ℕ, List, IfOk, IfErr, string_bytes};
+ghost use Rattle.std.specs.Prelude.{◌≡◌, ℕ, List, IfOk, IfErr};
 ghost use Rattle.edit_document.specs.Errors.{IsMemory};
 ghost use Rattle.edit_document.specs.Nodes.{bytes_of, shape_of, shape_said};
 ghost use Rattle.edit_document.specs.WalkState.{SaysAt};
@@ -10,23 +10,16 @@ use crate::read::decode::{content, content_span, is_plain, said};
 use crate::read::{Mark, MarkKind};
 use std::alloc::Global;
 
-/// What the token of a mark says.
-pub(crate) fn told(alloc: Global, text: &str, mark: Mark) -> CargoResult<String>
-    ensures text { (name : List ℕ) → SaysAt text.now mark name → IfOk result (λ s. string_bytes s ≡ name) }
-    ensures refused { IfErr result IsMemory }
-{
-    said(alloc, mark.kind, content(text, mark))
-}
-
-/// What the token of a string says: where that is what is written, it stays in the text.
-fn words_of(alloc: Global, text: &str, mark: Mark) -> CargoResult<Words>
+/// What the token of a string or of a key's part says: where that is what is written, it stays in the text.
+pub(crate) fn words_of(alloc: Global, text: &str, mark: Mark) -> CargoResult<Words>
     ensures says { (name : List ℕ) → SaysAt text.now mark name → IfOk result (λ w. bytes_of text.now w ≡ name) }
     ensures refused { IfErr result IsMemory }
 {
-    if is_plain(mark.kind, content(text, mark)) {
+    let written = content(text, mark);
+    if is_plain(mark.kind, written) {
         Ok(Words::Kept(content_span(text, mark)))
     } else {
-        Ok(Words::Made(Box::new(alloc, told(alloc, text, mark)?)?))
+        Ok(Words::Made(Box::new(alloc, said(alloc, mark.kind, written)?)?))
     }
 }
 

@@ -18,5 +18,5 @@ returns-clause-added c text spots holds =
     element_done c.args.nodes.now.items c.push-2.new.self.items spots c.args.number c.len-count.result c.index_mut-node.result.now (record c.index_mut-node.result.now { elements = c.push.new.self }) _ c.args.content c.args.taken c.args.span holds
     c.if-number-count.false (c.len-count.ensures ∙ c.args.nodes.now.ok.0) c.index_mut-node.ensures.value (not_deepest c.index_mut-node.result.now.steps (sym c.is_deepest.ensures ∙ c.if-is_deepest.false))
     (record { content = refl; taken = refl; steps = refl; span = refl; members = refl; elements = (c.in_ok-push.ensures {u = tt}).items })
-    (record { content_is = refl; taken_is = refl; steps_are = refl; span_is = refl; empty = c.none.ensures; none = c.new.ensures.items })
+    (record { content_is = refl; taken_is = refl; steps_are = refl; span_is = refl; empty = c.none.ensures.empty text; indexed = c.none.ensures.indexed text; none = c.new.ensures.items })
     (c.in_ok-push-2.ensures {u = tt}).items

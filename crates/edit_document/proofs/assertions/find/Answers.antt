@@ -1,10 +1,12 @@
 use Rattle.std.proofs.Common.{sym, ◌∙◌}
-use Rattle.edit_document.proofs.Adding.{child_past, child_found}
+use Rattle.edit_document.proofs.Adding.{kept_at, child_past, child_found}
 use Rattle.edit_document.proofs.assertions.find.Goals as goal
 
 pub returns-then-number-nodes : goal.returns-then-number-nodes
-returns-then-number-nodes c text spots holds = sym (child_past c.args.nodes.now spots c.args.number c.args.name.now holds c.if-number-nodes.true)
+returns-then-number-nodes c spots holds =
+    sym (child_past c.args.nodes.now spots c.args.number c.args.name.now holds c.if-number-nodes.true)
 
 pub returns : goal.returns
-returns c text spots holds =
-    c.get.ensures ∙ sym (child_found c.args.nodes.now spots c.args.number c.index-nodes-number.result c.args.name.now holds c.if-number-nodes.false c.index-nodes-number.is)
+returns c spots holds =
+    let kept = kept_at c.args.nodes.now spots c.args.number c.index-nodes-number.result holds c.if-number-nodes.false c.index-nodes-number.is in
+    c.get.ensures kept.keeps.indexed ∙ sym (child_found c.args.nodes.now spots c.args.number c.index-nodes-number.result c.args.name.now holds c.if-number-nodes.false c.index-nodes-number.is)

@@ -1,6 +1,9 @@
-use Rattle.std.proofs.Common.{ap, ◌∙◌}
+use Rattle.std.proofs.Common.{ℕ, List, sym, ap, subst, ◌∙◌}
 use Rattle.std.specs.Prelude.{string_bytes}
+use Rattle.edit_document.specs.Decoding.{Says}
 use Rattle.edit_document.proofs.words.words_of.Goals as goal
 
 pub returns-in_ok-new-clause-says : goal.returns-in_ok-new-clause-says
-returns-in_ok-new-clause-says c name says = ap string_bytes (c.in_ok-new.ensures {u = tt}).ok ∙ (c.in_ok-told.ensures {u = tt}).text name says
+returns-in_ok-new-clause-says c name (before, content, rest, spelled, from, to, says) =
+    let seen = c.content-written.ensures before content rest name spelled from to says in
+    ap string_bytes (c.in_ok-new.ensures {u = tt}).ok ∙ (c.in_ok-said.ensures {u = tt}).text name (subst (λ (b : List ℕ). Says c.args.mark.kind b name) (sym seen) says)

@@ -1,6 +1,5 @@
 use Rattle.std.proofs.Common.{ap, sym, ◌∙◌, length}
 use Rattle.std.proofs.lemmas.List.{length-map}
-use Rattle.std.specs.Prelude.{string_bytes}
 use Rattle.edit_document.specs.Nodes.{entries_of}
 use Rattle.edit_document.proofs.Views.{opened, within, found, names_none, names_tabular}
 use Rattle.edit_document.proofs.document.Document.name_count.Goals as goal
@@ -46,4 +45,4 @@ returns-in-Text-7 c =
 pub returns-in-Inline : goal.returns-in-Inline
 returns-in-Inline c =
     let f = found c.args.self.now c.self.inside.nodes.items c.args.number c.index-node.result.now (opened c.self.inside c.args.self.now c.self.invariant c.self.view_is) c.requires c.index-node.ensures in
-    c.len.ensures ∙ sym (ap length (names_tabular c.args.self.now c.self.inside.nodes.items (opened c.self.inside c.args.self.now c.self.invariant c.self.view_is).spots c.args.number c.index-node.result.now f c.in-Inline.is) ∙ length-map (entries_of c.index-node.result.now.members) (λ e. string_bytes e.0))
+    c.len.ensures c.args.self.now.bytes ∙ sym (ap length (names_tabular c.args.self.now c.self.inside.nodes.items (opened c.self.inside c.args.self.now c.self.invariant c.self.view_is).spots c.args.number c.index-node.result.now f c.in-Inline.is) ∙ length-map (entries_of c.args.self.now.bytes c.index-node.result.now.members) (λ e. e.0))

@@ -1,15 +1,14 @@
-use Rattle.std.proofs.Common.{◌≡◌, ℕ, List, [], ◌∷◌, ◌++◌, ap, ◌∙◌, String, Global}
+use Rattle.std.proofs.Common.{◌≡◌, ℕ, cond, Option, Some, ap, ◌∙◌, String, Global}
 use Rattle.std.specs.Prelude.{string_bytes}
-use Rattle.std.specs.Map.{lookup}
+use Rattle.std.specs.BTreeMap.{BTreeMap, get_by_text}
 use Rattle.std.specs.Str.{bytes_eq}
-use Rattle.std.specs.String.{string_eq}
-use Rattle.indexmap.proofs.CallerLemmas.{insert_entry-new}
-use Rattle.edit_document.specs.Nodes.{looked_up}
+use Rattle.std.proofs.lemmas.Map.Text.{btree_map_updates_text}
+use Rattle.edit_document.specs.Nodes.{number_of}
 use Rattle.edit_document.proofs.nodes.Lookup.insert.Goals as goal
 
 pub returns-clause-added : goal.returns-clause-added
-returns-clause-added c none =
-    let name = c.args.name in
-    let seen : c.deref_mut.result.now.entries ≡ looked_up c.args.self.now = ap (λ m. m.entries) c.deref_mut.ensures.value ∙ (c.in_ok-table.ensures {u = tt}).entries in
-    let absent = ap (lookup (λ (k : String Global). bytes_eq (string_bytes name) (string_bytes k))) seen ∙ none in
-    (c.in_ok-insert.ensures {u = tt}).entries ∙ insert_entry-new string_eq c.deref_mut.result.now name c.args.number absent ∙ ap (λ (es : List (String Global × ℕ)). es ++ (name, c.args.number) ∷ []) seen
+returns-clause-added c other =
+    let name = string_bytes c.args.name in
+    let old = c.deref_mut.result.now in
+    let seen : get_by_text old other ≡ number_of c.args.self.now other = ap (λ (m : BTreeMap (String Global) ℕ). get_by_text m other) c.deref_mut.ensures.value ∙ (c.in_ok-table.ensures {u = tt}).same other in
+    btree_map_updates_text name old c.insert.new.self (Some c.args.number) (c.in_ok-insert.ensures {u = tt}).updates other ∙ ap (λ (o : Option ℕ). cond (bytes_eq name other) (Some c.args.number) o) seen

@@ -6,7 +6,8 @@ use Rattle.edit_document.proofs.Walking.{goes_settled}
 use Rattle.edit_document.proofs.walk.Walk.enter.Goals as goal
 
 pub returns-clause-goes : goal.returns-clause-goes
-returns-clause-goes c text st w =
+returns-clause-goes c st w =
+    let text = c.args.text.now in
     let shape = shape_of text c.args.content in
     subst (Goes text c.enter_at.new.self (entered st shape c.args.span)) (sym c.is_some.ensures)
-    (goes_settled text c.enter_at.new.self (entered_at st shape c.args.span) c.in_ok-enter_at.field-0 ((c.in_ok-enter_at.ensures {u = tt}).goes text st w))
+    (goes_settled text c.enter_at.new.self (entered_at st shape c.args.span) c.in_ok-enter_at.field-0 ((c.in_ok-enter_at.ensures {u = tt}).goes st w))
