@@ -15,11 +15,13 @@ use Rattle.std.proofs.lemmas.List.Sorted.{sorted_far}
 use Rattle.std.proofs.lemmas.List.MinMax.{ranks_by}
 use Rattle.std.proofs.lemmas.Option.{get_or_from_slice_get, slice_get_within, slice_get-get_or}
 use Rattle.semver.specs.Parse.{Parts}
-use Rattle.edit_record.specs.Admissible.{asked_rust, candidate_in, entry_order, if_fits, if_passes, is_kept, is_too_new, version_in}
+use Rattle.edit_record.specs.Admissible.{admissible_in, asked_rust, candidate_in, entry_order, if_fits, if_passes, is_kept, is_too_new, version_in}
 use Rattle.edit_record.specs.Greatest.{IsGreatest, IsGreatestKept}
 use Rattle.edit_record.specs.IndexEntry.{IndexEntry}
 use Rattle.edit_record.specs.RustVersions.{Numbers}
 use Rattle.edit_record.specs.VersionOrder.{full_order}
+use Rattle.edit_record.proofs.Entries.{greatest-versions, none-versions}
+use Rattle.edit_record.proofs.Kept.{admissible-version}
 use Rattle.edit_record.proofs.Orders.{full_total}
 use Rattle.edit_sources.specs.Ranking.{IsInOrder, IsRanking, Ranking, Tells, passes, rank_order}
 
@@ -223,6 +225,21 @@ none_first entries ranks rust test g h j d within = elim (cases_Bool (is_kept ru
   | inl kept ↦ absurd (none_kept entries ranks rust test g (none_found (passes rust test) ranks h) j (get_or entries j d) (slice_get-get_or entries j d within) kept)
   | inr dropped ↦ dropped
 ]
+
+-- the version of the first rank that passes is the greatest of the admissible ones
+pub first_version : (entries : List IndexEntry) (ranks : List Ranking) (rust : Option Numbers) (test : Parts → Bool) (r : Ranking) → IsRanking entries ranks
+    → find (passes rust test) ranks ≡ Some r → IsGreatest test full_order (admissible_in rust entries) (Some r.version)
+first_version entries ranks rust test r g h =
+    let t = tells_first entries ranks (passes rust test) r g (first_found (passes rust test) ranks r h) in
+    let v = greatest-versions rust test entries r.entry (greatest_first entries ranks rust test r g h) in
+    let both : Some v.0 ≡ Some r.version = sym (admissible-version rust r.entry v.0 v.1) ∙ tells-version entries r t in
+    let same : v.0 ≡ r.version = cc both in
+    subst (λ w. IsGreatest test full_order (admissible_in rust entries) (Some w)) same v.2
+
+-- where no rank passes, none of the admissible versions does
+pub no_version : (entries : List IndexEntry) (ranks : List Ranking) (rust : Option Numbers) (test : Parts → Bool) → IsRanking entries ranks
+    → find (passes rust test) ranks ≡ None → IsGreatest test full_order (admissible_in rust entries) None
+no_version entries ranks rust test g h = none-versions rust test entries (none_first entries ranks rust test g h)
 
 -- a search through the views of a list
 pub find-map : {X Y : Type 0} (f : X → Y) (p : Y → Bool) (xs : List X) → find p (map f xs) ≡ option_map f (find (λ x. p (f x)) xs)

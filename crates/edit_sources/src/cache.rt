@@ -5,7 +5,7 @@ ghost use Rattle.url.specs.Parts.{serialize};
 ghost use Rattle.edit_document.specs.Errors.{IsMemory};
 ghost use Rattle.edit_sources.specs.Index.{answer_of};
 ghost use Rattle.edit_sources.specs.IndexCache.{Fetches, IsMissed, Ranks, SameKept, SameKeptBut, has_version, index_of, kept_at, krate_at, ranking_at};
-ghost use Rattle.edit_sources.specs.Kept.{IsRanked};
+ghost use Rattle.edit_sources.specs.Kept.{IsRanked, IsRankedAt};
 
 use crate::index::{Index, IndexKrate};
 use crate::kept::Kept;
@@ -182,16 +182,26 @@ impl<I: Index> IndexCache<I> {
         ensures { Ranks (I.gives (index_of self.old)) (I.gives (index_of self.new)) (I.faults (index_of self.old)) (I.faults (index_of self.new)) registry.now name.now self.old self.new result }
     {
         match self.fetch(alloc, registry, name) {
-            Ok(()) => self.rank_kept(alloc, registry.as_str(), name),
+            Ok(()) => self.rank_kept(alloc, registry, name),
             Err(error) => Err(error),
         }
     }
 
-    /// Ranks an answer that is kept.
-    fn rank_kept(&mut self, alloc: Global, address: &str, name: &str) -> CargoResult<()>
+    /// Ranks the answer that is kept for a name, once, which `shown_ranking` then tells; it makes no look.
+    pub fn rank_kept(&mut self, alloc: Global, registry: &Url, name: &str) -> CargoResult<()>
+        ensures index { index_of self.new ≡ index_of self.old }
+        ensures kept { SameKept self.old self.new }
+        ensures ranked { OnOk result (IsRankedAt (kept_at self.new (serialize registry.now) name.now)
+            (ranking_at self.new (serialize registry.now) name.now)) }
+        ensures refused { IfErr result IsMemory }
+    {
+        self.rank_at(alloc, registry.as_str(), name)
+    }
+
+    fn rank_at(&mut self, alloc: Global, address: &str, name: &str) -> CargoResult<()>
         ensures index { self.new.index ≡ self.old.index }
         ensures kept { SameKept self.old self.new }
-        ensures ranked { OnOk result (IfSome (kept_at self.new address.now name.now) (λ k. IsRanked k (ranking_at self.new address.now name.now))) }
+        ensures ranked { OnOk result (IsRankedAt (kept_at self.new address.now name.now) (ranking_at self.new address.now name.now)) }
         ensures refused { IfErr result IsMemory }
     {
         let Some(names) = self.answers.get_mut(address) else {
