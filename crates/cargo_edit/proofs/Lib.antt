@@ -20,3 +20,4 @@ pub mod WrittenEntries
 pub mod FixedPoint
 pub mod PlannedAgain
 mod DecisionFacts
+pub mod RankedLemmas

@@ -1,6 +1,6 @@
 pub mod Decision
 pub mod Decided
-pub mod Readings
+pub mod Rankings
 pub mod Entries
 pub mod Records
 pub mod Rows

@@ -4,14 +4,14 @@ ghost use Rattle.cargo_edit.specs.declared.upgrade.Reason.TheVariants as reason;
 ghost use Rattle.std.specs.Prelude.{◌≡◌, if◌then◌else◌, Some, None, false, IfErr, IfOk, option_and_then, option_copied, option_map, string_bytes};
 ghost use Rattle.cargo_edit.specs.Decision.{decision, newer, or_else, same_text, text_or, unless_old};
 ghost use Rattle.cargo_edit.specs.Decided.{case_view, choice_view, decision_by, jumps_by, raised_choice};
-ghost use Rattle.edit_record.specs.Requirement.{plain_text};
-ghost use Rattle.edit_record.specs.Requirement.{raise};
+ghost use Rattle.edit_record.specs.ReadRequirement.{text_in};
+ghost use Rattle.edit_record.specs.Requirement.{plain_text, raise};
 ghost use Rattle.semver.specs.Identifiers.{parts_of};
 
-use crate::requirement::{Pin, read_pin};
+use crate::requirement::{Pin, pin_of};
 use crate::upgrade::{Change, Options, Reason};
 use edit_document::{CargoResult, Error};
-use edit_record::upgrade_requirement;
+use edit_record::Requirement;
 use semver::Version;
 use std::alloc::{AllocError, Global};
 
@@ -43,14 +43,14 @@ pub(crate) fn plain_version(alloc: Global, version: &Version) -> Result<String, 
 // The text `old` raised to a version, or `other` where a comparator cannot be raised.
 fn candidate(
     alloc: Global,
-    old: &str,
+    old: &Requirement<'_>,
     version: &Version,
     other: &str,
 ) -> CargoResult<Option<String>>
-    ensures text { IfOk result (λ o. option_map string_bytes o ≡ text_or other.now (raise old.now (parts_of version.now))) }
+    ensures text { IfOk result (λ o. option_map string_bytes o ≡ text_or other.now (raise (text_in old.now) (parts_of version.now))) }
     ensures refused { IfErr result IsMemory }
 {
-    match upgrade_requirement(alloc, old, version) {
+    match old.raised(alloc, version) {
         Ok(text) => Ok(text),
         Err(Error::Unsupported { comparator: _ }) => Ok(Some(String::from_str(alloc, other)?)),
         Err(Error::InvalidRequirement { text: _ }) => Ok(None),
@@ -61,11 +61,11 @@ fn candidate(
 // The text for the latest version, where that is newer than the compatible one.
 fn latest_candidate(
     alloc: Global,
-    old: &str,
+    old: &Requirement<'_>,
     compatible: Option<&Version>,
     latest: Option<&Version>,
 ) -> CargoResult<Option<String>>
-    ensures text { IfOk result (λ o. option_map string_bytes o ≡ option_and_then (λ v. text_or (plain_text v) (raise old.now v))
+    ensures text { IfOk result (λ o. option_map string_bytes o ≡ option_and_then (λ v. text_or (plain_text v) (raise (text_in old.now) v))
         (newer (option_map parts_of (option_copied latest.entry)) (option_map parts_of (option_copied compatible.entry)))) }
     ensures refused { IfErr result IsMemory }
 {
@@ -85,15 +85,15 @@ fn latest_candidate(
 // The text for the compatible version.
 fn compatible_candidate(
     alloc: Global,
-    old: &str,
+    old: &Requirement<'_>,
     compatible: Option<&Version>,
 ) -> CargoResult<Option<String>>
     ensures text { IfOk result (λ o. option_map string_bytes o
-        ≡ option_and_then (λ v. text_or old.now (raise old.now v)) (option_map parts_of (option_copied compatible.entry))) }
+        ≡ option_and_then (λ v. text_or (text_in old.now) (raise (text_in old.now) v)) (option_map parts_of (option_copied compatible.entry))) }
     ensures refused { IfErr result IsMemory }
 {
     match compatible {
-        Some(version) => candidate(alloc, old, version, old),
+        Some(version) => candidate(alloc, old, version, old.text()),
         None => Ok(None),
     }
 }
@@ -247,19 +247,19 @@ pub(crate) fn decide(
     excluded: bool,
     renamed: bool,
     selected: Option<&str>,
-    old: &str,
+    old: &Requirement<'_>,
     compatible: Option<&Version>,
     latest: Option<&Version>,
 ) -> CargoResult<Decided>
-    ensures decided { IfOk result (λ d. choice_view d ≡ decision options.now (case_view excluded renamed (option_copied selected.entry) old.now
+    ensures decided { IfOk result (λ d. choice_view d ≡ decision options.now (case_view excluded renamed (option_copied selected.entry) (text_in old.now)
         (option_copied compatible.entry) (option_copied latest.entry))) }
     ensures refused { IfErr result IsMemory }
 {
     if excluded {
-        return Ok(keep(alloc, old, Reason::Excluded)?);
+        return Ok(keep(alloc, old.text(), Reason::Excluded)?);
     }
-    let pin = read_pin(alloc, renamed, old)?;
+    let pin = pin_of(renamed, old);
     let far = latest_candidate(alloc, old, compatible, latest)?;
     let near = compatible_candidate(alloc, old, compatible)?;
-    Ok(decide_by(alloc, options, pin, selected, old, far, near)?)
+    Ok(decide_by(alloc, options, pin, selected, old.text(), far, near)?)
 }

@@ -1,7 +1,6 @@
 //! The upgrade of a manifest: what is planned for its entries.
 #![tactic(auto)]
 
-mod candidates;
 mod decide;
 mod lists;
 mod looks;

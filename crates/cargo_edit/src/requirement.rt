@@ -2,29 +2,14 @@
 ghost use Rattle.std.specs.List.{list_any};
 ghost use Rattle.std.specs.Prelude.{◌≡◌, ◌||◌, IfErr, IfOk, is_ok};
 ghost use Rattle.edit_document.specs.Errors.{IsMemory};
+ghost use Rattle.edit_record.specs.ReadRequirement.{text_in};
 ghost use Rattle.semver.specs.Parse.{req_of};
 ghost use Rattle.cargo_edit.specs.Decision.{has_pin_read, is_pin};
-ghost use Rattle.cargo_edit.specs.Readings.{IsReading};
 
-use edit_document::{CargoResult, Error};
-use semver::{Comparator, Op, VersionReq};
-use std::alloc::{AllocError, Global};
-
-/// The requirement that a text is; none where it is not read.
-pub(crate) fn read_requirement(alloc: Global, text: &str) -> CargoResult<Option<VersionReq>>
-    ensures read { IfOk result (IsReading (req_of text.now)) }
-    ensures refused { IfErr result IsMemory }
-{
-    match VersionReq::parse(alloc, text) {
-        Ok(req) => Ok(Some(req)),
-        Err(error) => {
-            if error == semver::Error::from(AllocError) {
-                return Err(Error::Memory);
-            }
-            Ok(None)
-        }
-    }
-}
+use edit_document::CargoResult;
+use edit_record::Requirement;
+use semver::{Comparator, Op};
+use std::alloc::Global;
 
 // `=`, `<`, `<=` and wildcards.
 fn is_pin(op: Op) -> bool
@@ -33,6 +18,7 @@ fn is_pin(op: Op) -> bool
     matches!(op, Op::Exact | Op::Less | Op::LessEq | Op::Wildcard)
 }
 
+// Whether one of them pins its entry.
 fn has_pin(comparators: &[Comparator]) -> bool
     ensures { result ≡ list_any (λ c. is_pin c.op) comparators.now }
 {
@@ -46,21 +32,29 @@ pub(crate) struct Pin {
     pub(crate) pinned: bool,
 }
 
-/// Whether a requirement is read, and whether it or another name pins the entry.
+/// Whether a text is a requirement, and whether it or another name pins the entry.
+pub(crate) fn pin_of(renamed: bool, old: &Requirement<'_>) -> Pin
+    ensures readable { result.readable ≡ is_ok (req_of (text_in old.now)) }
+    ensures pinned { result.pinned ≡ (renamed || has_pin_read (req_of (text_in old.now))) }
+{
+    match old.version_req() {
+        Some(req) => Pin {
+            readable: true,
+            pinned: renamed | has_pin(&req.comparators),
+        },
+        None => Pin {
+            readable: false,
+            pinned: renamed,
+        },
+    }
+}
+
+/// The same of a text that was not read yet.
 pub(crate) fn read_pin(alloc: Global, renamed: bool, text: &str) -> CargoResult<Pin>
     ensures readable { IfOk result (λ p. p.readable ≡ is_ok (req_of text.now)) }
     ensures pinned { IfOk result (λ p. p.pinned ≡ (renamed || has_pin_read (req_of text.now))) }
     ensures refused { IfErr result IsMemory }
 {
-    let read = read_requirement(alloc, text)?;
-    match read {
-        Some(req) => Ok(Pin {
-            readable: true,
-            pinned: renamed | has_pin(&req.comparators),
-        }),
-        None => Ok(Pin {
-            readable: false,
-            pinned: renamed,
-        }),
-    }
+    let read = Requirement::read(alloc, text)?;
+    Ok(pin_of(renamed, &read))
 }

@@ -1,53 +1,63 @@
 //! The rows of entries.
-ghost use Rattle.std.specs.Prelude.{◌≡◌, None, IfErr, IfOk, List, Option, false, map, option_copied, option_map, string_bytes};
+ghost use Rattle.std.specs.Prelude.{◌≡◌, IfErr, IfOk, Option, map, option_copied, option_map, string_bytes};
 ghost use Rattle.edit_document.specs.Errors.{IsMemory};
-ghost use Rattle.edit_record.specs.IndexEntry.{entry_of};
-ghost use Rattle.edit_record.specs.Admissible.{admissible_in};
+ghost use Rattle.edit_record.specs.ReadRequirement.{text_in};
 ghost use Rattle.edit_record.specs.Requirement.{plain_text};
-ghost use Rattle.edit_record.specs.RustVersions.{Numbers, numbers_of};
+ghost use Rattle.edit_record.specs.RustVersions.{numbers_of};
 ghost use Rattle.edit_record.specs.Selection.{IsCompatible, IsLatest};
+ghost use Rattle.edit_sources.specs.IndexCache.{index_of};
 ghost use Rattle.semver.specs.Identifiers.{parts_of};
 ghost use Rattle.url.specs.Parts.{serialize};
 ghost use Rattle.cargo_edit.specs.Decision.{decision, newer, or_else};
 ghost use Rattle.cargo_edit.specs.Found.{name_of, seen_of};
 ghost use Rattle.cargo_edit.specs.Lines.{line_of};
-ghost use Rattle.cargo_edit.specs.Looks.{kept_by, kept_setting, versions_in};
+ghost use Rattle.cargo_edit.specs.Looks.{Answer, kept_by, kept_setting, versions_in};
+ghost use Rattle.cargo_edit.specs.Rankings.{IsRankingOf};
 ghost use Rattle.cargo_edit.specs.Rows.{AreDecided, IsDecided, case_for, line_for};
 
-use crate::candidates::{admissible_versions, greatest};
 use crate::decide::{decide, plain_version};
-use crate::requirement::read_requirement;
 use crate::seen::{Entry, copied_place};
 use crate::upgrade::{Options, Row};
 use edit_document::CargoResult;
-use edit_record::{IndexVersion, RustVersion, allows_prerelease};
+use edit_record::{Requirement, RustVersion, allows_prerelease};
 use edit_sources::cache::IndexCache;
 use edit_sources::index::Index;
+use edit_sources::ranking::Ranked;
 use semver::Version;
 use std::alloc::Global;
 use url::Url;
 
-// The greatest version that a requirement admits; none where it is not read.
+// The greatest version that a requirement admits; none where it is not read or no version is told.
 fn compatible_for<'a>(
-    alloc: Global,
-    old: &str,
-    versions: &'a [Version],
-) -> CargoResult<Option<&'a Version>>
-    ensures ok { IfOk result (λ v. IsCompatible old.now (map parts_of versions.now) (option_map parts_of (option_copied v))) }
-    ensures refused { IfErr result IsMemory }
+    ranked: Option<&'a Ranked>,
+    old: &Requirement<'_>,
+    rust_version: Option<RustVersion>,
+) -> Option<&'a Version>
+    ensures { (answer : Option Answer) → IsRankingOf answer (option_copied ranked.entry) → IsCompatible (text_in old.now)
+        (versions_in (option_map numbers_of rust_version) answer) (option_map parts_of (option_copied result)) }
 {
-    let read = read_requirement(alloc, old)?;
-    match read {
-        Some(req) => Ok(greatest(versions, false, Some(&req))),
-        None => Ok(None),
+    match ranked {
+        Some(ranked) => match old.version_req() {
+            Some(req) => ranked.compatible_version(req, rust_version),
+            None => None,
+        },
+        None => None,
     }
 }
 
 // The greatest version, pre-releases among them where the requirement has a `-`.
-fn latest_for<'a>(old: &str, versions: &'a [Version]) -> Option<&'a Version>
-    ensures { IsLatest old.now (map parts_of versions.now) (option_map parts_of (option_copied result)) }
+fn latest_for<'a>(
+    ranked: Option<&'a Ranked>,
+    old: &str,
+    rust_version: Option<RustVersion>,
+) -> Option<&'a Version>
+    ensures { (answer : Option Answer) → IsRankingOf answer (option_copied ranked.entry) → IsLatest old.now
+        (versions_in (option_map numbers_of rust_version) answer) (option_map parts_of (option_copied result)) }
 {
-    greatest(versions, allows_prerelease(old), None)
+    match ranked {
+        Some(ranked) => ranked.latest_version(allows_prerelease(old), rust_version),
+        None => None,
+    }
 }
 
 // The text of a version, where there is one.
@@ -87,16 +97,17 @@ fn row_over(
     input: usize,
     options: &Options,
     entry: &Entry,
+    old: &Requirement<'_>,
     compatible: Option<&Version>,
     latest: Option<&Version>,
 ) -> CargoResult<Row>
+    requires { text_in old.now ≡ (seen_of entry.now).old }
     ensures ok { IfOk result (λ r. line_of r ≡ line_for input (seen_of entry.now)
         (option_map parts_of (option_copied compatible.entry)) (option_map parts_of (option_copied latest.entry))
         (decision options.now (case_for (seen_of entry.now)
         (option_map parts_of (option_copied compatible.entry)) (option_map parts_of (option_copied latest.entry))))) }
     ensures refused { IfErr result IsMemory }
 {
-    let old = entry.old.as_str();
     let decided = decide(alloc, options, false, false, None, old, compatible, latest)?;
     let near = version_text(alloc, compatible)?;
     let far = latest_text(alloc, compatible, latest)?;
@@ -105,7 +116,7 @@ fn row_over(
         name: String::from_str(alloc, entry.name.as_str())?,
         place: copied_place(alloc, &entry.place)?,
         rename: None,
-        old: Some(String::from_str(alloc, old)?),
+        old: Some(String::from_str(alloc, old.text())?),
         compatible: near,
         latest: far,
         new: Some(decided.new),
@@ -114,43 +125,27 @@ fn row_over(
     })
 }
 
-// The row of an entry, over what the index told of its name.
+// The row of an entry, over the ranking of what the index told of its name.
 fn row_for(
     alloc: Global,
     input: usize,
     options: &Options,
     entry: &Entry,
-    told: &[IndexVersion],
+    ranked: Option<&Ranked>,
     rust_version: Option<RustVersion>,
 ) -> CargoResult<Row>
-    ensures ok { IfOk result (λ r. IsDecided input options.now
-        (admissible_in (option_map numbers_of rust_version) (map entry_of told.now)) (seen_of entry.now) (line_of r)) }
+    ensures ok { IfOk result (λ r. (answer : Option Answer) → IsRankingOf answer (option_copied ranked.entry) → IsDecided input options.now
+        (versions_in (option_map numbers_of rust_version) answer) (seen_of entry.now) (line_of r)) }
     ensures refused { IfErr result IsMemory }
 {
-    let old = entry.old.as_str();
-    let versions = admissible_versions(alloc, told, rust_version)?;
-    let compatible = compatible_for(alloc, old, &versions)?;
-    let latest = latest_for(old, &versions);
-    let row = row_over(alloc, input, options, entry, compatible, latest)?;
+    let old = Requirement::read(alloc, entry.old.as_str())?;
+    let compatible = compatible_for(ranked, &old, rust_version);
+    let latest = latest_for(ranked, old.text(), rust_version);
+    let row = row_over(alloc, input, options, entry, &old, compatible, latest)?;
     Ok(row)
 }
 
-// What the index told of a name.
-fn told_versions<'a, I: Index>(
-    index: &'a IndexCache<I>,
-    registry: &Url,
-    name: &str,
-) -> &'a [IndexVersion]
-    ensures { (rust : Option Numbers) → admissible_in rust (map entry_of result.now)
-        ≡ versions_in rust (kept_by index.now (serialize registry.now) name.now) }
-{
-    match index.shown(registry, name) {
-        Some(krate) => krate.versions.as_slice(),
-        None => &[],
-    }
-}
-
-// The row of an entry, over the answer that is kept for its name.
+// The row of an entry, over the answer that is kept for its name, which is ranked where it was not.
 fn kept_row<I: Index>(
     alloc: Global,
     input: usize,
@@ -158,18 +153,22 @@ fn kept_row<I: Index>(
     rust_version: Option<RustVersion>,
     registry: &Url,
     entry: &Entry,
-    index: &IndexCache<I>,
+    index: &mut IndexCache<I>,
 ) -> CargoResult<Row>
     ensures ok { IfOk result (λ r. IsDecided input options.now
-        (versions_in (option_map numbers_of rust_version) (kept_by index.now (serialize registry.now) (name_of entry.now)))
+        (versions_in (option_map numbers_of rust_version) (kept_by index.new (serialize registry.now) (name_of entry.now)))
         (seen_of entry.now) (line_of r)) }
+    ensures index { index_of index.new ≡ index_of index.old }
+    ensures kept { kept_by index.new ≡ kept_by index.old }
     ensures refused { IfErr result IsMemory }
 {
-    let versions = told_versions(index, registry, entry.name.as_str());
-    row_for(alloc, input, options, entry, versions, rust_version)
+    let name = entry.name.as_str();
+    index.rank_kept(alloc, registry, name)?;
+    let ranked = index.shown_ranking(registry, name);
+    row_for(alloc, input, options, entry, ranked, rust_version)
 }
 
-/// The rows of entries, over the answers that are kept for their names.
+/// The rows of entries, over the answers that are kept for their names; these and the index stay as they are.
 pub(crate) fn decided_rows<I: Index>(
     alloc: Global,
     input: usize,
@@ -177,10 +176,12 @@ pub(crate) fn decided_rows<I: Index>(
     rust_version: Option<RustVersion>,
     registry: &Url,
     entries: &[Entry],
-    index: &IndexCache<I>,
+    index: &mut IndexCache<I>,
 ) -> CargoResult<Vec<Row>>
     ensures ok { IfOk result (λ rows. AreDecided (kept_setting input options.now (option_map numbers_of rust_version)
-        (kept_by index.now (serialize registry.now))) (map seen_of entries.now) (map line_of rows.items)) }
+        (kept_by index.old (serialize registry.now))) (map seen_of entries.now) (map line_of rows.items)) }
+    ensures index { index_of index.new ≡ index_of index.old }
+    ensures kept { kept_by index.new ≡ kept_by index.old }
     ensures refused { IfErr result IsMemory }
 {
     let mut rows = Vec::new(alloc);

@@ -20,7 +20,6 @@ pub mod Kept
 pub mod Offers
 pub mod Builds
 pub mod Lands
-pub mod PinLemmas
 pub mod Entries
 pub mod Steps
 mod Joined

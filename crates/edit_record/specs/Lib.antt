@@ -14,4 +14,4 @@ pub mod Candidates
 pub mod Increments
 pub mod Changed
 pub mod CrateWords
-pub mod Pins
+pub mod ReadRequirement

@@ -4,6 +4,7 @@ use Rattle.std.specs.Prelude.{ℕ, List, [], ◌∷◌, ◌++◌, Option, Some, 
 use Rattle.std.specs.Cmp.Lexicographic.{pointwise}
 use Rattle.std.specs.Fmt.{decimal}
 use Rattle.std.specs.List.{before_first}
+use Rattle.std.specs.Result.{result_ok}
 use Rattle.semver.specs.Identifiers.{comparator_view, marked}
 use Rattle.semver.specs.Parse.{Held, Parts, req_of}
 use Rattle.semver.specs.declared.error.Error.{Error}
@@ -14,6 +15,10 @@ use Rattle.semver.specs.declared.Op.TheVariants as op
 -- the comparators of a requirement that was read (own)
 abbrev pub comparators_of : VersionReq → List Held
 comparators_of req = map comparator_view req.comparators.items
+
+-- what is read of a text as a requirement, none where it is none
+abbrev pub requirement_read : List ℕ → Option (List Held)
+requirement_read text = result_ok (req_of text)
 
 -- the sign of an operator (Cargo reference, "Specifying Dependencies")
 abbrev pub sign : Op → List ℕ

@@ -6,7 +6,7 @@ ghost use Rattle.edit_document.specs.Errors.{IsMemory};
 ghost use Rattle.edit_record.specs.CrateWords.{IsNamedBy, IsReadOrAbsent, IsRefusedName, IsRefusedRequirement, IsRefusedWord, is_name_char, listed, unfit, word_name, word_requirement};
 ghost use Rattle.edit_record.specs.Refusals.{IsUnread};
 
-use crate::requirement::read_requirement;
+use crate::requirement::required;
 use edit_document::errors::{CargoResult, Error};
 use std::alloc::{AllocError, Global};
 use unicode::properties::{GeneralCategory, GeneralCategoryGroup, is_alphabetic};
@@ -73,7 +73,7 @@ fn check_requirement(alloc: Global, req: Option<&str>) -> CargoResult<Option<Str
     let Some(req) = req else {
         return Ok(None);
     };
-    let _read = read_requirement(alloc, req)?;
+    let _read = required(alloc, req)?;
     Ok(Some(String::from_str(alloc, req)?))
 }
 

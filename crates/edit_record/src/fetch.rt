@@ -7,7 +7,7 @@ ghost use Rattle.edit_record.specs.Requirement.{comparators_of};
 ghost use Rattle.edit_record.specs.RustVersions.{numbers_of, rust_numbers, rust_of};
 ghost use Rattle.semver.specs.Identifiers.{comparator_view};
 
-use crate::requirement::read_requirement;
+use crate::requirement::required;
 use edit_document::errors::{CargoResult, Error};
 use semver::{Comparator, Op, Version, VersionReq};
 use std::alloc::{AllocError, Global};
@@ -41,7 +41,7 @@ impl RustVersion {
         ensures ok { IfOk result (λ v. rust_of text.now ≡ Some (numbers_of v)) }
         ensures refused { IfErr result (λ e. IsNoRustVersion text.now e) }
     {
-        let req = read_requirement(alloc, text)?;
+        let req = required(alloc, text)?;
         match rust_version_of(&req.comparators) {
             Some(version) => Ok(version),
             None => Err(Error::BadRustVersion),

@@ -19,7 +19,7 @@ ghost use Rattle.semver.specs.Parse.{Parts, req_of, version_parts};
 
 use crate::dependency::{Dependency, RegistrySource, Source};
 use crate::fetch::{IndexVersion, RustVersion, rust_version_of};
-use crate::requirement::admits;
+use crate::requirement::{admits, read_requirement};
 use edit_document::errors::{CargoResult, Error};
 use semver::{Version, VersionReq};
 use std::alloc::{AllocError, Global};
@@ -37,10 +37,17 @@ impl Candidate {
     pub fn is_for(&self, rust_version: Option<RustVersion>) -> bool
         ensures { result ≡ not (is_too_new (option_map numbers_of self.now.rust_version) (option_map numbers_of rust_version)) }
     {
-        match (self.rust_version, rust_version) {
-            (Some(asked), Some(given)) => asked <= given,
-            _ => true,
-        }
+        is_for(self.rust_version, rust_version)
+    }
+}
+
+/// Whether the Rust version that is asked for is not above the given one, where there are both.
+pub fn is_for(asked: Option<RustVersion>, given: Option<RustVersion>) -> bool
+    ensures { result ≡ not (is_too_new (option_map numbers_of asked) (option_map numbers_of given)) }
+{
+    match (asked, given) {
+        (Some(asked), Some(given)) => asked <= given,
+        _ => true,
     }
 }
 
@@ -65,14 +72,9 @@ fn read_rust_version(alloc: Global, text: &str) -> CargoResult<Option<RustVersio
     ensures ok { IfOk result (λ o. option_map numbers_of o ≡ rust_of text.now) }
     ensures refused { IfErr result IsMemory }
 {
-    match VersionReq::parse(alloc, text) {
-        Ok(req) => Ok(rust_version_of(&req.comparators)),
-        Err(error) => {
-            if error == semver::Error::from(AllocError) {
-                return Err(Error::Memory);
-            }
-            Ok(None)
-        }
+    match read_requirement(alloc, text)? {
+        Some(req) => Ok(rust_version_of(&req.comparators)),
+        None => Ok(None),
     }
 }
 
@@ -115,8 +117,8 @@ pub fn dependency_on(alloc: Global, told: &IndexVersion) -> CargoResult<Dependen
     Ok(dependency.set_source(Source::Registry(source)))
 }
 
-// Whether a version is wanted: a requirement admits it, or without one, it may have its pre-release.
-fn is_wanted(version: &Version, allow_prerelease: bool, req: Option<&VersionReq>) -> bool
+/// Whether a version is wanted: a requirement admits it, or without one, it may have its pre-release.
+pub fn is_wanted(version: &Version, allow_prerelease: bool, req: Option<&VersionReq>) -> bool
     ensures { result ≡ is_wanted allow_prerelease (option_map comparators_of (option_copied req.entry)) (parts_of version.now) }
 {
     match req {

@@ -13,7 +13,10 @@ pub use crate_spec::CrateSpec;
 pub use dependency::{Dependency, GitSource, PathSource, RegistrySource, Source, WorkspaceSource};
 pub use fetch::{IndexVersion, RustVersion};
 pub use find::{
-    Candidate, dependency_on, find_compatible_version, find_latest_version, read_candidate,
+    Candidate, dependency_on, find_compatible_version, find_latest_version, is_for, is_wanted,
+    read_candidate,
 };
-pub use requirement::{admits, allows_prerelease, cut, upgrade_requirement};
+pub use requirement::{
+    Requirement, admits, allows_prerelease, cut, read_requirement, upgrade_requirement,
+};
 pub use version::VersionExt;

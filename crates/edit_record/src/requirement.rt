@@ -1,9 +1,10 @@
 //! Requirements raised to a version.
-ghost use Rattle.std.specs.Prelude.{◌≡◌, ◌<◌, ◌^◌, false, length, IfErr, IfOk, IfSome, IsTrue, Ok, string_bytes};
+ghost use Rattle.std.specs.Prelude.{◌≡◌, ◌<◌, ◌^◌, false, length, IfErr, IfOk, IfSome, IsTrue, None, Ok, option_copied, option_map, string_bytes};
 ghost use Rattle.edit_record.specs.Admits.{admits};
 ghost use Rattle.edit_record.specs.Laws.{Admits, AdmitsNoLower, CanReach, IsNarrower, IsPlainRequirement, IsReadable, IsRelease, IsSettled, KeepsForm, holds_dash, holds_plus, text_after};
+ghost use Rattle.edit_document.specs.Errors.{IsMemory};
 ghost use Rattle.edit_record.specs.Refusals.{IsAnswer, IsUnread};
-ghost use Rattle.edit_record.specs.Requirement.{comparators_of, cut, raise};
+ghost use Rattle.edit_record.specs.Requirement.{comparators_of, cut, raise, requirement_read};
 ghost use Rattle.semver.specs.Identifiers.{parts_of};
 ghost use Rattle.semver.specs.Parse.{Parts, req_of, version_parts};
 
@@ -12,29 +13,99 @@ use edit_document::errors::{CargoResult, Error};
 use semver::{Version, VersionReq};
 use std::alloc::{AllocError, Global};
 
-// Reads a requirement.
-pub(crate) fn read_requirement(alloc: Global, req: &str) -> CargoResult<VersionReq>
-    ensures ok { IfOk result (λ r. req_of req.now ≡ Ok (comparators_of r)) }
-    ensures refused { IfErr result (λ e. IsUnread req.now e) }
+/// The requirement that a text is; none where it is none.
+pub fn read_requirement(alloc: Global, text: &str) -> CargoResult<Option<VersionReq>>
+    ensures read { IfOk result (λ o. option_map comparators_of o ≡ requirement_read text.now) }
+    ensures refused { IfErr result IsMemory }
 {
-    match VersionReq::parse(alloc, req) {
-        Ok(parsed) => Ok(parsed),
+    match VersionReq::parse(alloc, text) {
+        Ok(req) => Ok(Some(req)),
         Err(error) => {
             if error == semver::Error::from(AllocError) {
                 return Err(Error::Memory);
             }
-            Err(Error::InvalidRequirement {
-                text: String::from_str(alloc, req)?,
-            })
+            Ok(None)
         }
     }
 }
 
-// The requirement `req` raised to `version`, where that is another text.
-fn raised_requirement(alloc: Global, req: &str, version: &Version) -> CargoResult<Option<String>>
+// That a text is no requirement.
+fn unread(alloc: Global, text: &str) -> Error
+    requires { requirement_read text.now ≡ None }
+    ensures { IsUnread text.now result }
+{
+    match String::from_str(alloc, text) {
+        Ok(text) => Error::InvalidRequirement { text },
+        Err(error) => Error::from(error),
+    }
+}
+
+/// The requirement that a text is, refused with 14 where it is none.
+pub(crate) fn required(alloc: Global, text: &str) -> CargoResult<VersionReq>
+    ensures ok { IfOk result (λ r. req_of text.now ≡ Ok (comparators_of r)) }
+    ensures refused { IfErr result (λ e. IsUnread text.now e) }
+{
+    match read_requirement(alloc, text)? {
+        Some(req) => Ok(req),
+        None => Err(unread(alloc, text)),
+    }
+}
+
+/// A text with what is read of it as a requirement, once.
+#[derive(Debug, Drop)]
+pub struct Requirement<'a> {
+    text: &'a str,
+    read: Option<VersionReq>,
+    ghost reading: { option_map comparators_of read ≡ requirement_read text.now },
+}
+
+impl<'a> Requirement<'a> {
+    ghost use Rattle.edit_record.specs.ReadRequirement.{text_in};
+
+    /// Reads a text; it need not be a requirement.
+    pub fn read(alloc: Global, text: &'a str) -> CargoResult<Requirement<'a>>
+        ensures text { IfOk result (λ r. text_in r ≡ text.now) }
+        ensures refused { IfErr result IsMemory }
+    {
+        let read = read_requirement(alloc, text)?;
+        Ok(Requirement { text, read })
+    }
+
+    /// The text.
+    pub fn text(&self) -> &'a str
+        ensures { result.now ≡ text_in self.now }
+    {
+        self.text
+    }
+
+    /// The requirement; none where the text is none.
+    pub fn version_req(&self) -> Option<&VersionReq>
+        ensures { option_map comparators_of (option_copied result) ≡ requirement_read (text_in self.now) }
+    {
+        self.read.as_ref()
+    }
+
+    /// The text raised to a version, as `upgrade_requirement` gives it.
+    pub fn raised(&self, alloc: Global, version: &Version) -> CargoResult<Option<String>>
+        ensures { IsAnswer (raise (text_in self.now) (parts_of version.now)) (text_in self.now) result }
+    {
+        match &self.read {
+            Some(read) => raised_from(alloc, self.text, read, version),
+            None => Err(unread(alloc, self.text)),
+        }
+    }
+}
+
+// The requirement `req`, of which `parsed` was read, raised to `version`, where that is another text.
+fn raised_from(
+    alloc: Global,
+    req: &str,
+    parsed: &VersionReq,
+    version: &Version,
+) -> CargoResult<Option<String>>
+    requires { req_of req.now ≡ Ok (comparators_of parsed.now) }
     ensures { IsAnswer (raise req.now (parts_of version.now)) req.now result }
 {
-    let parsed = read_requirement(alloc, req)?;
     if parsed.comparators.is_empty() {
         return Ok(None);
     }
@@ -49,6 +120,14 @@ fn raised_requirement(alloc: Global, req: &str, version: &Version) -> CargoResul
         return Ok(None);
     }
     Ok(Some(String::from_str(alloc, text)?))
+}
+
+// The requirement `req` raised to `version`, where that is another text.
+fn raised_requirement(alloc: Global, req: &str, version: &Version) -> CargoResult<Option<String>>
+    ensures { IsAnswer (raise req.now (parts_of version.now)) req.now result }
+{
+    let read = Requirement::read(alloc, req)?;
+    read.raised(alloc, version)
 }
 
 // A number of 64 bits, for proofs over the numbers of a version.

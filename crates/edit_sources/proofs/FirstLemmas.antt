@@ -11,19 +11,22 @@ use Rattle.std.proofs.lemmas.Bool.{cases_Bool}
 use Rattle.std.proofs.lemmas.Bool.Decides.{nat_tests}
 use Rattle.std.proofs.lemmas.Grind.{common_steps}
 use Rattle.std.proofs.lemmas.List.Elements.{All-nil, All-cons, All-head, All-tail}
-use Rattle.std.proofs.lemmas.List.Sorted.{ranks_by, sorted_far}
+use Rattle.std.proofs.lemmas.List.Sorted.{sorted_far}
+use Rattle.std.proofs.lemmas.List.MinMax.{ranks_by}
 use Rattle.std.proofs.lemmas.Option.{get_or_from_slice_get, slice_get_within, slice_get-get_or}
 use Rattle.semver.specs.Parse.{Parts}
-use Rattle.edit_record.specs.Admissible.{asked_rust, candidate_in, entry_order, if_fits, if_passes, is_kept, is_too_new, version_in}
+use Rattle.edit_record.specs.Admissible.{admissible_in, asked_rust, candidate_in, entry_order, if_fits, if_passes, is_kept, is_too_new, version_in}
 use Rattle.edit_record.specs.Greatest.{IsGreatest, IsGreatestKept}
 use Rattle.edit_record.specs.IndexEntry.{IndexEntry}
 use Rattle.edit_record.specs.RustVersions.{Numbers}
 use Rattle.edit_record.specs.VersionOrder.{full_order}
+use Rattle.edit_record.proofs.Entries.{greatest-versions, none-versions}
+use Rattle.edit_record.proofs.Kept.{admissible-version}
 use Rattle.edit_record.proofs.Orders.{full_total}
-use Rattle.edit_sources.specs.Ranking.{IsRanking, Ranking, Tells, passes, rank_order}
+use Rattle.edit_sources.specs.Ranking.{IsInOrder, IsRanking, Ranking, Tells, passes, rank_order}
 
 -- the order of ranks is total
-rank_total : IsTotalOrder rank_order
+pub rank_total : IsTotalOrder rank_order
 rank_total = then_total (back_total (on_total (λ (r : Ranking). r.version) full_total)) (back_total (on_total (λ (r : Ranking). r.place) nat_cmp_total))
 
 -- where a search ends: at an element that passes, after others that do not
@@ -134,7 +137,7 @@ decide Less i j h = cc h
 decide Equal i j h = (refl, λ low. absurd (not_less i j h low))
 decide Greater i j h = (refl, λ low. refl)
 
-le_or_lt : (i k : ℕ) → (i ≤ k) ⊎ (k < i)
+pub le_or_lt : (i k : ℕ) → (i ≤ k) ⊎ (k < i)
 le_or_lt i k = elim (cases_Bool (nat_le i k)) [
   | inl holds ↦ inl (grind (arith, nat_tests))
   | inr fails ↦ inr (grind (arith, nat_tests))
@@ -143,6 +146,13 @@ le_or_lt i k = elim (cases_Bool (nat_le i k)) [
 same_place : (m n : ℕ) → (m == n) ≡ true → m ≡ n
 same_place m n h = grind (arith, nat_tests)
 
+-- what comes after a rank is not less in that order
+after_not_less : (a b : Ranking) → rank_order a b ≡ Less → is_lt (rank_order b a) ≡ false
+after_not_less a b h = ap is_lt (rank_total.antisymm b a ∙ ap ordering_reverse h)
+
+sorted_order : (ranks : List Ranking) → IsInOrder ranks → IsSorted rank_order ranks
+sorted_order ranks h k d low high = after_not_less (get_or ranks k d) (get_or ranks (k + 1) d) (h k (k + 1) d (omega arith) high)
+
 -- what each rank of a ranking is, beside the first that passes
 abbrev Beside : List IndexEntry → (Ranking → Bool) → Ranking → Ranking → Type 0
 Beside entries p r s = Tells entries s × ((p s ≡ false) ⊎ (is_lt (rank_order s r) ≡ false))
@@ -150,7 +160,7 @@ Beside entries p r s = Tells entries s × ((p s ≡ false) ⊎ (is_lt (rank_orde
 beside : (entries : List IndexEntry) (ranks : List Ranking) (p : Ranking → Bool) (r : Ranking) → IsRanking entries ranks → IsFirst p ranks r → All (Beside entries p r) ranks
 beside entries ranks p r g f k d within = elim (le_or_lt f.at k) [
   | inl after ↦
-      let sorted : is_lt (rank_order (get_or ranks k d) (get_or ranks f.at d)) ≡ false = sorted_far (λ a b. is_lt (rank_order a b)) (ranks_by rank_total (λ (s : Ranking). s)) ranks g.order f.at k d after within in
+      let sorted : is_lt (rank_order (get_or ranks k d) (get_or ranks f.at d)) ≡ false = sorted_far (λ a b. is_lt (rank_order a b)) (ranks_by rank_total (λ (s : Ranking). s)) ranks (sorted_order ranks g.order) f.at k d after within in
       (g.tells k d within, inr (subst (λ s. is_lt (rank_order (get_or ranks k d) s) ≡ false) (f.is d) sorted))
   | inr before ↦ (g.tells k d within, inl (f.before k d before))
 ]
@@ -215,6 +225,21 @@ none_first entries ranks rust test g h j d within = elim (cases_Bool (is_kept ru
   | inl kept ↦ absurd (none_kept entries ranks rust test g (none_found (passes rust test) ranks h) j (get_or entries j d) (slice_get-get_or entries j d within) kept)
   | inr dropped ↦ dropped
 ]
+
+-- the version of the first rank that passes is the greatest of the admissible ones
+pub first_version : (entries : List IndexEntry) (ranks : List Ranking) (rust : Option Numbers) (test : Parts → Bool) (r : Ranking) → IsRanking entries ranks
+    → find (passes rust test) ranks ≡ Some r → IsGreatest test full_order (admissible_in rust entries) (Some r.version)
+first_version entries ranks rust test r g h =
+    let t = tells_first entries ranks (passes rust test) r g (first_found (passes rust test) ranks r h) in
+    let v = greatest-versions rust test entries r.entry (greatest_first entries ranks rust test r g h) in
+    let both : Some v.0 ≡ Some r.version = sym (admissible-version rust r.entry v.0 v.1) ∙ tells-version entries r t in
+    let same : v.0 ≡ r.version = cc both in
+    subst (λ w. IsGreatest test full_order (admissible_in rust entries) (Some w)) same v.2
+
+-- where no rank passes, none of the admissible versions does
+pub no_version : (entries : List IndexEntry) (ranks : List Ranking) (rust : Option Numbers) (test : Parts → Bool) → IsRanking entries ranks
+    → find (passes rust test) ranks ≡ None → IsGreatest test full_order (admissible_in rust entries) None
+no_version entries ranks rust test g h = none-versions rust test entries (none_first entries ranks rust test g h)
 
 -- a search through the views of a list
 pub find-map : {X Y : Type 0} (f : X → Y) (p : Y → Bool) (xs : List X) → find p (map f xs) ≡ option_map f (find (λ x. p (f x)) xs)

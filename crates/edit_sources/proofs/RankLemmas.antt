@@ -1,23 +1,29 @@
 -- What the ranks of entries tell, and what sorting keeps of it.
-use Rattle.std.proofs.Common.{◌≡◌, ℕ, ◌+◌, ◌<◌, List, [], ◌∷◌, ◌++◌, length, map, Option, Some, None, Bool, true, false, ◌==◌, ◌||◌, IsSome, subst, sym, ap, ◌∙◌, refl, append_assoc, arith, zero, suc, eq-eqb, length-append, append-nil, take, get_or}
+use Rattle.std.proofs.Common.{◌≡◌, ℕ, ◌+◌, ◌<◌, List, [], ◌∷◌, ◌++◌, length, map, Option, Some, None, Bool, true, false, ◌==◌, ◌||◌, ◌≤◌, IsSome, cond, inl, inr, subst, sym, ap, ◌∙◌, refl, append_assoc, arith, zero, suc, eq-eqb, length-append, append-nil, take, get_or}
 use Rattle.std.specs.Prelude.{All, slice_get, option_and_then, option_map, option_to_list}
-use Rattle.std.specs.List.{list_any}
+use Rattle.std.specs.List.{list_any, sum_by}
 use Rattle.std.proofs.lemmas.List.Elements.{All-nil, All-cons, All-append}
 use Rattle.std.proofs.lemmas.Grind.{common_steps}
 use Rattle.std.proofs.lemmas.List.{take_more, map-append, get_or-map, length-map}
 use Rattle.edit_record.specs.declared.fetch.IndexVersion.{IndexVersion}
 use Rattle.std.specs.List.Sorted.{IsSorted, IsPermutation}
-use Rattle.std.specs.Ordering.{is_lt, nat_cmp, ordering_then}
+use Rattle.std.specs.Ordering.{is_lt, nat_cmp, ordering_reverse, ordering_then}
 use Rattle.std.specs.declared.cmp.Ordering.{Ordering}
 use Rattle.std.specs.declared.cmp.Ordering.TheVariants.{Less, Equal, Greater}
 use Rattle.semver.specs.Identifiers.{build_text, pre_text}
 use Rattle.semver.specs.Order.{build_cmp, pre_cmp}
-use Rattle.std.proofs.lemmas.List.Sorted.{All-permutation, IsPermutation-map, list_any-IsPermutation}
+use Rattle.std.proofs.lemmas.List.Sorted.{All-permutation, IsPermutation-map, list_any-IsPermutation, sorted_far, sum_by-IsPermutation}
+use Rattle.std.specs.FinMap.{nat_cmp-IsAntisymmetric}
+use Rattle.std.proofs.lemmas.Bool.Decides.{nat_tests}
+use Rattle.std.proofs.lemmas.List.MinMax.{ranks_by}
+use Rattle.std.proofs.lemmas.List.Sums.{sum_by-append, sum_by-cons}
+use Rattle.edit_record.specs.VersionOrder.{full_order}
+use Rattle.edit_sources.proofs.FirstLemmas.{le_or_lt, rank_total}
 use Rattle.semver.specs.Parse.{Parts}
 use Rattle.edit_record.specs.Admissible.{candidate_in}
 use Rattle.edit_record.specs.IndexEntry.{IndexEntry, entry_of}
 use Rattle.edit_record.specs.RustVersions.{Numbers}
-use Rattle.edit_sources.specs.Ranking.{Tells, IsRanking, ranking, rank_at, rank_of, rank_order, ranks_from}
+use Rattle.edit_sources.specs.Ranking.{IsInOrder, IsRanking, Ranking, Tells, ranking, rank_at, rank_of, rank_order, ranks_from}
 use Rattle.edit_sources.specs.declared.ranking.Rank.{Rank}
 
 -- one entry more
@@ -124,11 +130,83 @@ sorted_ranks ranks h k d low high =
     let second : get_or (map rank_of ranks) (k + 1) d ≡ rank_of (get_or ranks (k + 1) e) = get_or-map rank_of ranks (k + 1) e d within in
     rw (first, second) (subst (λ o. is_lt o ≡ false) (by_rank (get_or ranks (k + 1) e) (get_or ranks k e)) (h k e low within))
 
+-- one for a rank at this place (own)
+abbrev at_place : ℕ → Ranking → ℕ
+at_place i r = cond (r.place == i) 1 0
+
+at_place-same : (i : ℕ) (r : Ranking) → r.place ≡ i → at_place i r ≡ 1
+at_place-same i r h = let same : (r.place == i) ≡ true = eq-eqb r.place i h in rw same refl
+
+at_place-le : (i : ℕ) (r : Ranking) → at_place i r ≤ 1
+at_place-le i r = grind (arith, nat_tests)
+
+one_at : (i n : ℕ) (e : IndexEntry) (o : Option (Parts × Option Numbers)) → sum_by (at_place i) (option_to_list (option_map (ranking n e) o)) ≤ 1
+one_at i n e None = omega arith
+one_at i n e (Some c) = omega (arith, at_place-le i (ranking n e c))
+
+none_at : (i n : ℕ) (e : IndexEntry) (o : Option (Parts × Option Numbers)) → i < n → sum_by (at_place i) (option_to_list (option_map (ranking n e) o)) ≡ 0
+none_at i n e None low = refl
+none_at i n e (Some c) low = grind (arith, nat_tests)
+
+none_before : (i n : ℕ) (xs : List IndexEntry) → i < n → sum_by (at_place i) (ranks_from n xs) ≡ 0
+none_before i n [] low = refl
+none_before i n (e ∷ xs) low =
+    let here = none_at i n e (candidate_in e) low in
+    let rest = none_before i (n + 1) xs (omega arith) in
+    sum_by-append (at_place i) (rank_at n e) (ranks_from (n + 1) xs) ∙ omega (arith, here, rest)
+
+none_here : (i n : ℕ) (e : IndexEntry) (o : Option (Parts × Option Numbers)) → n < i → sum_by (at_place i) (option_to_list (option_map (ranking n e) o)) ≡ 0
+none_here i n e None low = refl
+none_here i n e (Some c) low = grind (arith, nat_tests)
+
+-- an entry has one rank at most
+once_from : (i n : ℕ) (xs : List IndexEntry) → sum_by (at_place i) (ranks_from n xs) ≤ 1
+once_from i n [] = omega arith
+once_from i n (e ∷ xs) =
+    let whole = sum_by-append (at_place i) (rank_at n e) (ranks_from (n + 1) xs) in elim (le_or_lt i n) [
+      | inl low ↦ omega (arith, whole, one_at i n e (candidate_in e), none_before i (n + 1) xs (omega arith))
+      | inr high ↦ omega (arith, whole, none_here i n e (candidate_in e) high, once_from i (n + 1) xs)
+    ]
+
+-- an element adds to a sum
+adds_one : {X : Type 0} (f : X → ℕ) (xs : List X) (k : ℕ) (d : X) → k < length xs → f (get_or xs k d) ≤ sum_by f xs
+adds_one f [] k d h = absurd (omega arith)
+adds_one f (x ∷ xs) zero d h = omega (arith, sum_by-cons f x xs)
+adds_one f (x ∷ xs) (suc k) d h = omega (arith, sum_by-cons f x xs, adds_one f xs k d (omega arith))
+
+adds_both : {X : Type 0} (f : X → ℕ) (xs : List X) (j k : ℕ) (d : X) → j < k → k < length xs → f (get_or xs j d) + f (get_or xs k d) ≤ sum_by f xs
+adds_both f [] j k d low h = absurd (omega arith)
+adds_both f (x ∷ xs) j zero d low h = absurd (omega arith)
+adds_both f (x ∷ xs) zero (suc k) d low h = omega (arith, sum_by-cons f x xs, adds_one f xs k d (omega arith))
+adds_both f (x ∷ xs) (suc j) (suc k) d low h = omega (arith, sum_by-cons f x xs, adds_both f xs j k d (omega arith) (omega arith))
+
+less_or : (o r : Ordering) → o ≡ ordering_reverse r → is_lt r ≡ false → (o ≡ Equal → ⊥) → o ≡ Less
+less_or o Less e h n = cc h
+less_or o Equal e h n = absurd (n e)
+less_or o Greater e h n = e
+
+second_equal : (o r : Ordering) → ordering_then o r ≡ Equal → r ≡ Equal
+second_equal Less r h = cc h
+second_equal Equal r h = h
+second_equal Greater r h = cc h
+
+-- what is in order and has no place twice is so strictly
+in_order : (ranks : List Ranking) → IsSorted rank_order ranks → ((i : ℕ) → sum_by (at_place i) ranks ≤ 1) → IsInOrder ranks
+in_order ranks sorted once j k d low high =
+    let a = get_or ranks j d in
+    let b = get_or ranks k d in
+    let far : is_lt (rank_order b a) ≡ false = sorted_far (λ x y. is_lt (rank_order x y)) (ranks_by rank_total (λ (s : Ranking). s)) ranks sorted j k d (omega arith) high in
+    let apart : rank_order a b ≡ Equal → ⊥ = λ equal.
+    (let same : b.place ≡ a.place = nat_cmp-IsAntisymmetric b.place a.place (second_equal (full_order b.version a.version) (nat_cmp b.place a.place) equal) in
+    omega (arith, adds_both (at_place a.place) ranks j k d low high, at_place-same a.place a refl, at_place-same a.place b same, once a.place)) in
+    less_or (rank_order a b) (rank_order b a) (rank_total.antisymm a b) far apart
+
 -- the ranks of entries, sorted, are their ranking
 pub ranking_from_sort : (entries : List IndexEntry) (old new : List Rank) → map rank_of old ≡ ranks_from 0 entries → IsPermutation old new → IsSorted by_fields new → IsRanking entries (map rank_of new)
 ranking_from_sort entries old new read moved sorted =
     let same : IsPermutation (ranks_from 0 entries) (map rank_of new) = subst (λ rs. IsPermutation rs (map rank_of new)) read (IsPermutation-map rank_of old new moved) in record {
       tells = All-permutation (Tells entries) (ranks_from 0 entries) (map rank_of new) same (tells_from [] entries);
       each = λ i h. sym (list_any-IsPermutation (λ r. r.place == i) (ranks_from 0 entries) (map rank_of new) same) ∙ each_from 0 entries i h i (omega arith);
-      order = sorted_ranks new sorted;
+      order = in_order (map rank_of new) (sorted_ranks new sorted)
+          (λ i. omega (arith, sum_by-IsPermutation (at_place i) (ranks_from 0 entries) (map rank_of new) same, once_from i 0 entries));
     }

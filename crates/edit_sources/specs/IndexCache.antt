@@ -1,5 +1,5 @@
 -- The answers of an index that are kept: a finite map from address and name to the first answer (own).
-use Rattle.std.specs.Prelude.{◌≡◌, ◌≢◌, ℕ, ◌⊎◌, List, Option, Some, None, Bool, option_map, option_and_then, string_bytes, Result, Ok, IsOk, IsSome, IfSome, IfErr, OnOk, OnErr}
+use Rattle.std.specs.Prelude.{◌≡◌, ◌≢◌, ℕ, ◌⊎◌, List, Option, Some, None, Bool, option_map, option_and_then, string_bytes, Result, Ok, Err, IsOk, IsSome, IfSome, IfErr, OnOk, OnErr}
 use Rattle.std.specs.List.{list_any}
 use Rattle.std.specs.Str.{bytes_eq}
 use Rattle.std.specs.BTreeMap.{get_by_text}
@@ -59,3 +59,8 @@ pub record Ranks {I T : Type 0} (gives gives_new : Outcomes) (faults faults_new 
   pub given : kept_at old (serialize address) name ≡ None → IfSome (kept_at new (serialize address) name) (λ k. gives address name (Ok (answer_of k)))
   pub same : SameOutcomes gives gives_new
   pub cause : HasLookCause gives address name faults faults_new result
+
+-- why an answer is not told: want of memory, or, where none was kept, a refusal that the index gives or a fault of its device (own)
+abbrev pub IsMissed : Outcomes → Parts → List ℕ → Option (Option IndexKrate) → Error → Type 0
+IsMissed gives address name kept e =
+    IsMemory e ⊎ ((kept ≡ None) × ((IsLookRefusal (number_of e) × gives address name (Err (number_of e))) ⊎ (number_of e ≡ 3)))

@@ -19,6 +19,12 @@ IsRanked None (Some ranked) = ⊥
 IsRanked (Some krate) None = ⊥
 IsRanked (Some krate) (Some ranked) = IsRanking (entries_of krate) (ranks_of ranked)
 
+-- the ranking of the answer that is kept, and none where none is (own)
+abbrev pub IsRankedAt : Option (Option IndexKrate) → Option Ranked → Type 0
+IsRankedAt None None = Unit {0}
+IsRankedAt None (Some ranked) = ⊥
+IsRankedAt (Some answer) ranked = IsRanked answer ranked
+
 pub FitsAnswer-prop : (answer : Option IndexKrate) (ranked : Option Ranked) → IsProp (FitsAnswer answer ranked)
 FitsAnswer-prop answer None = hlevel
 FitsAnswer-prop None (Some ranked) = hlevel

@@ -1,9 +1,9 @@
 -- The entries of an answer ranked by their versions, the greatest first (own).
 use Rattle.std.specs.Prelude.{◌≡◌, ℕ, ◌+◌, ◌==◌, ◌&&◌, List, [], ◌∷◌, ◌++◌, map, Option, Some, Bool, true, not, IsSome, option_map, option_and_then, option_to_list, slice_get, All}
-use Rattle.std.specs.List.{list_any}
-use Rattle.std.specs.List.Sorted.{IsSorted}
+use Rattle.std.specs.List.{AllPairs, list_any}
 use Rattle.std.specs.Ordering.{nat_cmp, ordering_then}
 use Rattle.std.specs.declared.cmp.Ordering.{Ordering}
+use Rattle.std.specs.declared.cmp.Ordering.TheVariants.{Less}
 use Rattle.semver.specs.Identifiers.{parts_of}
 use Rattle.semver.specs.Parse.{Parts}
 use Rattle.edit_record.specs.Admissible.{candidate_in, is_too_new}
@@ -41,11 +41,15 @@ pub record Tells (entries : List IndexEntry) (r : Ranking) : Type 0 where
 abbrev pub HasEach : List IndexEntry → List Ranking → Type 0
 HasEach entries ranks = (i : ℕ) → IsSome (option_and_then candidate_in (slice_get entries i)) → list_any (λ r. r.place == i) ranks ≡ true
 
--- the ranking of entries: those that are readable and not yanked, in that order (own)
+-- each rank comes before each later one, so that no entry has two (own)
+abbrev pub IsInOrder : List Ranking → Type 0
+IsInOrder ranks = AllPairs (λ a b. rank_order a b ≡ Less) ranks
+
+-- the ranking of entries: those that are readable and not yanked, each once, in that order (own)
 pub record IsRanking (entries : List IndexEntry) (ranks : List Ranking) : Type 0 where
   pub tells : All (Tells entries) ranks
   pub each : HasEach entries ranks
-  pub order : IsSorted rank_order ranks
+  pub order : IsInOrder ranks
 
 -- whether a rank is for a Rust version and passes a test of its version (own)
 abbrev pub passes : Option Numbers → (Parts → Bool) → Ranking → Bool

@@ -1,11 +1,11 @@
 //! The answers of an index that are kept.
-ghost use Rattle.std.specs.Prelude.{◌≡◌, ◌≢◌, ◌⊎◌, ◌↔◌, ℕ, List, Some, None, Ok, IsSome, IsTrue, IfOk, IfErr, IfSome, OnOk, OnErr, Option, option_and_then, option_map, option_copied};
+ghost use Rattle.std.specs.Prelude.{◌≡◌, ◌≢◌, ◌⊎◌, ◌↔◌, ℕ, List, Some, None, Ok, IsOk, IsSome, IsTrue, IfOk, IfErr, IfSome, OnOk, OnErr, Option, option_and_then, option_map, option_copied};
 ghost use Rattle.std.specs.BTreeMap.{get_by_text};
 ghost use Rattle.url.specs.Parts.{serialize};
 ghost use Rattle.edit_document.specs.Errors.{IsMemory};
-ghost use Rattle.edit_sources.specs.Index.{IsLookError, answer_of};
-ghost use Rattle.edit_sources.specs.IndexCache.{Fetches, Ranks, SameKept, SameKeptBut, has_version, index_of, kept_at, krate_at, ranking_at};
-ghost use Rattle.edit_sources.specs.Kept.{IsRanked};
+ghost use Rattle.edit_sources.specs.Index.{answer_of};
+ghost use Rattle.edit_sources.specs.IndexCache.{Fetches, IsMissed, Ranks, SameKept, SameKeptBut, has_version, index_of, kept_at, krate_at, ranking_at};
+ghost use Rattle.edit_sources.specs.Kept.{IsRanked, IsRankedAt};
 
 use crate::index::{Index, IndexKrate};
 use crate::kept::Kept;
@@ -136,7 +136,9 @@ impl<I: Index> IndexCache<I> {
     ) -> CargoResult<Option<&IndexKrate>>
         ensures kept { IfOk result (λ o. IfSome (kept_at self.old (serialize registry.now) name.now) (λ k. option_copied o ≡ k)) }
         ensures given { kept_at self.old (serialize registry.now) name.now ≡ None → IfOk result (λ o. I.gives (index_of self.old) registry.now name.now (Ok (answer_of (option_copied o)))) }
-        ensures refused { IfErr result (IsLookError (I.gives (index_of self.old)) registry.now name.now) }
+        // a kept answer is never refused
+        ensures kept_answers { IsSome (kept_at self.old (serialize registry.now) name.now) → IsOk result }
+        ensures refused { IfErr result (IsMissed (I.gives (index_of self.old)) registry.now name.now (kept_at self.old (serialize registry.now) name.now)) }
     {
         match self.fetch(alloc, registry, name) {
             Ok(()) => Ok(self.shown(registry, name)),
@@ -180,16 +182,26 @@ impl<I: Index> IndexCache<I> {
         ensures { Ranks (I.gives (index_of self.old)) (I.gives (index_of self.new)) (I.faults (index_of self.old)) (I.faults (index_of self.new)) registry.now name.now self.old self.new result }
     {
         match self.fetch(alloc, registry, name) {
-            Ok(()) => self.rank_kept(alloc, registry.as_str(), name),
+            Ok(()) => self.rank_kept(alloc, registry, name),
             Err(error) => Err(error),
         }
     }
 
-    /// Ranks an answer that is kept.
-    fn rank_kept(&mut self, alloc: Global, address: &str, name: &str) -> CargoResult<()>
+    /// Ranks the answer that is kept for a name, once, which `shown_ranking` then tells; it makes no look.
+    pub fn rank_kept(&mut self, alloc: Global, registry: &Url, name: &str) -> CargoResult<()>
+        ensures index { index_of self.new ≡ index_of self.old }
+        ensures kept { SameKept self.old self.new }
+        ensures ranked { OnOk result (IsRankedAt (kept_at self.new (serialize registry.now) name.now)
+            (ranking_at self.new (serialize registry.now) name.now)) }
+        ensures refused { IfErr result IsMemory }
+    {
+        self.rank_at(alloc, registry.as_str(), name)
+    }
+
+    fn rank_at(&mut self, alloc: Global, address: &str, name: &str) -> CargoResult<()>
         ensures index { self.new.index ≡ self.old.index }
         ensures kept { SameKept self.old self.new }
-        ensures ranked { OnOk result (IfSome (kept_at self.new address.now name.now) (λ k. IsRanked k (ranking_at self.new address.now name.now))) }
+        ensures ranked { OnOk result (IsRankedAt (kept_at self.new address.now name.now) (ranking_at self.new address.now name.now)) }
         ensures refused { IfErr result IsMemory }
     {
         let Some(names) = self.answers.get_mut(address) else {
@@ -221,7 +233,9 @@ impl<I: Index> IndexCache<I> {
     ) -> CargoResult<Option<&Ranked>>
         ensures kept { IfOk result (λ o. IfSome (kept_at self.old (serialize registry.now) name.now) (λ k. IsRanked k (option_copied o))) }
         ensures given { kept_at self.old (serialize registry.now) name.now ≡ None → IfOk result (λ o. (k : Option IndexKrate) × I.gives (index_of self.old) registry.now name.now (Ok (answer_of k)) × IsRanked k (option_copied o)) }
-        ensures refused { IfErr result (IsLookError (I.gives (index_of self.old)) registry.now name.now) }
+        // a kept answer is refused only for want of memory while it is ranked
+        ensures kept_answers { IsSome (kept_at self.old (serialize registry.now) name.now) → IfErr result IsMemory }
+        ensures refused { IfErr result (IsMissed (I.gives (index_of self.old)) registry.now name.now (kept_at self.old (serialize registry.now) name.now)) }
     {
         match self.rank(alloc, registry, name) {
             Ok(()) => Ok(self.shown_ranking(registry, name)),

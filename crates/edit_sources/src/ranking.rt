@@ -1,25 +1,25 @@
 //! The entries of an answer, ranked once.
-ghost use Rattle.std.specs.Prelude.{◌≡◌, ◌++◌, ℕ, List, Bool, not, IfOk, IfErr, IsTrue, OnOk, map, option_copied, option_map, slice_get};
+ghost use Rattle.std.specs.Prelude.{◌≡◌, ◌++◌, ℕ, List, IfOk, IfErr, IsTrue, OnOk, map, option_copied, option_map, slice_get};
 ghost use Rattle.std.specs.List.{find};
 ghost use Rattle.semver.specs.Identifiers.{parts_of};
 ghost use Rattle.semver.specs.Parse.{Parts};
 ghost use Rattle.edit_document.specs.Errors.{IsMemory};
-ghost use Rattle.edit_record.specs.Admissible.{entry_order, is_kept, is_too_new, is_wanted};
+ghost use Rattle.edit_record.specs.Admissible.{admissible_in, entry_order, is_kept, is_wanted};
 ghost use Rattle.edit_record.specs.Admits.{admits};
 ghost use Rattle.edit_record.specs.Finding.{IsFound, IsFoundAtLeast};
-ghost use Rattle.edit_record.specs.Greatest.{IsGreatestKept};
+ghost use Rattle.edit_record.specs.Greatest.{IsGreatest, IsGreatestKept};
 ghost use Rattle.edit_record.specs.IndexEntry.{IndexEntry, entry_of};
 ghost use Rattle.edit_record.specs.Selection.{is_admitted, is_allowed};
 ghost use Rattle.edit_record.specs.Laws.{holds_dash};
 ghost use Rattle.edit_record.specs.Requirement.{comparators_of};
 ghost use Rattle.edit_record.specs.RustVersions.{numbers_of};
+ghost use Rattle.edit_record.specs.VersionOrder.{full_order};
 ghost use Rattle.edit_sources.specs.Ranking.{passes, rank_at, rank_of, ranks_from};
 
 use edit_document::errors::CargoResult;
 use edit_record::dependency::Dependency;
 use edit_record::fetch::{IndexVersion, RustVersion};
-use edit_record::find::{dependency_on, read_candidate};
-use edit_record::requirement::admits;
+use edit_record::find::{dependency_on, is_for, is_wanted, read_candidate};
 use semver::{Version, VersionReq};
 use std::alloc::Global;
 use std::cmp::Reverse;
@@ -98,26 +98,6 @@ fn is_first(
     is_for(rank.rust_version, rust_version) && is_wanted(&rank.version.0, allow_prerelease, req)
 }
 
-/// Whether the Rust version that is asked for is not above the given one, where there are both.
-fn is_for(asked: Option<RustVersion>, given: Option<RustVersion>) -> bool
-    ensures { result ≡ not (is_too_new (option_map numbers_of asked) (option_map numbers_of given)) }
-{
-    match (asked, given) {
-        (Some(asked), Some(given)) => asked <= given,
-        _ => true,
-    }
-}
-
-/// Whether a requirement admits a version; without one, whether it may have its pre-release.
-fn is_wanted(version: &Version, allow_prerelease: bool, req: Option<&VersionReq>) -> bool
-    ensures { result ≡ is_wanted allow_prerelease (option_map comparators_of (option_copied req.entry)) (parts_of version.now) }
-{
-    match req {
-        Some(req) => admits(req, version),
-        None => allow_prerelease || version.pre.is_empty(),
-    }
-}
-
 /// The entries of an answer that are readable and not yanked, the greatest version first and among
 /// equal ones the later entry.
 #[derive(Debug, Drop)]
@@ -146,6 +126,50 @@ impl Ranked {
             Some(rank) => Some(&rank.version.0),
             None => None,
         }
+    }
+
+    /// The version of the first rank that is for a Rust version and whose version is wanted.
+    fn best_version(
+        &self,
+        allow_prerelease: bool,
+        req: Option<&VersionReq>,
+        rust_version: Option<RustVersion>,
+    ) -> Option<&Version>
+        ensures { (entries : List IndexEntry) → IsRanking entries (ranks_of self.now)
+            → IsGreatest (is_wanted allow_prerelease (option_map comparators_of (option_copied req.entry))) full_order
+            (admissible_in (option_map numbers_of rust_version) entries) (option_map parts_of (option_copied result)) }
+    {
+        match first_wanted(&self.ranks, allow_prerelease, req, rust_version) {
+            Some(rank) => Some(&rank.version.0),
+            None => None,
+        }
+    }
+
+    /// The greatest version that may be taken, of those without a pre-release or, where they are allowed,
+    /// of all.
+    pub fn latest_version(
+        &self,
+        allow_prerelease: bool,
+        rust_version: Option<RustVersion>,
+    ) -> Option<&Version>
+        ensures { (entries : List IndexEntry) → IsRanking entries (ranks_of self.now)
+            → IsGreatest (is_allowed allow_prerelease) full_order
+            (admissible_in (option_map numbers_of rust_version) entries) (option_map parts_of (option_copied result)) }
+    {
+        self.best_version(allow_prerelease, None, rust_version)
+    }
+
+    /// The greatest version that may be taken and that a requirement admits.
+    pub fn compatible_version(
+        &self,
+        version_req: &VersionReq,
+        rust_version: Option<RustVersion>,
+    ) -> Option<&Version>
+        ensures { (entries : List IndexEntry) → IsRanking entries (ranks_of self.now)
+            → IsGreatest (admits (comparators_of version_req.now)) full_order
+            (admissible_in (option_map numbers_of rust_version) entries) (option_map parts_of (option_copied result)) }
+    {
+        self.best_version(false, Some(version_req), rust_version)
     }
 
     /// The dependency on the first rank that is for a Rust version and whose version is wanted.

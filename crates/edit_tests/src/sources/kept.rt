@@ -209,6 +209,38 @@ fn no_refusal_is_kept(rt: HostRuntime) -> Result<(), Fail> {
     calls(&rt, rt.alloc(), &mut cache, OVER_REPAIRED)
 }
 
+// Paths with lines: those of one are read, of the other the last is cut short.
+const HALF_BROKEN: &str = "\
+/idx/1/a|{\"name\":\"a\",\"vers\":\"1.0.0\"}@{\"na
+/idx/1/b|{\"name\":\"b\",\"vers\":\"2.0.0\"}@";
+
+// The calls over them.
+const OVER_HALF_BROKEN: &str = "\
+an answer|ranked|b||2.0.0;
+a line cut short|ranked|a||30 Invalid index line 2
+nothing is kept|shown|a||none
+nor ranked|shown ranking|a||none
+the other answer|shown|b||b 2.0.0.
+the other ranking|shown ranking|b||2.0.0;";
+
+// The calls where the first read fails, after them.
+const AFTER_HALF_BROKEN: &str = "\
+the device fails|ranked|a||3 Failed to read a file
+nothing is kept|shown|a||none
+nor ranked|shown ranking|a||none
+no look|krate|b||b 2.0.0.
+the other ranking|ranked|b||2.0.0;
+the next look|ranked|a||1.0.0;
+the other answer|shown|b||b 2.0.0.";
+
+#[test]
+fn a_refused_ranking_is_not_kept(rt: HostRuntime) -> Result<(), Fail> {
+    let mut cache = IndexCache::new(rt.alloc(), failing(rt.alloc(), HALF_BROKEN, 9)?);
+    calls(&rt, rt.alloc(), &mut cache, OVER_HALF_BROKEN)?;
+    replace(&mut cache, failing(rt.alloc(), REPAIRED, 0)?);
+    calls(&rt, rt.alloc(), &mut cache, AFTER_HALF_BROKEN)
+}
+
 // The call whose answer is kept.
 const OVER_TWO: &str = "an answer|fetch|b||done";
 

@@ -1,11 +1,13 @@
-use Rattle.std.proofs.Common.{map}
+use Rattle.std.proofs.Common.{map, subst, sym}
 use Rattle.std.specs.Prelude.{option_map}
 use Rattle.edit_record.specs.RustVersions.{numbers_of}
 use Rattle.edit_sources.specs.IndexCache.{index_of}
 use Rattle.url.specs.Parts.{serialize}
 use Rattle.cargo_edit.specs.Lines.{line_of}
-use Rattle.cargo_edit.specs.Looks.{kept_by, kept_setting}
+use Rattle.cargo_edit.specs.Looks.{AreLooks, Kept, kept_by, kept_setting}
+use Rattle.cargo_edit.specs.Looked.{Stays}
 use Rattle.cargo_edit.specs.Rows.{Setting}
+use Rattle.cargo_edit.specs.Upgraded.{IsNeeded}
 use Rattle.cargo_edit.specs.declared.planned.Planned.{Planned}
 use Rattle.cargo_edit.proofs.PlannedLemmas.{planned-cause, planned-looks, planned-rows, planned-shown}
 use Rattle.cargo_edit.proofs.planned.plan_input.Goals as goal
@@ -29,11 +31,21 @@ returns-in-Ok-decided_rows-clause-rows g c =
 
 pub returns-in-Ok-decided_rows-clause-looks : goal.returns-in-Ok-decided_rows-clause-looks
 returns-in-Ok-decided_rows-clause-looks g c =
-    planned-looks c.args.input.now.bytes.items c.deref.result.now c.in-Ok.document (serialize c.in-Ok-default_registry.registry)
+    subst (λ (k : Kept). AreLooks (IsNeeded c.args.input.now.bytes.items) (g.I.Index.gives (index_of c.args.index.now)) (kept_by c.args.index.now) k
+    c.in-Ok-look_up.looks.items) (sym c.in-Ok-decided_rows.ensures.kept)
+    (planned-looks c.args.input.now.bytes.items c.deref.result.now c.in-Ok.document (serialize c.in-Ok-default_registry.registry)
     (g.I.Index.gives (index_of c.args.index.now)) (kept_by c.args.index.now) (kept_by c.look_up.new.index)
     c.in-Ok-seen_entries.entries.items c.deref-2.result.now c.in-Ok-look_up.looks.items
     c.deref.ensures.value c.in-Ok.ensures.found c.in-Ok.ensures.only c.in-Ok-seen_entries.ensures.ok c.deref-2.ensures.value
-    c.in-Ok-default_registry.ensures.ok c.in-Ok-look_up.ensures.looked
+    c.in-Ok-default_registry.ensures.ok c.in-Ok-look_up.ensures.looked)
+
+pub returns-in-Ok-decided_rows-clause-stays : goal.returns-in-Ok-decided_rows-clause-stays
+returns-in-Ok-decided_rows-clause-stays g c =
+    subst (λ (k : Kept). Stays (kept_by c.args.index.now) k) (sym c.in-Ok-decided_rows.ensures.kept) c.in-Ok-look_up.ensures.stays
+
+pub returns-in-Err-decided_rows-clause-stays : goal.returns-in-Err-decided_rows-clause-stays
+returns-in-Err-decided_rows-clause-stays g c =
+    subst (λ (k : Kept). Stays (kept_by c.args.index.now) k) (sym c.in-Err-decided_rows.ensures.kept) c.in-Ok-look_up.ensures.stays
 
 pub returns-in-Err-look_up-clause-refused : goal.returns-in-Err-look_up-clause-refused
 returns-in-Err-look_up-clause-refused g c =

@@ -1,14 +1,27 @@
-use Rattle.std.proofs.Common.{List, map, subst, sym}
-use Rattle.std.specs.Prelude.{Result, option_copied, option_map}
-use Rattle.edit_record.specs.Greatest.{IsGreatest}
-use Rattle.edit_record.specs.Selection.{admits_read}
-use Rattle.edit_record.specs.VersionOrder.{full_order}
-use Rattle.semver.specs.Identifiers.{parts_of}
-use Rattle.semver.specs.Parse.{Held}
-use Rattle.semver.specs.declared.error.Error.{Error}
+use Rattle.std.proofs.Common.{subst}
+use Rattle.std.specs.Prelude.{option_copied, option_map}
+use Rattle.edit_record.specs.ReadRequirement.{text_in}
+use Rattle.edit_record.specs.Requirement.{comparators_of}
+use Rattle.edit_record.specs.RustVersions.{numbers_of}
+use Rattle.edit_record.specs.Selection.{is_admitted}
+use Rattle.cargo_edit.specs.Looks.{versions_in}
+use Rattle.cargo_edit.specs.Rankings.{IsRankingOf}
+use Rattle.cargo_edit.proofs.RankedLemmas.{compatible-ranked, none-admitted, none-ranked, requirement-ok}
 use Rattle.cargo_edit.proofs.rows.compatible_for.Goals as goal
 
-pub returns-in-Some-clause-ok : goal.returns-in-Some-clause-ok
-returns-in-Some-clause-ok c =
-    subst (λ (r : Result (List Held) Error). IsGreatest (admits_read r) full_order (map parts_of c.args.versions.now) (option_map parts_of (option_copied c.greatest.result)))
-    (sym (rw c.in-Some.is at c.in_ok-read.ensures.read)) c.greatest.ensures
+pub returns-in-Some-version_req : goal.returns-in-Some-version_req
+returns-in-Some-version_req c = λ answer h.
+    let text = text_in c.args.old.now in
+    let cs = comparators_of c.in-Some-version_req.req.now in
+    compatible-ranked text cs (option_map numbers_of c.args.rust_version) c.in-Some.ranked.now _
+    (requirement-ok text cs c.in-Some-version_req.ensures) c.compatible_version.ensures answer
+    (subst (λ o. IsRankingOf answer (option_copied o)) c.in-Some.is h)
+
+pub returns-in-None-version_req : goal.returns-in-None-version_req
+returns-in-None-version_req c = λ answer h.
+    none-admitted (text_in c.args.old.now) (versions_in (option_map numbers_of c.args.rust_version) answer) c.in-None-version_req.ensures
+
+pub returns-in-None : goal.returns-in-None
+returns-in-None c = λ answer h.
+    none-ranked (is_admitted (text_in c.args.old.now)) (option_map numbers_of c.args.rust_version) answer
+    (subst (λ o. IsRankingOf answer (option_copied o)) c.in-None.is h)

@@ -1,17 +1,33 @@
-use Rattle.std.proofs.Common.{◌∙◌, List, ℕ, ap, subst}
-use Rattle.std.specs.Prelude.{IfOk, option_map}
+use Rattle.std.proofs.Common.{◌≡◌, ◌∙◌, List, ℕ, Option, ap, subst, sym}
+use Rattle.std.specs.Prelude.{option_copied, option_map}
+use Rattle.std.proofs.lemmas.Result.{IfOk-weaker}
 use Rattle.edit_record.specs.RustVersions.{numbers_of}
-use Rattle.semver.specs.Parse.{Parts}
+use Rattle.edit_sources.specs.IndexCache.{kept_at, ranking_at}
+use Rattle.edit_sources.specs.declared.ranking.Ranked.{Ranked}
 use Rattle.url.specs.Parts.{serialize}
-use Rattle.cargo_edit.specs.Found.{seen_of}
+use Rattle.cargo_edit.specs.Found.{name_of, seen_of}
 use Rattle.cargo_edit.specs.Lines.{line_of}
-use Rattle.cargo_edit.specs.Looks.{kept_by, versions_in}
+use Rattle.cargo_edit.specs.Looks.{Answer, kept_by, versions_in}
+use Rattle.cargo_edit.specs.Rankings.{IsRankingOf}
 use Rattle.cargo_edit.specs.Rows.{IsDecided}
+use Rattle.cargo_edit.proofs.RankedLemmas.{kept-same, ranking-kept}
 use Rattle.cargo_edit.proofs.rows.kept_row.Goals as goal
 
 pub returns-clause-ok : goal.returns-clause-ok
 returns-clause-ok g c =
-    subst (λ (vs : List Parts). IfOk c.row_for.result (λ r. IsDecided c.args.input c.args.options.now vs (seen_of c.args.entry.now) (line_of r)))
-    (c.told_versions-versions.ensures (option_map numbers_of c.args.rust_version)
-    ∙ ap (λ (n : List ℕ). versions_in (option_map numbers_of c.args.rust_version) (kept_by c.args.index.now (serialize c.args.registry.now) n)) c.as_str.ensures.value)
-    c.row_for.ensures.ok
+    let index = c.rank_kept.new.self in
+    let address = serialize c.args.registry.now in
+    let name = c.as_str-name.result.now in
+    let answer : Option Answer = kept_by index address name in
+    let ranking : IsRankingOf answer (option_copied c.shown_ranking-ranked.result) =
+    subst (λ (r : Option Ranked). IsRankingOf answer r) (sym c.shown_ranking-ranked.ensures)
+    (ranking-kept (kept_at index address name) (ranking_at index address name) c.in_ok-rank_kept.ensures.ranked) in
+    let named = ap (λ (n : List ℕ). kept_by index address n) c.as_str-name.ensures.value in
+    IfOk-weaker _ _ _ (λ r h. subst (λ (a : Option Answer). IsDecided c.args.input c.args.options.now (versions_in (option_map numbers_of c.args.rust_version) a)
+    (seen_of c.args.entry.now) (line_of r)) named (h answer ranking)) c.row_for.ensures.ok
+
+pub returns-clause-kept : goal.returns-clause-kept
+returns-clause-kept g c = kept-same c.args.index.now c.rank_kept.new.self c.in_ok-rank_kept.ensures.kept
+
+pub returns-in_err-rank_kept-clause-kept : goal.returns-in_err-rank_kept-clause-kept
+returns-in_err-rank_kept-clause-kept g c = kept-same c.args.index.now c.rank_kept.new.self c.in_err-rank_kept.ensures.kept

@@ -1,12 +1,18 @@
-use Rattle.std.proofs.Common.{Bool, map, subst}
+use Rattle.std.proofs.Common.{subst}
 use Rattle.std.specs.Prelude.{option_copied, option_map}
-use Rattle.edit_record.specs.Greatest.{IsGreatest}
-use Rattle.edit_record.specs.Selection.{is_allowed}
-use Rattle.edit_record.specs.VersionOrder.{full_order}
-use Rattle.semver.specs.Identifiers.{parts_of}
+use Rattle.edit_record.specs.RustVersions.{numbers_of}
+use Rattle.edit_record.specs.Selection.{is_offered}
+use Rattle.cargo_edit.specs.Rankings.{IsRankingOf}
+use Rattle.cargo_edit.proofs.RankedLemmas.{latest-ranked, none-ranked}
 use Rattle.cargo_edit.proofs.rows.latest_for.Goals as goal
 
-pub returns : goal.returns
-returns c =
-    subst (λ (b : Bool). IsGreatest (is_allowed b) full_order (map parts_of c.args.versions.now) (option_map parts_of (option_copied c.greatest.result)))
-    c.allows_prerelease.ensures.value c.greatest.ensures
+pub returns-in-Some : goal.returns-in-Some
+returns-in-Some c = λ answer h.
+    latest-ranked c.args.old.now (option_map numbers_of c.args.rust_version) c.in-Some.ranked.now _ _
+    c.allows_prerelease.ensures.value c.latest_version.ensures answer
+    (subst (λ o. IsRankingOf answer (option_copied o)) c.in-Some.is h)
+
+pub returns-in-None : goal.returns-in-None
+returns-in-None c = λ answer h.
+    none-ranked (is_offered c.args.old.now) (option_map numbers_of c.args.rust_version) answer
+    (subst (λ o. IsRankingOf answer (option_copied o)) c.in-None.is h)

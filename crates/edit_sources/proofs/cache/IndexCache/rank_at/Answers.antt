@@ -1,6 +1,6 @@
 use Rattle.std.proofs.Common.{arith}
 use Rattle.std.proofs.lemmas.Map.Text.{text_keys}
-use Rattle.edit_sources.proofs.cache.IndexCache.rank_kept.Goals as goal
+use Rattle.edit_sources.proofs.cache.IndexCache.rank_at.Goals as goal
 
 -- the answer is the one that was, and so is each other
 pub returns-in-Some-get_mut-clause-kept : goal.returns-in-Some-get_mut-clause-kept

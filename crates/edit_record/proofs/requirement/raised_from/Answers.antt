@@ -4,19 +4,19 @@ use Rattle.std.specs.Cmp.Lexicographic.{pointwise}
 use Rattle.edit_record.proofs.Raising.{copied_none, other_text, raise_text, raise_unsupported, same_nothing}
 use Rattle.edit_record.specs.Requirement.{Text, led_as, unless_same}
 use Rattle.semver.specs.Identifiers.{comparator_view, parts_of}
-use Rattle.edit_record.proofs.requirement.raised_requirement.Goals as goal
+use Rattle.edit_record.proofs.requirement.raised_from.Goals as goal
 
 pub returns-in-Some : goal.returns-in-Some
 returns-in-Some c = (
   comparator_view c.in-Some.comparator.now,
-  raise_unsupported c.args.req.now (parts_of c.args.version.now) _ _ _ c.in_ok-parsed.ensures.ok c.deref.ensures.value c.in-Some.ensures,
+  raise_unsupported c.args.req.now (parts_of c.args.version.now) _ _ _ c.requires c.deref.ensures.value c.in-Some.ensures,
   c.in_ok-comparator_string.ensures,
 )
 
 pub returns-then-eq : goal.returns-then-eq
 returns-then-eq c =
-    let some : (length c.in_ok-parsed.parsed.comparators.items == 0) ≡ false = search rules in
-    let whole = raise_text c.args.req.now (parts_of c.args.version.now) _ _ _ _ c.in_ok-parsed.ensures.ok some
+    let some : (length c.args.parsed.now.comparators.items == 0) ≡ false = search rules in
+    let whole = raise_text c.args.req.now (parts_of c.args.version.now) _ _ _ _ c.requires some
     c.deref.ensures.value (sym (copied_none _ c.in_default.not-Some) ∙ c.first_inequality.ensures) c.deref-2.ensures.value c.in_ok-text.ensures in
     let led : c.led_as-text.result.now ≡ led_as c.args.req.now c.as_str.result.now = c.led_as-text.ensures in
     let same : pointwise nat_eq c.led_as-text.result.now c.args.req.now ≡ true = search rules in
@@ -25,8 +25,8 @@ returns-then-eq c =
 
 pub returns : goal.returns
 returns c =
-    let some : (length c.in_ok-parsed.parsed.comparators.items == 0) ≡ false = search rules in
-    let whole = raise_text c.args.req.now (parts_of c.args.version.now) _ _ _ _ c.in_ok-parsed.ensures.ok some
+    let some : (length c.args.parsed.now.comparators.items == 0) ≡ false = search rules in
+    let whole = raise_text c.args.req.now (parts_of c.args.version.now) _ _ _ _ c.requires some
     c.deref.ensures.value (sym (copied_none _ c.in_default.not-Some) ∙ c.first_inequality.ensures) c.deref-2.ensures.value c.in_ok-text.ensures in
     let other : pointwise nat_eq c.led_as-text.result.now c.args.req.now ≡ false = search rules in
     let led : c.led_as-text.result.now ≡ led_as c.args.req.now c.as_str.result.now = c.led_as-text.ensures in
