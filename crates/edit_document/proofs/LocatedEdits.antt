@@ -13,7 +13,7 @@ use Rattle.edit_document.specs.Written.{Valued, start_of, end_of}
 use Rattle.edit_document.specs.Replaces.{Edits, new_text, replaced, edited, AreDistinct}
 use Rattle.edit_document.specs.Splices.{Range, ranges_of, IsRangeFor, AreRanges, Locates}
 use Rattle.edit_document.proofs.Members.{Among, among_contained, contained_among, among_all, among_map}
-use Rattle.edit_document.proofs.ReplacedStrings.{strings_apart}
+use Rattle.edit_document.proofs.ReplacedStrings.{values_apart}
 use Rattle.edit_document.proofs.SwappedTexts.{apart_none, replaced_swaps}
 use Rattle.edit_document.proofs.SplicedTexts.{Rises, swaps_rise}
 use Rattle.edit_document.proofs.SortedRanges.{AreFirst, AreRangesFor, Rewrites, ranges_rewrite, edit_among, edits_enclosed}
@@ -123,7 +123,7 @@ pub located_rewrite : (whole : List ℕ) (form : Text) (edits : Edits) (rs qs : 
 located_rewrite whole form edits rs qs h utf8 p up =
     let spelled = h.document.grammar.spelled in
     let fine = h.document.grammar.well_formed in
-    let free = apart_none edits form (strings_apart edits whole form h.document h.strings) in
+    let free = apart_none edits form (values_apart edits form h.document.no_clash h.values h.outside) in
     let first = first_of_distinct edits h.distinct in
     let rises = swaps_rise (text form) (text (replaced edits form)) (edited edits form) (replaced_swaps edits form free) (edits_enclosed form edits fine) in
     let distinct = IsDistinct-IsPermutation begins_with flips rs qs p (ranges_distinct form edits edits rs first rises (λ f m. m) h.distinct h.found) in

@@ -1,30 +1,27 @@
 -- What a replacement promises: the bytes are a document again, only the literals differ, and the tree is the one that is meant.
-use Rattle.std.proofs.Common.{◌≡◌, ℕ, zero, suc, arith, String, Global, ◌+◌, ◌<◌, ◌≤◌, true, ◌&&◌, ◌||◌, cond, List, [], ◌∷◌, ◌++◌, map, length, get_or, take, take_all, Option, None, Some, refl, sym, ap, ap₂, ◌∙◌, subst, inl, ⊎_elim}
-use Rattle.std.specs.List.{list_any}
+use Rattle.std.proofs.Common.{◌≡◌, ℕ, zero, suc, arith, String, Global, ◌+◌, ◌<◌, ◌≤◌, true, List, [], ◌∷◌, ◌++◌, map, length, get_or, take, take_all, Option, None, Some, refl, sym, ap, ap₂, ◌∙◌, subst, inl, ⊎_elim}
 use Rattle.std.specs.Global.{Vec}
 use Rattle.std.specs.Prelude.{string_bytes, is_some}
 use Rattle.std.proofs.lemmas.List.{map-append, length-map}
 use Rattle.edit_document.proofs.Members.{contained_among}
 use Rattle.edit_document.proofs.UniqueValues.{listed_value}
 use Rattle.edit_document.specs.declared.replace.Rewrite.{Rewrite}
-use Rattle.edit_document.specs.Grammar.{Value, Text, text}
-use Rattle.edit_document.specs.Assertions.{Place, Assertion, leaf, same_place, assertions}
-use Rattle.edit_document.specs.Tree.{View, view_at, kind_at, is_value_at}
+use Rattle.edit_document.specs.Grammar.{Text, text}
+use Rattle.edit_document.specs.Assertions.{Place}
+use Rattle.edit_document.specs.Tree.{is_value_at}
 use Rattle.edit_document.specs.declared.place.Step.{Step as WrittenStep}
 use Rattle.edit_document.specs.Items.{place_seen}
 use Rattle.edit_document.specs.Ranges.{HasRange, edits_seen}
 use Rattle.edit_document.specs.Written.{values}
 use Rattle.edit_document.specs.Supported.{IsManifest}
-use Rattle.edit_document.specs.Replaces.{Edits, replaced, edited, Swaps, Replaces, is_string, AreStrings}
+use Rattle.edit_document.specs.Replaces.{Edits, replaced, edited, Swaps, Replaces, AreValues}
 use Rattle.edit_document.specs.Splices.{Range, range_of, IsRangeFor, AreRanges}
-use Rattle.edit_document.proofs.Thinned.{is_leaf}
 use Rattle.edit_document.proofs.ReplacedTree.{AreApart, replaced_manifest, replaced_view}
-use Rattle.edit_document.proofs.ReplacedStrings.{strings_apart, string_value, told_value, one_apart}
+use Rattle.edit_document.proofs.ReplacedStrings.{told_value, one_apart}
 use Rattle.edit_document.proofs.SortedRanges.{AreRangesFor, Rewrites, ranges_rewrite}
 use Rattle.edit_document.proofs.LocatedEdits.{first_of_distinct}
 use Rattle.std.specs.Str.{IsUtf8}
 use Rattle.edit_document.proofs.SwappedTexts.{apart_none, replaced_swaps}
-use Rattle.edit_document.proofs.Cases.{by_test}
 
 -- a document's replacement at places none of which lies below another
 pub replaces_apart : (edits : Edits) (old new : List ℕ) (form : Text) → IsManifest old form → AreApart edits form → new ≡ text (replaced edits form) → Replaces edits old new
@@ -37,24 +34,6 @@ replaces_apart edits old new form manifest apart e = record {
   is = subst (λ (b : List ℕ). IsManifest b (replaced edits form)) (sym e) (replaced_manifest edits old form manifest);
   tree = replaced_view edits old form manifest.document apart;
 }
-
-pub replaces_strings : (edits : Edits) (old new : List ℕ) (form : Text) → IsManifest old form → AreStrings edits (view_at form) → new ≡ text (replaced edits form) → Replaces edits old new
-replaces_strings edits old new form manifest strings e = replaces_apart edits old new form manifest (strings_apart edits old form manifest.document strings) e
-
--- ---- a string is a value
-
-kind_told : (made : List Assertion) (p : Place) (v : Value) → kind_at made p ≡ Some (leaf v) → list_any (λ a. same_place a.place p && is_leaf a.kind) made ≡ true
-kind_told [] p v e = absurd cc
-kind_told (a ∷ made) p v e =
-    by_test (same_place a.place p)
-    (λ h. let is : Some a.kind ≡ Some (leaf v) = sym (ap (λ c. cond c (Some a.kind) (kind_at made p)) h) ∙ e in
-    let same : a.kind ≡ leaf v = cc in
-    ap₂ (λ b c. (b && c) || list_any (λ a. same_place a.place p && is_leaf a.kind) made) h (ap is_leaf same))
-    (λ h. ap (λ b. (b && is_leaf a.kind) || list_any (λ a. same_place a.place p && is_leaf a.kind) made) h
-    ∙ kind_told made p v (sym (ap (λ c. cond c (Some a.kind) (kind_at made p)) h) ∙ e))
-
-pub string_told : (form : Text) (p : Place) → is_string (view_at form p) ≡ true → is_value_at form p ≡ true
-string_told form p e = let v = string_value form p e in kind_told (assertions form) p v.0 v.1
 
 -- ---- one range more
 
@@ -76,10 +55,10 @@ Written = Vec WrittenStep × String Global
 abbrev pub seen : Written → Place × List ℕ
 seen e = (place_seen e.0.items, string_bytes e.1)
 
-pub string_at : (tree : Place → Option View) (edits : List Written) (i : ℕ) (e : Written) → i < length edits → e ≡ get_or edits i e → AreStrings (edits_seen edits) tree → is_string (tree (place_seen e.0.items)) ≡ true
-string_at tree [] i e lt is all = absurd (omega arith)
-string_at tree (x ∷ edits) zero e lt is all = ap (λ (z : Written). is_string (tree (place_seen z.0.items))) is ∙ all.0
-string_at tree (x ∷ edits) (suc i) e lt is all = string_at tree edits i e (omega arith) is all.1
+pub value_at : (form : Text) (edits : List Written) (i : ℕ) (e : Written) → i < length edits → e ≡ get_or edits i e → AreValues (edits_seen edits) form → is_value_at form (place_seen e.0.items) ≡ true
+value_at form [] i e lt is all = absurd (omega arith)
+value_at form (x ∷ edits) zero e lt is all = ap (λ (z : Written). is_value_at form (place_seen z.0.items)) is ∙ all.0
+value_at form (x ∷ edits) (suc i) e lt is all = value_at form edits i e (omega arith) is all.1
 
 more_seen : (edits : List Written) (i : ℕ) (e : Written) → i < length edits → e ≡ get_or edits i e → take (suc i) (edits_seen edits) ≡ take i (edits_seen edits) ++ seen e ∷ []
 more_seen [] i e lt is = absurd (omega arith)
@@ -107,10 +86,6 @@ pub all_ranges : (form : Text) (edits : List Written) (i : ℕ) (rs qs : List Re
 all_ranges form edits i rs qs whole same h =
     subst (λ (l : List Rewrite). AreRanges form (edits_seen edits) (map range_of l)) (sym same)
     (subst (λ (l : Edits). AreRanges form l (map range_of rs)) (take_all i (edits_seen edits) (omega (arith, length-map edits seen))) h)
-
-pub strings_along : (edits : Edits) (t u : Place → Option View) → ((q : Place) → t q ≡ u q) → AreStrings edits t → AreStrings edits u
-strings_along [] t u same h = tt
-strings_along (e ∷ edits) t u same h = (ap is_string (sym (same e.0)) ∙ h.0, strings_along edits t u same h.1)
 
 -- ---- one value
 

@@ -1,12 +1,12 @@
 -- Literals and replacements that are worked out: one literal, two literals in any order, and places where nothing is written.
-use Rattle.std.proofs.Common.{◌≡◌, ℕ, List, [], ◌∷◌, Some, None, refl, false}
+use Rattle.std.proofs.Common.{◌≡◌, ℕ, List, [], ◌∷◌, Some, None, refl, false, true≢false}
 use Rattle.std.specs.Prelude.{codes}
 use Rattle.edit_document.specs.Strings.{Key, bare, lf, plain}
 use Rattle.edit_document.specs.Grammar.{Value, basic, literal, inline, blank, last_member, member, pair, header, full_line, one_line, more_lines, Text, text}
 use Rattle.edit_document.specs.Assertions.{Place, key}
 use Rattle.edit_document.specs.Tree.{view_at, string}
 use Rattle.edit_document.specs.Literals.{literal_bytes}
-use Rattle.edit_document.specs.Replaces.{replaced}
+use Rattle.edit_document.specs.Replaces.{replaced, AreOutside}
 
 -- every escape; other control characters by their number; all else as it is
 escapes : literal_bytes (8 ∷ 9 ∷ 10 ∷ 12 ∷ 13 ∷ 34 ∷ 92 ∷ 0 ∷ 31 ∷ 127 ∷ codes "/ '\u{80}é") ≡ codes "\"\\b\\t\\n\\f\\r\\\"\\\\\\u0000\\u001F\\u007F/ '\u{80}é\""
@@ -53,6 +53,18 @@ two = refl
 -- a value with what is inside it
 whole : text (replaced ((key (codes "t") ∷ key (codes "b") ∷ [], codes "4") ∷ []) form) ≡ codes "c ='1'\n[t]\nb = \"4\" # x"
 whole = refl
+
+-- an inline table and a string, told in any order
+mixed : text (replaced ((key (codes "t") ∷ key (codes "b") ∷ [], codes "4") ∷ (place_c, codes "0.2") ∷ []) form) ≡ codes "c =\"0.2\"\n[t]\nb = \"4\" # x"
+mixed = refl
+
+-- what was inside the inline table is gone
+gone : view_at (replaced ((key (codes "t") ∷ key (codes "b") ∷ [], codes "4") ∷ []) form) place_tbc ≡ None
+gone = refl
+
+-- a value inside a replaced one is no place of its own
+inner_below : AreOutside ((key (codes "t") ∷ key (codes "b") ∷ [], codes "4") ∷ (place_tbc, codes "5") ∷ []) → ⊥
+inner_below h = true≢false h.1.0
 
 -- nothing is written where no value stands
 nowhere : replaced ((key (codes "t") ∷ [], codes "4") ∷ (key (codes "d") ∷ [], codes "5") ∷ []) form ≡ form

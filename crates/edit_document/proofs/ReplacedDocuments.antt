@@ -1,21 +1,22 @@
 -- What is read again of a text with literals written into it.
-use Rattle.std.proofs.Common.{◌≡◌, ℕ, List, cond, Option, None, sym, ap, ◌∙◌, subst}
+use Rattle.std.proofs.Common.{◌≡◌, ℕ, List, [], ◌∷◌, cond, Option, None, sym, ap, ◌∙◌, subst}
 use Rattle.edit_document.specs.Grammar.{Text, text}
 use Rattle.edit_document.specs.Assertions.{Place}
 use Rattle.edit_document.specs.Tree.{View, view_at}
 use Rattle.edit_document.specs.Supported.{IsManifest}
 use Rattle.edit_document.specs.Shown.{Shown, tree_of, ShowsTree}
-use Rattle.edit_document.specs.Replaces.{Edits, replaced, written, emptied, is_below_any, Replaces, AreStrings}
-use Rattle.edit_document.proofs.ReplacedTree.{replaced_manifest}
-use Rattle.edit_document.proofs.ReplacedStrings.{strings_view, written_same}
+use Rattle.edit_document.specs.Replaces.{Edits, replaced, written, emptied, is_below_any, is_string, AreStrings, AreValues, AreOutside, Replaces}
+use Rattle.edit_document.proofs.ReplacedTree.{AreApart, replaced_manifest, replaced_view}
+use Rattle.edit_document.proofs.ReplacedStrings.{written_same, strings_values, strings_outside, strings_emptied}
 use Rattle.edit_document.proofs.Shallow.{one_form}
 
--- whatever form the new text is read to, its tree is the old one with the new strings
-pub tree_again : (edits : Edits) (old new : List ℕ) (form : Text) (t : Place → Option View) → IsManifest old form → AreStrings edits (view_at form) → ((q : Place) → t q ≡ view_at form q) → new ≡ text (replaced edits form)
-    → (g : Text) → IsManifest new g → (q : Place) → view_at g q ≡ written edits t q
-tree_again edits old new form t manifest strings same e g read q =
+-- whatever form the new text is read to, its tree is the old one with the new strings and nothing below them
+pub tree_again : (edits : Edits) (old new : List ℕ) (form : Text) (t : Place → Option View) → IsManifest old form → AreApart edits form → ((q : Place) → t q ≡ view_at form q) → new ≡ text (replaced edits form)
+    → (g : Text) → IsManifest new g → (q : Place) → view_at g q ≡ written edits (emptied edits t) q
+tree_again edits old new form t manifest apart same e g read q =
     let is = subst (λ (b : List ℕ). IsManifest b (replaced edits form)) (sym e) (replaced_manifest edits old form manifest) in
-    ap (λ z. view_at z q) (one_form new g (replaced edits form) read is) ∙ strings_view edits old form manifest.document strings q ∙ written_same edits (view_at form) t q (sym (same q))
+    ap (λ z. view_at z q) (one_form new g (replaced edits form) read is) ∙ replaced_view edits old form manifest.document apart q
+    ∙ written_same edits (emptied edits (view_at form)) (emptied edits t) q (ap (λ v. cond (is_below_any edits q) None v) (sym (same q)))
 
 -- a document that shows the new text shows the old tree, emptied below the places, with the new strings
 pub trees_replaced : (edits : Edits) (d e : Shown) → Replaces edits d.bytes e.bytes → ((form : Text) → IsManifest d.bytes form → ShowsTree d form) → ((form : Text) → IsManifest e.bytes form → ShowsTree e form)
@@ -23,3 +24,24 @@ pub trees_replaced : (edits : Edits) (d e : Shown) → Replaces edits d.bytes e.
 trees_replaced edits d e r shows shown q =
     shown (replaced edits r.form) r.is q ∙ r.tree q
     ∙ written_same edits (emptied edits (view_at r.form)) (emptied edits (tree_of d)) q (ap (λ v. cond (is_below_any edits q) None v) (sym (shows r.form r.was q)))
+
+-- ---- strings of a document
+
+pub strings_along : (edits : Edits) (t u : Place → Option View) → ((q : Place) → t q ≡ u q) → AreStrings edits t → AreStrings edits u
+strings_along [] t u same h = tt
+strings_along (e ∷ edits) t u same h = (ap is_string (sym (same e.0)) ∙ h.0, strings_along edits t u same h.1)
+
+-- strings that a document shows are values, and none of them lies below another
+pub shown_values : (edits : Edits) (d : Shown) (form : Text) → ShowsTree d form → AreStrings edits (tree_of d) → AreValues edits form
+shown_values edits d form shows all = strings_values edits form (strings_along edits (tree_of d) (view_at form) shows all)
+
+pub shown_outside : (edits : Edits) (d : Shown) (form : Text) → IsManifest d.bytes form → ShowsTree d form → AreStrings edits (tree_of d) → AreOutside edits
+shown_outside edits d form manifest shows all =
+    strings_outside edits d.bytes form manifest.document (strings_along edits (tree_of d) (view_at form) shows all)
+
+-- nothing stands below them
+pub shown_emptied : (edits : Edits) (d : Shown) (form : Text) → IsManifest d.bytes form → ShowsTree d form → AreStrings edits (tree_of d)
+    → (q : Place) → emptied edits (tree_of d) q ≡ tree_of d q
+shown_emptied edits d form manifest shows all q =
+    ap (λ v. cond (is_below_any edits q) None v) (shows q)
+    ∙ strings_emptied edits d.bytes form q manifest.document (strings_along edits (tree_of d) (view_at form) shows all) ∙ sym (shows q)

@@ -1,11 +1,11 @@
--- The tree after one value was replaced, and after several strings were.
-use Rattle.std.proofs.Common.{◌≡◌, ℕ, true, false, ◌&&◌, ◌||◌, cond, List, [], ◌∷◌, Option, None, Some, option_map, refl, sym, ap, ◌∙◌, subst, inl, inr, true≢false}
+-- The tree after one value was replaced, after several were, and after several strings were.
+use Rattle.std.proofs.Common.{◌≡◌, ℕ, true, false, ◌&&◌, ◌||◌, cond, List, [], ◌∷◌, Option, None, Some, option_map, refl, sym, ap, ap₂, ◌∙◌, subst, inl, inr, true≢false}
 use Rattle.std.proofs.lemmas.Bool.{and_parts}
-use Rattle.std.specs.List.{list_any}
 use Rattle.edit_document.specs.Grammar.{Value, basic, literal, multi_basic, multi_literal, boolean, integer, float, datetime, array, inline, Text}
 use Rattle.edit_document.specs.Assertions.{Place, same_place, Kind, dotted, leaf, super, header_kind, array_kind, element_kind, Assertion, assertions, NoClash, IsDocument}
 use Rattle.edit_document.specs.Tree.{View, string, view_at, view_of_kind, kind_at, is_value_at}
-use Rattle.edit_document.specs.Replaces.{Edits, new_text, replaced, is_below, is_below_any, written, emptied, is_string, AreStrings}
+use Rattle.std.specs.List.{AllByRecursion, list_any}
+use Rattle.edit_document.specs.Replaces.{Edits, new_text, replaced, is_below, is_below_any, written, emptied, is_string, AreStrings, AreValues, AreOutside}
 use Rattle.edit_document.proofs.SamePlaces.{not_below_itself}
 use Rattle.edit_document.proofs.Thinned.{is_leaf}
 use Rattle.edit_document.proofs.NothingBelow.{HasLeaf, opens, leaf_there}
@@ -48,6 +48,22 @@ pub one_view : (old : List ℕ) (form : Text) (p : Place) (said : List ℕ) → 
     → (q : Place) → view_at (replaced ((p, said) ∷ []) form) q ≡ written ((p, said) ∷ []) (emptied ((p, said) ∷ []) (view_at form)) q
 one_view old form p said document e q = replaced_view ((p, said) ∷ []) old form document (one_apart form p said (told_value form p document.no_clash e)) q
 
+-- ---- several values
+
+-- what holds of the place of each edit holds where a text is to be written
+each_place : (P : Place → Type 0) (edits : Edits) (p : Place) (said : List ℕ) → AllByRecursion (λ e. P e.0) edits → new_text edits p ≡ Some said → P p
+each_place P [] p said all e = absurd cc
+each_place P (x ∷ edits) p said all e =
+    by_test (same_place x.0 p)
+    (λ h. subst P (same_place_is x.0 p h) all.0)
+    (λ h. each_place P edits p said all.1 (sym (ap (λ c. cond c (Some x.1) (new_text edits p)) h) ∙ e))
+
+pub values_apart : (edits : Edits) (form : Text) → NoClash (assertions form) → AreValues edits form → AreOutside edits → AreApart edits form
+values_apart edits form clash values outside p said e = (
+  told_value form p clash (each_place (λ q. is_value_at form q ≡ true) edits p said values e),
+  each_place (λ q. is_below_any edits q ≡ false) edits p said outside e,
+)
+
 -- ---- strings
 
 -- a plain value that shows a string
@@ -83,11 +99,7 @@ string_value form (s ∷ ss) e = go (kind_at (assertions form) (s ∷ ss)) refl
         (r.0, h ∙ ap Some r.1, r.2)
 
 edited_string : (edits : Edits) (tree : Place → Option View) (p : Place) (said : List ℕ) → AreStrings edits tree → new_text edits p ≡ Some said → is_string (tree p) ≡ true
-edited_string [] tree p said all e = absurd cc
-edited_string (x ∷ edits) tree p said all e =
-    by_test (same_place x.0 p)
-    (λ h. ap (λ r. is_string (tree r)) (sym (same_place_is x.0 p h)) ∙ all.0)
-    (λ h. edited_string edits tree p said all.1 (sym (ap (λ c. cond c (Some x.1) (new_text edits p)) h) ∙ e))
+edited_string edits tree p said all e = each_place (λ q. is_string (tree q) ≡ true) edits p said all e
 
 -- nothing shows below a string
 below_none : (edits : Edits) (old : List ℕ) (form : Text) (q : Place) → IsDocument old form → AreStrings edits (view_at form) → is_below_any edits q ≡ true → view_at form q ≡ None
@@ -106,8 +118,41 @@ pub written_same : (edits : Edits) (t u : Place → Option View) (q : Place) →
 written_same [] t u q e = e
 written_same (x ∷ edits) t u q e = ap (λ v. cond (same_place x.0 q) (Some (string x.1)) v) (written_same edits t u q e)
 
+-- ---- strings are values, none of which lies below another
+
+kind_told : (made : List Assertion) (p : Place) (v : Value) → kind_at made p ≡ Some (leaf v) → list_any (λ a. same_place a.place p && is_leaf a.kind) made ≡ true
+kind_told [] p v e = absurd cc
+kind_told (a ∷ made) p v e =
+    by_test (same_place a.place p)
+    (λ h. let is : Some a.kind ≡ Some (leaf v) = sym (ap (λ c. cond c (Some a.kind) (kind_at made p)) h) ∙ e in
+    let same : a.kind ≡ leaf v = cc in
+    ap₂ (λ b c. (b && c) || list_any (λ a. same_place a.place p && is_leaf a.kind) made) h (ap is_leaf same))
+    (λ h. ap (λ b. (b && is_leaf a.kind) || list_any (λ a. same_place a.place p && is_leaf a.kind) made) h
+    ∙ kind_told made p v (sym (ap (λ c. cond c (Some a.kind) (kind_at made p)) h) ∙ e))
+
+pub string_told : (form : Text) (p : Place) → is_string (view_at form p) ≡ true → is_value_at form p ≡ true
+string_told form p e = let v = string_value form p e in kind_told (assertions form) p v.0 v.1
+
+pub strings_values : (edits : Edits) (form : Text) → AreStrings edits (view_at form) → AreValues edits form
+strings_values [] form all = tt
+strings_values (e ∷ edits) form all = (string_told form e.0 all.0, strings_values edits form all.1)
+
+pub strings_outside : (edits : Edits) (old : List ℕ) (form : Text) → IsDocument old form → AreStrings edits (view_at form) → AreOutside edits
+strings_outside edits old form document all = go edits all
+  where
+    go : (es : Edits) → AreStrings es (view_at form) → AllByRecursion (λ e. is_below_any edits e.0 ≡ false) es
+    go [] h = tt
+    go (e ∷ es) h =
+        (by_test (is_below_any edits e.0) (λ low. absurd (true≢false (sym h.0 ∙ ap is_string (below_none edits old form e.0 document all low)))) (λ high. high), go es h.1)
+
+-- nothing is lost below strings
+pub strings_emptied : (edits : Edits) (old : List ℕ) (form : Text) (q : Place) → IsDocument old form → AreStrings edits (view_at form) → emptied edits (view_at form) q ≡ view_at form q
+strings_emptied edits old form q document all =
+    by_test (is_below_any edits q)
+    (λ low. ap (λ c. cond c None (view_at form q)) low ∙ sym (below_none edits old form q document all low))
+    (λ high. ap (λ c. cond c None (view_at form q)) high)
+
 pub strings_view : (edits : Edits) (old : List ℕ) (form : Text) → IsDocument old form → AreStrings edits (view_at form) → (q : Place) → view_at (replaced edits form) q ≡ written edits (view_at form) q
 strings_view edits old form document all q =
     replaced_view edits old form document (strings_apart edits old form document all) q
-    ∙ written_same edits (emptied edits (view_at form)) (view_at form) q
-    (by_test (is_below_any edits q) (λ low. ap (λ c. cond c None (view_at form q)) low ∙ sym (below_none edits old form q document all low)) (λ high. ap (λ c. cond c None (view_at form q)) high))
+    ∙ written_same edits (emptied edits (view_at form)) (view_at form) q (strings_emptied edits old form q document all)

@@ -3,7 +3,7 @@ use Rattle.std.specs.Prelude.{◌≡◌, ℕ, suc, Bool, true, false, ◌&&◌, 
 use Rattle.std.specs.List.{AllByRecursion, filter_map}
 use Rattle.edit_document.specs.Grammar.{Value, basic, literal, multi_basic, multi_literal, boolean, integer, float, datetime, array, inline, value, Elements, no_elements, last_element, element, Members, no_members, last_member, member, Statement, pair, header, element_header, empty_line, full_line, Lines, one_line, more_lines, Text, text}
 use Rattle.edit_document.specs.Assertions.{Place, index, at, names, named, same_step, same_place, Assertion, of_statement, prefix_after}
-use Rattle.edit_document.specs.Tree.{View, string, view_at}
+use Rattle.edit_document.specs.Tree.{View, string, view_at, is_value_at}
 use Rattle.edit_document.specs.Supported.{IsManifest}
 use Rattle.edit_document.specs.Literals.{literal_of}
 use Rattle.edit_document.specs.Written.{Valued, values}
@@ -124,12 +124,21 @@ is_string view = false
 abbrev pub AreStrings : Edits → (Place → Option View) → Type 0
 AreStrings edits tree = AllByRecursion (λ e. is_string (tree e.0) ≡ true) edits
 
+-- a value stands at each of the places: it was written behind an equals sign or as an array's element
+abbrev pub AreValues : Edits → Text → Type 0
+AreValues edits form = AllByRecursion (λ e. is_value_at form e.0 ≡ true) edits
+
 -- no two of the places are the same
 abbrev pub AreDistinct : Edits → Type 0
 AreDistinct [] = ⊤
 AreDistinct (e ∷ es) = AllByRecursion (λ f. same_place e.0 f.0 ≡ false) es × AreDistinct es
 
--- the new bytes are the old document with the texts written at the places: only the literals differ, and only these strings of the tree
+-- none of the places lies below another: what holds one of the values is no other of them
+abbrev pub AreOutside : Edits → Type 0
+AreOutside edits = AllByRecursion (λ e. is_below_any edits e.0 ≡ false) edits
+
+-- the new bytes are the old document with the texts written at the places: only the literals differ, and the tree has these
+-- strings there, nothing below them, and is else the old one
 pub record Replaces (edits : Edits) (old new : List ℕ) : Type 0 where
   pub form : Text
   pub was : IsManifest old form

@@ -5,9 +5,8 @@ use Rattle.edit_document.specs.declared.replace.Rewrite.{Rewrite}
 use Rattle.edit_document.specs.Literals.{literal_bytes}
 use Rattle.edit_document.specs.Grammar.{Text}
 use Rattle.edit_document.specs.Assertions.{Place, IsDocument}
-use Rattle.edit_document.specs.Tree.{view_at}
 use Rattle.edit_document.specs.Written.{Valued, start_of, end_of, IsWrittenAt}
-use Rattle.edit_document.specs.Replaces.{Edits, AreStrings, AreDistinct}
+use Rattle.edit_document.specs.Replaces.{Edits, AreValues, AreDistinct, AreOutside}
 
 -- where it begins, where it ends, and the text whose literal is to be written there
 abbrev pub Range : Type 0
@@ -42,9 +41,10 @@ AreRanges form [] (r ∷ rs) = ⊥
 AreRanges form (e ∷ es) [] = ⊥
 AreRanges form (e ∷ es) (r ∷ rs) = IsRangeFor form e r × AreRanges form es rs
 
--- the ranges of edits at distinct places of a document, at each of which a string stands
+-- the ranges of edits at distinct places of a document, at each of which a value stands, and none of which lies below another
 pub record Locates (whole : List ℕ) (form : Text) (edits : Edits) (ranges : List Range) : Type 0 where
   pub document : IsDocument whole form
-  pub strings : AreStrings edits (view_at form)
+  pub values : AreValues edits form
   pub distinct : AreDistinct edits
+  pub outside : AreOutside edits
   pub found : AreRanges form edits ranges

@@ -1,6 +1,6 @@
 //! Why a call is refused.
 ghost use Rattle.std.specs.Prelude.{◌≡◌};
-ghost use Rattle.edit_document.specs.declared.errors.Error.TheVariants.{Memory};
+ghost use Rattle.edit_document.specs.declared.errors.Error.TheVariants.{CommandLine, Io, Memory};
 
 mod details;
 
@@ -273,12 +273,16 @@ impl<T: Drop> From<AllocFailed<T>> for Error {
 }
 
 impl From<io::Error> for Error {
+    ghost from_gives = { λ x e. e ≡ Io x };
+
     fn from(error: io::Error) -> Error {
         Error::Io(error)
     }
 }
 
 impl From<clap::Error> for Error {
+    ghost from_gives = { λ x e. e ≡ CommandLine x };
+
     fn from(error: clap::Error) -> Error {
         Error::CommandLine(error)
     }

@@ -4,7 +4,7 @@ ghost use Rattle.edit_document.specs.Errors.{IsMemory};
 ghost use Rattle.edit_document.specs.Grammar.{Text, text as text_of};
 ghost use Rattle.edit_document.specs.Items.{place_seen};
 ghost use Rattle.edit_document.specs.Ranges.{one_edit, edits_seen};
-ghost use Rattle.edit_document.specs.Replaces.{Edits, replaced, written, emptied, is_string, AreStrings, AreDistinct, Replaces};
+ghost use Rattle.edit_document.specs.Replaces.{Edits, replaced, written, emptied, AreValues, AreDistinct, AreOutside, Replaces};
 ghost use Rattle.edit_document.specs.Assertions.{Place as PlaceSeen};
 ghost use Rattle.edit_document.specs.Shown.{tree_of};
 ghost use Rattle.edit_document.specs.Splices.{range_of, spliced, AreInOrder, IsRangeFor, Locates};
@@ -65,9 +65,9 @@ impl Document {
         self.value_range(place).is_some()
     }
 
-    /// The rewrite of a string at a place.
+    /// The rewrite of the value at a place.
     fn rewrite_of<'a>(&self, place: &[Step], text: &'a str) -> Rewrite<'a>
-        requires { (form : Text) → IsManifest self.now.bytes form → is_string (view_at form (place_seen place.now)) ≡ true }
+        requires { (form : Text) → IsManifest self.now.bytes form → is_value_at form (place_seen place.now) ≡ true }
         ensures { (form : Text) → IsManifest self.now.bytes form
             → IsRangeFor form (record { 0 = place_seen place.now; 1 = text.now }) (range_of result) }
     {
@@ -98,14 +98,17 @@ impl Document {
         }
     }
 
-    /// The document's text with the literals of other texts in the place of strings. The places may come in any order.
+    /// The document's text with the literals of other texts in the place of values. The places may come in any
+    /// order; what is inside a value goes with it, so none of the places lies inside another.
     pub fn with_literals(&self, alloc: Global, edits: &[(Place, String)]) -> CargoResult<String>
-        requires strings { AreStrings (edits_seen edits.now) (tree_of self.now) }
+        requires values { (form : Text) → IsManifest self.now.bytes form → AreValues (edits_seen edits.now) form }
         requires distinct { AreDistinct (edits_seen edits.now) }
-        ensures bytes { IfOk result (λ s. (form : Text) → IsManifest self.now.bytes form → string_bytes s ≡ text_of (replaced (edits_seen edits.now) form)) }
+        requires outside { AreOutside (edits_seen edits.now) }
+        ensures bytes { IfOk result (λ s. (form : Text) → IsManifest self.now.bytes form
+            → string_bytes s ≡ text_of (replaced (edits_seen edits.now) form)) }
         ensures replaces { IfOk result (λ s. Replaces (edits_seen edits.now) self.now.bytes (string_bytes s)) }
         ensures tree { IfOk result (λ s. (form : Text) → IsManifest (string_bytes s) form → (at : PlaceSeen)
-            → view_at form at ≡ written (edits_seen edits.now) (tree_of self.now) at) }
+            → let edits = edits_seen edits.now in view_at form at ≡ written edits (emptied edits (tree_of self.now)) at) }
         ensures refused { IfErr result IsMemory }
     {
         self.has_form();

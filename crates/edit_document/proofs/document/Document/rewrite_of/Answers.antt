@@ -1,9 +1,7 @@
 use Rattle.std.proofs.Common.{sym, ◌∙◌, true≢false}
-use Rattle.edit_document.specs.Items.{place_seen}
-use Rattle.edit_document.proofs.Promised.{string_told}
 use Rattle.edit_document.proofs.document.Document.rewrite_of.Goals as goal
 
 pub unreachable-requires : goal.unreachable-requires
 unreachable-requires c =
     let f = c.has_form.ensures.some in
-    true≢false (sym (string_told f.0 (place_seen c.args.place.now) (c.requires f.0 f.1)) ∙ c.in-None.ensures {u = tt} f.0 f.1)
+    true≢false (sym (c.requires f.0 f.1) ∙ c.in-None.ensures {u = tt} f.0 f.1)

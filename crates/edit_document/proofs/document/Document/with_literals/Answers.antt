@@ -6,19 +6,20 @@ use Rattle.std.proofs.lemmas.Result.{IfOk-weaker}
 use Rattle.edit_document.specs.Assertions.{Place, IsDocument}
 use Rattle.edit_document.specs.Ranges.{edits_seen}
 use Rattle.edit_document.specs.Splices.{range_of, Locates}
-use Rattle.edit_document.specs.Tree.{view_at}
+use Rattle.edit_document.specs.Tree.{view_at, is_value_at}
 use Rattle.edit_document.specs.Grammar.{Text, text as text_of}
 use Rattle.edit_document.specs.Supported.{IsManifest}
-use Rattle.edit_document.specs.Replaces.{Replaces, replaced, written, is_string}
+use Rattle.edit_document.specs.Replaces.{Replaces, replaced, written, emptied}
 use Rattle.edit_document.proofs.ReplacedDocuments.{tree_again}
-use Rattle.edit_document.proofs.Promised.{string_at, range_seen, ranged_more, all_ranges, strings_along, replaces_strings}
+use Rattle.edit_document.proofs.Promised.{value_at, range_seen, ranged_more, all_ranges, replaces_apart}
+use Rattle.edit_document.proofs.ReplacedStrings.{values_apart}
 use Rattle.edit_document.specs.Shown.{tree_of}
 use Rattle.edit_document.proofs.document.Document.with_literals.Goals as goal
 
 pub rewrite_of-requires : goal.rewrite_of-requires
 rewrite_of-requires c form manifest =
-    subst (λ (l : List WrittenStep). is_string (view_at form (place_seen l)) ≡ true) (sym c.deref.ensures.value)
-    (string_at (view_at form) c.args.edits.now c.loop-edit.edit-index c.edit-item.result c.loop-edit-test.true c.edit-item.is (strings_along (edits_seen c.args.edits.now) (tree_of c.args.self.now) (view_at form) (c.has_form.ensures.shows form manifest) c.requires.strings))
+    subst (λ (l : List WrittenStep). is_value_at form (place_seen l) ≡ true) (sym c.deref.ensures.value)
+    (value_at form c.args.edits.now c.loop-edit.edit-index c.edit-item.result c.loop-edit-test.true c.edit-item.is (c.requires.values form manifest))
 
 pub loop-edit-preserved : goal.loop-edit-preserved
 loop-edit-preserved c form manifest =
@@ -35,8 +36,9 @@ replaced_text c P from =
     let edits = edits_seen c.args.edits.now in
     let located : Locates c.as_str-2.result.now f.0 edits (map range_of c.deref_mut.result.now) = record {
       document = subst (λ (b : List ℕ). IsDocument b f.0) (sym c.as_str-2.ensures) f.1.document;
-      strings = strings_along edits (tree_of c.args.self.now) (view_at f.0) (c.has_form.ensures.shows f.0 f.1) c.requires.strings;
+      values = c.requires.values f.0 f.1;
       distinct = c.requires.distinct;
+      outside = c.requires.outside;
       found = all_ranges f.0 c.args.edits.now c.loop-edit.edit-index c.loop-edit.rewrites.items c.deref_mut.result.now c.loop-edit-test.false c.deref_mut.ensures.value (c.loop-edit.invariant f.0 f.1);
     } in
     IfOk-weaker c.splice_unordered.result _ _ (λ s e. from (string_bytes s) e) (c.splice_unordered.ensures.text f.0 edits located)
@@ -45,14 +47,14 @@ pub returns-clause-replaces : goal.returns-clause-replaces
 returns-clause-replaces c =
     let f = c.has_form.ensures.some in
     let edits = edits_seen c.args.edits.now in
-    let strings = strings_along edits (tree_of c.args.self.now) (view_at f.0) (c.has_form.ensures.shows f.0 f.1) c.requires.strings in
-    replaced_text c (λ new. Replaces edits c.args.self.now.bytes new) (λ new e. replaces_strings edits c.args.self.now.bytes new f.0 f.1 strings e)
+    let apart = values_apart edits f.0 f.1.document.no_clash (c.requires.values f.0 f.1) c.requires.outside in
+    replaced_text c (λ new. Replaces edits c.args.self.now.bytes new) (λ new e. replaces_apart edits c.args.self.now.bytes new f.0 f.1 apart e)
 
 pub returns-clause-tree : goal.returns-clause-tree
 returns-clause-tree c =
     let f = c.has_form.ensures.some in
     let edits = edits_seen c.args.edits.now in
     let shows = c.has_form.ensures.shows f.0 f.1 in
-    let strings = strings_along edits (tree_of c.args.self.now) (view_at f.0) shows c.requires.strings in
-    replaced_text c (λ new. (form : Text) → IsManifest new form → (at : Place) → view_at form at ≡ written edits (tree_of c.args.self.now) at)
-    (λ new e. tree_again edits c.args.self.now.bytes new f.0 (tree_of c.args.self.now) f.1 strings shows e)
+    let apart = values_apart edits f.0 f.1.document.no_clash (c.requires.values f.0 f.1) c.requires.outside in
+    replaced_text c (λ new. (form : Text) → IsManifest new form → (at : Place) → view_at form at ≡ written edits (emptied edits (tree_of c.args.self.now)) at)
+    (λ new e. tree_again edits c.args.self.now.bytes new f.0 (tree_of c.args.self.now) f.1 apart shows e)
