@@ -62,11 +62,10 @@ def joined(texts, size):
 
 
 def headers(size):
-    """A header of 80 parts in each line, of which each but the last is the one before it."""
-    line = "[a" + ".a" * 78
-    lines = []
-    while len(lines) * (len(line) + 8) < size:
-        lines.append("%s.%05d]" % (line, len(lines)))
+    """A header of 80 parts in each line, each with a first part of its own, so that each part makes a place."""
+    lines, rest = [], ".a" * 79 + "]"
+    while len(lines) * (len(rest) + 6) < size:
+        lines.append("[%04d%s" % (len(lines), rest))
     return "\n".join(lines) + "\n"
 
 

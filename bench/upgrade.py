@@ -53,7 +53,7 @@ def index(count, versions, line):
 
 def blank(size):
     """Blank lines, and one entry at the end."""
-    return " \n" * (size // 2) + short_line("crate-number-0", "1.2.3") + "\n"
+    return "\n" * size + short_line("crate-number-0", "1.2.3") + "\n"
 
 
 def peak_memory(words):

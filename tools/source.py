@@ -9,8 +9,9 @@ ASIDE = re.compile(r'//[^\n]*|/\*.*?\*/|b?r(#*)".*?"\1|b?"(?:\\.|[^"\\])*"|b?\'(
 CLAUSE = re.compile(r"\b(?:requires|ensures|ghost)\*?(?:\s+\w+)?(?:\s*:)?\s*\Z")
 
 # name: as a check prints it; cycle: the cycle of calls that it is in, if it is in one; label: as a reader knows it;
-# head: from its attributes to its clauses; start: of the head; begin, end: of the body, equal where there is none
-Function = collections.namedtuple("Function", "name cycle label head start begin end")
+# head: from its attributes to its clauses; start: of the head; begin, end: of the body, equal where there is none;
+# in_trait: whether it stands in a trait or in the impl of one
+Function = collections.namedtuple("Function", "name cycle label head start begin end in_trait")
 # what a brace opened: kind is module, trait, impl, function, clause or block
 Opened = collections.namedtuple("Opened", "kind name label head start begin")
 
@@ -54,7 +55,7 @@ class Source:
                     # of the type of an array
                     continue
                 if is_outside and re.search(r"\bfn\s+\w", head):
-                    found.append(function_of(self.opened(outer, head, start, at), at))
+                    found.append(function_of(self.opened(outer, head, start, at), at, outer))
             elif mark == "{":
                 is_clause = is_outside and CLAUSE.search(head)
                 within.append(
@@ -68,7 +69,7 @@ class Source:
                     start = inner.start
                     continue
                 if inner.kind == "function":
-                    found.append(function_of(inner, at))
+                    found.append(function_of(inner, at, within[-1]))
             start = at + 1
         return found
 
@@ -100,11 +101,12 @@ class Source:
         return joined(self.homes.get(own, module), own), own
 
 
-def function_of(opened, end):
+def function_of(opened, end, outer):
     cycle = re.search(r"#\[cycle\((\w+)\)\]", opened.head)
     module = "::".join(it for it in opened.name.split("::")[:-1] if not it[:1].isupper())
     return Function(
-        opened.name, cycle and joined(module, "+" + cycle[1]), opened.label, opened.head, opened.start, opened.begin, end)
+        opened.name, cycle and joined(module, "+" + cycle[1]), opened.label, opened.head, opened.start, opened.begin, end,
+        outer.kind == "trait" or outer.kind == "impl" and " for " in outer.head)
 
 
 def named(word):
