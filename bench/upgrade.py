@@ -5,8 +5,9 @@
 
 PROGRAM is the built program (build/cargo-edit). PEER, where given, is a program that is called as
 `PEER MANIFEST INDEX` and raises the manifest in place. Inputs are made in a new folder of the system's own for
-such files. Printed: the least time of the rounds, the peak memory (by /usr/bin/time -v where that is there)
-and the ratios.
+such files: manifests of 1 to 10,000 entries, each with one short line of an index or twenty lines as registries have
+them, and an index file of 10 MB of blank lines. Printed: the least time of the rounds, the peak memory (by
+/usr/bin/time -v where that is there) and the ratios.
 """
 import argparse
 import hashlib
@@ -48,6 +49,11 @@ def index(count, versions, line):
         for v in range(versions):
             out.append(line("crate-number-%d" % i, "1.%d.%d" % (2 + v, i % 5)))
     return "\n".join(out) + "\n"
+
+
+def blank(size):
+    """Blank lines, and one entry at the end."""
+    return "\n" * size + short_line("crate-number-0", "1.2.3") + "\n"
 
 
 def peak_memory(words):
@@ -111,10 +117,24 @@ def main():
             print("%s, %s: ten times the input costs %.1f times the time" % (
                 kind, "inline tables" if inline else "strings",
                 times[(kind, inline, 10000)] / times[(kind, inline, 1000)]))
+    blank_lines(program, folder, args.rounds)
     start = min(timed(["/bin/true"]) for _ in range(20))
-    source = os.path.join(folder, "source.toml")
     print("start on a tiny manifest: %.1f times /bin/true" % (times[("short lines", False, 1)] / start))
     shutil.rmtree(folder)
+
+
+def blank_lines(program, folder, rounds):
+    """The memory for an index file of which nearly each line is blank, in times its text."""
+    source, lines = os.path.join(folder, "source.toml"), os.path.join(folder, "index.json")
+    with open(source, "w") as file:
+        file.write(manifest(1, False))
+    with open(lines, "w") as file:
+        file.write(blank(10_000_000))
+    own, memory = measured(
+        lambda target: [program, "upgrade", "--manifest-path", target, "--index-file", lines], folder, source, rounds)
+    if memory:
+        print("10 MB of blank index lines: %.4f s, %d kB, %.1f times the text" % (
+            own, memory, memory * 1024 / os.path.getsize(lines)))
 
 
 def timed(words):
