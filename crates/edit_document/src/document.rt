@@ -200,7 +200,7 @@ impl Document {
     }
 
     /// The text is a document, and what it shows is the tree of each form that it has.
-    pub(crate) fn has_form(&self)
+    pub fn has_form(&self)
         ensures some { (form : Text) × IsManifest self.now.bytes form }
         ensures shows { (form : Text) → IsManifest self.now.bytes form → ShowsTree self.now form }
     {
