@@ -33,14 +33,14 @@ outputs-are path bytes d edits (Some s) outputs b w o =
     subst (λ (os : List Output). AreOutputs path bytes edits os) (sym o.1) (changed o.0 w.some o.2 written)
 
 -- what is written of a plan
-pub outputs-of : {Y : Type 0} (path here bytes : List ℕ) (p : Planned) (entries : List Entry) (rows : List Row) (text : Option (String Y)) (outputs : List Output)
-    → here ≡ path → IsShown bytes p → entries ≡ p.entries.items → rows ≡ p.rows.items
-    → MatchOption text (writes (map seen_of entries) (map line_of rows) ≡ []) (λ s. IsRewritten p.document (writes (map seen_of entries) (map line_of rows)) (string_bytes s))
+pub outputs-of : {Y : Type 0} (path here bytes : List ℕ) (d : Shown) (p : Planned) (entries : List Entry) (rows : List Row) (text : Option (String Y)) (outputs : List Output)
+    → here ≡ path → IsShown bytes d p → entries ≡ p.entries.items → rows ≡ p.rows.items
+    → MatchOption text (writes (map seen_of entries) (map line_of rows) ≡ []) (λ s. IsRewritten d (writes (map seen_of entries) (map line_of rows)) (string_bytes s))
     → MatchOption text (outputs ≡ []) (λ s. IsOnlyOutput here (string_bytes s) outputs) → HasOutputs path bytes (map line_of p.rows.items) outputs
-outputs-of path here bytes p entries rows text outputs a h e r w o =
+outputs-of path here bytes d p entries rows text outputs a h e r w o =
     let edits = writes (map seen_of entries) (map line_of rows) in
     let at = subst (λ (x : List ℕ). MatchOption text (outputs ≡ []) (λ s. IsOnlyOutput x (string_bytes s) outputs)) a o in
-    let are = outputs-are path bytes p.document edits text outputs h.same w at in
+    let are = outputs-are path bytes d edits text outputs h.same w at in
     record {
       form = h.form;
       manifest = h.manifest;

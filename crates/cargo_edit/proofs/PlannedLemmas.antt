@@ -1,6 +1,6 @@
 -- The rows and looks of a manifest, from those of its entries.
-use Rattle.std.proofs.Common.{◌≡◌, ◌∷◌, [], List, ℕ, Option, map, refl, ap, ◌∙◌, sym, subst, inl, inr, ◌⊎◌, ◌<◌, get_or, length}
-use Rattle.std.specs.Prelude.{All, Contains, IsSome, IsUtf8, option_map, string_bytes}
+use Rattle.std.proofs.Common.{◌≡◌, ◌∷◌, [], List, ℕ, Option, Result, Ok, Err, map, refl, ap, ◌∙◌, sym, subst, inl, inr, ◌⊎◌, ◌<◌, get_or, length}
+use Rattle.std.specs.Prelude.{All, Contains, IfErr, IsErrAnd, IsSome, option_map, string_bytes}
 use Rattle.std.proofs.lemmas.List.{get_or-map, length-map}
 use Rattle.std.proofs.lemmas.Slice.Zip.{AllZip-long}
 use Rattle.std.proofs.lemmas.List.Elements.{All-head, All-tail, All-weaker, Contains-get_or}
@@ -16,7 +16,7 @@ use Rattle.semver.specs.Parse.{Parts}
 use Rattle.url.specs.Parts as url
 use Rattle.url.specs.Parts.{serialize}
 use Rattle.cargo_edit.specs.Address.{default_address}
-use Rattle.cargo_edit.specs.Causes.{IsCause}
+use Rattle.cargo_edit.specs.Causes.{IsBadLook}
 use Rattle.cargo_edit.specs.Found.{name_of, seen_of}
 use Rattle.cargo_edit.specs.Lines.{line_of}
 use Rattle.cargo_edit.specs.Looked.{IsFailedLook, Looked}
@@ -94,18 +94,28 @@ looks-needed bytes form address first old now looks m only at h =
       others = made_looks.others;
     }
 
+-- what is refused with an error of this cause has it
+pub refusal-has : {T : Type 0} (r : Result T Error) (e : Error) (P : Error → Type 0) → IsErrAnd r (λ other. other ≡ e) → P e → IfErr r P
+refusal-has (Ok x) e P same h = tt
+refusal-has (Err other) e P same h = subst P (sym same) h
+
 -- the cause of a refusal at a look
 pub look-cause : (bytes : List ℕ) (form : Text) (registry : url.Parts) (first : Outcomes) (old new : Kept) (before now : ℕ) (e : Error)
-    → IsManifest bytes form → IsUtf8 bytes → serialize registry ≡ default_address
-    → IsMemory e ⊎ IsFailedLook registry first old new (map (λ s. s.name) (seen (view_at form))) before now e → IsCause bytes first old new before now e
-look-cause bytes form registry first old new before now e m u at (inl memory) = inl (inr (inr (memory, u)))
-look-cause bytes form registry first old new before now e m u at (inr f) = inr (record { form = form; manifest = m; registry = registry; at = at; failed = f })
+    → IsManifest bytes form → serialize registry ≡ default_address
+    → IsMemory e ⊎ IsFailedLook registry first old new (map (λ s. s.name) (seen (view_at form))) before now e
+    → IsMemory e ⊎ IsBadLook bytes first old new before now e
+look-cause bytes form registry first old new before now e m at (inl memory) = inl memory
+look-cause bytes form registry first old new before now e m at (inr f) = inr (record { form = form; manifest = m; registry = registry; at = at; failed = f })
 
 -- ---- as the program has them
 
 -- a form of the bytes whose tree a document shows
 abbrev pub ShowsSome : List ℕ → Shown → Type 0
 ShowsSome bytes d = (form : Text) × IsManifest bytes form × ShowsTree d form
+
+-- a document shows the tree of the form that it has
+pub form-shown : (d : Shown) → ((form : Text) × IsManifest d.bytes form) → ((form : Text) → IsManifest d.bytes form → ShowsTree d form) → ShowsSome d.bytes d
+form-shown d f shows = (f.0, f.1, shows f.0 f.1)
 
 -- the names that were looked up are those of the seen entries
 names-of : (d : Shown) (form : Text) (entries here : List Entry) → ShowsTree d form → map seen_of entries ≡ seen (tree_of d) → here ≡ entries
@@ -114,18 +124,17 @@ names-of d form entries here h whole same =
     ap (map name_of) same ∙ names-seen entries ∙ ap (λ (es : List Seen). map (λ s. s.name) es) (whole ∙ same-seen d form h)
 
 -- what was read and decided is shown
-pub planned-shown : (bytes slice : List ℕ) (p : Planned) (there : List Entry) (s : Setting) → slice ≡ bytes → ShowsSome slice p.document → IsUtf8 slice
-    → p.document.bytes ≡ slice → map seen_of p.entries.items ≡ seen (tree_of p.document) → there ≡ p.entries.items
-    → AreDecided s (map seen_of there) (map line_of p.rows.items) → IsShown bytes p
-planned-shown bytes slice p there s e f u b whole q decided =
-    let g = subst (λ (x : List ℕ). ShowsSome x p.document) e f in
+pub planned-shown : (bytes : List ℕ) (d : Shown) (p : Planned) (there : List Entry) (s : Setting) → d.bytes ≡ bytes → ShowsSome d.bytes d
+    → map seen_of p.entries.items ≡ seen (tree_of d) → there ≡ p.entries.items
+    → AreDecided s (map seen_of there) (map line_of p.rows.items) → IsShown bytes d p
+planned-shown bytes d p there s e f whole q decided =
+    let g = subst (λ (x : List ℕ). ShowsSome x d) e f in
     record {
       form = g.0;
       manifest = g.1;
       tree = g.2;
-      same = b ∙ e;
-      utf8 = subst (λ (x : List ℕ). IsUtf8 x) e u;
-      entries = whole ∙ same-seen p.document g.0 g.2;
+      same = e;
+      entries = whole ∙ same-seen d g.0 g.2;
       long = sym (length-map p.rows.items line_of)
           ∙ AllZip-long (λ e line. IsDecided s.input s.options (s.versions e.name) e line) (map seen_of there) (map line_of p.rows.items) decided
           ∙ length-map there seen_of ∙ ap length q;
@@ -158,9 +167,9 @@ planned-looks bytes slice d address first old now entries here looks e f only wh
     (subst (λ (ns : List (List ℕ)). Looked address first old ns looks now) (names-of d g.0 entries here g.2 whole p) looked)
 
 pub planned-cause : (bytes slice : List ℕ) (d : Shown) (registry : url.Parts) (first : Outcomes) (old new : Kept) (before now : ℕ) (x : Error) (entries here : List Entry)
-    → slice ≡ bytes → ShowsSome slice d → IsUtf8 slice → map seen_of entries ≡ seen (tree_of d) → here ≡ entries → serialize registry ≡ default_address
-    → IsMemory x ⊎ IsFailedLook registry first old new (map name_of here) before now x → IsCause bytes first old new before now x
-planned-cause bytes slice d registry first old new before now x entries here e f u whole p at r =
+    → slice ≡ bytes → ShowsSome slice d → map seen_of entries ≡ seen (tree_of d) → here ≡ entries → serialize registry ≡ default_address
+    → IsMemory x ⊎ IsFailedLook registry first old new (map name_of here) before now x → IsMemory x ⊎ IsBadLook bytes first old new before now x
+planned-cause bytes slice d registry first old new before now x entries here e f whole p at r =
     let g = subst (λ (y : List ℕ). ShowsSome y d) e f in
-    look-cause bytes g.0 registry first old new before now x g.1 (subst (λ (y : List ℕ). IsUtf8 y) e u) at
+    look-cause bytes g.0 registry first old new before now x g.1 at
     (subst (λ (ns : List (List ℕ)). IsMemory x ⊎ IsFailedLook registry first old new ns before now x) (names-of d g.0 entries here g.2 whole p) r)

@@ -13,5 +13,5 @@ mod seen;
 pub mod upgrade;
 mod writes;
 
-pub use plan::plan_upgrade;
+pub use plan::{plan_documents, plan_upgrade};
 pub use upgrade::{Change, Input, Look, Options, Output, Reason, Row, UpgradePlan, Warning};

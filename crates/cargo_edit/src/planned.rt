@@ -1,12 +1,13 @@
 //! What is planned for one manifest.
-ghost use Rattle.std.specs.Prelude.{◌≡◌, IfErr, IfOk, IsUtf8, OnOk, map, option_map};
+ghost use Rattle.std.specs.Prelude.{◌≡◌, ◌⊎◌, IfErr, IfOk, IsUtf8, OnOk, map, option_map};
+ghost use Rattle.edit_document.specs.Errors.{IsMemory};
 ghost use Rattle.edit_document.specs.Grammar.{Text};
 ghost use Rattle.edit_document.specs.Shown.{ShowsTree};
 ghost use Rattle.edit_document.specs.Supported.{IsManifest};
 ghost use Rattle.edit_record.specs.RustVersions.{numbers_of};
 ghost use Rattle.edit_sources.specs.IndexCache.{index_of};
 ghost use Rattle.cargo_edit.specs.Address.{default_address};
-ghost use Rattle.cargo_edit.specs.Causes.{IsBadManifest, IsCause};
+ghost use Rattle.cargo_edit.specs.Causes.{IsBadLook, IsBadManifest};
 ghost use Rattle.cargo_edit.specs.Lines.{line_of};
 ghost use Rattle.cargo_edit.specs.Looked.{Stays};
 ghost use Rattle.cargo_edit.specs.Looks.{AreLooks, kept_by, told_setting};
@@ -26,7 +27,6 @@ use std::str;
 /// The rows of a manifest, and what they rest on.
 #[derive(Drop)]
 pub(crate) struct Planned {
-    pub(crate) document: Document,
     pub(crate) entries: Vec<Entry>,
     pub(crate) looks: Vec<Look>,
     pub(crate) rows: Vec<Row>,
@@ -41,49 +41,36 @@ pub(crate) fn read_manifest(alloc: Global, bytes: &[u8]) -> CargoResult<Document
     ensures refused { IfErr result (IsBadManifest bytes.now) }
 {
     match str::from_utf8(bytes) {
-        Ok(text) => match Document::read(alloc, text) {
-            Ok(document) => Ok(document),
-            Err(error) => Err(error),
-        },
+        Ok(text) => Document::read(alloc, text),
         Err(_) => Err(Error::NotUtf8),
     }
 }
 
-/// Plans the rows of a manifest, and makes the looks that they need.
+/// Plans the rows of a manifest that was read, and makes the looks that they need.
 pub(crate) fn plan_input<I: Index>(
     alloc: Global,
     number: usize,
     options: &Options,
     input: &Input,
+    document: &Document,
     index: &mut IndexCache<I>,
 ) -> CargoResult<Planned>
-    ensures shown { IfOk result (IsShown input.now.bytes.items) }
+    requires { document.now.bytes ≡ input.now.bytes.items }
+    ensures shown { IfOk result (IsShown input.now.bytes.items document.now) }
     ensures rows { IfOk result (λ p. HasRows (told_setting number options.now (option_map numbers_of input.now.rust_version)
         p.looks.items default_address) input.now.bytes.items (map line_of p.rows.items)) }
     ensures looks { IfOk result (λ p. AreLooks (IsNeeded input.now.bytes.items) (I.gives (index_of index.old))
         (kept_by index.old) (kept_by index.new) p.looks.items) }
     ensures stays { Stays (kept_by index.old) (kept_by index.new) }
-    ensures refused { IfErr result (IsCause input.now.bytes.items (I.gives (index_of index.old)) (kept_by index.old)
-        (kept_by index.new) (I.faults (index_of index.old)) (I.faults (index_of index.new))) }
+    ensures refused { IfErr result (λ e. IsMemory e ⊎ IsBadLook input.now.bytes.items (I.gives (index_of index.old))
+        (kept_by index.old) (kept_by index.new) (I.faults (index_of index.old)) (I.faults (index_of index.new)) e) }
 {
-    let document = match read_manifest(alloc, &input.bytes) {
-        Ok(document) => document,
-        Err(error) => return Err(error),
-    };
-    let entries = match seen_entries(alloc, &document) {
-        Ok(entries) => entries,
-        Err(error) => return Err(error),
-    };
-    let registry = match default_registry(alloc) {
-        Ok(registry) => registry,
-        Err(error) => return Err(error),
-    };
-    let looks = match look_up(alloc, &registry, &entries, index) {
-        Ok(looks) => looks,
-        Err(error) => return Err(error),
-    };
+    document.has_form();
+    let entries = seen_entries(alloc, document)?;
+    let registry = default_registry(alloc)?;
+    let looks = look_up(alloc, &registry, &entries, index)?;
     let rust_version = input.rust_version;
-    match decided_rows(
+    let rows = decided_rows(
         alloc,
         number,
         options,
@@ -91,13 +78,10 @@ pub(crate) fn plan_input<I: Index>(
         &registry,
         &entries,
         index,
-    ) {
-        Ok(rows) => Ok(Planned {
-            document,
-            entries,
-            looks,
-            rows,
-        }),
-        Err(error) => Err(error),
-    }
+    )?;
+    Ok(Planned {
+        entries,
+        looks,
+        rows,
+    })
 }

@@ -1,7 +1,9 @@
 //! The command `upgrade`: reads, plans, then writes.
-ghost use Rattle.std.specs.Prelude.{◌≡◌, ◌⊎◌, ◌≤◌, [], ◌∷◌, All, IfErr, IfOk, OnErr, OnOk, length, option_copied, option_map, string_bytes, true};
+ghost use Rattle.std.specs.Prelude.{◌≡◌, ◌⊎◌, ◌≤◌, [], ◌∷◌, All, IfErr, IfOk, IsUtf8, OnErr, OnOk, length, option_copied, option_map, string_bytes, true};
 ghost use Rattle.edit_document.specs.Errors.{IsMemory, number_of};
-ghost use Rattle.edit_document.specs.Shown.{tree_of};
+ghost use Rattle.edit_document.specs.Grammar.{Text};
+ghost use Rattle.edit_document.specs.Shown.{ShowsTree, tree_of};
+ghost use Rattle.edit_document.specs.Supported.{IsManifest};
 ghost use Rattle.edit_document.specs.declared.errors.DeviceCall.TheVariants as call;
 ghost use Rattle.edit_record.specs.RustVersions.{numbers_of};
 ghost use Rattle.edit_sources.specs.ConfigurationFiles.{OnlyReads};
@@ -13,6 +15,7 @@ ghost use Rattle.edit_cli.specs.Upgrading.{HasRust, IsCutShort, IsDefault, IsInd
 
 use crate::arguments::UpgradeWords;
 use crate::locate::{absolute, find};
+use crate::refusal::{Refusal, RunResult, at_byte, at_path};
 use cargo_edit::{Input, Options, Output, plan_upgrade};
 use edit_document::{CargoResult, Document, Error};
 use edit_record::RustVersion;
@@ -66,17 +69,29 @@ fn own_name(alloc: Global, document: &Document) -> CargoResult<String>
     Ok(String::from_str(alloc, name)?)
 }
 
+// Reads the bytes of a manifest.
+fn read_document(alloc: Global, bytes: &[u8]) -> CargoResult<Document>
+    ensures read { IfOk result (λ d. (form : Text) × IsManifest bytes.now form × ShowsTree d form) }
+    ensures utf8 { OnOk result (IsUtf8 bytes.now) }
+    ensures refused { IfErr result (IsBadManifest bytes.now) }
+{
+    let Ok(text) = str::from_utf8(bytes) else {
+        return Err(Error::NotUtf8);
+    };
+    Document::read(alloc, text)
+}
+
 // The manifest to plan for, by its own name and Rust version.
-fn input_of(alloc: Global, path: String, bytes: Vec<u8>) -> CargoResult<Input>
+fn input_of(alloc: Global, path: String, bytes: Vec<u8>) -> RunResult<Input>
     ensures path { IfOk result (λ i. i.path ≡ path) }
     ensures bytes { IfOk result (λ i. i.bytes ≡ bytes) }
     ensures version { IfOk result (λ i. HasRust bytes.items (option_map numbers_of i.rust_version)) }
-    ensures refused { IfErr result (IsBadManifest bytes.items) }
+    ensures refused { IfErr result (λ r. IsBadManifest bytes.items r.error) }
 {
-    let Ok(text) = str::from_utf8(&bytes) else {
-        return Err(Error::NotUtf8);
+    let document = match read_document(alloc, &bytes) {
+        Ok(document) => document,
+        Err(error) => return Err(at_byte(alloc, error, path.as_str(), &bytes)),
     };
-    let document = Document::read(alloc, text)?;
     let name = own_name(alloc, &document)?;
     let rust_version = own_rust_version(alloc, &document)?;
     Ok(Input {
@@ -93,17 +108,19 @@ fn read_manifest<S: Store>(
     named: &str,
     current: &str,
     files: &mut S,
-) -> CargoResult<Input>
+) -> RunResult<Input>
     ensures store { OnlyReads (S.tells files.old) (S.tells files.new) (S.file_at files.old) (S.file_at files.new) (S.faults files.old) (S.faults files.new) }
     ensures read { IfOk result (λ i. S.tells files.old ≡ true → IsManifestRead (S.file_at files.old) current.now named.now
         (string_bytes i.path) i.bytes.items (option_map numbers_of i.rust_version)) }
-    ensures refused { IfErr result (λ e. IsFault call.Kind (S.faults files.old) (S.faults files.new) e
-        ⊎ (IsFault call.Read (S.faults files.old) (S.faults files.new) e
-        ⊎ (S.tells files.old ≡ true → IsManifestCause (S.file_at files.old) current.now named.now e))) }
+    ensures refused { IfErr result (λ r. IsFault call.Kind (S.faults files.old) (S.faults files.new) r.error
+        ⊎ (IsFault call.Read (S.faults files.old) (S.faults files.new) r.error
+        ⊎ (S.tells files.old ≡ true → IsManifestCause (S.file_at files.old) current.now named.now r.error))) }
 {
     let path = find(alloc, files, named, current)?;
-    let Some(bytes) = files.read(alloc, path.as_str())? else {
-        return Err(Error::NoManifest);
+    let bytes = match files.read(alloc, path.as_str()) {
+        Ok(Some(bytes)) => bytes,
+        Ok(None) => return Err(at_path(alloc, Error::NoManifest, path.as_str())),
+        Err(error) => return Err(at_path(alloc, error, path.as_str())),
     };
     input_of(alloc, path, bytes)
 }
@@ -114,17 +131,22 @@ fn read_index<S: Store>(
     named: &str,
     current: &str,
     files: &mut S,
-) -> CargoResult<FileIndex>
+) -> RunResult<FileIndex>
     ensures store { OnlyReads (S.tells files.old) (S.tells files.new) (S.file_at files.old) (S.file_at files.new) (S.faults files.old) (S.faults files.new) }
     ensures read { IfOk result (λ i. S.tells files.old ≡ true → IsIndexRead (S.file_at files.old) current.now named.now i) }
-    ensures refused { IfErr result (λ e. IsFault call.Read (S.faults files.old) (S.faults files.new) e
-        ⊎ (S.tells files.old ≡ true → IsIndexCause (S.file_at files.old) current.now named.now e)) }
+    ensures refused { IfErr result (λ r. IsFault call.Read (S.faults files.old) (S.faults files.new) r.error
+        ⊎ (S.tells files.old ≡ true → IsIndexCause (S.file_at files.old) current.now named.now r.error)) }
 {
     let path = absolute(alloc, current, named)?;
-    let Some(lines) = files.read(alloc, path.as_str())? else {
-        return Err(Error::NoPath);
+    let lines = match files.read(alloc, path.as_str()) {
+        Ok(Some(lines)) => lines,
+        Ok(None) => return Err(at_path(alloc, Error::NoPath, path.as_str())),
+        Err(error) => return Err(at_path(alloc, error, path.as_str())),
     };
-    FileIndex::read(alloc, &lines)
+    match FileIndex::read(alloc, &lines) {
+        Ok(index) => Ok(index),
+        Err(error) => Err(at_path(alloc, error, path.as_str())),
+    }
 }
 
 // What is allowed where no word says otherwise.
@@ -181,16 +203,19 @@ fn outputs_for(alloc: Global, input: Input, index: FileIndex) -> CargoResult<Vec
 }
 
 // Writes the output of a plan for one manifest, where there is one.
-fn write_output<S: Store>(alloc: Global, files: &mut S, output: Option<&Output>) -> CargoResult<()>
+fn write_output<S: Store>(alloc: Global, files: &mut S, output: Option<&Output>) -> RunResult<()>
     ensures tells { S.tells files.new ≡ S.tells files.old }
     ensures later { S.faults files.old ≤ S.faults files.new }
     ensures written { OnOk result (S.tells files.old ≡ true → IsWritten (option_copied output.entry) (S.file_at files.old) (S.file_at files.new)) }
     ensures torn { OnErr result (IsTorn (option_copied output.entry) (S.file_at files.old) (S.file_at files.new)) }
-    ensures refused { IfErr result (IsFault call.Write (S.faults files.old) (S.faults files.new)) }
+    ensures refused { IfErr result (λ r. IsFault call.Write (S.faults files.old) (S.faults files.new) r.error) }
 {
-    match output {
-        Some(output) => files.write(alloc, output.path.as_str(), &output.bytes),
-        None => Ok(()),
+    let Some(output) = output else {
+        return Ok(());
+    };
+    match files.write(alloc, output.path.as_str(), &output.bytes) {
+        Ok(()) => Ok(()),
+        Err(error) => Err(at_path(alloc, error, output.path.as_str())),
     }
 }
 
@@ -200,7 +225,7 @@ pub(crate) fn upgrade<S: Store>(
     words: &UpgradeWords<'_>,
     current: &str,
     files: &mut S,
-) -> CargoResult<()>
+) -> RunResult<()>
     ensures tells { S.tells files.new ≡ S.tells files.old }
     ensures done { OnOk result (S.tells files.old ≡ true → IsUpgraded current.now words.now.manifest_path.now words.now.index_file.now
         (S.file_at files.old) (S.file_at files.new)) }
@@ -208,8 +233,8 @@ pub(crate) fn upgrade<S: Store>(
     ensures refused { OnErr result (S.tells files.old ≡ true → SameFiles (S.file_at files.old) (S.file_at files.new)
         ⊎ IsCutShort current.now words.now.manifest_path.now words.now.index_file.now (S.file_at files.old) (S.file_at files.new)) }
     // and each refusal has its cause
-    ensures why { IfErr result (IsUpgradeCause (S.tells files.old) (S.file_at files.old) current.now words.now.manifest_path.now
-        words.now.index_file.now (S.faults files.old) (S.faults files.new)) }
+    ensures why { IfErr result (λ r. IsUpgradeCause (S.tells files.old) (S.file_at files.old) current.now words.now.manifest_path.now
+        words.now.index_file.now (S.faults files.old) (S.faults files.new) r.error) }
 {
     let input = read_manifest(alloc, words.manifest_path, current, files)?;
     let index = read_index(alloc, words.index_file, current, files)?;

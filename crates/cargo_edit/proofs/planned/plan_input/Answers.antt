@@ -9,49 +9,50 @@ use Rattle.cargo_edit.specs.Looked.{Stays}
 use Rattle.cargo_edit.specs.Rows.{Setting}
 use Rattle.cargo_edit.specs.Upgraded.{IsNeeded}
 use Rattle.cargo_edit.specs.declared.planned.Planned.{Planned}
-use Rattle.cargo_edit.proofs.PlannedLemmas.{planned-cause, planned-looks, planned-rows, planned-shown}
+use Rattle.cargo_edit.proofs.PlannedLemmas.{form-shown, planned-cause, planned-looks, planned-rows, planned-shown, refusal-has}
 use Rattle.cargo_edit.proofs.planned.plan_input.Goals as goal
 
-pub returns-in-Ok-decided_rows-clause-shown : goal.returns-in-Ok-decided_rows-clause-shown
-returns-in-Ok-decided_rows-clause-shown g c =
-    let kept = kept_by c.look_up.new.index (serialize c.in-Ok-default_registry.registry) in
+pub returns-clause-shown : goal.returns-clause-shown
+returns-clause-shown g c =
+    let kept = kept_by c.look_up.new.index (serialize c.in_ok-registry.registry) in
     let s : Setting = kept_setting c.args.number c.args.options.now (option_map numbers_of c.args.input.now.rust_version) kept in
-    let p : Planned = record { document = c.in-Ok.document; entries = c.in-Ok-seen_entries.entries; looks = c.in-Ok-look_up.looks; rows = c.in-Ok-decided_rows.rows } in
-    planned-shown c.args.input.now.bytes.items c.deref.result.now p c.deref-3.result.now s
-    c.deref.ensures.value c.in-Ok.ensures.found c.in-Ok.ensures.utf8 c.in-Ok.ensures.bytes c.in-Ok-seen_entries.ensures.ok
-    c.deref-3.ensures.value c.in-Ok-decided_rows.ensures.ok
+    let p : Planned = record { entries = c.in_ok-entries.entries; looks = c.in_ok-looks.looks; rows = c.in_ok-rows.rows } in
+    planned-shown c.args.input.now.bytes.items c.args.document.now p c.deref-2.result.now s c.requires
+    (form-shown c.args.document.now c.has_form.ensures.some c.has_form.ensures.shows)
+    c.in_ok-entries.ensures.ok c.deref-2.ensures.value c.in_ok-rows.ensures.ok
 
-pub returns-in-Ok-decided_rows-clause-rows : goal.returns-in-Ok-decided_rows-clause-rows
-returns-in-Ok-decided_rows-clause-rows g c =
-    planned-rows c.args.number c.args.options.now (option_map numbers_of c.args.input.now.rust_version) c.args.input.now.bytes.items c.deref.result.now
-    c.in-Ok.document (serialize c.in-Ok-default_registry.registry) (g.I.Index.gives (index_of c.args.index.now)) (kept_by c.args.index.now) (kept_by c.look_up.new.index)
-    c.in-Ok-seen_entries.entries.items c.deref-2.result.now c.deref-3.result.now c.in-Ok-look_up.looks.items (map line_of c.in-Ok-decided_rows.rows.items)
-    c.deref.ensures.value c.in-Ok.ensures.found c.in-Ok-seen_entries.ensures.ok c.deref-2.ensures.value c.deref-3.ensures.value
-    c.in-Ok-default_registry.ensures.ok c.in-Ok-look_up.ensures.looked c.in-Ok-decided_rows.ensures.ok
+pub returns-clause-rows : goal.returns-clause-rows
+returns-clause-rows g c =
+    planned-rows c.args.number c.args.options.now (option_map numbers_of c.args.input.now.rust_version) c.args.input.now.bytes.items c.args.document.now.bytes
+    c.args.document.now (serialize c.in_ok-registry.registry) (g.I.Index.gives (index_of c.args.index.now)) (kept_by c.args.index.now) (kept_by c.look_up.new.index)
+    c.in_ok-entries.entries.items c.deref.result.now c.deref-2.result.now c.in_ok-looks.looks.items (map line_of c.in_ok-rows.rows.items)
+    c.requires (form-shown c.args.document.now c.has_form.ensures.some c.has_form.ensures.shows) c.in_ok-entries.ensures.ok c.deref.ensures.value c.deref-2.ensures.value
+    c.in_ok-registry.ensures.ok c.in_ok-looks.ensures.looked c.in_ok-rows.ensures.ok
 
-pub returns-in-Ok-decided_rows-clause-looks : goal.returns-in-Ok-decided_rows-clause-looks
-returns-in-Ok-decided_rows-clause-looks g c =
+pub returns-clause-looks : goal.returns-clause-looks
+returns-clause-looks g c =
     subst (λ (k : Kept). AreLooks (IsNeeded c.args.input.now.bytes.items) (g.I.Index.gives (index_of c.args.index.now)) (kept_by c.args.index.now) k
-    c.in-Ok-look_up.looks.items) (sym c.in-Ok-decided_rows.ensures.kept)
-    (planned-looks c.args.input.now.bytes.items c.deref.result.now c.in-Ok.document (serialize c.in-Ok-default_registry.registry)
+    c.in_ok-looks.looks.items) (sym c.in_ok-rows.ensures.kept)
+    (planned-looks c.args.input.now.bytes.items c.args.document.now.bytes c.args.document.now (serialize c.in_ok-registry.registry)
     (g.I.Index.gives (index_of c.args.index.now)) (kept_by c.args.index.now) (kept_by c.look_up.new.index)
-    c.in-Ok-seen_entries.entries.items c.deref-2.result.now c.in-Ok-look_up.looks.items
-    c.deref.ensures.value c.in-Ok.ensures.found c.in-Ok.ensures.only c.in-Ok-seen_entries.ensures.ok c.deref-2.ensures.value
-    c.in-Ok-default_registry.ensures.ok c.in-Ok-look_up.ensures.looked)
+    c.in_ok-entries.entries.items c.deref.result.now c.in_ok-looks.looks.items
+    c.requires (form-shown c.args.document.now c.has_form.ensures.some c.has_form.ensures.shows) c.has_form.ensures.shows c.in_ok-entries.ensures.ok c.deref.ensures.value
+    c.in_ok-registry.ensures.ok c.in_ok-looks.ensures.looked)
 
-pub returns-in-Ok-decided_rows-clause-stays : goal.returns-in-Ok-decided_rows-clause-stays
-returns-in-Ok-decided_rows-clause-stays g c =
-    subst (λ (k : Kept). Stays (kept_by c.args.index.now) k) (sym c.in-Ok-decided_rows.ensures.kept) c.in-Ok-look_up.ensures.stays
+pub returns-clause-stays : goal.returns-clause-stays
+returns-clause-stays g c =
+    subst (λ (k : Kept). Stays (kept_by c.args.index.now) k) (sym c.in_ok-rows.ensures.kept) c.in_ok-looks.ensures.stays
 
-pub returns-in-Err-decided_rows-clause-stays : goal.returns-in-Err-decided_rows-clause-stays
-returns-in-Err-decided_rows-clause-stays g c =
-    subst (λ (k : Kept). Stays (kept_by c.args.index.now) k) (sym c.in-Err-decided_rows.ensures.kept) c.in-Ok-look_up.ensures.stays
+pub returns-in_err-rows-clause-stays : goal.returns-in_err-rows-clause-stays
+returns-in_err-rows-clause-stays g c =
+    subst (λ (k : Kept). Stays (kept_by c.args.index.now) k) (sym c.in_err-rows.ensures.kept) c.in_ok-looks.ensures.stays
 
-pub returns-in-Err-look_up-clause-refused : goal.returns-in-Err-look_up-clause-refused
-returns-in-Err-look_up-clause-refused g c =
-    planned-cause c.args.input.now.bytes.items c.deref.result.now c.in-Ok.document c.in-Ok-default_registry.registry
+pub returns-in_err-looks-clause-refused : goal.returns-in_err-looks-clause-refused
+returns-in_err-looks-clause-refused g c =
+    refusal-has c.from_residual-in_err-looks.result c.in_err-looks.field-0.0 _ c.from_residual-in_err-looks.ensures.1
+    (planned-cause c.args.input.now.bytes.items c.args.document.now.bytes c.args.document.now c.in_ok-registry.registry
     (g.I.Index.gives (index_of c.args.index.now)) (kept_by c.args.index.now) (kept_by c.look_up.new.index)
-    (g.I.Index.faults (index_of c.args.index.now)) (g.I.Index.faults (index_of c.look_up.new.index)) c.in-Err-look_up.error
-    c.in-Ok-seen_entries.entries.items c.deref-2.result.now
-    c.deref.ensures.value c.in-Ok.ensures.found c.in-Ok.ensures.utf8 c.in-Ok-seen_entries.ensures.ok c.deref-2.ensures.value
-    c.in-Ok-default_registry.ensures.ok c.in-Err-look_up.ensures.refused
+    (g.I.Index.faults (index_of c.args.index.now)) (g.I.Index.faults (index_of c.look_up.new.index)) c.in_err-looks.field-0.0
+    c.in_ok-entries.entries.items c.deref.result.now c.requires
+    (form-shown c.args.document.now c.has_form.ensures.some c.has_form.ensures.shows)
+    c.in_ok-entries.ensures.ok c.deref.ensures.value c.in_ok-registry.ensures.ok c.in_err-looks.ensures.refused)

@@ -1,4 +1,4 @@
-use Rattle.std.proofs.Common.{⊎_elim, inl, inr, refl}
+use Rattle.std.proofs.Common.{⊎_elim, inl, inr}
 use Rattle.edit_document.specs.declared.errors.DeviceCall.TheVariants as call
 use Rattle.edit_cli.proofs.Faults.{fault_later}
 use Rattle.edit_cli.proofs.Passing.{none_found, nothing_there, path_named, path_nearest}
@@ -19,12 +19,12 @@ pub returns-in-Ok-Folder-clause-refused : goal.returns-in-Ok-Folder-clause-refus
 returns-in-Ok-Folder-clause-refused g c =
     let stands = rw c.in-Ok-Folder.field-0-is at c.in-Ok-Folder.ensures.stands in
     ⊎_elim
-    (λ fault. inl (fault_later call.Kind (g.S.Store.faults c.args.files.now) (g.S.Store.faults c.kind.new.self) (g.S.Store.faults c.search.new.files) c.in-Err-search.error c.kind.ensures.cause.later fault))
-    (λ none. inr (none_found _ _ _ (g.S.Store.file_at c.kind.new.self) _ _ _ c.as_str.result.now c.as_str-in-Ok-Folder.result.now c.in-Err-search.error c.in-Ok.ensures.text c.as_str.ensures.value c.as_str-in-Ok-Folder.ensures.value
+    (λ fault. inl (fault_later call.Kind (g.S.Store.faults c.args.files.now) (g.S.Store.faults c.kind.new.self) (g.S.Store.faults c.search.new.files) c.in-Err-search.error.error c.kind.ensures.cause.later fault))
+    (λ none. inr (none_found _ _ _ (g.S.Store.file_at c.kind.new.self) _ _ _ c.as_str.result.now c.as_str-in-Ok-Folder.result.now c.in-Err-search.error.error c.in-Ok.ensures.text c.as_str.ensures.value c.as_str-in-Ok-Folder.ensures.value
     c.kind.ensures.tells c.kind.ensures.files stands none))
     c.in-Err-search.ensures.refused
 
 pub returns-in-Ok-Absent-clause-refused : goal.returns-in-Ok-Absent-clause-refused
 returns-in-Ok-Absent-clause-refused g c =
     let stands = rw c.in-Ok-Absent.field-0-is at c.in-Ok-Absent.ensures.stands in
-    inr (λ t. nothing_there _ _ _ _ c.as_str.result.now _ c.in-Ok.ensures.text c.as_str.ensures.value refl (stands t))
+    inr (λ t. nothing_there _ _ _ _ c.as_str.result.now _ c.in-Ok.ensures.text c.as_str.ensures.value c.at_path.ensures (stands t))
