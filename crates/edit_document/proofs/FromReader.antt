@@ -1,13 +1,14 @@
 -- From what the reader and the walk answer to the definitions: a text over which the walk ends is a document and has its tree,
 -- and one over which it stops is none.
-use Rattle.std.proofs.Common.{◌≡◌, ℕ, ◌+◌, length, true, List, Option, Some, None, refl, sym, ap, subst, ◌∙◌}
-use Rattle.std.specs.Prelude.{map, IsUtf8}
+use Rattle.std.proofs.Common.{◌≡◌, ℕ, ◌+◌, length, Bool, true, false, ◌==◌, ◌&&◌, ◌||◌, List, Option, Some, None, refl, sym, ap, subst, ◌∙◌, true≢false}
+use Rattle.std.specs.Prelude.{map, not, IsUtf8}
 use Rattle.std.specs.Str.{is_utf8}
 use Rattle.std.proofs.lemmas.Str.{IsUtf8-from_is_utf8}
+use Rattle.std.proofs.lemmas.Bool.{eqb-true}
 use Rattle.std.proofs.lemmas.Option.{same_Some}
 use Rattle.edit_document.specs.Grammar.{Text, Lines, Spells}
-use Rattle.edit_document.specs.Assertions.{Place, IsDocument, assertions}
-use Rattle.edit_document.specs.Tree.{View, view_at}
+use Rattle.edit_document.specs.Assertions.{Place, key, same_step, same_place, IsDocument, assertions}
+use Rattle.edit_document.specs.Tree.{View, string, truth, whole, fractional, moment, static_array, table_array, inline_table, table, view_at}
 use Rattle.edit_document.specs.Shown.{node_at}
 use Rattle.edit_document.specs.FormOf.{form_of}
 use Rattle.edit_document.specs.Nodes.{Spot, shown_spot}
@@ -20,6 +21,7 @@ use Rattle.edit_document.proofs.LineLaws.{IsReadText, lines_found, lines_read}
 use Rattle.edit_document.proofs.LineSound.{AreGoodLines}
 use Rattle.edit_document.proofs.Evens.{IsEven}
 use Rattle.edit_document.proofs.WalkedLines.{Walked, ended, stuck, text_even}
+use Rattle.edit_document.proofs.SamePlace.{same_step_is, same_place_is}
 use Rattle.edit_document.proofs.ShownTrees.{tree_shown}
 use Rattle.edit_document.proofs.Documents.{Read, walk_of, text_full, no_document}
 
@@ -60,8 +62,8 @@ abbrev nodes_after : Option State → List (Place × View)
 nodes_after o = nodes_by (o >>= λ st. Some st.spots)
 
 -- what a node of the walk shows stands in the tree
-pub shows : (bytes : List ℕ) (place : Place) (view : View) → is_utf8 bytes ≡ true → node_at (nodes_by (spots_of bytes)) place ≡ Some view → Shows bytes place view
-shows bytes place view utf8 e = go (form_of bytes) refl
+node_shows : (bytes : List ℕ) (place : Place) (view : View) → is_utf8 bytes ≡ true → node_at (nodes_by (spots_of bytes)) place ≡ Some view → Shows bytes place view
+node_shows bytes place view utf8 e = go (form_of bytes) refl
   where
     never : None ≡ Some view → ⊥
     never h = cc
@@ -81,6 +83,56 @@ shows bytes place view utf8 e = go (form_of bytes) refl
     go (Some form) h =
         let r : Read bytes form = record { spells = form_spells bytes form h; utf8 = IsUtf8-from_is_utf8 bytes utf8 } in
         walk form h r (walk_of bytes form r)
+
+-- ---- tests, which compute where an equation of long texts does not
+
+abbrev same_text : List ℕ → List ℕ → Bool
+same_text a b = same_step (key a) (key b)
+
+abbrev same_view : View → View → Bool
+same_view (string a) (string b) = same_text a b
+same_view (truth a) (truth b) = (a && b) || (not a && not b)
+same_view (whole a) (whole b) = same_text a b
+same_view (fractional a) (fractional b) = same_text a b
+same_view (moment a) (moment b) = same_text a b
+same_view (static_array m) (static_array n) = m == n
+same_view (table_array m) (table_array n) = m == n
+same_view (inline_table a) (inline_table b) = same_place a b
+same_view (table a) (table b) = same_place a b
+same_view _ _ = false
+
+abbrev pub is_seen : Option View → View → Bool
+is_seen None v = false
+is_seen (Some u) v = same_view u v
+
+same_text_is : (a b : List ℕ) → same_text a b ≡ true → a ≡ b
+same_text_is a b e = let is : key a ≡ key b = same_step_is (key a) (key b) e in cc
+
+same_truth : (a b : Bool) → ((a && b) || (not a && not b)) ≡ true → a ≡ b
+same_truth true true e = refl
+same_truth true false e = absurd (true≢false (sym e))
+same_truth false true e = absurd (true≢false (sym e))
+same_truth false false e = refl
+
+same_view_is : (u v : View) → same_view u v ≡ true → u ≡ v
+same_view_is (string a) (string b) e = ap string (same_text_is a b e)
+same_view_is (truth a) (truth b) e = ap truth (same_truth a b e)
+same_view_is (whole a) (whole b) e = ap whole (same_text_is a b e)
+same_view_is (fractional a) (fractional b) e = ap fractional (same_text_is a b e)
+same_view_is (moment a) (moment b) e = ap moment (same_text_is a b e)
+same_view_is (static_array m) (static_array n) e = ap static_array (eqb-true m n e)
+same_view_is (table_array m) (table_array n) e = ap table_array (eqb-true m n e)
+same_view_is (inline_table a) (inline_table b) e = ap inline_table (same_place_is a b e)
+same_view_is (table a) (table b) e = ap table (same_place_is a b e)
+same_view_is _ _ e = absurd (true≢false (sym e))
+
+seen_is : (o : Option View) (v : View) → is_seen o v ≡ true → o ≡ Some v
+seen_is None v e = absurd (true≢false (sym e))
+seen_is (Some u) v e = ap Some (same_view_is u v e)
+
+-- what is seen at a node of the walk stands in the tree
+pub shows : (bytes : List ℕ) (place : Place) (view : View) → is_utf8 bytes ≡ true → is_seen (node_at (nodes_by (spots_of bytes)) place) view ≡ true → Shows bytes place view
+shows bytes place view utf8 e = node_shows bytes place view utf8 (seen_is (node_at (nodes_by (spots_of bytes)) place) view e)
 
 -- where the walk stops, no document is
 pub is_none : (bytes : List ℕ) → is_utf8 bytes ≡ true → spots_of bytes ≡ None → IsNone bytes

@@ -25,3 +25,4 @@ pub mod Entries
 pub mod Steps
 mod Joined
 mod WorkedFacts
+mod WorkedRows
