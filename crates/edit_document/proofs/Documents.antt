@@ -48,7 +48,7 @@ ends_all bytes form r = behind form.marked (lines form.lines) r.spells.spelled
 pub tokens_of : (bytes : List ℕ) (form : Text) → Read bytes form → AllByRecursion (IsToken bytes) (text_marks form)
 tokens_of bytes form r = text_tokens bytes form r.spells.well_formed r.utf8 (ends_all bytes form r)
 
-walk_of : (bytes : List ℕ) (form : Text) → Read bytes form → Walks (assertions form) (map placed (values form)) (walked bytes (text_marks form) start)
+pub walk_of : (bytes : List ℕ) (form : Text) → Read bytes form → Walks (assertions form) (map placed (values form)) (walked bytes (text_marks form) start)
 walk_of bytes form r = text_walked bytes form r.spells.well_formed r.utf8 (ends_all bytes form r)
 
 -- ---- the form of a text, and what it shows
@@ -88,7 +88,7 @@ refused_is bytes form m u none = go (walk_of bytes form (read_of bytes form m u)
     go (stuck e clash) = clash (record { apart = m.document.no_clash; short = m.document.short })
 
 -- and each of its arrays has all of its elements
-text_full : (form : Text) → AreFull (assertions form)
+pub text_full : (form : Text) → AreFull (assertions form)
 text_full form p g es i kind lt none = any_stands (at p (index i)) (assertions form) (text_whole form p g es i (has_kind p (array g es) (assertions form) kind) lt) none
 
 pub shows_form : (bytes : List ℕ) (form : Text) (nodes : List Node) → Walked bytes form nodes → ShowsTree (shown_by bytes) form

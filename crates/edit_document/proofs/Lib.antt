@@ -90,3 +90,5 @@ pub mod Closing
 pub mod TextTokens
 pub mod Documents
 pub mod StandingFacts
+pub mod FromReader
+pub mod OnTexts

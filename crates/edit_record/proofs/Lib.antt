@@ -24,3 +24,4 @@ pub mod Entries
 pub mod Steps
 mod Joined
 mod WorkedFacts
+mod WorkedRows
