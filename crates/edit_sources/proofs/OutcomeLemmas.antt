@@ -18,7 +18,7 @@ use Rattle.edit_sources.specs.IndexLines.{LinesSay, IsBadLine, IsIndexLine, Says
 use Rattle.edit_sources.specs.IndexLines.LinesSay.{none, blank, entry}
 use Rattle.edit_sources.specs.LocalIndex.{HasBadLine, HasEntries, HasNoIndexPath, IsIndexPath, LocalGives, below}
 use Rattle.edit_sources.specs.Names.{layout}
-use Rattle.edit_sources.specs.Store.{Files}
+use Rattle.edit_sources.specs.Store.{Files, StoreView}
 use Rattle.edit_sources.specs.declared.file_index.FileIndex.{FileIndex}
 
 -- ---- lines say their entries
@@ -112,7 +112,7 @@ one_path address name p q a b =
 no_path : (address : Parts) (name p : List ℕ) (n : ℕ) → IsIndexPath address name p → HasNoIndexPath address name n → ⊥
 no_path address name p n a (inl h) = h.1 a.scheme
 no_path address name p n a (inr (inl h)) = h.2 a.folder a.folder_of
-no_path address name p n a (inr (inr h)) = let is = a.named in let isnt = h.3 in cc
+no_path address name p n a (inr (inr h)) = let is = a.named in let isnt = h.2.1 in cc
 
 one_reason : (address : Parts) (name : List ℕ) (m n : ℕ) → HasNoIndexPath address name m → HasNoIndexPath address name n → m ≡ n
 one_reason address name m n (inl a) (inl b) = a.0 ∙ sym b.0
@@ -120,9 +120,9 @@ one_reason address name m n (inl a) (inr (inl b)) = absurd (a.1 b.1)
 one_reason address name m n (inl a) (inr (inr b)) = absurd (a.1 b.1)
 one_reason address name m n (inr (inl a)) (inl b) = absurd (b.1 a.1)
 one_reason address name m n (inr (inl a)) (inr (inl b)) = a.0 ∙ sym b.0
-one_reason address name m n (inr (inl a)) (inr (inr b)) = absurd (a.2 b.2.0 b.2.1)
+one_reason address name m n (inr (inl a)) (inr (inr b)) = absurd (a.2 b.2.0.0 b.2.0.1)
 one_reason address name m n (inr (inr a)) (inl b) = absurd (b.1 a.1)
-one_reason address name m n (inr (inr a)) (inr (inl b)) = absurd (b.2 a.2.0 a.2.1)
+one_reason address name m n (inr (inr a)) (inr (inl b)) = absurd (b.2 a.2.0.0 a.2.0.1)
 one_reason address name m n (inr (inr a)) (inr (inr b)) = a.0 ∙ sym b.0
 
 -- ---- one outcome
@@ -132,42 +132,45 @@ one_text : (files : Files) (address : Parts) (name p q : List ℕ) (a b : Option
 one_text files address name p q a b at also x y = sym x ∙ ap files (one_path address name p q at also) ∙ y
 
 -- lines do not both say entries and have a bad one
-not_both : (files : Files) (address : Parts) (name : List ℕ) (es : List IndexEntry) (line : ℕ) → HasEntries true files address name es → HasBadLine true files address name line → ⊥
-not_both files address name es line x y =
-    let h : Some x.bytes ≡ Some y.bytes = one_text files address name x.path y.path (Some x.bytes) (Some y.bytes) x.at y.at (x.stands refl) (y.stands refl) in
+not_both : (store : StoreView) (address : Parts) (name : List ℕ) (es : List IndexEntry) (line : ℕ) → store.tells ≡ true
+    → HasEntries store address name es → HasBadLine store address name line → ⊥
+not_both store address name es line tells x y =
+    let h : Some x.bytes ≡ Some y.bytes = one_text store.file_at address name x.path y.path (Some x.bytes) (Some y.bytes) x.at y.at (x.stands tells) (y.stands tells) in
     let same : x.bytes ≡ y.bytes = cc in
     none_said (lines_of y.bytes) es line (subst (λ t. LinesSay (lines_of t) es) same x.say) y.bad
 
 -- an index in files that its store tells gives one outcome for an address and a name
-pub one_local_outcome : (files : Files) (address : Parts) (name : List ℕ) (a b : Outcome) → LocalGives true files address name a → LocalGives true files address name b → a ≡ b
-one_local_outcome files address name (Ok None) (Ok None) x y = refl
-one_local_outcome files address name (Ok None) (Ok (Some es)) x y =
-    let h : None ≡ Some y.bytes = one_text files address name x.path y.path None (Some y.bytes) x.at y.at (x.absent refl) (y.stands refl) in cc
-one_local_outcome files address name (Ok None) (Err n) x (inl why) = absurd (no_path address name x.path n x.at why)
-one_local_outcome files address name (Ok None) (Err n) x (inr (number, (line, y))) =
-    let h : None ≡ Some y.bytes = one_text files address name x.path y.path None (Some y.bytes) x.at y.at (x.absent refl) (y.stands refl) in cc
-one_local_outcome files address name (Ok (Some es)) (Ok None) x y =
-    let h : Some x.bytes ≡ None = one_text files address name x.path y.path (Some x.bytes) None x.at y.at (x.stands refl) (y.absent refl) in cc
-one_local_outcome files address name (Ok (Some es)) (Ok (Some fs)) x y =
-    let h : Some x.bytes ≡ Some y.bytes = one_text files address name x.path y.path (Some x.bytes) (Some y.bytes) x.at y.at (x.stands refl) (y.stands refl) in
+pub one_local_outcome : (store : StoreView) (address : Parts) (name : List ℕ) (a b : Outcome) → store.tells ≡ true
+    → LocalGives store address name a → LocalGives store address name b → a ≡ b
+one_local_outcome store address name (Ok None) (Ok None) tells x y = refl
+one_local_outcome store address name (Ok None) (Ok (Some es)) tells x y =
+    let h : None ≡ Some y.bytes = one_text store.file_at address name x.path y.path None (Some y.bytes) x.at y.at (x.absent tells) (y.stands tells) in cc
+one_local_outcome store address name (Ok None) (Err n) tells x (inl why) = absurd (no_path address name x.path n x.at why)
+one_local_outcome store address name (Ok None) (Err n) tells x (inr (number, (line, y))) =
+    let h : None ≡ Some y.bytes = one_text store.file_at address name x.path y.path None (Some y.bytes) x.at y.at (x.absent tells) (y.stands tells) in cc
+one_local_outcome store address name (Ok (Some es)) (Ok None) tells x y =
+    let h : Some x.bytes ≡ None = one_text store.file_at address name x.path y.path (Some x.bytes) None x.at y.at (x.stands tells) (y.absent tells) in cc
+one_local_outcome store address name (Ok (Some es)) (Ok (Some fs)) tells x y =
+    let h : Some x.bytes ≡ Some y.bytes = one_text store.file_at address name x.path y.path (Some x.bytes) (Some y.bytes) x.at y.at (x.stands tells) (y.stands tells) in
     let same : x.bytes ≡ y.bytes = cc in
     ap (λ t. Ok (Some t)) (one_reading (lines_of y.bytes) es fs (subst (λ t. LinesSay (lines_of t) es) same x.say) y.say)
-one_local_outcome files address name (Ok (Some es)) (Err n) x (inl why) = absurd (no_path address name x.path n x.at why)
-one_local_outcome files address name (Ok (Some es)) (Err n) x (inr (number, (line, y))) = absurd (not_both files address name es line x y)
-one_local_outcome files address name (Err m) (Ok None) (inl why) y = absurd (no_path address name y.path m y.at why)
-one_local_outcome files address name (Err m) (Ok None) (inr (number, (line, x))) y =
-    let h : Some x.bytes ≡ None = one_text files address name x.path y.path (Some x.bytes) None x.at y.at (x.stands refl) (y.absent refl) in cc
-one_local_outcome files address name (Err m) (Ok (Some es)) (inl why) y = absurd (no_path address name y.path m y.at why)
-one_local_outcome files address name (Err m) (Ok (Some es)) (inr (number, (line, x))) y = absurd (not_both files address name es line y x)
-one_local_outcome files address name (Err m) (Err n) (inl a) (inl b) = ap Err (one_reason address name m n a b)
-one_local_outcome files address name (Err m) (Err n) (inl why) (inr (number, (line, y))) = absurd (no_path address name y.path m y.at why)
-one_local_outcome files address name (Err m) (Err n) (inr (number, (line, x))) (inl why) = absurd (no_path address name x.path n x.at why)
-one_local_outcome files address name (Err m) (Err n) (inr a) (inr b) = ap Err (a.0 ∙ sym b.0)
+one_local_outcome store address name (Ok (Some es)) (Err n) tells x (inl why) = absurd (no_path address name x.path n x.at why)
+one_local_outcome store address name (Ok (Some es)) (Err n) tells x (inr (number, (line, y))) = absurd (not_both store address name es line tells x y)
+one_local_outcome store address name (Err m) (Ok None) tells (inl why) y = absurd (no_path address name y.path m y.at why)
+one_local_outcome store address name (Err m) (Ok None) tells (inr (number, (line, x))) y =
+    let h : Some x.bytes ≡ None = one_text store.file_at address name x.path y.path (Some x.bytes) None x.at y.at (x.stands tells) (y.absent tells) in cc
+one_local_outcome store address name (Err m) (Ok (Some es)) tells (inl why) y = absurd (no_path address name y.path m y.at why)
+one_local_outcome store address name (Err m) (Ok (Some es)) tells (inr (number, (line, x))) y = absurd (not_both store address name es line tells y x)
+one_local_outcome store address name (Err m) (Err n) tells (inl a) (inl b) = ap Err (one_reason address name m n a b)
+one_local_outcome store address name (Err m) (Err n) tells (inl why) (inr (number, (line, y))) = absurd (no_path address name y.path m y.at why)
+one_local_outcome store address name (Err m) (Err n) tells (inr (number, (line, x))) (inl why) = absurd (no_path address name x.path n x.at why)
+one_local_outcome store address name (Err m) (Err n) tells (inr a) (inr b) = ap Err (a.0 ∙ sym b.0)
 
 -- and its refusal 30 one line
-pub one_line : (files : Files) (address : Parts) (name : List ℕ) (m n : ℕ) → HasBadLine true files address name m → HasBadLine true files address name n → m ≡ n
-one_line files address name m n x y =
-    let h : Some x.bytes ≡ Some y.bytes = one_text files address name x.path y.path (Some x.bytes) (Some y.bytes) x.at y.at (x.stands refl) (y.stands refl) in
+pub one_line : (store : StoreView) (address : Parts) (name : List ℕ) (m n : ℕ) → store.tells ≡ true
+    → HasBadLine store address name m → HasBadLine store address name n → m ≡ n
+one_line store address name m n tells x y =
+    let h : Some x.bytes ≡ Some y.bytes = one_text store.file_at address name x.path y.path (Some x.bytes) (Some y.bytes) x.at y.at (x.stands tells) (y.stands tells) in
     let same : x.bytes ≡ y.bytes = cc in
     one_bad_line (lines_of y.bytes) m n (subst (λ t. IsBadLine (lines_of t) m) same x.bad) y.bad
 

@@ -6,7 +6,7 @@ use Rattle.edit_document.specs.Paths.{joined, IsFolderOf}
 use Rattle.edit_document.specs.declared.errors.Error.{Error}
 use Rattle.edit_document.specs.declared.errors.Error.TheVariants.{Device}
 use Rattle.edit_document.specs.declared.errors.DeviceCall.TheVariants.{Read}
-use Rattle.edit_sources.specs.Store.{Files, SameFiles, raised}
+use Rattle.edit_sources.specs.Store.{Files, raised}
 use Rattle.edit_sources.specs.Configuration.{Says, SaysNothing}
 use Rattle.url.specs.Parts.{Parts}
 use Rattle.edit_sources.specs.Configured.{configuration, IsConfigRefusal, HasAddress, HasNoUrl}
@@ -64,12 +64,6 @@ pub record IsUnread (file : List ℕ × List ℕ) (e : Error) : Type 0 where
 pub record HasFailed (before now : ℕ) (e : Error) : Type 0 where
   pub is : e ≡ Device Read
   pub counted : raised before now
-
--- the files are only read (own)
-pub record OnlyReads (told_old told_new : Bool) (old new : Files) (before now : ℕ) : Type 0 where
-  pub tells : told_new ≡ told_old
-  pub files : SameFiles old new
-  pub later : before ≤ now
 
 -- why no file is read: the one that counts says nothing (own)
 pub record FileFails (tells : Bool) (counts : Option (List ℕ × List ℕ)) (e : Error) : Type 0 where

@@ -1,9 +1,11 @@
 -- What a look in an index of one file gives (own).
-use Rattle.std.specs.Prelude.{◌≡◌, ℕ, List, [], ◌∷◌, Option, Some, None, Ok, Err, true, false, map, ◌⊎◌}
+use Rattle.std.specs.Prelude.{◌≡◌, ℕ, List, [], ◌∷◌, Option, Some, None, Ok, Err, true, false, map, ◌⊎◌, String, Vec, string_bytes}
 use Rattle.std.specs.List.{filter}
 use Rattle.std.specs.Option.{option_map_or}
 use Rattle.std.specs.Str.{bytes_eq}
-use Rattle.std.specs.BTreeMap.{get_by_text}
+use Rattle.std.specs.BTreeMap.{BTreeMap, get_by_text}
+use Rattle.std.specs.declared.alloc.Global.{Global}
+use Rattle.edit_record.specs.declared.fetch.IndexVersion.{IndexVersion}
 use Rattle.edit_record.specs.IndexEntry.{IndexEntry, entry_of}
 use Rattle.edit_sources.specs.Index.{Outcome}
 use Rattle.edit_sources.specs.IndexLines.{LinesSay, lines_of}
@@ -20,11 +22,20 @@ pub record HoldsLines (index : FileIndex) (bytes : List ℕ) : Type 0 where
   pub say : LinesSay (lines_of bytes) entries
   pub groups : (name : List ℕ) → named index name ≡ filter (λ e. bytes_eq name e.name) entries
 
+-- each name has its entries, in order (own)
+abbrev pub GroupsByName : BTreeMap (String Global) (Vec IndexVersion Global) → List IndexVersion → Type 0
+GroupsByName groups entries =
+    (name : List ℕ)
+    → option_map_or (λ g. g.items) (get_by_text groups name) []
+    ≡ filter (λ e. bytes_eq name (string_bytes e.name)) entries
+
 -- none where there are none (own)
 abbrev pub if_any : List IndexEntry → Option (List IndexEntry)
 if_any [] = None
 if_any (e ∷ es) = Some (e ∷ es)
 
--- what a look gives, at every address: 29 for a name that no index may have, else the entries of equal name (own)
+-- what a look gives at every address: 29 for a name that none may have, else the entries of equal name (own)
 abbrev pub FileGives : FileIndex → List ℕ → Outcome → Type 0
-FileGives index name outcome = ((is_crate_name name ≡ false) × (outcome ≡ Err 29)) ⊎ ((is_crate_name name ≡ true) × (outcome ≡ Ok (if_any (named index name))))
+FileGives index name outcome =
+    ((is_crate_name name ≡ false) × (outcome ≡ Err 29))
+    ⊎ ((is_crate_name name ≡ true) × (outcome ≡ Ok (if_any (named index name))))

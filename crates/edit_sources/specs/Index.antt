@@ -29,17 +29,25 @@ IsLookRefusal n = (27 ≤ n) × (n ≤ 30)
 
 -- the same outcomes at each address and name (own)
 abbrev pub SameOutcomes : Outcomes → Outcomes → Type 0
-SameOutcomes old new = (address : Parts) (name : List ℕ) (outcome : Outcome) → new address name outcome ↔ old address name outcome
+SameOutcomes old new =
+    (address : Parts) (name : List ℕ) (outcome : Outcome)
+    → new address name outcome ↔ old address name outcome
 
--- why a look is refused: want of memory, one of the index's outcomes, or a fault of the device below that was counted (own)
+-- a refusal that an index gives for what is asked and what stands in it (own)
+abbrev pub IsGivenRefusal : Outcomes → Parts → List ℕ → Error → Type 0
+IsGivenRefusal gives address name e = IsLookRefusal (number_of e) × gives address name (Err (number_of e))
+
+-- why a look is refused: want of memory, what the index gives, or a fault of the device below, counted (own)
 abbrev pub RefusesLook : Outcomes → Parts → List ℕ → ℕ → ℕ → Error → Type 0
-RefusesLook gives address name before now e = IsMemory e ⊎ ((IsLookRefusal (number_of e) × gives address name (Err (number_of e))) ⊎ ((number_of e ≡ 3) × raised before now))
+RefusesLook gives address name before now e =
+    IsMemory e ⊎ (IsGivenRefusal gives address name e ⊎ ((number_of e ≡ 3) × raised before now))
 
 -- the same, without the count (own)
 abbrev pub IsLookError : Outcomes → Parts → List ℕ → Error → Type 0
-IsLookError gives address name e = IsMemory e ⊎ ((IsLookRefusal (number_of e) × gives address name (Err (number_of e))) ⊎ (number_of e ≡ 3))
+IsLookError gives address name e = IsMemory e ⊎ (IsGivenRefusal gives address name e ⊎ (number_of e ≡ 3))
 
 -- the count of faults never falls, and a look is refused only for such a cause (own)
-pub record HasLookCause {T : Type 0} (gives : Outcomes) (address : Parts) (name : List ℕ) (before now : ℕ) (result : Result T Error) : Type 0 where
+pub record HasLookCause {T : Type 0} (gives : Outcomes) (address : Parts) (name : List ℕ) (before now : ℕ)
+    (result : Result T Error) : Type 0 where
   pub later : before ≤ now
   pub refused : IfErr result (RefusesLook gives address name before now)

@@ -1,10 +1,13 @@
 -- The lines of an index file, one JSON object each (Cargo reference, "Registries", index format).
-use Rattle.std.specs.Prelude.{◌≡◌, ℕ, ◌+◌, ◌⊎◌, List, [], ◌∷◌, ◌++◌, Option, Some, None, option_and_then, Bool, true, false, codes, length, ◌==◌, ◌||◌}
+use Rattle.std.specs.Prelude.{◌≡◌, ℕ, ◌+◌, ◌⊎◌, List, [], ◌∷◌, ◌++◌, Option, Some, None, option_and_then, option_map, Bool, true, false, codes, length, ◌==◌, ◌||◌}
 use Rattle.std.specs.List.{slice_split, list_all}
 use Rattle.std.specs.Str.{IsUtf8}
 use Rattle.serde_json.specs.Data.{Data, null, boolean, number, string, array, object}
 use Rattle.serde_json.specs.Read.{read}
 use Rattle.serde_json.specs.Find.{get, as_str}
+use Rattle.serde_json.specs.View.{view}
+use Rattle.serde_json.specs.declared.value.Value.{Value}
+use Rattle.std.specs.Borrow.{Bor}
 use Rattle.edit_document.specs.declared.errors.Error.{Error}
 use Rattle.edit_document.specs.declared.errors.Error.TheVariants.{IndexLine}
 use Rattle.edit_document.specs.Errors.{IsMemory}
@@ -51,8 +54,11 @@ is_blank line = list_all (λ b. (b == 32) || ((b == 9) || (b == 13))) line
 -- lines, and the entries that they say in order, blank lines aside (own)
 pub data LinesSay : List (List ℕ) → List IndexEntry → Type 0 where
   none : LinesSay [] []
-  blank : (lines : List (List ℕ)) (entries : List IndexEntry) (line : List ℕ) → LinesSay lines entries → is_blank line ≡ true → LinesSay (lines ++ line ∷ []) entries
-  entry : (lines : List (List ℕ)) (entries : List IndexEntry) (line : List ℕ) (e : IndexEntry) → LinesSay lines entries → is_blank line ≡ false → IsIndexLine line e → LinesSay (lines ++ line ∷ []) (entries ++ e ∷ [])
+  blank : (lines : List (List ℕ)) (entries : List IndexEntry) (line : List ℕ)
+      → LinesSay lines entries → is_blank line ≡ true → LinesSay (lines ++ line ∷ []) entries
+  entry : (lines : List (List ℕ)) (entries : List IndexEntry) (line : List ℕ) (e : IndexEntry)
+      → LinesSay lines entries → is_blank line ≡ false → IsIndexLine line e
+      → LinesSay (lines ++ line ∷ []) (entries ++ e ∷ [])
 
 -- the lines of a file, which end with a line feed (own)
 abbrev pub lines_of : List ℕ → List (List ℕ)
@@ -69,6 +75,14 @@ pub record IsBadLine (lines : List (List ℕ)) (number : ℕ) : Type 0 where
   pub good : LinesSay before entries
   pub some : is_blank line ≡ false
   pub bad : (e : IndexEntry) → IsIndexLine line e → ⊥
+
+-- why a line is refused: want of memory, or it says no entry; the refusal has its number (own)
+abbrev pub RefusesLine : List ℕ → ℕ → Error → Type 0
+RefusesLine line n e = IsMemory e ⊎ ((e ≡ IndexLine n) × ((x : IndexEntry) → IsIndexLine line x → ⊥))
+
+-- what a value that need not be there says (own)
+abbrev pub shown : Option (Bor Value) → Option Data
+shown value = option_map (λ v. view v.now) value
 
 -- why the lines of a file are refused: want of memory, or the first bad line (own)
 abbrev pub RefusesLines : List (List ℕ) → Error → Type 0

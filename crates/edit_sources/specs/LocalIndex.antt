@@ -11,7 +11,7 @@ use Rattle.edit_record.specs.IndexEntry.{IndexEntry}
 use Rattle.edit_sources.specs.Index.{Outcome}
 use Rattle.edit_sources.specs.IndexLines.{LinesSay, IsBadLine, lines_of}
 use Rattle.edit_sources.specs.Names.{is_crate_name, layout}
-use Rattle.edit_sources.specs.Store.{Files}
+use Rattle.edit_sources.specs.Store.{StoreView}
 use Rattle.edit_sources.specs.declared.local_index.LocalIndex.{LocalIndex}
 
 -- the store that an index stands on (own)
@@ -27,7 +27,7 @@ pub record IsFolderText (folder : List ℕ) : Type 0 where
   pub utf8 : IsUtf8 folder
   pub no_nul : list_any (λ b. b == 0) folder ≡ false
 
--- the folder that an address names: its path with each escape read, where it has no host (RFC 8089, section 2)
+-- the folder of an address: its path with each escape read, where it has no host (RFC 8089, section 2)
 pub record IsFolderOf (address : Parts) (folder : List ℕ) : Type 0 where
   pub no_host : has_host address ≡ false
   pub path : folder ≡ percent_decode address.path
@@ -53,47 +53,52 @@ pub record IsIndexPath (address : Parts) (name path : List ℕ) : Type 0 where
   pub named : is_crate_name name ≡ true
   pub is : path ≡ below folder (layout name)
 
--- why a name has no file at an address, by the number of the refusal: the scheme, else the address, else the name (own)
+-- the address names a folder, and the name is none that an index may have (own)
+abbrev pub HasNoName : Parts → List ℕ → Type 0
+HasNoName address name = ((folder : List ℕ) × IsFolderOf address folder) × (is_crate_name name ≡ false)
+
+-- why a name has no path, by the number of the refusal: the scheme, else the address, else the name (own)
 abbrev pub HasNoIndexPath : Parts → List ℕ → ℕ → Type 0
 HasNoIndexPath address name n =
     ((n ≡ 27) × (IsFileAddress address → ⊥))
     ⊎ (((n ≡ 28) × IsFileAddress address × HasNoFolder address)
-    ⊎ ((n ≡ 29) × IsFileAddress address × ((folder : List ℕ) × IsFolderOf address folder) × (is_crate_name name ≡ false)))
+    ⊎ ((n ≡ 29) × IsFileAddress address × HasNoName address name))
 
--- the lines of the file at a path, where the store tells them (own)
-abbrev pub StandsIn : Bool → Files → List ℕ → List ℕ → Type 0
-StandsIn tells files path bytes = tells ≡ true → files path ≡ Some bytes
+-- the file at a path holds these bytes, where the store tells them (own)
+abbrev pub StandsIn : StoreView → List ℕ → List ℕ → Type 0
+StandsIn store path bytes = store.tells ≡ true → store.file_at path ≡ Some bytes
 
 -- a name has no file at an address (own)
-pub record HasNoFile (tells : Bool) (files : Files) (address : Parts) (name : List ℕ) : Type 0 where
+pub record HasNoFile (store : StoreView) (address : Parts) (name : List ℕ) : Type 0 where
   pub path : List ℕ
   pub at : IsIndexPath address name path
-  pub absent : tells ≡ true → files path ≡ None
+  pub absent : store.tells ≡ true → store.file_at path ≡ None
 
 -- the lines of the file of a name say these entries (own)
-pub record HasEntries (tells : Bool) (files : Files) (address : Parts) (name : List ℕ) (entries : List IndexEntry) : Type 0 where
+pub record HasEntries (store : StoreView) (address : Parts) (name : List ℕ) (entries : List IndexEntry)
+    : Type 0 where
   pub path : List ℕ
   pub bytes : List ℕ
   pub at : IsIndexPath address name path
-  pub stands : StandsIn tells files path bytes
+  pub stands : StandsIn store path bytes
   pub say : LinesSay (lines_of bytes) entries
 
 -- the first bad line of the file of a name has this number (own)
-pub record HasBadLine (tells : Bool) (files : Files) (address : Parts) (name : List ℕ) (line : ℕ) : Type 0 where
+pub record HasBadLine (store : StoreView) (address : Parts) (name : List ℕ) (line : ℕ) : Type 0 where
   pub path : List ℕ
   pub bytes : List ℕ
   pub at : IsIndexPath address name path
-  pub stands : StandsIn tells files path bytes
+  pub stands : StandsIn store path bytes
   pub bad : IsBadLine (lines_of bytes) line
 
 -- what a look gives: no file, the entries of its lines, a refusal of the path, or 30 for a bad line (own)
-abbrev pub LocalGives : Bool → Files → Parts → List ℕ → Outcome → Type 0
-LocalGives tells files address name (Ok None) = HasNoFile tells files address name
-LocalGives tells files address name (Ok (Some entries)) = HasEntries tells files address name entries
-LocalGives tells files address name (Err n) =
-    HasNoIndexPath address name n ⊎ ((n ≡ 30) × ((line : ℕ) × HasBadLine tells files address name line))
+abbrev pub LocalGives : StoreView → Parts → List ℕ → Outcome → Type 0
+LocalGives store address name (Ok None) = HasNoFile store address name
+LocalGives store address name (Ok (Some entries)) = HasEntries store address name entries
+LocalGives store address name (Err n) =
+    HasNoIndexPath address name n ⊎ ((n ≡ 30) × ((line : ℕ) × HasBadLine store address name line))
 
 -- a refusal 30 has the number of the first bad line (own)
-abbrev pub NumbersLine : Bool → Files → Parts → List ℕ → Error → Type 0
-NumbersLine tells files address name e =
-    number_of e ≡ 30 → (line : ℕ) × (e ≡ IndexLine line) × HasBadLine tells files address name line
+abbrev pub NumbersLine : StoreView → Parts → List ℕ → Error → Type 0
+NumbersLine store address name e =
+    number_of e ≡ 30 → (line : ℕ) × (e ≡ IndexLine line) × HasBadLine store address name line

@@ -11,18 +11,35 @@ use Rattle.edit_sources.specs.declared.store.Kind.TheVariants.{File, Folder, Abs
 abbrev pub Files : Type 0
 Files = List ℕ → Option (List ℕ)
 
+-- a store as contracts see it: whether it tells its files, what they hold, and its count of faults (own)
+pub record StoreView : Type 0 where
+  pub tells : Bool
+  pub file_at : Files
+  pub faults : ℕ
+
 -- the count of faults rose, or stands at its end and stays there (own)
 abbrev pub raised : ℕ → ℕ → Type 0
 raised before now = (before < now) ⊎ ((before ≡ 2 ^ 64 - 1) × (now ≡ 2 ^ 64 - 1))
 
--- the count of faults never falls, and a call is refused only for memory, or for its device where the count rose (own)
-pub record HasCause {T : Type 0} (call : DeviceCall) (before now : ℕ) (result : Result T Error) : Type 0 where
-  pub later : before ≤ now
-  pub refused : IfErr result (λ e. IsMemory e ⊎ ((e ≡ Device call) × raised before now))
+-- a call is refused for want of memory, or for its device, which was counted (own)
+abbrev pub RefusesCall : DeviceCall → StoreView → StoreView → Error → Type 0
+RefusesCall call old new e = IsMemory e ⊎ ((e ≡ Device call) × raised old.faults new.faults)
+
+-- the count of faults never falls, and a call is refused only for such a cause (own)
+pub record HasCause {T : Type 0} (call : DeviceCall) (old new : StoreView) (result : Result T Error)
+    : Type 0 where
+  pub later : old.faults ≤ new.faults
+  pub refused : IfErr result (RefusesCall call old new)
 
 -- each path has what it had (own)
 abbrev pub SameFiles : Files → Files → Type 0
 SameFiles old new = (path : List ℕ) → new path ≡ old path
+
+-- the files are only read (own)
+pub record OnlyReads (old new : StoreView) : Type 0 where
+  pub tells : new.tells ≡ old.tells
+  pub files : SameFiles old.file_at new.file_at
+  pub later : old.faults ≤ new.faults
 
 -- each path but one has what it had (own)
 abbrev pub SameBut : List ℕ → Files → Files → Type 0

@@ -1,10 +1,11 @@
 -- A store whose one fault comes at a given call (own).
-use Rattle.std.specs.Prelude.{◌≡◌, ℕ, zero, suc, ◌+◌, Option, Some, None, Result, IfErr, IsErrAnd, ◌⊎◌}
+use Rattle.std.specs.Prelude.{◌≡◌, ℕ, zero, suc, ◌+◌, List, Bool, true, take, Option, Some, None, Result, IfErr, IsErrAnd, ◌⊎◌}
 use Rattle.edit_document.specs.declared.errors.DeviceCall.{DeviceCall}
 use Rattle.edit_document.specs.declared.errors.Error.{Error}
 use Rattle.edit_document.specs.declared.errors.Error.TheVariants.{Device}
 use Rattle.edit_document.specs.Errors.{IsMemory}
-use Rattle.edit_sources.specs.Store.{raised}
+use Rattle.edit_sources.specs.Memory.{files_in}
+use Rattle.edit_sources.specs.Store.{RefusesCall, StoreView}
 use Rattle.edit_sources.specs.declared.fault_store.FaultStore.{FaultStore}
 
 -- how many calls come before the one that fails; none once it has come (own)
@@ -25,9 +26,19 @@ one_less None = None
 one_less (Some zero) = None
 one_less (Some (suc n)) = Some n
 
+-- it tells its files, and counts its one fault (own)
+abbrev pub fault_view : FaultStore → StoreView
+fault_view store = record { tells = true; file_at = files_in store.inner; faults = faults_of store }
+
+-- a write that fails leaves a front of its bytes, but for want of memory (own)
+abbrev pub LeavesFront : FaultStore → FaultStore → List ℕ → List ℕ → Error → Type 0
+LeavesFront old new path bytes e =
+    IsMemory e ⊎ (files_in new.inner path ≡ Some (take (bytes_left old) bytes))
+
 -- a call: the one that is to fail does, each other one is refused for memory alone (own)
-pub record TakesTurn {T : Type 0} (call : DeviceCall) (old new : FaultStore) (result : Result T Error) : Type 0 where
+pub record TakesTurn {T : Type 0} (call : DeviceCall) (old new : FaultStore) (result : Result T Error)
+    : Type 0 where
   pub turn : calls_left new ≡ one_less (calls_left old)
   pub cut : bytes_left new ≡ bytes_left old
-  pub due : calls_left old ≡ Some 0 → IsErrAnd result (λ e. IsMemory e ⊎ ((e ≡ Device call) × raised (faults_of old) (faults_of new)))
+  pub due : calls_left old ≡ Some 0 → IsErrAnd result (RefusesCall call (fault_view old) (fault_view new))
   pub other : (calls_left old ≡ Some 0 → ⊥) → IfErr result IsMemory × (faults_of new ≡ faults_of old)

@@ -3,7 +3,7 @@ ghost use Rattle.std.specs.Prelude.{◌≡◌, ◌↔◌, ◌⊎◌, ℕ, List, 
 ghost use Rattle.edit_document.specs.Errors.{IsMemory};
 ghost use Rattle.edit_sources.specs.Store.{HasCause, SameFiles, SameBut, StandsAt, raised};
 ghost use Rattle.edit_sources.specs.Memory.{files_in};
-ghost use Rattle.edit_sources.specs.Turns.{calls_left, bytes_left, faults_of, one_less, TakesTurn};
+ghost use Rattle.edit_sources.specs.Turns.{LeavesFront, TakesTurn, bytes_left, calls_left, fault_view, faults_of, one_less};
 
 use crate::memory_store::MemoryStore;
 use crate::store::{Kind, Store};
@@ -67,17 +67,12 @@ impl FaultStore {
 }
 
 impl Store for FaultStore {
-    ghost tells = { λ _. true };
-
-    ghost file_at = { λ s. files_in s.inner };
-
-    ghost faults = { faults_of };
+    ghost view = { fault_view };
 
     fn kind(&mut self, alloc: Global, path: &str) -> CargoResult<Kind>
-        ensures tells { true ≡ true }
         ensures files { SameFiles (files_in self.old.inner) (files_in self.new.inner) }
-        ensures stands { IfOk result (λ k. true ≡ true → StandsAt (files_in self.old.inner) path.now k) }
-        ensures cause { HasCause DeviceCall.Kind (faults_of self.old) (faults_of self.new) result }
+        ensures stands { IfOk result (λ k. StandsAt (files_in self.old.inner) path.now k) }
+        ensures cause { HasCause DeviceCall.Kind (fault_view self.old) (fault_view self.new) result }
         ensures turn { TakesTurn DeviceCall.Kind self.old self.new result }
     {
         if self.is_due() {
@@ -87,10 +82,9 @@ impl Store for FaultStore {
     }
 
     fn read(&mut self, alloc: Global, path: &str) -> CargoResult<Option<Vec<u8>>>
-        ensures tells { true ≡ true }
         ensures files { SameFiles (files_in self.old.inner) (files_in self.new.inner) }
-        ensures bytes { IfOk result (λ r. true ≡ true → option_map (λ v. v.items) r ≡ files_in self.old.inner path.now) }
-        ensures cause { HasCause DeviceCall.Read (faults_of self.old) (faults_of self.new) result }
+        ensures bytes { IfOk result (λ r. option_map (λ v. v.items) r ≡ files_in self.old.inner path.now) }
+        ensures cause { HasCause DeviceCall.Read (fault_view self.old) (fault_view self.new) result }
         ensures turn { TakesTurn DeviceCall.Read self.old self.new result }
     {
         if self.is_due() {
@@ -100,12 +94,12 @@ impl Store for FaultStore {
     }
 
     fn write(&mut self, alloc: Global, path: &str, bytes: &[u8]) -> CargoResult<()>
-        ensures tells { true ≡ true }
-        ensures written { OnOk result (true ≡ true → files_in self.new.inner path.now ≡ Some bytes.now) }
+        ensures written { OnOk result (files_in self.new.inner path.now ≡ Some bytes.now) }
         ensures others { SameBut path.now (files_in self.old.inner) (files_in self.new.inner) }
-        ensures cause { HasCause DeviceCall.Write (faults_of self.old) (faults_of self.new) result }
+        ensures cause { HasCause DeviceCall.Write (fault_view self.old) (fault_view self.new) result }
         ensures turn { TakesTurn DeviceCall.Write self.old self.new result }
-        ensures torn { calls_left self.old ≡ Some 0 → IfErr result (λ e. IsMemory e ⊎ (files_in self.new.inner path.now ≡ Some (take (bytes_left self.old) bytes.now))) }
+        ensures torn { calls_left self.old ≡ Some 0
+            → IfErr result (LeavesFront self.old self.new path.now bytes.now) }
     {
         if self.is_due() {
             let end = bytes.len().min(self.cut);

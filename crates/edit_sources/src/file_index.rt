@@ -1,9 +1,6 @@
 //! An index of one file, read once.
-ghost use Rattle.std.specs.Prelude.{◌≡◌, ℕ, List, IfOk, IfErr, [], string_bytes};
-ghost use Rattle.std.specs.List.{filter};
-ghost use Rattle.std.specs.Option.{option_map_or};
-ghost use Rattle.std.specs.Str.{bytes_eq};
-ghost use Rattle.std.specs.BTreeMap.{get_by_text};
+ghost use Rattle.std.specs.Prelude.{◌≡◌, IfOk, IfErr};
+ghost use Rattle.edit_sources.specs.FileIndex.{GroupsByName, HoldsLines};
 ghost use Rattle.edit_sources.specs.IndexLines.{RefusesLines, lines_of};
 
 use crate::crate_name::is_crate_name;
@@ -22,8 +19,6 @@ pub struct FileIndex {
 }
 
 impl FileIndex {
-    ghost use Rattle.edit_sources.specs.FileIndex.{HoldsLines};
-
     /// Reads the lines: refused with 30 and the number of the first line that is not one of an
     /// index.
     pub fn read(alloc: Global, bytes: &[u8]) -> CargoResult<FileIndex>
@@ -42,7 +37,7 @@ fn grouped(
     alloc: Global,
     entries: Vec<IndexVersion>,
 ) -> Result<BTreeMap<String, Vec<IndexVersion>>, AllocError>
-    ensures { IfOk result (λ m. (q : List ℕ) → option_map_or (λ g. g.items) (get_by_text m q) [] ≡ filter (λ e. bytes_eq q (string_bytes e.name)) entries.items) }
+    ensures { IfOk result (λ m. GroupsByName m entries.items) }
 {
     let mut groups: BTreeMap<String, Vec<IndexVersion>> = BTreeMap::new(alloc);
     for entry in entries {

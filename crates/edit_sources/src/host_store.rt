@@ -1,7 +1,6 @@
 //! The files of the machine.
-ghost use Rattle.std.specs.Prelude.{◌≡◌, ◌⊎◌, ℕ, List, None, false};
-ghost use Rattle.edit_document.specs.Errors.{IsMemory};
-ghost use Rattle.edit_sources.specs.Store.{raised};
+ghost use Rattle.std.specs.Prelude.{◌≡◌};
+ghost use Rattle.edit_sources.specs.Host.{IsRefusal, host_faults, host_view};
 
 use crate::replace::replace;
 use crate::store::{Kind, Store};
@@ -19,8 +18,6 @@ pub struct HostStore<R> {
 }
 
 impl<R: Files<File = File> + Alloc<A = Global> + Drop> HostStore<R> {
-    ghost use Rattle.edit_sources.specs.Host.{host_faults};
-
     /// The files that the runtime reaches.
     pub fn new(rt: R) -> HostStore<R>
         ensures { host_faults result ≡ 0 }
@@ -30,7 +27,7 @@ impl<R: Files<File = File> + Alloc<A = Global> + Drop> HostStore<R> {
 
     /// The refusal of a call. Each but want of memory counts as a fault.
     fn refused(&mut self, call: DeviceCall, error: io::Error) -> Error
-        ensures { (IsMemory result × (self.new.failed ≡ self.old.failed)) ⊎ ((result ≡ Error.Device call) × raised self.old.failed self.new.failed) }
+        ensures { IsRefusal call self.old.failed self.new.failed result }
     {
         if error.kind() == ErrorKind::OutOfMemory {
             return Error::Memory;
@@ -41,11 +38,7 @@ impl<R: Files<File = File> + Alloc<A = Global> + Drop> HostStore<R> {
 }
 
 impl<R: Files<File = File> + Alloc<A = Global> + Drop> Store for HostStore<R> {
-    ghost tells = { λ _. false };
-
-    ghost file_at = { λ _ _. None };
-
-    ghost faults = { λ s. s.failed };
+    ghost view = { host_view };
 
     fn kind(&mut self, _alloc: Global, path: &str) -> CargoResult<Kind> {
         match fs::metadata(&self.rt, path) {

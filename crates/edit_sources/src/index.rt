@@ -55,7 +55,8 @@ pub trait Index {
     fn look(&mut self, alloc: Global, registry: &Url, name: &str) -> CargoResult<Option<IndexKrate>>
         ensures same { SameOutcomes (gives self.old) (gives self.new) }
         ensures given { IfOk result (λ k. gives self.old registry.now name.now (Ok (answer_of k))) }
-        ensures cause { HasLookCause (gives self.old) registry.now name.now (faults self.old) (faults self.new) result };
+        ensures cause { HasLookCause (gives self.old) registry.now name.now
+            (faults self.old) (faults self.new) result };
 
     /// How often the device below has failed.
     fn faults(&self) -> u64

@@ -3,8 +3,7 @@ ghost use Rattle.std.specs.Prelude.{◌≡◌, ◌==◌, ◌⊎◌, ◌+◌, ℕ
 ghost use Rattle.edit_document.specs.Errors.{IsMemory};
 ghost use Rattle.edit_document.specs.declared.errors.Error.TheVariants.{IndexLine};
 ghost use Rattle.edit_record.specs.IndexEntry.{IndexEntry, entry_of};
-ghost use Rattle.edit_sources.specs.IndexLines.{IsIndexLine, LinesSay, RefusesLines, is_blank, lines_of, yanked_of, rust_version_of};
-ghost use Rattle.serde_json.specs.View.{view};
+ghost use Rattle.edit_sources.specs.IndexLines.{IsIndexLine, LinesSay, RefusesLine, RefusesLines, is_blank, lines_of, rust_version_of, shown, yanked_of};
 ghost use Rattle.serde_json.specs.Find.{as_str};
 
 use edit_document::errors::{CargoResult, Error};
@@ -22,7 +21,7 @@ fn blank(line: &[u8]) -> bool
 
 /// The text that a value says.
 fn text<'a>(value: Option<&'a Value>) -> Option<&'a str>
-    ensures { option_map (λ s. s.now) result ≡ option_and_then as_str (option_map (λ v. view v.now) value.entry) }
+    ensures { option_map (λ s. s.now) result ≡ option_and_then as_str (shown value.entry) }
 {
     match value {
         Some(value) => value.as_str(),
@@ -32,7 +31,7 @@ fn text<'a>(value: Option<&'a Value>) -> Option<&'a str>
 
 /// Whether a version is yanked; none where the value says neither.
 fn yanked(value: Option<&Value>) -> Option<bool>
-    ensures { result ≡ yanked_of (option_map (λ v. view v.now) value.entry) }
+    ensures { result ≡ yanked_of (shown value.entry) }
 {
     match value {
         None => Some(false),
@@ -43,7 +42,7 @@ fn yanked(value: Option<&Value>) -> Option<bool>
 
 /// The Rust version that a version asks for; none where the value is no text.
 fn rust_version<'a>(value: Option<&'a Value>) -> Option<Option<&'a str>>
-    ensures { option_map (λ r. option_map (λ s. s.now) r) result ≡ rust_version_of (option_map (λ v. view v.now) value.entry) }
+    ensures { option_map (λ r. option_map (λ s. s.now) r) result ≡ rust_version_of (shown value.entry) }
 {
     match value {
         None | Some(Value::Null) => Some(None),
@@ -64,7 +63,7 @@ fn copied(alloc: Global, text: Option<&str>) -> Result<Option<String>, AllocErro
 
 /// The entry that a line says.
 fn read_line(alloc: Global, bytes: &[u8], line: usize) -> CargoResult<IndexVersion>
-    ensures { MatchResult result (λ v. IsIndexLine bytes.now (entry_of v)) (λ e. IsMemory e ⊎ ((e ≡ IndexLine line) × ((x : IndexEntry) → IsIndexLine bytes.now x → ⊥))) }
+    ensures { MatchResult result (λ v. IsIndexLine bytes.now (entry_of v)) (RefusesLine bytes.now line) }
 {
     let value = match Value::from_slice(alloc, bytes) {
         Ok(value) => value,

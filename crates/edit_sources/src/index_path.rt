@@ -38,7 +38,8 @@ pub(crate) fn index_path(alloc: Global, registry: &Url, name: &str) -> CargoResu
 
 /// The folder that an address names.
 fn folder_of(alloc: Global, registry: &Url) -> Result<Option<String>, AllocError>
-    ensures { IfOk result (λ o. MatchOption o (HasNoFolder registry.now) (λ f. IsFolderOf registry.now (string_bytes f))) }
+    ensures { IfOk result (λ o. MatchOption o (HasNoFolder registry.now)
+        (λ f. IsFolderOf registry.now (string_bytes f))) }
 {
     if registry.has_host() {
         return Ok(None);
@@ -48,7 +49,8 @@ fn folder_of(alloc: Global, registry: &Url) -> Result<Option<String>, AllocError
 
 /// A path with each escape read, where that is a folder's text.
 fn decoded(alloc: Global, path: &str) -> Result<Option<String>, AllocError>
-    ensures { IfOk result (λ o. MatchOption o (IsFolderText (percent_decode path.now) → ⊥) (λ f. IsFolderText (string_bytes f) × (string_bytes f ≡ percent_decode path.now))) }
+    ensures { IfOk result (λ o. MatchOption o (IsFolderText (percent_decode path.now) → ⊥)
+        (λ f. IsFolderText (string_bytes f) × (string_bytes f ≡ percent_decode path.now))) }
 {
     let mut bytes = Vec::new(alloc);
     percent_decode(path.as_bytes()).append_to(&mut bytes)?;
@@ -61,6 +63,7 @@ fn decoded(alloc: Global, path: &str) -> Result<Option<String>, AllocError>
     }
 }
 
+/// Whether U+0000 stands in a text.
 fn has_nul(bytes: &[u8]) -> bool
     ensures { result ≡ list_any (λ b. b == 0) bytes.now }
 {
@@ -82,6 +85,7 @@ fn path_below(alloc: Global, folder: String, name: &str) -> Result<String, Alloc
     Ok(path)
 }
 
+/// Whether a text ends with `/`.
 fn ends_with_slash(folder: &[u8]) -> bool
     ensures { result ≡ ends_with_slash folder.now }
 {

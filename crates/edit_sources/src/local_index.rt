@@ -1,6 +1,6 @@
 //! An index in files, one for each name.
 ghost use Rattle.std.specs.Prelude.{◌≡◌, Ok, IfOk, IfErr};
-ghost use Rattle.edit_sources.specs.ConfigurationFiles.{OnlyReads};
+ghost use Rattle.edit_sources.specs.Store.{OnlyReads};
 ghost use Rattle.edit_sources.specs.Index.{HasLookCause, SameOutcomes, answer_of};
 ghost use Rattle.edit_sources.specs.LocalIndex.{LocalGives, NumbersLine, store_of};
 
@@ -29,22 +29,21 @@ impl<S: Store> LocalIndex<S> {
 }
 
 impl<S: Store> Index for LocalIndex<S> {
-    ghost gives = { λ i. LocalGives (S.tells i.store) (S.file_at i.store) };
+    ghost gives = { λ i. LocalGives (S.view i.store) };
 
-    ghost faults = { λ i. S.faults i.store };
+    ghost faults = { λ i. (S.view i.store).faults };
 
     fn look(&mut self, alloc: Global, registry: &Url, name: &str) -> CargoResult<Option<IndexKrate>>
-        ensures same { SameOutcomes (LocalGives (S.tells (store_of self.old)) (S.file_at (store_of self.old)))
-            (LocalGives (S.tells (store_of self.new)) (S.file_at (store_of self.new))) }
-        ensures given { IfOk result (λ k. LocalGives (S.tells (store_of self.old)) (S.file_at (store_of self.old))
-            registry.now name.now (Ok (answer_of k))) }
-        ensures cause { HasLookCause (LocalGives (S.tells (store_of self.old)) (S.file_at (store_of self.old)))
-            registry.now name.now (S.faults (store_of self.old)) (S.faults (store_of self.new)) result }
+        ensures same { SameOutcomes (LocalGives (S.view (store_of self.old)))
+            (LocalGives (S.view (store_of self.new))) }
+        ensures given { IfOk result (λ k. LocalGives (S.view (store_of self.old)) registry.now name.now
+            (Ok (answer_of k))) }
+        ensures cause { HasLookCause (LocalGives (S.view (store_of self.old))) registry.now name.now
+            (S.view (store_of self.old)).faults (S.view (store_of self.new)).faults result }
         // no file changes
-        ensures reads { OnlyReads (S.tells (store_of self.old)) (S.tells (store_of self.new)) (S.file_at (store_of self.old))
-            (S.file_at (store_of self.new)) (S.faults (store_of self.old)) (S.faults (store_of self.new)) }
-        // a refusal 30 names the first bad line
-        ensures line { IfErr result (NumbersLine (S.tells (store_of self.old)) (S.file_at (store_of self.old)) registry.now name.now) }
+        ensures reads { OnlyReads (S.view (store_of self.old)) (S.view (store_of self.new)) }
+        // a refusal 30 has the number of the first bad line
+        ensures line { IfErr result (NumbersLine (S.view (store_of self.old)) registry.now name.now) }
     {
         let path = match index_path(alloc, registry, name) {
             Ok(path) => path,

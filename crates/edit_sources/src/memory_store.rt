@@ -1,7 +1,7 @@
 //! Files in memory.
 ghost use Rattle.std.specs.Prelude.{◌≡◌, ◌↔◌, ◌++◌, ◌∷◌, ℕ, List, Option, Some, None, IsTrue, IsSome, true, option_map};
 ghost use Rattle.std.specs.BTreeMap.{get_by_text};
-ghost use Rattle.edit_sources.specs.Memory.{files_in, IsBelow};
+ghost use Rattle.edit_sources.specs.Memory.{files_in, memory_view, IsBelow, IsFrontOf};
 
 use crate::store::{Kind, Store};
 use edit_document::errors::CargoResult;
@@ -28,12 +28,13 @@ impl MemoryStore {
 
     /// Whether a file's path is this path, a `/`, and more.
     fn is_front(&self, path: &str) -> bool
-        ensures { IsTrue result ↔ ((rest : List ℕ) × IsSome (files_in self.now (path.now ++ 47 ∷ rest))) }
+        ensures { IsTrue result ↔ IsFrontOf self.now path.now }
     {
         self.files.keys().any(|name| is_below(name.as_str(), path))
     }
 }
 
+/// Whether a name is a path, a `/`, and more.
 fn is_below(name: &str, path: &str) -> bool
     ensures { IsTrue result ↔ IsBelow name.now path.now }
 {
@@ -44,11 +45,7 @@ fn is_below(name: &str, path: &str) -> bool
 }
 
 impl Store for MemoryStore {
-    ghost tells = { λ _. true };
-
-    ghost file_at = { files_in };
-
-    ghost faults = { λ _. 0 };
+    ghost view = { memory_view };
 
     fn kind(&mut self, _alloc: Global, path: &str) -> CargoResult<Kind> {
         if self.files.contains_key(path) {

@@ -1,7 +1,8 @@
 //! The address of a registry.
 ghost use Rattle.std.specs.Prelude.{◌≡◌, ◌⊎◌, true, IfOk, IfErr, None, Ok};
 ghost use Rattle.edit_document.specs.Errors.{IsMemory};
-ghost use Rattle.edit_sources.specs.ConfigurationFiles.{OnlyReads, HasFailed, ConfigsFail, ConfiguredUrl, HasNoConfiguredUrl};
+ghost use Rattle.edit_sources.specs.ConfigurationFiles.{HasFailed, ConfigsFail, ConfiguredUrl, HasNoConfiguredUrl};
+ghost use Rattle.edit_sources.specs.Store.{OnlyReads};
 ghost use Rattle.url.specs.Parser.{parse_url};
 ghost use Rattle.url.specs.Parts.{Parts};
 ghost use Rattle.edit_sources.specs.Configured.{given, HasAddress, IsNoUrl, HasNoUrl};
@@ -58,9 +59,9 @@ pub fn registry_url<S: Store>(
     cargo_home: Option<&str>,
     registry: Option<&str>,
 ) -> CargoResult<Url>
-    ensures store { OnlyReads (S.tells store.old) (S.tells store.new) (S.file_at store.old) (S.file_at store.new) (S.faults store.old) (S.faults store.new) }
-    ensures address { IfOk result (λ url. S.tells store.old ≡ true → ConfiguredUrl (S.file_at store.old) manifest_path.now (given cargo_home.entry) (given registry.entry) url) }
-    ensures refused { IfErr result (λ e. IsMemory e ⊎ (HasFailed (S.faults store.old) (S.faults store.new) e ⊎ (ConfigsFail (S.tells store.old) (S.file_at store.old) manifest_path.now (given cargo_home.entry) e ⊎ HasNoConfiguredUrl (S.tells store.old) (S.file_at store.old) manifest_path.now (given cargo_home.entry) (given registry.entry) e))) }
+    ensures store { OnlyReads (S.view store.old) (S.view store.new) }
+    ensures address { IfOk result (λ url. (S.view store.old).tells ≡ true → ConfiguredUrl (S.view store.old).file_at manifest_path.now (given cargo_home.entry) (given registry.entry) url) }
+    ensures refused { IfErr result (λ e. IsMemory e ⊎ (HasFailed (S.view store.old).faults (S.view store.new).faults e ⊎ (ConfigsFail (S.view store.old).tells (S.view store.old).file_at manifest_path.now (given cargo_home.entry) e ⊎ HasNoConfiguredUrl (S.view store.old).tells (S.view store.old).file_at manifest_path.now (given cargo_home.entry) (given registry.entry) e))) }
 {
     let configs = match read_configs(alloc, store, manifest_path, cargo_home) {
         Ok(configs) => configs,

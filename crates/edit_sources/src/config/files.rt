@@ -5,7 +5,8 @@ ghost use Rattle.std.specs.Option.{option_to_list};
 ghost use Rattle.edit_document.specs.Errors.{IsMemory};
 ghost use Rattle.edit_document.specs.Paths.{texts};
 ghost use Rattle.edit_sources.specs.Configured.{given};
-ghost use Rattle.edit_sources.specs.ConfigurationFiles.{IsUpwards, IsSearched, OnlyReads, IsReadOf, IsReadFrom, HasFailed, FileFails, PlaceFails, AreConfigs, ConfigsFail, standing, file_in, files_in};
+ghost use Rattle.edit_sources.specs.ConfigurationFiles.{IsUpwards, IsSearched, IsReadOf, IsReadFrom, HasFailed, FileFails, PlaceFails, AreConfigs, ConfigsFail, standing, file_in, files_in};
+ghost use Rattle.edit_sources.specs.Store.{OnlyReads};
 
 use super::Config;
 use crate::store::Store;
@@ -45,9 +46,9 @@ fn places(alloc: Global, manifest_path: &str, cargo_home: Option<&str>) -> Cargo
 
 /// The configuration in a file, none where no file stands.
 fn read_file<S: Store>(alloc: Global, store: &mut S, path: &str) -> CargoResult<Option<Config>>
-    ensures store { OnlyReads (S.tells store.old) (S.tells store.new) (S.file_at store.old) (S.file_at store.new) (S.faults store.old) (S.faults store.new) }
-    ensures read { IfOk result (λ found. S.tells store.old ≡ true → IsReadOf (standing (S.file_at store.old) path.now) found) }
-    ensures refused { IfErr result (λ e. IsMemory e ⊎ (HasFailed (S.faults store.old) (S.faults store.new) e ⊎ FileFails (S.tells store.old) (standing (S.file_at store.old) path.now) e)) }
+    ensures store { OnlyReads (S.view store.old) (S.view store.new) }
+    ensures read { IfOk result (λ found. (S.view store.old).tells ≡ true → IsReadOf (standing (S.view store.old).file_at path.now) found) }
+    ensures refused { IfErr result (λ e. IsMemory e ⊎ (HasFailed (S.view store.old).faults (S.view store.new).faults e ⊎ FileFails (S.view store.old).tells (standing (S.view store.old).file_at path.now) e)) }
 {
     let bytes = match store.read(alloc, path) {
         Ok(Some(bytes)) => bytes,
@@ -62,9 +63,9 @@ fn read_file<S: Store>(alloc: Global, store: &mut S, path: &str) -> CargoResult<
 
 /// The configuration that counts in a place, none where no file stands there.
 fn config_in<S: Store>(alloc: Global, store: &mut S, place: &str) -> CargoResult<Option<Config>>
-    ensures store { OnlyReads (S.tells store.old) (S.tells store.new) (S.file_at store.old) (S.file_at store.new) (S.faults store.old) (S.faults store.new) }
-    ensures read { IfOk result (λ found. S.tells store.old ≡ true → IsReadOf (file_in (S.file_at store.old) place.now) found) }
-    ensures refused { IfErr result (λ e. IsMemory e ⊎ (HasFailed (S.faults store.old) (S.faults store.new) e ⊎ FileFails (S.tells store.old) (file_in (S.file_at store.old) place.now) e)) }
+    ensures store { OnlyReads (S.view store.old) (S.view store.new) }
+    ensures read { IfOk result (λ found. (S.view store.old).tells ≡ true → IsReadOf (file_in (S.view store.old).file_at place.now) found) }
+    ensures refused { IfErr result (λ e. IsMemory e ⊎ (HasFailed (S.view store.old).faults (S.view store.new).faults e ⊎ FileFails (S.view store.old).tells (file_in (S.view store.old).file_at place.now) e)) }
 {
     let path = match join(alloc, place, "config") {
         Ok(path) => path,
@@ -97,9 +98,9 @@ fn add(configs: &mut Vec<Config>, found: Option<Config>) -> Result<(), AllocErro
 
 /// The configurations that count in these places, in their order.
 fn configs_in<S: Store>(alloc: Global, store: &mut S, places: &[String]) -> CargoResult<Vec<Config>>
-    ensures store { OnlyReads (S.tells store.old) (S.tells store.new) (S.file_at store.old) (S.file_at store.new) (S.faults store.old) (S.faults store.new) }
-    ensures read { IfOk result (λ v. S.tells store.old ≡ true → AllZip IsReadFrom (files_in (S.file_at store.old) (map string_bytes places.now)) v.items) }
-    ensures refused { IfErr result (λ e. IsMemory e ⊎ (HasFailed (S.faults store.old) (S.faults store.new) e ⊎ PlaceFails (S.tells store.old) (S.file_at store.old) (map string_bytes places.now) e)) }
+    ensures store { OnlyReads (S.view store.old) (S.view store.new) }
+    ensures read { IfOk result (λ v. (S.view store.old).tells ≡ true → AllZip IsReadFrom (files_in (S.view store.old).file_at (map string_bytes places.now)) v.items) }
+    ensures refused { IfErr result (λ e. IsMemory e ⊎ (HasFailed (S.view store.old).faults (S.view store.new).faults e ⊎ PlaceFails (S.view store.old).tells (S.view store.old).file_at (map string_bytes places.now) e)) }
 {
     let mut configs = Vec::new(alloc);
     for place in places {
@@ -123,9 +124,9 @@ pub fn read_configs<S: Store>(
     manifest_path: &str,
     cargo_home: Option<&str>,
 ) -> CargoResult<Vec<Config>>
-    ensures store { OnlyReads (S.tells store.old) (S.tells store.new) (S.file_at store.old) (S.file_at store.new) (S.faults store.old) (S.faults store.new) }
-    ensures read { IfOk result (λ v. S.tells store.old ≡ true → AreConfigs (S.file_at store.old) manifest_path.now (given cargo_home.entry) v.items) }
-    ensures refused { IfErr result (λ e. IsMemory e ⊎ (HasFailed (S.faults store.old) (S.faults store.new) e ⊎ ConfigsFail (S.tells store.old) (S.file_at store.old) manifest_path.now (given cargo_home.entry) e)) }
+    ensures store { OnlyReads (S.view store.old) (S.view store.new) }
+    ensures read { IfOk result (λ v. (S.view store.old).tells ≡ true → AreConfigs (S.view store.old).file_at manifest_path.now (given cargo_home.entry) v.items) }
+    ensures refused { IfErr result (λ e. IsMemory e ⊎ (HasFailed (S.view store.old).faults (S.view store.new).faults e ⊎ ConfigsFail (S.view store.old).tells (S.view store.old).file_at manifest_path.now (given cargo_home.entry) e)) }
 {
     let places = match places(alloc, manifest_path, cargo_home) {
         Ok(places) => places,
