@@ -5,12 +5,16 @@
 
 FOLDER holds real manifests: each Cargo.toml below it is taken (Debian's librust-*-dev packages have hundreds, by
 `apt-get download` and `dpkg -x`). Their tables are joined under names of their own (`[m17.package]`) until the text
-has 1 MB and 10 MB; each is planned over an index of one line. PEER is called as `PEER MANIFEST INDEX`.
+has 1 MB and 10 MB; each is planned over an index of one line. So are texts that ask for much: names that one hash
+with a known seed would put at one place, names of three characters, headers of 80 new parts, an array of digits.
+PEER is called as `PEER MANIFEST INDEX`.
 Printed: the least time of the rounds, the peak memory (by /usr/bin/time -v) and the ratios.
 """
 import argparse
+import itertools
 import os
 import re
+import string
 import tempfile
 import tomllib
 
@@ -50,6 +54,46 @@ def joined(texts, size):
     return "".join(parts)
 
 
+def hostile():
+    signs = string.ascii_letters + string.digits
+    yield "collide", "".join("VCt84XxmJ16jGQv_PwRfGXPs%08d = 1\n" % i for i in range(50_000))
+    yield "names", "".join("%s = 1\n" % "".join(name) for name in itertools.product(signs, repeat=3))
+    parts = [".".join(signs[(i + j) % 62] for j in range(78)) for i in range(62)]
+    yield "headers", "".join("[%s.%s.%s]\n" % (signs[i // 62 % 62], signs[i % 62], parts[i % 62]) for i in range(3844))
+    yield "array", "a = [" + "1," * 500_000 + "]\n"
+
+
+class Bench:
+    """Where a text is planned by the program and by its peer."""
+
+    def __init__(self, args, room):
+        self.program, self.rounds = os.path.abspath(args.program), args.rounds
+        self.peer = args.peer and os.path.abspath(args.peer)
+        self.room = room
+        self.source, self.lines = os.path.join(room, "source.toml"), os.path.join(room, "index.json")
+        with open(self.lines, "w") as file:
+            file.write('{"name":"serde","vers":"1.0.0","yanked":false}\n')
+
+    def own(self, target):
+        return [self.program, "upgrade", "--manifest-path", target, "--index-file", self.lines]
+
+    def row(self, name, text):
+        """Prints a row, and tells the time."""
+        text = text.encode()
+        with open(self.source, "wb") as file:
+            file.write(text)
+        own, memory = measured(self.own, self.room, self.source, self.rounds)
+        row = "%-8s %9d %10.4f %10s" % (name, len(text), own, memory or "-")
+        if self.peer:
+            other, other_memory = measured(
+                lambda target: [self.peer, target, self.lines], self.room, self.source, self.rounds)
+            row += " %10.4f %10s %8.3f" % (other, other_memory or "-", own / other)
+        if memory:
+            row += " %16.2f" % (memory * 1024 / len(text))
+        print(row, flush=True)
+        return own
+
+
 def main():
     parser = argparse.ArgumentParser()
     parser.add_argument("program")
@@ -59,28 +103,13 @@ def main():
     args = parser.parse_args()
     texts = [text for text in real_manifests(args.folder) if under("m0", text)]
     print("%d real manifests, %d bytes" % (len(texts), sum(len(text) for text in texts)))
-    program = os.path.abspath(args.program)
-    times = []
     with tempfile.TemporaryDirectory(prefix="cargo-edit-bench-") as room:
-        source, lines = os.path.join(room, "source.toml"), os.path.join(room, "index.json")
-        with open(lines, "w") as file:
-            file.write('{"name":"serde","vers":"1.0.0","yanked":false}\n')
-        print("%-8s %10s %10s %10s %10s %8s %16s" % ("bytes", "time s", "peak kB", "peer s", "peer kB", "ratio", "memory to text"))
-        for size in (1_000_000, 10_000_000):
-            text = joined(texts, size).encode()
-            with open(source, "wb") as file:
-                file.write(text)
-            own, memory = measured(
-                lambda target: [program, "upgrade", "--manifest-path", target, "--index-file", lines],
-                room, source, args.rounds)
-            times.append(own)
-            row = "%-8d %10.4f %10s" % (len(text), own, memory or "-")
-            if args.peer:
-                other, other_memory = measured(lambda target: [os.path.abspath(args.peer), target, lines], room, source, args.rounds)
-                row += " %10.4f %10s %8.3f" % (other, other_memory or "-", own / other)
-            if memory:
-                row += " %16.2f" % (memory * 1024 / len(text))
-            print(row, flush=True)
+        bench = Bench(args, room)
+        head = ("text", "bytes", "time s", "peak kB", "peer s", "peer kB", "ratio", "memory to text")
+        print("%-8s %9s %10s %10s %10s %10s %8s %16s" % head)
+        times = [bench.row("real", joined(texts, size)) for size in (1_000_000, 10_000_000)]
+        for name, text in hostile():
+            bench.row(name, text)
     print("ten times the text costs %.1f times the time" % (times[1] / times[0]))
 
 
