@@ -1,5 +1,5 @@
 -- Strings, numbers, dates and times that a text says as they are written, and where they stand in it.
-use Rattle.std.proofs.Common.{◌≡◌, ℕ, ◌-◌, ◌≤◌, Bool, true, false, ◌&&◌, cond, List, [], ◌++◌, length, length-append, get_or, refl, sym, ap, subst, ◌∙◌, ◌⊎◌, inl, inr, arith}
+use Rattle.std.proofs.Common.{◌≡◌, ℕ, ◌+◌, ◌-◌, ◌≤◌, Bool, true, false, ◌&&◌, cond, List, [], ◌++◌, length, length-append, get_or, refl, sym, ap, subst, ◌∙◌, ◌⊎◌, inl, inr, arith}
 use Rattle.std.specs.Prelude.{nat_le, slice_range, IsUtf8}
 use Rattle.std.specs.List.{prefix_len}
 use Rattle.std.specs.Str.{IsCharBoundary}
@@ -53,7 +53,7 @@ cut_none bytes i j not = go (nat_le i j) (is_boundary bytes i) (is_boundary byte
 
 -- the span from behind a token's opening delimiter to before its closing one
 pub content_kept : (kind : MarkKind) (bytes before content rest said : List ℕ) (from width : ℕ) (span : Span) → IsUtf8 bytes → bytes ≡ before ++ delimited kind content rest → from ≡ length (delimited kind content rest)
-    → Says kind content said → width ≡ length (decoding.delimiter kind) → span.from ≡ from - width → span.to ≡ span.from - length content → bytes_at bytes span ≡ content
+    → Says kind content said → width ≡ length (decoding.delimiter kind) → span.from ≡ from - width → span.to ≡ length rest + width → bytes_at bytes span ≡ content
 unfolding bytes_at
 content_kept kind bytes before content rest said from width span u spelled start says wide first last =
     let d = decoding.delimiter kind in
@@ -61,6 +61,7 @@ content_kept kind bytes before content rest said from width span u spelled start
     let a = length-append before (delimited kind content rest) in
     let b = length-append d (content ++ (d ++ rest)) in
     let k = length-append content (d ++ rest) in
+    let m = length-append d rest in
     let i = length bytes - span.from in
     let j = length bytes - span.to in
     let at = content_found kind bytes before content rest said i j u spelled says (omega arith) (omega arith) in

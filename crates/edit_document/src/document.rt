@@ -215,7 +215,10 @@ impl Document {
         let len = self.text.len();
         let number = self.number(place)?;
         let span = self.nodes[number].span?;
-        Some((len.saturating_sub(span.from), len.saturating_sub(span.to)))
+        Some((
+            len.saturating_sub(span.from as usize),
+            len.saturating_sub(span.to as usize),
+        ))
     }
 
     /// What stands at a place.

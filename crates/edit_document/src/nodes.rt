@@ -13,8 +13,8 @@ use std::collections::BTreeMap;
 /// to the text's end.
 #[derive(Clone, Copy, Debug, PartialEq, Eq)]
 pub(crate) struct Span {
-    pub(crate) from: usize,
-    pub(crate) to: usize,
+    pub(crate) from: u32,
+    pub(crate) to: u32,
 }
 
 /// What a string or a name says, after escapes.
@@ -222,8 +222,8 @@ pub(crate) struct Node {
 fn cut(text: &str, span: Span) -> &str
     ensures { result.now ≡ bytes_at text.now span }
 {
-    let start = text.len().saturating_sub(span.from);
-    let end = text.len().saturating_sub(span.to);
+    let start = text.len().saturating_sub(span.from as usize);
+    let end = text.len().saturating_sub(span.to as usize);
     if start <= end && text.is_char_boundary(start) && text.is_char_boundary(end) {
         &text[start..end]
     } else {

@@ -182,7 +182,7 @@ impl Walk {
     }
 
     /// The innermost table or array ends before so many bytes.
-    fn close(&mut self, to: usize) -> bool
+    fn close(&mut self, to: u32) -> bool
         ensures { (text : List ℕ) (st : State) → Walks text self.old st → Goes text self.new (closed st to) result }
     {
         let Some(number) = self.tables.pop() else {
@@ -311,7 +311,7 @@ pub(crate) fn nodes_of(alloc: Global, text: &str, marks: &[Mark]) -> CargoResult
     'marks: for mark in marks {
         if !walk.take(alloc, text, *mark)? {
             return Err(Error::NotToml {
-                at: text.len().saturating_sub(mark.from),
+                at: text.len().saturating_sub(mark.from as usize),
             });
         }
     }

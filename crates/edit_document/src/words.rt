@@ -17,7 +17,7 @@ pub(crate) fn words_of(alloc: Global, text: &str, mark: Mark) -> CargoResult<Wor
 {
     let written = content(text, mark);
     if is_plain(mark.kind, written) {
-        Ok(Words::Kept(content_span(text, mark)))
+        Ok(Words::Kept(content_span(mark)))
     } else {
         Ok(Words::Made(Box::new(alloc, said(alloc, mark.kind, written)?)?))
     }
@@ -29,9 +29,9 @@ pub(crate) fn worded(alloc: Global, text: &str, mark: Mark) -> CargoResult<Conte
     ensures refused { IfErr result IsMemory }
 {
     match mark.kind {
-        MarkKind::Integer => Ok(Content::Integer(content_span(text, mark))),
-        MarkKind::Float => Ok(Content::Float(content_span(text, mark))),
-        MarkKind::DateTime => Ok(Content::DateTime(content_span(text, mark))),
+        MarkKind::Integer => Ok(Content::Integer(content_span(mark))),
+        MarkKind::Float => Ok(Content::Float(content_span(mark))),
+        MarkKind::DateTime => Ok(Content::DateTime(content_span(mark))),
         _ => Ok(Content::Text(words_of(alloc, text, mark)?)),
     }
 }

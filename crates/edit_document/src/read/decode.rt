@@ -1,5 +1,5 @@
 //! What keys and strings say.
-ghost use Rattle.std.specs.Prelude.{◌≡◌, ℕ, ◌+◌, ◌-◌, ◌<◌, ◌≤◌, List, [], length, take, drop, ◌++◌, false, IfOk, IfErr, IsTrue, string_bytes, encode_utf8};
+ghost use Rattle.std.specs.Prelude.{◌≡◌, ℕ, ◌+◌, ◌-◌, ◌<◌, ◌≤◌, List, [], length, take, drop, ◌++◌, false, IfOk, IfErr, IsTrue, string_bytes, encode_utf8, IsUtf8};
 ghost use Rattle.std.specs.Str.{IsCharBoundary};
 ghost use Rattle.edit_document.specs.Errors.{IsMemory};
 ghost use Rattle.edit_document.specs.Nodes.{bytes_at};
@@ -19,7 +19,7 @@ use crate::nodes::Span;
 use std::alloc::Global;
 
 /// How long the delimiter of a token is.
-fn delimiter_len(kind: MarkKind) -> usize
+fn delimiter_len(kind: MarkKind) -> u32
     ensures { result ≡ length (delimiter kind) }
 {
     match kind {
@@ -38,22 +38,25 @@ pub(crate) fn content(text: &str, mark: Mark) -> &str
         Says mark.kind content said → result.now ≡ content }
 {
     let width = delimiter_len(mark.kind);
-    let start = text.len().saturating_sub(mark.from) + width;
-    let end = text.len().saturating_sub(mark.to).saturating_sub(width);
+    let start = text.len().saturating_sub(mark.from as usize) + width as usize;
+    let end = text
+        .len()
+        .saturating_sub(mark.to as usize)
+        .saturating_sub(width as usize);
     text.get(start..end).unwrap_or("")
 }
 
 /// Where the content of the token with this mark stands.
-pub(crate) fn content_span(text: &str, mark: Mark) -> Span
+pub(crate) fn content_span(mark: Mark) -> Span
     // However the text is split at the token.
-    ensures { (before content rest said : List ℕ) → text.now ≡ before ++ delimited mark.kind content rest →
+    ensures { (text before content rest said : List ℕ) → IsUtf8 text → text ≡ before ++ delimited mark.kind content rest →
         mark.from ≡ length (delimited mark.kind content rest) → mark.to ≡ length rest →
-        Says mark.kind content said → bytes_at text.now result ≡ content }
+        Says mark.kind content said → bytes_at text result ≡ content }
 {
-    let from = mark.from.saturating_sub(delimiter_len(mark.kind));
+    let width = delimiter_len(mark.kind);
     Span {
-        from,
-        to: from.saturating_sub(content(text, mark).len()),
+        from: mark.from.saturating_sub(width),
+        to: mark.to.saturating_add(width),
     }
 }
 

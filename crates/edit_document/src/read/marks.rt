@@ -33,12 +33,12 @@ pub(crate) enum MarkKind {
 }
 
 /// A token of a text: how many bytes there are from its first byte to the text's end, and from its own end
-/// to the text's end.
+/// to the text's end. A text of 4 GB and more is refused for want of memory, which its marks would take ten times.
 #[derive(Clone, Copy, Debug, PartialEq, Eq)]
 pub(crate) struct Mark {
     pub(crate) kind: MarkKind,
-    pub(crate) from: usize,
-    pub(crate) to: usize,
+    pub(crate) from: u32,
+    pub(crate) to: u32,
 }
 
 /// Why reading stops: out of memory, or nothing of the grammar begins where so many bytes are left.

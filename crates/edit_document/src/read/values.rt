@@ -1,5 +1,6 @@
 //! Keys, values and pairs, noted down from left to right.
-ghost use Rattle.std.specs.Prelude.{◌≡◌, ◌+◌, ◌<◌, drop};
+ghost use Rattle.std.specs.Prelude.{◌≡◌, ◌+◌, ◌<◌, MatchResult, drop, length};
+ghost use Rattle.edit_document.specs.declared.read.marks.ReadError.TheVariants.{Memory};
 ghost use Rattle.edit_document.specs.Characters.{left_bracket};
 ghost use Rattle.edit_document.specs.Reading as reading;
 ghost use Rattle.edit_document.specs.Marks.{mark, key_marks, value_marks};
@@ -10,6 +11,13 @@ use super::gaps::past_gap;
 use super::marks::{Mark, MarkKind, ReadError};
 use super::tokens::{past_part, past_scalar};
 
+/// How many bytes are left, as a mark keeps it.
+fn left(s: &[u8]) -> Result<u32, ReadError>
+    ensures { MatchResult result (λ n. n ≡ length s.now) (λ e. e ≡ Memory) }
+{
+    u32::try_from(s.len()).map_err(|_| ReadError::Memory)
+}
+
 /// Notes the token that stands before `to` in `from`.
 pub(crate) fn note(
     out: &mut Vec<Mark>,
@@ -19,11 +27,12 @@ pub(crate) fn note(
 ) -> Result<(), ReadError>
     ensures { Noted out.old out.new result (mark kind from.now to.now) }
 {
-    out.push(Mark {
+    let mark = Mark {
         kind,
-        from: from.len(),
-        to: to.len(),
-    })?;
+        from: left(from)?,
+        to: left(to)?,
+    };
+    out.push(mark)?;
     Ok(())
 }
 

@@ -1,9 +1,14 @@
-use Rattle.std.proofs.Common.{ℕ, List, ◌-◌, length, ap, ◌∙◌}
+use Rattle.std.proofs.Common.{◌≡◌, ◌+◌, length, length-append, arith, ◌++◌}
+use Rattle.edit_document.specs.Decoding.{delimiter}
 use Rattle.edit_document.proofs.Kept.{content_kept}
 use Rattle.edit_document.proofs.read.decode.content_span.Goals as goal
 
 pub returns : goal.returns
-returns c before content rest said spelled from to says =
-    let cut = c.content.ensures before content rest said spelled from to says in
-    content_kept c.args.mark.kind c.args.text.now before content rest said c.args.mark.from c.delimiter_len.result _ c.utf8.text spelled from says c.delimiter_len.ensures c.saturating_sub-from.ensures
-    (c.saturating_sub.ensures ∙ ap (λ (bytes : List ℕ). c.saturating_sub-from.result - length bytes) cut)
+returns c text before content rest said utf8 spelled from to says =
+    let d = delimiter c.args.mark.kind in
+    let width = c.delimiter_len-width.ensures in
+    let a = length-append d (content ++ (d ++ rest)) in
+    let b = length-append content (d ++ rest) in
+    let k = length-append d rest in
+    let ends : c.saturating_add.result ≡ length rest + c.delimiter_len-width.result = let e = c.saturating_add.ensures in omega arith in
+    content_kept c.args.mark.kind text before content rest said c.args.mark.from c.delimiter_len-width.result _ utf8 spelled from says width c.saturating_sub.ensures ends
