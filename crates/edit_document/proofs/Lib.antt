@@ -92,3 +92,6 @@ pub mod Documents
 pub mod StandingFacts
 pub mod FromReader
 pub mod OnTexts
+pub mod StandardKeys
+pub mod StandardValues
+pub mod StandardTables
