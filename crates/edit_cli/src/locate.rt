@@ -2,7 +2,7 @@
 ghost use Rattle.std.specs.Prelude.{◌≡◌, ◌⊎◌, true, IfErr, IfOk, MatchBool, MatchOption, string_bytes};
 ghost use Rattle.edit_document.specs.Errors.{IsMemory};
 ghost use Rattle.edit_document.specs.declared.errors.DeviceCall.TheVariants as call;
-ghost use Rattle.edit_sources.specs.ConfigurationFiles.{OnlyReads};
+ghost use Rattle.edit_sources.specs.Store.{OnlyReads};
 ghost use Rattle.edit_cli.specs.Located.{HasNoManifest, IsAbsoluteOf, IsFault, IsManifestPath, IsMissing, IsNearest, IsNotFound, IsThere, NamesFolder, manifest_in};
 
 use edit_document::paths::{folder, join, normal};
@@ -21,10 +21,10 @@ pub(crate) fn absolute(alloc: Global, current: &str, path: &str) -> CargoResult<
 
 // Whether a file or a folder stands at a path.
 fn is_there<S: Store>(alloc: Global, files: &mut S, path: &str) -> CargoResult<bool>
-    ensures store { OnlyReads (S.tells files.old) (S.tells files.new) (S.file_at files.old) (S.file_at files.new) (S.faults files.old) (S.faults files.new) }
-    ensures there { IfOk result (λ b. S.tells files.old ≡ true
-        → MatchBool b (IsThere (S.file_at files.old) path.now) (IsMissing (S.file_at files.old) path.now)) }
-    ensures refused { IfErr result (IsFault call.Kind (S.faults files.old) (S.faults files.new)) }
+    ensures store { OnlyReads (S.view files.old) (S.view files.new) }
+    ensures there { IfOk result (λ b. (S.view files.old).tells ≡ true
+        → MatchBool b (IsThere (S.view files.old).file_at path.now) (IsMissing (S.view files.old).file_at path.now)) }
+    ensures refused { IfErr result (IsFault call.Kind (S.view files.old).faults (S.view files.new).faults) }
 {
     match files.kind(alloc, path) {
         Ok(Kind::File) => Ok(true),
@@ -41,11 +41,11 @@ pub(crate) fn find<S: Store>(
     specified: &str,
     current: &str,
 ) -> CargoResult<String>
-    ensures store { OnlyReads (S.tells files.old) (S.tells files.new) (S.file_at files.old) (S.file_at files.new) (S.faults files.old) (S.faults files.new) }
-    ensures found { IfOk result (λ p. S.tells files.old ≡ true
-        → IsManifestPath (S.file_at files.old) current.now specified.now (string_bytes p)) }
-    ensures refused { IfErr result (λ e. IsFault call.Kind (S.faults files.old) (S.faults files.new) e
-        ⊎ (S.tells files.old ≡ true → HasNoManifest (S.file_at files.old) current.now specified.now e)) }
+    ensures store { OnlyReads (S.view files.old) (S.view files.new) }
+    ensures found { IfOk result (λ p. (S.view files.old).tells ≡ true
+        → IsManifestPath (S.view files.old).file_at current.now specified.now (string_bytes p)) }
+    ensures refused { IfErr result (λ e. IsFault call.Kind (S.view files.old).faults (S.view files.new).faults e
+        ⊎ ((S.view files.old).tells ≡ true → HasNoManifest (S.view files.old).file_at current.now specified.now e)) }
 {
     let path = match absolute(alloc, current, specified) {
         Ok(path) => path,
@@ -64,10 +64,10 @@ pub(crate) fn find<S: Store>(
 
 // The manifest in a folder, none where none stands there.
 fn manifest_at<S: Store>(alloc: Global, files: &mut S, dir: &str) -> CargoResult<Option<String>>
-    ensures store { OnlyReads (S.tells files.old) (S.tells files.new) (S.file_at files.old) (S.file_at files.new) (S.faults files.old) (S.faults files.new) }
-    ensures found { IfOk result (λ o. S.tells files.old ≡ true → MatchOption o (IsMissing (S.file_at files.old) (manifest_in dir.now))
-        (λ p. (string_bytes p ≡ manifest_in dir.now) × IsThere (S.file_at files.old) (manifest_in dir.now))) }
-    ensures refused { IfErr result (IsFault call.Kind (S.faults files.old) (S.faults files.new)) }
+    ensures store { OnlyReads (S.view files.old) (S.view files.new) }
+    ensures found { IfOk result (λ o. (S.view files.old).tells ≡ true → MatchOption o (IsMissing (S.view files.old).file_at (manifest_in dir.now))
+        (λ p. (string_bytes p ≡ manifest_in dir.now) × IsThere (S.view files.old).file_at (manifest_in dir.now))) }
+    ensures refused { IfErr result (IsFault call.Kind (S.view files.old).faults (S.view files.new).faults) }
 {
     let path = match join(alloc, dir, "Cargo.toml") {
         Ok(path) => path,
@@ -92,10 +92,10 @@ fn not_found(alloc: Global, start: &str) -> Error
 
 /// The first `Cargo.toml` from a folder upwards.
 fn search<S: Store>(alloc: Global, files: &mut S, start: &str) -> CargoResult<String>
-    ensures store { OnlyReads (S.tells files.old) (S.tells files.new) (S.file_at files.old) (S.file_at files.new) (S.faults files.old) (S.faults files.new) }
-    ensures found { IfOk result (λ p. S.tells files.old ≡ true → IsNearest (S.file_at files.old) start.now (string_bytes p)) }
-    ensures refused { IfErr result (λ e. IsFault call.Kind (S.faults files.old) (S.faults files.new) e
-        ⊎ (S.tells files.old ≡ true → IsNotFound (S.file_at files.old) start.now e)) }
+    ensures store { OnlyReads (S.view files.old) (S.view files.new) }
+    ensures found { IfOk result (λ p. (S.view files.old).tells ≡ true → IsNearest (S.view files.old).file_at start.now (string_bytes p)) }
+    ensures refused { IfErr result (λ e. IsFault call.Kind (S.view files.old).faults (S.view files.new).faults e
+        ⊎ ((S.view files.old).tells ≡ true → IsNotFound (S.view files.old).file_at start.now e)) }
 {
     let mut dir = start;
     'folders: while dir != "/" {

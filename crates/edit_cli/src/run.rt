@@ -57,10 +57,10 @@ pub(crate) fn run<S: Store, T: Store + Drop, O: io::Write, E: io::Write>(
     ensures status { result ≤ 2 }
     ensures faulty { result ≡ 2 → files.new ≡ files.old }
     ensures fault { result ≡ 2 → AskForNone (map (λ w. w.now) words.now) }
-    ensures done { result ≡ 0 → S.tells files.old ≡ true
-        → IsDone (map (λ w. w.now) words.now) current.now (S.file_at files.old) (S.file_at files.new) }
-    ensures refused { result ≡ 1 → S.tells files.old ≡ true
-        → IsRefused (map (λ w. w.now) words.now) current.now (S.file_at files.old) (S.file_at files.new) }
+    ensures done { result ≡ 0 → (S.view files.old).tells ≡ true
+        → IsDone (map (λ w. w.now) words.now) current.now (S.view files.old).file_at (S.view files.new).file_at }
+    ensures refused { result ≡ 1 → (S.view files.old).tells ≡ true
+        → IsRefused (map (λ w. w.now) words.now) current.now (S.view files.old).file_at (S.view files.new).file_at }
 {
     let command = match command(alloc) {
         Ok(command) => command,

@@ -4,7 +4,7 @@ ghost use Rattle.edit_document.specs.Errors.{IsMemory, number_of};
 ghost use Rattle.edit_document.specs.Shown.{tree_of};
 ghost use Rattle.edit_document.specs.declared.errors.DeviceCall.TheVariants as call;
 ghost use Rattle.edit_record.specs.RustVersions.{numbers_of};
-ghost use Rattle.edit_sources.specs.ConfigurationFiles.{OnlyReads};
+ghost use Rattle.edit_sources.specs.Store.{OnlyReads};
 ghost use Rattle.edit_sources.specs.Store.{SameFiles};
 ghost use Rattle.cargo_edit.specs.Causes.{IsBadManifest};
 ghost use Rattle.edit_cli.specs.Causes.{IsIndexCause, IsManifestCause, IsPlanCause, IsUpgradeCause};
@@ -94,12 +94,12 @@ fn read_manifest<S: Store>(
     current: &str,
     files: &mut S,
 ) -> CargoResult<Input>
-    ensures store { OnlyReads (S.tells files.old) (S.tells files.new) (S.file_at files.old) (S.file_at files.new) (S.faults files.old) (S.faults files.new) }
-    ensures read { IfOk result (λ i. S.tells files.old ≡ true → IsManifestRead (S.file_at files.old) current.now named.now
+    ensures store { OnlyReads (S.view files.old) (S.view files.new) }
+    ensures read { IfOk result (λ i. (S.view files.old).tells ≡ true → IsManifestRead (S.view files.old).file_at current.now named.now
         (string_bytes i.path) i.bytes.items (option_map numbers_of i.rust_version)) }
-    ensures refused { IfErr result (λ e. IsFault call.Kind (S.faults files.old) (S.faults files.new) e
-        ⊎ (IsFault call.Read (S.faults files.old) (S.faults files.new) e
-        ⊎ (S.tells files.old ≡ true → IsManifestCause (S.file_at files.old) current.now named.now e))) }
+    ensures refused { IfErr result (λ e. IsFault call.Kind (S.view files.old).faults (S.view files.new).faults e
+        ⊎ (IsFault call.Read (S.view files.old).faults (S.view files.new).faults e
+        ⊎ ((S.view files.old).tells ≡ true → IsManifestCause (S.view files.old).file_at current.now named.now e))) }
 {
     let path = find(alloc, files, named, current)?;
     let Some(bytes) = files.read(alloc, path.as_str())? else {
@@ -115,10 +115,10 @@ fn read_index<S: Store>(
     current: &str,
     files: &mut S,
 ) -> CargoResult<FileIndex>
-    ensures store { OnlyReads (S.tells files.old) (S.tells files.new) (S.file_at files.old) (S.file_at files.new) (S.faults files.old) (S.faults files.new) }
-    ensures read { IfOk result (λ i. S.tells files.old ≡ true → IsIndexRead (S.file_at files.old) current.now named.now i) }
-    ensures refused { IfErr result (λ e. IsFault call.Read (S.faults files.old) (S.faults files.new) e
-        ⊎ (S.tells files.old ≡ true → IsIndexCause (S.file_at files.old) current.now named.now e)) }
+    ensures store { OnlyReads (S.view files.old) (S.view files.new) }
+    ensures read { IfOk result (λ i. (S.view files.old).tells ≡ true → IsIndexRead (S.view files.old).file_at current.now named.now i) }
+    ensures refused { IfErr result (λ e. IsFault call.Read (S.view files.old).faults (S.view files.new).faults e
+        ⊎ ((S.view files.old).tells ≡ true → IsIndexCause (S.view files.old).file_at current.now named.now e)) }
 {
     let path = absolute(alloc, current, named)?;
     let Some(lines) = files.read(alloc, path.as_str())? else {
@@ -182,11 +182,11 @@ fn outputs_for(alloc: Global, input: Input, index: FileIndex) -> CargoResult<Vec
 
 // Writes the output of a plan for one manifest, where there is one.
 fn write_output<S: Store>(alloc: Global, files: &mut S, output: Option<&Output>) -> CargoResult<()>
-    ensures tells { S.tells files.new ≡ S.tells files.old }
-    ensures later { S.faults files.old ≤ S.faults files.new }
-    ensures written { OnOk result (S.tells files.old ≡ true → IsWritten (option_copied output.entry) (S.file_at files.old) (S.file_at files.new)) }
-    ensures torn { OnErr result (IsTorn (option_copied output.entry) (S.file_at files.old) (S.file_at files.new)) }
-    ensures refused { IfErr result (IsFault call.Write (S.faults files.old) (S.faults files.new)) }
+    ensures tells { (S.view files.new).tells ≡ (S.view files.old).tells }
+    ensures later { (S.view files.old).faults ≤ (S.view files.new).faults }
+    ensures written { OnOk result ((S.view files.old).tells ≡ true → IsWritten (option_copied output.entry) (S.view files.old).file_at (S.view files.new).file_at) }
+    ensures torn { OnErr result (IsTorn (option_copied output.entry) (S.view files.old).file_at (S.view files.new).file_at) }
+    ensures refused { IfErr result (IsFault call.Write (S.view files.old).faults (S.view files.new).faults) }
 {
     match output {
         Some(output) => files.write(alloc, output.path.as_str(), &output.bytes),
@@ -201,15 +201,15 @@ pub(crate) fn upgrade<S: Store>(
     current: &str,
     files: &mut S,
 ) -> CargoResult<()>
-    ensures tells { S.tells files.new ≡ S.tells files.old }
-    ensures done { OnOk result (S.tells files.old ≡ true → IsUpgraded current.now words.now.manifest_path.now words.now.index_file.now
-        (S.file_at files.old) (S.file_at files.new)) }
+    ensures tells { (S.view files.new).tells ≡ (S.view files.old).tells }
+    ensures done { OnOk result ((S.view files.old).tells ≡ true → IsUpgraded current.now words.now.manifest_path.now words.now.index_file.now
+        (S.view files.old).file_at (S.view files.new).file_at) }
     // a refusal before the write leaves each file as it was
-    ensures refused { OnErr result (S.tells files.old ≡ true → SameFiles (S.file_at files.old) (S.file_at files.new)
-        ⊎ IsCutShort current.now words.now.manifest_path.now words.now.index_file.now (S.file_at files.old) (S.file_at files.new)) }
+    ensures refused { OnErr result ((S.view files.old).tells ≡ true → SameFiles (S.view files.old).file_at (S.view files.new).file_at
+        ⊎ IsCutShort current.now words.now.manifest_path.now words.now.index_file.now (S.view files.old).file_at (S.view files.new).file_at) }
     // and each refusal has its cause
-    ensures why { IfErr result (IsUpgradeCause (S.tells files.old) (S.file_at files.old) current.now words.now.manifest_path.now
-        words.now.index_file.now (S.faults files.old) (S.faults files.new)) }
+    ensures why { IfErr result (IsUpgradeCause (S.view files.old).tells (S.view files.old).file_at current.now words.now.manifest_path.now
+        words.now.index_file.now (S.view files.old).faults (S.view files.new).faults) }
 {
     let input = read_manifest(alloc, words.manifest_path, current, files)?;
     let index = read_index(alloc, words.index_file, current, files)?;

@@ -12,15 +12,15 @@ returns-in-Ok-File-clause-found g c t =
 pub returns-in-Ok-search-clause-found : goal.returns-in-Ok-search-clause-found
 returns-in-Ok-search-clause-found g c =
     let stands = rw c.in-Ok-Folder.field-0-is at c.in-Ok-Folder.ensures.stands in
-    path_nearest _ _ _ (g.S.Store.file_at c.kind.new.self) _ _ _ c.as_str.result.now c.as_str-in-Ok-Folder.result.now _ c.in-Ok.ensures.text c.as_str.ensures.value c.as_str-in-Ok-Folder.ensures.value
+    path_nearest _ _ _ (g.S.Store.view c.kind.new.self).file_at _ _ _ c.as_str.result.now c.as_str-in-Ok-Folder.result.now _ c.in-Ok.ensures.text c.as_str.ensures.value c.as_str-in-Ok-Folder.ensures.value
     c.kind.ensures.tells c.kind.ensures.files stands c.in-Ok-search.ensures.found
 
 pub returns-in-Ok-Folder-clause-refused : goal.returns-in-Ok-Folder-clause-refused
 returns-in-Ok-Folder-clause-refused g c =
     let stands = rw c.in-Ok-Folder.field-0-is at c.in-Ok-Folder.ensures.stands in
     ⊎_elim
-    (λ fault. inl (fault_later call.Kind (g.S.Store.faults c.args.files.now) (g.S.Store.faults c.kind.new.self) (g.S.Store.faults c.search.new.files) c.in-Err-search.error c.kind.ensures.cause.later fault))
-    (λ none. inr (none_found _ _ _ (g.S.Store.file_at c.kind.new.self) _ _ _ c.as_str.result.now c.as_str-in-Ok-Folder.result.now c.in-Err-search.error c.in-Ok.ensures.text c.as_str.ensures.value c.as_str-in-Ok-Folder.ensures.value
+    (λ fault. inl (fault_later call.Kind (g.S.Store.view c.args.files.now).faults (g.S.Store.view c.kind.new.self).faults (g.S.Store.view c.search.new.files).faults c.in-Err-search.error c.kind.ensures.cause.later fault))
+    (λ none. inr (none_found _ _ _ (g.S.Store.view c.kind.new.self).file_at _ _ _ c.as_str.result.now c.as_str-in-Ok-Folder.result.now c.in-Err-search.error c.in-Ok.ensures.text c.as_str.ensures.value c.as_str-in-Ok-Folder.ensures.value
     c.kind.ensures.tells c.kind.ensures.files stands none))
     c.in-Err-search.ensures.refused
 
