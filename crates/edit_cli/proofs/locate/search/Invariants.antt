@@ -1,6 +1,6 @@
 use denote.Shadow.{shadow}
 use denote.Text.{Utf8}
-use Rattle.edit_sources.specs.ConfigurationFiles.{OnlyReads}
+use Rattle.edit_sources.specs.Store.{OnlyReads}
 use Rattle.edit_cli.proofs.Heights.{height}
 use Rattle.edit_cli.proofs.Passing.{HasPassed}
 use Rattle.edit_cli.proofs.locate.search.Given as goal
@@ -8,8 +8,8 @@ use Rattle.edit_cli.proofs.locate.search.Given as goal
 abbrev pub invariant-folders : goal.invariant-folders
 invariant-folders g l = record {
   utf8 : shadow (Utf8 l.dir);
-  store : OnlyReads (g.S.Store.tells l.initial.files) (g.S.Store.tells l.files) (g.S.Store.file_at l.initial.files) (g.S.Store.file_at l.files) (g.S.Store.faults l.initial.files) (g.S.Store.faults l.files);
-  passed : HasPassed (g.S.Store.tells l.initial.files) (g.S.Store.file_at l.initial.files) l.start l.dir;
+  store : OnlyReads (g.S.Store.view l.initial.files) (g.S.Store.view l.files);
+  passed : HasPassed (g.S.Store.view l.initial.files).tells (g.S.Store.view l.initial.files).file_at l.start l.dir;
 }
 
 abbrev pub decreases-folders : goal.decreases-folders
