@@ -1,17 +1,18 @@
 #!/usr/bin/env python3
-"""Measures the reading of long manifests, in ratios within one run.
+"""Measures the reading of long manifests of real content, in ratios within one run.
 
     bench/document.py PROGRAM FOLDER [PEER] [--rounds N]
 
 FOLDER holds real manifests: each Cargo.toml below it is taken (Debian's librust-*-dev packages have hundreds, in
-/usr/share/cargo/registry once installed). Their tables are joined under names of their own (`[m17.package]`) until the
-text has 1 MB and 10 MB. Three made texts follow: a header of 80 parts in each line, 20,000 keys that collide under a hash
-with a fixed seed, and as many of the same length that do not. Each is planned over an index of one line. PEER is called
-as `PEER MANIFEST INDEX`. Printed: the least time of the rounds, the peak memory (by /usr/bin/time -v) and the ratios.
+/usr/share/cargo/registry once they are installed). Their tables are joined under names of their own (`[m17.package]`) until the text
+has 1 MB and 10 MB; each is planned over an index of one line. So are texts that ask for much: names that one hash
+with a known seed would put at one place, names of three characters, headers of 80 new parts, an array of digits.
+PEER is called as `PEER MANIFEST INDEX`.
+Printed: the least time of the rounds, the peak memory (by /usr/bin/time -v) and the ratios.
 """
 import argparse
+import itertools
 import os
-import random
 import re
 import string
 import tempfile
@@ -19,15 +20,11 @@ import tomllib
 
 from upgrade import measured
 
+# what is wanted of a text: at most so many times the peer's time, and the text's length in memory
+WANTED = {"real, 1 MB": (0.334, 10), "real, 10 MB": (0.334, 10), "collide": (None, 40), "names": (None, 40),
+          "headers": (None, 40), "array": (None, 40)}
+
 HEADER = re.compile(r"^(\s*\[\[?)(.*?)(\]\]?\s*(#.*)?)$")
-# any 8 characters of a bare key behind these collide in the toolchain's map of texts, whose seed is fixed
-FRONT = "VCt84XxmJ16jGQv_PwRfGXPs"
-WANTED = (
-    ("real text, 1 MB", "ratio", 0.34, "a third of the peer's time"),
-    ("real text, 1 MB", "memory", 10, "ten times the text"),
-    ("real text, 10 MB", "memory", 10, "ten times the text"),
-    ("headers of 80 parts", "memory", 40, "40 times the text"),
-)
 
 
 def under(name, text):
@@ -61,21 +58,51 @@ def joined(texts, size):
     return "".join(parts)
 
 
-def headers(size):
-    """A header of 80 parts in each line, each with a first part of its own, so that each part makes a place."""
-    lines, rest = [], ".a" * 79 + "]"
-    while len(lines) * (len(rest) + 6) < size:
-        lines.append("[%04d%s" % (len(lines), rest))
-    return "\n".join(lines) + "\n"
+def hostile():
+    signs = string.ascii_letters + string.digits
+    yield "plain", "".join("%08d_and_as_long_a_name_as_those = 1\n" % i for i in range(50_000))
+    yield "collide", "".join("VCt84XxmJ16jGQv_PwRfGXPs%08d = 1\n" % i for i in range(50_000))
+    yield "names", "".join("%s = 1\n" % "".join(name) for name in itertools.product(signs, repeat=3))
+    parts = [".".join(signs[(i + j) % 62] for j in range(78)) for i in range(62)]
+    yield "headers", "".join("[%s.%s.%s]\n" % (signs[i // 62 % 62], signs[i % 62], parts[i % 62]) for i in range(3844))
+    yield "array", "a = [" + "1," * 500_000 + "]\n"
 
 
-def keys(count, front):
-    draw = random.Random(7)
-    letters = string.ascii_letters + string.digits + "-_"
-    names = sorted({"".join(draw.choice(letters) for _ in range(8)) for _ in range(count + 100)})[:count]
-    if front is None:
-        names = [name * 4 for name in names]
-    return "".join("%s%s = 1\n" % (front or "", name) for name in names)
+class Bench:
+    """Where a text is planned by the program and by its peer."""
+
+    def __init__(self, args, room):
+        self.program, self.rounds = os.path.abspath(args.program), args.rounds
+        self.peer = args.peer and os.path.abspath(args.peer)
+        self.room, self.times, self.verdicts = room, {}, []
+        self.source, self.lines = os.path.join(room, "source.toml"), os.path.join(room, "index.json")
+        with open(self.lines, "w") as file:
+            file.write('{"name":"serde","vers":"1.0.0","yanked":false}\n')
+
+    def own(self, target):
+        return [self.program, "upgrade", "--manifest-path", target, "--index-file", self.lines]
+
+    def row(self, name, text):
+        """Prints a row, and notes what is wanted of it."""
+        text = text.encode()
+        with open(self.source, "wb") as file:
+            file.write(text)
+        own, memory = measured(self.own, self.room, self.source, self.rounds)
+        seen = [None, memory and memory * 1024 / len(text)]
+        row = "%-12s %9d %10.4f %10s" % (name, len(text), own, memory or "-")
+        if self.peer:
+            other, other_memory = measured(
+                lambda target: [self.peer, target, self.lines], self.room, self.source, self.rounds)
+            seen[0] = own / other
+            row += " %10.4f %10s %8.3f" % (other, other_memory or "-", seen[0])
+        if memory:
+            row += " %16.2f" % seen[1]
+        print(row, flush=True)
+        self.times[name] = own
+        for what, found, most in zip(("times the peer's time", "times the text in memory"), seen, WANTED.get(name, (None, None))):
+            if found is not None and most is not None:
+                self.verdicts.append("%s: %.2f %s, at most %g wanted: %s" % (
+                    name, found, what, most, "met" if found <= most else "MISSED"))
 
 
 def main():
@@ -87,46 +114,18 @@ def main():
     args = parser.parse_args()
     texts = [text for text in real_manifests(args.folder) if under("m0", text)]
     print("%d real manifests, %d bytes" % (len(texts), sum(len(text) for text in texts)))
-    cases = [
-        ("real text, 1 MB", joined(texts, 1_000_000)),
-        ("real text, 10 MB", joined(texts, 10_000_000)),
-        ("headers of 80 parts", headers(1_000_000)),
-        ("20,000 keys", keys(20_000, None)),
-        ("20,000 keys that collide", keys(20_000, FRONT)),
-    ]
-    program, seen = os.path.abspath(args.program), {}
     with tempfile.TemporaryDirectory(prefix="cargo-edit-bench-") as room:
-        source, lines = os.path.join(room, "source.toml"), os.path.join(room, "index.json")
-        with open(lines, "w", encoding="utf-8") as file:
-            file.write('{"name":"serde","vers":"1.0.0","yanked":false}\n')
-        print("%-26s %9s %9s %9s %9s %9s %7s %15s" % (
-            "case", "bytes", "time s", "peak kB", "peer s", "peer kB", "ratio", "memory to text"))
-        for name, text in cases:
-            with open(source, "w", encoding="utf-8") as file:
-                file.write(text)
-            size = os.path.getsize(source)
-            own, memory = measured(
-                lambda target: [program, "upgrade", "--manifest-path", target, "--index-file", lines],
-                room, source, args.rounds)
-            seen[name, "time"] = own
-            row = "%-26s %9d %9.4f %9s" % (name, size, own, memory or "-")
-            if args.peer:
-                other, other_memory = measured(
-                    lambda target: [os.path.abspath(args.peer), target, lines], room, source, args.rounds)
-                seen[name, "ratio"] = own / other
-                row += " %9.4f %9s %7.3f" % (other, other_memory or "-", own / other)
-            if memory:
-                seen[name, "memory"] = memory * 1024 / size
-                row += " %15.2f" % seen[name, "memory"]
-            print(row, flush=True)
-    print("ten times the text costs %.1f times the time" % (
-        seen["real text, 10 MB", "time"] / seen["real text, 1 MB", "time"]))
-    print("keys that collide cost %.1f times the time of others" % (
-        seen["20,000 keys that collide", "time"] / seen["20,000 keys", "time"]))
-    for name, what, most, words in WANTED:
-        if (name, what) in seen:
-            print("%s: at most %s: %s, %.2f" % (
-                name, words, "met" if seen[name, what] <= most else "missed", seen[name, what]))
+        bench = Bench(args, room)
+        head = ("text", "bytes", "time s", "peak kB", "peer s", "peer kB", "ratio", "memory to text")
+        print("%-12s %9s %10s %10s %10s %10s %8s %16s" % head)
+        bench.row("real, 1 MB", joined(texts, 1_000_000))
+        bench.row("real, 10 MB", joined(texts, 10_000_000))
+        for name, text in hostile():
+            bench.row(name, text)
+    times = bench.times
+    print("ten times the text costs %.1f times the time" % (times["real, 10 MB"] / times["real, 1 MB"]))
+    print("names that collide cost %.1f times the time of others" % (times["collide"] / times["plain"]))
+    print("\n".join(bench.verdicts))
 
 
 if __name__ == "__main__":

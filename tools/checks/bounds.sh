@@ -1,6 +1,6 @@
 #!/usr/bin/env bash
-# bounds.sh PROGRAM   manifests that were made to cost much cost no more than their length: keys that collide in a map of
-# texts whose seed is fixed, and headers of 80 parts.
+# bounds.sh PROGRAM   a manifest that was made to take much memory takes at most 40 times its length, and as much again
+# while its tables grow: each line is a header of 80 parts of its own.
 set -eu -o pipefail
 program=$1
 room=$(mktemp -d)
@@ -16,10 +16,6 @@ within() { # what it is, seconds, kilobytes
     exit 1
   fi
 }
-
-# bare keys that fall into one place of the toolchain's map of texts: 1.9 MB
-awk 'BEGIN { for (i = 0; i < 50000; i++) printf "VCt84XxmJ16jGQv_PwRfGXPs%08d = 1\n", i }' > "$room/Cargo.toml"
-within '50,000 keys that collide' 10 131072
 
 # 80 new places in each line: 1 MB, for which at most 40 times its length is wanted, and as much again while tables grow
 awk 'BEGIN { rest = ""; for (i = 0; i < 79; i++) rest = rest ".a"; for (i = 0; i < 6060; i++) printf "[%04d%s]\n", i, rest }' \
