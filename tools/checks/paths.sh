@@ -1,48 +1,36 @@
 #!/usr/bin/env bash
-# paths.sh PROGRAM   paths that name no manifest: an empty one is a fault of the command line, and a pipe or a device is
-# refused and not waited for. A pipe as index file is read to its end. No other manifest changes.
+# paths.sh PROGRAM   an empty path, as of an unset variable, is a fault of the command line and no manifest changes. A refusal
+# says at which path it arose, and at which line; a pipe as manifest is refused at its path, and not waited for.
 set -eu -o pipefail
 room=$(mktemp -d)
 trap 'rm -rf "$room"' EXIT
 PROGRAM=$(realpath "$1")
 cd "$room"
-manifest='[dependencies]
-serde = "1.0"
-'
-line='{"name":"serde","vers":"1.2.3"}'
-printf '%s' "$manifest" > Cargo.toml
-printf '%s\n' "$line" > index.json
-mkfifo pipe
-tried() { # what, status wanted, first line of standard error wanted, words
-  what=$1 want=$2 first=$3
-  shift 3
+manifest='[dependencies]\nserde = "1.0"\n'
+printf "$manifest" > Cargo.toml
+printf '{"name":"serde","vers":"1.2.3"}\n' > index.json
+refused() { # what, status wanted, the lines of standard error that are wanted first, manifest, index file
   status=0
-  timeout 10 "$PROGRAM" upgrade "$@" 2> err || status=$?
-  [ "$status" = "$want" ] || { echo "$what: status $status in place of $want"; cat err; exit 1; }
-  [ "$(head -n 1 err)" = "$first" ] || { echo "$what: in place of '$first':"; cat err; exit 1; }
+  timeout 10 "$PROGRAM" upgrade --manifest-path "$4" --index-file "$5" 2> err || status=$?
+  [ "$status" = "$2" ] || { echo "$1: status $status in place of $2"; cat err; exit 1; }
+  printf "$3" > wanted
+  head -n "$(wc -l < wanted)" err | cmp - wanted || { echo "$1:"; cat err; exit 1; }
+  printf "$manifest" | cmp - Cargo.toml || { echo "$1: the manifest changed"; exit 1; }
 }
-unchanged() {
-  printf '%s' "$manifest" | cmp - Cargo.toml || { echo "$1: the manifest changed"; exit 1; }
-}
-no_manifest="error: a value is required for '--manifest-path <PATH>' but none was supplied"
-no_index="error: a value is required for '--index-file <FILE>' but none was supplied"
-no_path='Error: Failed to get cargo file metadata'
-tried 'an empty manifest path' 2 "$no_manifest" --manifest-path '' --index-file index.json
-tried 'an empty manifest path behind =' 2 "$no_manifest" --manifest-path= --index-file index.json
-tried 'an empty index file' 2 "$no_index" --manifest-path Cargo.toml --index-file ''
-tried 'an empty index file behind =' 2 "$no_index" --manifest-path Cargo.toml --index-file=
-tried 'both empty' 2 "$no_manifest" --manifest-path '' --index-file ''
-unchanged 'empty paths'
-tried 'a pipe as manifest' 1 "$no_path" --manifest-path pipe --index-file index.json
-tried 'a device as manifest' 1 "$no_path" --manifest-path /dev/zero --index-file index.json
-tried 'a terminal or nothing as manifest' 1 "$no_path" --manifest-path /dev/null --index-file index.json
-mkdir below
-mkfifo below/Cargo.toml
+value() { printf "error: a value is required for '%s' but none was supplied" "$1"; }
+refused 'an empty manifest path' 2 "$(value '--manifest-path <PATH>')\n" '' index.json
+refused 'an empty index file' 2 "$(value '--index-file <FILE>')\n" Cargo.toml ''
+refused 'both empty' 2 "$(value '--manifest-path <PATH>')\n" '' ''
 status=0
-timeout 10 "$PROGRAM" upgrade --manifest-path below --index-file index.json 2> err || status=$?
-case "$status" in 0|1) ;; *) echo "a folder with a pipe as its manifest: status $status"; cat err; exit 1 ;; esac
-printf '%s' "$manifest" > Cargo.toml
-printf '%s\n' "$line" > pipe &
-tried 'a pipe as index file' 0 '' --manifest-path Cargo.toml --index-file pipe
-wait
-printf '[dependencies]\nserde = "1.2"\n' | cmp - Cargo.toml
+"$PROGRAM" upgrade --manifest-path= --index-file=index.json 2> err || status=$?
+[ "$status" = 2 ] || { echo "an empty path behind an equals sign: status $status"; exit 1; }
+printf "$manifest" | cmp - Cargo.toml
+no_path='Error: Failed to get cargo file metadata'
+refused 'no manifest' 1 "$no_path\n  at $room/none\n" none index.json
+refused 'no index file' 1 "$no_path\n  at $room/none.json\n" Cargo.toml none.json
+mkfifo pipe
+refused 'a pipe' 1 "$no_path\n  at $room/pipe\n" pipe index.json
+printf 'a = "\xc3\xa9"\nb = "\xc3\xa9" 1\n' > bad.toml
+refused 'a line that is no TOML' 1 "Error: Unable to parse Cargo.toml\n  at $room/bad.toml:2:9\n" bad.toml index.json
+printf '{"name":"serde","vers":"1.2.3"}\n\n{"name":"serde"\n' > bad.json
+refused 'a malformed index line' 1 "Error: Invalid index line 3\n  at $room/bad.json:3\n" Cargo.toml bad.json

@@ -43,6 +43,10 @@ pub refusal_has : {T : Type 0} (r : Result T Refusal) (e : Refusal) (P : Error �
 refusal_has (Ok x) e P same h = tt
 refusal_has (Err other) e P same h = subst (λ (x : Refusal). P x.error) (sym same) h
 
+pub refusal_same : {T : Type 0} (r : Result T Error) (e : Error) (P : Error → Type 0) → IsErrAnd r (λ other. other ≡ e) → P e → IfErr r P
+refusal_same (Ok x) e P same h = tt
+refusal_same (Err other) e P same h = subst P (sym same) h
+
 -- and so does a refusal that was made of such an error
 pub refusal_made : {T : Type 0} (r : Result T Refusal) (e : Error) (P : Error → Type 0) → IsErrAnd r (λ other. other.error ≡ e) → P e → IfErr r (λ x. P x.error)
 refusal_made (Ok x) e P same h = tt

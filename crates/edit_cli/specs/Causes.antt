@@ -9,7 +9,7 @@ use Rattle.edit_sources.specs.IndexLines.{RefusesLines, lines_of}
 use Rattle.edit_sources.specs.Store.{Files, StandsAt}
 use Rattle.edit_sources.specs.declared.file_index.FileIndex.{FileIndex}
 use Rattle.edit_sources.specs.declared.store.Kind.TheVariants.{Folder}
-use Rattle.cargo_edit.specs.Causes.{IsBadManifest, IsCause}
+use Rattle.cargo_edit.specs.Causes.{IsBadLook, IsBadManifest}
 use Rattle.cargo_edit.specs.Looks.{Kept}
 use Rattle.edit_cli.specs.Located.{HasNoManifest, IsAbsoluteOf, IsFault, IsManifestPath}
 use Rattle.edit_cli.specs.Upgrading.{IsIndexRead, IsManifestRead}
@@ -45,10 +45,10 @@ pub record IsIndexCause (files : Files) (current named : List ℕ) (e : Error) :
   pub at : IsAbsoluteOf current named path
   pub unindexed : IsUnindexed (files path) e
 
--- why there is no plan for a manifest over an index, of which no answer was known before
+-- why there is no plan for a manifest that was read over an index: a look is refused, of which no answer was known before
 pub record IsPlanCause (bytes : List ℕ) (index : FileIndex) (e : Error) : Type 0 where
   pub kept : Kept
-  pub cause : IsCause bytes (λ address name outcome. FileGives index name outcome) (λ address name. None) kept 0 0 e
+  pub cause : IsBadLook bytes (λ address name outcome. FileGives index name outcome) (λ address name. None) kept 0 0 e
 
 -- the manifest was read, and the index file is not
 pub record HasNoIndex (files : Files) (current named index_named : List ℕ) (e : Error) : Type 0 where

@@ -22,7 +22,8 @@ pub(crate) fn absolute(alloc: Global, current: &str, path: &str) -> CargoResult<
 
 // Whether a file or a folder stands at a path.
 fn is_there<S: Store>(alloc: Global, files: &mut S, path: &str) -> RunResult<bool>
-    ensures store { OnlyReads (S.tells files.old) (S.tells files.new) (S.file_at files.old) (S.file_at files.new) (S.faults files.old) (S.faults files.new) }
+    ensures store { OnlyReads (S.tells files.old) (S.tells files.new) (S.file_at files.old) (S.file_at files.new)
+        (S.faults files.old) (S.faults files.new) }
     ensures there { IfOk result (λ b. S.tells files.old ≡ true
         → MatchBool b (IsThere (S.file_at files.old) path.now) (IsMissing (S.file_at files.old) path.now)) }
     ensures refused { IfErr result (λ r. IsFault call.Kind (S.faults files.old) (S.faults files.new) r.error) }
@@ -42,22 +43,17 @@ pub(crate) fn find<S: Store>(
     specified: &str,
     current: &str,
 ) -> RunResult<String>
-    ensures store { OnlyReads (S.tells files.old) (S.tells files.new) (S.file_at files.old) (S.file_at files.new) (S.faults files.old) (S.faults files.new) }
+    ensures store { OnlyReads (S.tells files.old) (S.tells files.new) (S.file_at files.old) (S.file_at files.new)
+        (S.faults files.old) (S.faults files.new) }
     ensures found { IfOk result (λ p. S.tells files.old ≡ true
         → IsManifestPath (S.file_at files.old) current.now specified.now (string_bytes p)) }
     ensures refused { IfErr result (λ r. IsFault call.Kind (S.faults files.old) (S.faults files.new) r.error
         ⊎ (S.tells files.old ≡ true → HasNoManifest (S.file_at files.old) current.now specified.now r.error)) }
 {
-    let path = match absolute(alloc, current, specified) {
-        Ok(path) => path,
-        Err(error) => return Err(Refusal::from(error)),
-    };
+    let path = absolute(alloc, current, specified)?;
     match files.kind(alloc, path.as_str()) {
         Ok(Kind::File) => Ok(path),
-        Ok(Kind::Folder) => match search(alloc, files, path.as_str()) {
-            Ok(found) => Ok(found),
-            Err(error) => Err(error),
-        },
+        Ok(Kind::Folder) => search(alloc, files, path.as_str()),
         Ok(Kind::Absent) => Err(at_path(alloc, Error::NoPath, path.as_str())),
         Err(error) => Err(at_path(alloc, error, path.as_str())),
     }
@@ -65,19 +61,18 @@ pub(crate) fn find<S: Store>(
 
 // The manifest in a folder, none where none stands there.
 fn manifest_at<S: Store>(alloc: Global, files: &mut S, dir: &str) -> RunResult<Option<String>>
-    ensures store { OnlyReads (S.tells files.old) (S.tells files.new) (S.file_at files.old) (S.file_at files.new) (S.faults files.old) (S.faults files.new) }
-    ensures found { IfOk result (λ o. S.tells files.old ≡ true → MatchOption o (IsMissing (S.file_at files.old) (manifest_in dir.now))
+    ensures store { OnlyReads (S.tells files.old) (S.tells files.new) (S.file_at files.old) (S.file_at files.new)
+        (S.faults files.old) (S.faults files.new) }
+    ensures found { IfOk result (λ o. S.tells files.old ≡ true
+        → MatchOption o (IsMissing (S.file_at files.old) (manifest_in dir.now))
         (λ p. (string_bytes p ≡ manifest_in dir.now) × IsThere (S.file_at files.old) (manifest_in dir.now))) }
     ensures refused { IfErr result (λ r. IsFault call.Kind (S.faults files.old) (S.faults files.new) r.error) }
 {
-    let path = match join(alloc, dir, "Cargo.toml") {
-        Ok(path) => path,
-        Err(error) => return Err(Refusal::from(error)),
-    };
-    match is_there(alloc, files, path.as_str()) {
-        Ok(true) => Ok(Some(path)),
-        Ok(false) => Ok(None),
-        Err(error) => Err(error),
+    let path = join(alloc, dir, "Cargo.toml")?;
+    if is_there(alloc, files, path.as_str())? {
+        Ok(Some(path))
+    } else {
+        Ok(None)
     }
 }
 
@@ -93,23 +88,22 @@ fn not_found(alloc: Global, start: &str) -> Refusal
 
 /// The first `Cargo.toml` from a folder upwards.
 fn search<S: Store>(alloc: Global, files: &mut S, start: &str) -> RunResult<String>
-    ensures store { OnlyReads (S.tells files.old) (S.tells files.new) (S.file_at files.old) (S.file_at files.new) (S.faults files.old) (S.faults files.new) }
-    ensures found { IfOk result (λ p. S.tells files.old ≡ true → IsNearest (S.file_at files.old) start.now (string_bytes p)) }
+    ensures store { OnlyReads (S.tells files.old) (S.tells files.new) (S.file_at files.old) (S.file_at files.new)
+        (S.faults files.old) (S.faults files.new) }
+    ensures found { IfOk result (λ p. S.tells files.old ≡ true
+        → IsNearest (S.file_at files.old) start.now (string_bytes p)) }
     ensures refused { IfErr result (λ r. IsFault call.Kind (S.faults files.old) (S.faults files.new) r.error
         ⊎ (S.tells files.old ≡ true → IsNotFound (S.file_at files.old) start.now r.error)) }
 {
     let mut dir = start;
     'folders: while dir != "/" {
-        match manifest_at(alloc, files, dir) {
-            Ok(Some(path)) => return Ok(path),
-            Ok(None) => {}
-            Err(error) => return Err(error),
+        if let Some(path) = manifest_at(alloc, files, dir)? {
+            return Ok(path);
         }
         dir = folder(dir);
     }
-    match manifest_at(alloc, files, dir) {
-        Ok(Some(path)) => Ok(path),
-        Ok(None) => Err(not_found(alloc, start)),
-        Err(error) => Err(error),
+    match manifest_at(alloc, files, dir)? {
+        Some(path) => Ok(path),
+        None => Err(not_found(alloc, start)),
     }
 }
