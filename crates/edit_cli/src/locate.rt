@@ -2,7 +2,7 @@
 ghost use Rattle.std.specs.Prelude.{◌≡◌, ◌⊎◌, true, IfErr, IfOk, MatchBool, MatchOption, string_bytes};
 ghost use Rattle.edit_document.specs.Errors.{IsMemory};
 ghost use Rattle.edit_document.specs.declared.errors.DeviceCall.TheVariants as call;
-ghost use Rattle.edit_sources.specs.ConfigurationFiles.{OnlyReads};
+ghost use Rattle.edit_sources.specs.Store.{OnlyReads};
 ghost use Rattle.edit_cli.specs.Located.{HasNoManifest, IsAbsoluteOf, IsFault, IsManifestPath, IsMissing, IsNearest, IsNotFound, IsThere, NamesFolder, manifest_in};
 
 use crate::refusal::{Refusal, RunResult, at_path};
@@ -22,11 +22,11 @@ pub(crate) fn absolute(alloc: Global, current: &str, path: &str) -> CargoResult<
 
 // Whether a file or a folder stands at a path.
 fn is_there<S: Store>(alloc: Global, files: &mut S, path: &str) -> RunResult<bool>
-    ensures store { OnlyReads (S.tells files.old) (S.tells files.new) (S.file_at files.old) (S.file_at files.new)
-        (S.faults files.old) (S.faults files.new) }
-    ensures there { IfOk result (λ b. S.tells files.old ≡ true
-        → MatchBool b (IsThere (S.file_at files.old) path.now) (IsMissing (S.file_at files.old) path.now)) }
-    ensures refused { IfErr result (λ r. IsFault call.Kind (S.faults files.old) (S.faults files.new) r.error) }
+    ensures store { OnlyReads (S.view files.old).tells (S.view files.new).tells (S.view files.old).file_at (S.view files.new).file_at
+        (S.view files.old).faults (S.view files.new).faults }
+    ensures there { IfOk result (λ b. (S.view files.old).tells ≡ true
+        → MatchBool b (IsThere (S.view files.old).file_at path.now) (IsMissing (S.view files.old).file_at path.now)) }
+    ensures refused { IfErr result (λ r. IsFault call.Kind (S.view files.old).faults (S.view files.new).faults r.error) }
 {
     match files.kind(alloc, path) {
         Ok(Kind::File) => Ok(true),
@@ -43,12 +43,12 @@ pub(crate) fn find<S: Store>(
     specified: &str,
     current: &str,
 ) -> RunResult<String>
-    ensures store { OnlyReads (S.tells files.old) (S.tells files.new) (S.file_at files.old) (S.file_at files.new)
-        (S.faults files.old) (S.faults files.new) }
-    ensures found { IfOk result (λ p. S.tells files.old ≡ true
-        → IsManifestPath (S.file_at files.old) current.now specified.now (string_bytes p)) }
-    ensures refused { IfErr result (λ r. IsFault call.Kind (S.faults files.old) (S.faults files.new) r.error
-        ⊎ (S.tells files.old ≡ true → HasNoManifest (S.file_at files.old) current.now specified.now r.error)) }
+    ensures store { OnlyReads (S.view files.old).tells (S.view files.new).tells (S.view files.old).file_at (S.view files.new).file_at
+        (S.view files.old).faults (S.view files.new).faults }
+    ensures found { IfOk result (λ p. (S.view files.old).tells ≡ true
+        → IsManifestPath (S.view files.old).file_at current.now specified.now (string_bytes p)) }
+    ensures refused { IfErr result (λ r. IsFault call.Kind (S.view files.old).faults (S.view files.new).faults r.error
+        ⊎ ((S.view files.old).tells ≡ true → HasNoManifest (S.view files.old).file_at current.now specified.now r.error)) }
 {
     let path = absolute(alloc, current, specified)?;
     match files.kind(alloc, path.as_str()) {
@@ -61,12 +61,12 @@ pub(crate) fn find<S: Store>(
 
 // The manifest in a folder, none where none stands there.
 fn manifest_at<S: Store>(alloc: Global, files: &mut S, dir: &str) -> RunResult<Option<String>>
-    ensures store { OnlyReads (S.tells files.old) (S.tells files.new) (S.file_at files.old) (S.file_at files.new)
-        (S.faults files.old) (S.faults files.new) }
-    ensures found { IfOk result (λ o. S.tells files.old ≡ true
-        → MatchOption o (IsMissing (S.file_at files.old) (manifest_in dir.now))
-        (λ p. (string_bytes p ≡ manifest_in dir.now) × IsThere (S.file_at files.old) (manifest_in dir.now))) }
-    ensures refused { IfErr result (λ r. IsFault call.Kind (S.faults files.old) (S.faults files.new) r.error) }
+    ensures store { OnlyReads (S.view files.old).tells (S.view files.new).tells (S.view files.old).file_at (S.view files.new).file_at
+        (S.view files.old).faults (S.view files.new).faults }
+    ensures found { IfOk result (λ o. (S.view files.old).tells ≡ true
+        → MatchOption o (IsMissing (S.view files.old).file_at (manifest_in dir.now))
+        (λ p. (string_bytes p ≡ manifest_in dir.now) × IsThere (S.view files.old).file_at (manifest_in dir.now))) }
+    ensures refused { IfErr result (λ r. IsFault call.Kind (S.view files.old).faults (S.view files.new).faults r.error) }
 {
     let path = join(alloc, dir, "Cargo.toml")?;
     if is_there(alloc, files, path.as_str())? {
@@ -88,12 +88,12 @@ fn not_found(alloc: Global, start: &str) -> Refusal
 
 /// The first `Cargo.toml` from a folder upwards.
 fn search<S: Store>(alloc: Global, files: &mut S, start: &str) -> RunResult<String>
-    ensures store { OnlyReads (S.tells files.old) (S.tells files.new) (S.file_at files.old) (S.file_at files.new)
-        (S.faults files.old) (S.faults files.new) }
-    ensures found { IfOk result (λ p. S.tells files.old ≡ true
-        → IsNearest (S.file_at files.old) start.now (string_bytes p)) }
-    ensures refused { IfErr result (λ r. IsFault call.Kind (S.faults files.old) (S.faults files.new) r.error
-        ⊎ (S.tells files.old ≡ true → IsNotFound (S.file_at files.old) start.now r.error)) }
+    ensures store { OnlyReads (S.view files.old).tells (S.view files.new).tells (S.view files.old).file_at (S.view files.new).file_at
+        (S.view files.old).faults (S.view files.new).faults }
+    ensures found { IfOk result (λ p. (S.view files.old).tells ≡ true
+        → IsNearest (S.view files.old).file_at start.now (string_bytes p)) }
+    ensures refused { IfErr result (λ r. IsFault call.Kind (S.view files.old).faults (S.view files.new).faults r.error
+        ⊎ ((S.view files.old).tells ≡ true → IsNotFound (S.view files.old).file_at start.now r.error)) }
 {
     let mut dir = start;
     'folders: while dir != "/" {

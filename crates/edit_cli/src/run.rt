@@ -61,12 +61,12 @@ fn answer<S: Store, O: io::Write, E: io::Write>(
 ) -> RunResult<u8>
     ensures answered { IfOk result (λ s. s ≢ 0 → files.new ≡ files.old) }
     ensures fault { IfOk result (λ s. s ≢ 0 → (s ≡ 2) × AreAtFault (map (λ w. w.now) words.now)) }
-    ensures done { IfOk result (λ s. s ≡ 0 → S.tells files.old ≡ true
-        → IsDone (map (λ w. w.now) words.now) current.now (S.file_at files.old) (S.file_at files.new)) }
-    ensures refused { OnErr result (S.tells files.old ≡ true
-        → IsRefused (map (λ w. w.now) words.now) current.now (S.file_at files.old) (S.file_at files.new)) }
-    ensures why { IfErr result (λ r. IsRunCause (map (λ w. w.now) words.now) current.now (S.tells files.old) (S.file_at files.old)
-        (S.faults files.old) (S.faults files.new) r.error) }
+    ensures done { IfOk result (λ s. s ≡ 0 → (S.view files.old).tells ≡ true
+        → IsDone (map (λ w. w.now) words.now) current.now (S.view files.old).file_at (S.view files.new).file_at) }
+    ensures refused { OnErr result ((S.view files.old).tells ≡ true
+        → IsRefused (map (λ w. w.now) words.now) current.now (S.view files.old).file_at (S.view files.new).file_at) }
+    ensures why { IfErr result (λ r. IsRunCause (map (λ w. w.now) words.now) current.now (S.view files.old).tells (S.view files.old).file_at
+        (S.view files.old).faults (S.view files.new).faults r.error) }
 {
     let command = command(alloc)?;
     let matches = match command.try_get_matches_from(words) {
@@ -97,10 +97,10 @@ pub(crate) fn run<S: Store, T: Store + Drop, O: io::Write, E: io::Write>(
     ensures status { result ≤ 2 }
     ensures faulty { result ≡ 2 → files.new ≡ files.old }
     ensures fault { result ≡ 2 → AreAtFault (map (λ w. w.now) words.now) }
-    ensures done { result ≡ 0 → S.tells files.old ≡ true
-        → IsDone (map (λ w. w.now) words.now) current.now (S.file_at files.old) (S.file_at files.new) }
-    ensures refused { result ≡ 1 → S.tells files.old ≡ true
-        → IsRefused (map (λ w. w.now) words.now) current.now (S.file_at files.old) (S.file_at files.new) }
+    ensures done { result ≡ 0 → (S.view files.old).tells ≡ true
+        → IsDone (map (λ w. w.now) words.now) current.now (S.view files.old).file_at (S.view files.new).file_at }
+    ensures refused { result ≡ 1 → (S.view files.old).tells ≡ true
+        → IsRefused (map (λ w. w.now) words.now) current.now (S.view files.old).file_at (S.view files.new).file_at }
 {
     match answer(alloc, words, current, files, out, err) {
         Ok(status) => status,

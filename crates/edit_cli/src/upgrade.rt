@@ -6,7 +6,7 @@ ghost use Rattle.edit_document.specs.Shown.{ShowsTree, tree_of};
 ghost use Rattle.edit_document.specs.Supported.{IsManifest};
 ghost use Rattle.edit_document.specs.declared.errors.DeviceCall.TheVariants as call;
 ghost use Rattle.edit_record.specs.RustVersions.{numbers_of};
-ghost use Rattle.edit_sources.specs.ConfigurationFiles.{OnlyReads};
+ghost use Rattle.edit_sources.specs.Store.{OnlyReads};
 ghost use Rattle.edit_sources.specs.Store.{SameFiles};
 ghost use Rattle.cargo_edit.specs.Causes.{IsBadManifest};
 ghost use Rattle.edit_cli.specs.Causes.{IsIndexCause, IsManifestCause, IsPlanCause, IsUpgradeCause};
@@ -120,15 +120,15 @@ fn read_manifest<S: Store>(
     current: &str,
     files: &mut S,
 ) -> RunResult<Manifest>
-    ensures store { OnlyReads (S.tells files.old) (S.tells files.new) (S.file_at files.old) (S.file_at files.new)
-        (S.faults files.old) (S.faults files.new) }
-    ensures read { IfOk result (λ m. S.tells files.old ≡ true
-        → IsManifestRead (S.file_at files.old) current.now named.now (string_bytes m.input.path) m.input.bytes.items
+    ensures store { OnlyReads (S.view files.old).tells (S.view files.new).tells (S.view files.old).file_at (S.view files.new).file_at
+        (S.view files.old).faults (S.view files.new).faults }
+    ensures read { IfOk result (λ m. (S.view files.old).tells ≡ true
+        → IsManifestRead (S.view files.old).file_at current.now named.now (string_bytes m.input.path) m.input.bytes.items
         (option_map numbers_of m.input.rust_version)) }
     ensures document { IfOk result (λ m. m.document.bytes ≡ m.input.bytes.items) }
-    ensures refused { IfErr result (λ r. IsFault call.Kind (S.faults files.old) (S.faults files.new) r.error
-        ⊎ (IsFault call.Read (S.faults files.old) (S.faults files.new) r.error
-        ⊎ (S.tells files.old ≡ true → IsManifestCause (S.file_at files.old) current.now named.now r.error))) }
+    ensures refused { IfErr result (λ r. IsFault call.Kind (S.view files.old).faults (S.view files.new).faults r.error
+        ⊎ (IsFault call.Read (S.view files.old).faults (S.view files.new).faults r.error
+        ⊎ ((S.view files.old).tells ≡ true → IsManifestCause (S.view files.old).file_at current.now named.now r.error))) }
 {
     let path = find(alloc, files, named, current)?;
     let bytes = match files.read(alloc, path.as_str()) {
@@ -146,12 +146,12 @@ fn read_index<S: Store>(
     current: &str,
     files: &mut S,
 ) -> RunResult<FileIndex>
-    ensures store { OnlyReads (S.tells files.old) (S.tells files.new) (S.file_at files.old) (S.file_at files.new)
-        (S.faults files.old) (S.faults files.new) }
-    ensures read { IfOk result (λ i. S.tells files.old ≡ true
-        → IsIndexRead (S.file_at files.old) current.now named.now i) }
-    ensures refused { IfErr result (λ r. IsFault call.Read (S.faults files.old) (S.faults files.new) r.error
-        ⊎ (S.tells files.old ≡ true → IsIndexCause (S.file_at files.old) current.now named.now r.error)) }
+    ensures store { OnlyReads (S.view files.old).tells (S.view files.new).tells (S.view files.old).file_at (S.view files.new).file_at
+        (S.view files.old).faults (S.view files.new).faults }
+    ensures read { IfOk result (λ i. (S.view files.old).tells ≡ true
+        → IsIndexRead (S.view files.old).file_at current.now named.now i) }
+    ensures refused { IfErr result (λ r. IsFault call.Read (S.view files.old).faults (S.view files.new).faults r.error
+        ⊎ ((S.view files.old).tells ≡ true → IsIndexCause (S.view files.old).file_at current.now named.now r.error)) }
 {
     let path = absolute(alloc, current, named)?;
     let lines = match files.read(alloc, path.as_str()) {
@@ -201,12 +201,12 @@ fn outputs_for(alloc: Global, manifest: &Manifest, index: FileIndex) -> CargoRes
 
 // Writes the output of a plan for one manifest, where there is one.
 fn write_output<S: Store>(alloc: Global, files: &mut S, output: Option<&Output>) -> RunResult<()>
-    ensures tells { S.tells files.new ≡ S.tells files.old }
-    ensures later { S.faults files.old ≤ S.faults files.new }
-    ensures written { OnOk result (S.tells files.old ≡ true
-        → IsWritten (option_copied output.entry) (S.file_at files.old) (S.file_at files.new)) }
-    ensures torn { OnErr result (IsTorn (option_copied output.entry) (S.file_at files.old) (S.file_at files.new)) }
-    ensures refused { IfErr result (λ r. IsFault call.Write (S.faults files.old) (S.faults files.new) r.error) }
+    ensures tells { (S.view files.new).tells ≡ (S.view files.old).tells }
+    ensures later { (S.view files.old).faults ≤ (S.view files.new).faults }
+    ensures written { OnOk result ((S.view files.old).tells ≡ true
+        → IsWritten (option_copied output.entry) (S.view files.old).file_at (S.view files.new).file_at) }
+    ensures torn { OnErr result (IsTorn (option_copied output.entry) (S.view files.old).file_at (S.view files.new).file_at) }
+    ensures refused { IfErr result (λ r. IsFault call.Write (S.view files.old).faults (S.view files.new).faults r.error) }
 {
     let Some(output) = output else {
         return Ok(());
@@ -224,16 +224,16 @@ pub(crate) fn upgrade<S: Store>(
     current: &str,
     files: &mut S,
 ) -> RunResult<()>
-    ensures tells { S.tells files.new ≡ S.tells files.old }
-    ensures done { OnOk result (S.tells files.old ≡ true → IsUpgraded current.now words.now.manifest_path.now
-        words.now.index_file.now (S.file_at files.old) (S.file_at files.new)) }
+    ensures tells { (S.view files.new).tells ≡ (S.view files.old).tells }
+    ensures done { OnOk result ((S.view files.old).tells ≡ true → IsUpgraded current.now words.now.manifest_path.now
+        words.now.index_file.now (S.view files.old).file_at (S.view files.new).file_at) }
     // a refusal before the write leaves each file as it was
-    ensures refused { OnErr result (S.tells files.old ≡ true → SameFiles (S.file_at files.old) (S.file_at files.new)
+    ensures refused { OnErr result ((S.view files.old).tells ≡ true → SameFiles (S.view files.old).file_at (S.view files.new).file_at
         ⊎ IsCutShort current.now words.now.manifest_path.now words.now.index_file.now
-        (S.file_at files.old) (S.file_at files.new)) }
+        (S.view files.old).file_at (S.view files.new).file_at) }
     // and each refusal has its cause
-    ensures why { IfErr result (λ r. IsUpgradeCause (S.tells files.old) (S.file_at files.old) current.now
-        words.now.manifest_path.now words.now.index_file.now (S.faults files.old) (S.faults files.new) r.error) }
+    ensures why { IfErr result (λ r. IsUpgradeCause (S.view files.old).tells (S.view files.old).file_at current.now
+        words.now.manifest_path.now words.now.index_file.now (S.view files.old).faults (S.view files.new).faults r.error) }
 {
     let manifest = read_manifest(alloc, words.manifest_path, current, files)?;
     let index = read_index(alloc, words.index_file, current, files)?;

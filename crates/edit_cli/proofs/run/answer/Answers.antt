@@ -49,7 +49,7 @@ returns-in_err-upgrade-clause-why g c =
     asks_for (app_of c.in_ok-command.command) _ c.in-Ok.matches c.in-Some-upgrade-default.matches.now _ _
     c.in_ok-command.ensures c.in-Ok.ensures.matches c.in-Ok.ensures.kinds c.in-Some-upgrade-default.ensures.rows c.upgrade_words.ensures.manifest c.upgrade_words.ensures.index in
     refusal_has c.from_residual-in_err-upgrade.result c.in_err-upgrade.field-0.0 _ c.from_residual-in_err-upgrade.ensures.1
-    (upgrade_why _ c.args.current.now _ (g.S.Store.file_at c.args.files.now) _ _ c.in_err-upgrade.field-0.0.error _ _ asks c.in_err-upgrade.ensures.why)
+    (upgrade_why _ c.args.current.now _ (g.S.Store.view c.args.files.now).file_at _ _ c.in_err-upgrade.field-0.0.error _ _ asks c.in_err-upgrade.ensures.why)
 
 pub returns-clause-done : goal.returns-clause-done
 returns-clause-done g c zero t = inr (record {
