@@ -4,7 +4,8 @@ use Rattle.edit_sources.specs.Ranking.{IsRanking, ranks_of}
 use Rattle.edit_sources.specs.declared.ranking.Ranked.{Ranked}
 use Rattle.cargo_edit.specs.Looks.{Answer}
 
--- it is that of the answer's entries; there is none where no answer is kept, or the answer is that there is no such name (own)
+-- it is that of the answer's entries; there is none where no answer is kept, or the answer is that there is
+-- no such name (own)
 abbrev pub IsRankingOf : Option Answer → Option Ranked → Type 0
 IsRankingOf (Some (Some entries)) (Some ranked) = IsRanking entries (ranks_of ranked)
 IsRankingOf (Some (Some entries)) None = ⊥

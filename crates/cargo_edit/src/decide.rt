@@ -4,6 +4,7 @@ ghost use Rattle.cargo_edit.specs.declared.upgrade.Reason.TheVariants as reason;
 ghost use Rattle.std.specs.Prelude.{◌≡◌, if◌then◌else◌, Some, None, false, IfErr, IfOk, option_and_then, option_copied, option_map, string_bytes};
 ghost use Rattle.cargo_edit.specs.Decision.{decision, newer, or_else, same_text, text_or, unless_old};
 ghost use Rattle.cargo_edit.specs.Decided.{case_view, choice_view, decision_by, jumps_by, raised_choice};
+ghost use Rattle.edit_record.specs.Candidates.{parts_in};
 ghost use Rattle.edit_record.specs.ReadRequirement.{text_in};
 ghost use Rattle.edit_record.specs.Requirement.{plain_text, raise};
 ghost use Rattle.semver.specs.Identifiers.{parts_of};
@@ -47,7 +48,8 @@ fn candidate(
     version: &Version,
     other: &str,
 ) -> CargoResult<Option<String>>
-    ensures text { IfOk result (λ o. option_map string_bytes o ≡ text_or other.now (raise (text_in old.now) (parts_of version.now))) }
+    ensures text { IfOk result (λ o. option_map string_bytes o
+        ≡ text_or other.now (raise (text_in old.now) (parts_of version.now))) }
     ensures refused { IfErr result IsMemory }
 {
     match old.raised(alloc, version) {
@@ -65,8 +67,9 @@ fn latest_candidate(
     compatible: Option<&Version>,
     latest: Option<&Version>,
 ) -> CargoResult<Option<String>>
-    ensures text { IfOk result (λ o. option_map string_bytes o ≡ option_and_then (λ v. text_or (plain_text v) (raise (text_in old.now) v))
-        (newer (option_map parts_of (option_copied latest.entry)) (option_map parts_of (option_copied compatible.entry)))) }
+    ensures text { IfOk result (λ o. option_map string_bytes o
+        ≡ option_and_then (λ v. text_or (plain_text v) (raise (text_in old.now) v))
+        (newer (parts_in latest.entry) (parts_in compatible.entry))) }
     ensures refused { IfErr result IsMemory }
 {
     let Some(latest) = latest else {
@@ -89,7 +92,8 @@ fn compatible_candidate(
     compatible: Option<&Version>,
 ) -> CargoResult<Option<String>>
     ensures text { IfOk result (λ o. option_map string_bytes o
-        ≡ option_and_then (λ v. text_or (text_in old.now) (raise (text_in old.now) v)) (option_map parts_of (option_copied compatible.entry))) }
+        ≡ option_and_then (λ v. text_or (text_in old.now) (raise (text_in old.now) v))
+        (parts_in compatible.entry)) }
     ensures refused { IfErr result IsMemory }
 {
     match compatible {
@@ -214,7 +218,8 @@ fn decide_by(
     near: Option<String>,
 ) -> Result<Decided, AllocError>
     ensures { IfOk result (λ d. choice_view d ≡ decision_by options.now false pin.pinned pin.readable
-        (option_copied selected.entry) old.now (option_map string_bytes far) (option_map string_bytes near)) }
+        (option_copied selected.entry) old.now
+        (option_map string_bytes far) (option_map string_bytes near)) }
 {
     let aside = match selected {
         Some(text) => {
@@ -251,7 +256,8 @@ pub(crate) fn decide(
     compatible: Option<&Version>,
     latest: Option<&Version>,
 ) -> CargoResult<Decided>
-    ensures decided { IfOk result (λ d. choice_view d ≡ decision options.now (case_view excluded renamed (option_copied selected.entry) (text_in old.now)
+    ensures decided { IfOk result (λ d. choice_view d ≡ decision options.now
+        (case_view excluded renamed (option_copied selected.entry) (text_in old.now)
         (option_copied compatible.entry) (option_copied latest.entry))) }
     ensures refused { IfErr result IsMemory }
 {

@@ -1,12 +1,11 @@
 //! The rows of entries.
 ghost use Rattle.std.specs.Prelude.{◌≡◌, IfErr, IfOk, Option, map, option_copied, option_map, string_bytes};
 ghost use Rattle.edit_document.specs.Errors.{IsMemory};
+ghost use Rattle.edit_record.specs.Candidates.{numbers_in, parts_in};
 ghost use Rattle.edit_record.specs.ReadRequirement.{text_in};
 ghost use Rattle.edit_record.specs.Requirement.{plain_text};
-ghost use Rattle.edit_record.specs.RustVersions.{numbers_of};
 ghost use Rattle.edit_record.specs.Selection.{IsCompatible, IsLatest};
 ghost use Rattle.edit_sources.specs.IndexCache.{index_of};
-ghost use Rattle.semver.specs.Identifiers.{parts_of};
 ghost use Rattle.url.specs.Parts.{serialize};
 ghost use Rattle.cargo_edit.specs.Decision.{decision, newer, or_else};
 ghost use Rattle.cargo_edit.specs.Found.{name_of, seen_of};
@@ -33,8 +32,8 @@ fn compatible_for<'a>(
     old: &Requirement<'_>,
     rust_version: Option<RustVersion>,
 ) -> Option<&'a Version>
-    ensures { (answer : Option Answer) → IsRankingOf answer (option_copied ranked.entry) → IsCompatible (text_in old.now)
-        (versions_in (option_map numbers_of rust_version) answer) (option_map parts_of (option_copied result)) }
+    ensures { (answer : Option Answer) → IsRankingOf answer (option_copied ranked.entry)
+        → IsCompatible (text_in old.now) (versions_in (numbers_in rust_version) answer) (parts_in result) }
 {
     match ranked {
         Some(ranked) => match old.version_req() {
@@ -51,8 +50,8 @@ fn latest_for<'a>(
     old: &str,
     rust_version: Option<RustVersion>,
 ) -> Option<&'a Version>
-    ensures { (answer : Option Answer) → IsRankingOf answer (option_copied ranked.entry) → IsLatest old.now
-        (versions_in (option_map numbers_of rust_version) answer) (option_map parts_of (option_copied result)) }
+    ensures { (answer : Option Answer) → IsRankingOf answer (option_copied ranked.entry)
+        → IsLatest old.now (versions_in (numbers_in rust_version) answer) (parts_in result) }
 {
     match ranked {
         Some(ranked) => ranked.latest_version(allows_prerelease(old), rust_version),
@@ -62,7 +61,8 @@ fn latest_for<'a>(
 
 // The text of a version, where there is one.
 fn version_text(alloc: Global, version: Option<&Version>) -> CargoResult<Option<String>>
-    ensures ok { IfOk result (λ o. option_map string_bytes o ≡ option_map plain_text (option_map parts_of (option_copied version.entry))) }
+    ensures ok { IfOk result (λ o. option_map string_bytes o
+        ≡ option_map plain_text (parts_in version.entry)) }
     ensures refused { IfErr result IsMemory }
 {
     match version {
@@ -81,8 +81,8 @@ fn latest_text(
     latest: Option<&Version>,
 ) -> CargoResult<Option<String>>
     ensures ok { IfOk result (λ o. option_map string_bytes o ≡ option_map plain_text (or_else
-        (newer (option_map parts_of (option_copied latest.entry)) (option_map parts_of (option_copied compatible.entry)))
-        (option_map parts_of (option_copied compatible.entry)))) }
+        (newer (parts_in latest.entry) (parts_in compatible.entry))
+        (parts_in compatible.entry))) }
     ensures refused { IfErr result IsMemory }
 {
     match latest {
@@ -103,9 +103,9 @@ fn row_over(
 ) -> CargoResult<Row>
     requires { text_in old.now ≡ (seen_of entry.now).old }
     ensures ok { IfOk result (λ r. line_of r ≡ line_for input (seen_of entry.now)
-        (option_map parts_of (option_copied compatible.entry)) (option_map parts_of (option_copied latest.entry))
+        (parts_in compatible.entry) (parts_in latest.entry)
         (decision options.now (case_for (seen_of entry.now)
-        (option_map parts_of (option_copied compatible.entry)) (option_map parts_of (option_copied latest.entry))))) }
+        (parts_in compatible.entry) (parts_in latest.entry)))) }
     ensures refused { IfErr result IsMemory }
 {
     let decided = decide(alloc, options, false, false, None, old, compatible, latest)?;
@@ -134,8 +134,9 @@ fn row_for(
     ranked: Option<&Ranked>,
     rust_version: Option<RustVersion>,
 ) -> CargoResult<Row>
-    ensures ok { IfOk result (λ r. (answer : Option Answer) → IsRankingOf answer (option_copied ranked.entry) → IsDecided input options.now
-        (versions_in (option_map numbers_of rust_version) answer) (seen_of entry.now) (line_of r)) }
+    ensures ok { IfOk result (λ r. (answer : Option Answer) → IsRankingOf answer (option_copied ranked.entry)
+        → IsDecided input options.now (versions_in (numbers_in rust_version) answer)
+        (seen_of entry.now) (line_of r)) }
     ensures refused { IfErr result IsMemory }
 {
     let old = Requirement::read(alloc, entry.old.as_str())?;
@@ -156,7 +157,8 @@ fn kept_row<I: Index>(
     index: &mut IndexCache<I>,
 ) -> CargoResult<Row>
     ensures ok { IfOk result (λ r. IsDecided input options.now
-        (versions_in (option_map numbers_of rust_version) (kept_by index.new (serialize registry.now) (name_of entry.now)))
+        (versions_in (numbers_in rust_version)
+        (kept_by index.new (serialize registry.now) (name_of entry.now)))
         (seen_of entry.now) (line_of r)) }
     ensures index { index_of index.new ≡ index_of index.old }
     ensures kept { kept_by index.new ≡ kept_by index.old }
@@ -168,7 +170,8 @@ fn kept_row<I: Index>(
     row_for(alloc, input, options, entry, ranked, rust_version)
 }
 
-/// The rows of entries, over the answers that are kept for their names; these and the index stay as they are.
+/// The rows of entries, over the answers that are kept for their names. These and the index stay as they
+/// are.
 pub(crate) fn decided_rows<I: Index>(
     alloc: Global,
     input: usize,
@@ -178,7 +181,7 @@ pub(crate) fn decided_rows<I: Index>(
     entries: &[Entry],
     index: &mut IndexCache<I>,
 ) -> CargoResult<Vec<Row>>
-    ensures ok { IfOk result (λ rows. AreDecided (kept_setting input options.now (option_map numbers_of rust_version)
+    ensures ok { IfOk result (λ rows. AreDecided (kept_setting input options.now (numbers_in rust_version)
         (kept_by index.old (serialize registry.now))) (map seen_of entries.now) (map line_of rows.items)) }
     ensures index { index_of index.new ≡ index_of index.old }
     ensures kept { kept_by index.new ≡ kept_by index.old }

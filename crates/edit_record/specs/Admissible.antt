@@ -1,4 +1,5 @@
--- Which of the versions that an index tells of may be chosen (Cargo reference, "The Manifest Format", rust-version, and "cargo yank").
+-- Which of the versions that an index tells of may be chosen (Cargo reference, "The Manifest Format",
+-- rust-version, and "cargo yank").
 use Rattle.std.specs.Prelude.{ℕ, Bool, false, if◌then◌else◌, Option, Some, None, Result, Ok, Err, option_and_then, option_map, is_some, unwrap_or, [], List}
 use Rattle.std.specs.List.{filter_map}
 use Rattle.std.specs.declared.cmp.Ordering.{Ordering}
@@ -32,7 +33,8 @@ abbrev pub is_too_new : Option Numbers → Option Numbers → Bool
 is_too_new (Some asked) (Some given) = is_above asked given
 is_too_new asked given = false
 
--- what is read of an entry that is not yanked and whose version is readable: its version, and the Rust version that it asks for
+-- what is read of an entry that is not yanked and whose version is readable: its version, and the Rust
+-- version that it asks for
 abbrev pub candidate_in : IndexEntry → Option (Parts × Option Numbers)
 candidate_in e = if e.yanked then None else option_map (λ v. (v, asked_rust e)) (version_in e)
 
@@ -69,7 +71,8 @@ entry_order a b = full_order (version_or_zero a) (version_or_zero b)
     version_or_zero : IndexEntry → Parts
     version_or_zero e = unwrap_or (version_in e) (0, 0, 0, [], [])
 
--- the versions that are wanted: those that comparators admit where there are some, else those without pre-release or all (own)
+-- the versions that are wanted: those that comparators admit where there are some, else those without
+-- pre-release or all (own)
 abbrev pub is_wanted : Bool → Option (List Held) → Parts → Bool
 is_wanted pre None v = is_allowed pre v
 is_wanted pre (Some comparators) v = admits comparators v

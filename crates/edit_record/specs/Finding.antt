@@ -9,13 +9,17 @@ use Rattle.edit_record.specs.Records.{IsRegistryDependency}
 use Rattle.edit_record.specs.RustVersions.{Numbers}
 use Rattle.edit_record.specs.declared.dependency.Dependency.{Dependency}
 
--- the greatest of the admissible entries whose versions pass a test, the last of equal ones, as a dependency; none where none is (own)
+-- the greatest of the admissible entries whose versions pass a test, the last of equal ones, as a
+-- dependency; none where none is (own)
 abbrev pub IsFound : Option Numbers → (Parts → Bool) → List IndexEntry → Option Dependency → Type 0
 IsFound rust test entries None = IsGreatest (is_kept rust test) entry_order entries None
-IsFound rust test entries (Some d) = (e : IndexEntry) × IsGreatestKept (is_kept rust test) entry_order entries e × IsRegistryDependency e.name e.version d
+IsFound rust test entries (Some d) = (e : IndexEntry)
+    × IsGreatestKept (is_kept rust test) entry_order entries e × IsRegistryDependency e.name e.version d
 
 -- such an entry is found, and it is not less than this one (own)
-abbrev pub IsFoundAtLeast : Option Numbers → (Parts → Bool) → List IndexEntry → IndexEntry → Option Dependency → Type 0
+abbrev pub IsFoundAtLeast : Option Numbers → (Parts → Bool) → List IndexEntry → IndexEntry
+    → Option Dependency → Type 0
 IsFoundAtLeast rust test entries least None = ⊥
-IsFoundAtLeast rust test entries least (Some d) = (e : IndexEntry) × IsGreatestKept (is_kept rust test) entry_order entries e
-    × IsRegistryDependency e.name e.version d × (is_le (entry_order least e) ≡ true)
+IsFoundAtLeast rust test entries least (Some d) = (e : IndexEntry)
+    × IsGreatestKept (is_kept rust test) entry_order entries e × IsRegistryDependency e.name e.version d
+    × (is_le (entry_order least e) ≡ true)

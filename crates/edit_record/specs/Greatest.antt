@@ -5,7 +5,8 @@ use Rattle.std.specs.declared.cmp.Ordering.{Ordering}
 use Rattle.std.specs.declared.cmp.Ordering.TheVariants.{Less}
 
 -- an entry that is kept, that no kept entry before it exceeds, and that every kept entry after it is below
-pub record IsGreatestKept {X : Type 0} (keep : X → Bool) (cmp : X → X → Ordering) (xs : List X) (e : X) : Type 0 where
+pub record IsGreatestKept {X : Type 0} (keep : X → Bool) (cmp : X → X → Ordering) (xs : List X) (e : X)
+    : Type 0 where
   pub front : List X
   pub rest : List X
   pub split : xs ≡ front ++ e ∷ rest

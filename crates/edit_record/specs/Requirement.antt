@@ -1,5 +1,6 @@
--- How a requirement is written, and how it is raised to a version (own; the signs are those of Cargo reference, "Specifying Dependencies"). A comparator is what `semver` read
--- of it: its operator, its numbers and its pre-release; a version is its numbers and texts.
+-- How a requirement is written, and how it is raised to a version (own; the signs are those of Cargo
+-- reference, "Specifying Dependencies"). A comparator is what `semver` read of it: its
+-- operator, its numbers and its pre-release; a version is its numbers and texts.
 use Rattle.std.specs.Prelude.{ℕ, List, [], ◌∷◌, ◌++◌, Option, Some, None, Result, Ok, Err, Bool, true, false, ◌==◌, nat_eq, codes, map, find, if◌then◌else◌}
 use Rattle.std.specs.Cmp.Lexicographic.{pointwise}
 use Rattle.std.specs.Fmt.{decimal}

@@ -114,7 +114,8 @@ impl IndexVersion {
 }
 
 fn copied_text(text: Option<&String>) -> Result<Option<String>, AllocError>
-    ensures { IfOk result (λ o. option_map string_bytes o ≡ option_map string_bytes (option_copied text.entry)) }
+    ensures { IfOk result (λ o. option_map string_bytes o
+        ≡ option_map string_bytes (option_copied text.entry)) }
 {
     match text {
         Some(text) => Ok(Some(text.clone()?)),

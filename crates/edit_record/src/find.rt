@@ -1,9 +1,9 @@
 //! The choice of a version among the entries of an index.
 ghost use Rattle.std.specs.Prelude.{◌≡◌, ℕ, List, None, Some, Ok, not, IfOk, IfErr, IsTrue, map, option_and_then, option_copied, option_map, string_bytes};
 ghost use Rattle.edit_document.specs.Errors.{IsMemory};
-ghost use Rattle.edit_record.specs.Admissible.{admissible, asked_rust, candidate_in, entry_order, is_kept, is_too_new, is_wanted, kept_in, version_in, version_read};
+ghost use Rattle.edit_record.specs.Admissible.{admissible, asked_rust, candidate_in, entry_order, is_kept, is_too_new, kept_in, version_in, version_read};
 ghost use Rattle.edit_record.specs.Admits.{admits};
-ghost use Rattle.edit_record.specs.Candidates.{candidate_view};
+ghost use Rattle.edit_record.specs.Candidates.{candidate_view, numbers_in, wants};
 ghost use Rattle.edit_record.specs.Finding.{IsFound, IsFoundAtLeast};
 ghost use Rattle.edit_record.specs.Greatest.{IsGreatest, IsGreatestKept, advance, pick};
 ghost use Rattle.edit_record.specs.IndexEntry.{IndexEntry, entry_of};
@@ -35,7 +35,7 @@ pub struct Candidate {
 impl Candidate {
     /// Whether the Rust version that the entry asks for is not above a given one, where there are both.
     pub fn is_for(&self, rust_version: Option<RustVersion>) -> bool
-        ensures { result ≡ not (is_too_new (option_map numbers_of self.now.rust_version) (option_map numbers_of rust_version)) }
+        ensures { result ≡ not (is_too_new (numbers_in self.now.rust_version) (numbers_in rust_version)) }
     {
         is_for(self.rust_version, rust_version)
     }
@@ -43,7 +43,7 @@ impl Candidate {
 
 /// Whether the Rust version that is asked for is not above the given one, where there are both.
 pub fn is_for(asked: Option<RustVersion>, given: Option<RustVersion>) -> bool
-    ensures { result ≡ not (is_too_new (option_map numbers_of asked) (option_map numbers_of given)) }
+    ensures { result ≡ not (is_too_new (numbers_in asked) (numbers_in given)) }
 {
     match (asked, given) {
         (Some(asked), Some(given)) => asked <= given,
@@ -109,7 +109,8 @@ pub fn read_candidate(alloc: Global, told: &IndexVersion) -> CargoResult<Option<
 
 /// The dependency on the version that an entry tells of.
 pub fn dependency_on(alloc: Global, told: &IndexVersion) -> CargoResult<Dependency>
-    ensures ok { IfOk result (λ d. IsRegistryDependency (string_bytes told.now.name) (string_bytes told.now.version) d) }
+    ensures ok { IfOk result
+        (IsRegistryDependency (string_bytes told.now.name) (string_bytes told.now.version)) }
     ensures refused { IfErr result IsMemory }
 {
     let source = RegistrySource::new(alloc, told.version.as_str())?;
@@ -119,7 +120,7 @@ pub fn dependency_on(alloc: Global, told: &IndexVersion) -> CargoResult<Dependen
 
 /// Whether a version is wanted: a requirement admits it, or without one, it may have its pre-release.
 pub fn is_wanted(version: &Version, allow_prerelease: bool, req: Option<&VersionReq>) -> bool
-    ensures { result ≡ is_wanted allow_prerelease (option_map comparators_of (option_copied req.entry)) (parts_of version.now) }
+    ensures { result ≡ wants allow_prerelease req.entry (parts_of version.now) }
 {
     match req {
         Some(req) => admits(req, version),
@@ -135,8 +136,8 @@ fn kept_version(
     req: Option<&VersionReq>,
     rust_version: Option<RustVersion>,
 ) -> CargoResult<Option<Version>>
-    ensures ok { IfOk result (λ o. option_map parts_of o ≡ kept_in (option_map numbers_of rust_version)
-        (is_wanted allow_prerelease (option_map comparators_of (option_copied req.entry))) (entry_of told.now)) }
+    ensures ok { IfOk result (λ o. option_map parts_of o ≡ kept_in (numbers_in rust_version)
+        (wants allow_prerelease req.entry) (entry_of told.now)) }
     ensures refused { IfErr result IsMemory }
 {
     let Some(candidate) = read_candidate(alloc, told)? else {
@@ -157,8 +158,8 @@ fn greatest_entry<'a>(
     rust_version: Option<RustVersion>,
 ) -> CargoResult<Option<&'a IndexVersion>>
     ensures ok { IfOk result (λ o. IsGreatest
-        (is_kept (option_map numbers_of rust_version)
-        (is_wanted allow_prerelease (option_map comparators_of (option_copied req.entry))))
+        (is_kept (numbers_in rust_version)
+        (wants allow_prerelease req.entry))
         entry_order (map entry_of versions.now) (option_map (λ t. entry_of t.now) o)) }
     ensures refused { IfErr result IsMemory }
 {
@@ -180,8 +181,8 @@ fn find_version(
     req: Option<&VersionReq>,
     rust_version: Option<RustVersion>,
 ) -> CargoResult<Option<Dependency>>
-    ensures ok { IfOk result (λ o. IsFound (option_map numbers_of rust_version)
-        (is_wanted allow_prerelease (option_map comparators_of (option_copied req.entry)))
+    ensures ok { IfOk result (λ o. IsFound (numbers_in rust_version)
+        (wants allow_prerelease req.entry)
         (map entry_of versions.now) o) }
     ensures refused { IfErr result IsMemory }
 {
@@ -199,11 +200,16 @@ pub fn find_latest_version(
     allow_prerelease: bool,
     rust_version: Option<RustVersion>,
 ) -> CargoResult<Option<Dependency>>
-    ensures ok { IfOk result (λ o. IsFound (option_map numbers_of rust_version) (is_allowed allow_prerelease) (map entry_of versions.now) o) }
-    // where a requirement has a greatest version, this one is not less, if pre-releases are allowed where the requirement has a `-`
-    ensures at_least { IfOk result (λ o. (req : List ℕ) → (IsTrue (holds_dash req) → IsTrue allow_prerelease) → (e : IndexEntry)
-        → IsGreatestKept (is_kept (option_map numbers_of rust_version) (is_admitted req)) entry_order (map entry_of versions.now) e
-        → IsFoundAtLeast (option_map numbers_of rust_version) (is_allowed allow_prerelease) (map entry_of versions.now) e o) }
+    ensures ok { IfOk result (IsFound (numbers_in rust_version) (is_allowed allow_prerelease)
+        (map entry_of versions.now)) }
+    // where a requirement has a greatest version, this one is not less, if pre-releases are allowed where
+    // the requirement has a `-`
+    ensures at_least { IfOk result (λ o. (req : List ℕ) → (IsTrue (holds_dash req) → IsTrue allow_prerelease)
+        → (e : IndexEntry)
+        → IsGreatestKept (is_kept (numbers_in rust_version) (is_admitted req)) entry_order
+        (map entry_of versions.now) e
+        → IsFoundAtLeast (numbers_in rust_version) (is_allowed allow_prerelease)
+        (map entry_of versions.now) e o) }
     ensures refused { IfErr result IsMemory }
 {
     find_version(alloc, versions, allow_prerelease, None, rust_version)
@@ -217,8 +223,8 @@ pub fn find_compatible_version(
     version_req: &VersionReq,
     rust_version: Option<RustVersion>,
 ) -> CargoResult<Option<Dependency>>
-    ensures ok { IfOk result (λ o. IsFound (option_map numbers_of rust_version) (admits (comparators_of version_req.now))
-        (map entry_of versions.now) o) }
+    ensures ok { IfOk result (IsFound (numbers_in rust_version) (admits (comparators_of version_req.now))
+        (map entry_of versions.now)) }
     ensures refused { IfErr result IsMemory }
 {
     find_version(alloc, versions, false, Some(version_req), rust_version)
@@ -241,7 +247,9 @@ fn is_below(version: &Version, other: &Version) -> bool
 
 // The later of two entries that is not below the other.
 fn later<'a>(best: Option<Found<'a>>, found: Found<'a>) -> Found<'a>
-    ensures { entry_of result.told.now ≡ pick entry_order (option_map (λ f. entry_of f.told.now) best.entry) (entry_of found.entry.told.now) }
+    ensures { entry_of result.told.now
+        ≡ pick entry_order (option_map (λ f. entry_of f.told.now) best.entry)
+        (entry_of found.entry.told.now) }
 {
     match best {
         Some(old) => {
@@ -265,8 +273,8 @@ fn advanced<'a>(
     rust_version: Option<RustVersion>,
 ) -> CargoResult<Option<Found<'a>>>
     ensures ok { IfOk result (λ o. option_map (λ f. entry_of f.told.now) o ≡ advance
-        (is_kept (option_map numbers_of rust_version)
-        (is_wanted allow_prerelease (option_map comparators_of (option_copied req.entry))))
+        (is_kept (numbers_in rust_version)
+        (wants allow_prerelease req.entry))
         entry_order (option_map (λ f. entry_of f.told.now) best.entry) (entry_of told.now)) }
     ensures refused { IfErr result IsMemory }
 {

@@ -152,10 +152,12 @@ pub fn upgrade_requirement(
     ensures settled { IsReadable (parts_of version.now)
         → IfOk result (λ o. IsSettled (text_after o req.now) (parts_of version.now)) }
     // it admits the version, if that has no pre-release or `req` has comparators, all of three numbers;
-    ensures reach { IsReadable (parts_of version.now) → IfOk result (λ o. CanReach req.now (parts_of version.now)
+    ensures reach { IsReadable (parts_of version.now)
+        → IfOk result (λ o. CanReach req.now (parts_of version.now)
         → Admits (text_after o req.now) (parts_of version.now)) }
     // it admits nothing that `req` does not, if `req` admits the version;
-    ensures narrower { IsReadable (parts_of version.now) → IfOk result (λ o. Admits req.now (parts_of version.now)
+    ensures narrower { IsReadable (parts_of version.now)
+        → IfOk result (λ o. Admits req.now (parts_of version.now)
         → IsNarrower req.now (text_after o req.now) (parts_of version.now)) }
     // the operators stay, and a `-` stays where the version has a pre-release;
     ensures form { IsReadable (parts_of version.now)

@@ -25,7 +25,8 @@ IsRankedAt None None = Unit {0}
 IsRankedAt None (Some ranked) = ⊥
 IsRankedAt (Some answer) ranked = IsRanked answer ranked
 
-pub FitsAnswer-prop : (answer : Option IndexKrate) (ranked : Option Ranked) → IsProp (FitsAnswer answer ranked)
+pub FitsAnswer-prop : (answer : Option IndexKrate) (ranked : Option Ranked)
+    → IsProp (FitsAnswer answer ranked)
 FitsAnswer-prop answer None = hlevel
 FitsAnswer-prop None (Some ranked) = hlevel
 FitsAnswer-prop (Some krate) (Some ranked) = hlevel props

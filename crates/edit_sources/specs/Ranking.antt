@@ -22,7 +22,12 @@ pub record Ranking : Type 0 where
 
 -- a rank, as clauses see it (own)
 abbrev pub rank_of : Rank → Ranking
-rank_of r = record { place = r.place.0; entry = entry_of r.told; version = parts_of r.version.0; rust_version = option_map numbers_of r.rust_version }
+rank_of r = record {
+  place = r.place.0;
+  entry = entry_of r.told;
+  version = parts_of r.version.0;
+  rust_version = option_map numbers_of r.rust_version;
+}
 
 -- the ranks of a ranking, from the first (own)
 abbrev pub ranks_of : Ranked → List Ranking
@@ -39,7 +44,8 @@ pub record Tells (entries : List IndexEntry) (r : Ranking) : Type 0 where
 
 -- each entry that is readable and not yanked has a rank (own)
 abbrev pub HasEach : List IndexEntry → List Ranking → Type 0
-HasEach entries ranks = (i : ℕ) → IsSome (option_and_then candidate_in (slice_get entries i)) → list_any (λ r. r.place == i) ranks ≡ true
+HasEach entries ranks = (i : ℕ) → IsSome (option_and_then candidate_in (slice_get entries i))
+    → list_any (λ r. r.place == i) ranks ≡ true
 
 -- each rank comes before each later one, so that no entry has two (own)
 abbrev pub IsInOrder : List Ranking → Type 0
@@ -50,6 +56,10 @@ pub record IsRanking (entries : List IndexEntry) (ranks : List Ranking) : Type 0
   pub tells : All (Tells entries) ranks
   pub each : HasEach entries ranks
   pub order : IsInOrder ranks
+
+-- what holds of each list of entries of which this is the ranking (own)
+abbrev pub OfEntries : Ranked → (List IndexEntry → Type 0) → Type 0
+OfEntries ranked P = (entries : List IndexEntry) → IsRanking entries (ranks_of ranked) → P entries
 
 -- whether a rank is for a Rust version and passes a test of its version (own)
 abbrev pub passes : Option Numbers → (Parts → Bool) → Ranking → Bool

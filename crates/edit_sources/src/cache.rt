@@ -4,7 +4,7 @@ ghost use Rattle.std.specs.BTreeMap.{get_by_text};
 ghost use Rattle.url.specs.Parts.{serialize};
 ghost use Rattle.edit_document.specs.Errors.{IsMemory};
 ghost use Rattle.edit_sources.specs.Index.{answer_of};
-ghost use Rattle.edit_sources.specs.IndexCache.{Fetches, IsMissed, Ranks, SameKept, SameKeptBut, has_version, index_of, kept_at, krate_at, ranking_at};
+ghost use Rattle.edit_sources.specs.IndexCache.{Fetches, IsMissed, Ranks, SameKept, SameKeptBut, has_version, index_of, kept_at, krate_at, ranking_at, told_at};
 ghost use Rattle.edit_sources.specs.Kept.{IsRanked, IsRankedAt};
 
 use crate::index::{Index, IndexKrate};
@@ -57,8 +57,7 @@ impl<I: Index> IndexCache<I> {
 
     /// The answer that is kept, if one is.
     fn kept(&self, address: &str, name: &str) -> Option<&Kept>
-        ensures answer { option_map (λ kept. kept.answer) (option_copied result) ≡ kept_at self.now address.now name.now }
-        ensures ranked { option_and_then (λ kept. kept.ranked) (option_copied result) ≡ ranking_at self.now address.now name.now }
+        ensures { option_copied result ≡ told_at self.now address.now name.now }
     {
         self.answers.get(address)?.get(name)
     }
@@ -115,7 +114,7 @@ impl<I: Index> IndexCache<I> {
     ///
     /// Refused as a look of the index is, or for want of memory; then no answer is added.
     pub fn fetch(&mut self, alloc: Global, registry: &Url, name: &str) -> CargoResult<()>
-        ensures { Fetches (I.gives (index_of self.old)) (I.gives (index_of self.new)) (I.faults (index_of self.old)) (I.faults (index_of self.new)) registry.now name.now self.old self.new result }
+        ensures { Fetches I.gives I.faults registry.now name.now self.old self.new result }
     {
         if self.kept(registry.as_str(), name).is_some() {
             return Ok(());
@@ -134,11 +133,14 @@ impl<I: Index> IndexCache<I> {
         registry: &Url,
         name: &str,
     ) -> CargoResult<Option<&IndexKrate>>
-        ensures kept { IfOk result (λ o. IfSome (kept_at self.old (serialize registry.now) name.now) (λ k. option_copied o ≡ k)) }
-        ensures given { kept_at self.old (serialize registry.now) name.now ≡ None → IfOk result (λ o. I.gives (index_of self.old) registry.now name.now (Ok (answer_of (option_copied o)))) }
+        ensures kept { IfOk result (λ o. IfSome (kept_at self.old (serialize registry.now) name.now)
+            (λ k. option_copied o ≡ k)) }
+        ensures given { kept_at self.old (serialize registry.now) name.now ≡ None → IfOk result
+            (λ o. I.gives (index_of self.old) registry.now name.now (Ok (answer_of (option_copied o)))) }
         // a kept answer is never refused
         ensures kept_answers { IsSome (kept_at self.old (serialize registry.now) name.now) → IsOk result }
-        ensures refused { IfErr result (IsMissed (I.gives (index_of self.old)) registry.now name.now (kept_at self.old (serialize registry.now) name.now)) }
+        ensures refused { IfErr result (IsMissed (I.gives (index_of self.old)) registry.now name.now
+            (kept_at self.old (serialize registry.now) name.now)) }
     {
         match self.fetch(alloc, registry, name) {
             Ok(()) => Ok(self.shown(registry, name)),
@@ -148,8 +150,9 @@ impl<I: Index> IndexCache<I> {
 
     /// Whether the index has a name.
     pub fn has_krate(&mut self, alloc: Global, registry: &Url, name: &str) -> CargoResult<bool>
-        ensures answer { IfOk result (λ b. IsTrue b ↔ IsSome (krate_at self.new (serialize registry.now) name.now)) }
-        ensures fetched { Fetches (I.gives (index_of self.old)) (I.gives (index_of self.new)) (I.faults (index_of self.old)) (I.faults (index_of self.new)) registry.now name.now self.old self.new result }
+        ensures answer { IfOk result (λ b. IsTrue b
+            ↔ IsSome (krate_at self.new (serialize registry.now) name.now)) }
+        ensures fetched { Fetches I.gives I.faults registry.now name.now self.old self.new result }
     {
         match self.fetch(alloc, registry, name) {
             Ok(()) => Ok(self.shown(registry, name).is_some()),
@@ -165,8 +168,9 @@ impl<I: Index> IndexCache<I> {
         name: &str,
         version: &str,
     ) -> CargoResult<Option<bool>>
-        ensures answer { IfOk result (λ b. b ≡ option_map (λ k. has_version k version.now) (krate_at self.new (serialize registry.now) name.now)) }
-        ensures fetched { Fetches (I.gives (index_of self.old)) (I.gives (index_of self.new)) (I.faults (index_of self.old)) (I.faults (index_of self.new)) registry.now name.now self.old self.new result }
+        ensures answer { IfOk result (λ b. b ≡ option_map (λ k. has_version k version.now)
+            (krate_at self.new (serialize registry.now) name.now)) }
+        ensures fetched { Fetches I.gives I.faults registry.now name.now self.old self.new result }
     {
         match self.fetch(alloc, registry, name) {
             Ok(()) => Ok(holds_version(self.shown(registry, name), version)),
@@ -179,7 +183,7 @@ impl<I: Index> IndexCache<I> {
     /// Refused as `fetch` is. Want of memory while ranking leaves the answer and no ranking; a later
     /// call ranks.
     pub fn rank(&mut self, alloc: Global, registry: &Url, name: &str) -> CargoResult<()>
-        ensures { Ranks (I.gives (index_of self.old)) (I.gives (index_of self.new)) (I.faults (index_of self.old)) (I.faults (index_of self.new)) registry.now name.now self.old self.new result }
+        ensures { Ranks I.gives I.faults registry.now name.now self.old self.new result }
     {
         match self.fetch(alloc, registry, name) {
             Ok(()) => self.rank_kept(alloc, registry, name),
@@ -201,7 +205,8 @@ impl<I: Index> IndexCache<I> {
     fn rank_at(&mut self, alloc: Global, address: &str, name: &str) -> CargoResult<()>
         ensures index { self.new.index ≡ self.old.index }
         ensures kept { SameKept self.old self.new }
-        ensures ranked { OnOk result (IsRankedAt (kept_at self.new address.now name.now) (ranking_at self.new address.now name.now)) }
+        ensures ranked { OnOk result (IsRankedAt (kept_at self.new address.now name.now)
+            (ranking_at self.new address.now name.now)) }
         ensures refused { IfErr result IsMemory }
     {
         let Some(names) = self.answers.get_mut(address) else {
@@ -231,11 +236,17 @@ impl<I: Index> IndexCache<I> {
         registry: &Url,
         name: &str,
     ) -> CargoResult<Option<&Ranked>>
-        ensures kept { IfOk result (λ o. IfSome (kept_at self.old (serialize registry.now) name.now) (λ k. IsRanked k (option_copied o))) }
-        ensures given { kept_at self.old (serialize registry.now) name.now ≡ None → IfOk result (λ o. (k : Option IndexKrate) × I.gives (index_of self.old) registry.now name.now (Ok (answer_of k)) × IsRanked k (option_copied o)) }
+        ensures kept { IfOk result (λ o. IfSome (kept_at self.old (serialize registry.now) name.now)
+            (λ k. IsRanked k (option_copied o))) }
+        ensures given { kept_at self.old (serialize registry.now) name.now ≡ None → IfOk result
+            (λ o. (k : Option IndexKrate)
+            × I.gives (index_of self.old) registry.now name.now (Ok (answer_of k))
+            × IsRanked k (option_copied o)) }
         // a kept answer is refused only for want of memory while it is ranked
-        ensures kept_answers { IsSome (kept_at self.old (serialize registry.now) name.now) → IfErr result IsMemory }
-        ensures refused { IfErr result (IsMissed (I.gives (index_of self.old)) registry.now name.now (kept_at self.old (serialize registry.now) name.now)) }
+        ensures kept_answers { IsSome (kept_at self.old (serialize registry.now) name.now)
+            → IfErr result IsMemory }
+        ensures refused { IfErr result (IsMissed (I.gives (index_of self.old)) registry.now name.now
+            (kept_at self.old (serialize registry.now) name.now)) }
     {
         match self.rank(alloc, registry, name) {
             Ok(()) => Ok(self.shown_ranking(registry, name)),

@@ -4,8 +4,9 @@ ghost use Rattle.std.specs.List.{find};
 ghost use Rattle.semver.specs.Identifiers.{parts_of};
 ghost use Rattle.semver.specs.Parse.{Parts};
 ghost use Rattle.edit_document.specs.Errors.{IsMemory};
-ghost use Rattle.edit_record.specs.Admissible.{admissible_in, entry_order, is_kept, is_wanted};
+ghost use Rattle.edit_record.specs.Admissible.{admissible_in, entry_order, is_kept};
 ghost use Rattle.edit_record.specs.Admits.{admits};
+ghost use Rattle.edit_record.specs.Candidates.{numbers_in, parts_in, wants};
 ghost use Rattle.edit_record.specs.Finding.{IsFound, IsFoundAtLeast};
 ghost use Rattle.edit_record.specs.Greatest.{IsGreatest, IsGreatestKept};
 ghost use Rattle.edit_record.specs.IndexEntry.{IndexEntry, entry_of};
@@ -45,7 +46,8 @@ fn push_rank(
     place: usize,
     told: &IndexVersion,
 ) -> CargoResult<()>
-    ensures ok { OnOk result (map rank_of ranks.new.items ≡ map rank_of ranks.old.items ++ rank_at place (entry_of told.now)) }
+    ensures ok { OnOk result (map rank_of ranks.new.items
+        ≡ map rank_of ranks.old.items ++ rank_at place (entry_of told.now)) }
     ensures refused { IfErr result IsMemory }
 {
     let Some(candidate) = read_candidate(alloc, told)? else {
@@ -80,7 +82,9 @@ fn first_wanted<'a>(
     req: Option<&VersionReq>,
     rust_version: Option<RustVersion>,
 ) -> Option<&'a Rank>
-    ensures { option_copied result ≡ find (λ r. passes (option_map numbers_of rust_version) (is_wanted allow_prerelease (option_map comparators_of (option_copied req.entry))) (rank_of r)) ranks.now }
+    ensures { option_copied result
+        ≡ find (λ r. passes (numbers_in rust_version) (wants allow_prerelease req.entry) (rank_of r))
+        ranks.now }
 {
     ranks
         .iter()
@@ -93,7 +97,8 @@ fn is_first(
     req: Option<&VersionReq>,
     rust_version: Option<RustVersion>,
 ) -> bool
-    ensures { result ≡ passes (option_map numbers_of rust_version) (is_wanted allow_prerelease (option_map comparators_of (option_copied req.entry))) (rank_of rank.now) }
+    ensures { result
+        ≡ passes (numbers_in rust_version) (wants allow_prerelease req.entry) (rank_of rank.now) }
 {
     is_for(rank.rust_version, rust_version) && is_wanted(&rank.version.0, allow_prerelease, req)
 }
@@ -106,7 +111,7 @@ pub struct Ranked {
 }
 
 impl Ranked {
-    ghost use Rattle.edit_sources.specs.Ranking.{IsRanking, ranks_of};
+    ghost use Rattle.edit_sources.specs.Ranking.{IsRanking, OfEntries, ranks_of};
 
     /// Ranks entries.
     pub fn new(alloc: Global, entries: &[IndexVersion]) -> CargoResult<Ranked>
@@ -120,7 +125,7 @@ impl Ranked {
 
     /// The version of a rank, from 0; none past the last.
     pub fn version(&self, n: usize) -> Option<&Version>
-        ensures { option_map parts_of (option_copied result) ≡ option_map (λ r. r.version) (slice_get (ranks_of self.now) n) }
+        ensures { parts_in result ≡ option_map (λ r. r.version) (slice_get (ranks_of self.now) n) }
     {
         match self.ranks.get(n) {
             Some(rank) => Some(&rank.version.0),
@@ -135,9 +140,8 @@ impl Ranked {
         req: Option<&VersionReq>,
         rust_version: Option<RustVersion>,
     ) -> Option<&Version>
-        ensures { (entries : List IndexEntry) → IsRanking entries (ranks_of self.now)
-            → IsGreatest (is_wanted allow_prerelease (option_map comparators_of (option_copied req.entry))) full_order
-            (admissible_in (option_map numbers_of rust_version) entries) (option_map parts_of (option_copied result)) }
+        ensures { OfEntries self.now (λ entries. IsGreatest (wants allow_prerelease req.entry) full_order
+            (admissible_in (numbers_in rust_version) entries) (parts_in result)) }
     {
         match first_wanted(&self.ranks, allow_prerelease, req, rust_version) {
             Some(rank) => Some(&rank.version.0),
@@ -152,9 +156,8 @@ impl Ranked {
         allow_prerelease: bool,
         rust_version: Option<RustVersion>,
     ) -> Option<&Version>
-        ensures { (entries : List IndexEntry) → IsRanking entries (ranks_of self.now)
-            → IsGreatest (is_allowed allow_prerelease) full_order
-            (admissible_in (option_map numbers_of rust_version) entries) (option_map parts_of (option_copied result)) }
+        ensures { OfEntries self.now (λ entries. IsGreatest (is_allowed allow_prerelease) full_order
+            (admissible_in (numbers_in rust_version) entries) (parts_in result)) }
     {
         self.best_version(allow_prerelease, None, rust_version)
     }
@@ -165,9 +168,9 @@ impl Ranked {
         version_req: &VersionReq,
         rust_version: Option<RustVersion>,
     ) -> Option<&Version>
-        ensures { (entries : List IndexEntry) → IsRanking entries (ranks_of self.now)
-            → IsGreatest (admits (comparators_of version_req.now)) full_order
-            (admissible_in (option_map numbers_of rust_version) entries) (option_map parts_of (option_copied result)) }
+        ensures { OfEntries self.now (λ entries.
+            IsGreatest (admits (comparators_of version_req.now)) full_order
+            (admissible_in (numbers_in rust_version) entries) (parts_in result)) }
     {
         self.best_version(false, Some(version_req), rust_version)
     }
@@ -180,7 +183,8 @@ impl Ranked {
         req: Option<&VersionReq>,
         rust_version: Option<RustVersion>,
     ) -> CargoResult<Option<Dependency>>
-        ensures found { (entries : List IndexEntry) → IsRanking entries (ranks_of self.now) → IfOk result (IsFound (option_map numbers_of rust_version) (is_wanted allow_prerelease (option_map comparators_of (option_copied req.entry))) entries) }
+        ensures found { OfEntries self.now (λ entries.
+            IfOk result (IsFound (numbers_in rust_version) (wants allow_prerelease req.entry) entries)) }
         ensures refused { IfErr result IsMemory }
     {
         match first_wanted(&self.ranks, allow_prerelease, req, rust_version) {
@@ -196,11 +200,14 @@ impl Ranked {
         allow_prerelease: bool,
         rust_version: Option<RustVersion>,
     ) -> CargoResult<Option<Dependency>>
-        ensures found { (entries : List IndexEntry) → IsRanking entries (ranks_of self.now) → IfOk result (IsFound (option_map numbers_of rust_version) (is_allowed allow_prerelease) entries) }
-        // where a requirement has a greatest version, this one is not less, if pre-releases are allowed where the requirement has a `-`
-        ensures at_least { (entries : List IndexEntry) → IsRanking entries (ranks_of self.now) → IfOk result (λ o. (req : List ℕ) → (IsTrue (holds_dash req) → IsTrue allow_prerelease) → (e : IndexEntry)
-            → IsGreatestKept (is_kept (option_map numbers_of rust_version) (is_admitted req)) entry_order entries e
-            → IsFoundAtLeast (option_map numbers_of rust_version) (is_allowed allow_prerelease) entries e o) }
+        ensures found { OfEntries self.now (λ entries.
+            IfOk result (IsFound (numbers_in rust_version) (is_allowed allow_prerelease) entries)) }
+        // where a requirement has a greatest version, this one is not less, if pre-releases are allowed
+        // where the requirement has a `-`
+        ensures at_least { OfEntries self.now (λ entries. IfOk result (λ o.
+            (req : List ℕ) → (IsTrue (holds_dash req) → IsTrue allow_prerelease) → (e : IndexEntry)
+            → IsGreatestKept (is_kept (numbers_in rust_version) (is_admitted req)) entry_order entries e
+            → IsFoundAtLeast (numbers_in rust_version) (is_allowed allow_prerelease) entries e o)) }
         ensures refused { IfErr result IsMemory }
     {
         self.best(alloc, allow_prerelease, None, rust_version)
@@ -213,7 +220,9 @@ impl Ranked {
         version_req: &VersionReq,
         rust_version: Option<RustVersion>,
     ) -> CargoResult<Option<Dependency>>
-        ensures found { (entries : List IndexEntry) → IsRanking entries (ranks_of self.now) → IfOk result (IsFound (option_map numbers_of rust_version) (admits (comparators_of version_req.now)) entries) }
+        ensures found { OfEntries self.now (λ entries.
+            IfOk result (IsFound (numbers_in rust_version) (admits (comparators_of version_req.now))
+            entries)) }
         ensures refused { IfErr result IsMemory }
     {
         self.best(alloc, false, Some(version_req), rust_version)
