@@ -79,17 +79,12 @@ pub mod Contents
 pub mod Kept
 pub mod NameLists
 pub mod StandardFacts
-pub mod NumberFacts
-pub mod ArrayFacts
-pub mod MultiFacts
-pub mod KeyFacts
 pub mod ShownForms
 pub mod ReplacedDocuments
 pub mod Walking
 pub mod Closing
 pub mod TextTokens
 pub mod Documents
-pub mod StandingFacts
 pub mod FromReader
 pub mod OnTexts
 pub mod StandardKeys

@@ -170,3 +170,23 @@ pub apostrophes_at_both_ends : Shows (codes "str = ''''That,' she said, 'is stil
     (key (codes "str") ∷ []) (string (codes "'That,' she said, 'is still pointless.'"))
 unfolding on_texts
 apostrophes_at_both_ends = shows (codes "str = ''''That,' she said, 'is still pointless.''''") (key (codes "str") ∷ []) (string (codes "'That,' she said, 'is still pointless.'")) refl refl
+
+-- "Keys": a dotted key without a part
+pub key_without_a_part : IsNone (codes "a..b = true")
+unfolding on_texts
+key_without_a_part = is_none (codes "a..b = true") refl refl
+
+-- "String": an unknown escape
+pub unknown_escape : IsNone (codes "str = \"\\q\"")
+unfolding on_texts
+unknown_escape = is_none (codes "str = \"\\q\"") refl refl
+
+-- "String": an escape that is no scalar value
+pub surrogate_escape : IsNone (codes "str = \"\\uD800\"")
+unfolding on_texts
+surrogate_escape = is_none (codes "str = \"\\uD800\"") refl refl
+
+-- "String": a backslash before a blank
+pub backslash_before_a_blank : IsNone (codes "s = \"\"\"a \\ b\"\"\"")
+unfolding on_texts
+backslash_before_a_blank = is_none (codes "s = \"\"\"a \\ b\"\"\"") refl refl

@@ -137,3 +137,48 @@ pub array_over_lines : Shows (codes "integers2 = [\n  1, 2, 3\n]\n\nintegers3 = 
     (key (codes "integers3") ∷ []) (static_array 2)
 unfolding on_texts
 array_over_lines = shows (codes "integers2 = [\n  1, 2, 3\n]\n\nintegers3 = [\n  1,\n  2, # this is ok\n]") (key (codes "integers3") ∷ []) (static_array 2) refl refl
+
+-- "Integer": a leading zero
+pub leading_zero : IsNone (codes "n = 01")
+unfolding on_texts
+leading_zero = is_none (codes "n = 01") refl refl
+
+-- "Integer": a sign before a prefix
+pub signed_prefix : IsNone (codes "n = +0x1")
+unfolding on_texts
+signed_prefix = is_none (codes "n = +0x1") refl refl
+
+-- "Integer": two underscores
+pub two_underscores : IsNone (codes "n = 1__0")
+unfolding on_texts
+two_underscores = is_none (codes "n = 1__0") refl refl
+
+-- "Local Date": a month of one digit
+pub short_month : IsNone (codes "d = 1979-5-27")
+unfolding on_texts
+short_month = is_none (codes "d = 1979-5-27") refl refl
+
+-- "Offset Date-Time": an offset of one digit
+pub short_offset : IsNone (codes "d = 1979-05-27T07:32:00+7")
+unfolding on_texts
+short_offset = is_none (codes "d = 1979-05-27T07:32:00+7") refl refl
+
+-- "Array": a comma alone
+pub comma_alone : IsNone (codes "a = [,]")
+unfolding on_texts
+comma_alone = is_none (codes "a = [,]") refl refl
+
+-- "Array": no comma
+pub no_comma : IsNone (codes "a = [1 2]")
+unfolding on_texts
+no_comma = is_none (codes "a = [1 2]") refl refl
+
+-- "Array": two commas
+pub two_commas : IsNone (codes "a = [1,,2]")
+unfolding on_texts
+two_commas = is_none (codes "a = [1,,2]") refl refl
+
+-- "Array": no end
+pub no_end : IsNone (codes "a = [")
+unfolding on_texts
+no_end = is_none (codes "a = [") refl refl

@@ -1,5 +1,6 @@
 -- Assertions of which some leaves have other values, and from which what stood below these is gone.
 use Rattle.std.proofs.Common.{◌≡◌, ℕ, suc, Bool, true, false, ◌||◌, cond, List, [], ◌∷◌, ◌++◌, map, Option, None, Some, refl, sym, ap, ◌∙◌, subst, append_assoc}
+use Rattle.std.proofs.lemmas.Bool.{or_left, or_right}
 use Rattle.std.specs.List.{AllByRecursion}
 use Rattle.edit_document.specs.Strings.{Key}
 use Rattle.edit_document.specs.Grammar.{Value, basic, literal, multi_basic, multi_literal, boolean, integer, float, datetime, array, inline, Elements, no_elements, last_element, element, Members, no_members, last_member, member}
@@ -85,13 +86,6 @@ mutual
       lost_append target _ _ (lost_append target _ _ (lost_key target true (named p (names k)) p (names k) v e) (lost_value target (named p (names k)) v (within_named target p (names k) e))) (lost_members target p ms e)
 
 -- ---- where a text is written, what stood below is gone
-
-or_left : (a b : Bool) → a ≡ true → (a || b) ≡ true
-or_left a b e = ap (λ c. c || b) e
-
-or_right : (a b : Bool) → b ≡ true → (a || b) ≡ true
-or_right true b e = refl
-or_right false b e = e
 
 pub edited_below : (edits : Edits) (p q : Place) (said : List ℕ) → new_text edits p ≡ Some said → is_below p q ≡ true → is_below_any edits q ≡ true
 edited_below [] p q said e low = absurd cc
