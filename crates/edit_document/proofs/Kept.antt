@@ -1,11 +1,12 @@
 -- Strings, numbers, dates and times that a text says as they are written, and where they stand in it.
-use Rattle.std.proofs.Common.{◌≡◌, ℕ, ◌+◌, ◌-◌, ◌≤◌, Bool, true, false, ◌&&◌, cond, List, [], ◌++◌, length, length-append, get_or, refl, sym, ap, subst, ◌∙◌, ◌⊎◌, inl, inr, arith}
+use Rattle.std.proofs.Common.{◌≡◌, ℕ, ◌+◌, ◌-◌, ◌<◌, ◌≤◌, Bool, true, false, ◌&&◌, cond, List, [], ◌++◌, length, drop, length-append, get_or, refl, sym, ap, subst, ◌∙◌, ◌⊎◌, inl, inr, arith}
 use Rattle.std.specs.Prelude.{nat_le, slice_range, IsUtf8}
 use Rattle.std.specs.List.{prefix_len}
-use Rattle.std.specs.Str.{IsCharBoundary}
+use Rattle.std.specs.Str.{IsCharBoundary, bytes_eq}
 use Rattle.std.proofs.lemmas.Bool.{cases_lt}
 use Rattle.std.proofs.lemmas.Bool.Decides.{nat_tests}
-use Rattle.std.proofs.lemmas.List.{take_all, drop_all, get_or_past}
+use Rattle.std.proofs.lemmas.List.{take_all, drop_all, get_or_past, length-take-le, length-drop}
+use Rattle.std.proofs.lemmas.Slice.Eq.{bytes_eq-Decides}
 use Rattle.edit_document.specs.declared.nodes.Span.{Span}
 use Rattle.edit_document.specs.declared.read.marks.MarkKind.{MarkKind}
 use Rattle.edit_document.specs.declared.read.marks.MarkKind.TheVariants.{BasicPart, BasicString, Integer, Float, DateTime}
@@ -48,6 +49,34 @@ cut_none bytes i j not = go (nat_le i j) (is_boundary bytes i) (is_boundary byte
     go true true false e f g = refl
     go true false c e f g = refl
     go false b c e f g = refl
+
+-- what is cut out has as many bytes as lie between its ends, or none
+pub cut_length : (bytes : List ℕ) (i j n : ℕ) → length (cut_from bytes i j) ≡ n → 0 < n → n ≡ j - i
+cut_length bytes i j n long some = go (nat_le i j) (is_boundary bytes i) (is_boundary bytes j) refl refl refl long
+  where
+    none : 0 ≡ n → n ≡ j - i
+    none e = absurd (omega arith)
+
+    whole : is_boundary bytes j ≡ true → length (slice_range bytes i j) ≡ n → n ≡ j - i
+    whole at e =
+        let within = (boundary_from bytes j at).0 in
+        let size = length-drop i bytes in
+        let fits : j - i ≤ length (drop i bytes) = omega arith in
+        sym e ∙ length-take-le (j - i) (drop i bytes) fits
+
+    go : (a b c : Bool) → nat_le i j ≡ a → is_boundary bytes i ≡ b → is_boundary bytes j ≡ c → length (cond ((a && b) && c) (slice_range bytes i j) []) ≡ n → n ≡ j - i
+    go true true true e f g h = whole g h
+    go true true false e f g h = none h
+    go true false c e f g h = none h
+    go false b c e f g h = none h
+
+-- bytes that are equal have as many bytes
+pub unequal : (a b : List ℕ) (r : Bool) → (length b ≡ length a → r ≡ true) → r ≡ false → false ≡ bytes_eq a b
+unequal a b r long off = go (bytes_eq a b) refl
+  where
+    go : (x : Bool) → bytes_eq a b ≡ x → false ≡ x
+    go false e = refl
+    go true e = absurd (let clash : false ≡ true = sym off ∙ long (sym (ap length ((bytes_eq-Decides a b).0 e))) in cc)
 
 -- ---- contents that are kept
 

@@ -1,5 +1,5 @@
 //! The table of nodes of a document.
-ghost use Rattle.std.specs.Prelude.{◌≡◌, ℕ, List, [], ◌∷◌, ◌++◌, None, Some, IfOk, IfErr, if◌then◌else◌, length, option_map, slice_get, string_bytes, take};
+ghost use Rattle.std.specs.Prelude.{◌≡◌, ℕ, List, [], ◌∷◌, ◌++◌, None, Some, IfOk, IfErr, IsTrue, if◌then◌else◌, length, option_map, slice_get, string_bytes, take};
 ghost use Rattle.std.specs.BTreeMap.{get_by_text};
 ghost use Rattle.std.specs.Str.{bytes_eq};
 ghost use Rattle.edit_document.specs.Errors.{IsMemory};
@@ -130,7 +130,7 @@ fn number_among(text: &str, members: &[Member], name: &str) -> Option<usize>
     ensures { result ≡ number_in (entries_in text.now members.now) name.now }
 {
     'members: for member in members {
-        if name == words_in(text, &member.name) {
+        if is_named(text, &member.name, name) {
             return Some(member.number);
         }
     }
@@ -228,6 +228,38 @@ fn cut(text: &str, span: Span) -> &str
         &text[start..end]
     } else {
         ""
+    }
+}
+
+/// Whether what stands there may have so many bytes: as many as lie between its ends, or none.
+fn may_have(text: &str, span: Span, len: usize) -> bool
+    ensures { length (bytes_at text.now span) ≡ len → IsTrue result }
+{
+    if len == 0 {
+        return true;
+    }
+    let start = text.len().saturating_sub(span.from as usize);
+    let end = text.len().saturating_sub(span.to as usize);
+    end.saturating_sub(start) == len
+}
+
+/// Whether a name is what stands there in a text. Most names are told apart by their lengths.
+fn is_kept(text: &str, span: Span, name: &str) -> bool
+    ensures { result ≡ bytes_eq name.now (bytes_at text.now span) }
+{
+    if !may_have(text, span, name.len()) {
+        return false;
+    }
+    name == cut(text, span)
+}
+
+/// Whether a name is what these words of a text say.
+fn is_named(text: &str, words: &Words, name: &str) -> bool
+    ensures { result ≡ bytes_eq name.now (bytes_of text.now words.now) }
+{
+    match words {
+        Words::Kept(span) => is_kept(text, *span, name),
+        Words::Made(said) => name == said.as_str(),
     }
 }
 

@@ -10,8 +10,8 @@ use crate::read::decode::{content, content_span, is_plain, said};
 use crate::read::{Mark, MarkKind};
 use std::alloc::Global;
 
-/// What the token of a string or of a key's part says: where that is what is written, it stays in the text.
-pub(crate) fn words_of(alloc: Global, text: &str, mark: Mark) -> CargoResult<Words>
+/// What a token says that may have delimiters: where that is what is written, it stays in the text.
+fn delimited_words(alloc: Global, text: &str, mark: Mark) -> CargoResult<Words>
     ensures says { (name : List ℕ) → SaysAt text.now mark name → IfOk result (λ w. bytes_of text.now w ≡ name) }
     ensures refused { IfErr result IsMemory }
 {
@@ -20,6 +20,17 @@ pub(crate) fn words_of(alloc: Global, text: &str, mark: Mark) -> CargoResult<Wor
         Ok(Words::Kept(content_span(mark)))
     } else {
         Ok(Words::Made(Box::new(alloc, said(alloc, mark.kind, written)?)?))
+    }
+}
+
+/// What the token of a string or of a key's part says.
+pub(crate) fn words_of(alloc: Global, text: &str, mark: Mark) -> CargoResult<Words>
+    ensures says { (name : List ℕ) → SaysAt text.now mark name → IfOk result (λ w. bytes_of text.now w ≡ name) }
+    ensures refused { IfErr result IsMemory }
+{
+    match mark.kind {
+        MarkKind::BarePart => Ok(Words::Kept(content_span(mark))),
+        _ => delimited_words(alloc, text, mark),
     }
 }
 
