@@ -25,6 +25,10 @@ pub free : is_simple_and_free edit_app ≡ true
 unfolding edit_app
 free = refl
 
+-- words that are matched are taken
+pub taken_by : (app : App) (words : List Text) → app ≡ edit_app → (is_simple_and_free app ≡ true → fault_of app words ≡ []) → fault_of edit_app words ≡ []
+taken_by app words is taken = ap (λ (a : App). fault_of a words) (sym is) ∙ taken (ap is_simple_and_free is ∙ free)
+
 or_other : (o : Option (Bor (List ℕ))) (d : Bor (List ℕ)) → (unwrap_or o d).now ≡ unwrap_or (option_map (λ (s : Bor (List ℕ)). s.now) o) d.now
 or_other None d = refl
 or_other (Some s) d = refl
@@ -44,7 +48,7 @@ pub asks_for : (app : App) (words : List Text) (m sub : ArgMatches) (manifest in
     → index ≡ value_of (codes "index-file") (codes "index.json") (rows_of (found_of sub))
     → AsksFor words manifest index
 asks_for app words m sub manifest index is matches taken rows manifest_is index_is = record {
-  taken = ap (λ (a : App). fault_of a words) (sym is) ∙ taken (ap is_simple_and_free is ∙ free);
+  taken = taken_by app words is taken;
   rows = rows_of (found_of sub);
   entered =
       ap (λ (a : App). option_map (λ (p : Text × List Row). p.1) (subcommand_of a words)) (sym is)

@@ -7,15 +7,28 @@ use Rattle.clap.specs.declared.builder.value_parser.ValueParser.TheVariants.{Non
 -- an option that must be given, with one value, which is not the empty text
 abbrev pub option_rule : Text → Rule
 option_rule id =
-    record (new_rule id) { long = Some id; action = Some Set; value_names = 1; parser = Some NonEmptyString; required = true }
+    record (new_rule id) {
+      long = Some id;
+      action = Some Set;
+      value_names = 1;
+      parser = Some NonEmptyString;
+      required = true;
+    }
 
 -- the subcommand `upgrade`
 abbrev pub upgrade_app : App
-upgrade_app = with_rule (with_rule (new_app (codes "upgrade")) (option_rule (codes "manifest-path"))) (option_rule (codes "index-file"))
+upgrade_app =
+    with_rule (with_rule (new_app (codes "upgrade")) (option_rule (codes "manifest-path")))
+    (option_rule (codes "index-file"))
 
 -- the program's own settings
 abbrev pub top_shape : Shape
-top_shape = record (new_app (codes "cargo-edit")).top { no_binary_name = true; has_version = true; propagate_version = true; subcommand_required = true }
+top_shape = record (new_app (codes "cargo-edit")).top {
+  no_binary_name = true;
+  has_version = true;
+  propagate_version = true;
+  subcommand_required = true;
+}
 
 -- the program's command line
 unfoldable pub edit_app : App

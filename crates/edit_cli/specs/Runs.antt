@@ -1,5 +1,5 @@
 -- What a run of the program answers, and what it leaves of the files.
-use Rattle.std.specs.Prelude.{◌≡◌, ◌⊎◌, ℕ, List, Bool, Some, true, codes, option_map}
+use Rattle.std.specs.Prelude.{◌≡◌, ◌⊎◌, ℕ, List, [], Bool, Some, true, codes, option_map}
 use Rattle.clap.specs.Words.{IsAmong, fault_of, subcommand_of, takes}
 use Rattle.clap.specs.declared.error.kind.ErrorKind.{ErrorKind}
 use Rattle.clap.specs.declared.error.kind.ErrorKind.TheVariants.{DisplayHelp, DisplayVersion}
@@ -29,7 +29,7 @@ pub record HasCutShort (words : List (List ℕ)) (current : List ℕ) (old new :
 abbrev pub AreNotTaken : List (List ℕ) → Type 0
 AreNotTaken words = takes edit_app words ≡ true → ⊥
 
--- the status for a kind of what the command line says in place of matches: 0 for help and the version, else 2
+-- the status for a kind of what the command line says itself: 0 for help and the version, else 2
 abbrev pub status_of : ErrorKind → ℕ
 status_of DisplayHelp = 0
 status_of DisplayVersion = 0
@@ -42,13 +42,14 @@ pub record IsAnswered (words : List (List ℕ)) (status : ℕ) : Type 0 where
   pub among : IsAmong kind (fault_of edit_app words)
   pub is : status ≡ status_of kind
 
--- the words name no subcommand `upgrade`
-abbrev pub NameNoUpgrade : List (List ℕ) → Type 0
-NameNoUpgrade words = option_map (λ p. p.0) (subcommand_of edit_app words) ≡ Some (codes "upgrade") → ⊥
+-- the command line takes the words, and the subcommand that they name is not `upgrade`
+pub record NameAnother (words : List (List ℕ)) : Type 0 where
+  pub taken : fault_of edit_app words ≡ []
+  pub other : option_map (λ p. p.0) (subcommand_of edit_app words) ≡ Some (codes "upgrade") → ⊥
 
 -- a fault of the words: the command line refuses them, or they name another subcommand
 abbrev pub AreAtFault : List (List ℕ) → Type 0
-AreAtFault words = IsAnswered words 2 ⊎ NameNoUpgrade words
+AreAtFault words = IsAnswered words 2 ⊎ NameAnother words
 
 -- a run that is done: the manifest that the words name was upgraded, or help or the version was shown
 abbrev pub IsDone : List (List ℕ) → List ℕ → Files → Files → Type 0
@@ -59,7 +60,8 @@ abbrev pub IsRefused : List (List ℕ) → List ℕ → Files → Files → Type
 IsRefused words current old new = SameFiles old new ⊎ HasCutShort words current old new
 
 -- the upgrade that the words ask for was refused
-pub record HasUpgradeCause (words : List (List ℕ)) (current : List ℕ) (tells : Bool) (files : Files) (before now : ℕ) (e : Error) : Type 0 where
+pub record HasUpgradeCause (words : List (List ℕ)) (current : List ℕ) (tells : Bool) (files : Files)
+    (before now : ℕ) (e : Error) : Type 0 where
   pub manifest : List ℕ
   pub index : List ℕ
   pub asks : AsksFor words manifest index
@@ -68,4 +70,5 @@ pub record HasUpgradeCause (words : List (List ℕ)) (current : List ℕ) (tells
 -- why a run is refused: memory ran out, help or the version was not written, or the upgrade was refused
 abbrev pub IsRunCause : List (List ℕ) → List ℕ → Bool → Files → ℕ → ℕ → Error → Type 0
 IsRunCause words current tells files before now e =
-    IsMemory e ⊎ (((e ≡ Output) × IsAnswered words 0) ⊎ HasUpgradeCause words current tells files before now e)
+    IsMemory e
+    ⊎ (((e ≡ Output) × IsAnswered words 0) ⊎ HasUpgradeCause words current tells files before now e)

@@ -14,7 +14,7 @@ pub(crate) struct UpgradeWords<'a> {
     pub(crate) index_file: &'a str,
 }
 
-// An option that must be given, with a value that is not empty.
+/// An option that must be given, with a value that is not empty.
 fn option<'a>(alloc: Global, id: &'a str, value: &'a str, about: &'a str) -> Arg<'a>
     ensures rule { rule_of result ≡ option_rule id.entry.now }
     ensures local { result.global ≡ false }
@@ -60,8 +60,10 @@ pub(crate) fn command<'a>(alloc: Global) -> Result<Command<'a>, AllocError>
 
 /// What matched words of `upgrade` ask for.
 pub(crate) fn upgrade_words<'a>(matches: &ArgMatches<'a>) -> UpgradeWords<'a>
-    ensures manifest { result.manifest_path.now ≡ value_of (codes "manifest-path") (codes "Cargo.toml") (rows_of (found_of matches.now)) }
-    ensures index { result.index_file.now ≡ value_of (codes "index-file") (codes "index.json") (rows_of (found_of matches.now)) }
+    ensures manifest { result.manifest_path.now
+        ≡ value_of (codes "manifest-path") (codes "Cargo.toml") (rows_of (found_of matches.now)) }
+    ensures index { result.index_file.now
+        ≡ value_of (codes "index-file") (codes "index.json") (rows_of (found_of matches.now)) }
 {
     UpgradeWords {
         manifest_path: matches.get_str("manifest-path").unwrap_or("Cargo.toml"),

@@ -20,13 +20,14 @@ pub(crate) fn absolute(alloc: Global, current: &str, path: &str) -> CargoResult<
     normal(alloc, joined.as_str())
 }
 
-// Whether a file or a folder stands at a path.
+/// Whether a file or a folder stands at a path.
 fn is_there<S: Store>(alloc: Global, files: &mut S, path: &str) -> RunResult<bool>
-    ensures store { OnlyReads (S.view files.old).tells (S.view files.new).tells (S.view files.old).file_at (S.view files.new).file_at
-        (S.view files.old).faults (S.view files.new).faults }
+    ensures store { OnlyReads (S.view files.old).tells (S.view files.new).tells
+        (S.view files.old).file_at (S.view files.new).file_at (S.view files.old).faults (S.view files.new).faults }
     ensures there { IfOk result (λ b. (S.view files.old).tells ≡ true
         → MatchBool b (IsThere (S.view files.old).file_at path.now) (IsMissing (S.view files.old).file_at path.now)) }
-    ensures refused { IfErr result (λ r. IsFault call.Kind (S.view files.old).faults (S.view files.new).faults r.error) }
+    ensures refused { IfErr result (λ r.
+        IsFault call.Kind (S.view files.old).faults (S.view files.new).faults r.error) }
 {
     match files.kind(alloc, path) {
         Ok(Kind::File) => Ok(true),
@@ -43,12 +44,13 @@ pub(crate) fn find<S: Store>(
     specified: &str,
     current: &str,
 ) -> RunResult<String>
-    ensures store { OnlyReads (S.view files.old).tells (S.view files.new).tells (S.view files.old).file_at (S.view files.new).file_at
-        (S.view files.old).faults (S.view files.new).faults }
+    ensures store { OnlyReads (S.view files.old).tells (S.view files.new).tells
+        (S.view files.old).file_at (S.view files.new).file_at (S.view files.old).faults (S.view files.new).faults }
     ensures found { IfOk result (λ p. (S.view files.old).tells ≡ true
         → IsManifestPath (S.view files.old).file_at current.now specified.now (string_bytes p)) }
     ensures refused { IfErr result (λ r. IsFault call.Kind (S.view files.old).faults (S.view files.new).faults r.error
-        ⊎ ((S.view files.old).tells ≡ true → HasNoManifest (S.view files.old).file_at current.now specified.now r.error)) }
+        ⊎ ((S.view files.old).tells ≡ true
+        → HasNoManifest (S.view files.old).file_at current.now specified.now r.error)) }
 {
     let path = absolute(alloc, current, specified)?;
     match files.kind(alloc, path.as_str()) {
@@ -59,14 +61,16 @@ pub(crate) fn find<S: Store>(
     }
 }
 
-// The manifest in a folder, none where none stands there.
+/// The manifest in a folder, none where none stands there.
 fn manifest_at<S: Store>(alloc: Global, files: &mut S, dir: &str) -> RunResult<Option<String>>
-    ensures store { OnlyReads (S.view files.old).tells (S.view files.new).tells (S.view files.old).file_at (S.view files.new).file_at
-        (S.view files.old).faults (S.view files.new).faults }
+    ensures store { OnlyReads (S.view files.old).tells (S.view files.new).tells
+        (S.view files.old).file_at (S.view files.new).file_at (S.view files.old).faults (S.view files.new).faults }
     ensures found { IfOk result (λ o. (S.view files.old).tells ≡ true
         → MatchOption o (IsMissing (S.view files.old).file_at (manifest_in dir.now))
-        (λ p. (string_bytes p ≡ manifest_in dir.now) × IsThere (S.view files.old).file_at (manifest_in dir.now))) }
-    ensures refused { IfErr result (λ r. IsFault call.Kind (S.view files.old).faults (S.view files.new).faults r.error) }
+        (λ p. (string_bytes p ≡ manifest_in dir.now)
+        × IsThere (S.view files.old).file_at (manifest_in dir.now))) }
+    ensures refused { IfErr result (λ r.
+        IsFault call.Kind (S.view files.old).faults (S.view files.new).faults r.error) }
 {
     let path = join(alloc, dir, "Cargo.toml")?;
     if is_there(alloc, files, path.as_str())? {
@@ -76,7 +80,7 @@ fn manifest_at<S: Store>(alloc: Global, files: &mut S, dir: &str) -> RunResult<O
     }
 }
 
-// The refusal where no folder from this one upwards has a manifest.
+/// The refusal where no folder from this one upwards has a manifest.
 fn not_found(alloc: Global, start: &str) -> Refusal
     ensures { IsMemory result.error ⊎ NamesFolder start.now result.error }
 {
@@ -88,8 +92,8 @@ fn not_found(alloc: Global, start: &str) -> Refusal
 
 /// The first `Cargo.toml` from a folder upwards.
 fn search<S: Store>(alloc: Global, files: &mut S, start: &str) -> RunResult<String>
-    ensures store { OnlyReads (S.view files.old).tells (S.view files.new).tells (S.view files.old).file_at (S.view files.new).file_at
-        (S.view files.old).faults (S.view files.new).faults }
+    ensures store { OnlyReads (S.view files.old).tells (S.view files.new).tells
+        (S.view files.old).file_at (S.view files.new).file_at (S.view files.old).faults (S.view files.new).faults }
     ensures found { IfOk result (λ p. (S.view files.old).tells ≡ true
         → IsNearest (S.view files.old).file_at start.now (string_bytes p)) }
     ensures refused { IfErr result (λ r. IsFault call.Kind (S.view files.old).faults (S.view files.new).faults r.error

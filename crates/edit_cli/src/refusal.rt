@@ -31,7 +31,7 @@ impl From<AllocError> for Refusal {
     }
 }
 
-// Where a refusal of the file at a path arose: in the file, or in a line of it. Nothing where there is no memory for it.
+/// Where a refusal of the file at a path arose: the file, or a line of it. Nothing where memory ran out.
 fn place_of(alloc: Global, error: &Error, path: &str) -> Option<String> {
     match error {
         Error::IndexLine { line } => format!(in alloc; "{path}:{line}").ok(),
@@ -65,7 +65,7 @@ pub(crate) fn at_byte(alloc: Global, error: Error, path: &str, bytes: &[u8]) -> 
     Refusal { error, place }
 }
 
-// The line that stands behind these bytes, from 1.
+/// The line that stands behind these bytes, from 1.
 fn line_of(before: &[u8]) -> usize {
     before
         .iter()
@@ -74,7 +74,8 @@ fn line_of(before: &[u8]) -> usize {
         .saturating_add(1)
 }
 
-// The column that stands behind these bytes, from 1. It counts characters: a byte within one has the bits 10 in front.
+/// The column that stands behind these bytes, from 1. It counts characters: a later byte of one begins with
+/// the bits 10.
 fn column_of(before: &[u8]) -> usize {
     let line = before.iter().rev().take_while(|byte| **byte != b'\n');
     line.filter(|byte| **byte < 0x80 || 0xc0 <= **byte)

@@ -29,13 +29,14 @@ pub(crate) fn refuse<E: io::Write>(refusal: Refusal, err: &mut E) -> u8
     1
 }
 
-/// Prints what `clap` says in place of matches, and answers its status: 0 for help and the version, 2 for a fault of
-/// the command line.
+/// Prints what `clap` says in place of matches, and answers its status: 0 for help and the version, 2 for a
+/// fault of the command line.
 fn shown<O: io::Write, E: io::Write>(error: &clap::Error, out: &mut O, err: &mut E) -> RunResult<u8>
     ensures ok { IfOk result (λ s. s ≡ status_of (kind_of error.now)) }
     ensures small { IfOk result (λ s. (s ≡ 0) ⊎ (s ≡ 2)) }
     ensures memory { kind_of error.now ≡ ErrorKind.OutOfMemory → IsErrAnd result (λ r. IsMemory r.error) }
-    ensures refused { IfErr result (λ r. IsMemory r.error ⊎ ((r.error ≡ Output) × (status_of (kind_of error.now) ≡ 0))) }
+    ensures refused { IfErr result (λ r. IsMemory r.error
+        ⊎ ((r.error ≡ Output) × (status_of (kind_of error.now) ≡ 0))) }
 {
     if error.kind() == ErrorKind::OutOfMemory {
         return Err(Refusal::from(Error::Memory));
@@ -50,7 +51,7 @@ fn shown<O: io::Write, E: io::Write>(error: &clap::Error, out: &mut O, err: &mut
     }
 }
 
-/// What the words come to: a status, or a refusal.
+/// What the words come to: a status, or a refusal with its cause.
 fn answer<S: Store, O: io::Write, E: io::Write>(
     alloc: Global,
     words: &[&str],
@@ -65,8 +66,8 @@ fn answer<S: Store, O: io::Write, E: io::Write>(
         → IsDone (map (λ w. w.now) words.now) current.now (S.view files.old).file_at (S.view files.new).file_at) }
     ensures refused { OnErr result ((S.view files.old).tells ≡ true
         → IsRefused (map (λ w. w.now) words.now) current.now (S.view files.old).file_at (S.view files.new).file_at) }
-    ensures why { IfErr result (λ r. IsRunCause (map (λ w. w.now) words.now) current.now (S.view files.old).tells (S.view files.old).file_at
-        (S.view files.old).faults (S.view files.new).faults r.error) }
+    ensures why { IfErr result (λ r. IsRunCause (map (λ w. w.now) words.now) current.now
+        (S.view files.old).tells (S.view files.old).file_at (S.view files.old).faults (S.view files.new).faults r.error) }
 {
     let command = command(alloc)?;
     let matches = match command.try_get_matches_from(words) {
@@ -80,10 +81,11 @@ fn answer<S: Store, O: io::Write, E: io::Write>(
     Ok(0)
 }
 
-/// Runs the words, which begin with the subcommand, and answers the status: 0 done, 1 a refusal, whose text is
-/// printed on `err` behind `Error: `, with its place in a second line where it is known, 2 a fault of the command line. `current` is the absolute folder that relative
-/// paths start from. Manifests and the index file are read and written through `files`; `index_files` serves the
-/// indexes of folders, and `cargo_home` the configurations, which no command reads so far.
+/// Runs the words, which begin with the subcommand, and answers the status: 0 done; 1 a refusal, whose text is
+/// printed on `err` behind `Error: `, with its place in a second line where it is known; 2 a fault of the
+/// command line, also an empty path. `current` is the absolute folder that relative paths start from. Manifests
+/// and the index file are read and written through `files`; `index_files` serves the indexes of folders, and
+/// `cargo_home` the configurations, which no command reads so far.
 pub(crate) fn run<S: Store, T: Store + Drop, O: io::Write, E: io::Write>(
     alloc: Global,
     words: &[&str],

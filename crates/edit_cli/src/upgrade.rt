@@ -30,7 +30,7 @@ struct Manifest {
     document: Document,
 }
 
-// The text of `package.KEY`, where it is a string.
+/// The text of `package.KEY`, where it is a string.
 fn package_text<'a>(document: &'a Document, key: &str) -> Option<&'a str>
     ensures { option_map (λ s. s.now) result ≡ package_text (tree_of document.entry.now) key.now }
 {
@@ -40,17 +40,17 @@ fn package_text<'a>(document: &'a Document, key: &str) -> Option<&'a str>
     item.as_str()
 }
 
-// The number of the refusal for want of memory.
+/// The number of the refusal for want of memory.
 const MEMORY: u32 = 46;
 
-// The number of a refusal, which is let go.
+/// The number of a refusal, which is let go.
 fn number(error: Error) -> u32
     ensures { result ≡ number_of error }
 {
     error.number()
 }
 
-// The manifest's own Rust version, where it is there and is read.
+/// The manifest's own Rust version, where it is there and is read.
 fn own_rust_version(alloc: Global, document: &Document) -> CargoResult<Option<RustVersion>>
     ensures ok { IfOk result (λ v. option_map numbers_of v ≡ own_rust (tree_of document.now)) }
     ensures refused { IfErr result IsMemory }
@@ -69,7 +69,7 @@ fn own_rust_version(alloc: Global, document: &Document) -> CargoResult<Option<Ru
     }
 }
 
-// What reports call the manifest.
+/// What reports call the manifest.
 fn own_name(alloc: Global, document: &Document) -> CargoResult<String>
     ensures { IfErr result IsMemory }
 {
@@ -77,7 +77,7 @@ fn own_name(alloc: Global, document: &Document) -> CargoResult<String>
     Ok(String::from_str(alloc, name)?)
 }
 
-// Reads the bytes of a manifest.
+/// Reads the bytes of a manifest.
 fn read_document(alloc: Global, bytes: &[u8]) -> CargoResult<Document>
     ensures bytes { IfOk result (λ d. d.bytes ≡ bytes.now) }
     ensures read { IfOk result (λ d. (form : Text) × IsManifest bytes.now form × ShowsTree d form) }
@@ -90,7 +90,7 @@ fn read_document(alloc: Global, bytes: &[u8]) -> CargoResult<Document>
     Document::read(alloc, text)
 }
 
-// The manifest to plan for, by its own name and Rust version. Its bytes are read once.
+/// The manifest to plan for, by its own name and Rust version. Its bytes are read once.
 fn manifest_of(alloc: Global, path: String, bytes: Vec<u8>) -> RunResult<Manifest>
     ensures path { IfOk result (λ m. m.input.path ≡ path) }
     ensures bytes { IfOk result (λ m. m.input.bytes ≡ bytes) }
@@ -113,22 +113,23 @@ fn manifest_of(alloc: Global, path: String, bytes: Vec<u8>) -> RunResult<Manifes
     Ok(Manifest { input, document })
 }
 
-// Reads the manifest that is named.
+/// Reads the manifest that is named.
 fn read_manifest<S: Store>(
     alloc: Global,
     named: &str,
     current: &str,
     files: &mut S,
 ) -> RunResult<Manifest>
-    ensures store { OnlyReads (S.view files.old).tells (S.view files.new).tells (S.view files.old).file_at (S.view files.new).file_at
-        (S.view files.old).faults (S.view files.new).faults }
+    ensures store { OnlyReads (S.view files.old).tells (S.view files.new).tells
+        (S.view files.old).file_at (S.view files.new).file_at (S.view files.old).faults (S.view files.new).faults }
     ensures read { IfOk result (λ m. (S.view files.old).tells ≡ true
-        → IsManifestRead (S.view files.old).file_at current.now named.now (string_bytes m.input.path) m.input.bytes.items
-        (option_map numbers_of m.input.rust_version)) }
+        → IsManifestRead (S.view files.old).file_at current.now named.now
+        (string_bytes m.input.path) m.input.bytes.items (option_map numbers_of m.input.rust_version)) }
     ensures document { IfOk result (λ m. m.document.bytes ≡ m.input.bytes.items) }
     ensures refused { IfErr result (λ r. IsFault call.Kind (S.view files.old).faults (S.view files.new).faults r.error
         ⊎ (IsFault call.Read (S.view files.old).faults (S.view files.new).faults r.error
-        ⊎ ((S.view files.old).tells ≡ true → IsManifestCause (S.view files.old).file_at current.now named.now r.error))) }
+        ⊎ ((S.view files.old).tells ≡ true
+        → IsManifestCause (S.view files.old).file_at current.now named.now r.error))) }
 {
     let path = find(alloc, files, named, current)?;
     let bytes = match files.read(alloc, path.as_str()) {
@@ -139,15 +140,15 @@ fn read_manifest<S: Store>(
     manifest_of(alloc, path, bytes)
 }
 
-// Reads the index file that is named.
+/// Reads the index file that is named.
 fn read_index<S: Store>(
     alloc: Global,
     named: &str,
     current: &str,
     files: &mut S,
 ) -> RunResult<FileIndex>
-    ensures store { OnlyReads (S.view files.old).tells (S.view files.new).tells (S.view files.old).file_at (S.view files.new).file_at
-        (S.view files.old).faults (S.view files.new).faults }
+    ensures store { OnlyReads (S.view files.old).tells (S.view files.new).tells
+        (S.view files.old).file_at (S.view files.new).file_at (S.view files.old).faults (S.view files.new).faults }
     ensures read { IfOk result (λ i. (S.view files.old).tells ≡ true
         → IsIndexRead (S.view files.old).file_at current.now named.now i) }
     ensures refused { IfErr result (λ r. IsFault call.Read (S.view files.old).faults (S.view files.new).faults r.error
@@ -165,7 +166,7 @@ fn read_index<S: Store>(
     }
 }
 
-// What is allowed where no word says otherwise.
+/// What is allowed where no word says otherwise.
 fn default_options(alloc: Global) -> Options
     ensures { IsDefault result }
 {
@@ -182,10 +183,11 @@ fn default_options(alloc: Global) -> Options
     }
 }
 
-// The outputs of the plan for a manifest over an index. It has no configurations.
+/// The outputs of the plan for a manifest over an index. It has no configurations.
 fn outputs_for(alloc: Global, manifest: &Manifest, index: FileIndex) -> CargoResult<Vec<Output>>
     requires { manifest.now.document.bytes ≡ manifest.now.input.bytes.items }
-    ensures ok { IfOk result (λ v. IsPlanned (string_bytes manifest.now.input.path) manifest.now.input.bytes.items
+    ensures ok { IfOk result (λ v.
+        IsPlanned (string_bytes manifest.now.input.path) manifest.now.input.bytes.items
         (option_map numbers_of manifest.now.input.rust_version) index v.items) }
     ensures refused { IfErr result (λ e. IsMemory e ⊎ IsPlanCause manifest.now.input.bytes.items index e) }
 {
@@ -199,14 +201,16 @@ fn outputs_for(alloc: Global, manifest: &Manifest, index: FileIndex) -> CargoRes
     Ok(plan.outputs)
 }
 
-// Writes the output of a plan for one manifest, where there is one.
+/// Writes the output of a plan for one manifest, where there is one.
 fn write_output<S: Store>(alloc: Global, files: &mut S, output: Option<&Output>) -> RunResult<()>
     ensures tells { (S.view files.new).tells ≡ (S.view files.old).tells }
     ensures later { (S.view files.old).faults ≤ (S.view files.new).faults }
     ensures written { OnOk result ((S.view files.old).tells ≡ true
         → IsWritten (option_copied output.entry) (S.view files.old).file_at (S.view files.new).file_at) }
-    ensures torn { OnErr result (IsTorn (option_copied output.entry) (S.view files.old).file_at (S.view files.new).file_at) }
-    ensures refused { IfErr result (λ r. IsFault call.Write (S.view files.old).faults (S.view files.new).faults r.error) }
+    ensures torn { OnErr result
+        (IsTorn (option_copied output.entry) (S.view files.old).file_at (S.view files.new).file_at) }
+    ensures refused { IfErr result (λ r.
+        IsFault call.Write (S.view files.old).faults (S.view files.new).faults r.error) }
 {
     let Some(output) = output else {
         return Ok(());
@@ -228,12 +232,14 @@ pub(crate) fn upgrade<S: Store>(
     ensures done { OnOk result ((S.view files.old).tells ≡ true → IsUpgraded current.now words.now.manifest_path.now
         words.now.index_file.now (S.view files.old).file_at (S.view files.new).file_at) }
     // a refusal before the write leaves each file as it was
-    ensures refused { OnErr result ((S.view files.old).tells ≡ true → SameFiles (S.view files.old).file_at (S.view files.new).file_at
+    ensures refused { OnErr result ((S.view files.old).tells ≡ true
+        → SameFiles (S.view files.old).file_at (S.view files.new).file_at
         ⊎ IsCutShort current.now words.now.manifest_path.now words.now.index_file.now
         (S.view files.old).file_at (S.view files.new).file_at) }
     // and each refusal has its cause
     ensures why { IfErr result (λ r. IsUpgradeCause (S.view files.old).tells (S.view files.old).file_at current.now
-        words.now.manifest_path.now words.now.index_file.now (S.view files.old).faults (S.view files.new).faults r.error) }
+        words.now.manifest_path.now words.now.index_file.now
+        (S.view files.old).faults (S.view files.new).faults r.error) }
 {
     let manifest = read_manifest(alloc, words.manifest_path, current, files)?;
     let index = read_index(alloc, words.index_file, current, files)?;

@@ -1,7 +1,8 @@
 //! The program's rows, over files in memory.
-use super::*;
+use super::run;
 use edit_document::paths::join;
-use edit_sources::{FaultStore, HostStore, MemoryStore};
+use edit_sources::{FaultStore, HostStore, MemoryStore, Store};
+use std::alloc::Global;
 use std::test::Fail;
 use std::{fs, process, str};
 
@@ -42,8 +43,8 @@ Options:
   -V, --version               Print version
 ";
 
-/// Each row: what it shows, the files, which call of the store fails (9: none), the words (`-`: the usual ones, `''` an
-/// empty one), and the status, the manifest afterwards and what was printed on standard error.
+/// Each row: what it shows, the files, which call of the store fails (9: none), the words (`-`: the usual ones,
+/// `''` an empty one), and the status, the manifest afterwards and what was printed on standard error.
 const ROWS: &str = "\
 raises one manifest|mi|9|-|0 raised \
 @nothing there|i|9|-|1 none Error: Failed to get cargo file metadata

@@ -2,7 +2,7 @@ use Rattle.std.proofs.Common.{◌≡◌, Bor, List, ℕ, codes, inr, map, refl, 
 use Rattle.clap.specs.Words.{app_of}
 use Rattle.edit_cli.specs.CommandLine.{AsksFor}
 use Rattle.edit_cli.proofs.Causing.{refusal_has}
-use Rattle.edit_cli.proofs.CommandLemmas.{asks_for, name_met, no_text, on_any, shown_done, shown_fault, shown_why, the_text, upgrade_refused, upgrade_why}
+use Rattle.edit_cli.proofs.CommandLemmas.{asks_for, name_met, no_text, on_any, shown_done, shown_fault, shown_why, taken_by, the_text, upgrade_refused, upgrade_why}
 use Rattle.edit_cli.proofs.run.answer.Goals as goal
 use Rattle.edit_cli.proofs.run.answer.Goals.{in_default-via-in-Some+in_default, in_default-via-in_default}
 
@@ -24,16 +24,19 @@ returns-in-Err-clause-why g c =
 pub returns-in_default-clause-fault : goal.returns-in_default-clause-fault
 returns-in_default-clause-fault g c _ = (
   refl,
-  inr (λ name.
-      let met = name_met (app_of c.in_ok-command.command) (map (λ (w : Bor (List ℕ)). w.now) c.args.words.now) c.in-Ok.matches _
-      c.in_ok-command.ensures c.in-Ok.ensures.matches c.subcommand.ensures.name name in
-      elim c.in_default.branch [
-        | in_default-via-in-Some+in_default w ↦
-            let same = the_text _ c.subcommand.result w.in_default.field-0 _ w.in_default.is met in
-            let other : w.in_default.field-0.0.now ≡ codes "upgrade" → ⊥ = search rules in
-            other same
-        | in_default-via-in_default w ↦ no_text _ c.subcommand.result _ w.in_default.is met
-      ]),
+  inr (record {
+    taken = taken_by (app_of c.in_ok-command.command) _ c.in_ok-command.ensures c.in-Ok.ensures.kinds;
+    other = λ name.
+        let met = name_met (app_of c.in_ok-command.command) (map (λ (w : Bor (List ℕ)). w.now) c.args.words.now) c.in-Ok.matches _
+        c.in_ok-command.ensures c.in-Ok.ensures.matches c.subcommand.ensures.name name in
+        elim c.in_default.branch [
+          | in_default-via-in-Some+in_default w ↦
+              let same = the_text _ c.subcommand.result w.in_default.field-0 _ w.in_default.is met in
+              let different : w.in_default.field-0.0.now ≡ codes "upgrade" → ⊥ = search rules in
+              different same
+          | in_default-via-in_default w ↦ no_text _ c.subcommand.result _ w.in_default.is met
+        ];
+  }),
 )
 
 pub returns-in_err-upgrade-clause-refused : goal.returns-in_err-upgrade-clause-refused
