@@ -8,13 +8,13 @@ use Rattle.cargo_edit.specs.Found.{seen_of}
 use Rattle.cargo_edit.specs.Lines.{line_of}
 use Rattle.cargo_edit.specs.Looks.{kept_by, kept_setting}
 use Rattle.cargo_edit.specs.Records.{Seen}
-use Rattle.cargo_edit.specs.Rows.{AreDecided, IsDecided, Line, Setting}
+use Rattle.cargo_edit.specs.Rows.{AreDecided, Basis, IsDecided, Line}
 use Rattle.cargo_edit.proofs.Steps.{names-more}
 use Rattle.cargo_edit.proofs.rows.decided_rows.Goals as goal
 
 pub entries-preserved : goal.entries-preserved
 entries-preserved g c =
-    let s : Setting = kept_setting c.args.input c.args.options.now (option_map numbers_of c.args.rust_version) (kept_by c.args.index.now (serialize c.args.registry.now)) in
+    let s : Basis = kept_setting c.args.input c.args.options.now (option_map numbers_of c.args.rust_version) (kept_by c.args.index.now (serialize c.args.registry.now)) in
     let more = names-more seen_of c.args.entries.now c.entries.entry-index c.entry-item.result c.entries-test.true c.entry-item.is in
     let rows = ap (map line_of) c.in_ok-push.ensures.items ∙ map-append line_of c.entries.rows.items (c.in_ok-row.row ∷ []) in
     let step = all_zipped_more (λ e line. IsDecided s.input s.options (s.versions e.name) e line) (map seen_of (take c.entries.entry-index c.args.entries.now))
