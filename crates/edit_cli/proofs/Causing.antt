@@ -1,5 +1,5 @@
 -- Why an upgrade is refused, from why a part of it is.
-use Rattle.std.proofs.Common.{◌≡◌, ◌≤◌, ℕ, List, Bool, true, false, Option, None, Result, Ok, Err, ◌∙◌, sym, subst, inl, inr, arith, refl}
+use Rattle.std.proofs.Common.{◌≡◌, ◌≤◌, ℕ, List, Bool, true, false, Option, None, Result, Ok, Err, ◌∙◌, sym, subst, inl, inr, arith}
 use Rattle.std.specs.Prelude.{◌⊎◌, IfErr, IsErrAnd, is_some}
 use Rattle.edit_document.specs.Errors.{IsMemory}
 use Rattle.edit_document.specs.declared.errors.DeviceCall.TheVariants as call
@@ -10,6 +10,7 @@ use Rattle.edit_sources.specs.Store.{Files, SameFiles, StandsAt}
 use Rattle.edit_sources.specs.declared.file_index.FileIndex.{FileIndex}
 use Rattle.edit_sources.specs.declared.store.Kind.TheVariants.{Folder}
 use Rattle.edit_cli.specs.Causes.{IsIndexCause, IsManifestCause, IsPlanCause, IsUpgradeCause}
+use Rattle.edit_cli.specs.declared.refusal.Refusal.{Refusal}
 use Rattle.edit_cli.specs.Located.{IsFault, IsManifestAt, IsManifestPath, IsThere, manifest_in}
 use Rattle.edit_cli.specs.Located.IsManifestAt.{named, nearest}
 use Rattle.edit_cli.specs.Upgrading.{IsIndexRead, IsManifestRead}
@@ -30,17 +31,26 @@ folder_at files place _ (nearest path stands near) none =
     subst (λ at. StandsAt files at Folder) (sym near.is) here
 
 -- where a manifest is found and no file is read, a folder stands
-pub folder_there : (tells told : Bool) (old now : Files) (current named_path text at : List ℕ) → told ≡ tells → SameFiles old now → at ≡ text → (tells ≡ true → IsManifestPath old current named_path text)
-    → (told ≡ true → None ≡ now at) → tells ≡ true → IsManifestCause old current named_path NoManifest
-folder_there tells told old now current named_path text at same_told same is found none t =
+pub folder_there : (tells told : Bool) (old now : Files) (current named_path text at : List ℕ) (e : Error) → e ≡ NoManifest → told ≡ tells → SameFiles old now → at ≡ text → (tells ≡ true → IsManifestPath old current named_path text)
+    → (told ≡ true → None ≡ now at) → tells ≡ true → IsManifestCause old current named_path e
+folder_there tells told old now current named_path text at e refused same_told same is found none t =
     let missing : None ≡ old text = subst (λ path. None ≡ old path) is (none (same_told ∙ t) ∙ same at) in
     let path : IsManifestPath old current named_path text = found t in
-    inr (inl (record { path = text; at = path; folder = folder_at old path.place text path.at missing; is = refl }))
+    inr (inl (record { path = text; at = path; folder = folder_at old path.place text path.at missing; is = refused }))
 
 -- what is refused with an error of this cause has it
-pub refusal_has : {T : Type 0} (r : Result T Error) (e : Error) (P : Error → Type 0) → IsErrAnd r (λ other. other ≡ e) → P e → IfErr r P
+pub refusal_has : {T : Type 0} (r : Result T Refusal) (e : Refusal) (P : Error → Type 0) → IsErrAnd r (λ other. other ≡ e) → P e.error → IfErr r (λ x. P x.error)
 refusal_has (Ok x) e P same h = tt
-refusal_has (Err other) e P same h = subst P (sym same) h
+refusal_has (Err other) e P same h = subst (λ (x : Refusal). P x.error) (sym same) h
+
+pub refusal_same : {T : Type 0} (r : Result T Error) (e : Error) (P : Error → Type 0) → IsErrAnd r (λ other. other ≡ e) → P e → IfErr r P
+refusal_same (Ok x) e P same h = tt
+refusal_same (Err other) e P same h = subst P (sym same) h
+
+-- and so does a refusal that was made of such an error
+pub refusal_made : {T : Type 0} (r : Result T Refusal) (e : Error) (P : Error → Type 0) → IsErrAnd r (λ other. other.error ≡ e) → P e → IfErr r (λ x. P x.error)
+refusal_made (Ok x) e P same h = tt
+refusal_made (Err other) e P same h = subst P (sym same) h
 
 -- a manifest that is not read
 pub manifest_cause : (tells : Bool) (files : Files) (current named_path index_named : List ℕ) (a b : ℕ) (e : Error)

@@ -1,4 +1,5 @@
 pub mod Causing
+pub mod CommandFacts
 pub mod CommandLemmas
 pub mod Faults
 pub mod Heights

@@ -9,7 +9,7 @@ use Rattle.edit_sources.specs.IndexLines.{RefusesLines, lines_of}
 use Rattle.edit_sources.specs.Store.{Files, StandsAt}
 use Rattle.edit_sources.specs.declared.file_index.FileIndex.{FileIndex}
 use Rattle.edit_sources.specs.declared.store.Kind.TheVariants.{Folder}
-use Rattle.cargo_edit.specs.Causes.{IsBadManifest, IsCause}
+use Rattle.cargo_edit.specs.Causes.{IsBadLook, IsBadManifest}
 use Rattle.cargo_edit.specs.Looks.{Kept}
 use Rattle.edit_cli.specs.Located.{HasNoManifest, IsAbsoluteOf, IsFault, IsManifestPath}
 use Rattle.edit_cli.specs.Upgrading.{IsIndexRead, IsManifestRead}
@@ -32,7 +32,8 @@ pub record IsNoManifest (files : Files) (current named : List ℕ) (e : Error) :
 -- why the manifest that is named is not read
 abbrev pub IsManifestCause : Files → List ℕ → List ℕ → Error → Type 0
 IsManifestCause files current named e =
-    HasNoManifest files current named e ⊎ (IsFolderThere files current named e ⊎ IsNoManifest files current named e)
+    HasNoManifest files current named e
+    ⊎ (IsFolderThere files current named e ⊎ IsNoManifest files current named e)
 
 -- why no index is read: there is no file, or a line of it is refused
 abbrev pub IsUnindexed : Option (List ℕ) → Error → Type 0
@@ -45,10 +46,12 @@ pub record IsIndexCause (files : Files) (current named : List ℕ) (e : Error) :
   pub at : IsAbsoluteOf current named path
   pub unindexed : IsUnindexed (files path) e
 
--- why there is no plan for a manifest over an index, of which no answer was known before
+-- why there is no plan for a manifest that was read: a look in the index is refused, and no answer was known
+-- before
 pub record IsPlanCause (bytes : List ℕ) (index : FileIndex) (e : Error) : Type 0 where
   pub kept : Kept
-  pub cause : IsCause bytes (λ address name outcome. FileGives index name outcome) (λ address name. None) kept 0 0 e
+  pub cause : IsBadLook bytes (λ address name outcome. FileGives index name outcome) (λ address name. None)
+      kept 0 0 e
 
 -- the manifest was read, and the index file is not
 pub record HasNoIndex (files : Files) (current named index_named : List ℕ) (e : Error) : Type 0 where
@@ -71,13 +74,15 @@ pub record HasNoPlan (files : Files) (current named index_named : List ℕ) (e :
 -- what is wrong with the files that are named
 abbrev pub IsWrong : Files → List ℕ → List ℕ → List ℕ → Error → Type 0
 IsWrong files current named index_named e =
-    IsManifestCause files current named e ⊎ (HasNoIndex files current named index_named e ⊎ HasNoPlan files current named index_named e)
+    IsManifestCause files current named e
+    ⊎ (HasNoIndex files current named index_named e ⊎ HasNoPlan files current named index_named e)
 
 -- memory ran out, or the device failed and the count of faults rose
 abbrev pub IsFailure : ℕ → ℕ → Error → Type 0
-IsFailure before now e = IsFault call.Kind before now e ⊎ (IsFault call.Read before now e ⊎ IsFault call.Write before now e)
+IsFailure before now e =
+    IsFault call.Kind before now e ⊎ (IsFault call.Read before now e ⊎ IsFault call.Write before now e)
 
--- why an upgrade is refused: a failure of memory or the device, or something is wrong with the files that are named
+-- why an upgrade is refused: memory or the device failed, or something is wrong with the files
 abbrev pub IsUpgradeCause : Bool → Files → List ℕ → List ℕ → List ℕ → ℕ → ℕ → Error → Type 0
 IsUpgradeCause tells files current named index_named before now e =
     IsFailure before now e ⊎ (tells ≡ true → IsWrong files current named index_named e)

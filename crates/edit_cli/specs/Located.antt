@@ -41,7 +41,8 @@ pub record IsNearest (files : Files) (start path : List ℕ) : Type 0 where
 -- the file at a path, or the manifest of the folder at it
 pub data IsManifestAt (files : Files) (place : List ℕ) : List ℕ → Type 0 where
   named : StandsAt files place File → IsManifestAt files place place
-  nearest : (path : List ℕ) → StandsAt files place Folder → IsNearest files place path → IsManifestAt files place path
+  nearest : (path : List ℕ) → StandsAt files place Folder → IsNearest files place path
+      → IsManifestAt files place path
 
 -- the path of the manifest that is named, from the current folder
 pub record IsManifestPath (files : Files) (current named path : List ℕ) : Type 0 where
@@ -66,7 +67,8 @@ IsNotFound files start e = NamesFolder start e × HasNoneAbove files start
 
 -- why no manifest is found: nothing stands at the path, or a folder stands there and none has one
 abbrev pub IsUnfound : Files → List ℕ → Error → Type 0
-IsUnfound files place e = ((e ≡ NoPath) × IsMissing files place) ⊎ (StandsAt files place Folder × IsNotFound files place e)
+IsUnfound files place e =
+    ((e ≡ NoPath) × IsMissing files place) ⊎ (StandsAt files place Folder × IsNotFound files place e)
 
 -- memory ran out, or the device failed in this call and the count of faults rose
 abbrev pub IsFault : DeviceCall → ℕ → ℕ → Error → Type 0

@@ -1,7 +1,13 @@
--- What a run of the program leaves of the files.
-use Rattle.std.specs.Prelude.{◌≡◌, ◌⊎◌, ℕ, List, Some, true, codes, option_map}
-use Rattle.clap.specs.Words.{subcommand_of, takes}
+-- What a run of the program answers, and what it leaves of the files.
+use Rattle.std.specs.Prelude.{◌≡◌, ◌⊎◌, ℕ, List, [], Bool, Some, true, codes, option_map}
+use Rattle.clap.specs.Words.{IsAmong, fault_of, subcommand_of, takes}
+use Rattle.clap.specs.declared.error.kind.ErrorKind.{ErrorKind}
+use Rattle.clap.specs.declared.error.kind.ErrorKind.TheVariants.{DisplayHelp, DisplayVersion}
+use Rattle.edit_document.specs.Errors.{IsMemory}
+use Rattle.edit_document.specs.declared.errors.Error.{Error}
+use Rattle.edit_document.specs.declared.errors.Error.TheVariants.{Output}
 use Rattle.edit_sources.specs.Store.{Files, SameFiles}
+use Rattle.edit_cli.specs.Causes.{IsUpgradeCause}
 use Rattle.edit_cli.specs.CommandLine.{AsksFor, edit_app}
 use Rattle.edit_cli.specs.Upgrading.{IsCutShort, IsUpgraded}
 
@@ -23,14 +29,46 @@ pub record HasCutShort (words : List (List ℕ)) (current : List ℕ) (old new :
 abbrev pub AreNotTaken : List (List ℕ) → Type 0
 AreNotTaken words = takes edit_app words ≡ true → ⊥
 
--- the words do not ask for an upgrade: the command line does not take them, or they name another subcommand
-abbrev pub AskForNone : List (List ℕ) → Type 0
-AskForNone words = takes edit_app words ≡ true → option_map (λ p. p.0) (subcommand_of edit_app words) ≡ Some (codes "upgrade") → ⊥
+-- the status for a kind of what the command line says itself: 0 for help and the version, else 2
+abbrev pub status_of : ErrorKind → ℕ
+status_of DisplayHelp = 0
+status_of DisplayVersion = 0
+status_of other = 2
+
+-- the command line answers the words itself, by a kind of this status
+pub record IsAnswered (words : List (List ℕ)) (status : ℕ) : Type 0 where
+  pub not_taken : AreNotTaken words
+  pub kind : ErrorKind
+  pub among : IsAmong kind (fault_of edit_app words)
+  pub is : status ≡ status_of kind
+
+-- the command line takes the words, and the subcommand that they name is not `upgrade`
+pub record NameAnother (words : List (List ℕ)) : Type 0 where
+  pub taken : fault_of edit_app words ≡ []
+  pub other : option_map (λ p. p.0) (subcommand_of edit_app words) ≡ Some (codes "upgrade") → ⊥
+
+-- a fault of the words: the command line refuses them, or they name another subcommand
+abbrev pub AreAtFault : List (List ℕ) → Type 0
+AreAtFault words = IsAnswered words 2 ⊎ NameAnother words
 
 -- a run that is done: the manifest that the words name was upgraded, or help or the version was shown
 abbrev pub IsDone : List (List ℕ) → List ℕ → Files → Files → Type 0
-IsDone words current old new = (AreNotTaken words × SameFiles old new) ⊎ HasUpgraded words current old new
+IsDone words current old new = (IsAnswered words 0 × SameFiles old new) ⊎ HasUpgraded words current old new
 
 -- a run that was refused: each file is as it was, or the write of the manifest was refused
 abbrev pub IsRefused : List (List ℕ) → List ℕ → Files → Files → Type 0
 IsRefused words current old new = SameFiles old new ⊎ HasCutShort words current old new
+
+-- the upgrade that the words ask for was refused
+pub record HasUpgradeCause (words : List (List ℕ)) (current : List ℕ) (tells : Bool) (files : Files)
+    (before now : ℕ) (e : Error) : Type 0 where
+  pub manifest : List ℕ
+  pub index : List ℕ
+  pub asks : AsksFor words manifest index
+  pub cause : IsUpgradeCause tells files current manifest index before now e
+
+-- why a run is refused: memory ran out, help or the version was not written, or the upgrade was refused
+abbrev pub IsRunCause : List (List ℕ) → List ℕ → Bool → Files → ℕ → ℕ → Error → Type 0
+IsRunCause words current tells files before now e =
+    IsMemory e
+    ⊎ (((e ≡ Output) × IsAnswered words 0) ⊎ HasUpgradeCause words current tells files before now e)

@@ -30,7 +30,9 @@ when_there (Some a) b = b
 abbrev pub package_text : Tree → List ℕ → Option (List ℕ)
 package_text t name =
     let package_place = key (codes "package") in
-    when_there (t []) (when_there (t (at [] package_place)) (option_and_then string_in (t (at (at [] package_place) (key name)))))
+    when_there (t [])
+    (when_there (t (at [] package_place))
+    (option_and_then string_in (t (at (at [] package_place) (key name)))))
 
 -- the manifest's own Rust version, where it names one
 abbrev pub own_rust : Tree → Option Numbers
@@ -43,7 +45,8 @@ pub record HasRust (bytes : List ℕ) (rust : Option Numbers) : Type 0 where
   pub is : rust ≡ own_rust (view_at form)
 
 -- the manifest that is named was read, with its own Rust version
-pub record IsManifestRead (files : Files) (current named path bytes : List ℕ) (rust : Option Numbers) : Type 0 where
+pub record IsManifestRead (files : Files) (current named path bytes : List ℕ)
+    (rust : Option Numbers) : Type 0 where
   pub at : IsManifestPath files current named path
   pub is : files path ≡ Some bytes
   pub version : HasRust bytes rust
@@ -64,13 +67,15 @@ pub record IsDefault (o : Options) : Type 0 where
   pub no_words : o.package.items ≡ []
   pub no_exclusions : o.exclude.items ≡ []
 
--- the plan for a manifest over an index: what the index gives for each name that is needed decides the rows, and the
--- outputs are what the rows write
-pub record IsPlanned (path bytes : List ℕ) (rust : Option Numbers) (index : FileIndex) (outputs : List Output) : Type 0 where
+-- the plan for a manifest over an index: what the index gives for each name that is needed decides the rows,
+-- and the outputs are what the rows write
+pub record IsPlanned (path bytes : List ℕ) (rust : Option Numbers) (index : FileIndex)
+    (outputs : List Output) : Type 0 where
   pub options : Options
   pub default : IsDefault options
   pub looks : List Look
-  pub complete : (name : List ℕ) → IsNeeded bytes default_address name → IsSome (look_at looks default_address name)
+  pub complete : (name : List ℕ) → IsNeeded bytes default_address name
+      → IsSome (look_at looks default_address name)
   pub given : All (λ look. FileGives index (string_bytes look.name) (Ok (answer_of look.answer))) looks
   pub rows : List Line
   pub decided : HasRows (told_setting 0 options rust looks default_address) bytes rows
@@ -79,7 +84,8 @@ pub record IsPlanned (path bytes : List ℕ) (rust : Option Numbers) (index : Fi
 -- an output stands in its file, and each other file is as it was; without an output each file is
 abbrev pub IsWritten : Option Output → Files → Files → Type 0
 IsWritten None old new = SameFiles old new
-IsWritten (Some output) old new = (new (string_bytes output.path) ≡ Some output.bytes.items) × SameBut (string_bytes output.path) old new
+IsWritten (Some output) old new =
+    (new (string_bytes output.path) ≡ Some output.bytes.items) × SameBut (string_bytes output.path) old new
 
 -- the file of the output may hold anything, and each other file is as it was
 abbrev pub IsTorn : Option Output → Files → Files → Type 0

@@ -5,6 +5,7 @@ ghost use Rattle.edit_document.specs.declared.errors.DeviceCall.TheVariants as c
 ghost use Rattle.edit_sources.specs.ConfigurationFiles.{OnlyReads};
 ghost use Rattle.edit_cli.specs.Located.{HasNoManifest, IsAbsoluteOf, IsFault, IsManifestPath, IsMissing, IsNearest, IsNotFound, IsThere, NamesFolder, manifest_in};
 
+use crate::refusal::{Refusal, RunResult, at_path};
 use edit_document::paths::{folder, join, normal};
 use edit_document::{CargoResult, Error};
 use edit_sources::{Kind, Store};
@@ -19,18 +20,20 @@ pub(crate) fn absolute(alloc: Global, current: &str, path: &str) -> CargoResult<
     normal(alloc, joined.as_str())
 }
 
-// Whether a file or a folder stands at a path.
-fn is_there<S: Store>(alloc: Global, files: &mut S, path: &str) -> CargoResult<bool>
-    ensures store { OnlyReads (S.tells files.old) (S.tells files.new) (S.file_at files.old) (S.file_at files.new) (S.faults files.old) (S.faults files.new) }
+/// Whether a file or a folder stands at a path.
+fn is_there<S: Store>(alloc: Global, files: &mut S, path: &str) -> RunResult<bool>
+    ensures store { OnlyReads (S.tells files.old) (S.tells files.new)
+        (S.file_at files.old) (S.file_at files.new) (S.faults files.old) (S.faults files.new) }
     ensures there { IfOk result (λ b. S.tells files.old ≡ true
         → MatchBool b (IsThere (S.file_at files.old) path.now) (IsMissing (S.file_at files.old) path.now)) }
-    ensures refused { IfErr result (IsFault call.Kind (S.faults files.old) (S.faults files.new)) }
+    ensures refused { IfErr result (λ r.
+        IsFault call.Kind (S.faults files.old) (S.faults files.new) r.error) }
 {
     match files.kind(alloc, path) {
         Ok(Kind::File) => Ok(true),
         Ok(Kind::Folder) => Ok(true),
         Ok(Kind::Absent) => Ok(false),
-        Err(error) => Err(error),
+        Err(error) => Err(at_path(alloc, error, path)),
     }
 }
 
@@ -40,75 +43,71 @@ pub(crate) fn find<S: Store>(
     files: &mut S,
     specified: &str,
     current: &str,
-) -> CargoResult<String>
-    ensures store { OnlyReads (S.tells files.old) (S.tells files.new) (S.file_at files.old) (S.file_at files.new) (S.faults files.old) (S.faults files.new) }
+) -> RunResult<String>
+    ensures store { OnlyReads (S.tells files.old) (S.tells files.new)
+        (S.file_at files.old) (S.file_at files.new) (S.faults files.old) (S.faults files.new) }
     ensures found { IfOk result (λ p. S.tells files.old ≡ true
         → IsManifestPath (S.file_at files.old) current.now specified.now (string_bytes p)) }
-    ensures refused { IfErr result (λ e. IsFault call.Kind (S.faults files.old) (S.faults files.new) e
-        ⊎ (S.tells files.old ≡ true → HasNoManifest (S.file_at files.old) current.now specified.now e)) }
+    ensures refused { IfErr result (λ r. IsFault call.Kind (S.faults files.old) (S.faults files.new) r.error
+        ⊎ (S.tells files.old ≡ true
+        → HasNoManifest (S.file_at files.old) current.now specified.now r.error)) }
 {
-    let path = match absolute(alloc, current, specified) {
-        Ok(path) => path,
-        Err(error) => return Err(error),
-    };
+    let path = absolute(alloc, current, specified)?;
     match files.kind(alloc, path.as_str()) {
         Ok(Kind::File) => Ok(path),
-        Ok(Kind::Folder) => match search(alloc, files, path.as_str()) {
-            Ok(found) => Ok(found),
-            Err(error) => Err(error),
-        },
-        Ok(Kind::Absent) => Err(Error::NoPath),
-        Err(error) => Err(error),
+        Ok(Kind::Folder) => search(alloc, files, path.as_str()),
+        Ok(Kind::Absent) => Err(at_path(alloc, Error::NoPath, path.as_str())),
+        Err(error) => Err(at_path(alloc, error, path.as_str())),
     }
 }
 
-// The manifest in a folder, none where none stands there.
-fn manifest_at<S: Store>(alloc: Global, files: &mut S, dir: &str) -> CargoResult<Option<String>>
-    ensures store { OnlyReads (S.tells files.old) (S.tells files.new) (S.file_at files.old) (S.file_at files.new) (S.faults files.old) (S.faults files.new) }
-    ensures found { IfOk result (λ o. S.tells files.old ≡ true → MatchOption o (IsMissing (S.file_at files.old) (manifest_in dir.now))
-        (λ p. (string_bytes p ≡ manifest_in dir.now) × IsThere (S.file_at files.old) (manifest_in dir.now))) }
-    ensures refused { IfErr result (IsFault call.Kind (S.faults files.old) (S.faults files.new)) }
+/// The manifest in a folder, none where none stands there.
+fn manifest_at<S: Store>(alloc: Global, files: &mut S, dir: &str) -> RunResult<Option<String>>
+    ensures store { OnlyReads (S.tells files.old) (S.tells files.new)
+        (S.file_at files.old) (S.file_at files.new) (S.faults files.old) (S.faults files.new) }
+    ensures found { IfOk result (λ o. S.tells files.old ≡ true
+        → MatchOption o (IsMissing (S.file_at files.old) (manifest_in dir.now))
+        (λ p. (string_bytes p ≡ manifest_in dir.now)
+        × IsThere (S.file_at files.old) (manifest_in dir.now))) }
+    ensures refused { IfErr result (λ r.
+        IsFault call.Kind (S.faults files.old) (S.faults files.new) r.error) }
 {
-    let path = match join(alloc, dir, "Cargo.toml") {
-        Ok(path) => path,
-        Err(error) => return Err(error),
-    };
-    match is_there(alloc, files, path.as_str()) {
-        Ok(true) => Ok(Some(path)),
-        Ok(false) => Ok(None),
-        Err(error) => Err(error),
+    let path = join(alloc, dir, "Cargo.toml")?;
+    if is_there(alloc, files, path.as_str())? {
+        Ok(Some(path))
+    } else {
+        Ok(None)
     }
 }
 
-// The refusal where no folder from this one upwards has a manifest.
-fn not_found(alloc: Global, start: &str) -> Error
-    ensures { IsMemory result ⊎ NamesFolder start.now result }
+/// The refusal where no folder from this one upwards has a manifest.
+fn not_found(alloc: Global, start: &str) -> Refusal
+    ensures { IsMemory result.error ⊎ NamesFolder start.now result.error }
 {
     match String::from_str(alloc, start) {
-        Ok(dir) => Error::ManifestNotFound { dir },
-        Err(error) => Error::from(error),
+        Ok(dir) => Refusal::from(Error::ManifestNotFound { dir }),
+        Err(error) => Refusal::from(error),
     }
 }
 
 /// The first `Cargo.toml` from a folder upwards.
-fn search<S: Store>(alloc: Global, files: &mut S, start: &str) -> CargoResult<String>
-    ensures store { OnlyReads (S.tells files.old) (S.tells files.new) (S.file_at files.old) (S.file_at files.new) (S.faults files.old) (S.faults files.new) }
-    ensures found { IfOk result (λ p. S.tells files.old ≡ true → IsNearest (S.file_at files.old) start.now (string_bytes p)) }
-    ensures refused { IfErr result (λ e. IsFault call.Kind (S.faults files.old) (S.faults files.new) e
-        ⊎ (S.tells files.old ≡ true → IsNotFound (S.file_at files.old) start.now e)) }
+fn search<S: Store>(alloc: Global, files: &mut S, start: &str) -> RunResult<String>
+    ensures store { OnlyReads (S.tells files.old) (S.tells files.new)
+        (S.file_at files.old) (S.file_at files.new) (S.faults files.old) (S.faults files.new) }
+    ensures found { IfOk result (λ p. S.tells files.old ≡ true
+        → IsNearest (S.file_at files.old) start.now (string_bytes p)) }
+    ensures refused { IfErr result (λ r. IsFault call.Kind (S.faults files.old) (S.faults files.new) r.error
+        ⊎ (S.tells files.old ≡ true → IsNotFound (S.file_at files.old) start.now r.error)) }
 {
     let mut dir = start;
     'folders: while dir != "/" {
-        match manifest_at(alloc, files, dir) {
-            Ok(Some(path)) => return Ok(path),
-            Ok(None) => {}
-            Err(error) => return Err(error),
+        if let Some(path) = manifest_at(alloc, files, dir)? {
+            return Ok(path);
         }
         dir = folder(dir);
     }
-    match manifest_at(alloc, files, dir) {
-        Ok(Some(path)) => Ok(path),
-        Ok(None) => Err(not_found(alloc, start)),
-        Err(error) => Err(error),
+    match manifest_at(alloc, files, dir)? {
+        Some(path) => Ok(path),
+        None => Err(not_found(alloc, start)),
     }
 }

@@ -3,9 +3,11 @@
 
 mod arguments;
 mod locate;
+mod refusal;
 mod run;
 mod upgrade;
 
+use crate::refusal::Refusal;
 use edit_document::{CargoResult, Error};
 use edit_sources::HostStore;
 use std::io::ErrorKind;
@@ -15,7 +17,7 @@ use std::{env, io};
 fn main(rt: HostRuntime) -> ExitCode {
     match start(&rt) {
         Ok(status) => ExitCode::from(status),
-        Err(error) => ExitCode::from(run::refuse(error, &mut rt.stderr())),
+        Err(error) => ExitCode::from(run::refuse(Refusal::from(error), &mut rt.stderr())),
     }
 }
 

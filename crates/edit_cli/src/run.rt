@@ -1,12 +1,15 @@
 //! The program over any files and any writers.
-ghost use Rattle.std.specs.Prelude.{◌≡◌, ◌≤◌, map, true};
+ghost use Rattle.std.specs.Prelude.{◌≡◌, ◌≢◌, ◌⊎◌, ◌≤◌, IfErr, IfOk, IsErrAnd, OnErr, map, true};
 ghost use Rattle.clap.specs.Words.{kind_of};
-ghost use Rattle.edit_cli.specs.Runs.{AskForNone, IsDone, IsRefused};
+ghost use Rattle.edit_document.specs.Errors.{IsMemory};
+ghost use Rattle.edit_document.specs.declared.errors.Error.TheVariants.{Output};
+ghost use Rattle.edit_cli.specs.Runs.{IsDone, AreAtFault, IsRefused, IsRunCause, status_of};
 
 #[cfg(test)]
 mod tests;
 
 use crate::arguments::{command, upgrade_words};
+use crate::refusal::{Refusal, RunResult};
 use crate::upgrade::upgrade;
 use clap::error::ErrorKind;
 use edit_document::Error;
@@ -14,36 +17,75 @@ use edit_sources::Store;
 use std::alloc::Global;
 use std::io;
 
-/// Prints a refusal, and answers its status, also where the printing fails.
-pub(crate) fn refuse<E: io::Write>(error: Error, err: &mut E) -> u8
+/// Prints a refusal and its place, and answers its status, also where the printing fails.
+pub(crate) fn refuse<E: io::Write>(refusal: Refusal, err: &mut E) -> u8
     ensures { result ≡ 1 }
 {
-    let _ = writeln!(err, "Error: {error}");
+    let Refusal { error, place } = refusal;
+    let printed = writeln!(err, "Error: {error}");
+    if let (Ok(()), Some(place)) = (printed, place) {
+        let _ = writeln!(err, "  at {place}");
+    }
     1
 }
 
-/// Prints what `clap` says in place of matches: 0 for help and version, 2 for a fault of the command line.
-fn fault<O: io::Write, E: io::Write>(error: &clap::Error, out: &mut O, err: &mut E) -> u8
-    ensures status { result ≤ 2 }
-    ensures memory { kind_of error.now ≡ ErrorKind.OutOfMemory → result ≡ 1 }
+/// Prints what `clap` says in place of matches, and answers its status: 0 for help and the version, 2 for a
+/// fault of the command line.
+fn shown<O: io::Write, E: io::Write>(error: &clap::Error, out: &mut O, err: &mut E) -> RunResult<u8>
+    ensures ok { IfOk result (λ s. s ≡ status_of (kind_of error.now)) }
+    ensures small { IfOk result (λ s. (s ≡ 0) ⊎ (s ≡ 2)) }
+    ensures memory { kind_of error.now ≡ ErrorKind.OutOfMemory → IsErrAnd result (λ r. IsMemory r.error) }
+    ensures refused { IfErr result (λ r. IsMemory r.error
+        ⊎ ((r.error ≡ Output) × (status_of (kind_of error.now) ≡ 0))) }
 {
     if error.kind() == ErrorKind::OutOfMemory {
-        return refuse(Error::Memory, err);
+        return Err(Refusal::from(Error::Memory));
     }
     if error.use_stderr() {
         let _ = write!(err, "{error}");
-        return 2;
+        return Ok(2);
     }
     match write!(out, "{error}") {
-        Ok(()) => 0,
-        Err(_) => refuse(Error::Output, err),
+        Ok(()) => Ok(0),
+        Err(_) => Err(Refusal::from(Error::Output)),
     }
 }
 
-/// Runs the words, which begin with the subcommand, and answers the status: 0 done, 1 a refusal, whose text is
-/// printed on `err` behind `Error: `, 2 a fault of the command line. `current` is the absolute folder that relative
-/// paths start from. Manifests and the index file are read and written through `files`; `index_files` serves the
-/// indexes of folders, and `cargo_home` the configurations, which no command reads so far.
+/// What the words come to: a status, or a refusal with its cause.
+fn answer<S: Store, O: io::Write, E: io::Write>(
+    alloc: Global,
+    words: &[&str],
+    current: &str,
+    files: &mut S,
+    out: &mut O,
+    err: &mut E,
+) -> RunResult<u8>
+    ensures answered { IfOk result (λ s. s ≢ 0 → files.new ≡ files.old) }
+    ensures fault { IfOk result (λ s. s ≢ 0 → (s ≡ 2) × AreAtFault (map (λ w. w.now) words.now)) }
+    ensures done { IfOk result (λ s. s ≡ 0 → S.tells files.old ≡ true
+        → IsDone (map (λ w. w.now) words.now) current.now (S.file_at files.old) (S.file_at files.new)) }
+    ensures refused { OnErr result (S.tells files.old ≡ true
+        → IsRefused (map (λ w. w.now) words.now) current.now (S.file_at files.old) (S.file_at files.new)) }
+    ensures why { IfErr result (λ r. IsRunCause (map (λ w. w.now) words.now) current.now
+        (S.tells files.old) (S.file_at files.old) (S.faults files.old) (S.faults files.new) r.error) }
+{
+    let command = command(alloc)?;
+    let matches = match command.try_get_matches_from(words) {
+        Ok(matches) => matches,
+        Err(error) => return shown(&error, out, err),
+    };
+    let Some(("upgrade", matches)) = matches.subcommand() else {
+        return Ok(2);
+    };
+    upgrade(alloc, &upgrade_words(matches), current, files)?;
+    Ok(0)
+}
+
+/// Runs the words, which begin with the subcommand, and answers the status: 0 done; 1 a refusal, whose text is
+/// printed on `err` behind `Error: `, with its place in a second line where it is known; 2 a fault of the
+/// command line, also an empty path. `current` is the absolute folder that relative paths start from. Manifests
+/// and the index file are read and written through `files`; `index_files` serves the indexes of folders, and
+/// `cargo_home` the configurations, which no command reads so far.
 pub(crate) fn run<S: Store, T: Store + Drop, O: io::Write, E: io::Write>(
     alloc: Global,
     words: &[&str],
@@ -56,25 +98,14 @@ pub(crate) fn run<S: Store, T: Store + Drop, O: io::Write, E: io::Write>(
 ) -> u8
     ensures status { result ≤ 2 }
     ensures faulty { result ≡ 2 → files.new ≡ files.old }
-    ensures fault { result ≡ 2 → AskForNone (map (λ w. w.now) words.now) }
+    ensures fault { result ≡ 2 → AreAtFault (map (λ w. w.now) words.now) }
     ensures done { result ≡ 0 → S.tells files.old ≡ true
         → IsDone (map (λ w. w.now) words.now) current.now (S.file_at files.old) (S.file_at files.new) }
     ensures refused { result ≡ 1 → S.tells files.old ≡ true
         → IsRefused (map (λ w. w.now) words.now) current.now (S.file_at files.old) (S.file_at files.new) }
 {
-    let command = match command(alloc) {
-        Ok(command) => command,
-        Err(_) => return refuse(Error::Memory, err),
-    };
-    let matches = match command.try_get_matches_from(words) {
-        Ok(matches) => matches,
-        Err(error) => return fault(&error, out, err),
-    };
-    let Some(("upgrade", matches)) = matches.subcommand() else {
-        return 2;
-    };
-    match upgrade(alloc, &upgrade_words(matches), current, files) {
-        Ok(()) => 0,
-        Err(error) => refuse(error, err),
+    match answer(alloc, words, current, files, out, err) {
+        Ok(status) => status,
+        Err(refusal) => refuse(refusal, err),
     }
 }

@@ -1,7 +1,9 @@
 //! The command `upgrade`: reads, plans, then writes.
-ghost use Rattle.std.specs.Prelude.{◌≡◌, ◌⊎◌, ◌≤◌, [], ◌∷◌, All, IfErr, IfOk, OnErr, OnOk, length, option_copied, option_map, string_bytes, true};
+ghost use Rattle.std.specs.Prelude.{◌≡◌, ◌⊎◌, ◌≤◌, IfErr, IfOk, IsUtf8, OnErr, OnOk, option_copied, option_map, string_bytes, true};
 ghost use Rattle.edit_document.specs.Errors.{IsMemory, number_of};
-ghost use Rattle.edit_document.specs.Shown.{tree_of};
+ghost use Rattle.edit_document.specs.Grammar.{Text};
+ghost use Rattle.edit_document.specs.Shown.{ShowsTree, tree_of};
+ghost use Rattle.edit_document.specs.Supported.{IsManifest};
 ghost use Rattle.edit_document.specs.declared.errors.DeviceCall.TheVariants as call;
 ghost use Rattle.edit_record.specs.RustVersions.{numbers_of};
 ghost use Rattle.edit_sources.specs.ConfigurationFiles.{OnlyReads};
@@ -13,13 +15,22 @@ ghost use Rattle.edit_cli.specs.Upgrading.{HasRust, IsCutShort, IsDefault, IsInd
 
 use crate::arguments::UpgradeWords;
 use crate::locate::{absolute, find};
-use cargo_edit::{Input, Options, Output, plan_upgrade};
+use crate::refusal::{RunResult, at_byte, at_path};
+use cargo_edit::{Input, Options, Output, plan_documents};
 use edit_document::{CargoResult, Document, Error};
 use edit_record::RustVersion;
 use edit_sources::{Config, FileIndex, IndexCache, Store};
 use std::alloc::Global;
+use std::slice::from_ref;
 
-// The text of `package.KEY`, where it is a string.
+/// A manifest that was read: what is to be planned, and the document that its bytes are.
+#[derive(Drop)]
+struct Manifest {
+    input: Input,
+    document: Document,
+}
+
+/// The text of `package.KEY`, where it is a string.
 fn package_text<'a>(document: &'a Document, key: &str) -> Option<&'a str>
     ensures { option_map (λ s. s.now) result ≡ package_text (tree_of document.entry.now) key.now }
 {
@@ -29,17 +40,17 @@ fn package_text<'a>(document: &'a Document, key: &str) -> Option<&'a str>
     item.as_str()
 }
 
-// The number of the refusal for want of memory.
+/// The number of the refusal for want of memory.
 const MEMORY: u32 = 46;
 
-// The number of a refusal, which is let go.
+/// The number of a refusal, which is let go.
 fn number(error: Error) -> u32
     ensures { result ≡ number_of error }
 {
     error.number()
 }
 
-// The manifest's own Rust version, where it is there and is read.
+/// The manifest's own Rust version, where it is there and is read.
 fn own_rust_version(alloc: Global, document: &Document) -> CargoResult<Option<RustVersion>>
     ensures ok { IfOk result (λ v. option_map numbers_of v ≡ own_rust (tree_of document.now)) }
     ensures refused { IfErr result IsMemory }
@@ -58,7 +69,7 @@ fn own_rust_version(alloc: Global, document: &Document) -> CargoResult<Option<Ru
     }
 }
 
-// What reports call the manifest.
+/// What reports call the manifest.
 fn own_name(alloc: Global, document: &Document) -> CargoResult<String>
     ensures { IfErr result IsMemory }
 {
@@ -66,68 +77,96 @@ fn own_name(alloc: Global, document: &Document) -> CargoResult<String>
     Ok(String::from_str(alloc, name)?)
 }
 
-// The manifest to plan for, by its own name and Rust version.
-fn input_of(alloc: Global, path: String, bytes: Vec<u8>) -> CargoResult<Input>
-    ensures path { IfOk result (λ i. i.path ≡ path) }
-    ensures bytes { IfOk result (λ i. i.bytes ≡ bytes) }
-    ensures version { IfOk result (λ i. HasRust bytes.items (option_map numbers_of i.rust_version)) }
-    ensures refused { IfErr result (IsBadManifest bytes.items) }
+/// Reads the bytes of a manifest.
+fn read_document(alloc: Global, bytes: &[u8]) -> CargoResult<Document>
+    ensures bytes { IfOk result (λ d. d.bytes ≡ bytes.now) }
+    ensures read { IfOk result (λ d. (form : Text) × IsManifest bytes.now form × ShowsTree d form) }
+    ensures utf8 { OnOk result (IsUtf8 bytes.now) }
+    ensures refused { IfErr result (IsBadManifest bytes.now) }
 {
-    let Ok(text) = str::from_utf8(&bytes) else {
+    let Ok(text) = str::from_utf8(bytes) else {
         return Err(Error::NotUtf8);
     };
-    let document = Document::read(alloc, text)?;
+    Document::read(alloc, text)
+}
+
+/// The manifest to plan for, by its own name and Rust version. Its bytes are read once.
+fn manifest_of(alloc: Global, path: String, bytes: Vec<u8>) -> RunResult<Manifest>
+    ensures path { IfOk result (λ m. m.input.path ≡ path) }
+    ensures bytes { IfOk result (λ m. m.input.bytes ≡ bytes) }
+    ensures document { IfOk result (λ m. m.document.bytes ≡ bytes.items) }
+    ensures version { IfOk result (λ m. HasRust bytes.items (option_map numbers_of m.input.rust_version)) }
+    ensures refused { IfErr result (λ r. IsBadManifest bytes.items r.error) }
+{
+    let document = match read_document(alloc, &bytes) {
+        Ok(document) => document,
+        Err(error) => return Err(at_byte(alloc, error, path.as_str(), &bytes)),
+    };
     let name = own_name(alloc, &document)?;
     let rust_version = own_rust_version(alloc, &document)?;
-    Ok(Input {
+    let input = Input {
         name,
         path,
         bytes,
         rust_version,
-    })
+    };
+    Ok(Manifest { input, document })
 }
 
-// Reads the manifest that is named.
+/// Reads the manifest that is named.
 fn read_manifest<S: Store>(
     alloc: Global,
     named: &str,
     current: &str,
     files: &mut S,
-) -> CargoResult<Input>
-    ensures store { OnlyReads (S.tells files.old) (S.tells files.new) (S.file_at files.old) (S.file_at files.new) (S.faults files.old) (S.faults files.new) }
-    ensures read { IfOk result (λ i. S.tells files.old ≡ true → IsManifestRead (S.file_at files.old) current.now named.now
-        (string_bytes i.path) i.bytes.items (option_map numbers_of i.rust_version)) }
-    ensures refused { IfErr result (λ e. IsFault call.Kind (S.faults files.old) (S.faults files.new) e
-        ⊎ (IsFault call.Read (S.faults files.old) (S.faults files.new) e
-        ⊎ (S.tells files.old ≡ true → IsManifestCause (S.file_at files.old) current.now named.now e))) }
+) -> RunResult<Manifest>
+    ensures store { OnlyReads (S.tells files.old) (S.tells files.new)
+        (S.file_at files.old) (S.file_at files.new) (S.faults files.old) (S.faults files.new) }
+    ensures read { IfOk result (λ m. S.tells files.old ≡ true
+        → IsManifestRead (S.file_at files.old) current.now named.now
+        (string_bytes m.input.path) m.input.bytes.items (option_map numbers_of m.input.rust_version)) }
+    ensures document { IfOk result (λ m. m.document.bytes ≡ m.input.bytes.items) }
+    ensures refused { IfErr result (λ r. IsFault call.Kind (S.faults files.old) (S.faults files.new) r.error
+        ⊎ (IsFault call.Read (S.faults files.old) (S.faults files.new) r.error
+        ⊎ (S.tells files.old ≡ true
+        → IsManifestCause (S.file_at files.old) current.now named.now r.error))) }
 {
     let path = find(alloc, files, named, current)?;
-    let Some(bytes) = files.read(alloc, path.as_str())? else {
-        return Err(Error::NoManifest);
+    let bytes = match files.read(alloc, path.as_str()) {
+        Ok(Some(bytes)) => bytes,
+        Ok(None) => return Err(at_path(alloc, Error::NoManifest, path.as_str())),
+        Err(error) => return Err(at_path(alloc, error, path.as_str())),
     };
-    input_of(alloc, path, bytes)
+    manifest_of(alloc, path, bytes)
 }
 
-// Reads the index file that is named.
+/// Reads the index file that is named.
 fn read_index<S: Store>(
     alloc: Global,
     named: &str,
     current: &str,
     files: &mut S,
-) -> CargoResult<FileIndex>
-    ensures store { OnlyReads (S.tells files.old) (S.tells files.new) (S.file_at files.old) (S.file_at files.new) (S.faults files.old) (S.faults files.new) }
-    ensures read { IfOk result (λ i. S.tells files.old ≡ true → IsIndexRead (S.file_at files.old) current.now named.now i) }
-    ensures refused { IfErr result (λ e. IsFault call.Read (S.faults files.old) (S.faults files.new) e
-        ⊎ (S.tells files.old ≡ true → IsIndexCause (S.file_at files.old) current.now named.now e)) }
+) -> RunResult<FileIndex>
+    ensures store { OnlyReads (S.tells files.old) (S.tells files.new)
+        (S.file_at files.old) (S.file_at files.new) (S.faults files.old) (S.faults files.new) }
+    ensures read { IfOk result (λ i. S.tells files.old ≡ true
+        → IsIndexRead (S.file_at files.old) current.now named.now i) }
+    ensures refused { IfErr result (λ r. IsFault call.Read (S.faults files.old) (S.faults files.new) r.error
+        ⊎ (S.tells files.old ≡ true → IsIndexCause (S.file_at files.old) current.now named.now r.error)) }
 {
     let path = absolute(alloc, current, named)?;
-    let Some(lines) = files.read(alloc, path.as_str())? else {
-        return Err(Error::NoPath);
+    let lines = match files.read(alloc, path.as_str()) {
+        Ok(Some(lines)) => lines,
+        Ok(None) => return Err(at_path(alloc, Error::NoPath, path.as_str())),
+        Err(error) => return Err(at_path(alloc, error, path.as_str())),
     };
-    FileIndex::read(alloc, &lines)
+    match FileIndex::read(alloc, &lines) {
+        Ok(index) => Ok(index),
+        Err(error) => Err(at_path(alloc, error, path.as_str())),
+    }
 }
 
-// What is allowed where no word says otherwise.
+/// What is allowed where no word says otherwise.
 fn default_options(alloc: Global) -> Options
     ensures { IsDefault result }
 {
@@ -144,53 +183,41 @@ fn default_options(alloc: Global) -> Options
     }
 }
 
-// The one manifest, as the list of what is planned.
-fn one_input(alloc: Global, input: Input) -> CargoResult<Vec<Input>>
-    ensures ok { IfOk result (λ v. v.items ≡ input ∷ []) }
-    ensures refused { IfErr result IsMemory }
-{
-    let mut inputs = Vec::new(alloc);
-    inputs.push(input)?;
-    Ok(inputs)
-}
-
-// The configurations of one manifest: it has none.
-fn no_configurations(alloc: Global) -> CargoResult<Vec<Vec<Config>>>
-    ensures one { IfOk result (λ v. length v.items ≡ 1) }
-    ensures empty { IfOk result (λ v. All (λ c. c.items ≡ []) v.items) }
-    ensures refused { IfErr result IsMemory }
-{
-    let mut configs = Vec::new(alloc);
-    configs.push(Vec::new(alloc))?;
-    Ok(configs)
-}
-
-// The outputs of the plan for a manifest over an index.
-fn outputs_for(alloc: Global, input: Input, index: FileIndex) -> CargoResult<Vec<Output>>
-    ensures ok { IfOk result (λ v. IsPlanned (string_bytes input.path) input.bytes.items (option_map numbers_of input.rust_version) index v.items) }
-    ensures refused { IfErr result (λ e. IsMemory e ⊎ IsPlanCause input.bytes.items index e) }
+/// The outputs of the plan for a manifest over an index. It has no configurations.
+fn outputs_for(alloc: Global, manifest: &Manifest, index: FileIndex) -> CargoResult<Vec<Output>>
+    requires { manifest.now.document.bytes ≡ manifest.now.input.bytes.items }
+    ensures ok { IfOk result (λ v.
+        IsPlanned (string_bytes manifest.now.input.path) manifest.now.input.bytes.items
+        (option_map numbers_of manifest.now.input.rust_version) index v.items) }
+    ensures refused { IfErr result (λ e. IsMemory e ⊎ IsPlanCause manifest.now.input.bytes.items index e) }
 {
     let mut cache = IndexCache::new(alloc, index);
-    let inputs = one_input(alloc, input)?;
-    let configs = no_configurations(alloc)?;
+    let inputs = from_ref(&manifest.input);
+    let documents = from_ref(&manifest.document);
+    let none: Vec<Config> = Vec::new(alloc);
+    let configs = from_ref(&none);
     let options = default_options(alloc);
-    match plan_upgrade(alloc, &options, &inputs, &configs, &mut cache) {
-        Ok(plan) => Ok(plan.outputs),
-        Err(error) => Err(error),
-    }
+    let plan = plan_documents(alloc, &options, inputs, documents, configs, &mut cache)?;
+    Ok(plan.outputs)
 }
 
-// Writes the output of a plan for one manifest, where there is one.
-fn write_output<S: Store>(alloc: Global, files: &mut S, output: Option<&Output>) -> CargoResult<()>
+/// Writes the output of a plan for one manifest, where there is one.
+fn write_output<S: Store>(alloc: Global, files: &mut S, output: Option<&Output>) -> RunResult<()>
     ensures tells { S.tells files.new ≡ S.tells files.old }
     ensures later { S.faults files.old ≤ S.faults files.new }
-    ensures written { OnOk result (S.tells files.old ≡ true → IsWritten (option_copied output.entry) (S.file_at files.old) (S.file_at files.new)) }
-    ensures torn { OnErr result (IsTorn (option_copied output.entry) (S.file_at files.old) (S.file_at files.new)) }
-    ensures refused { IfErr result (IsFault call.Write (S.faults files.old) (S.faults files.new)) }
+    ensures written { OnOk result (S.tells files.old ≡ true
+        → IsWritten (option_copied output.entry) (S.file_at files.old) (S.file_at files.new)) }
+    ensures torn { OnErr result
+        (IsTorn (option_copied output.entry) (S.file_at files.old) (S.file_at files.new)) }
+    ensures refused { IfErr result (λ r.
+        IsFault call.Write (S.faults files.old) (S.faults files.new) r.error) }
 {
-    match output {
-        Some(output) => files.write(alloc, output.path.as_str(), &output.bytes),
-        None => Ok(()),
+    let Some(output) = output else {
+        return Ok(());
+    };
+    match files.write(alloc, output.path.as_str(), &output.bytes) {
+        Ok(()) => Ok(()),
+        Err(error) => Err(at_path(alloc, error, output.path.as_str())),
     }
 }
 
@@ -200,19 +227,22 @@ pub(crate) fn upgrade<S: Store>(
     words: &UpgradeWords<'_>,
     current: &str,
     files: &mut S,
-) -> CargoResult<()>
+) -> RunResult<()>
     ensures tells { S.tells files.new ≡ S.tells files.old }
-    ensures done { OnOk result (S.tells files.old ≡ true → IsUpgraded current.now words.now.manifest_path.now words.now.index_file.now
-        (S.file_at files.old) (S.file_at files.new)) }
+    ensures done { OnOk result (S.tells files.old ≡ true → IsUpgraded current.now words.now.manifest_path.now
+        words.now.index_file.now (S.file_at files.old) (S.file_at files.new)) }
     // a refusal before the write leaves each file as it was
-    ensures refused { OnErr result (S.tells files.old ≡ true → SameFiles (S.file_at files.old) (S.file_at files.new)
-        ⊎ IsCutShort current.now words.now.manifest_path.now words.now.index_file.now (S.file_at files.old) (S.file_at files.new)) }
+    ensures refused { OnErr result (S.tells files.old ≡ true
+        → SameFiles (S.file_at files.old) (S.file_at files.new)
+        ⊎ IsCutShort current.now words.now.manifest_path.now words.now.index_file.now
+        (S.file_at files.old) (S.file_at files.new)) }
     // and each refusal has its cause
-    ensures why { IfErr result (IsUpgradeCause (S.tells files.old) (S.file_at files.old) current.now words.now.manifest_path.now
-        words.now.index_file.now (S.faults files.old) (S.faults files.new)) }
+    ensures why { IfErr result (λ r. IsUpgradeCause (S.tells files.old) (S.file_at files.old) current.now
+        words.now.manifest_path.now words.now.index_file.now
+        (S.faults files.old) (S.faults files.new) r.error) }
 {
-    let input = read_manifest(alloc, words.manifest_path, current, files)?;
+    let manifest = read_manifest(alloc, words.manifest_path, current, files)?;
     let index = read_index(alloc, words.index_file, current, files)?;
-    let outputs = outputs_for(alloc, input, index)?;
+    let outputs = outputs_for(alloc, &manifest, index)?;
     write_output(alloc, files, outputs.first())
 }

@@ -1,7 +1,8 @@
 //! The program's rows, over files in memory.
-use super::*;
+use super::run;
 use edit_document::paths::join;
-use edit_sources::{FaultStore, HostStore, MemoryStore};
+use edit_sources::{FaultStore, HostStore, MemoryStore, Store};
+use std::alloc::Global;
 use std::test::Fail;
 use std::{fs, process, str};
 
@@ -15,34 +16,81 @@ const INDEX: &str = "{\"name\":\"serde\",\"vers\":\"1.2.3\"}\n";
 
 const WORDS: &str = "upgrade --manifest-path Cargo.toml --index-file index.json";
 
-/// Each row: what it shows, the files, which call of the store fails (9: none), the words (`-`: the usual ones), and
-/// the status, the manifest afterwards and what was printed on standard error.
+const EMPTY_PATH: &str = "\
+error: a value is required for '--manifest-path <PATH>' but none was supplied
+
+For more information, try '--help'.
+";
+
+const NO_INDEX_FILE: &str = "\
+error: the following required arguments were not provided:
+  --index-file <FILE>
+
+Usage: cargo-edit upgrade --manifest-path <PATH> --index-file <FILE>
+
+For more information, try '--help'.
+";
+
+const UPGRADE_HELP: &str = "\
+Raises the dependency requirements of a manifest
+
+Usage: cargo-edit upgrade --manifest-path <PATH> --index-file <FILE>
+
+Options:
+      --manifest-path <PATH>  The manifest, or a folder with one
+      --index-file <FILE>     Index lines, as a registry's index has them
+  -h, --help                  Print help
+  -V, --version               Print version
+";
+
+/// Each row: what it shows, the files, which call of the store fails (9: none), the words (`-`: the usual ones,
+/// `''` an empty one), and the status, the manifest afterwards and what was printed on standard error.
 const ROWS: &str = "\
 raises one manifest|mi|9|-|0 raised \
 @nothing there|i|9|-|1 none Error: Failed to get cargo file metadata
+  at /w/Cargo.toml
 @a folder in its place|b|9|-|1 none Error: Failed to read manifest contents
+  at /w/Cargo.toml
 @absent index|m|9|-|1 manifest Error: Failed to get cargo file metadata
+  at /w/index.json
 @no text, before the index|u|9|-|1 other Error: Failed to read manifest contents
+  at /w/Cargo.toml
 @no document, before the index|d|9|-|1 other Error: Unable to parse Cargo.toml
+  at /w/Cargo.toml:1:7
+@no document, behind letters of two bytes|e|9|-|1 other Error: Unable to parse Cargo.toml
+  at /w/Cargo.toml:2:7
 @a folder for the index|mf|9|-|1 manifest Error: Failed to get cargo file metadata
+  at /w/index.json
 @a malformed line|ml|9|-|1 manifest Error: Invalid index line 1
+  at /w/index.json:1
 @a name that no index has|oi|9|-|1 odd name Error: Invalid crate name `no name`
 @found above|snm|9|upgrade --manifest-path a/./b/ --index-file ../w//index.json|1 manifest Error: Invalid index line 2
+  at /w/index.json:2
 @not found above|sn|9|upgrade --manifest-path a/./b/ --index-file ../w//index.json|1 none Error: Unable to find Cargo.toml for /w/a/b
 @the look fails|mi|0|-|1 manifest Error: Failed to look at a path
+  at /w/Cargo.toml
+@the look above fails|snm|1|upgrade --manifest-path a/b --index-file index.json|1 manifest Error: Failed to look at a path
+  at /w/a/b/Cargo.toml
 @the manifest's read fails|mi|1|-|1 manifest Error: Failed to read a file
+  at /w/Cargo.toml
 @the index file's read fails|mi|2|-|1 manifest Error: Failed to read a file
+  at /w/index.json
 @the write fails after four bytes|mi|3|-|1 cut Error: Failed to write updated Cargo.toml
+  at /w/Cargo.toml
 ";
 
-/// Rows of which the status alone is compared.
+/// Rows of which the status alone is compared. The manifest stays as it was.
 const STATUSES: &str = "\
-help||9|upgrade --help|0 \
-@version||9|upgrade -V|0 \
-@a flag that none has||9|upgrade --nope|2 \
-@no index file||9|upgrade --manifest-path Cargo.toml|2 \
-@no manifest||9|upgrade --index-file index.json|2 \
-@no words||9||2 ";
+help|mi|9|upgrade --help|0 manifest \
+@version|mi|9|upgrade -V|0 manifest \
+@a flag that none has|mi|9|upgrade --nope|2 manifest \
+@no index file|mi|9|upgrade --manifest-path Cargo.toml|2 manifest \
+@no manifest|mi|9|upgrade --index-file index.json|2 manifest \
+@an empty path of a manifest|mi|9|upgrade --manifest-path '' --index-file index.json|2 manifest \
+@an empty path behind an equals sign|mi|9|upgrade --manifest-path= --index-file index.json|2 manifest \
+@an empty path of an index file|mi|9|upgrade --manifest-path Cargo.toml --index-file ''|2 manifest \
+@another subcommand|mi|9|raise --manifest-path Cargo.toml --index-file index.json|2 manifest \
+@no words|mi|9||2 manifest ";
 
 /// The field of a row, from 0.
 fn field(row: &str, number: usize) -> &str {
@@ -52,7 +100,7 @@ fn field(row: &str, number: usize) -> &str {
 /// Where a file of a row stands.
 fn path_of(file: char) -> &'static str {
     match file {
-        'm' | 'u' | 'd' | 'o' => "/w/Cargo.toml",
+        'm' | 'u' | 'd' | 'e' | 'o' => "/w/Cargo.toml",
         'b' => "/w/Cargo.toml/x",
         's' => "/w/a/b/x",
         'f' => "/w/index.json/x",
@@ -68,6 +116,7 @@ fn bytes_of(file: char) -> &'static [u8] {
         'i' => INDEX.as_bytes(),
         'u' => b"\xff".as_slice(),
         'd' => b"a = 1 2",
+        'e' => "# é\n'é' = é\n".as_bytes(),
         'l' => b"{\"name\":\"a\"}",
         'n' => b"\n{}\n",
         _ => b"",
@@ -108,9 +157,13 @@ fn shown(alloc: Global, status: u8, after: Option<&[u8]>, err: &[u8]) -> Option<
     format!(in alloc; "{status} {after} {err}").ok()
 }
 
-/// Runs words over files, from a folder.
-fn outcome<S: Store>(alloc: Global, words: &[&str], folder: &str, files: &mut S) -> Option<String> {
-    let path = join(alloc, folder, "Cargo.toml").ok()?;
+/// What words print over files, from a folder: the status, and both streams.
+fn printed<S: Store>(
+    alloc: Global,
+    words: &[&str],
+    folder: &str,
+    files: &mut S,
+) -> (u8, Vec<u8>, Vec<u8>) {
     let index_files = MemoryStore::new(alloc);
     let mut out = Vec::new(alloc);
     let mut err = Vec::new(alloc);
@@ -124,6 +177,13 @@ fn outcome<S: Store>(alloc: Global, words: &[&str], folder: &str, files: &mut S)
         &mut out,
         &mut err,
     );
+    (status, out, err)
+}
+
+/// Runs words over files, from a folder.
+fn outcome<S: Store>(alloc: Global, words: &[&str], folder: &str, files: &mut S) -> Option<String> {
+    let path = join(alloc, folder, "Cargo.toml").ok()?;
+    let (status, _, err) = printed(alloc, words, folder, files);
     let after = files.read(alloc, path.as_str()).ok()?;
     shown(alloc, status, after.as_deref(), &err)
 }
@@ -131,7 +191,11 @@ fn outcome<S: Store>(alloc: Global, words: &[&str], folder: &str, files: &mut S)
 /// The words of a row.
 fn words_of<'a>(alloc: Global, text: &'a str) -> Option<Vec<&'a str>> {
     let text = if text == "-" { WORDS } else { text };
-    text.split_ascii_whitespace().collect(alloc).ok()
+    let words = text.split_ascii_whitespace();
+    words
+        .map(|word| if word == "''" { "" } else { word })
+        .collect(alloc)
+        .ok()
 }
 
 /// Runs a row.
@@ -152,6 +216,36 @@ fn rows(rt: HostRuntime) -> Result<(), Fail> {
     for row in STATUSES.split('@') {
         let seen = ran(rt.alloc(), row).ok_or("no outcome")?;
         assert!(rt; seen.starts_with(field(row, 4)), "{row}");
+    }
+    Ok(())
+}
+
+/// What a row of words prints over no files: the status, then standard output, then standard error.
+fn texts_of(alloc: Global, text: &str) -> Option<String> {
+    let words = words_of(alloc, text)?;
+    let mut files = MemoryStore::new(alloc);
+    let (status, out, err) = printed(alloc, words.as_slice(), "/w", &mut files);
+    let out = str::from_utf8(&out).ok()?;
+    let err = str::from_utf8(&err).ok()?;
+    format!(in alloc; "{status} {out}{err}").ok()
+}
+
+#[test]
+fn texts(rt: HostRuntime) -> Result<(), Fail> {
+    let rows = [
+        (
+            "2 ",
+            EMPTY_PATH,
+            "upgrade --manifest-path '' --index-file index.json",
+        ),
+        ("2 ", NO_INDEX_FILE, "upgrade --manifest-path Cargo.toml"),
+        ("0 ", UPGRADE_HELP, "upgrade --help"),
+        ("0 ", "cargo-edit-upgrade 0.13.14\n", "upgrade -V"),
+    ];
+    for (status, text, words) in rows {
+        let seen = texts_of(rt.alloc(), words).ok_or("no text")?;
+        assert_eq!(rt; &seen.as_str()[..2], status, "{words}");
+        assert_eq!(rt; &seen.as_str()[2..], text, "{words}");
     }
     Ok(())
 }

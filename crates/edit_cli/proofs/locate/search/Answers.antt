@@ -22,17 +22,17 @@ folders-preserved g c =
         later = omega (arith, before.store.later, c.manifest_at.ensures.store.later);
       };
       passed = passed_more _ _ _ (g.S.Store.file_at c.folders.files) _ c.folders.dir.now _ before.store.tells before.store.files before.passed on c.folder-dir.ensures
-          (rw c.in-Ok-None.field-0-is at c.in-Ok-None.ensures.found);
+          (rw c.in_default.is at c.in_ok-path.ensures.found);
     }
 
-pub returns-in-Ok-None-manifest_at-clause-refused : goal.returns-in-Ok-None-manifest_at-clause-refused
-returns-in-Ok-None-manifest_at-clause-refused g c =
+pub returns-in-None-clause-refused : goal.returns-in-None-clause-refused
+returns-in-None-clause-refused g c =
     let before = c.folders.invariant in
     let root : c.folders.dir.now ≡ codes "/" = search rules in
     ⊎_elim (λ memory. inl (inl memory))
     (λ named. inr (λ t. (
       named,
       none_above _ _ _ (g.S.Store.file_at c.folders.files) _ c.folders.dir.now before.store.tells before.store.files before.passed root
-          (rw c.in-Ok-None-manifest_at.field-0-is at c.in-Ok-None-manifest_at.ensures.found) t,
+          (rw c.in-None.is at c.in_ok-path-2.ensures.found) t,
     )))
     c.not_found.ensures

@@ -2,8 +2,8 @@ use Rattle.std.proofs.Common.{inr, string_bytes}
 use Rattle.edit_cli.proofs.Causing.{folder_there}
 use Rattle.edit_cli.proofs.upgrade.read_manifest.Goals as goal
 
-pub returns-in_default-clause-refused : goal.returns-in_default-clause-refused
-returns-in_default-clause-refused g c =
-    let none = rw c.in_default.is at c.in_ok-bytes.ensures.bytes in
-    inr (inr (folder_there _ _ (g.S.Store.file_at c.args.files.now) (g.S.Store.file_at c.find.new.files) c.args.current.now c.args.named.now (string_bytes c.in_ok-path.path) c.as_str.result.now
+pub returns-in-Ok-None-clause-refused : goal.returns-in-Ok-None-clause-refused
+returns-in-Ok-None-clause-refused g c =
+    let none = rw c.in-Ok-None.field-0-is at c.in-Ok-None.ensures.bytes in
+    inr (inr (folder_there _ _ (g.S.Store.file_at c.args.files.now) (g.S.Store.file_at c.find.new.files) c.args.current.now c.args.named.now (string_bytes c.in_ok-path.path) c.as_str.result.now _ c.at_path.ensures
     c.in_ok-path.ensures.store.tells c.in_ok-path.ensures.store.files c.as_str.ensures.value c.in_ok-path.ensures.found none))
