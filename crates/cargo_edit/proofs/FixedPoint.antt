@@ -2,7 +2,7 @@
 use Rattle.std.proofs.Common.{◌≡◌, ◌++◌, ◌∷◌, ◌+◌, suc, arith, [], List, ℕ, Option, Some, None, Bool, true, false, refl, ap, ◌∙◌, sym, subst, inl, inr, append-nil, append_assoc}
 use Rattle.std.specs.Prelude.{All, ◌==◌, is_ok, is_some, nat_eq}
 use Rattle.std.specs.Cmp.Lexicographic.{pointwise}
-use Rattle.std.specs.List.{AllByRecursion, position_or_len}
+use Rattle.std.specs.List.{AllByRecursion, AllZip, position_or_len}
 use Rattle.std.proofs.lemmas.Bool.{cases_Bool}
 use Rattle.std.proofs.lemmas.List.Elements.{All-cons, All-nil}
 use Rattle.semver.specs.Grammar.{IsValid}
@@ -18,13 +18,20 @@ use Rattle.edit_record.proofs.Greatests.{advanced}
 use Rattle.edit_record.proofs.NoPlus.{cut-none, plain-whole, raised-whole}
 use Rattle.edit_record.proofs.Orders.{full_total, greatest-has}
 use Rattle.edit_record.proofs.Outcomes.{valid-version}
+use Rattle.edit_sources.proofs.AddressLemmas.{one_url}
+use Rattle.url.specs.Parts as url
+use Rattle.url.specs.Parts.{serialize}
 use Rattle.cargo_edit.specs.Decision.{Outcome, compatible_text, decision, first_row, given, kept, latest_text, left_out, may_jump, row_change, row_of, row_text, text_or, to_compatible, to_latest, unless_old, unread, when}
 use Rattle.cargo_edit.specs.Headline.{HasNoChange}
+use Rattle.cargo_edit.specs.Inputs.{Setting}
+use Rattle.cargo_edit.specs.Looks.{told}
 use Rattle.cargo_edit.specs.Records.{Seen}
-use Rattle.cargo_edit.specs.Rows.{AreDecided, IsDecided, Line, Setting, case_for, line_for, write_at}
+use Rattle.cargo_edit.specs.Rows.{IsDecided, Line, case_for, line_for, write_at}
+use Rattle.cargo_edit.specs.Upgraded.{AreVersionsFor, IsRow}
 use Rattle.cargo_edit.specs.declared.upgrade.Change.{Change}
 use Rattle.cargo_edit.specs.declared.upgrade.Options.{Options}
 use Rattle.cargo_edit.proofs.DecidedAgain.{again}
+use Rattle.cargo_edit.proofs.HeadlineRows.{offered-valid}
 use Rattle.cargo_edit.proofs.Taken.{far-some, near-some, newer-latest, when-some}
 use Rattle.cargo_edit.proofs.WrittenEntries.{old_after, renew, renewed}
 
@@ -51,13 +58,23 @@ some-line i o xs e =
       record { near = near.0; far = far.0; compatible = near.1; latest = far.1; is = refl },
     )
 
--- each list of entries has rows
-pub some-lines : (s : Setting) (es : List Seen) → (lines : List Line) × AreDecided s es lines
-some-lines s [] = ([], tt)
-some-lines s (e ∷ es) =
-    let first = some-line s.input s.options (s.versions e.name) e in
-    let rest = some-lines s es in
-    (first.0 ∷ rest.0, (first.1, rest.1))
+-- the entries that rows leave have rows
+pub some-again : (s : Setting) (es : List Seen) (ls : List Line) → AllZip (IsRow s) es ls
+    → (ms : List Line) × AllZip (IsRow s) (renewed es ls) ms
+some-again s [] [] h = ([], tt)
+some-again s [] (l ∷ ls) h = absurd h
+some-again s (e ∷ es) [] h = absurd h
+some-again s (e ∷ es) (l ∷ ls) h =
+    let next = renew e l in
+    let offered : AreVersionsFor s next h.0.versions = record {
+      address = h.0.offered.address;
+      needed = record { has = h.0.offered.needed.has; named = refl };
+      are = h.0.offered.are;
+    } in
+    let first = some-line s.input s.options h.0.versions next in
+    let row : IsRow s next first.0 = record { versions = h.0.versions; offered = offered; decided = first.1 } in
+    let rest = some-again s es ls h.1 in
+    (first.0 ∷ rest.0, (row, rest.1))
 
 -- ---- the text of a row is cut already
 
@@ -179,16 +196,28 @@ entry-again i o xs e line next new all d n g =
     ∙ ap (λ (x : List ℕ). (decision o (case_for (record e { old = x }) g.near g.far)).change) text
     ∙ again o false (is_some e.rename) xs e.old d.near d.far g.near g.far all d.compatible d.latest near far
 
+-- the versions that may be taken for entries of one name are the same
+same-versions : (s : Setting) (e f : Seen) (xs ys : List Parts) → e.name ≡ f.name → AreVersionsFor s e xs → AreVersionsFor s f ys → xs ≡ ys
+same-versions s e f xs ys q a b =
+    a.are ∙ ap (λ (n : List ℕ). told s.rust s.looks (serialize a.address) n) q
+    ∙ ap (λ (u : url.Parts). told s.rust s.looks (serialize u) f.name) (one_url s.configs None a.address b.address a.needed.has b.needed.has)
+    ∙ sym b.are
+
 -- all entries, decided on the requirements that their rows left
-pub all-again : (s : Setting) (es : List Seen) (ls ms : List Line) → ((name : List ℕ) → All IsValid (s.versions name))
-    → AllByRecursion (λ e. cut e.old ≡ e.old) es → AreDecided s es ls → AreDecided s (renewed es ls) ms → All HasNoChange ms
-all-again s [] [] [] all h d g = All-nil HasNoChange
-all-again s [] [] (m ∷ ms) all h d g = absurd g
-all-again s [] (l ∷ ls) ms all h d g = absurd d
-all-again s (e ∷ es) [] ms all h d g = absurd d
-all-again s (e ∷ es) (l ∷ ls) [] all h d g = absurd g
-all-again s (e ∷ es) (l ∷ ls) (m ∷ ms) all h d g =
-    let n = new-by s.input s.options (s.versions e.name) e l l.change (all e.name) h.0 d.0 refl in
-    let first = subst (λ (x : Seen). IsDecided s.input s.options (s.versions x.name) x m) n.2 g.0 in
-    All-cons HasNoChange m ms (entry-again s.input s.options (s.versions e.name) e l m n.0 (all e.name) d.0 n.1 first)
-    (all-again s es ls ms all h.1 d.1 g.1)
+pub all-again : (s : Setting) (es : List Seen) (ls ms : List Line) → AllByRecursion (λ e. cut e.old ≡ e.old) es
+    → AllZip (IsRow s) es ls → AllZip (IsRow s) (renewed es ls) ms → All HasNoChange ms
+all-again s [] [] [] h d g = All-nil HasNoChange
+all-again s [] [] (m ∷ ms) h d g = absurd g
+all-again s [] (l ∷ ls) ms h d g = absurd d
+all-again s (e ∷ es) [] ms h d g = absurd d
+all-again s (e ∷ es) (l ∷ ls) [] h d g = absurd g
+all-again s (e ∷ es) (l ∷ ls) (m ∷ ms) h d g =
+    let xs = d.0.versions in
+    let valid = offered-valid s e xs d.0.offered in
+    let n = new-by s.input s.options xs e l l.change valid h.0 d.0.decided refl in
+    let next : Seen = record e { old = n.0 } in
+    let row = subst (λ (x : Seen). IsRow s x m) n.2 g.0 in
+    let same = same-versions s next e row.versions xs refl row.offered d.0.offered in
+    let first = subst (λ (ys : List Parts). IsDecided s.input s.options ys next m) same row.decided in
+    All-cons HasNoChange m ms (entry-again s.input s.options xs e l m n.0 valid d.0.decided n.1 first)
+    (all-again s es ls ms h.1 d.1 g.1)

@@ -1,7 +1,8 @@
 -- What holds of each row that was decided.
-use Rattle.std.proofs.Common.{◌≡◌, ◌∷◌, [], List, ℕ, Option, Some, None, true, get_or, length, refl, ap, ◌∙◌, sym, subst, inl, inr}
-use Rattle.std.specs.Prelude.{All, IfSome, IsOk, IsSome, IsTrue, nat_eq, option_map, slice_get}
+use Rattle.std.proofs.Common.{◌≡◌, ◌∷◌, [], List, ℕ, Option, Some, None, true, length, refl, ap, ◌∙◌, sym, subst, inl, inr}
+use Rattle.std.specs.Prelude.{All, IsOk, IsSome, IsTrue, nat_eq, option_map}
 use Rattle.std.specs.Cmp.Lexicographic.{pointwise}
+use Rattle.std.specs.List.{AllZip}
 use Rattle.std.specs.Ordering.{is_ge, is_le, ordering_reverse, ordering_then}
 use Rattle.std.specs.declared.cmp.Ordering.{Ordering}
 use Rattle.std.specs.declared.cmp.Ordering.TheVariants.{Less, Equal, Greater}
@@ -9,6 +10,7 @@ use Rattle.std.proofs.lemmas.Bool.{cases_Bool}
 use Rattle.std.proofs.lemmas.List.Elements.{All-cons, All-nil}
 use Rattle.semver.specs.Grammar.{IsValid}
 use Rattle.semver.specs.Parse.{Parts, req_of}
+use Rattle.url.specs.Parts.{serialize}
 use Rattle.edit_document.specs.Tree.{view_at}
 use Rattle.edit_record.specs.Laws.{Admits, precedence}
 use Rattle.edit_record.specs.Requirement.{plain_text}
@@ -21,11 +23,11 @@ use Rattle.edit_record.proofs.Orders.{greatest-has, precedence_total}
 use Rattle.edit_sources.specs.Index.{answer_of}
 use Rattle.cargo_edit.specs.Decision.{decision, newer, or_else}
 use Rattle.cargo_edit.specs.Headline.{IsVersionTold, LatestIsNotLess, Narrows, Reaches}
-use Rattle.cargo_edit.specs.Looks.{Answer, look_at, told_setting, versions_in}
+use Rattle.cargo_edit.specs.Inputs.{Setting}
+use Rattle.cargo_edit.specs.Looks.{Answer, look_at, versions_in}
 use Rattle.cargo_edit.specs.Records.{Seen, seen}
-use Rattle.cargo_edit.specs.Rows.{AreDecided, IsDecided, Line, Setting, case_for, line_for}
-use Rattle.cargo_edit.specs.Upgraded.{HasRows}
-use Rattle.cargo_edit.specs.declared.upgrade.Look.{Look}
+use Rattle.cargo_edit.specs.Rows.{IsDecided, Line, case_for, line_for}
+use Rattle.cargo_edit.specs.Upgraded.{AreVersionsFor, HasRows, IsRow}
 use Rattle.cargo_edit.specs.declared.upgrade.Options.{Options}
 use Rattle.cargo_edit.proofs.Narrowing.{latest-not-less, narrowing, reach}
 
@@ -37,10 +39,11 @@ versions-valid rust None = All-nil IsValid
 versions-valid rust (Some None) = All-nil IsValid
 versions-valid rust (Some (Some entries)) = all-valid rust entries
 
--- so is each that the looks tell of
-pub setting-valid : (i : ℕ) (o : Options) (rust : Option Numbers) (looks : List Look) (address name : List ℕ)
-    → All IsValid ((told_setting i o rust looks address).versions name)
-setting-valid i o rust looks address name = versions-valid rust (option_map (λ look. answer_of look.answer) (look_at looks address name))
+-- so is each that may be taken for an entry
+pub offered-valid : (s : Setting) (e : Seen) (xs : List Parts) → AreVersionsFor s e xs → All IsValid xs
+offered-valid s e xs v =
+    subst (λ (ys : List Parts). All IsValid ys) (sym v.are)
+    (versions-valid s.rust (option_map (λ look. answer_of look.answer) (look_at s.looks (serialize v.address) e.name)))
 
 -- a requirement admits a version without its build metadata
 admits-plain : (text : List ℕ) (v : Parts) → Admits text v → Admits text (without_build v)
@@ -138,40 +141,31 @@ line-latest i o xs e line all d = subst LatestIsNotLess (sym d.is) (latest-of xs
 -- ---- all rows
 
 -- what holds of each decided row holds of all rows
-all-lines : (s : Setting) (P : Line → Type 0) → ((e : Seen) (line : Line) → IsDecided s.input s.options (s.versions e.name) e line → P line)
-    → (es : List Seen) (ls : List Line) → AreDecided s es ls → All P ls
-all-lines s P f [] [] h = All-nil P
-all-lines s P f [] (l ∷ ls) h = absurd h
-all-lines s P f (e ∷ es) [] h = absurd h
-all-lines s P f (e ∷ es) (l ∷ ls) h = All-cons P l ls (f e l h.0) (all-lines s P f es ls h.1)
+all-rows : (s : Setting) (P : Line → Type 0)
+    → ((xs : List Parts) (e : Seen) (line : Line) → All IsValid xs → IsDecided s.input s.options xs e line → P line)
+    → (es : List Seen) (ls : List Line) → AllZip (IsRow s) es ls → All P ls
+all-rows s P f [] [] h = All-nil P
+all-rows s P f [] (l ∷ ls) h = absurd h
+all-rows s P f (e ∷ es) [] h = absurd h
+all-rows s P f (e ∷ es) (l ∷ ls) h =
+    All-cons P l ls (f h.0.versions e l (offered-valid s e h.0.versions h.0.offered) h.0.decided) (all-rows s P f es ls h.1)
 
 -- the rows of a manifest narrow
-pub rows-narrow : (i : ℕ) (o : Options) (rust : Option Numbers) (looks : List Look) (address bytes : List ℕ) (lines : List Line)
-    → HasRows (told_setting i o rust looks address) bytes lines → All Narrows lines
-rows-narrow i o rust looks address bytes lines h =
-    let s = told_setting i o rust looks address in
-    all-lines s Narrows (λ e line d. line-narrows i o (s.versions e.name) e line (setting-valid i o rust looks address e.name) d)
-    (seen (view_at h.form)) lines h.decided
+pub rows-narrow : (s : Setting) (bytes : List ℕ) (lines : List Line) → HasRows s bytes lines → All Narrows lines
+rows-narrow s bytes lines h =
+    all-rows s Narrows (λ xs e line all d. line-narrows s.input s.options xs e line all d) (seen (view_at h.form)) lines h.decided
 
 -- they reach their versions
-pub rows-reach : (i : ℕ) (o : Options) (rust : Option Numbers) (looks : List Look) (address bytes : List ℕ) (lines : List Line)
-    → HasRows (told_setting i o rust looks address) bytes lines → All Reaches lines
-rows-reach i o rust looks address bytes lines h =
-    let s = told_setting i o rust looks address in
-    all-lines s Reaches (λ e line d. line-reaches i o (s.versions e.name) e line (setting-valid i o rust looks address e.name) d)
-    (seen (view_at h.form)) lines h.decided
+pub rows-reach : (s : Setting) (bytes : List ℕ) (lines : List Line) → HasRows s bytes lines → All Reaches lines
+rows-reach s bytes lines h =
+    all-rows s Reaches (λ xs e line all d. line-reaches s.input s.options xs e line all d) (seen (view_at h.form)) lines h.decided
 
 -- their latest versions are not less
-pub rows-latest : (i : ℕ) (o : Options) (rust : Option Numbers) (looks : List Look) (address bytes : List ℕ) (lines : List Line)
-    → HasRows (told_setting i o rust looks address) bytes lines → All LatestIsNotLess lines
-rows-latest i o rust looks address bytes lines h =
-    let s = told_setting i o rust looks address in
-    all-lines s LatestIsNotLess (λ e line d. line-latest i o (s.versions e.name) e line (setting-valid i o rust looks address e.name) d)
-    (seen (view_at h.form)) lines h.decided
+pub rows-latest : (s : Setting) (bytes : List ℕ) (lines : List Line) → HasRows s bytes lines → All LatestIsNotLess lines
+rows-latest s bytes lines h =
+    all-rows s LatestIsNotLess (λ xs e line all d. line-latest s.input s.options xs e line all d) (seen (view_at h.form)) lines h.decided
 
--- ---- one input
-
--- what holds of the only one of a list holds of its first
-pub of-first : {A : Type 0} (P : A → Type 0) (xs : List A) (x : A) → length xs ≡ 1 → x ≡ get_or xs 0 x → P x → IfSome (slice_get xs 0) P
-of-first P [] x h e p = tt
-of-first P (y ∷ ys) x h e p = subst P e p
+-- each is a row of its input
+pub rows-inputs : (s : Setting) (bytes : List ℕ) (lines : List Line) → HasRows s bytes lines → All (λ (line : Line). line.input ≡ s.input) lines
+rows-inputs s bytes lines h =
+    all-rows s (λ (line : Line). line.input ≡ s.input) (λ xs e line all d. ap (λ (l : Line). l.input) d.is) (seen (view_at h.form)) lines h.decided

@@ -5,6 +5,7 @@ pub mod Bytes
 pub mod FetchLemmas
 pub mod LookedLemmas
 pub mod LookUpLemmas
+pub mod NamedLemmas
 pub mod PlannedLemmas
 pub mod WriteLemmas
 pub mod Literals
@@ -19,5 +20,6 @@ pub mod SeenCases
 pub mod WrittenEntries
 pub mod FixedPoint
 pub mod PlannedAgain
+pub mod InputLemmas
 mod DecisionFacts
 pub mod RankedLemmas

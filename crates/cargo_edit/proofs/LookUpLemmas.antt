@@ -1,25 +1,22 @@
 -- A walk over names that looks each up, a step further.
-use Rattle.std.proofs.Common.{◌≡◌, ◌∷◌, ◌++◌, [], List, ℕ, Option, Some, None, Bool, true, false, refl, ap, ◌∙◌, sym, subst, inl, inr, ◌⊎◌, ◌≤◌, arith}
-use Rattle.std.specs.Prelude.{◌&&◌, if◌then◌else◌, Contains, IsSome, Ok, Err, find, is_some, string_bytes}
+use Rattle.std.proofs.Common.{◌≡◌, ◌∷◌, ◌++◌, ◌<◌, [], List, ℕ, Option, Some, None, Bool, true, false, refl, ap, ◌∙◌, get_or, length, map, sym, subst, inl, inr, ◌⊎◌, ◌≤◌, arith}
+use Rattle.std.specs.Prelude.{◌&&◌, if◌then◌else◌, Contains, IfSome, IsSome, Ok, Err, find, is_some, string_bytes}
 use Rattle.std.specs.Option.{option_or}
 use Rattle.std.specs.Str.{bytes_eq}
 use Rattle.std.proofs.lemmas.Bool.{cases_Bool, cases_lt}
-use Rattle.std.proofs.lemmas.List.Elements.{All-contains, All-contains_itself, All-head, All-weaker, Contains-append_right}
+use Rattle.std.proofs.lemmas.List.{get_or-map, length-map}
+use Rattle.std.proofs.lemmas.List.Elements.{All-contains, All-contains_itself, All-head, All-weaker, Contains-append_right, Contains-get_or}
 use Rattle.edit_document.specs.Errors.{IsMemory, number_of}
 use Rattle.edit_document.specs.declared.errors.Error.{Error}
 use Rattle.edit_sources.specs.Index.{Outcomes, SameOutcomes, answer_of}
 use Rattle.edit_sources.specs.Store.{raised}
 use Rattle.url.specs.Parts as url
 use Rattle.url.specs.Parts.{serialize}
-use Rattle.cargo_edit.specs.Looked.{IsFailedLook, IsLook, IsRefusedAt, IsSoFar, Looked, start, again, more, Stays}
-use Rattle.cargo_edit.specs.Looks.{Answer, Kept, is_look_at, look_at}
+use Rattle.cargo_edit.specs.Looked.{IsAmong, IsAt, IsFailedLook, IsLook, IsRefusedAt, IsSoFar, Leaves, Looked, start, again, more, Stays}
+use Rattle.cargo_edit.specs.Looks.{AddsNeeded, Answer, IsGiven, Kept, is_look_at, look_at}
 use Rattle.cargo_edit.specs.declared.upgrade.Look.{Look}
 use Rattle.cargo_edit.proofs.Bytes.{both-true, same-eq, same-refl}
 use Rattle.cargo_edit.proofs.LookedLemmas.{at-pair, find-one, look_at-more, made}
-
-pub stays-trans : (a b c : Kept) → Stays a b → Stays b c → Stays a c
-stays-trans a b c h g address name some =
-    g address name (subst (λ (o : Option Answer). IsSome o) (sym (h address name some)) some) ∙ h address name some
 
 pub gives-trans : (a b c : Outcomes) → SameOutcomes a b → SameOutcomes b c → SameOutcomes a c
 gives-trans a b c h g address name outcome =
@@ -27,14 +24,86 @@ gives-trans a b c h g address name outcome =
     let y = g address name outcome in
     (λ k. x.0 (y.0 k), λ k. y.1 (x.1 k))
 
+-- what a function gives of an item of a list is among what it gives of the list
+contains-mapped : {A : Type 0} (f : A → List ℕ) (xs : List A) (i : ℕ) (d : A) → i < length xs → Contains (map f xs) (f (get_or xs i d))
+contains-mapped {A} f xs i d h =
+    subst (λ (y : List ℕ). Contains (map f xs) y) (get_or-map f xs i d (f d) h)
+    (Contains-get_or (map f xs) i (f d) (subst (λ (m : ℕ). i < m) (sym (length-map xs f)) h))
+
+-- ---- what a call leaves
+
+-- a call that changes nothing
+pub leaves-same : (Needed : List ℕ → List ℕ → Type 0) (gives : Outcomes) (count : ℕ) (old : Kept) → Leaves Needed gives gives count count old old
+leaves-same Needed gives count old = record {
+  adds = record {
+    stays = λ a n some. refl;
+    added = λ a n none. subst (λ (o : Option Answer). IfSome o (λ answer. Needed a n × IsGiven gives a n answer)) (sym none) tt;
+  };
+  same = λ a n o. (λ k. k, λ k. k);
+  later = omega arith;
+}
+
+given-along : (first last : Outcomes) (a n : List ℕ) (answer : Answer) → SameOutcomes first last → IsGiven last a n answer → IsGiven first a n answer
+given-along first last a n answer h g = record { registry = g.registry; at = g.at; given = (h g.registry n (Ok answer)).0 g.given }
+
+added-along : (P Q : Answer → Type 0) (o : Option Answer) → ((x : Answer) → P x → Q x) → IfSome o P → IfSome o Q
+added-along P Q None h p = tt
+added-along P Q (Some x) h p = h x p
+
+-- by whether the first call added an answer
+added-by : (P : Answer → Type 0) (o now new : Option Answer) → now ≡ o → (IsSome now → new ≡ now) → IfSome now P → (now ≡ None → IfSome new P) → IfSome new P
+added-by P None now new e stays first rest = rest e
+added-by P (Some x) now new e stays first rest =
+    subst (λ (y : Option Answer). IfSome y P) (sym (stays (subst (λ (y : Option Answer). IsSome y) (sym e) refl))) first
+
+-- a call after another
+pub leaves-more : (Needed More : List ℕ → List ℕ → Type 0) (first last next : Outcomes) (a b c : ℕ) (old now new : Kept)
+    → ((at name : List ℕ) → More at name → Needed at name) → Leaves Needed first last a b old now → Leaves More last next b c now new
+    → Leaves Needed first next a c old new
+leaves-more Needed More first last next a b c old now new h l m = record {
+  adds = record {
+    stays = λ at name some.
+        m.adds.stays at name (subst (λ (o : Option Answer). IsSome o) (sym (l.adds.stays at name some)) some) ∙ l.adds.stays at name some;
+    added = λ at name none.
+        added-by (λ answer. Needed at name × IsGiven first at name answer) (now at name) (now at name) (new at name) refl (m.adds.stays at name)
+        (l.adds.added at name none)
+        (λ e. added-along (λ answer. More at name × IsGiven last at name answer) (λ answer. Needed at name × IsGiven first at name answer) (new at name)
+        (λ answer k. (h at name k.0, given-along first last at name answer l.same k.1)) (m.adds.added at name e));
+  };
+  same = gives-trans first last next l.same m.same;
+  later = omega (arith, l.later, m.later);
+}
+
+-- what is needed by some is needed by more
+pub adds-wider : (Needed More : List ℕ → List ℕ → Type 0) (gives : Outcomes) (old new : Kept) → ((at name : List ℕ) → More at name → Needed at name)
+    → AddsNeeded More gives old new → AddsNeeded Needed gives old new
+adds-wider Needed More gives old new h m = record {
+  stays = m.stays;
+  added = λ at name none.
+      added-along (λ answer. More at name × IsGiven gives at name answer) (λ answer. Needed at name × IsGiven gives at name answer) (new at name)
+      (λ answer k. (h at name k.0, k.1)) (m.added at name none);
+}
+
+-- the same of all that is left
+pub leaves-wider : (Needed More : List ℕ → List ℕ → Type 0) (first last : Outcomes) (a b : ℕ) (old new : Kept)
+    → ((at name : List ℕ) → More at name → Needed at name) → Leaves More first last a b old new → Leaves Needed first last a b old new
+leaves-wider Needed More first last a b old new h m =
+    record { adds = adds-wider Needed More first old new h m.adds; same = m.same; later = m.later }
+
+-- a look for an item's name is one for a name among those of all items
+pub at-among : {A : Type 0} (f : A → List ℕ) (xs : List A) (i : ℕ) (x : A) (name address : List ℕ) → i < length xs → x ≡ get_or xs i x → name ≡ f x
+    → (a n : List ℕ) → IsAt address name a n → IsAmong address (map f xs) a n
+at-among {A} f xs i x name address h e same a n p =
+    (p.0, subst (λ (y : List ℕ). Contains (map f xs) y) (ap f (sym e) ∙ sym same ∙ sym p.1) (contains-mapped f xs i x h))
+
+-- ---- one name more
+
 -- a name that was looked up before
-pub so-far-again : (address : List ℕ) (first last : Outcomes) (old now : Kept) (names : List (List ℕ)) (looks : List Look) (among : List ℕ → Bool) (name : List ℕ)
-    → IsSoFar address first last old now names looks among → among name ≡ true → IsSoFar address first last old now (names ++ name ∷ []) looks among
-so-far-again address first last old now names looks among name s h = record {
+pub so-far-again : (address : List ℕ) (first : Outcomes) (old now : Kept) (names : List (List ℕ)) (looks : List Look) (among : List ℕ → Bool) (name : List ℕ)
+    → IsSoFar address first old now names looks among → among name ≡ true → IsSoFar address first old now (names ++ name ∷ []) looks among
+so-far-again address first old now names looks among name s h = record {
   looked = again names looks now name s.looked (sym (s.set name) ∙ h);
   set = s.set;
-  gives = s.gives;
-  stays = s.stays;
 }
 
 none-of : (o : Option Look) → is_some o ≡ false → o ≡ None
@@ -68,17 +137,15 @@ found-by address name looks look p n q =
     ∙ some-over (look_at looks address q) look (bytes_eq name q)
 
 -- a name that is looked up now
-pub so-far-more : (address : List ℕ) (first last next_gives : Outcomes) (old now next : Kept) (names : List (List ℕ)) (looks : List Look) (look : Look)
-    (among then_among : List ℕ → Bool) (name : List ℕ) → IsSoFar address first last old now names looks among → among name ≡ false
-    → IsLook address name last now next look → SameOutcomes last next_gives → ((q : List ℕ) → then_among q ≡ (if bytes_eq name q then true else among q))
-    → IsSoFar address first next_gives old next (names ++ name ∷ []) (looks ++ look ∷ []) then_among
-so-far-more address first last next_gives old now next names looks look among then_among name s h l g u =
+pub so-far-more : (address : List ℕ) (first last : Outcomes) (old now next : Kept) (names : List (List ℕ)) (looks : List Look) (look : Look)
+    (among then_among : List ℕ → Bool) (name : List ℕ) → IsSoFar address first old now names looks among → among name ≡ false
+    → SameOutcomes first last → IsLook address name last now next look → ((q : List ℕ) → then_among q ≡ (if bytes_eq name q then true else among q))
+    → IsSoFar address first old next (names ++ name ∷ []) (looks ++ look ∷ []) then_among
+so-far-more address first last old now next names looks look among then_among name s h g l u =
     let none = none-of (look_at looks address name) (sym (s.set name) ∙ h) in
     record {
-      looked = more names looks now next name look s.looked none (look-with address name first last now next look s.gives l);
+      looked = more names looks now next name look s.looked none (look-with address name first last now next look g l);
       set = λ q. u q ∙ ap (λ (b : Bool). if bytes_eq name q then true else b) (s.set q) ∙ sym (found-by address name looks look l.at l.of_name q);
-      gives = gives-trans first last next_gives s.gives g;
-      stays = stays-trans old now next s.stays l.stays;
     }
 
 -- ---- the first look that is refused
@@ -118,9 +185,9 @@ refused-with first last address name a b c e h l (inl refusal) = inl (refusal.0,
 -- the look at a name is refused
 pub failed : (address : url.Parts) (first last : Outcomes) (old now next : Kept) (names front : List (List ℕ)) (looks : List Look) (among : List ℕ → Bool)
     (name : List ℕ) (rest : List (List ℕ)) (a b c : ℕ) (e : Error) → names ≡ front ++ name ∷ rest
-    → IsSoFar (serialize address) first last old now front looks among → among name ≡ false → a ≤ b → Stays now next
+    → IsSoFar (serialize address) first old now front looks among → among name ≡ false → SameOutcomes first last → a ≤ b → Stays now next
     → now (serialize address) name ≡ None → IsRefusedAt last address name b c e → IsFailedLook address first old next names a c e
-failed address first last old now next names front looks among name rest a b c e split s h l st none r = record {
+failed address first last old now next names front looks among name rest a b c e split s h g l st none r = record {
   front = front;
   name = name;
   rest = rest;
@@ -132,24 +199,19 @@ failed address first last old now next names front looks among name rest a b c e
       subst (λ (o : Option Answer). IsSome o) (sym (st (serialize address) n here)) here) front (All-contains_itself front);
   absent = sym ((made (serialize address) first old front looks now s.looked).others (serialize address) name
       (none-of (look_at looks (serialize address) name) (sym (s.set name) ∙ h))) ∙ none;
-  cause = refused-with first last address name a b c e s.gives l r;
+  cause = refused-with first last address name a b c e g l r;
 }
 
 pub so-far-start : (address : List ℕ) (first : Outcomes) (old : Kept) (looks : List Look) (among : List ℕ → Bool) → looks ≡ []
-    → ((q : List ℕ) → among q ≡ false) → IsSoFar address first first old old [] looks among
+    → ((q : List ℕ) → among q ≡ false) → IsSoFar address first old old [] looks among
 so-far-start address first old looks among none h =
-    subst (λ (l : List Look). IsSoFar address first first old old [] l among) (sym none) (record {
-      looked = start;
-      set = h;
-      gives = λ a n o. (λ k. k, λ k. k);
-      stays = λ a n k. refl;
-    })
+    subst (λ (l : List Look). IsSoFar address first old old [] l among) (sym none) (record { looked = start; set = h })
 
 pub failed-or : (address : url.Parts) (first last : Outcomes) (old now next : Kept) (names front : List (List ℕ)) (looks : List Look) (among : List ℕ → Bool)
     (name : List ℕ) (rest : List (List ℕ)) (a b c : ℕ) (e : Error) → names ≡ front ++ name ∷ rest
-    → IsSoFar (serialize address) first last old now front looks among → among name ≡ false → a ≤ b → Stays now next
+    → IsSoFar (serialize address) first old now front looks among → among name ≡ false → SameOutcomes first last → a ≤ b → Stays now next
     → (IsMemory e ⊎ ((now (serialize address) name ≡ None) × IsRefusedAt last address name b c e))
     → IsMemory e ⊎ IsFailedLook address first old next names a c e
-failed-or address first last old now next names front looks among name rest a b c e split s h l st (inl memory) = inl memory
-failed-or address first last old now next names front looks among name rest a b c e split s h l st (inr r) =
-    inr (failed address first last old now next names front looks among name rest a b c e split s h l st r.0 r.1)
+failed-or address first last old now next names front looks among name rest a b c e split s h g l st (inl memory) = inl memory
+failed-or address first last old now next names front looks among name rest a b c e split s h g l st (inr r) =
+    inr (failed address first last old now next names front looks among name rest a b c e split s h g l st r.0 r.1)

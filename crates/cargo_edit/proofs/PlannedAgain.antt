@@ -1,9 +1,8 @@
 -- What a plan wrote stays, planned again over the same looks.
 use Rattle.std.proofs.Common.{◌≡◌, ◌∷◌, [], List, ℕ, Option, map, refl, ap, ◌∙◌, sym, subst}
 use Rattle.std.specs.Prelude.{All, Contains}
-use Rattle.std.specs.List.{AllByRecursion}
+use Rattle.std.specs.List.{AllByRecursion, AllZip}
 use Rattle.std.proofs.lemmas.List.Elements.{All-head, All-tail}
-use Rattle.semver.specs.Grammar.{IsValid}
 use Rattle.edit_document.specs.Assertions.{Place}
 use Rattle.edit_document.specs.Grammar.{Text}
 use Rattle.edit_document.specs.Replaces.{Edits, replaced, written}
@@ -12,20 +11,18 @@ use Rattle.edit_document.specs.Tree.{view_at}
 use Rattle.edit_document.proofs.Shallow.{one_form}
 use Rattle.edit_document.proofs.ReplacedStrings.{strings_view}
 use Rattle.edit_record.specs.Requirement.{cut}
-use Rattle.edit_record.specs.RustVersions.{Numbers}
+use Rattle.edit_sources.specs.declared.config.Config.{Config}
 use Rattle.cargo_edit.specs.Entries.{Tree, entry_names}
 use Rattle.cargo_edit.specs.Headline.{HasNoChange, IsFixedPoint, NeedSame, bytes_after}
-use Rattle.cargo_edit.specs.Looks.{told_setting}
+use Rattle.cargo_edit.specs.Inputs.{Setting}
 use Rattle.cargo_edit.specs.Outputs.{AreOutputs, HasOutputs, changed, unchanged}
 use Rattle.cargo_edit.specs.Records.{Seen, seen, seen_at}
-use Rattle.cargo_edit.specs.Rows.{AreDecided, IsDecided, Line, Setting, with_write, writes}
-use Rattle.cargo_edit.specs.Upgraded.{HasRows, IsNeeded}
-use Rattle.cargo_edit.specs.declared.upgrade.Look.{Look}
-use Rattle.cargo_edit.specs.declared.upgrade.Options.{Options}
+use Rattle.cargo_edit.specs.Rows.{Line, with_write, writes}
+use Rattle.cargo_edit.specs.Upgraded.{HasRows, IsNeededBy, IsRow}
 use Rattle.cargo_edit.specs.declared.upgrade.Output.{Output}
-use Rattle.cargo_edit.proofs.FixedPoint.{all-again, cut-whole, none-written, some-lines}
-use Rattle.cargo_edit.proofs.HeadlineRows.{setting-valid}
+use Rattle.cargo_edit.proofs.FixedPoint.{all-again, cut-whole, none-written, some-again}
 use Rattle.cargo_edit.proofs.Literals.{any-all, entries-apart, kept-all, writes-strings}
+use Rattle.cargo_edit.proofs.NamedLemmas.{entry-named, name-among}
 use Rattle.cargo_edit.proofs.SeenCases.{seen-cut}
 use Rattle.cargo_edit.proofs.WrittenEntries.{renewed, written-seen}
 
@@ -80,10 +77,10 @@ read-back path bytes form lines outputs m g =
     (subst (λ (f : Text). AreOutputs path bytes (writes (seen (view_at f)) lines) outputs) (one_form bytes g.form form g.manifest m) g.are)
 
 -- the entries that are seen then
-seen-back : (s : Setting) (new : List ℕ) (form : Text) (lines : List Line) → AreDecided s (seen (view_at form)) lines → (b : IsReadBack new form lines)
+seen-back : (s : Setting) (new : List ℕ) (form : Text) (lines : List Line) → AllZip (IsRow s) (seen (view_at form)) lines → (b : IsReadBack new form lines)
     → seen (view_at b.after) ≡ renewed (seen (view_at form)) lines
 seen-back s new form lines d b =
-    written-seen (λ e line. IsDecided s.input s.options (s.versions e.name) e line) (view_at form) (view_at b.after) lines (entries-apart form) d b.tree
+    written-seen (IsRow s) (view_at form) (view_at b.after) lines (entries-apart form) d b.tree
 
 -- whatever form the bytes are read to, these entries are seen
 seen-always : (new : List ℕ) (form : Text) (lines : List Line) (es : List Seen) → (b : IsReadBack new form lines) → seen (view_at b.after) ≡ es
@@ -93,29 +90,32 @@ seen-always new form lines es b same f m = ap (λ (x : Text). seen (view_at x)) 
 -- ---- planned again
 
 -- what was read back stays
-settled-on : (s : Setting) (new : List ℕ) (form : Text) (lines : List Line) → ((name : List ℕ) → All IsValid (s.versions name))
-    → AreDecided s (seen (view_at form)) lines → IsReadBack new form lines → IsFixedPoint s new
-settled-on s new form lines all d b =
+settled-on : (s : Setting) (new : List ℕ) (form : Text) (lines : List Line) → AllZip (IsRow s) (seen (view_at form)) lines
+    → IsReadBack new form lines → IsFixedPoint s new
+settled-on s new form lines d b =
     let es = seen (view_at form) in
-    let same = seen-always new form lines (renewed es lines) b (seen-back s new form lines d b) in
-    let rows = some-lines s (seen (view_at b.after)) in
+    let back = seen-back s new form lines d b in
+    let same = seen-always new form lines (renewed es lines) b back in
+    let rows = some-again s es lines d in
     let quiet : (again : List Line) → HasRows s new again → All HasNoChange again = λ again h.
-    all-again s es lines again all (seen-whole (view_at form)) d (subst (λ (xs : List Seen). AreDecided s xs again) (same h.form h.manifest) h.decided) in
+    all-again s es lines again (seen-whole (view_at form)) d (subst (λ (xs : List Seen). AllZip (IsRow s) xs again) (same h.form h.manifest) h.decided) in
     record {
       lines = rows.0;
-      rows = record { form = b.after; manifest = b.manifest; decided = rows.1 };
+      rows = record {
+        form = b.after;
+        manifest = b.manifest;
+        decided = subst (λ (xs : List Seen). AllZip (IsRow s) xs rows.0) (sym back) rows.1;
+      };
       unchanged = quiet;
       unwritten = λ path again outputs h g.
           none-out path new (writes (seen (view_at g.form)) again) outputs (quiet-writes (seen (view_at g.form)) again (quiet again h)) g.are;
     }
 
 -- the bytes that stand after a plan
-pub settled : (i : ℕ) (o : Options) (rust : Option Numbers) (looks : List Look) (address path bytes : List ℕ) (lines : List Line) (outputs : List Output)
-    → HasRows (told_setting i o rust looks address) bytes lines → HasOutputs path bytes lines outputs
-    → IsFixedPoint (told_setting i o rust looks address) (bytes_after bytes outputs)
-settled i o rust looks address path bytes lines outputs h g =
-    settled-on (told_setting i o rust looks address) (bytes_after bytes outputs) h.form lines (λ name. setting-valid i o rust looks address name) h.decided
-    (read-back path bytes h.form lines outputs h.manifest g)
+pub settled : (s : Setting) (path bytes : List ℕ) (lines : List Line) (outputs : List Output) → HasRows s bytes lines → HasOutputs path bytes lines outputs
+    → IsFixedPoint s (bytes_after bytes outputs)
+settled s path bytes lines outputs h g =
+    settled-on s (bytes_after bytes outputs) h.form lines h.decided (read-back path bytes h.form lines outputs h.manifest g)
 
 -- ---- the looks that are needed
 
@@ -126,19 +126,27 @@ names-same (e ∷ es) [] = refl
 names-same (e ∷ es) (l ∷ ls) = ap (λ (ns : List (List ℕ)). e.name ∷ ns) (names-same es ls)
 
 -- manifests whose seen entries have the same names need the same looks
-needed-along : (bytes other : List ℕ) (form : Text) (ns : List (List ℕ)) → IsManifest other form → map (λ (e : Seen). e.name) (seen (view_at form)) ≡ ns
-    → ((f : Text) → IsManifest bytes f → map (λ (e : Seen). e.name) (seen (view_at f)) ≡ ns) → (address name : List ℕ)
-    → IsNeeded bytes address name → IsNeeded other address name
-needed-along bytes other form ns m here there address name need = record {
-  form = form;
-  manifest = m;
-  at = need.at;
-  named = subst (λ (xs : List (List ℕ)). Contains xs name) (there need.form need.manifest ∙ sym here) need.named;
-}
+needed-along : (configs : List Config) (bytes other : List ℕ) (form : Text) (ns : List (List ℕ)) → IsManifest other form
+    → map (λ (e : Seen). e.name) (seen (view_at form)) ≡ ns → ((f : Text) → IsManifest bytes f → map (λ (e : Seen). e.name) (seen (view_at f)) ≡ ns)
+    → (address name : List ℕ) → IsNeededBy configs bytes address name → IsNeededBy configs other address name
+needed-along configs bytes other form ns m here there address name need =
+    let named = subst (λ (n : List ℕ). Contains (map (λ (e : Seen). e.name) (seen (view_at need.form))) n) need.needs.named
+    (name-among (seen (view_at need.form)) need.entry need.among) in
+    let found = entry-named (seen (view_at form)) name
+    (subst (λ (xs : List (List ℕ)). Contains xs name) (there need.form need.manifest ∙ sym here) named) in
+    record {
+      form = form;
+      manifest = m;
+      entry = found.0;
+      among = found.1;
+      registry = need.registry;
+      needs = record { has = need.needs.has; named = found.2 };
+      at = need.at;
+    }
 
 -- the looks that are needed after a plan
 pub need-same : (s : Setting) (path bytes : List ℕ) (lines : List Line) (outputs : List Output) → HasRows s bytes lines → HasOutputs path bytes lines outputs
-    → NeedSame bytes (bytes_after bytes outputs)
+    → NeedSame s.configs bytes (bytes_after bytes outputs)
 need-same s path bytes lines outputs h g =
     let new = bytes_after bytes outputs in
     let es = seen (view_at h.form) in
@@ -149,6 +157,6 @@ need-same s path bytes lines outputs h g =
     let first : (f : Text) → IsManifest bytes f → map (λ (e : Seen). e.name) (seen (view_at f)) ≡ ns = λ f m.
     ap (λ (x : Text). map (λ (e : Seen). e.name) (seen (view_at x))) (one_form bytes f h.form m h.manifest) in
     λ address name. (
-      λ need. needed-along new bytes h.form ns h.manifest refl same address name need,
-      λ need. needed-along bytes new b.after ns b.manifest (same b.after b.manifest) first address name need,
+      λ need. needed-along s.configs new bytes h.form ns h.manifest refl same address name need,
+      λ need. needed-along s.configs bytes new b.after ns b.manifest (same b.after b.manifest) first address name need,
     )

@@ -1,36 +1,40 @@
 -- The rows and looks of a manifest, from those of its entries.
-use Rattle.std.proofs.Common.{◌≡◌, ◌∷◌, [], List, ℕ, Option, Result, Ok, Err, map, refl, ap, ◌∙◌, sym, subst, inl, inr, ◌⊎◌, ◌<◌, get_or, length}
+use Rattle.std.proofs.Common.{◌≡◌, ◌∷◌, ◌++◌, [], List, ℕ, Option, None, Result, Ok, Err, map, refl, ap, ◌∙◌, sym, subst, inl, inr, ◌⊎◌, ◌<◌, Some, length, arith}
 use Rattle.std.specs.Prelude.{All, Contains, IfErr, IsErrAnd, IsSome, option_map, string_bytes}
-use Rattle.std.proofs.lemmas.List.{get_or-map, length-map}
+use Rattle.std.specs.List.{AllZip}
+use Rattle.std.proofs.lemmas.List.{length-map}
 use Rattle.std.proofs.lemmas.Slice.Zip.{AllZip-long}
-use Rattle.std.proofs.lemmas.List.Elements.{All-head, All-tail, All-weaker, Contains-get_or}
+use Rattle.std.proofs.lemmas.List.Elements.{All-cons, All-head, All-nil, All-tail, All-weaker}
 use Rattle.edit_document.specs.Errors.{IsMemory}
 use Rattle.edit_document.specs.Grammar.{Text}
 use Rattle.edit_document.specs.Shown.{Shown, ShowsTree, tree_of}
 use Rattle.edit_document.specs.Supported.{IsManifest}
 use Rattle.edit_document.specs.Tree.{view_at}
 use Rattle.edit_document.specs.declared.errors.Error.{Error}
-use Rattle.edit_record.specs.RustVersions.{Numbers}
+use Rattle.edit_document.proofs.Shallow.{one_form}
+use Rattle.edit_sources.specs.Configured.{HasAddress, HasNoUrl}
 use Rattle.edit_sources.specs.Index.{Outcomes, answer_of}
-use Rattle.semver.specs.Parse.{Parts}
+use Rattle.edit_sources.specs.declared.config.Config.{Config}
+use Rattle.edit_sources.proofs.AddressLemmas.{one_url}
 use Rattle.url.specs.Parts as url
 use Rattle.url.specs.Parts.{serialize}
-use Rattle.cargo_edit.specs.Address.{default_address}
-use Rattle.cargo_edit.specs.Causes.{IsBadLook}
+use Rattle.cargo_edit.specs.Causes.{HasBadEntry, IsPassed}
+use Rattle.cargo_edit.specs.Causes.StopsAt.{no_address, no_answer}
 use Rattle.cargo_edit.specs.Found.{name_of, seen_of}
+use Rattle.cargo_edit.specs.Inputs.{Setting}
 use Rattle.cargo_edit.specs.Lines.{line_of}
-use Rattle.cargo_edit.specs.Looked.{IsFailedLook, Looked}
-use Rattle.cargo_edit.specs.Looks.{AreLooks, Kept, kept_setting, look_at, told, told_setting, versions_in}
-use Rattle.cargo_edit.specs.PlannedView.{IsShown}
+use Rattle.cargo_edit.specs.Looked.{IsAmong, IsFailedLook, Leaves, Looked}
+use Rattle.cargo_edit.specs.Looks.{AreLooks, Kept, kept_setting, look_at, told, versions_in}
+use Rattle.cargo_edit.specs.PlannedView.{AreSeen, IsShown}
 use Rattle.cargo_edit.specs.Records.{Seen, seen}
-use Rattle.cargo_edit.specs.Rows.{AreDecided, IsDecided, Line, Setting}
-use Rattle.cargo_edit.specs.Upgraded.{HasRows, IsNeeded}
+use Rattle.cargo_edit.specs.Rows.{AreDecided, IsDecided, Line}
+use Rattle.cargo_edit.specs.Upgraded.{HasRows, IsNeededBy, IsRow}
 use Rattle.cargo_edit.specs.declared.planned.Planned.{Planned}
 use Rattle.cargo_edit.specs.declared.seen.Entry.{Entry}
 use Rattle.cargo_edit.specs.declared.upgrade.Look.{Look}
-use Rattle.cargo_edit.specs.declared.upgrade.Options.{Options}
 use Rattle.cargo_edit.proofs.LookedLemmas.{made}
-use Rattle.cargo_edit.proofs.LookUpLemmas.{answered}
+use Rattle.cargo_edit.proofs.LookUpLemmas.{answered, leaves-wider}
+use Rattle.cargo_edit.proofs.NamedLemmas.{each-named, entry-named, name-among, names_of, split-names}
 
 -- the tree of a document is that of its form
 pub same-seen : (d : Shown) (form : Text) → ShowsTree d form → seen (tree_of d) ≡ seen (view_at form)
@@ -39,137 +43,247 @@ same-seen d form h =
     ap seen same
 
 -- the names of entries are those that are seen
-pub names-seen : (es : List Entry) → map name_of es ≡ map (λ s. s.name) (map seen_of es)
+pub names-seen : (es : List Entry) → map name_of es ≡ names_of (map seen_of es)
 names-seen [] = refl
 names-seen (e ∷ es) = ap (λ l. name_of e ∷ l) (names-seen es)
-
--- rows that rest on the same versions
-with-versions : (a b : Setting) (es : List Seen) (ls : List Line) → a.input ≡ b.input → a.options ≡ b.options
-    → All (λ e. a.versions e.name ≡ b.versions e.name) es → AreDecided a es ls → AreDecided b es ls
-with-versions a b [] [] p q h d = d
-with-versions a b [] (l ∷ ls) p q h d = d
-with-versions a b (e ∷ es) [] p q h d = d
-with-versions a b (e ∷ es) (l ∷ ls) p q h d = (
-  subst (λ (i : ℕ). IsDecided i b.options (b.versions e.name) e l) p
-      (subst (λ (o : Options). IsDecided a.input o (b.versions e.name) e l) q
-      (subst (λ (vs : List Parts). IsDecided a.input a.options vs e l) (All-head (λ x. a.versions x.name ≡ b.versions x.name) e es h) d.0)),
-  with-versions a b es ls p q (All-tail (λ x. a.versions x.name ≡ b.versions x.name) e es h) d.1,
-)
-
--- the versions that the looks tell of are those of the answers that are kept
-told-kept : (rust : Option Numbers) (address : List ℕ) (first : Outcomes) (old now : Kept) (names : List (List ℕ)) (looks : List Look) (n : List ℕ)
-    → Looked address first old names looks now → Contains names n → versions_in rust (now address n) ≡ told rust looks address n
-told-kept rust address first old now names looks n h c =
-    let a = answered address first old now names looks n h c in
-    ap (versions_in rust) a.2 ∙ sym (ap (λ (o : Option Look). versions_in rust (option_map (λ look. answer_of look.answer) o)) a.1)
-
-all-named : (xs : List Seen) → All (λ (y : Seen). Contains (map (λ s. s.name) xs) y.name) xs
-all-named xs = λ k x b. subst (λ (n : List ℕ). Contains (map (λ s. s.name) xs) n) (get_or-map (λ (s : Seen). s.name) xs k x x.name b)
-    (Contains-get_or (map (λ s. s.name) xs) k x.name (subst (λ (m : ℕ). k < m) (sym (length-map xs (λ (s : Seen). s.name))) b))
-
--- the rows over the answers that are kept are rows over the looks
-pub rows-told : (i : ℕ) (o : Options) (rust : Option Numbers) (address : List ℕ) (first : Outcomes) (old now : Kept) (es : List Seen) (looks : List Look) (ls : List Line)
-    → Looked address first old (map (λ s. s.name) es) looks now → AreDecided (kept_setting i o rust (now address)) es ls
-    → AreDecided (told_setting i o rust looks address) es ls
-rows-told i o rust address first old now es looks ls h d =
-    with-versions (kept_setting i o rust (now address)) (told_setting i o rust looks address) es ls refl refl
-    (λ k x b. told-kept rust address first old now (map (λ s. s.name) es) looks (get_or es k x).name h (all-named es k x b)) d
-
--- the looks that were made for the names of the seen entries
-pub looks-needed : (bytes : List ℕ) (form : Text) (address : List ℕ) (first : Outcomes) (old now : Kept) (looks : List Look)
-    → IsManifest bytes form → ((f : Text) → IsManifest bytes f → seen (view_at f) ≡ seen (view_at form)) → address ≡ default_address
-    → Looked address first old (map (λ s. s.name) (seen (view_at form))) looks now → AreLooks (IsNeeded bytes) first old now looks
-looks-needed bytes form address first old now looks m only at h =
-    let made_looks = made address first old (map (λ s. s.name) (seen (view_at form))) looks now h in
-    record {
-      complete = λ a n need.
-          subst (λ (x : List ℕ). IsSome (look_at looks x n)) (at ∙ sym need.at)
-          (made_looks.complete n (subst (λ (es : List Seen). Contains (map (λ s. s.name) es) n) (only need.form need.manifest) need.named));
-      needed = All-weaker (λ look. (serialize look.registry ≡ address) × Contains (map (λ s. s.name) (seen (view_at form))) (string_bytes look.name))
-          (λ look. IsNeeded bytes (serialize look.registry) (string_bytes look.name))
-          (λ look p. record { form = form; manifest = m; at = p.0 ∙ at; named = p.1 }) looks made_looks.places;
-      once = made_looks.once;
-      as_kept = made_looks.as_kept;
-      given = made_looks.given;
-      others = made_looks.others;
-    }
 
 -- what is refused with an error of this cause has it
 pub refusal-has : {T : Type 0} (r : Result T Error) (e : Error) (P : Error → Type 0) → IsErrAnd r (λ other. other ≡ e) → P e → IfErr r P
 refusal-has (Ok x) e P same h = tt
 refusal-has (Err other) e P same h = subst P (sym same) h
 
--- the cause of a refusal at a look
-pub look-cause : (bytes : List ℕ) (form : Text) (registry : url.Parts) (first : Outcomes) (old new : Kept) (before now : ℕ) (e : Error)
-    → IsManifest bytes form → serialize registry ≡ default_address
-    → IsMemory e ⊎ IsFailedLook registry first old new (map (λ s. s.name) (seen (view_at form))) before now e
-    → IsMemory e ⊎ IsBadLook bytes first old new before now e
-look-cause bytes form registry first old new before now e m at (inl memory) = inl memory
-look-cause bytes form registry first old new before now e m at (inr f) = inr (record { form = form; manifest = m; registry = registry; at = at; failed = f })
+-- they are seen in whatever form
+seen-in : (bytes : List ℕ) (es : List Seen) → (a : AreSeen bytes es) → (f : Text) → IsManifest bytes f → seen (view_at f) ≡ es
+seen-in bytes es a f m = ap (λ (x : Text). seen (view_at x)) (one_form bytes f a.form m a.manifest) ∙ sym a.are
 
--- ---- as the program has them
+-- the entries of a document that shows its forms
+pub document-seen : (bytes : List ℕ) (d : Shown) (es : List Seen) → d.bytes ≡ bytes → (form : Text) × IsManifest d.bytes form
+    → ((form : Text) → IsManifest d.bytes form → ShowsTree d form) → es ≡ seen (tree_of d) → AreSeen bytes es
+document-seen bytes d es same f shows whole = record {
+  form = f.0;
+  manifest = subst (λ (x : List ℕ). IsManifest x f.0) same f.1;
+  are = whole ∙ same-seen d f.0 (shows f.0 f.1);
+}
 
--- a form of the bytes whose tree a document shows
-abbrev pub ShowsSome : List ℕ → Shown → Type 0
-ShowsSome bytes d = (form : Text) × IsManifest bytes form × ShowsTree d form
+-- a document whose entries each have a row
+pub planned-shown : (bytes : List ℕ) (d : Shown) (p : Planned) → d.bytes ≡ bytes → (form : Text) × IsManifest d.bytes form
+    → ((form : Text) → IsManifest d.bytes form → ShowsTree d form) → map seen_of p.entries.items ≡ seen (tree_of d)
+    → length p.rows.items ≡ length p.entries.items → IsShown bytes d p
+planned-shown bytes d p same f shows whole long = record {
+  form = f.0;
+  manifest = subst (λ (x : List ℕ). IsManifest x f.0) same f.1;
+  tree = shows f.0 f.1;
+  same = same;
+  entries = whole ∙ same-seen d f.0 (shows f.0 f.1);
+  long = long;
+}
 
--- a document shows the tree of the form that it has
-pub form-shown : (d : Shown) → ((form : Text) × IsManifest d.bytes form) → ((form : Text) → IsManifest d.bytes form → ShowsTree d form) → ShowsSome d.bytes d
-form-shown d f shows = (f.0, f.1, shows f.0 f.1)
+-- ---- rows
 
--- the names that were looked up are those of the seen entries
-names-of : (d : Shown) (form : Text) (entries here : List Entry) → ShowsTree d form → map seen_of entries ≡ seen (tree_of d) → here ≡ entries
-    → map name_of here ≡ map (λ s. s.name) (seen (view_at form))
-names-of d form entries here h whole same =
-    ap (map name_of) same ∙ names-seen entries ∙ ap (λ (es : List Seen). map (λ s. s.name) es) (whole ∙ same-seen d form h)
+-- the versions that the looks tell of are those of the answers that are kept
+told-kept : (s : Setting) (address : List ℕ) (first : Outcomes) (old now : Kept) (names : List (List ℕ)) (n : List ℕ)
+    → Looked address first old names s.looks now → Contains names n → versions_in s.rust (now address n) ≡ told s.rust s.looks address n
+told-kept s address first old now names n h c =
+    let a = answered address first old now names s.looks n h c in
+    ap (versions_in s.rust) a.2 ∙ sym (ap (λ (o : Option Look). versions_in s.rust (option_map (λ look. answer_of look.answer) o)) a.1)
 
--- what was read and decided is shown
-pub planned-shown : (bytes : List ℕ) (d : Shown) (p : Planned) (there : List Entry) (s : Setting) → d.bytes ≡ bytes → ShowsSome d.bytes d
-    → map seen_of p.entries.items ≡ seen (tree_of d) → there ≡ p.entries.items
-    → AreDecided s (map seen_of there) (map line_of p.rows.items) → IsShown bytes d p
-planned-shown bytes d p there s e f whole q decided =
-    let g = subst (λ (x : List ℕ). ShowsSome x d) e f in
+-- rows over the answers that are kept are rows over the looks
+rows-by : (s : Setting) (registry : url.Parts) (first : Outcomes) (old now : Kept) (names : List (List ℕ)) → HasAddress s.configs None registry
+    → Looked (serialize registry) first old names s.looks now → (es : List Seen) (ls : List Line) → All (λ (e : Seen). Contains names e.name) es
+    → AreDecided (kept_setting s.input s.options s.rust (now (serialize registry))) es ls → AllZip (IsRow s) es ls
+rows-by s registry first old now names at h [] [] c d = tt
+rows-by s registry first old now names at h [] (l ∷ ls) c d = absurd d
+rows-by s registry first old now names at h (e ∷ es) [] c d = absurd d
+rows-by s registry first old now names at h (e ∷ es) (l ∷ ls) c d = (
+  record {
+    versions = versions_in s.rust (now (serialize registry) e.name);
+    offered = record {
+      address = registry;
+      needed = record { has = at; named = refl };
+      are = told-kept s (serialize registry) first old now names e.name h (All-head (λ (x : Seen). Contains names x.name) e es c);
+    };
+    decided = d.0;
+  },
+  rows-by s registry first old now names at h es ls (All-tail (λ (x : Seen). Contains names x.name) e es c) d.1,
+)
+
+pub planned-rows : (s : Setting) (bytes : List ℕ) (registry : url.Parts) (first : Outcomes) (old now : Kept) (entries here there : List Entry) (ls : List Line)
+    → AreSeen bytes (map seen_of entries) → here ≡ entries → there ≡ entries → HasAddress s.configs None registry
+    → Looked (serialize registry) first old (map name_of here) s.looks now
+    → AreDecided (kept_setting s.input s.options s.rust (now (serialize registry))) (map seen_of there) ls → HasRows s bytes ls
+planned-rows s bytes registry first old now entries here there ls a p q at looked decided =
+    let es = map seen_of entries in
+    let names = ap (map name_of) p ∙ names-seen entries in
+    let by_name = subst (λ (ns : List (List ℕ)). Looked (serialize registry) first old ns s.looks now) names looked in
+    let rows = subst (λ (xs : List Entry). AreDecided (kept_setting s.input s.options s.rust (now (serialize registry))) (map seen_of xs) ls) q decided in
     record {
-      form = g.0;
-      manifest = g.1;
-      tree = g.2;
-      same = e;
-      entries = whole ∙ same-seen d g.0 g.2;
-      long = sym (length-map p.rows.items line_of)
-          ∙ AllZip-long (λ e line. IsDecided s.input s.options (s.versions e.name) e line) (map seen_of there) (map line_of p.rows.items) decided
-          ∙ length-map there seen_of ∙ ap length q;
+      form = a.form;
+      manifest = a.manifest;
+      decided = subst (λ (xs : List Seen). AllZip (IsRow s) xs ls) a.are
+          (rows-by s registry first old now (names_of es) at by_name es ls (each-named es) rows);
     }
 
-pub planned-rows : (n : ℕ) (o : Options) (rust : Option Numbers) (bytes slice : List ℕ) (d : Shown) (address : List ℕ) (first : Outcomes) (old now : Kept)
-    (entries here there : List Entry) (looks : List Look) (ls : List Line) → slice ≡ bytes → ShowsSome slice d → map seen_of entries ≡ seen (tree_of d)
-    → here ≡ entries → there ≡ entries → address ≡ default_address → Looked address first old (map name_of here) looks now
-    → AreDecided (kept_setting n o rust (now address)) (map seen_of there) ls → HasRows (told_setting n o rust looks default_address) bytes ls
-planned-rows n o rust bytes slice d address first old now entries here there looks ls e f whole p q at looked decided =
-    let g = subst (λ (x : List ℕ). ShowsSome x d) e f in
-    let es = seen (view_at g.0) in
-    let made_looks = subst (λ (ns : List (List ℕ)). Looked address first old ns looks now) (names-of d g.0 entries here g.2 whole p) looked in
-    let rows = subst (λ (xs : List Seen). AreDecided (kept_setting n o rust (now address)) xs ls)
-    (ap (map seen_of) q ∙ whole ∙ same-seen d g.0 g.2) decided in
+-- each entry has a row
+pub rows-long : (s : Setting) (kept : Kept) (address : List ℕ) (entries there : List Entry) (ls : List Line) → there ≡ entries
+    → AreDecided (kept_setting s.input s.options s.rust (kept address)) (map seen_of there) ls → length ls ≡ length entries
+rows-long s kept address entries there ls q decided =
+    AllZip-long (λ e line. IsDecided s.input s.options (versions_in s.rust (kept address e.name)) e line) (map seen_of there) ls decided
+    ∙ length-map there seen_of ∙ ap length q
+
+-- ---- looks
+
+-- the look at an address for a name of an entry is needed
+needed-one : (configs : List Config) (bytes : List ℕ) (registry : url.Parts) (es : List Seen) → AreSeen bytes es → HasAddress configs None registry
+    → (address name : List ℕ) → IsAmong (serialize registry) (names_of es) address name → IsNeededBy configs bytes address name
+needed-one configs bytes registry es a at address name p =
+    let found = entry-named es name p.1 in
     record {
-      form = g.0;
-      manifest = g.1;
-      decided = subst (λ (a : List ℕ). AreDecided (told_setting n o rust looks a) es ls) at
-          (rows-told n o rust address first old now es looks ls made_looks rows);
+      form = a.form;
+      manifest = a.manifest;
+      entry = found.0;
+      among = subst (λ (xs : List Seen). Contains xs found.0) a.are found.1;
+      registry = registry;
+      needs = record { has = at; named = found.2 };
+      at = p.0;
     }
 
-pub planned-looks : (bytes slice : List ℕ) (d : Shown) (address : List ℕ) (first : Outcomes) (old now : Kept) (entries here : List Entry) (looks : List Look)
-    → slice ≡ bytes → ShowsSome slice d → ((form : Text) → IsManifest slice form → ShowsTree d form) → map seen_of entries ≡ seen (tree_of d)
-    → here ≡ entries → address ≡ default_address → Looked address first old (map name_of here) looks now → AreLooks (IsNeeded bytes) first old now looks
-planned-looks bytes slice d address first old now entries here looks e f only whole p at looked =
-    let g = subst (λ (x : List ℕ). ShowsSome x d) e f in
-    let all = subst (λ (x : List ℕ). (form : Text) → IsManifest x form → ShowsTree d form) e only in
-    looks-needed bytes g.0 address first old now looks g.1 (λ h m. sym (same-seen d h (all h m)) ∙ same-seen d g.0 g.2) at
-    (subst (λ (ns : List (List ℕ)). Looked address first old ns looks now) (names-of d g.0 entries here g.2 whole p) looked)
+-- the looks that were made for the names of the seen entries
+looks-needed : (configs : List Config) (bytes : List ℕ) (registry : url.Parts) (first : Outcomes) (old now : Kept) (es : List Seen) (looks : List Look)
+    → AreSeen bytes es → HasAddress configs None registry → Looked (serialize registry) first old (names_of es) looks now
+    → AreLooks (IsNeededBy configs bytes) first old now looks
+looks-needed configs bytes registry first old now es looks a at h =
+    let made_looks = made (serialize registry) first old (names_of es) looks now h in
+    record {
+      complete = λ address n need.
+          let among = subst (λ (xs : List Seen). Contains xs need.entry) (seen-in bytes es a need.form need.manifest) need.among in
+          let named = subst (λ (x : List ℕ). Contains (names_of es) x) need.needs.named (name-among es need.entry among) in
+          subst (λ (x : List ℕ). IsSome (look_at looks x n))
+          (ap serialize (one_url configs None registry need.registry at need.needs.has) ∙ sym need.at) (made_looks.complete n named);
+      needed = All-weaker (λ look. (serialize look.registry ≡ serialize registry) × Contains (names_of es) (string_bytes look.name))
+          (λ look. IsNeededBy configs bytes (serialize look.registry) (string_bytes look.name))
+          (λ look p. needed-one configs bytes registry es a at (serialize look.registry) (string_bytes look.name) p) looks made_looks.places;
+      once = made_looks.once;
+      as_kept = made_looks.as_kept;
+      given = made_looks.given;
+      others = made_looks.others;
+    }
 
-pub planned-cause : (bytes slice : List ℕ) (d : Shown) (registry : url.Parts) (first : Outcomes) (old new : Kept) (before now : ℕ) (x : Error) (entries here : List Entry)
-    → slice ≡ bytes → ShowsSome slice d → map seen_of entries ≡ seen (tree_of d) → here ≡ entries → serialize registry ≡ default_address
-    → IsMemory x ⊎ IsFailedLook registry first old new (map name_of here) before now x → IsMemory x ⊎ IsBadLook bytes first old new before now x
-planned-cause bytes slice d registry first old new before now x entries here e f whole p at r =
-    let g = subst (λ (y : List ℕ). ShowsSome y d) e f in
-    look-cause bytes g.0 registry first old new before now x g.1 at
-    (subst (λ (ns : List (List ℕ)). IsMemory x ⊎ IsFailedLook registry first old new ns before now x) (names-of d g.0 entries here g.2 whole p) r)
+pub planned-looks : (configs : List Config) (bytes : List ℕ) (registry : url.Parts) (first : Outcomes) (old now : Kept) (entries here : List Entry)
+    (looks : List Look) → AreSeen bytes (map seen_of entries) → here ≡ entries → HasAddress configs None registry
+    → Looked (serialize registry) first old (map name_of here) looks now → AreLooks (IsNeededBy configs bytes) first old now looks
+planned-looks configs bytes registry first old now entries here looks a p at looked =
+    looks-needed configs bytes registry first old now (map seen_of entries) looks a at
+    (subst (λ (ns : List (List ℕ)). Looked (serialize registry) first old ns looks now) (ap (map name_of) p ∙ names-seen entries) looked)
+
+-- what they leave
+pub planned-left : (configs : List Config) (bytes : List ℕ) (registry : url.Parts) (first last : Outcomes) (b c : ℕ) (old now : Kept)
+    (entries here : List Entry) → AreSeen bytes (map seen_of entries) → here ≡ entries → HasAddress configs None registry
+    → Leaves (IsAmong (serialize registry) (map name_of here)) first last b c old now → Leaves (IsNeededBy configs bytes) first last b c old now
+planned-left configs bytes registry first last b c old now entries here a p at left =
+    leaves-wider (IsNeededBy configs bytes) (IsAmong (serialize registry) (map name_of here)) first last b c old now
+    (λ address name k. needed-one configs bytes registry (map seen_of entries) a at address name
+    (k.0, subst (λ (ns : List (List ℕ)). Contains ns name) (ap (map name_of) p ∙ names-seen entries) k.1)) left
+
+-- ---- a manifest without entries
+
+pub no-rows : (s : Setting) (bytes : List ℕ) (es : List Seen) (ls : List Line) → AreSeen bytes es → es ≡ [] → ls ≡ [] → HasRows s bytes ls
+no-rows s bytes es ls a none same = record {
+  form = a.form;
+  manifest = a.manifest;
+  decided = subst (λ (xs : List Seen). AllZip (IsRow s) xs ls) (sym none ∙ a.are)
+      (subst (λ (ms : List Line). AllZip (IsRow s) [] ms) (sym same) tt);
+}
+
+nothing-among : (e : Seen) → Contains [] e → ⊥
+nothing-among e h = none-below h.0 h.1
+  where
+    none-below : (k : ℕ) → k < 0 → ⊥
+    none-below k h = omega arith
+
+pub no-looks : (configs : List Config) (bytes : List ℕ) (first : Outcomes) (old : Kept) (es : List Seen) (looks : List Look) → AreSeen bytes es
+    → es ≡ [] → looks ≡ [] → AreLooks (IsNeededBy configs bytes) first old old looks
+no-looks configs bytes first old es looks a none same =
+    subst (λ (ls : List Look). AreLooks (IsNeededBy configs bytes) first old old ls) (sym same) (record {
+      complete = λ address n need.
+          absurd (nothing-among need.entry
+          (subst (λ (xs : List Seen). Contains xs need.entry) (seen-in bytes es a need.form need.manifest ∙ none) need.among));
+      needed = All-nil (λ look. IsNeededBy configs bytes (serialize look.registry) (string_bytes look.name));
+      once = tt;
+      as_kept = All-nil (λ look. old (serialize look.registry) (string_bytes look.name) ≡ Some (answer_of look.answer));
+      given = All-nil (λ look. (old (serialize look.registry) (string_bytes look.name) ≡ Some (answer_of look.answer))
+          ⊎ first look.registry (string_bytes look.name) (Ok (answer_of look.answer)));
+      others = λ address n h. refl;
+    })
+
+-- ---- refusals
+
+-- entries that were found are seen
+pub some-seen : (entries : List Entry) → (entries ≡ [] → ⊥) → map seen_of entries ≡ [] → ⊥
+some-seen [] some h = some refl
+some-seen (e ∷ es) some h = cc h
+
+-- the first entry, whose registry has no address
+stopped-first : (configs : List Config) (bytes : List ℕ) (first : Outcomes) (old new : Kept) (before now : ℕ) (e : Error) (es : List Seen)
+    → AreSeen bytes es → (es ≡ [] → ⊥) → HasNoUrl configs None e → HasBadEntry configs first old new before now bytes e
+stopped-first configs bytes first old new before now e [] a some h = absurd (some refl)
+stopped-first configs bytes first old new before now e (x ∷ es) a some h = record {
+  form = a.form;
+  manifest = a.manifest;
+  stops = record {
+    front = [];
+    entry = x;
+    rest = es;
+    split = sym a.are;
+    passed = All-nil (IsPassed configs new);
+    stops = no_address h;
+  };
+}
+
+pub no-registry : (configs : List Config) (bytes : List ℕ) (first : Outcomes) (old new : Kept) (before now : ℕ) (e : Error) (es : List Seen)
+    → AreSeen bytes es → (es ≡ [] → ⊥) → IsMemory e ⊎ HasNoUrl configs None e → IsMemory e ⊎ HasBadEntry configs first old new before now bytes e
+no-registry configs bytes first old new before now e es a some (inl memory) = inl memory
+no-registry configs bytes first old new before now e es a some (inr h) = inr (stopped-first configs bytes first old new before now e es a some h)
+
+-- an entry whose name has an answer is passed
+passed-one : (configs : List Config) (registry : url.Parts) (new : Kept) (x : Seen) → HasAddress configs None registry
+    → IsSome (new (serialize registry) x.name) → IsPassed configs new x
+passed-one configs registry new x at h = λ address name need.
+    subst (λ (u : url.Parts). IsSome (new (serialize u) name)) (one_url configs None registry address at need.has)
+    (subst (λ (n : List ℕ). IsSome (new (serialize registry) n)) need.named h)
+
+all-passed : (configs : List Config) (registry : url.Parts) (new : Kept) (es : List Seen) → HasAddress configs None registry
+    → All (λ n. IsSome (new (serialize registry) n)) (names_of es) → All (IsPassed configs new) es
+all-passed configs registry new [] at h = All-nil (IsPassed configs new)
+all-passed configs registry new (x ∷ es) at h =
+    All-cons (IsPassed configs new) x es
+    (passed-one configs registry new x at (All-head (λ n. IsSome (new (serialize registry) n)) x.name (names_of es) h))
+    (all-passed configs registry new es at (All-tail (λ n. IsSome (new (serialize registry) n)) x.name (names_of es) h))
+
+-- the first entry whose look is refused
+stopped-look : (configs : List Config) (bytes : List ℕ) (registry : url.Parts) (first : Outcomes) (old new : Kept) (before now : ℕ) (e : Error)
+    (es : List Seen) → AreSeen bytes es → HasAddress configs None registry → IsFailedLook registry first old new (names_of es) before now e
+    → HasBadEntry configs first old new before now bytes e
+stopped-look configs bytes registry first old new before now e es a at f =
+    let split = split-names es f.front f.rest f.name f.split in
+    record {
+      form = a.form;
+      manifest = a.manifest;
+      stops = record {
+        front = split.before;
+        entry = split.entry;
+        rest = split.rest;
+        split = sym a.are ∙ split.is;
+        passed = all-passed configs registry new split.before at
+            (subst (λ (ns : List (List ℕ)). All (λ n. IsSome (new (serialize registry) n)) ns) (sym split.names) f.answered);
+        stops = no_answer registry f.name (record { has = at; named = split.named }) f.absent f.cause;
+      };
+    }
+
+pub planned-cause : (configs : List Config) (bytes : List ℕ) (registry : url.Parts) (first : Outcomes) (old new : Kept) (before now : ℕ) (e : Error)
+    (entries here : List Entry) → AreSeen bytes (map seen_of entries) → here ≡ entries → HasAddress configs None registry
+    → IsMemory e ⊎ IsFailedLook registry first old new (map name_of here) before now e
+    → IsMemory e ⊎ HasBadEntry configs first old new before now bytes e
+planned-cause configs bytes registry first old new before now e entries here a p at (inl memory) = inl memory
+planned-cause configs bytes registry first old new before now e entries here a p at (inr f) =
+    inr (stopped-look configs bytes registry first old new before now e (map seen_of entries) a at
+    (subst (λ (ns : List (List ℕ)). IsFailedLook registry first old new ns before now e) (ap (map name_of) p ∙ names-seen entries) f))

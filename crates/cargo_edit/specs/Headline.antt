@@ -3,11 +3,15 @@ use Rattle.std.specs.Prelude.{◌≡◌, ◌↔◌, ℕ, List, [], ◌∷◌, Al
 use Rattle.std.specs.Ordering.{is_ge}
 use Rattle.semver.specs.Parse.{Parts, req_of, version_parts}
 use Rattle.edit_record.specs.Laws.{Admits, precedence}
+use Rattle.edit_sources.specs.declared.config.Config.{Config}
+use Rattle.cargo_edit.specs.Inputs.{Setting, outputs_at, path_of}
 use Rattle.cargo_edit.specs.Outputs.{HasOutputs}
-use Rattle.cargo_edit.specs.Rows.{Line, Setting}
-use Rattle.cargo_edit.specs.Upgraded.{HasRows, IsNeeded}
+use Rattle.cargo_edit.specs.Rows.{Line}
+use Rattle.cargo_edit.specs.Upgraded.{HasRows, IsNeededBy}
 use Rattle.cargo_edit.specs.declared.upgrade.Change.TheVariants as change
+use Rattle.cargo_edit.specs.declared.upgrade.Input.{Input}
 use Rattle.cargo_edit.specs.declared.upgrade.Output.{Output}
+use Rattle.cargo_edit.specs.declared.upgrade.UpgradePlan.{UpgradePlan}
 
 -- a requirement that `semver` reads is told
 abbrev pub IsRead : Option (List ℕ) → Type 0
@@ -55,5 +59,17 @@ pub record IsFixedPoint (s : Setting) (bytes : List ℕ) : Type 0 where
   pub unwritten : (path : List ℕ) (again : List Line) (outputs : List Output) → HasRows s bytes again → HasOutputs path bytes again outputs → outputs ≡ []
 
 -- two manifests need looks at the same addresses for the same names (own)
-abbrev pub NeedSame : List ℕ → List ℕ → Type 0
-NeedSame bytes other = (address name : List ℕ) → IsNeeded other address name ↔ IsNeeded bytes address name
+abbrev pub NeedSame : List Config → List ℕ → List ℕ → Type 0
+NeedSame configs bytes other = (address name : List ℕ) → IsNeededBy configs other address name ↔ IsNeededBy configs bytes address name
+
+-- the bytes of an input that stand after the plan
+abbrev pub left_of : Input → UpgradePlan → List ℕ
+left_of input p = bytes_after input.bytes.items (outputs_at (path_of input) p)
+
+-- what the plan leaves of an input stays, planned again over the same looks
+abbrev pub IsSettled : Setting → Input → UpgradePlan → Type 0
+IsSettled s input p = IsFixedPoint s (left_of input p)
+
+-- what the plan leaves of an input needs the same looks
+abbrev pub NeedsAsBefore : Setting → Input → UpgradePlan → Type 0
+NeedsAsBefore s input p = NeedSame s.configs input.bytes.items (left_of input p)

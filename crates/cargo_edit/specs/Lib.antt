@@ -4,11 +4,11 @@ pub mod Rankings
 pub mod Entries
 pub mod Records
 pub mod Rows
-pub mod Found
-pub mod Address
-pub mod Looks
-pub mod Looked
 pub mod Lines
+pub mod Found
+pub mod Looks
+pub mod Inputs
+pub mod Looked
 pub mod Upgraded
 pub mod Causes
 pub mod Lists

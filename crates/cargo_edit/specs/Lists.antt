@@ -47,20 +47,25 @@ unreadable_text name old = codes "keeping " ++ (name ++ (codes ", unreadable req
 abbrev pub unread : List ℕ → Option (List ℕ)
 unread old = if is_ok (req_of old) then None else Some old
 
+-- what is told of a requirement that is not read
+abbrev pub told_of : Line → List ℕ → Told
+told_of line old = record { input = line.input; verbose = false; text = unreadable_text line.name old }
+
 -- the warning on a row: one where the row's requirement is not read
-abbrev pub warning_of : ℕ → Line → Option Told
-warning_of input line = option_map (λ old. record { input = input; verbose = false; text = unreadable_text line.name old }) (option_and_then unread line.old)
+abbrev pub warning_of : Line → Option Told
+warning_of line = option_map (told_of line) (option_and_then unread line.old)
 
 -- the warnings on rows, in their order
-abbrev pub warnings_of : ℕ → List Line → List Told
-warnings_of input lines = filter_map (warning_of input) lines
+abbrev pub warnings_of : List Line → List Told
+warnings_of lines = filter_map warning_of lines
 
 -- what a plan tells of its rows: the names of those with a change, each once in byte order; the unreadable
 -- requirements in order; whether an entry was held back for being pinned, or for not admitting the version (own)
 pub record Tells (p : UpgradePlan) : Type 0 where
   pub ordered : IsStrictlySortedBy string_cmp p.modified.items
-  pub modified : (name : List ℕ) → list_any (bytes_eq name) (map string_bytes p.modified.items) ≡ list_any (bytes_eq name) (changed_names (map line_of p.rows.items))
-  pub warnings : map warning_view p.warnings.items ≡ warnings_of 0 (map line_of p.rows.items)
+  pub modified : (name : List ℕ) → list_any (bytes_eq name) (map string_bytes p.modified.items)
+      ≡ list_any (bytes_eq name) (changed_names (map line_of p.rows.items))
+  pub warnings : map warning_view p.warnings.items ≡ warnings_of (map line_of p.rows.items)
   pub missing : p.missing.items ≡ []
   pub git_crates : p.git_crates.items ≡ []
   pub pinned : p.pinned_present ≡ list_any (λ r. is_held_pinned r.reason) p.rows.items

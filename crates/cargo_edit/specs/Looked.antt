@@ -1,5 +1,5 @@
 -- How looks are made, one after another.
-use Rattle.std.specs.Prelude.{◌≡◌, ◌⊎◌, ℕ, List, [], ◌∷◌, ◌++◌, Bool, false, ◌&&◌, IsSome, Some, None, Ok, Err, All, is_some, string_bytes}
+use Rattle.std.specs.Prelude.{◌≡◌, ◌≤◌, ◌⊎◌, ℕ, List, [], ◌∷◌, ◌++◌, Bool, false, ◌&&◌, IsSome, Some, None, Ok, Err, All, Contains, is_some, string_bytes}
 use Rattle.std.specs.Str.{bytes_eq}
 use Rattle.edit_document.specs.Errors.{number_of}
 use Rattle.edit_document.specs.declared.errors.Error.{Error}
@@ -7,7 +7,7 @@ use Rattle.edit_sources.specs.Index.{IsLookRefusal, Outcomes, SameOutcomes, answ
 use Rattle.edit_sources.specs.Store.{raised}
 use Rattle.url.specs.Parts as url
 use Rattle.url.specs.Parts.{serialize}
-use Rattle.cargo_edit.specs.Looks.{Kept, look_at}
+use Rattle.cargo_edit.specs.Looks.{AddsNeeded, Kept, look_at}
 use Rattle.cargo_edit.specs.declared.upgrade.Look.{Look}
 
 -- an answer that was kept stays
@@ -46,9 +46,22 @@ pub record IsFailedLook (address : url.Parts) (gives : Outcomes) (old new : Kept
   pub absent : old (serialize address) name ≡ None
   pub cause : IsRefusedAt gives address name before now e
 
+-- a look at this address for this name
+abbrev pub IsAt : List ℕ → List ℕ → List ℕ → List ℕ → Type 0
+IsAt address of at name = (at ≡ address) × (name ≡ of)
+
+-- a look at this address for one of these names
+abbrev pub IsAmong : List ℕ → List (List ℕ) → List ℕ → List ℕ → Type 0
+IsAmong address names at name = (at ≡ address) × Contains names name
+
+-- what a call leaves, also where it is refused: of the answers that are kept; of the index, the outcomes that it had; and
+-- a count of faults that has not fallen (own)
+pub record Leaves (Needed : List ℕ → List ℕ → Type 0) (gives after : Outcomes) (before now : ℕ) (old new : Kept) : Type 0 where
+  pub adds : AddsNeeded Needed gives old new
+  pub same : SameOutcomes gives after
+  pub later : before ≤ now
+
 -- where a walk over names stands: the looks that were made, and the set of their names
-pub record IsSoFar (address : List ℕ) (first last : Outcomes) (old now : Kept) (names : List (List ℕ)) (looks : List Look) (among : List ℕ → Bool) : Type 0 where
-  pub looked : Looked address first old names looks now
+pub record IsSoFar (address : List ℕ) (gives : Outcomes) (old now : Kept) (names : List (List ℕ)) (looks : List Look) (among : List ℕ → Bool) : Type 0 where
+  pub looked : Looked address gives old names looks now
   pub set : (q : List ℕ) → among q ≡ is_some (look_at looks address q)
-  pub gives : SameOutcomes first last
-  pub stays : Stays old now

@@ -1,5 +1,5 @@
 -- The looks of a plan: what was looked up, and what each look answered.
-use Rattle.std.specs.Prelude.{◌≡◌, ℕ, List, [], ◌∷◌, Bool, ◌&&◌, All, ◌⊎◌, IsSome, Option, Some, None, Ok, find, string_bytes, option_map, ⊤}
+use Rattle.std.specs.Prelude.{◌≡◌, ℕ, List, [], ◌∷◌, Bool, ◌&&◌, All, ◌⊎◌, IfSome, IsSome, Option, Some, None, Ok, find, string_bytes, option_map, ⊤}
 use Rattle.std.specs.Str.{bytes_eq}
 use Rattle.edit_record.specs.IndexEntry.{IndexEntry}
 use Rattle.edit_record.specs.Admissible.{admissible_in}
@@ -8,8 +8,9 @@ use Rattle.edit_sources.specs.IndexCache.{kept_at}
 use Rattle.edit_sources.specs.Index.{Outcomes, answer_of}
 use Rattle.edit_sources.specs.declared.cache.IndexCache.{IndexCache}
 use Rattle.semver.specs.Parse.{Parts}
+use Rattle.url.specs.Parts as url
 use Rattle.url.specs.Parts.{serialize}
-use Rattle.cargo_edit.specs.Rows.{Setting}
+use Rattle.cargo_edit.specs.Rows.{Basis}
 use Rattle.cargo_edit.specs.declared.upgrade.Look.{Look}
 use Rattle.cargo_edit.specs.declared.upgrade.Options.{Options}
 
@@ -59,10 +60,19 @@ pub record AreLooks (Needed : List ℕ → List ℕ → Type 0) (gives : Outcome
       ⊎ gives look.registry (string_bytes look.name) (Ok (answer_of look.answer))) looks
   pub others : (address name : List ℕ) → look_at looks address name ≡ None → new address name ≡ old address name
 
--- what the rows of an input rest on, where the versions are those of the looks at one address
-abbrev pub told_setting : ℕ → Options → Option Numbers → List Look → List ℕ → Setting
-told_setting input o rust looks address = record { input = input; options = o; versions = told rust looks address }
+-- a look that the index answered so: at a registry of this address
+pub record IsGiven (gives : Outcomes) (address name : List ℕ) (answer : Answer) : Type 0 where
+  pub registry : url.Parts
+  pub at : serialize registry ≡ address
+  pub given : gives registry name (Ok answer)
 
--- the same, where the versions are those of the answers that are kept for names
-abbrev pub kept_setting : ℕ → Options → Option Numbers → (List ℕ → Option Answer) → Setting
+-- what a call leaves of the answers that are kept, also where it is refused: each one that was kept stays, and each new
+-- one is needed and is one that the index gives (own)
+pub record AddsNeeded (Needed : List ℕ → List ℕ → Type 0) (gives : Outcomes) (old new : Kept) : Type 0 where
+  pub stays : (address name : List ℕ) → IsSome (old address name) → new address name ≡ old address name
+  pub added : (address name : List ℕ) → old address name ≡ None
+      → IfSome (new address name) (λ answer. Needed address name × IsGiven gives address name answer)
+
+-- what rows are decided by, where the versions are those of the answers that are kept for names
+abbrev pub kept_setting : ℕ → Options → Option Numbers → (List ℕ → Option Answer) → Basis
 kept_setting input o rust kept = record { input = input; options = o; versions = λ name. versions_in rust (kept name) }

@@ -11,9 +11,9 @@ use Rattle.cargo_edit.specs.declared.upgrade.Change.{Change}
 use Rattle.cargo_edit.specs.declared.upgrade.Options.{Options}
 use Rattle.cargo_edit.specs.declared.upgrade.Reason.{Reason}
 
--- what the rows of an input rest on besides its text: which input it is, the options, and the versions
--- that the index told of and that may be taken, by the crate's name
-pub record Setting : Type 0 where
+-- what rows are decided by: which input they are of, the options, and the versions that may be taken, by the crate's
+-- name (own)
+pub record Basis : Type 0 where
   pub input : ℕ
   pub options : Options
   pub versions : List ℕ → List Parts
@@ -66,7 +66,7 @@ pub record IsDecided (input : ℕ) (options : Options) (versions : List Parts) (
   pub is : line ≡ line_for input e near far (decision options (case_for e near far))
 
 -- one row for each entry, in order
-abbrev pub AreDecided : Setting → List Seen → List Line → Type 0
+abbrev pub AreDecided : Basis → List Seen → List Line → Type 0
 AreDecided s es lines = AllZip (λ e line. IsDecided s.input s.options (s.versions e.name) e line) es lines
 
 -- what a row writes at a place: its new text, where it has a change

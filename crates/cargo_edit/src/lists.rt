@@ -43,7 +43,8 @@ pub(crate) fn has_incompatible(rows: &[Row]) -> bool
 
 // The set of the names of the rows with a change.
 fn name_set(alloc: Global, rows: &[Row]) -> CargoResult<Names>
-    ensures names { IfOk result (λ s. (name : List ℕ) → contains_text s name ≡ list_any (bytes_eq name) (changed_names (map line_of rows.now))) }
+    ensures names { IfOk result (λ s. (name : List ℕ) → contains_text s name
+        ≡ list_any (bytes_eq name) (changed_names (map line_of rows.now))) }
     ensures refused { IfErr result IsMemory }
 {
     let mut names = BTreeSet::new(alloc);
@@ -75,8 +76,8 @@ fn unreadable_text(alloc: Global, name: &str, old: &str) -> Result<String, Alloc
 }
 
 // The warning on a row, where its requirement is not read.
-fn row_warning(alloc: Global, input: usize, row: &Row) -> CargoResult<Option<Warning>>
-    ensures ok { IfOk result (λ o. option_map warning_view o ≡ warning_of input (line_of row.now)) }
+fn row_warning(alloc: Global, row: &Row) -> CargoResult<Option<Warning>>
+    ensures ok { IfOk result (λ o. option_map warning_view o ≡ warning_of (line_of row.now)) }
     ensures refused { IfErr result IsMemory }
 {
     let Some(old) = &row.old else {
@@ -88,24 +89,20 @@ fn row_warning(alloc: Global, input: usize, row: &Row) -> CargoResult<Option<War
         return Ok(None);
     }
     Ok(Some(Warning {
-        input,
+        input: row.input,
         verbose: false,
         text: unreadable_text(alloc, row.name.as_str(), old)?,
     }))
 }
 
 /// A warning on each row whose requirement is not read, in the order of the rows.
-pub(crate) fn unreadable_warnings(
-    alloc: Global,
-    input: usize,
-    rows: &[Row],
-) -> CargoResult<Vec<Warning>>
-    ensures texts { IfOk result (λ v. map warning_view v.items ≡ warnings_of input (map line_of rows.now)) }
+pub(crate) fn unreadable_warnings(alloc: Global, rows: &[Row]) -> CargoResult<Vec<Warning>>
+    ensures texts { IfOk result (λ v. map warning_view v.items ≡ warnings_of (map line_of rows.now)) }
     ensures refused { IfErr result IsMemory }
 {
     let mut warnings = Vec::new(alloc);
     'rows: for row in rows {
-        let told = row_warning(alloc, input, row)?;
+        let told = row_warning(alloc, row)?;
         match told {
             Some(warning) => warnings.push(warning)?,
             None => {}

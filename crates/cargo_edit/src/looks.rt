@@ -1,39 +1,24 @@
 //! The looks of a plan.
-ghost use Rattle.std.specs.Prelude.{◌≡◌, ◌≤◌, ◌⊎◌, ◌&&◌, ℕ, List, Some, None, Ok, false, IfErr, IfOk, IfSome, IsSome, OnOk, map, option_copied, option_map, string_bytes};
+ghost use Rattle.std.specs.Prelude.{◌≡◌, ◌⊎◌, ◌&&◌, ℕ, List, Some, None, Ok, false, IfErr, IfOk, IfSome, IsSome, OnOk, map, option_copied, option_map, string_bytes};
 ghost use Rattle.std.specs.Str.{bytes_eq};
 ghost use Rattle.edit_document.specs.Errors.{IsMemory};
-ghost use Rattle.edit_sources.specs.Index.{SameOutcomes, answer_of};
+ghost use Rattle.edit_sources.specs.Index.{answer_of};
 ghost use Rattle.edit_sources.specs.IndexCache.{index_of};
-ghost use Rattle.url.specs.Parser.{parse_url};
 ghost use Rattle.url.specs.Parts.{serialize};
-ghost use Rattle.cargo_edit.specs.Address.{default_address};
 ghost use Rattle.cargo_edit.specs.Found.{name_of};
-ghost use Rattle.cargo_edit.specs.Looked.{IsFailedLook, IsLook, IsRefusedAt, Looked, Stays};
+ghost use Rattle.cargo_edit.specs.Looked.{IsAmong, IsAt, IsFailedLook, IsLook, IsRefusedAt, Leaves, Looked};
 ghost use Rattle.cargo_edit.specs.Looks.{kept_by};
 
 use crate::names::{Names, add_name, has_name};
 use crate::seen::Entry;
 use crate::upgrade::Look;
-use edit_document::{CargoResult, Error};
+use edit_document::CargoResult;
 use edit_sources::cache::IndexCache;
 use edit_sources::index::{Index, IndexKrate};
 use std::alloc::Global;
 use url::Url;
 
-/// The address of entries that name no registry.
-const DEFAULT_REGISTRY: &str = "sparse+https://index.crates.io/";
-
-/// The default address, read.
-pub(crate) fn default_registry(alloc: Global) -> CargoResult<Url>
-    ensures ok { IfOk result (λ url. serialize url ≡ default_address) }
-    ensures refused { IfErr result IsMemory }
-{
-    match Url::parse(alloc, DEFAULT_REGISTRY) {
-        Ok(url) => Ok(url),
-        Err(_) => Err(Error::Memory),
-    }
-}
-
+// The same answer, on memory of its own.
 fn copied_answer(alloc: Global, answer: Option<&IndexKrate>) -> CargoResult<Option<IndexKrate>>
     ensures ok { IfOk result (λ o. answer_of o ≡ answer_of (option_copied answer.entry)) }
     ensures refused { IfErr result IsMemory }
@@ -56,14 +41,15 @@ fn fetch_one<I: Index>(
 ) -> CargoResult<()>
     ensures kept { OnOk result (IsSome (kept_by index.new (serialize registry.now) name.now)) }
     ensures given { OnOk result (IfSome (kept_by index.new (serialize registry.now) name.now)
-        (λ a. (kept_by index.old (serialize registry.now) name.now ≡ Some a) ⊎ I.gives (index_of index.old) registry.now name.now (Ok a))) }
+        (λ a. (kept_by index.old (serialize registry.now) name.now ≡ Some a)
+        ⊎ I.gives (index_of index.old) registry.now name.now (Ok a))) }
     ensures others { (a n : List ℕ) → (bytes_eq (serialize registry.now) a && bytes_eq name.now n) ≡ false
         → kept_by index.new a n ≡ kept_by index.old a n }
-    ensures stays { Stays (kept_by index.old) (kept_by index.new) }
-    ensures gives { SameOutcomes (I.gives (index_of index.old)) (I.gives (index_of index.new)) }
-    ensures faults { I.faults (index_of index.old) ≤ I.faults (index_of index.new) }
+    ensures left { Leaves (IsAt (serialize registry.now) name.now) (I.gives (index_of index.old)) (I.gives (index_of index.new))
+        (I.faults (index_of index.old)) (I.faults (index_of index.new)) (kept_by index.old) (kept_by index.new) }
     ensures refused { IfErr result (λ e. IsMemory e ⊎ ((kept_by index.old (serialize registry.now) name.now ≡ None)
-        × IsRefusedAt (I.gives (index_of index.old)) registry.now name.now (I.faults (index_of index.old)) (I.faults (index_of index.new)) e)) }
+        × IsRefusedAt (I.gives (index_of index.old)) registry.now name.now
+        (I.faults (index_of index.old)) (I.faults (index_of index.new)) e)) }
 {
     index.fetch(alloc, registry, name)
 }
@@ -99,11 +85,11 @@ fn one_look<I: Index>(
 ) -> CargoResult<Look>
     ensures look { IfOk result (IsLook (serialize registry.now) name.now (I.gives (index_of index.old))
         (kept_by index.old) (kept_by index.new)) }
-    ensures stays { Stays (kept_by index.old) (kept_by index.new) }
-    ensures gives { SameOutcomes (I.gives (index_of index.old)) (I.gives (index_of index.new)) }
-    ensures faults { I.faults (index_of index.old) ≤ I.faults (index_of index.new) }
+    ensures left { Leaves (IsAt (serialize registry.now) name.now) (I.gives (index_of index.old)) (I.gives (index_of index.new))
+        (I.faults (index_of index.old)) (I.faults (index_of index.new)) (kept_by index.old) (kept_by index.new) }
     ensures refused { IfErr result (λ e. IsMemory e ⊎ ((kept_by index.old (serialize registry.now) name.now ≡ None)
-        × IsRefusedAt (I.gives (index_of index.old)) registry.now name.now (I.faults (index_of index.old)) (I.faults (index_of index.new)) e)) }
+        × IsRefusedAt (I.gives (index_of index.old)) registry.now name.now
+        (I.faults (index_of index.old)) (I.faults (index_of index.new)) e)) }
 {
     fetch_one(alloc, registry, name, index)?;
     look_of(alloc, registry, name, index)
@@ -118,9 +104,12 @@ pub(crate) fn look_up<I: Index>(
 ) -> CargoResult<Vec<Look>>
     ensures looked { IfOk result (λ looks. Looked (serialize registry.now) (I.gives (index_of index.old)) (kept_by index.old)
         (map name_of entries.now) looks.items (kept_by index.new)) }
-    ensures stays { Stays (kept_by index.old) (kept_by index.new) }
+    ensures left { Leaves (IsAmong (serialize registry.now) (map name_of entries.now)) (I.gives (index_of index.old))
+        (I.gives (index_of index.new)) (I.faults (index_of index.old)) (I.faults (index_of index.new))
+        (kept_by index.old) (kept_by index.new) }
     ensures refused { IfErr result (λ e. IsMemory e ⊎ IsFailedLook registry.now (I.gives (index_of index.old))
-        (kept_by index.old) (kept_by index.new) (map name_of entries.now) (I.faults (index_of index.old)) (I.faults (index_of index.new)) e) }
+        (kept_by index.old) (kept_by index.new) (map name_of entries.now)
+        (I.faults (index_of index.old)) (I.faults (index_of index.new)) e) }
 {
     let mut looked = Names::new(alloc);
     let mut looks = Vec::new(alloc);
@@ -129,10 +118,7 @@ pub(crate) fn look_up<I: Index>(
         if has_name(&looked, name) {
             continue;
         }
-        let look = match one_look(alloc, registry, name, index) {
-            Ok(look) => look,
-            Err(error) => return Err(error),
-        };
+        let look = one_look(alloc, registry, name, index)?;
         add_name(alloc, &mut looked, name)?;
         looks.push(look)?;
     }

@@ -1,18 +1,18 @@
 //! The plan of an upgrade.
-ghost use Rattle.std.specs.Prelude.{◌≡◌, ◌⊎◌, [], All, IfErr, IfOk, IfSome, MatchOption, length, map, option_map, slice_get, string_bytes};
+ghost use Rattle.std.specs.Prelude.{◌≡◌, ◌≤◌, ◌⊎◌, [], All, IfErr, IfOk, MatchOption, length, map, string_bytes};
 ghost use Rattle.edit_document.specs.Errors.{IsMemory};
-ghost use Rattle.edit_record.specs.RustVersions.{numbers_of};
+ghost use Rattle.edit_sources.specs.Index.{SameOutcomes};
 ghost use Rattle.edit_sources.specs.IndexCache.{index_of};
-ghost use Rattle.cargo_edit.specs.Address.{default_address};
-ghost use Rattle.cargo_edit.specs.Causes.{IsBadLook, IsCause};
-ghost use Rattle.cargo_edit.specs.Headline.{IsFixedPoint, LatestIsNotLess, Narrows, NeedSame, Reaches, bytes_after};
+ghost use Rattle.cargo_edit.specs.Causes.{HasBadEntry, IsBadManifest, IsCause, IsEntryCause};
+ghost use Rattle.cargo_edit.specs.Headline.{IsSettled, LatestIsNotLess, Narrows, NeedsAsBefore, Reaches};
+ghost use Rattle.cargo_edit.specs.Inputs.{EachInput, OutputsInOrder, RowsInOrder, setting_of};
 ghost use Rattle.cargo_edit.specs.Lines.{line_of};
 ghost use Rattle.cargo_edit.specs.Lists.{Tells};
-ghost use Rattle.cargo_edit.specs.Looked.{Stays};
-ghost use Rattle.cargo_edit.specs.Looks.{AreLooks, kept_by, told_setting};
+ghost use Rattle.cargo_edit.specs.Looked.{Leaves};
+ghost use Rattle.cargo_edit.specs.Looks.{AddsNeeded, AreLooks, kept_by};
 ghost use Rattle.cargo_edit.specs.Outputs.{HasOutputs, IsOnlyOutput};
 ghost use Rattle.cargo_edit.specs.PlannedView.{IsShown};
-ghost use Rattle.cargo_edit.specs.Upgraded.{HasRows, IsNeeded};
+ghost use Rattle.cargo_edit.specs.Upgraded.{HasItsOutputs, HasItsRows, HasRows, IsNeeded, IsNeededBy};
 
 use crate::lists::{has_incompatible, has_pinned, modified_names, unreadable_warnings};
 use crate::planned::{Planned, plan_input, read_manifest};
@@ -24,7 +24,8 @@ use std::alloc::Global;
 
 // The output at a path, where there is a new text.
 fn outputs_of(alloc: Global, path: &str, text: Option<String>) -> CargoResult<Vec<Output>>
-    ensures ok { IfOk result (λ v. MatchOption text (v.items ≡ []) (λ s. IsOnlyOutput path.now (string_bytes s) v.items)) }
+    ensures ok { IfOk result (λ v. MatchOption text (v.items ≡ [])
+        (λ s. IsOnlyOutput path.now (string_bytes s) v.items)) }
     ensures refused { IfErr result IsMemory }
 {
     let mut outputs = Vec::new(alloc);
@@ -50,13 +51,14 @@ fn plan_of(
 ) -> CargoResult<UpgradePlan>
     requires { IsShown input.now.bytes.items document.now planned }
     ensures rows { IfOk result (λ p. (p.rows ≡ planned.rows) × (p.looks ≡ planned.looks)) }
-    ensures outputs { IfOk result (λ p. HasOutputs (string_bytes input.now.path) input.now.bytes.items (map line_of p.rows.items) p.outputs.items) }
+    ensures outputs { IfOk result (λ p. HasOutputs (string_bytes input.now.path) input.now.bytes.items
+        (map line_of p.rows.items) p.outputs.items) }
     ensures lists { IfOk result Tells }
     ensures refused { IfErr result IsMemory }
 {
     let text = written(alloc, document, &planned.entries, &planned.rows)?;
     let outputs = outputs_of(alloc, input.path.as_str(), text)?;
-    let warnings = unreadable_warnings(alloc, 0, &planned.rows)?;
+    let warnings = unreadable_warnings(alloc, &planned.rows)?;
     let modified = modified_names(alloc, &planned.rows)?;
     let pinned_present = has_pinned(&planned.rows);
     let incompatible_present = has_incompatible(&planned.rows);
@@ -79,20 +81,25 @@ fn plan_document<I: Index>(
     options: &Options,
     input: &Input,
     document: &Document,
+    configs: &[Config],
     index: &mut IndexCache<I>,
 ) -> CargoResult<UpgradePlan>
     requires { document.now.bytes ≡ input.now.bytes.items }
-    ensures rows { IfOk result (λ p. HasRows (told_setting 0 options.now (option_map numbers_of input.now.rust_version)
-        p.looks.items default_address) input.now.bytes.items (map line_of p.rows.items)) }
-    ensures outputs { IfOk result (λ p. HasOutputs (string_bytes input.now.path) input.now.bytes.items (map line_of p.rows.items) p.outputs.items) }
-    ensures looks { IfOk result (λ p. AreLooks (IsNeeded input.now.bytes.items) (I.gives (index_of index.old))
+    ensures rows { IfOk result (λ p. HasRows (setting_of 0 options.now input.now configs.now p.looks.items)
+        input.now.bytes.items (map line_of p.rows.items)) }
+    ensures outputs { IfOk result (λ p. HasOutputs (string_bytes input.now.path) input.now.bytes.items
+        (map line_of p.rows.items) p.outputs.items) }
+    ensures looks { IfOk result (λ p. AreLooks (IsNeededBy configs.now input.now.bytes.items) (I.gives (index_of index.old))
         (kept_by index.old) (kept_by index.new) p.looks.items) }
     ensures lists { IfOk result Tells }
-    ensures kept { Stays (kept_by index.old) (kept_by index.new) }
-    ensures refused { IfErr result (λ e. IsMemory e ⊎ IsBadLook input.now.bytes.items (I.gives (index_of index.old))
-        (kept_by index.old) (kept_by index.new) (I.faults (index_of index.old)) (I.faults (index_of index.new)) e) }
+    ensures left { Leaves (IsNeededBy configs.now input.now.bytes.items) (I.gives (index_of index.old))
+        (I.gives (index_of index.new)) (I.faults (index_of index.old)) (I.faults (index_of index.new))
+        (kept_by index.old) (kept_by index.new) }
+    ensures refused { IfErr result (λ e. IsMemory e ⊎ HasBadEntry configs.now (I.gives (index_of index.old))
+        (kept_by index.old) (kept_by index.new) (I.faults (index_of index.old)) (I.faults (index_of index.new))
+        input.now.bytes.items e) }
 {
-    let planned = plan_input(alloc, 0, options, input, document, index)?;
+    let planned = plan_input(alloc, 0, options, input, document, configs, index)?;
     plan_of(alloc, input, document, planned)
 }
 
@@ -101,20 +108,25 @@ fn plan_manifest<I: Index>(
     alloc: Global,
     options: &Options,
     input: &Input,
+    configs: &[Config],
     index: &mut IndexCache<I>,
 ) -> CargoResult<UpgradePlan>
-    ensures rows { IfOk result (λ p. HasRows (told_setting 0 options.now (option_map numbers_of input.now.rust_version)
-        p.looks.items default_address) input.now.bytes.items (map line_of p.rows.items)) }
-    ensures outputs { IfOk result (λ p. HasOutputs (string_bytes input.now.path) input.now.bytes.items (map line_of p.rows.items) p.outputs.items) }
-    ensures looks { IfOk result (λ p. AreLooks (IsNeeded input.now.bytes.items) (I.gives (index_of index.old))
+    ensures rows { IfOk result (λ p. HasRows (setting_of 0 options.now input.now configs.now p.looks.items)
+        input.now.bytes.items (map line_of p.rows.items)) }
+    ensures outputs { IfOk result (λ p. HasOutputs (string_bytes input.now.path) input.now.bytes.items
+        (map line_of p.rows.items) p.outputs.items) }
+    ensures looks { IfOk result (λ p. AreLooks (IsNeededBy configs.now input.now.bytes.items) (I.gives (index_of index.old))
         (kept_by index.old) (kept_by index.new) p.looks.items) }
     ensures lists { IfOk result Tells }
-    ensures kept { Stays (kept_by index.old) (kept_by index.new) }
-    ensures refused { IfErr result (IsCause input.now.bytes.items (I.gives (index_of index.old)) (kept_by index.old)
-        (kept_by index.new) (I.faults (index_of index.old)) (I.faults (index_of index.new))) }
+    ensures left { Leaves (IsNeededBy configs.now input.now.bytes.items) (I.gives (index_of index.old))
+        (I.gives (index_of index.new)) (I.faults (index_of index.old)) (I.faults (index_of index.new))
+        (kept_by index.old) (kept_by index.new) }
+    ensures refused { IfErr result (λ e. IsBadManifest input.now.bytes.items e ⊎ HasBadEntry configs.now (I.gives (index_of index.old))
+        (kept_by index.old) (kept_by index.new) (I.faults (index_of index.old)) (I.faults (index_of index.new))
+        input.now.bytes.items e) }
 {
     let document = read_manifest(alloc, &input.bytes)?;
-    plan_document(alloc, options, input, &document, index)
+    plan_document(alloc, options, input, &document, configs, index)
 }
 
 /// What an upgrade of manifests that were read gives: as `plan_upgrade`, over the documents that their bytes were read to.
@@ -132,11 +144,11 @@ pub fn plan_documents<I: Index>(
     requires no_words { options.now.package.items ≡ [] }
     requires no_exclusions { options.now.exclude.items ≡ [] }
     // each seen entry has one row: the decision over the greatest admissible versions that the looks tell of
-    ensures rows { IfOk result (λ p. IfSome (slice_get inputs.now 0) (λ input. HasRows (told_setting 0 options.now
-        (option_map numbers_of input.rust_version) p.looks.items default_address) input.bytes.items (map line_of p.rows.items))) }
+    ensures rows { IfOk result (EachInput options.now inputs.now configs.now HasItsRows) }
+    ensures rows_in_order { IfOk result (RowsInOrder inputs.now) }
     // the literals of the rows with a change, and no other byte
-    ensures outputs { IfOk result (λ p. IfSome (slice_get inputs.now 0)
-        (λ input. HasOutputs (string_bytes input.path) input.bytes.items (map line_of p.rows.items) p.outputs.items)) }
+    ensures outputs { IfOk result (EachInput options.now inputs.now configs.now HasItsOutputs) }
+    ensures outputs_in_order { IfOk result (OutputsInOrder inputs.now) }
     // a compatible change leaves a requirement that is read, and that admits nothing that the old one did not
     ensures narrowing { IfOk result (λ p. All Narrows (map line_of p.rows.items)) }
     // a change admits the version that it was made for
@@ -144,21 +156,24 @@ pub fn plan_documents<I: Index>(
     // where a compatible version is told, a latest one is, and is not less
     ensures latest { IfOk result (λ p. All LatestIsNotLess (map line_of p.rows.items)) }
     // planned again over the same looks, the bytes that stand after the plan stay as they are
-    ensures fixed_point { IfOk result (λ p. IfSome (slice_get inputs.now 0) (λ input. IsFixedPoint (told_setting 0 options.now
-        (option_map numbers_of input.rust_version) p.looks.items default_address) (bytes_after input.bytes.items p.outputs.items))) }
+    ensures fixed_point { IfOk result (EachInput options.now inputs.now configs.now IsSettled) }
     // and they need the same looks
-    ensures needs { IfOk result (λ p. IfSome (slice_get inputs.now 0)
-        (λ input. NeedSame input.bytes.items (bytes_after input.bytes.items p.outputs.items))) }
-    ensures looks { IfOk result (λ p. IfSome (slice_get inputs.now 0) (λ input. AreLooks (IsNeeded input.bytes.items)
-        (I.gives (index_of index.old)) (kept_by index.old) (kept_by index.new) p.looks.items)) }
+    ensures needs { IfOk result (EachInput options.now inputs.now configs.now NeedsAsBefore) }
+    // each look that is needed, and no other
+    ensures looks { IfOk result (λ p. AreLooks (IsNeeded inputs.now configs.now) (I.gives (index_of index.old))
+        (kept_by index.old) (kept_by index.new) p.looks.items) }
     ensures lists { IfOk result Tells }
-    ensures kept { Stays (kept_by index.old) (kept_by index.new) }
-    ensures refused { IfErr result (λ e. IfSome (slice_get inputs.now 0) (λ input. IsMemory e ⊎ IsBadLook input.bytes.items (I.gives (index_of index.old))
-        (kept_by index.old) (kept_by index.new) (I.faults (index_of index.old)) (I.faults (index_of index.new)) e)) }
+    // also a refused plan adds to the answers that are kept only what is needed, as the index gives it
+    ensures kept { AddsNeeded (IsNeeded inputs.now configs.now) (I.gives (index_of index.old))
+        (kept_by index.old) (kept_by index.new) }
+    ensures index { SameOutcomes (I.gives (index_of index.old)) (I.gives (index_of index.new)) }
+    ensures faults { I.faults (index_of index.old) ≤ I.faults (index_of index.new) }
+    ensures refused { IfErr result (IsEntryCause inputs.now configs.now (I.gives (index_of index.old))
+        (kept_by index.old) (kept_by index.new) (I.faults (index_of index.old)) (I.faults (index_of index.new))) }
 {
     let input = &inputs[0];
-    let _configs = configs;
-    let plan = plan_document(alloc, options, input, &documents[0], index)?;
+    let own = &configs[0];
+    let plan = plan_document(alloc, options, input, &documents[0], own, index)?;
     Ok(plan)
 }
 
@@ -179,11 +194,11 @@ pub fn plan_upgrade<I: Index>(
     requires no_words { options.now.package.items ≡ [] }
     requires no_exclusions { options.now.exclude.items ≡ [] }
     // each seen entry has one row: the decision over the greatest admissible versions that the looks tell of
-    ensures rows { IfOk result (λ p. IfSome (slice_get inputs.now 0) (λ input. HasRows (told_setting 0 options.now
-        (option_map numbers_of input.rust_version) p.looks.items default_address) input.bytes.items (map line_of p.rows.items))) }
+    ensures rows { IfOk result (EachInput options.now inputs.now configs.now HasItsRows) }
+    ensures rows_in_order { IfOk result (RowsInOrder inputs.now) }
     // the literals of the rows with a change, and no other byte
-    ensures outputs { IfOk result (λ p. IfSome (slice_get inputs.now 0)
-        (λ input. HasOutputs (string_bytes input.path) input.bytes.items (map line_of p.rows.items) p.outputs.items)) }
+    ensures outputs { IfOk result (EachInput options.now inputs.now configs.now HasItsOutputs) }
+    ensures outputs_in_order { IfOk result (OutputsInOrder inputs.now) }
     // a compatible change leaves a requirement that is read, and that admits nothing that the old one did not
     ensures narrowing { IfOk result (λ p. All Narrows (map line_of p.rows.items)) }
     // a change admits the version that it was made for
@@ -191,20 +206,23 @@ pub fn plan_upgrade<I: Index>(
     // where a compatible version is told, a latest one is, and is not less
     ensures latest { IfOk result (λ p. All LatestIsNotLess (map line_of p.rows.items)) }
     // planned again over the same looks, the bytes that stand after the plan stay as they are
-    ensures fixed_point { IfOk result (λ p. IfSome (slice_get inputs.now 0) (λ input. IsFixedPoint (told_setting 0 options.now
-        (option_map numbers_of input.rust_version) p.looks.items default_address) (bytes_after input.bytes.items p.outputs.items))) }
+    ensures fixed_point { IfOk result (EachInput options.now inputs.now configs.now IsSettled) }
     // and they need the same looks
-    ensures needs { IfOk result (λ p. IfSome (slice_get inputs.now 0)
-        (λ input. NeedSame input.bytes.items (bytes_after input.bytes.items p.outputs.items))) }
-    ensures looks { IfOk result (λ p. IfSome (slice_get inputs.now 0) (λ input. AreLooks (IsNeeded input.bytes.items)
-        (I.gives (index_of index.old)) (kept_by index.old) (kept_by index.new) p.looks.items)) }
+    ensures needs { IfOk result (EachInput options.now inputs.now configs.now NeedsAsBefore) }
+    // each look that is needed, and no other
+    ensures looks { IfOk result (λ p. AreLooks (IsNeeded inputs.now configs.now) (I.gives (index_of index.old))
+        (kept_by index.old) (kept_by index.new) p.looks.items) }
     ensures lists { IfOk result Tells }
-    ensures kept { Stays (kept_by index.old) (kept_by index.new) }
-    ensures refused { IfErr result (λ e. IfSome (slice_get inputs.now 0) (λ input. IsCause input.bytes.items (I.gives (index_of index.old))
-        (kept_by index.old) (kept_by index.new) (I.faults (index_of index.old)) (I.faults (index_of index.new)) e)) }
+    // also a refused plan adds to the answers that are kept only what is needed, as the index gives it
+    ensures kept { AddsNeeded (IsNeeded inputs.now configs.now) (I.gives (index_of index.old))
+        (kept_by index.old) (kept_by index.new) }
+    ensures index { SameOutcomes (I.gives (index_of index.old)) (I.gives (index_of index.new)) }
+    ensures faults { I.faults (index_of index.old) ≤ I.faults (index_of index.new) }
+    ensures refused { IfErr result (IsCause inputs.now configs.now (I.gives (index_of index.old))
+        (kept_by index.old) (kept_by index.new) (I.faults (index_of index.old)) (I.faults (index_of index.new))) }
 {
     let input = &inputs[0];
-    let _configs = configs;
-    let plan = plan_manifest(alloc, options, input, index)?;
+    let own = &configs[0];
+    let plan = plan_manifest(alloc, options, input, own, index)?;
     Ok(plan)
 }

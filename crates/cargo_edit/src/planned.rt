@@ -1,26 +1,28 @@
 //! What is planned for one manifest.
-ghost use Rattle.std.specs.Prelude.{◌≡◌, ◌⊎◌, IfErr, IfOk, IsUtf8, OnOk, map, option_map};
+ghost use Rattle.std.specs.Prelude.{◌≡◌, ◌⊎◌, [], IfErr, IfOk, IsUtf8, OnOk, length, map};
 ghost use Rattle.edit_document.specs.Errors.{IsMemory};
 ghost use Rattle.edit_document.specs.Grammar.{Text};
 ghost use Rattle.edit_document.specs.Shown.{ShowsTree};
 ghost use Rattle.edit_document.specs.Supported.{IsManifest};
-ghost use Rattle.edit_record.specs.RustVersions.{numbers_of};
 ghost use Rattle.edit_sources.specs.IndexCache.{index_of};
-ghost use Rattle.cargo_edit.specs.Address.{default_address};
-ghost use Rattle.cargo_edit.specs.Causes.{IsBadLook, IsBadManifest};
+ghost use Rattle.cargo_edit.specs.Causes.{HasBadEntry, IsBadManifest};
+ghost use Rattle.cargo_edit.specs.Found.{seen_of};
+ghost use Rattle.cargo_edit.specs.Inputs.{setting_of};
 ghost use Rattle.cargo_edit.specs.Lines.{line_of};
-ghost use Rattle.cargo_edit.specs.Looked.{Stays};
-ghost use Rattle.cargo_edit.specs.Looks.{AreLooks, kept_by, told_setting};
-ghost use Rattle.cargo_edit.specs.PlannedView.{IsShown};
-ghost use Rattle.cargo_edit.specs.Upgraded.{HasRows, IsNeeded};
+ghost use Rattle.cargo_edit.specs.Looked.{Leaves};
+ghost use Rattle.cargo_edit.specs.Looks.{AreLooks, kept_by};
+ghost use Rattle.cargo_edit.specs.PlannedView.{AreSeen, IsShown};
+ghost use Rattle.cargo_edit.specs.Upgraded.{HasRows, IsNeededBy};
 
-use crate::looks::{default_registry, look_up};
+use crate::looks::look_up;
 use crate::rows::decided_rows;
 use crate::seen::{Entry, seen_entries};
 use crate::upgrade::{Input, Look, Options, Row};
 use edit_document::{CargoResult, Document, Error};
+use edit_sources::Config;
 use edit_sources::cache::IndexCache;
 use edit_sources::index::Index;
+use edit_sources::registry::resolve;
 use std::alloc::Global;
 use std::str;
 
@@ -46,28 +48,32 @@ pub(crate) fn read_manifest(alloc: Global, bytes: &[u8]) -> CargoResult<Document
     }
 }
 
-/// Plans the rows of a manifest that was read, and makes the looks that they need.
-pub(crate) fn plan_input<I: Index>(
+// Plans the rows of the entries of a manifest, of which there are some, and makes the looks that they need.
+fn plan_entries<I: Index>(
     alloc: Global,
     number: usize,
     options: &Options,
     input: &Input,
-    document: &Document,
+    entries: Vec<Entry>,
+    configs: &[Config],
     index: &mut IndexCache<I>,
 ) -> CargoResult<Planned>
-    requires { document.now.bytes ≡ input.now.bytes.items }
-    ensures shown { IfOk result (IsShown input.now.bytes.items document.now) }
-    ensures rows { IfOk result (λ p. HasRows (told_setting number options.now (option_map numbers_of input.now.rust_version)
-        p.looks.items default_address) input.now.bytes.items (map line_of p.rows.items)) }
-    ensures looks { IfOk result (λ p. AreLooks (IsNeeded input.now.bytes.items) (I.gives (index_of index.old))
+    requires seen { AreSeen input.now.bytes.items (map seen_of entries.items) }
+    requires some { entries.items ≡ [] → ⊥ }
+    ensures same { IfOk result (λ p. p.entries ≡ entries) }
+    ensures long { IfOk result (λ p. length p.rows.items ≡ length entries.items) }
+    ensures rows { IfOk result (λ p. HasRows (setting_of number options.now input.now configs.now p.looks.items)
+        input.now.bytes.items (map line_of p.rows.items)) }
+    ensures looks { IfOk result (λ p. AreLooks (IsNeededBy configs.now input.now.bytes.items) (I.gives (index_of index.old))
         (kept_by index.old) (kept_by index.new) p.looks.items) }
-    ensures stays { Stays (kept_by index.old) (kept_by index.new) }
-    ensures refused { IfErr result (λ e. IsMemory e ⊎ IsBadLook input.now.bytes.items (I.gives (index_of index.old))
-        (kept_by index.old) (kept_by index.new) (I.faults (index_of index.old)) (I.faults (index_of index.new)) e) }
+    ensures left { Leaves (IsNeededBy configs.now input.now.bytes.items) (I.gives (index_of index.old))
+        (I.gives (index_of index.new)) (I.faults (index_of index.old)) (I.faults (index_of index.new))
+        (kept_by index.old) (kept_by index.new) }
+    ensures refused { IfErr result (λ e. IsMemory e ⊎ HasBadEntry configs.now (I.gives (index_of index.old))
+        (kept_by index.old) (kept_by index.new) (I.faults (index_of index.old)) (I.faults (index_of index.new))
+        input.now.bytes.items e) }
 {
-    document.has_form();
-    let entries = seen_entries(alloc, document)?;
-    let registry = default_registry(alloc)?;
+    let registry = resolve(alloc, configs, None)?;
     let looks = look_up(alloc, &registry, &entries, index)?;
     let rust_version = input.rust_version;
     let rows = decided_rows(
@@ -84,4 +90,40 @@ pub(crate) fn plan_input<I: Index>(
         looks,
         rows,
     })
+}
+
+/// Plans the rows of a manifest that was read, and makes the looks that they need.
+pub(crate) fn plan_input<I: Index>(
+    alloc: Global,
+    number: usize,
+    options: &Options,
+    input: &Input,
+    document: &Document,
+    configs: &[Config],
+    index: &mut IndexCache<I>,
+) -> CargoResult<Planned>
+    requires { document.now.bytes ≡ input.now.bytes.items }
+    ensures shown { IfOk result (IsShown input.now.bytes.items document.now) }
+    ensures rows { IfOk result (λ p. HasRows (setting_of number options.now input.now configs.now p.looks.items)
+        input.now.bytes.items (map line_of p.rows.items)) }
+    ensures looks { IfOk result (λ p. AreLooks (IsNeededBy configs.now input.now.bytes.items) (I.gives (index_of index.old))
+        (kept_by index.old) (kept_by index.new) p.looks.items) }
+    ensures left { Leaves (IsNeededBy configs.now input.now.bytes.items) (I.gives (index_of index.old))
+        (I.gives (index_of index.new)) (I.faults (index_of index.old)) (I.faults (index_of index.new))
+        (kept_by index.old) (kept_by index.new) }
+    ensures refused { IfErr result (λ e. IsMemory e ⊎ HasBadEntry configs.now (I.gives (index_of index.old))
+        (kept_by index.old) (kept_by index.new) (I.faults (index_of index.old)) (I.faults (index_of index.new))
+        input.now.bytes.items e) }
+{
+    document.has_form();
+    let entries = seen_entries(alloc, document)?;
+    if entries.is_empty() {
+        return Ok(Planned {
+            entries,
+            looks: Vec::new(alloc),
+            rows: Vec::new(alloc),
+        });
+    }
+    let planned = plan_entries(alloc, number, options, input, entries, configs, index)?;
+    Ok(planned)
 }

@@ -22,8 +22,7 @@ pub(crate) fn absolute(alloc: Global, current: &str, path: &str) -> CargoResult<
 
 /// Whether a file or a folder stands at a path.
 fn is_there<S: Store>(alloc: Global, files: &mut S, path: &str) -> RunResult<bool>
-    ensures store { OnlyReads (S.view files.old).tells (S.view files.new).tells
-        (S.view files.old).file_at (S.view files.new).file_at (S.view files.old).faults (S.view files.new).faults }
+    ensures store { OnlyReads (S.view files.old) (S.view files.new) }
     ensures there { IfOk result (λ b. (S.view files.old).tells ≡ true
         → MatchBool b (IsThere (S.view files.old).file_at path.now) (IsMissing (S.view files.old).file_at path.now)) }
     ensures refused { IfErr result (λ r.
@@ -44,8 +43,7 @@ pub(crate) fn find<S: Store>(
     specified: &str,
     current: &str,
 ) -> RunResult<String>
-    ensures store { OnlyReads (S.view files.old).tells (S.view files.new).tells
-        (S.view files.old).file_at (S.view files.new).file_at (S.view files.old).faults (S.view files.new).faults }
+    ensures store { OnlyReads (S.view files.old) (S.view files.new) }
     ensures found { IfOk result (λ p. (S.view files.old).tells ≡ true
         → IsManifestPath (S.view files.old).file_at current.now specified.now (string_bytes p)) }
     ensures refused { IfErr result (λ r. IsFault call.Kind (S.view files.old).faults (S.view files.new).faults r.error
@@ -63,8 +61,7 @@ pub(crate) fn find<S: Store>(
 
 /// The manifest in a folder, none where none stands there.
 fn manifest_at<S: Store>(alloc: Global, files: &mut S, dir: &str) -> RunResult<Option<String>>
-    ensures store { OnlyReads (S.view files.old).tells (S.view files.new).tells
-        (S.view files.old).file_at (S.view files.new).file_at (S.view files.old).faults (S.view files.new).faults }
+    ensures store { OnlyReads (S.view files.old) (S.view files.new) }
     ensures found { IfOk result (λ o. (S.view files.old).tells ≡ true
         → MatchOption o (IsMissing (S.view files.old).file_at (manifest_in dir.now))
         (λ p. (string_bytes p ≡ manifest_in dir.now)
@@ -92,8 +89,7 @@ fn not_found(alloc: Global, start: &str) -> Refusal
 
 /// The first `Cargo.toml` from a folder upwards.
 fn search<S: Store>(alloc: Global, files: &mut S, start: &str) -> RunResult<String>
-    ensures store { OnlyReads (S.view files.old).tells (S.view files.new).tells
-        (S.view files.old).file_at (S.view files.new).file_at (S.view files.old).faults (S.view files.new).faults }
+    ensures store { OnlyReads (S.view files.old) (S.view files.new) }
     ensures found { IfOk result (λ p. (S.view files.old).tells ≡ true
         → IsNearest (S.view files.old).file_at start.now (string_bytes p)) }
     ensures refused { IfErr result (λ r. IsFault call.Kind (S.view files.old).faults (S.view files.new).faults r.error

@@ -120,8 +120,7 @@ fn read_manifest<S: Store>(
     current: &str,
     files: &mut S,
 ) -> RunResult<Manifest>
-    ensures store { OnlyReads (S.view files.old).tells (S.view files.new).tells
-        (S.view files.old).file_at (S.view files.new).file_at (S.view files.old).faults (S.view files.new).faults }
+    ensures store { OnlyReads (S.view files.old) (S.view files.new) }
     ensures read { IfOk result (λ m. (S.view files.old).tells ≡ true
         → IsManifestRead (S.view files.old).file_at current.now named.now
         (string_bytes m.input.path) m.input.bytes.items (option_map numbers_of m.input.rust_version)) }
@@ -147,8 +146,7 @@ fn read_index<S: Store>(
     current: &str,
     files: &mut S,
 ) -> RunResult<FileIndex>
-    ensures store { OnlyReads (S.view files.old).tells (S.view files.new).tells
-        (S.view files.old).file_at (S.view files.new).file_at (S.view files.old).faults (S.view files.new).faults }
+    ensures store { OnlyReads (S.view files.old) (S.view files.new) }
     ensures read { IfOk result (λ i. (S.view files.old).tells ≡ true
         → IsIndexRead (S.view files.old).file_at current.now named.now i) }
     ensures refused { IfErr result (λ r. IsFault call.Read (S.view files.old).faults (S.view files.new).faults r.error

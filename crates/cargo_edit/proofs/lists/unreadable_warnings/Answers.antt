@@ -9,18 +9,18 @@ use Rattle.cargo_edit.proofs.lists.unreadable_warnings.Goals.{in-Some+in_ok-push
 
 pub rows-preserved : goal.rows-preserved
 rows-preserved c =
-    let more = ap (λ (rows : List Row). warnings_of c.args.input (map line_of rows))
+    let more = ap (λ (rows : List Row). warnings_of (map line_of rows))
     (sym (taken-more c.args.rows.now c.rows.row-index c.row-item.result c.rows-test.true c.row-item.is)) in
     elim c.match-told.branch [
       | in-Some+in_ok-push-in-Some w ↦
-          kept-some line_of (warning_of c.args.input) warning_view (take c.rows.row-index c.args.rows.now) c.row-item.result c.rows.warnings.items
+          kept-some line_of warning_of warning_view (take c.rows.row-index c.args.rows.now) c.row-item.result c.rows.warnings.items
           c.match-told.warnings.items w.in-Some.warning c.rows.invariant
           (sym c.in_ok-told.ensures.ok ∙ ap (option_map warning_view) w.in-Some.is)
           (ap (λ v. v.items) w.warnings-is ∙ w.in_ok-push-in-Some.ensures.items)
           ∙ more
       | in-None w ↦
           ap (λ v. map warning_view v.items) w.warnings-is
-          ∙ kept-none line_of (warning_of c.args.input) (take c.rows.row-index c.args.rows.now) c.row-item.result (map warning_view c.rows.warnings.items)
+          ∙ kept-none line_of warning_of (take c.rows.row-index c.args.rows.now) c.row-item.result (map warning_view c.rows.warnings.items)
           c.rows.invariant (sym c.in_ok-told.ensures.ok ∙ ap (option_map warning_view) w.in-None.is)
           ∙ more
     ]

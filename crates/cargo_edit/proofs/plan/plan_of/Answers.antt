@@ -19,7 +19,7 @@ returns-clause-lists c = record {
   ordered = c.in_ok-modified.ensures.ordered;
   modified = λ name. c.in_ok-modified.ensures.names name
       ∙ ap (λ (rs : List Row). list_any (bytes_eq name) (changed_names (map line_of rs))) c.deref-4.ensures.value;
-  warnings = c.in_ok-warnings.ensures.texts ∙ ap (λ (rs : List Row). warnings_of 0 (map line_of rs)) c.deref-3.ensures.value;
+  warnings = c.in_ok-warnings.ensures.texts ∙ ap (λ (rs : List Row). warnings_of (map line_of rs)) c.deref-3.ensures.value;
   missing = c.new.ensures.items;
   git_crates = c.new-2.ensures.items;
   pinned = c.has_pinned-pinned_present.ensures ∙ ap (list_any (λ r. is_held_pinned r.reason)) c.deref-5.ensures.value;

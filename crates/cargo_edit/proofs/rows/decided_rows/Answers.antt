@@ -8,7 +8,7 @@ use Rattle.cargo_edit.specs.Found.{name_of, seen_of}
 use Rattle.cargo_edit.specs.Lines.{line_of}
 use Rattle.cargo_edit.specs.Looks.{Kept, kept_by, kept_setting, versions_in}
 use Rattle.cargo_edit.specs.Records.{Seen}
-use Rattle.cargo_edit.specs.Rows.{AreDecided, IsDecided, Line, Setting}
+use Rattle.cargo_edit.specs.Rows.{AreDecided, Basis, IsDecided, Line}
 use Rattle.cargo_edit.proofs.Steps.{names-more}
 use Rattle.cargo_edit.proofs.rows.decided_rows.Goals as goal
 
@@ -16,7 +16,7 @@ pub entries-preserved : goal.entries-preserved
 entries-preserved g c =
     let rust = option_map numbers_of c.args.rust_version in
     let address = serialize c.args.registry.now in
-    let s : Setting = kept_setting c.args.input c.args.options.now rust (kept_by c.args.index.now address) in
+    let s : Basis = kept_setting c.args.input c.args.options.now rust (kept_by c.args.index.now address) in
     let kept : kept_by c.kept_row.new.index ≡ kept_by c.args.index.now = c.in_ok-row.ensures.kept ∙ c.entries.invariant.kept in
     let decided : IsDecided s.input s.options (s.versions (seen_of c.entry-item.result).name) (seen_of c.entry-item.result) (line_of c.in_ok-row.row) =
     subst (λ (k : Kept). IsDecided s.input s.options (versions_in rust (k address (name_of c.entry-item.result))) (seen_of c.entry-item.result) (line_of c.in_ok-row.row)) kept c.in_ok-row.ensures.ok in
