@@ -115,7 +115,7 @@ impl<I: Index> IndexCache<I> {
     ///
     /// Refused as a look of the index is, or for want of memory; then no answer is added.
     pub fn fetch(&mut self, alloc: Global, registry: &Url, name: &str) -> CargoResult<()>
-        ensures { Fetches (I.gives (index_of self.old)) (I.gives (index_of self.new)) (I.faults (index_of self.old)) (I.faults (index_of self.new)) registry.now name.now self.old self.new result }
+        ensures { Fetches (I.view (index_of self.old)) (I.view (index_of self.new)) registry.now name.now self.old self.new result }
     {
         if self.kept(registry.as_str(), name).is_some() {
             return Ok(());
@@ -135,8 +135,8 @@ impl<I: Index> IndexCache<I> {
         name: &str,
     ) -> CargoResult<Option<&IndexKrate>>
         ensures kept { IfOk result (λ o. IfSome (kept_at self.old (serialize registry.now) name.now) (λ k. option_copied o ≡ k)) }
-        ensures given { kept_at self.old (serialize registry.now) name.now ≡ None → IfOk result (λ o. I.gives (index_of self.old) registry.now name.now (Ok (answer_of (option_copied o)))) }
-        ensures refused { IfErr result (IsLookError (I.gives (index_of self.old)) registry.now name.now) }
+        ensures given { kept_at self.old (serialize registry.now) name.now ≡ None → IfOk result (λ o. (I.view (index_of self.old)).gives registry.now name.now (Ok (answer_of (option_copied o)))) }
+        ensures refused { IfErr result (IsLookError (I.view (index_of self.old)).gives registry.now name.now) }
     {
         match self.fetch(alloc, registry, name) {
             Ok(()) => Ok(self.shown(registry, name)),
@@ -147,7 +147,7 @@ impl<I: Index> IndexCache<I> {
     /// Whether the index has a name.
     pub fn has_krate(&mut self, alloc: Global, registry: &Url, name: &str) -> CargoResult<bool>
         ensures answer { IfOk result (λ b. IsTrue b ↔ IsSome (krate_at self.new (serialize registry.now) name.now)) }
-        ensures fetched { Fetches (I.gives (index_of self.old)) (I.gives (index_of self.new)) (I.faults (index_of self.old)) (I.faults (index_of self.new)) registry.now name.now self.old self.new result }
+        ensures fetched { Fetches (I.view (index_of self.old)) (I.view (index_of self.new)) registry.now name.now self.old self.new result }
     {
         match self.fetch(alloc, registry, name) {
             Ok(()) => Ok(self.shown(registry, name).is_some()),
@@ -164,7 +164,7 @@ impl<I: Index> IndexCache<I> {
         version: &str,
     ) -> CargoResult<Option<bool>>
         ensures answer { IfOk result (λ b. b ≡ option_map (λ k. has_version k version.now) (krate_at self.new (serialize registry.now) name.now)) }
-        ensures fetched { Fetches (I.gives (index_of self.old)) (I.gives (index_of self.new)) (I.faults (index_of self.old)) (I.faults (index_of self.new)) registry.now name.now self.old self.new result }
+        ensures fetched { Fetches (I.view (index_of self.old)) (I.view (index_of self.new)) registry.now name.now self.old self.new result }
     {
         match self.fetch(alloc, registry, name) {
             Ok(()) => Ok(holds_version(self.shown(registry, name), version)),
@@ -177,7 +177,7 @@ impl<I: Index> IndexCache<I> {
     /// Refused as `fetch` is. Want of memory while ranking leaves the answer and no ranking; a later
     /// call ranks.
     pub fn rank(&mut self, alloc: Global, registry: &Url, name: &str) -> CargoResult<()>
-        ensures { Ranks (I.gives (index_of self.old)) (I.gives (index_of self.new)) (I.faults (index_of self.old)) (I.faults (index_of self.new)) registry.now name.now self.old self.new result }
+        ensures { Ranks (I.view (index_of self.old)) (I.view (index_of self.new)) registry.now name.now self.old self.new result }
     {
         match self.fetch(alloc, registry, name) {
             Ok(()) => self.rank_kept(alloc, registry.as_str(), name),
@@ -220,8 +220,8 @@ impl<I: Index> IndexCache<I> {
         name: &str,
     ) -> CargoResult<Option<&Ranked>>
         ensures kept { IfOk result (λ o. IfSome (kept_at self.old (serialize registry.now) name.now) (λ k. IsRanked k (option_copied o))) }
-        ensures given { kept_at self.old (serialize registry.now) name.now ≡ None → IfOk result (λ o. (k : Option IndexKrate) × I.gives (index_of self.old) registry.now name.now (Ok (answer_of k)) × IsRanked k (option_copied o)) }
-        ensures refused { IfErr result (IsLookError (I.gives (index_of self.old)) registry.now name.now) }
+        ensures given { kept_at self.old (serialize registry.now) name.now ≡ None → IfOk result (λ o. (k : Option IndexKrate) × (I.view (index_of self.old)).gives registry.now name.now (Ok (answer_of k)) × IsRanked k (option_copied o)) }
+        ensures refused { IfErr result (IsLookError (I.view (index_of self.old)).gives registry.now name.now) }
     {
         match self.rank(alloc, registry, name) {
             Ok(()) => Ok(self.shown_ranking(registry, name)),
