@@ -78,12 +78,12 @@ fn plan_manifest<I: Index>(
     ensures rows { IfOk result (λ p. HasRows (told_setting 0 options.now (option_map numbers_of input.now.rust_version)
         p.looks.items default_address) input.now.bytes.items (map line_of p.rows.items)) }
     ensures outputs { IfOk result (λ p. HasOutputs (string_bytes input.now.path) input.now.bytes.items (map line_of p.rows.items) p.outputs.items) }
-    ensures looks { IfOk result (λ p. AreLooks (IsNeeded input.now.bytes.items) (I.gives (index_of index.old))
+    ensures looks { IfOk result (λ p. AreLooks (IsNeeded input.now.bytes.items) (I.view (index_of index.old)).gives
         (kept_by index.old) (kept_by index.new) p.looks.items) }
     ensures lists { IfOk result Tells }
     ensures kept { Stays (kept_by index.old) (kept_by index.new) }
-    ensures refused { IfErr result (IsCause input.now.bytes.items (I.gives (index_of index.old)) (kept_by index.old)
-        (kept_by index.new) (I.faults (index_of index.old)) (I.faults (index_of index.new))) }
+    ensures refused { IfErr result (IsCause input.now.bytes.items (I.view (index_of index.old)).gives (kept_by index.old)
+        (kept_by index.new) (I.view (index_of index.old)).faults (I.view (index_of index.new)).faults) }
 {
     let planned = match plan_input(alloc, 0, options, input, index) {
         Ok(planned) => planned,
@@ -130,11 +130,11 @@ pub fn plan_upgrade<I: Index>(
     ensures needs { IfOk result (λ p. IfSome (slice_get inputs.now 0)
         (λ input. NeedSame input.bytes.items (bytes_after input.bytes.items p.outputs.items))) }
     ensures looks { IfOk result (λ p. IfSome (slice_get inputs.now 0) (λ input. AreLooks (IsNeeded input.bytes.items)
-        (I.gives (index_of index.old)) (kept_by index.old) (kept_by index.new) p.looks.items)) }
+        (I.view (index_of index.old)).gives (kept_by index.old) (kept_by index.new) p.looks.items)) }
     ensures lists { IfOk result Tells }
     ensures kept { Stays (kept_by index.old) (kept_by index.new) }
-    ensures refused { IfErr result (λ e. IfSome (slice_get inputs.now 0) (λ input. IsCause input.bytes.items (I.gives (index_of index.old))
-        (kept_by index.old) (kept_by index.new) (I.faults (index_of index.old)) (I.faults (index_of index.new)) e)) }
+    ensures refused { IfErr result (λ e. IfSome (slice_get inputs.now 0) (λ input. IsCause input.bytes.items (I.view (index_of index.old)).gives
+        (kept_by index.old) (kept_by index.new) (I.view (index_of index.old)).faults (I.view (index_of index.new)).faults e)) }
 {
     let input = &inputs[0];
     let _configs = configs;

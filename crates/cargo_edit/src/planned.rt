@@ -60,11 +60,11 @@ pub(crate) fn plan_input<I: Index>(
     ensures shown { IfOk result (IsShown input.now.bytes.items) }
     ensures rows { IfOk result (λ p. HasRows (told_setting number options.now (option_map numbers_of input.now.rust_version)
         p.looks.items default_address) input.now.bytes.items (map line_of p.rows.items)) }
-    ensures looks { IfOk result (λ p. AreLooks (IsNeeded input.now.bytes.items) (I.gives (index_of index.old))
+    ensures looks { IfOk result (λ p. AreLooks (IsNeeded input.now.bytes.items) (I.view (index_of index.old)).gives
         (kept_by index.old) (kept_by index.new) p.looks.items) }
     ensures stays { Stays (kept_by index.old) (kept_by index.new) }
-    ensures refused { IfErr result (IsCause input.now.bytes.items (I.gives (index_of index.old)) (kept_by index.old)
-        (kept_by index.new) (I.faults (index_of index.old)) (I.faults (index_of index.new))) }
+    ensures refused { IfErr result (IsCause input.now.bytes.items (I.view (index_of index.old)).gives (kept_by index.old)
+        (kept_by index.new) (I.view (index_of index.old)).faults (I.view (index_of index.new)).faults) }
 {
     let document = match read_manifest(alloc, &input.bytes) {
         Ok(document) => document,

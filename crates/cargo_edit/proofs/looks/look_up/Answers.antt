@@ -12,7 +12,7 @@ use Rattle.cargo_edit.proofs.looks.look_up.Goals as goal
 
 pub entries-init : goal.entries-init
 entries-init g c = (
-  so-far-start (serialize c.args.registry.now) (g.I.Index.gives (index_of c.args.index.now)) (kept_by c.args.index.now) c.new-looks.result.items
+  so-far-start (serialize c.args.registry.now) (g.I.Index.view (index_of c.args.index.now)).gives (kept_by c.args.index.now) c.new-looks.result.items
       (contains_text c.new-looked.result) c.new-looks.ensures.items (λ q. search rules),
   omega arith,
 )
@@ -20,11 +20,11 @@ entries-init g c = (
 pub entries-preserved-then-has_name : goal.entries-preserved-then-has_name
 entries-preserved-then-has_name g c =
     let more = names-more name_of c.args.entries.now c.entries.entry-index c.entry-item.result c.entries-test.true c.entry-item.is in
-    let step = so-far-again (serialize c.args.registry.now) (g.I.Index.gives (index_of c.args.index.now)) (g.I.Index.gives (index_of c.entries.index))
+    let step = so-far-again (serialize c.args.registry.now) (g.I.Index.view (index_of c.args.index.now)).gives (g.I.Index.view (index_of c.entries.index)).gives
     (kept_by c.args.index.now) (kept_by c.entries.index) (map name_of (take c.entries.entry-index c.args.entries.now)) c.entries.looks.items
     (contains_text c.entries.looked) (name_of c.entry-item.result) c.entries.invariant.0
     (ap (contains_text c.entries.looked) (sym c.as_str-name.ensures.value) ∙ sym c.has_name.ensures ∙ c.if-has_name.true) in (
-      subst (λ (ns : List (List ℕ)). IsSoFar (serialize c.args.registry.now) (g.I.Index.gives (index_of c.args.index.now)) (g.I.Index.gives (index_of c.entries.index))
+      subst (λ (ns : List (List ℕ)). IsSoFar (serialize c.args.registry.now) (g.I.Index.view (index_of c.args.index.now)).gives (g.I.Index.view (index_of c.entries.index)).gives
           (kept_by c.args.index.now) (kept_by c.entries.index) ns c.entries.looks.items (contains_text c.entries.looked)) (sym more) step,
       c.entries.invariant.1,
     )
@@ -34,15 +34,15 @@ entries-preserved g c =
     let front = map name_of (take c.entries.entry-index c.args.entries.now) in
     let more = names-more name_of c.args.entries.now c.entries.entry-index c.entry-item.result c.entries-test.true c.entry-item.is
     ∙ ap (λ (n : List ℕ). front ++ n ∷ []) (sym c.as_str-name.ensures.value) in
-    let step = so-far-more (serialize c.args.registry.now) (g.I.Index.gives (index_of c.args.index.now)) (g.I.Index.gives (index_of c.entries.index))
-    (g.I.Index.gives (index_of c.one_look.new.index)) (kept_by c.args.index.now) (kept_by c.entries.index) (kept_by c.one_look.new.index) front
+    let step = so-far-more (serialize c.args.registry.now) (g.I.Index.view (index_of c.args.index.now)).gives (g.I.Index.view (index_of c.entries.index)).gives
+    (g.I.Index.view (index_of c.one_look.new.index)).gives (kept_by c.args.index.now) (kept_by c.entries.index) (kept_by c.one_look.new.index) front
     c.entries.looks.items c.in-Ok.look (contains_text c.entries.looked) (contains_text c.add_name.new.names) c.as_str-name.result.now
     c.entries.invariant.0 (sym c.has_name.ensures ∙ c.if-has_name.false) c.in-Ok.ensures.look c.in-Ok.ensures.gives c.in_ok-add_name.ensures.ok in
-    let longer = subst (λ (ls : List Look). IsSoFar (serialize c.args.registry.now) (g.I.Index.gives (index_of c.args.index.now))
-    (g.I.Index.gives (index_of c.one_look.new.index)) (kept_by c.args.index.now) (kept_by c.one_look.new.index) (front ++ c.as_str-name.result.now ∷ []) ls
+    let longer = subst (λ (ls : List Look). IsSoFar (serialize c.args.registry.now) (g.I.Index.view (index_of c.args.index.now)).gives
+    (g.I.Index.view (index_of c.one_look.new.index)).gives (kept_by c.args.index.now) (kept_by c.one_look.new.index) (front ++ c.as_str-name.result.now ∷ []) ls
     (contains_text c.add_name.new.names)) (sym c.in_ok-push.ensures.items) step in (
-      subst (λ (ns : List (List ℕ)). IsSoFar (serialize c.args.registry.now) (g.I.Index.gives (index_of c.args.index.now))
-          (g.I.Index.gives (index_of c.one_look.new.index)) (kept_by c.args.index.now) (kept_by c.one_look.new.index) ns c.push.new.self.items
+      subst (λ (ns : List (List ℕ)). IsSoFar (serialize c.args.registry.now) (g.I.Index.view (index_of c.args.index.now)).gives
+          (g.I.Index.view (index_of c.one_look.new.index)).gives (kept_by c.args.index.now) (kept_by c.one_look.new.index) ns c.push.new.self.items
           (contains_text c.add_name.new.names)) (sym more) longer,
       omega (arith, c.entries.invariant.1, c.in-Ok.ensures.faults),
     )
@@ -53,8 +53,8 @@ returns-in-Err-clause-refused g c =
     let rest = map name_of (drop (suc c.entries.entry-index) c.args.entries.now) in
     let split = names-split name_of c.args.entries.now c.entries.entry-index c.entry-item.result c.entries-test.true c.entry-item.is
     ∙ ap (λ (n : List ℕ). front ++ n ∷ rest) (sym c.as_str-name.ensures.value) in
-    failed-or c.args.registry.now (g.I.Index.gives (index_of c.args.index.now)) (g.I.Index.gives (index_of c.entries.index))
+    failed-or c.args.registry.now (g.I.Index.view (index_of c.args.index.now)).gives (g.I.Index.view (index_of c.entries.index)).gives
     (kept_by c.args.index.now) (kept_by c.entries.index) (kept_by c.one_look.new.index) (map name_of c.args.entries.now) front
     c.entries.looks.items (contains_text c.entries.looked) c.as_str-name.result.now rest
-    (g.I.Index.faults (index_of c.args.index.now)) (g.I.Index.faults (index_of c.entries.index)) (g.I.Index.faults (index_of c.one_look.new.index)) c.in-Err.error split
+    (g.I.Index.view (index_of c.args.index.now)).faults (g.I.Index.view (index_of c.entries.index)).faults (g.I.Index.view (index_of c.one_look.new.index)).faults c.in-Err.error split
     c.entries.invariant.0 (sym c.has_name.ensures ∙ c.if-has_name.false) c.entries.invariant.1 c.in-Err.ensures.stays c.in-Err.ensures.refused

@@ -45,6 +45,6 @@ returns-in-Ok-clause-needs g c =
 
 pub returns-in-Err-clause-refused : goal.returns-in-Err-clause-refused
 returns-in-Err-clause-refused g c =
-    of-first (λ (input : Input). IsCause input.bytes.items (g.I.Index.gives (index_of c.args.index.now)) (kept_by c.args.index.now)
-    (kept_by c.plan_manifest.new.index) (g.I.Index.faults (index_of c.args.index.now)) (g.I.Index.faults (index_of c.plan_manifest.new.index)) c.in-Err.error)
+    of-first (λ (input : Input). IsCause input.bytes.items (g.I.Index.view (index_of c.args.index.now)).gives (kept_by c.args.index.now)
+    (kept_by c.plan_manifest.new.index) (g.I.Index.view (index_of c.args.index.now)).faults (g.I.Index.view (index_of c.plan_manifest.new.index)).faults c.in-Err.error)
     c.args.inputs.now c.index-inputs-0.result c.requires.one_input c.index-inputs-0.is c.in-Err.ensures.refused

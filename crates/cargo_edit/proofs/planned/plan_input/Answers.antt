@@ -22,7 +22,7 @@ returns-in-Ok-decided_rows-clause-shown g c =
 pub returns-in-Ok-decided_rows-clause-rows : goal.returns-in-Ok-decided_rows-clause-rows
 returns-in-Ok-decided_rows-clause-rows g c =
     planned-rows c.args.number c.args.options.now (option_map numbers_of c.args.input.now.rust_version) c.args.input.now.bytes.items c.deref.result.now
-    c.in-Ok.document (serialize c.in-Ok-default_registry.registry) (g.I.Index.gives (index_of c.args.index.now)) (kept_by c.args.index.now) (kept_by c.look_up.new.index)
+    c.in-Ok.document (serialize c.in-Ok-default_registry.registry) (g.I.Index.view (index_of c.args.index.now)).gives (kept_by c.args.index.now) (kept_by c.look_up.new.index)
     c.in-Ok-seen_entries.entries.items c.deref-2.result.now c.deref-3.result.now c.in-Ok-look_up.looks.items (map line_of c.in-Ok-decided_rows.rows.items)
     c.deref.ensures.value c.in-Ok.ensures.found c.in-Ok-seen_entries.ensures.ok c.deref-2.ensures.value c.deref-3.ensures.value
     c.in-Ok-default_registry.ensures.ok c.in-Ok-look_up.ensures.looked c.in-Ok-decided_rows.ensures.ok
@@ -30,7 +30,7 @@ returns-in-Ok-decided_rows-clause-rows g c =
 pub returns-in-Ok-decided_rows-clause-looks : goal.returns-in-Ok-decided_rows-clause-looks
 returns-in-Ok-decided_rows-clause-looks g c =
     planned-looks c.args.input.now.bytes.items c.deref.result.now c.in-Ok.document (serialize c.in-Ok-default_registry.registry)
-    (g.I.Index.gives (index_of c.args.index.now)) (kept_by c.args.index.now) (kept_by c.look_up.new.index)
+    (g.I.Index.view (index_of c.args.index.now)).gives (kept_by c.args.index.now) (kept_by c.look_up.new.index)
     c.in-Ok-seen_entries.entries.items c.deref-2.result.now c.in-Ok-look_up.looks.items
     c.deref.ensures.value c.in-Ok.ensures.found c.in-Ok.ensures.only c.in-Ok-seen_entries.ensures.ok c.deref-2.ensures.value
     c.in-Ok-default_registry.ensures.ok c.in-Ok-look_up.ensures.looked
@@ -38,8 +38,8 @@ returns-in-Ok-decided_rows-clause-looks g c =
 pub returns-in-Err-look_up-clause-refused : goal.returns-in-Err-look_up-clause-refused
 returns-in-Err-look_up-clause-refused g c =
     planned-cause c.args.input.now.bytes.items c.deref.result.now c.in-Ok.document c.in-Ok-default_registry.registry
-    (g.I.Index.gives (index_of c.args.index.now)) (kept_by c.args.index.now) (kept_by c.look_up.new.index)
-    (g.I.Index.faults (index_of c.args.index.now)) (g.I.Index.faults (index_of c.look_up.new.index)) c.in-Err-look_up.error
+    (g.I.Index.view (index_of c.args.index.now)).gives (kept_by c.args.index.now) (kept_by c.look_up.new.index)
+    (g.I.Index.view (index_of c.args.index.now)).faults (g.I.Index.view (index_of c.look_up.new.index)).faults c.in-Err-look_up.error
     c.in-Ok-seen_entries.entries.items c.deref-2.result.now
     c.deref.ensures.value c.in-Ok.ensures.found c.in-Ok.ensures.utf8 c.in-Ok-seen_entries.ensures.ok c.deref-2.ensures.value
     c.in-Ok-default_registry.ensures.ok c.in-Err-look_up.ensures.refused
