@@ -42,14 +42,14 @@ fn fetch_one<I: Index>(
     ensures kept { OnOk result (IsSome (kept_by index.new (serialize registry.now) name.now)) }
     ensures given { OnOk result (IfSome (kept_by index.new (serialize registry.now) name.now)
         (λ a. (kept_by index.old (serialize registry.now) name.now ≡ Some a)
-        ⊎ I.gives (index_of index.old) registry.now name.now (Ok a))) }
+        ⊎ (I.view (index_of index.old)).gives registry.now name.now (Ok a))) }
     ensures others { (a n : List ℕ) → (bytes_eq (serialize registry.now) a && bytes_eq name.now n) ≡ false
         → kept_by index.new a n ≡ kept_by index.old a n }
-    ensures left { Leaves (IsAt (serialize registry.now) name.now) (I.gives (index_of index.old)) (I.gives (index_of index.new))
-        (I.faults (index_of index.old)) (I.faults (index_of index.new)) (kept_by index.old) (kept_by index.new) }
+    ensures left { Leaves (IsAt (serialize registry.now) name.now) (I.view (index_of index.old)).gives (I.view (index_of index.new)).gives
+        (I.view (index_of index.old)).faults (I.view (index_of index.new)).faults (kept_by index.old) (kept_by index.new) }
     ensures refused { IfErr result (λ e. IsMemory e ⊎ ((kept_by index.old (serialize registry.now) name.now ≡ None)
-        × IsRefusedAt (I.gives (index_of index.old)) registry.now name.now
-        (I.faults (index_of index.old)) (I.faults (index_of index.new)) e)) }
+        × IsRefusedAt (I.view (index_of index.old)).gives registry.now name.now
+        (I.view (index_of index.old)).faults (I.view (index_of index.new)).faults e)) }
 {
     index.fetch(alloc, registry, name)
 }
@@ -83,13 +83,13 @@ fn one_look<I: Index>(
     name: &str,
     index: &mut IndexCache<I>,
 ) -> CargoResult<Look>
-    ensures look { IfOk result (IsLook (serialize registry.now) name.now (I.gives (index_of index.old))
+    ensures look { IfOk result (IsLook (serialize registry.now) name.now (I.view (index_of index.old)).gives
         (kept_by index.old) (kept_by index.new)) }
-    ensures left { Leaves (IsAt (serialize registry.now) name.now) (I.gives (index_of index.old)) (I.gives (index_of index.new))
-        (I.faults (index_of index.old)) (I.faults (index_of index.new)) (kept_by index.old) (kept_by index.new) }
+    ensures left { Leaves (IsAt (serialize registry.now) name.now) (I.view (index_of index.old)).gives (I.view (index_of index.new)).gives
+        (I.view (index_of index.old)).faults (I.view (index_of index.new)).faults (kept_by index.old) (kept_by index.new) }
     ensures refused { IfErr result (λ e. IsMemory e ⊎ ((kept_by index.old (serialize registry.now) name.now ≡ None)
-        × IsRefusedAt (I.gives (index_of index.old)) registry.now name.now
-        (I.faults (index_of index.old)) (I.faults (index_of index.new)) e)) }
+        × IsRefusedAt (I.view (index_of index.old)).gives registry.now name.now
+        (I.view (index_of index.old)).faults (I.view (index_of index.new)).faults e)) }
 {
     fetch_one(alloc, registry, name, index)?;
     look_of(alloc, registry, name, index)
@@ -102,14 +102,14 @@ pub(crate) fn look_up<I: Index>(
     entries: &[Entry],
     index: &mut IndexCache<I>,
 ) -> CargoResult<Vec<Look>>
-    ensures looked { IfOk result (λ looks. Looked (serialize registry.now) (I.gives (index_of index.old)) (kept_by index.old)
+    ensures looked { IfOk result (λ looks. Looked (serialize registry.now) (I.view (index_of index.old)).gives (kept_by index.old)
         (map name_of entries.now) looks.items (kept_by index.new)) }
-    ensures left { Leaves (IsAmong (serialize registry.now) (map name_of entries.now)) (I.gives (index_of index.old))
-        (I.gives (index_of index.new)) (I.faults (index_of index.old)) (I.faults (index_of index.new))
+    ensures left { Leaves (IsAmong (serialize registry.now) (map name_of entries.now)) (I.view (index_of index.old)).gives
+        (I.view (index_of index.new)).gives (I.view (index_of index.old)).faults (I.view (index_of index.new)).faults
         (kept_by index.old) (kept_by index.new) }
-    ensures refused { IfErr result (λ e. IsMemory e ⊎ IsFailedLook registry.now (I.gives (index_of index.old))
+    ensures refused { IfErr result (λ e. IsMemory e ⊎ IsFailedLook registry.now (I.view (index_of index.old)).gives
         (kept_by index.old) (kept_by index.new) (map name_of entries.now)
-        (I.faults (index_of index.old)) (I.faults (index_of index.new)) e) }
+        (I.view (index_of index.old)).faults (I.view (index_of index.new)).faults e) }
 {
     let mut looked = Names::new(alloc);
     let mut looks = Vec::new(alloc);

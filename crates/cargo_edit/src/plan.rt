@@ -89,14 +89,14 @@ fn plan_document<I: Index>(
         input.now.bytes.items (map line_of p.rows.items)) }
     ensures outputs { IfOk result (λ p. HasOutputs (string_bytes input.now.path) input.now.bytes.items
         (map line_of p.rows.items) p.outputs.items) }
-    ensures looks { IfOk result (λ p. AreLooks (IsNeededBy configs.now input.now.bytes.items) (I.gives (index_of index.old))
+    ensures looks { IfOk result (λ p. AreLooks (IsNeededBy configs.now input.now.bytes.items) (I.view (index_of index.old)).gives
         (kept_by index.old) (kept_by index.new) p.looks.items) }
     ensures lists { IfOk result Tells }
-    ensures left { Leaves (IsNeededBy configs.now input.now.bytes.items) (I.gives (index_of index.old))
-        (I.gives (index_of index.new)) (I.faults (index_of index.old)) (I.faults (index_of index.new))
+    ensures left { Leaves (IsNeededBy configs.now input.now.bytes.items) (I.view (index_of index.old)).gives
+        (I.view (index_of index.new)).gives (I.view (index_of index.old)).faults (I.view (index_of index.new)).faults
         (kept_by index.old) (kept_by index.new) }
-    ensures refused { IfErr result (λ e. IsMemory e ⊎ HasBadEntry configs.now (I.gives (index_of index.old))
-        (kept_by index.old) (kept_by index.new) (I.faults (index_of index.old)) (I.faults (index_of index.new))
+    ensures refused { IfErr result (λ e. IsMemory e ⊎ HasBadEntry configs.now (I.view (index_of index.old)).gives
+        (kept_by index.old) (kept_by index.new) (I.view (index_of index.old)).faults (I.view (index_of index.new)).faults
         input.now.bytes.items e) }
 {
     let planned = plan_input(alloc, 0, options, input, document, configs, index)?;
@@ -115,14 +115,14 @@ fn plan_manifest<I: Index>(
         input.now.bytes.items (map line_of p.rows.items)) }
     ensures outputs { IfOk result (λ p. HasOutputs (string_bytes input.now.path) input.now.bytes.items
         (map line_of p.rows.items) p.outputs.items) }
-    ensures looks { IfOk result (λ p. AreLooks (IsNeededBy configs.now input.now.bytes.items) (I.gives (index_of index.old))
+    ensures looks { IfOk result (λ p. AreLooks (IsNeededBy configs.now input.now.bytes.items) (I.view (index_of index.old)).gives
         (kept_by index.old) (kept_by index.new) p.looks.items) }
     ensures lists { IfOk result Tells }
-    ensures left { Leaves (IsNeededBy configs.now input.now.bytes.items) (I.gives (index_of index.old))
-        (I.gives (index_of index.new)) (I.faults (index_of index.old)) (I.faults (index_of index.new))
+    ensures left { Leaves (IsNeededBy configs.now input.now.bytes.items) (I.view (index_of index.old)).gives
+        (I.view (index_of index.new)).gives (I.view (index_of index.old)).faults (I.view (index_of index.new)).faults
         (kept_by index.old) (kept_by index.new) }
-    ensures refused { IfErr result (λ e. IsBadManifest input.now.bytes.items e ⊎ HasBadEntry configs.now (I.gives (index_of index.old))
-        (kept_by index.old) (kept_by index.new) (I.faults (index_of index.old)) (I.faults (index_of index.new))
+    ensures refused { IfErr result (λ e. IsBadManifest input.now.bytes.items e ⊎ HasBadEntry configs.now (I.view (index_of index.old)).gives
+        (kept_by index.old) (kept_by index.new) (I.view (index_of index.old)).faults (I.view (index_of index.new)).faults
         input.now.bytes.items e) }
 {
     let document = read_manifest(alloc, &input.bytes)?;
@@ -160,16 +160,16 @@ pub fn plan_documents<I: Index>(
     // and they need the same looks
     ensures needs { IfOk result (EachInput options.now inputs.now configs.now NeedsAsBefore) }
     // each look that is needed, and no other
-    ensures looks { IfOk result (λ p. AreLooks (IsNeeded inputs.now configs.now) (I.gives (index_of index.old))
+    ensures looks { IfOk result (λ p. AreLooks (IsNeeded inputs.now configs.now) (I.view (index_of index.old)).gives
         (kept_by index.old) (kept_by index.new) p.looks.items) }
     ensures lists { IfOk result Tells }
     // also a refused plan adds to the answers that are kept only what is needed, as the index gives it
-    ensures kept { AddsNeeded (IsNeeded inputs.now configs.now) (I.gives (index_of index.old))
+    ensures kept { AddsNeeded (IsNeeded inputs.now configs.now) (I.view (index_of index.old)).gives
         (kept_by index.old) (kept_by index.new) }
-    ensures index { SameOutcomes (I.gives (index_of index.old)) (I.gives (index_of index.new)) }
-    ensures faults { I.faults (index_of index.old) ≤ I.faults (index_of index.new) }
-    ensures refused { IfErr result (IsEntryCause inputs.now configs.now (I.gives (index_of index.old))
-        (kept_by index.old) (kept_by index.new) (I.faults (index_of index.old)) (I.faults (index_of index.new))) }
+    ensures index { SameOutcomes (I.view (index_of index.old)).gives (I.view (index_of index.new)).gives }
+    ensures faults { (I.view (index_of index.old)).faults ≤ (I.view (index_of index.new)).faults }
+    ensures refused { IfErr result (IsEntryCause inputs.now configs.now (I.view (index_of index.old)).gives
+        (kept_by index.old) (kept_by index.new) (I.view (index_of index.old)).faults (I.view (index_of index.new)).faults) }
 {
     let input = &inputs[0];
     let own = &configs[0];
@@ -210,16 +210,16 @@ pub fn plan_upgrade<I: Index>(
     // and they need the same looks
     ensures needs { IfOk result (EachInput options.now inputs.now configs.now NeedsAsBefore) }
     // each look that is needed, and no other
-    ensures looks { IfOk result (λ p. AreLooks (IsNeeded inputs.now configs.now) (I.gives (index_of index.old))
+    ensures looks { IfOk result (λ p. AreLooks (IsNeeded inputs.now configs.now) (I.view (index_of index.old)).gives
         (kept_by index.old) (kept_by index.new) p.looks.items) }
     ensures lists { IfOk result Tells }
     // also a refused plan adds to the answers that are kept only what is needed, as the index gives it
-    ensures kept { AddsNeeded (IsNeeded inputs.now configs.now) (I.gives (index_of index.old))
+    ensures kept { AddsNeeded (IsNeeded inputs.now configs.now) (I.view (index_of index.old)).gives
         (kept_by index.old) (kept_by index.new) }
-    ensures index { SameOutcomes (I.gives (index_of index.old)) (I.gives (index_of index.new)) }
-    ensures faults { I.faults (index_of index.old) ≤ I.faults (index_of index.new) }
-    ensures refused { IfErr result (IsCause inputs.now configs.now (I.gives (index_of index.old))
-        (kept_by index.old) (kept_by index.new) (I.faults (index_of index.old)) (I.faults (index_of index.new))) }
+    ensures index { SameOutcomes (I.view (index_of index.old)).gives (I.view (index_of index.new)).gives }
+    ensures faults { (I.view (index_of index.old)).faults ≤ (I.view (index_of index.new)).faults }
+    ensures refused { IfErr result (IsCause inputs.now configs.now (I.view (index_of index.old)).gives
+        (kept_by index.old) (kept_by index.new) (I.view (index_of index.old)).faults (I.view (index_of index.new)).faults) }
 {
     let input = &inputs[0];
     let own = &configs[0];

@@ -64,13 +64,13 @@ fn plan_entries<I: Index>(
     ensures long { IfOk result (λ p. length p.rows.items ≡ length entries.items) }
     ensures rows { IfOk result (λ p. HasRows (setting_of number options.now input.now configs.now p.looks.items)
         input.now.bytes.items (map line_of p.rows.items)) }
-    ensures looks { IfOk result (λ p. AreLooks (IsNeededBy configs.now input.now.bytes.items) (I.gives (index_of index.old))
+    ensures looks { IfOk result (λ p. AreLooks (IsNeededBy configs.now input.now.bytes.items) (I.view (index_of index.old)).gives
         (kept_by index.old) (kept_by index.new) p.looks.items) }
-    ensures left { Leaves (IsNeededBy configs.now input.now.bytes.items) (I.gives (index_of index.old))
-        (I.gives (index_of index.new)) (I.faults (index_of index.old)) (I.faults (index_of index.new))
+    ensures left { Leaves (IsNeededBy configs.now input.now.bytes.items) (I.view (index_of index.old)).gives
+        (I.view (index_of index.new)).gives (I.view (index_of index.old)).faults (I.view (index_of index.new)).faults
         (kept_by index.old) (kept_by index.new) }
-    ensures refused { IfErr result (λ e. IsMemory e ⊎ HasBadEntry configs.now (I.gives (index_of index.old))
-        (kept_by index.old) (kept_by index.new) (I.faults (index_of index.old)) (I.faults (index_of index.new))
+    ensures refused { IfErr result (λ e. IsMemory e ⊎ HasBadEntry configs.now (I.view (index_of index.old)).gives
+        (kept_by index.old) (kept_by index.new) (I.view (index_of index.old)).faults (I.view (index_of index.new)).faults
         input.now.bytes.items e) }
 {
     let registry = resolve(alloc, configs, None)?;
@@ -106,13 +106,13 @@ pub(crate) fn plan_input<I: Index>(
     ensures shown { IfOk result (IsShown input.now.bytes.items document.now) }
     ensures rows { IfOk result (λ p. HasRows (setting_of number options.now input.now configs.now p.looks.items)
         input.now.bytes.items (map line_of p.rows.items)) }
-    ensures looks { IfOk result (λ p. AreLooks (IsNeededBy configs.now input.now.bytes.items) (I.gives (index_of index.old))
+    ensures looks { IfOk result (λ p. AreLooks (IsNeededBy configs.now input.now.bytes.items) (I.view (index_of index.old)).gives
         (kept_by index.old) (kept_by index.new) p.looks.items) }
-    ensures left { Leaves (IsNeededBy configs.now input.now.bytes.items) (I.gives (index_of index.old))
-        (I.gives (index_of index.new)) (I.faults (index_of index.old)) (I.faults (index_of index.new))
+    ensures left { Leaves (IsNeededBy configs.now input.now.bytes.items) (I.view (index_of index.old)).gives
+        (I.view (index_of index.new)).gives (I.view (index_of index.old)).faults (I.view (index_of index.new)).faults
         (kept_by index.old) (kept_by index.new) }
-    ensures refused { IfErr result (λ e. IsMemory e ⊎ HasBadEntry configs.now (I.gives (index_of index.old))
-        (kept_by index.old) (kept_by index.new) (I.faults (index_of index.old)) (I.faults (index_of index.new))
+    ensures refused { IfErr result (λ e. IsMemory e ⊎ HasBadEntry configs.now (I.view (index_of index.old)).gives
+        (kept_by index.old) (kept_by index.new) (I.view (index_of index.old)).faults (I.view (index_of index.new)).faults
         input.now.bytes.items e) }
 {
     document.has_form();

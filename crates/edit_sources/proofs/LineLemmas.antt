@@ -1,5 +1,5 @@
 -- The walk over the lines of a file: at each turn the lines before it, the line, and those after it.
-use Rattle.std.proofs.Common.{Option, Some, None, ◌≡◌, ℕ, ◌+◌, ◌<◌, List, [], ◌∷◌, ◌++◌, map, length, take, drop, get_or, Bor, refl, ap, sym, ◌∙◌, subst, arith, add-one, take-append-drop}
+use Rattle.std.proofs.Common.{Option, Some, None, ◌≡◌, ℕ, ◌+◌, ◌<◌, List, [], ◌∷◌, ◌++◌, map, length, take, drop, get_or, Bor, refl, ap, sym, ◌∙◌, arith, add-one, take-append-drop}
 use Rattle.std.specs.List.{enumerate_from}
 use Rattle.std.proofs.lemmas.Iterator.{YieldsList}
 use Rattle.std.specs.Iterator.{Yields}

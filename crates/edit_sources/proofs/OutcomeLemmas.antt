@@ -6,7 +6,6 @@ use Rattle.std.specs.Option.{option_to_list}
 use Rattle.std.proofs.lemmas.List.{append-nil, get_or_append_left, get_or_at}
 use Rattle.std.proofs.lemmas.List.Elements.{All-nil, All-push, All-get_or}
 use Rattle.std.proofs.lemmas.Grind.{flat_map-append}
-use Rattle.percent_encoding.specs.Percent.{percent_decode}
 use Rattle.serde_json.specs.Data.{Data}
 use Rattle.serde_json.specs.Read.{read}
 use Rattle.serde_json.specs.Find.{get, as_str}

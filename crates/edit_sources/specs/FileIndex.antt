@@ -7,7 +7,7 @@ use Rattle.std.specs.BTreeMap.{BTreeMap, get_by_text}
 use Rattle.std.specs.declared.alloc.Global.{Global}
 use Rattle.edit_record.specs.declared.fetch.IndexVersion.{IndexVersion}
 use Rattle.edit_record.specs.IndexEntry.{IndexEntry, entry_of}
-use Rattle.edit_sources.specs.Index.{Outcome}
+use Rattle.edit_sources.specs.Index.{IndexView, Outcome}
 use Rattle.edit_sources.specs.IndexLines.{LinesSay, lines_of}
 use Rattle.edit_sources.specs.Names.{is_crate_name}
 use Rattle.edit_sources.specs.declared.file_index.FileIndex.{FileIndex}
@@ -39,3 +39,7 @@ abbrev pub FileGives : FileIndex → List ℕ → Outcome → Type 0
 FileGives index name outcome =
     ((is_crate_name name ≡ false) × (outcome ≡ Err 29))
     ⊎ ((is_crate_name name ≡ true) × (outcome ≡ Ok (if_any (named index name))))
+
+-- an index of one file, which never fails (own)
+abbrev pub file_view : FileIndex → IndexView
+file_view index = record { gives = λ _ name outcome. FileGives index name outcome; faults = 0 }

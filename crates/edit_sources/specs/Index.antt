@@ -1,5 +1,5 @@
 -- What a look in an index may give (Cargo reference, "Registries", index format).
-use Rattle.std.specs.Prelude.{◌≡◌, ℕ, ◌≤◌, ◌⊎◌, ◌↔◌, List, map, Option, option_map, Result, Ok, Err, IfErr}
+use Rattle.std.specs.Prelude.{◌≡◌, ℕ, ◌≤◌, ◌⊎◌, ◌↔◌, List, map, Option, option_map, Result, Err, IfErr}
 use Rattle.url.specs.Parts.{Parts}
 use Rattle.edit_document.specs.declared.errors.Error.{Error}
 use Rattle.edit_document.specs.Errors.{number_of, IsMemory}
@@ -23,6 +23,11 @@ Outcome = Result (Option (List IndexEntry)) ℕ
 abbrev pub Outcomes : Type 1
 Outcomes = Parts → List ℕ → Outcome → Type 0
 
+-- an index as contracts see it: the outcomes that its looks may have, and its count of faults (own)
+pub record IndexView : Type 1 where
+  pub gives : Outcomes
+  pub faults : ℕ
+
 -- the numbers of the refusals that an index gives: 27 to 30 (own)
 abbrev pub IsLookRefusal : ℕ → Type 0
 IsLookRefusal n = (27 ≤ n) × (n ≤ 30)
@@ -38,16 +43,17 @@ abbrev pub IsGivenRefusal : Outcomes → Parts → List ℕ → Error → Type 0
 IsGivenRefusal gives address name e = IsLookRefusal (number_of e) × gives address name (Err (number_of e))
 
 -- why a look is refused: want of memory, what the index gives, or a fault of the device below, counted (own)
-abbrev pub RefusesLook : Outcomes → Parts → List ℕ → ℕ → ℕ → Error → Type 0
-RefusesLook gives address name before now e =
-    IsMemory e ⊎ (IsGivenRefusal gives address name e ⊎ ((number_of e ≡ 3) × raised before now))
+abbrev pub RefusesLook : IndexView → IndexView → Parts → List ℕ → Error → Type 0
+RefusesLook old new address name e =
+    IsMemory e
+    ⊎ (IsGivenRefusal old.gives address name e ⊎ ((number_of e ≡ 3) × raised old.faults new.faults))
 
 -- the same, without the count (own)
 abbrev pub IsLookError : Outcomes → Parts → List ℕ → Error → Type 0
 IsLookError gives address name e = IsMemory e ⊎ (IsGivenRefusal gives address name e ⊎ (number_of e ≡ 3))
 
 -- the count of faults never falls, and a look is refused only for such a cause (own)
-pub record HasLookCause {T : Type 0} (gives : Outcomes) (address : Parts) (name : List ℕ) (before now : ℕ)
+pub record HasLookCause {T : Type 0} (old new : IndexView) (address : Parts) (name : List ℕ)
     (result : Result T Error) : Type 0 where
-  pub later : before ≤ now
-  pub refused : IfErr result (RefusesLook gives address name before now)
+  pub later : old.faults ≤ new.faults
+  pub refused : IfErr result (RefusesLook old new address name)

@@ -6,7 +6,7 @@ use Rattle.std.specs.BTreeMap.{get_by_text}
 use Rattle.url.specs.Parts.{Parts, serialize}
 use Rattle.edit_document.specs.declared.errors.Error.{Error}
 use Rattle.edit_document.specs.Errors.{number_of, IsMemory}
-use Rattle.edit_sources.specs.Index.{Outcomes, SameOutcomes, HasLookCause, IsLookRefusal, answer_of}
+use Rattle.edit_sources.specs.Index.{IndexView, Outcomes, SameOutcomes, HasLookCause, IsLookRefusal, answer_of}
 use Rattle.edit_sources.specs.declared.index.IndexKrate.{IndexKrate}
 use Rattle.edit_sources.specs.Kept.{IsRanked}
 use Rattle.edit_sources.specs.declared.cache.IndexCache.{IndexCache}
@@ -45,7 +45,7 @@ has_version krate version = list_any (λ v. bytes_eq (string_bytes v.version) ve
 
 -- a call that sees to it that an answer is kept: it changes nothing where one is; else it makes one look,
 -- adds a successful answer and keeps no refusal (own)
-pub record Fetches {I T : Type 0} (gives : I → Outcomes) (faults : I → ℕ) (address : Parts) (name : List ℕ)
+pub record Fetches {I T : Type 0} (seen now : IndexView) (address : Parts) (name : List ℕ)
     (old new : IndexCache I) (result : Result T Error) : Type 0 where
   pub kept : OnOk result (IsSome (kept_at new (serialize address) name))
   pub first : IsSome (kept_at old (serialize address) name) → (new ≡ old) × IsOk result
@@ -53,10 +53,9 @@ pub record Fetches {I T : Type 0} (gives : I → Outcomes) (faults : I → ℕ) 
   pub refused : OnErr result (SameKept old new)
   pub given : kept_at old (serialize address) name ≡ None
       → OnOk result (IfSome (kept_at new (serialize address) name)
-      (λ k. gives (index_of old) address name (Ok (answer_of k))))
-  pub same : SameOutcomes (gives (index_of old)) (gives (index_of new))
-  pub cause : HasLookCause (gives (index_of old)) address name (faults (index_of old))
-      (faults (index_of new)) result
+      (λ k. seen.gives address name (Ok (answer_of k))))
+  pub same : SameOutcomes seen.gives now.gives
+  pub cause : HasLookCause seen now address name result
 
 -- the ranking that is kept at an address and a name, if one is (own)
 abbrev pub ranking_at : {I : Type 0} → IndexCache I → List ℕ → List ℕ → Option Ranked
@@ -64,7 +63,7 @@ ranking_at cache address name = option_and_then (λ kept. kept.ranked) (told_at 
 
 -- a call that sees to it that an answer and its ranking are kept: it looks as `Fetches` does, and a refusal
 -- for want of memory leaves the answer (own)
-pub record Ranks {I T : Type 0} (gives : I → Outcomes) (faults : I → ℕ) (address : Parts) (name : List ℕ)
+pub record Ranks {I T : Type 0} (seen now : IndexView) (address : Parts) (name : List ℕ)
     (old new : IndexCache I) (result : Result T Error) : Type 0 where
   pub ranked : OnOk result (IfSome (kept_at new (serialize address) name)
       (λ k. IsRanked k (ranking_at new (serialize address) name)))
@@ -72,10 +71,9 @@ pub record Ranks {I T : Type 0} (gives : I → Outcomes) (faults : I → ℕ) (a
   pub first : IsSome (kept_at old (serialize address) name) → SameKept old new × IfErr result IsMemory
   pub others : SameKeptBut (serialize address) name old new
   pub given : kept_at old (serialize address) name ≡ None → IfSome (kept_at new (serialize address) name)
-      (λ k. gives (index_of old) address name (Ok (answer_of k)))
-  pub same : SameOutcomes (gives (index_of old)) (gives (index_of new))
-  pub cause : HasLookCause (gives (index_of old)) address name (faults (index_of old))
-      (faults (index_of new)) result
+      (λ k. seen.gives address name (Ok (answer_of k)))
+  pub same : SameOutcomes seen.gives now.gives
+  pub cause : HasLookCause seen now address name result
 
 -- why an answer is not told: want of memory, or, where none was kept, a refusal that the index gives or a
 -- fault of its device (own)

@@ -1,5 +1,5 @@
 -- What a look in an index in files gives (Cargo reference, "Registries", index format).
-use Rattle.std.specs.Prelude.{◌≡◌, ℕ, ◌-◌, List, ◌∷◌, ◌++◌, Some, None, Ok, Err, Bool, true, false, codes, length, slice_index, ◌⊎◌, ◌==◌, if◌then◌else◌}
+use Rattle.std.specs.Prelude.{◌≡◌, ℕ, ◌-◌, List, ◌++◌, Some, None, Ok, Err, Bool, true, false, codes, length, slice_index, ◌⊎◌, ◌==◌, if◌then◌else◌}
 use Rattle.std.specs.List.{list_any}
 use Rattle.std.specs.Str.{IsUtf8}
 use Rattle.percent_encoding.specs.Percent.{percent_decode}
@@ -8,7 +8,7 @@ use Rattle.edit_document.specs.declared.errors.Error.{Error}
 use Rattle.edit_document.specs.declared.errors.Error.TheVariants.{IndexLine}
 use Rattle.edit_document.specs.Errors.{number_of}
 use Rattle.edit_record.specs.IndexEntry.{IndexEntry}
-use Rattle.edit_sources.specs.Index.{Outcome}
+use Rattle.edit_sources.specs.Index.{IndexView, Outcome}
 use Rattle.edit_sources.specs.IndexLines.{LinesSay, IsBadLine, lines_of}
 use Rattle.edit_sources.specs.Names.{is_crate_name, layout}
 use Rattle.edit_sources.specs.Store.{StoreView}
@@ -102,3 +102,7 @@ LocalGives store address name (Err n) =
 abbrev pub NumbersLine : StoreView → Parts → List ℕ → Error → Type 0
 NumbersLine store address name e =
     number_of e ≡ 30 → (line : ℕ) × (e ≡ IndexLine line) × HasBadLine store address name line
+
+-- an index over a store: its looks fail as the store does (own)
+abbrev pub local_view : StoreView → IndexView
+local_view store = record { gives = LocalGives store; faults = store.faults }

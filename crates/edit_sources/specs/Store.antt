@@ -1,5 +1,5 @@
 -- What a store promises: files as a map from paths to bytes, and a count of faults (own).
-use Rattle.std.specs.Prelude.{◌≡◌, ◌≢◌, ℕ, ◌-◌, ◌^◌, ◌<◌, ◌≤◌, ◌⊎◌, ◌++◌, List, ◌∷◌, Option, Some, Bool, true, IsSome, IsNone, Result, IfErr, codes}
+use Rattle.std.specs.Prelude.{◌≡◌, ◌≢◌, ℕ, ◌-◌, ◌^◌, ◌<◌, ◌≤◌, ◌⊎◌, ◌++◌, List, ◌∷◌, Option, Bool, IsSome, IsNone, Result, IfErr, codes}
 use Rattle.edit_document.specs.declared.errors.DeviceCall.{DeviceCall}
 use Rattle.edit_document.specs.declared.errors.Error.{Error}
 use Rattle.edit_document.specs.declared.errors.Error.TheVariants.{Device}

@@ -1,8 +1,7 @@
 -- A store whose one fault comes at a given call (own).
-use Rattle.std.specs.Prelude.{◌≡◌, ℕ, zero, suc, ◌+◌, List, Bool, true, take, Option, Some, None, Result, IfErr, IsErrAnd, ◌⊎◌}
+use Rattle.std.specs.Prelude.{◌≡◌, ℕ, zero, suc, List, true, take, Option, Some, None, Result, IfErr, IsErrAnd, ◌⊎◌}
 use Rattle.edit_document.specs.declared.errors.DeviceCall.{DeviceCall}
 use Rattle.edit_document.specs.declared.errors.Error.{Error}
-use Rattle.edit_document.specs.declared.errors.Error.TheVariants.{Device}
 use Rattle.edit_document.specs.Errors.{IsMemory}
 use Rattle.edit_sources.specs.Memory.{files_in}
 use Rattle.edit_sources.specs.Store.{RefusesCall, StoreView}

@@ -1,6 +1,5 @@
 //! Files in memory, one call of which fails.
-ghost use Rattle.std.specs.Prelude.{◌≡◌, ◌↔◌, ◌⊎◌, ℕ, List, Some, true, IsTrue, IfOk, IfErr, OnOk, take, option_map};
-ghost use Rattle.edit_document.specs.Errors.{IsMemory};
+ghost use Rattle.std.specs.Prelude.{◌≡◌, ◌↔◌, Some, true, IsTrue, IfOk, IfErr, OnOk, option_map};
 ghost use Rattle.edit_sources.specs.Store.{HasCause, SameFiles, SameBut, StandsAt, raised};
 ghost use Rattle.edit_sources.specs.Memory.{files_in};
 ghost use Rattle.edit_sources.specs.Turns.{LeavesFront, TakesTurn, bytes_left, calls_left, fault_view, faults_of, one_less};

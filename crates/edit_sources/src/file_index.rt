@@ -1,6 +1,6 @@
 //! An index of one file, read once.
-ghost use Rattle.std.specs.Prelude.{◌≡◌, IfOk, IfErr};
-ghost use Rattle.edit_sources.specs.FileIndex.{GroupsByName, HoldsLines};
+ghost use Rattle.std.specs.Prelude.{IfOk, IfErr};
+ghost use Rattle.edit_sources.specs.FileIndex.{GroupsByName, HoldsLines, file_view};
 ghost use Rattle.edit_sources.specs.IndexLines.{RefusesLines, lines_of};
 
 use crate::crate_name::is_crate_name;
@@ -47,11 +47,7 @@ fn grouped(
 }
 
 impl Index for FileIndex {
-    ghost use Rattle.edit_sources.specs.FileIndex.{FileGives};
-
-    ghost gives = { λ i _ name outcome. FileGives i name outcome };
-
-    ghost faults = { λ _. 0 };
+    ghost view = { file_view };
 
     fn look(
         &mut self,

@@ -1,9 +1,8 @@
 //! What an index answers.
-ghost use Rattle.std.specs.Prelude.{◌≡◌, ℕ, List, Option, Result, Ok, IfOk, IfErr, map};
-ghost use Rattle.url.specs.Parts.{Parts};
+ghost use Rattle.std.specs.Prelude.{◌≡◌, Ok, IfOk, IfErr, map};
 ghost use Rattle.edit_document.specs.Errors.{IsMemory};
-ghost use Rattle.edit_record.specs.IndexEntry.{IndexEntry, entry_of};
-ghost use Rattle.edit_sources.specs.Index.{HasLookCause, SameOutcomes, answer_of, entries_of};
+ghost use Rattle.edit_record.specs.IndexEntry.{entry_of};
+ghost use Rattle.edit_sources.specs.Index.{HasLookCause, IndexView, SameOutcomes, answer_of, entries_of};
 
 use edit_document::errors::CargoResult;
 use edit_record::fetch::IndexVersion;
@@ -42,23 +41,20 @@ pub(crate) fn copied(alloc: Global, entries: &[IndexVersion]) -> CargoResult<Vec
 
 /// Where entries are looked up.
 pub trait Index {
-    /// What a look for a name at an address may give: entries, none, or the number of a refusal.
-    ghost gives: { Self → Parts → List ℕ → Result (Option (List IndexEntry)) ℕ → Type 0 };
-
-    /// How often the device below has failed.
-    ghost faults: { Self → ℕ };
+    /// What a look for a name at an address may give (entries, none, or the number of a refusal), and how
+    /// often the device below has failed.
+    ghost view: { Self → IndexView };
 
     /// The entries of a name; none where the index has no such name.
     ///
     /// Refused with 27 to 30 by what is asked and what stands in the index, and with 3 where the
     /// device below fails.
     fn look(&mut self, alloc: Global, registry: &Url, name: &str) -> CargoResult<Option<IndexKrate>>
-        ensures same { SameOutcomes (gives self.old) (gives self.new) }
-        ensures given { IfOk result (λ k. gives self.old registry.now name.now (Ok (answer_of k))) }
-        ensures cause { HasLookCause (gives self.old) registry.now name.now
-            (faults self.old) (faults self.new) result };
+        ensures same { SameOutcomes (view self.old).gives (view self.new).gives }
+        ensures given { IfOk result (λ k. (view self.old).gives registry.now name.now (Ok (answer_of k))) }
+        ensures cause { HasLookCause (view self.old) (view self.new) registry.now name.now result };
 
     /// How often the device below has failed.
     fn faults(&self) -> u64
-        ensures { result ≡ faults self.now };
+        ensures { result ≡ (view self.now).faults };
 }

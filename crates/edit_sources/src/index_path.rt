@@ -1,5 +1,5 @@
 //! Where the file of a name stands in an index.
-ghost use Rattle.std.specs.Prelude.{◌≡◌, [], ◌∷◌, ◌++◌, ◌-◌, ◌==◌, ◌<◌, ◌⊎◌, true, false, codes, length, slice_index, All, IfOk, IfErr, OnOk, MatchOption, string_bytes};
+ghost use Rattle.std.specs.Prelude.{◌≡◌, [], ◌∷◌, ◌++◌, ◌-◌, ◌==◌, ◌<◌, ◌⊎◌, true, false, All, IfOk, IfErr, OnOk, MatchOption, string_bytes};
 ghost use Rattle.std.specs.List.{list_any};
 ghost use Rattle.percent_encoding.specs.Percent.{percent_decode};
 ghost use Rattle.edit_document.specs.Errors.{IsMemory, number_of};

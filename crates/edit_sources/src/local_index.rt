@@ -2,7 +2,7 @@
 ghost use Rattle.std.specs.Prelude.{◌≡◌, Ok, IfOk, IfErr};
 ghost use Rattle.edit_sources.specs.Store.{OnlyReads};
 ghost use Rattle.edit_sources.specs.Index.{HasLookCause, SameOutcomes, answer_of};
-ghost use Rattle.edit_sources.specs.LocalIndex.{LocalGives, NumbersLine, store_of};
+ghost use Rattle.edit_sources.specs.LocalIndex.{LocalGives, NumbersLine, local_view, store_of};
 
 use crate::index::{Index, IndexKrate};
 use crate::index_lines::read_lines;
@@ -29,17 +29,15 @@ impl<S: Store> LocalIndex<S> {
 }
 
 impl<S: Store> Index for LocalIndex<S> {
-    ghost gives = { λ i. LocalGives (S.view i.store) };
-
-    ghost faults = { λ i. (S.view i.store).faults };
+    ghost view = { λ i. local_view (S.view i.store) };
 
     fn look(&mut self, alloc: Global, registry: &Url, name: &str) -> CargoResult<Option<IndexKrate>>
         ensures same { SameOutcomes (LocalGives (S.view (store_of self.old)))
             (LocalGives (S.view (store_of self.new))) }
         ensures given { IfOk result (λ k. LocalGives (S.view (store_of self.old)) registry.now name.now
             (Ok (answer_of k))) }
-        ensures cause { HasLookCause (LocalGives (S.view (store_of self.old))) registry.now name.now
-            (S.view (store_of self.old)).faults (S.view (store_of self.new)).faults result }
+        ensures cause { HasLookCause (local_view (S.view (store_of self.old)))
+            (local_view (S.view (store_of self.new))) registry.now name.now result }
         // no file changes
         ensures reads { OnlyReads (S.view (store_of self.old)) (S.view (store_of self.new)) }
         // a refusal 30 has the number of the first bad line

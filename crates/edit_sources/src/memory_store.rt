@@ -1,6 +1,5 @@
 //! Files in memory.
-ghost use Rattle.std.specs.Prelude.{◌≡◌, ◌↔◌, ◌++◌, ◌∷◌, ℕ, List, Option, Some, None, IsTrue, IsSome, true, option_map};
-ghost use Rattle.std.specs.BTreeMap.{get_by_text};
+ghost use Rattle.std.specs.Prelude.{◌≡◌, ◌↔◌, ℕ, List, Option, Some, None, IsTrue};
 ghost use Rattle.edit_sources.specs.Memory.{files_in, memory_view, IsBelow, IsFrontOf};
 
 use crate::store::{Kind, Store};

@@ -9,7 +9,7 @@ use Rattle.cargo_edit.proofs.looks.look_up.Given as goal
 
 abbrev pub invariant-entries : goal.invariant-entries
 invariant-entries g l =
-    IsSoFar (serialize l.registry) (g.I.Index.gives (index_of l.fn.index)) (kept_by l.fn.index) (kept_by l.index)
+    IsSoFar (serialize l.registry) (g.I.Index.view (index_of l.fn.index)).gives (kept_by l.fn.index) (kept_by l.index)
     (map name_of (take l.entry-index l.entries)) l.looks.items (contains_text l.looked)
-    × Leaves (IsAmong (serialize l.registry) (map name_of l.entries)) (g.I.Index.gives (index_of l.fn.index)) (g.I.Index.gives (index_of l.index))
-    (g.I.Index.faults (index_of l.fn.index)) (g.I.Index.faults (index_of l.index)) (kept_by l.fn.index) (kept_by l.index)
+    × Leaves (IsAmong (serialize l.registry) (map name_of l.entries)) (g.I.Index.view (index_of l.fn.index)).gives (g.I.Index.view (index_of l.index)).gives
+    (g.I.Index.view (index_of l.fn.index)).faults (g.I.Index.view (index_of l.index)).faults (kept_by l.fn.index) (kept_by l.index)

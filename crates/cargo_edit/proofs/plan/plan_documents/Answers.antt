@@ -62,26 +62,26 @@ returns-clause-latest g c =
 pub returns-clause-looks : goal.returns-clause-looks
 returns-clause-looks g c =
     one-looks c.args.inputs.now c.args.configs.now c.index-inputs-0.result c.index-configs-0.result c.deref.result.now
-    (g.I.Index.gives (index_of c.args.index.now)) (kept_by c.args.index.now) (kept_by c.plan_document.new.index) c.in_ok-plan.plan.looks.items
+    (g.I.Index.view (index_of c.args.index.now)).gives (kept_by c.args.index.now) (kept_by c.plan_document.new.index) c.in_ok-plan.plan.looks.items
     (single c.args.inputs.now c.index-inputs-0.result c.requires.one_input c.index-inputs-0.is)
     (single c.args.configs.now c.index-configs-0.result c.requires.configurations.0 c.index-configs-0.is) c.deref.ensures.value c.in_ok-plan.ensures.looks
 
 pub returns-clause-kept : goal.returns-clause-kept
 returns-clause-kept g c =
     one-kept c.args.inputs.now c.args.configs.now c.index-inputs-0.result c.index-configs-0.result c.deref.result.now
-    (g.I.Index.gives (index_of c.args.index.now)) (kept_by c.args.index.now) (kept_by c.plan_document.new.index)
+    (g.I.Index.view (index_of c.args.index.now)).gives (kept_by c.args.index.now) (kept_by c.plan_document.new.index)
     c.requires.one_input c.requires.configurations.0 c.index-inputs-0.is c.index-configs-0.is c.deref.ensures.value c.in_ok-plan.ensures.left.adds
 
 pub returns-in_err-plan-clause-kept : goal.returns-in_err-plan-clause-kept
 returns-in_err-plan-clause-kept g c =
     one-kept c.args.inputs.now c.args.configs.now c.index-inputs-0.result c.index-configs-0.result c.deref.result.now
-    (g.I.Index.gives (index_of c.args.index.now)) (kept_by c.args.index.now) (kept_by c.plan_document.new.index)
+    (g.I.Index.view (index_of c.args.index.now)).gives (kept_by c.args.index.now) (kept_by c.plan_document.new.index)
     c.requires.one_input c.requires.configurations.0 c.index-inputs-0.is c.index-configs-0.is c.deref.ensures.value c.in_err-plan.ensures.left.adds
 
 pub returns-in_err-plan-clause-refused : goal.returns-in_err-plan-clause-refused
 returns-in_err-plan-clause-refused g c =
     refusal-has c.from_residual.result c.in_err-plan.field-0.0 _ c.from_residual.ensures.1
     (one-entry_cause c.args.inputs.now c.args.configs.now c.index-inputs-0.result c.index-configs-0.result c.deref.result.now
-    (g.I.Index.gives (index_of c.args.index.now)) (kept_by c.args.index.now) (kept_by c.plan_document.new.index)
-    (g.I.Index.faults (index_of c.args.index.now)) (g.I.Index.faults (index_of c.plan_document.new.index)) c.in_err-plan.field-0.0
+    (g.I.Index.view (index_of c.args.index.now)).gives (kept_by c.args.index.now) (kept_by c.plan_document.new.index)
+    (g.I.Index.view (index_of c.args.index.now)).faults (g.I.Index.view (index_of c.plan_document.new.index)).faults c.in_err-plan.field-0.0
     c.requires.one_input c.requires.configurations.0 c.index-inputs-0.is c.index-configs-0.is c.deref.ensures.value c.in_err-plan.ensures.refused)

@@ -20,8 +20,8 @@ plan_entries-requires-clause-seen g c =
 
 pub returns-in_err-entries-clause-left : goal.returns-in_err-entries-clause-left
 returns-in_err-entries-clause-left g c =
-    leaves-same (IsNeededBy c.args.configs.now c.args.input.now.bytes.items) (g.I.Index.gives (index_of c.args.index.now))
-    (g.I.Index.faults (index_of c.args.index.now)) (kept_by c.args.index.now)
+    leaves-same (IsNeededBy c.args.configs.now c.args.input.now.bytes.items) (g.I.Index.view (index_of c.args.index.now)).gives
+    (g.I.Index.view (index_of c.args.index.now)).faults (kept_by c.args.index.now)
 
 pub returns-then-is_empty-clause-shown : goal.returns-then-is_empty-clause-shown
 returns-then-is_empty-clause-shown g c =
@@ -45,7 +45,7 @@ pub returns-then-is_empty-clause-looks : goal.returns-then-is_empty-clause-looks
 returns-then-is_empty-clause-looks g c =
     let none : c.in_ok-entries.entries.items ≡ [] = nil_from_length c.in_ok-entries.entries.items
     (sym c.in_ok-entries.entries.ok.0 ∙ eqb-true _ _ (sym c.is_empty.ensures ∙ c.if-is_empty.true)) in
-    no-looks c.args.configs.now c.args.input.now.bytes.items (g.I.Index.gives (index_of c.args.index.now)) (kept_by c.args.index.now)
+    no-looks c.args.configs.now c.args.input.now.bytes.items (g.I.Index.view (index_of c.args.index.now)).gives (kept_by c.args.index.now)
     (map seen_of c.in_ok-entries.entries.items) c.new.result.items
     (document-seen c.args.input.now.bytes.items c.args.document.now (map seen_of c.in_ok-entries.entries.items) c.requires
     c.has_form.ensures.some c.has_form.ensures.shows c.in_ok-entries.ensures.ok)
