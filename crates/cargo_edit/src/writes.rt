@@ -90,6 +90,7 @@ pub(crate) fn written(
     if edits.is_empty() {
         return Ok(None);
     }
+    document.has_form();
     let text = document.with_literals(alloc, &edits)?;
     Ok(Some(text))
 }
