@@ -1,5 +1,5 @@
 -- A plan over a cache that kept nothing before.
-use Rattle.std.proofs.Common.{◌≡◌, ℕ, List, Option, Some, None, Ok, ap, sym, ◌∙◌, inl, inr, subst, ⊎_elim, option_map}
+use Rattle.std.proofs.Common.{◌≡◌, [], ℕ, List, Option, Some, None, Ok, ap, sym, ◌∙◌, inl, inr, subst, ⊎_elim, option_map}
 use Rattle.std.proofs.Math.Path.{fun_ext}
 use Rattle.std.specs.Prelude.{◌⊎◌}
 use Rattle.edit_document.specs.Errors.{IsMemory}
@@ -10,7 +10,7 @@ use Rattle.edit_sources.specs.Index.{answer_of}
 use Rattle.edit_sources.specs.IndexCache.{index_of, kept_at}
 use Rattle.edit_sources.specs.declared.cache.IndexCache.{IndexCache}
 use Rattle.edit_sources.specs.declared.file_index.FileIndex.{FileIndex}
-use Rattle.cargo_edit.specs.Causes.{IsBadLook}
+use Rattle.cargo_edit.specs.Causes.{HasBadEntry}
 use Rattle.cargo_edit.specs.Looks.{Kept, kept_by}
 use Rattle.edit_cli.specs.Causes.{IsPlanCause}
 
@@ -28,12 +28,12 @@ one_given cache index address name answer is empty given = ⊎_elim
 
 -- a plan that is refused over such a cache, but for want of memory, has its cause in the index
 pub no_plan : (cache : IndexCache FileIndex) (index : FileIndex) (bytes : List ℕ) (kept : Kept) (e : Error) → index_of cache ≡ index → ((at of : List ℕ) → kept_at cache at of ≡ None)
-    → IsMemory e ⊎ IsBadLook bytes (λ address name outcome. FileGives (index_of cache) name outcome) (kept_by cache) kept 0 0 e → IsMemory e ⊎ IsPlanCause bytes index e
+    → IsMemory e ⊎ HasBadEntry [] (λ address name outcome. FileGives (index_of cache) name outcome) (kept_by cache) kept 0 0 bytes e → IsMemory e ⊎ IsPlanCause bytes index e
 no_plan cache index bytes kept e is empty (inl memory) = inl memory
 no_plan cache index bytes kept e is empty (inr cause) =
     let none : kept_by cache ≡ (λ address name. None) = fun_ext (λ address. fun_ext (nothing_kept cache empty address)) in
     inr (record {
       kept = kept;
-      cause = subst (λ (old : Kept). IsBadLook bytes (λ address name outcome. FileGives index name outcome) old kept 0 0 e) none
-          (subst (λ (i : FileIndex). IsBadLook bytes (λ address name outcome. FileGives i name outcome) (kept_by cache) kept 0 0 e) is cause);
+      cause = subst (λ (old : Kept). HasBadEntry [] (λ address name outcome. FileGives index name outcome) old kept 0 0 bytes e) none
+          (subst (λ (i : FileIndex). HasBadEntry [] (λ address name outcome. FileGives i name outcome) (kept_by cache) kept 0 0 bytes e) is cause);
     })

@@ -1,5 +1,5 @@
 -- Why an upgrade is refused.
-use Rattle.std.specs.Prelude.{◌≡◌, ◌⊎◌, ℕ, List, Bool, true, Option, Some, None}
+use Rattle.std.specs.Prelude.{◌≡◌, ◌⊎◌, ℕ, List, [], Bool, true, Option, Some, None}
 use Rattle.edit_document.specs.declared.errors.DeviceCall.TheVariants as call
 use Rattle.edit_document.specs.declared.errors.Error.{Error}
 use Rattle.edit_document.specs.declared.errors.Error.TheVariants.{NoManifest, NoPath}
@@ -9,7 +9,7 @@ use Rattle.edit_sources.specs.IndexLines.{RefusesLines, lines_of}
 use Rattle.edit_sources.specs.Store.{Files, StandsAt}
 use Rattle.edit_sources.specs.declared.file_index.FileIndex.{FileIndex}
 use Rattle.edit_sources.specs.declared.store.Kind.TheVariants.{Folder}
-use Rattle.cargo_edit.specs.Causes.{IsBadLook, IsBadManifest}
+use Rattle.cargo_edit.specs.Causes.{HasBadEntry, IsBadManifest}
 use Rattle.cargo_edit.specs.Looks.{Kept}
 use Rattle.edit_cli.specs.Located.{HasNoManifest, IsAbsoluteOf, IsFault, IsManifestPath}
 use Rattle.edit_cli.specs.Upgrading.{IsIndexRead, IsManifestRead}
@@ -50,8 +50,8 @@ pub record IsIndexCause (files : Files) (current named : List ℕ) (e : Error) :
 -- before
 pub record IsPlanCause (bytes : List ℕ) (index : FileIndex) (e : Error) : Type 0 where
   pub kept : Kept
-  pub cause : IsBadLook bytes (λ address name outcome. FileGives index name outcome) (λ address name. None)
-      kept 0 0 e
+  pub cause : HasBadEntry [] (λ address name outcome. FileGives index name outcome) (λ address name. None)
+      kept 0 0 bytes e
 
 -- the manifest was read, and the index file is not
 pub record HasNoIndex (files : Files) (current named index_named : List ℕ) (e : Error) : Type 0 where

@@ -10,12 +10,12 @@ use Rattle.edit_sources.specs.FileIndex.{FileGives, HoldsLines}
 use Rattle.edit_sources.specs.Index.{answer_of}
 use Rattle.edit_sources.specs.Store.{Files, SameBut, SameFiles}
 use Rattle.edit_sources.specs.declared.file_index.FileIndex.{FileIndex}
-use Rattle.cargo_edit.specs.Address.{default_address}
 use Rattle.cargo_edit.specs.Entries.{Tree}
-use Rattle.cargo_edit.specs.Looks.{look_at, told_setting}
+use Rattle.cargo_edit.specs.Inputs.{Setting}
+use Rattle.cargo_edit.specs.Looks.{look_at}
 use Rattle.cargo_edit.specs.Outputs.{HasOutputs}
 use Rattle.cargo_edit.specs.Rows.{Line}
-use Rattle.cargo_edit.specs.Upgraded.{HasRows, IsNeeded}
+use Rattle.cargo_edit.specs.Upgraded.{HasRows, IsNeededBy}
 use Rattle.cargo_edit.specs.declared.upgrade.Look.{Look}
 use Rattle.cargo_edit.specs.declared.upgrade.Options.{Options}
 use Rattle.cargo_edit.specs.declared.upgrade.Output.{Output}
@@ -67,6 +67,10 @@ pub record IsDefault (o : Options) : Type 0 where
   pub no_words : o.package.items ≡ []
   pub no_exclusions : o.exclude.items ≡ []
 
+-- what the rows of the one manifest rest on: it has no configurations
+abbrev pub alone : Options → Option Numbers → List Look → Setting
+alone options rust looks = record { input = 0; options = options; rust = rust; configs = []; looks = looks }
+
 -- the plan for a manifest over an index: what the index gives for each name that is needed decides the rows,
 -- and the outputs are what the rows write
 pub record IsPlanned (path bytes : List ℕ) (rust : Option Numbers) (index : FileIndex)
@@ -74,11 +78,10 @@ pub record IsPlanned (path bytes : List ℕ) (rust : Option Numbers) (index : Fi
   pub options : Options
   pub default : IsDefault options
   pub looks : List Look
-  pub complete : (name : List ℕ) → IsNeeded bytes default_address name
-      → IsSome (look_at looks default_address name)
+  pub complete : (address name : List ℕ) → IsNeededBy [] bytes address name → IsSome (look_at looks address name)
   pub given : All (λ look. FileGives index (string_bytes look.name) (Ok (answer_of look.answer))) looks
   pub rows : List Line
-  pub decided : HasRows (told_setting 0 options rust looks default_address) bytes rows
+  pub decided : HasRows (alone options rust looks) bytes rows
   pub writes : HasOutputs path bytes rows outputs
 
 -- an output stands in its file, and each other file is as it was; without an output each file is

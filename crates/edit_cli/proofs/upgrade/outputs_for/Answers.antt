@@ -1,31 +1,51 @@
-use Rattle.std.proofs.Common.{◌≡◌, List, Some, ap, map}
-use Rattle.std.specs.Prelude.{slice_get}
-use Rattle.cargo_edit.specs.Address.{default_address}
-use Rattle.cargo_edit.specs.Lines.{line_of}
+use Rattle.std.proofs.Common.{◌≡◌, ◌⊎◌, [], List, subst, sym}
+use Rattle.edit_document.specs.Errors.{IsMemory}
+use Rattle.edit_sources.specs.FileIndex.{FileGives}
+use Rattle.edit_sources.specs.IndexCache.{index_of}
+use Rattle.edit_sources.specs.declared.config.Config.{Config}
+use Rattle.cargo_edit.specs.Causes.{HasBadEntry}
+use Rattle.cargo_edit.specs.Inputs.{path_of, rows_of, setting_of}
 use Rattle.cargo_edit.specs.Looks.{kept_by}
+use Rattle.cargo_edit.specs.Outputs.{HasOutputs}
+use Rattle.cargo_edit.specs.Upgraded.{HasItsOutputs, HasItsRows, HasRows}
+use Rattle.cargo_edit.specs.declared.upgrade.Output.{Output}
+use Rattle.cargo_edit.proofs.InputLemmas.{needed-first, of-each, of-entry_cause, only-outputs}
 use Rattle.edit_cli.proofs.Causing.{refusal_same}
 use Rattle.edit_cli.proofs.Planning.{no_plan, one_given}
-use Rattle.cargo_edit.specs.declared.upgrade.Input.{Input}
 use Rattle.edit_cli.proofs.upgrade.outputs_for.Goals as goal
 
 pub returns-clause-ok : goal.returns-clause-ok
 returns-clause-ok c =
-    let first : slice_get c.from_ref-inputs.result.now 0 ≡ Some c.args.manifest.now.input = ap (λ (xs : List Input). slice_get xs 0) c.from_ref-inputs.ensures.value in
-    let looked = rw first at c.in_ok-plan.ensures.looks in
+    let o = c.default_options-options.result in
+    let x = c.args.manifest.now.input in
+    let p = c.in_ok-plan.plan in
     record {
-      options = c.default_options-options.result;
+      options = o;
       default = c.default_options-options.ensures;
-      looks = c.in_ok-plan.plan.looks.items;
-      complete = λ name. looked.complete default_address name;
-      given = λ k d lt. one_given c.new-cache.result c.args.index _ _ _ c.new-cache.ensures.index c.new-cache.ensures.empty (looked.given k d lt);
-      rows = map line_of c.in_ok-plan.plan.rows.items;
-      decided = rw first at c.in_ok-plan.ensures.rows;
-      writes = rw first at c.in_ok-plan.ensures.outputs;
+      looks = p.looks.items;
+      complete = λ address name need.
+          c.in_ok-plan.ensures.looks.complete address name (needed-first c.from_ref-inputs.result.now c.from_ref-configs.result.now x c.new-none.result []
+          c.from_ref-inputs.ensures.value c.from_ref-configs.ensures.value (sym c.new-none.ensures.items) address name need);
+      given = λ k d lt.
+          one_given c.new-cache.result c.args.index _ _ _ c.new-cache.ensures.index c.new-cache.ensures.empty (c.in_ok-plan.ensures.looks.given k d lt);
+      rows = rows_of 0 p;
+      decided = subst (λ (cs : List Config). HasRows (setting_of 0 o x cs p.looks.items) x.bytes.items (rows_of 0 p)) c.new-none.ensures.items
+          (of-each o c.from_ref-inputs.result.now c.from_ref-configs.result.now HasItsRows p x c.new-none.result
+          c.from_ref-inputs.ensures.value c.from_ref-configs.ensures.value c.in_ok-plan.ensures.rows);
+      writes = subst (λ (os : List Output). HasOutputs (path_of x) x.bytes.items (rows_of 0 p) os)
+          (only-outputs c.from_ref-inputs.result.now x p c.from_ref-inputs.ensures.value c.in_ok-plan.ensures.outputs_in_order)
+          (of-each o c.from_ref-inputs.result.now c.from_ref-configs.result.now HasItsOutputs p x c.new-none.result
+          c.from_ref-inputs.ensures.value c.from_ref-configs.ensures.value c.in_ok-plan.ensures.outputs);
     }
 
 pub returns-in_err-plan-clause-refused : goal.returns-in_err-plan-clause-refused
 returns-in_err-plan-clause-refused c =
-    let first : slice_get c.from_ref-inputs.result.now 0 ≡ Some c.args.manifest.now.input = ap (λ (xs : List Input). slice_get xs 0) c.from_ref-inputs.ensures.value in
-    refusal_same c.from_residual.result c.in_err-plan.field-0.0 _ c.from_residual.ensures.1
-    (no_plan c.new-cache.result c.args.index c.args.manifest.now.input.bytes.items (kept_by c.plan_documents.new.index) c.in_err-plan.field-0.0
-    c.new-cache.ensures.index c.new-cache.ensures.empty (rw first at c.in_err-plan.ensures.refused))
+    let x = c.args.manifest.now.input in
+    let e = c.in_err-plan.field-0.0 in
+    let cause = of-entry_cause c.from_ref-inputs.result.now c.from_ref-configs.result.now x c.new-none.result
+    (λ address name outcome. FileGives (index_of c.new-cache.result) name outcome) (kept_by c.new-cache.result) (kept_by c.plan_documents.new.index) 0 0 e
+    c.from_ref-inputs.ensures.value c.from_ref-configs.ensures.value c.in_err-plan.ensures.refused in
+    refusal_same c.from_residual.result e _ c.from_residual.ensures.1
+    (no_plan c.new-cache.result c.args.index x.bytes.items (kept_by c.plan_documents.new.index) e c.new-cache.ensures.index c.new-cache.ensures.empty
+    (subst (λ (cs : List Config). IsMemory e ⊎ HasBadEntry cs (λ address name outcome. FileGives (index_of c.new-cache.result) name outcome)
+    (kept_by c.new-cache.result) (kept_by c.plan_documents.new.index) 0 0 x.bytes.items e) c.new-none.ensures.items cause))
