@@ -32,10 +32,6 @@ scalar_step code i digits lt small =
     ap (scalar_after code) (drop-cons digits i 0 lt) ∙ hex_step code (get_or digits i 0) (drop (suc i) digits) (is_hex_below (get_or digits i 0) small)
     ∙ ap (λ (k : ℕ). scalar_after (code * 16 + digit_value (get_or digits i 0)) (drop k digits)) (sym (add-one i))
 
-pub scalar_stop : (code i : ℕ) (digits : List ℕ) → i < length digits → (digit_value (get_or digits i 0) < 16 → ⊥) → scalar_after code (drop i digits) ≡ None
-scalar_stop code i digits lt not =
-    ap (scalar_after code) (drop-cons digits i 0 lt) ∙ other_step code (get_or digits i 0) (drop (suc i) digits) (is_hex_above (get_or digits i 0) not)
-
 -- seven digits and one more stay within 32 bits
 pub code_fits : (code i : ℕ) → code < 16 ^ i → i < 8 → code * 16 + 15 < 2 ^ 32
 code_fits code i lt le =

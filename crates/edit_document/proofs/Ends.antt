@@ -7,11 +7,11 @@ use Rattle.std.proofs.lemmas.List.{append-nil}
 use Rattle.std.proofs.lemmas.Str.{IsUtf8-append, IsUtf8-nil, IsUtf8-encode, IsUtf8-take, IsUtf8-drop, IsUtf8-from_ascii, IsCharBoundary-before_ascii, IsCharBoundary-after_ascii}
 use Rattle.edit_document.specs.Characters.{quote, backslash, equals, is_bare, All}
 use Rattle.edit_document.specs.Strings.{Piece, plain, letter, short, long, feed, fold, delimiter, pieces, says, IsBasicPiece, Part, part, LineEnd, line_end, lf, crlf, Key, key, is_escape, escaped, is_hex, is_scalar}
-use Rattle.edit_document.specs.Grammar.{Between, gap, Value, Members, value, members, Statement, statement, Line, line}
+use Rattle.edit_document.specs.Grammar.{Between, gap, Value, value, Line, line}
 use Rattle.std.specs.Char.{IsScalar}
 use Rattle.std.proofs.lemmas.Bool.Decides.{nat_tests}
 use Rattle.edit_document.specs.Walk.{suffix}
-use Rattle.edit_document.proofs.PutBefore.{Relation, IsKept, key_before, pair_before, gap_before, value_before, members_before, statement_before, line_before}
+use Rattle.edit_document.proofs.PutBefore.{Relation, IsKept, key_before, pair_before, gap_before, value_before, line_before}
 use Rattle.edit_document.proofs.ListElements.{get_seam}
 
 -- the text ends so
@@ -66,9 +66,6 @@ ends_gap bytes g rest h = ends_tail bytes (gap g rest) rest h (gap_before (Tail 
 
 pub ends_value : (bytes : List ℕ) (v : Value) (rest : List ℕ) → Ends bytes (value v rest) → Ends bytes rest
 ends_value bytes v rest h = ends_tail bytes (value v rest) rest h (value_before (Tail rest) (tail_one rest) v rest rest (tail_end rest))
-
-pub ends_members : (bytes : List ℕ) (ms : Members) (rest : List ℕ) → Ends bytes (members ms rest) → Ends bytes rest
-ends_members bytes ms rest h = ends_tail bytes (members ms rest) rest h (members_before (Tail rest) (tail_one rest) ms rest rest (tail_end rest))
 
 pub ends_line_end : (bytes : List ℕ) (e : LineEnd) (rest : List ℕ) → Ends bytes (line_end e rest) → Ends bytes rest
 ends_line_end bytes lf rest h = ends_one bytes 10 rest h
@@ -152,9 +149,6 @@ says_text xs (fold ws e more ∷ ps) rest h u = absurd h.0
 says_text xs (delimiter ∷ ps) rest h u = absurd h.0
 
 -- ---- statements and lines
-
-pub ends_statement : (bytes : List ℕ) (s : Statement) (rest : List ℕ) → Ends bytes (statement s rest) → Ends bytes rest
-ends_statement bytes s rest h = ends_tail bytes (statement s rest) rest h (statement_before (Tail rest) (tail_one rest) s rest rest (tail_end rest))
 
 pub ends_line : (bytes : List ℕ) (l : Line) (rest : List ℕ) → Ends bytes (line l rest) → Ends bytes rest
 ends_line bytes l rest h = ends_tail bytes (line l rest) rest h (line_before (Tail rest) (tail_one rest) l rest rest (tail_end rest))

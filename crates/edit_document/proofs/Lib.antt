@@ -75,7 +75,6 @@ pub mod WalkedValues
 pub mod WalkedHolders
 pub mod WalkedLines
 pub mod Decoded
-pub mod Contents
 pub mod Kept
 pub mod NameLists
 pub mod StandardFacts

@@ -4,9 +4,9 @@ use Rattle.std.specs.List.{AllByRecursion}
 use Rattle.std.specs.Str.{IsUtf8, IsCharBoundary}
 use Rattle.std.proofs.lemmas.Bool.Decides.{nat_tests}
 use Rattle.std.proofs.lemmas.Str.{IsCharBoundary-after_ascii}
-use Rattle.edit_document.specs.Characters.{quote, apostrophe, is_basic_ch, is_literal_ch}
-use Rattle.edit_document.specs.Strings.{lf, crlf, Piece, plain, letter, short, long, feed, fold, delimiter, pieces, IsMultiPiece, IsRawPiece, FoldsAreWhole, said, says, says_multi}
-use Rattle.edit_document.specs.Decoding.{BasicSays, LineSays, MultiSays, RawSays, past_break}
+use Rattle.edit_document.specs.Characters.{apostrophe, is_basic_ch, is_literal_ch}
+use Rattle.edit_document.specs.Strings.{lf, crlf, Piece, plain, letter, short, long, feed, fold, delimiter, pieces, IsRawPiece, said, says, says_multi}
+use Rattle.edit_document.specs.Decoding.{BasicSays, LineSays, RawSays, past_break}
 use Rattle.edit_document.specs.Reading.{first}
 use Rattle.edit_document.proofs.TokenLaws.{AreBasic}
 use Rattle.edit_document.proofs.Escapes.{AreLine}
@@ -29,21 +29,6 @@ basic_no_break b h = (grind (arith, nat_tests), grind (arith, nat_tests))
 
 literal_no_break : (b : ℕ) → is_literal_ch b ≡ true → (eqb b 10 ≡ false) × (eqb b 13 ≡ false)
 literal_no_break b h = (grind (arith, nat_tests), grind (arith, nat_tests))
-
--- without the newline that comes first
-pub multi_line : (content said : List ℕ) → MultiSays content said → LineSays (past_break content) said
-multi_line content said (ps, all, folds, spelled, says) = go ps all folds (ap past_break spelled) says
-  where
-    go : (qs : List Piece) → AllByRecursion IsMultiPiece qs → FoldsAreWhole qs → past_break content ≡ past_break (pieces quote qs []) → said ≡ says_multi quote qs → LineSays (past_break content) said
-    go [] all folds e f = ([], all, folds, e, f)
-    go (plain b ∷ qs) all folds e f = let k = basic_no_break b all.0 in (plain b ∷ qs, all, folds, e ∙ rw (k.0, k.1) refl, f)
-    go (letter c ∷ qs) all folds e f = (letter c ∷ qs, all, folds, e, f)
-    go (short digits ∷ qs) all folds e f = (short digits ∷ qs, all, folds, e, f)
-    go (long digits ∷ qs) all folds e f = (long digits ∷ qs, all, folds, e, f)
-    go (feed lf ∷ qs) all folds e f = (qs, all.1, folds, e, f)
-    go (feed crlf ∷ qs) all folds e f = (qs, all.1, folds, e, f)
-    go (fold ws end more ∷ qs) all folds e f = (fold ws end more ∷ qs, all, folds, e, f)
-    go (delimiter ∷ qs) all folds e f = (delimiter ∷ qs, all, folds, e, f)
 
 raw_says : (ps : List Piece) → AllByRecursion IsRawPiece ps → says apostrophe ps ≡ pieces apostrophe ps []
 raw_says [] h = refl

@@ -69,9 +69,6 @@ spaces_sound (suc n) text x e = elim (chosen (begins_space text) _ _ (Some x) e)
   | inr h ↦ subst (AreSpaces text) (some_is _ x h.1) (record { spelled = refl; valid = tt; ended = h.0 })
 ]
 
-blank_no_break : (b : ℕ) → is_blank b ≡ true → begins_space (b ∷ []) ≡ true
-blank_no_break b h = rw h refl
-
 space_begins : (s : Space) (more : List ℕ) → IsSpace s → begins_space (spaces (s ∷ []) more) ≡ true
 space_begins (blank b) more h = rw h refl
 space_begins (break lf) more h = refl

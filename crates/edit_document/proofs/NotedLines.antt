@@ -50,16 +50,6 @@ pub header_keyless : (bytes : List ℕ) → key_at (past_blanks (drop 1 bytes)) 
 unfolding header_at
 header_keyless bytes key = rw key refl
 
-pub header_open : (bytes key_end : List ℕ) (k : Key) → key_at (past_blanks (drop 1 bytes)) ≡ Some (k, key_end) → None ≡ past right_bracket (past_blanks key_end) → header_at bytes ≡ None
-unfolding header_at
-header_open bytes key_end k key closed = rw (key, ← closed) refl
-
--- the exit of a header's key that was not read
-pub header_failed : (bytes : List ℕ) (old new : Vec Mark) (e e2 : ReadError) (r : Result (Bor (List ℕ)) ReadError) → r ≡ Err e2 → e2 ≡ e
-    → ((e ≡ Memory → ⊥) → key_at (past_blanks (drop 1 bytes)) ≡ None) → Notes statement_marks old new r (header_at bytes)
-header_failed bytes old new e e2 r was same h =
-    subst (λ (x : Result (Bor (List ℕ)) ReadError). Notes statement_marks old new x (header_at bytes)) (sym was) (λ other. header_keyless bytes (h (λ m. other (same ∙ m))))
-
 -- ---- headers of elements
 
 element_here : (bytes key_end inner rest : List ℕ) (k : Key) → key_at (past_blanks (drop 2 bytes)) ≡ Some (k, key_end) → Some inner ≡ past right_bracket (past_blanks key_end) → Some rest ≡ past right_bracket inner
@@ -81,19 +71,6 @@ element_noted old mid new bytes key_end inner rest k opened again key noted one 
 pub element_keyless : (bytes : List ℕ) → key_at (past_blanks (drop 2 bytes)) ≡ None → element_header_at bytes ≡ None
 unfolding element_header_at
 element_keyless bytes key = rw key refl
-
-pub element_open : (bytes key_end : List ℕ) (k : Key) → key_at (past_blanks (drop 2 bytes)) ≡ Some (k, key_end) → None ≡ past right_bracket (past_blanks key_end) → element_header_at bytes ≡ None
-unfolding element_header_at
-element_open bytes key_end k key one = rw (key, ← one) refl
-
-pub element_half : (bytes key_end inner : List ℕ) (k : Key) → key_at (past_blanks (drop 2 bytes)) ≡ Some (k, key_end) → Some inner ≡ past right_bracket (past_blanks key_end) → None ≡ past right_bracket inner → element_header_at bytes ≡ None
-unfolding element_header_at
-element_half bytes key_end inner k key one two = rw (key, ← one, ← two) refl
-
-pub element_failed : (bytes : List ℕ) (old new : Vec Mark) (e e2 : ReadError) (r : Result (Bor (List ℕ)) ReadError) → r ≡ Err e2 → e2 ≡ e
-    → ((e ≡ Memory → ⊥) → key_at (past_blanks (drop 2 bytes)) ≡ None) → Notes statement_marks old new r (element_header_at bytes)
-element_failed bytes old new e e2 r was same h =
-    subst (λ (x : Result (Bor (List ℕ)) ReadError). Notes statement_marks old new x (element_header_at bytes)) (sym was) (λ other. element_keyless bytes (h (λ m. other (same ∙ m))))
 
 -- ---- lines
 

@@ -49,9 +49,6 @@ part_noted old new k text rest told noted =
     let sound = part_sound text (v.0, rest) v.1 in
     (v.0, v.1, noted ∙ ap (λ (m : Mark). old ++ (m ∷ [])) (same_mark k (part_kind v.0) text (part v.0 rest) rest v.2 sound.0))
 
-pub part_refused : (text : List ℕ) → None ≡ told_token part_kind (part_at text) → part_at text ≡ None
-part_refused text told = untold part_kind (part_at text) told
-
 -- whatever parts are read from here on complete the key
 pub record CompletesKey (total : Read Key) (n : ℕ) (text : List ℕ) (old out : List Mark) : Type 0 where
   pub some : (x : List Dotted × List ℕ) → dotted_at n text ≡ Some x → (k : Key) × (total ≡ Some (k, x.1)) × (out ++ dotted_marks x.0 x.1 ≡ old ++ key_marks k x.1)
@@ -149,6 +146,3 @@ scalar_noted old new k text rest told noted =
     let flat : depth v.0 ≡ 0 = let h = sound.1.shallow in omega arith in
     let marks = flat_marks v.0 rest flat in
     (v.0, v.1, noted ∙ ap (λ (m : Mark). old ++ (m ∷ [])) (same_mark k (value_kind v.0) text (value v.0 rest) rest v.2 sound.0) ∙ ap (λ (m : List Mark). old ++ m) (sym marks))
-
-pub scalar_refused : (text : List ℕ) → None ≡ told_token value_kind (scalar_at text) → scalar_at text ≡ None
-scalar_refused text told = untold value_kind (scalar_at text) told

@@ -44,9 +44,6 @@ pub record Reaches (text : List ℕ) (nodes : List Node) (total : Option (List S
   pub holds : Holds text nodes spots
   pub same : total ≡ reached spots table left shape taken
 
-pub reaches_start : {text : List ℕ} (nodes : List Node) (spots : List Spot) (table : ℕ) (names : List (List ℕ)) (shape : Shape) (taken : Taken) → Holds text nodes spots → Reaches text nodes (reached spots table names shape taken) table names shape taken
-reaches_start nodes spots table names shape taken holds = record { spots = spots; holds = holds; same = refl }
-
 pub reached_more : (spots : List Spot) (t : ℕ) (name : List ℕ) (names : List (List ℕ)) (shape : Shape) (taken : Taken) → reached spots t (name ∷ names) shape taken ≡ (asserted spots t name shape taken None >>= λ r. reached r.0 r.1 names shape taken)
 unfolding reached
 reached_more spots t name names shape taken = refl

@@ -65,9 +65,6 @@ pub not_root : (p : Place) (s : Step) → at p s ≡ [] → ⊥
 not_root [] s e = cc
 not_root (x ∷ p) s e = cc
 
-pub key_same : (a b : List ℕ) → key a ≡ key b → a ≡ b
-key_same a b e = cc
-
 -- a place is not the one below it
 pub not_below : (p : Place) (s : Step) → at p s ≡ p → ⊥
 not_below [] s e = cc

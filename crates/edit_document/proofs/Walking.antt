@@ -77,9 +77,6 @@ settles text walk st number front shape taken span name spots table r n reach ts
 pub entered_is : (st : State) (shape : Shape) (span : Option Span) (number : ℕ) (name : List ℕ) → last_of st.tables ≡ Some number → st.name ≡ Some name → entered_at st shape span ≡ settled st number Dotted shape Value span
 entered_is st shape span number name t n = ap (λ (o : Option ℕ). o >>= λ k. entered_below st.name st k shape span) t ∙ ap (λ (o : Option (List ℕ)). entered_below o st number shape span) n
 
-pub unentered : (st : State) (shape : Shape) (span : Option Span) → last_of st.tables ≡ None → entered_at st shape span ≡ None
-unentered st shape span t = ap (λ (o : Option ℕ). o >>= λ k. entered_below st.name st k shape span) t
-
 abbrev spots_of_state : State → List Spot × ℕ → Option (State × ℕ)
 spots_of_state st q = Some (record st { spots = q.0 }, q.1)
 

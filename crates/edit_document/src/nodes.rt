@@ -137,6 +137,18 @@ fn number_among(text: &str, members: &[Member], name: &str) -> Option<usize>
     None
 }
 
+/// Adds a member: the first takes no more room than it needs, since many tables have one alone.
+fn push_exact(list: &mut Vec<Member>, member: Member) -> CargoResult<()>
+    ensures items { IfOk result (λ _. list.new.items ≡ list.old.items ++ member ∷ []) }
+    ensures refused { IfErr result IsMemory }
+{
+    if list.is_empty() {
+        list.reserve_exact(1)?;
+    }
+    list.push(member)?;
+    Ok(())
+}
+
 impl Members {
     pub(crate) fn none(alloc: Global) -> Members
         ensures empty { (text : List ℕ) → entries_of text result ≡ [] }
@@ -199,7 +211,7 @@ impl Members {
             let copy = String::from_str(alloc, words_in(text, &name))?;
             self.others.insert(alloc, copy, number)?;
         }
-        self.list.push(Member { name, number })?;
+        push_exact(&mut self.list, Member { name, number })?;
         Ok(())
     }
 }
