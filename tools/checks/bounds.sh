@@ -1,6 +1,6 @@
 #!/usr/bin/env bash
-# bounds.sh PROGRAM   a manifest that was made to take much memory takes at most 40 times its length, and as much again
-# while its tables grow: each line is a header of 80 parts of its own.
+# bounds.sh PROGRAM   a manifest that was made to take much memory is read in 128 MB: 1 MB of headers of 80 parts, each of
+# which makes 80 new places. (`bench/document.py` says how many times its length a text takes.)
 set -eu -o pipefail
 program=$1
 room=$(mktemp -d)
@@ -17,7 +17,6 @@ within() { # what it is, seconds, kilobytes
   fi
 }
 
-# 80 new places in each line: 1 MB, for which at most 40 times its length is wanted, and as much again while tables grow
 awk 'BEGIN { rest = ""; for (i = 0; i < 79; i++) rest = rest ".a"; for (i = 0; i < 6060; i++) printf "[%04d%s]\n", i, rest }' \
   > "$room/Cargo.toml"
-within '6,060 headers of 80 parts' 10 98304
+within '6,060 headers of 80 parts' 10 131072
