@@ -137,8 +137,8 @@ AreDistinct (e ∷ es) = AllByRecursion (λ f. same_place e.0 f.0 ≡ false) es 
 abbrev pub AreOutside : Edits → Type 0
 AreOutside edits = AllByRecursion (λ e. is_below_any edits e.0 ≡ false) edits
 
--- the new bytes are the old document with the texts written at the places: only the literals differ, and the tree has these
--- strings there, nothing below them, and is else the old one
+-- the new bytes are the old document with the texts written at the places: only the literals differ, and
+-- the tree has these strings there, nothing below them, and is else the old one
 pub record Replaces (edits : Edits) (old new : List ℕ) : Type 0 where
   pub form : Text
   pub was : IsManifest old form

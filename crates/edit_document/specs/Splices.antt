@@ -41,7 +41,8 @@ AreRanges form [] (r ∷ rs) = ⊥
 AreRanges form (e ∷ es) [] = ⊥
 AreRanges form (e ∷ es) (r ∷ rs) = IsRangeFor form e r × AreRanges form es rs
 
--- the ranges of edits at distinct places of a document, at each of which a value stands, and none of which lies below another
+-- the ranges of edits at distinct places of a document, at each of which a value stands, and none of which
+-- lies below another
 pub record Locates (whole : List ℕ) (form : Text) (edits : Edits) (ranges : List Range) : Type 0 where
   pub document : IsDocument whole form
   pub values : AreValues edits form

@@ -199,8 +199,8 @@ impl Document {
         Some(number)
     }
 
-    /// For proofs: the text is a document, and shows the tree of each form that it has. It does nothing, and a
-    /// caller that is lent a document calls it to know these two.
+    /// For proofs: the text is a document, and shows the tree of each form that it has. It does nothing,
+    /// and a caller that is lent a document calls it to know these two.
     pub fn has_form(&self)
         ensures some { (form : Text) × IsManifest self.now.bytes form }
         ensures shows { (form : Text) → IsManifest self.now.bytes form → ShowsTree self.now form }

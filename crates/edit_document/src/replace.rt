@@ -49,7 +49,8 @@ pub(crate) fn splice_unordered(
     rewrites: &mut [Rewrite<'_>],
 ) -> CargoResult<String>
     requires { (form : Text) × (edits : Edits) × Locates source.now form edits (map range_of rewrites.old) }
-    ensures text { (form : Text) → (edits : Edits) → Locates source.now form edits (map range_of rewrites.old)
+    ensures text { (form : Text) → (edits : Edits)
+        → Locates source.now form edits (map range_of rewrites.old)
         → IfOk result (λ s. string_bytes s ≡ text_of (replaced edits form)) }
     ensures refused { IfErr result IsMemory }
 {
@@ -60,14 +61,16 @@ pub(crate) fn splice_unordered(
 impl Document {
     /// Whether a value stands at a place: it was written behind an equals sign or as an array's element.
     pub fn is_value(&self, place: &[Step]) -> bool
-        ensures { (form : Text) → IsManifest self.now.bytes form → result ≡ is_value_at form (place_seen place.now) }
+        ensures { (form : Text) → IsManifest self.now.bytes form
+            → result ≡ is_value_at form (place_seen place.now) }
     {
         self.value_range(place).is_some()
     }
 
     /// The rewrite of the value at a place.
     fn rewrite_of<'a>(&self, place: &[Step], text: &'a str) -> Rewrite<'a>
-        requires { (form : Text) → IsManifest self.now.bytes form → is_value_at form (place_seen place.now) ≡ true }
+        requires { (form : Text) → IsManifest self.now.bytes form
+            → is_value_at form (place_seen place.now) ≡ true }
         ensures { (form : Text) → IsManifest self.now.bytes form
             → IsRangeFor form (record { 0 = place_seen place.now; 1 = text.now }) (range_of result) }
     {
@@ -85,10 +88,12 @@ impl Document {
         place: &[Step],
         text: &str,
     ) -> CargoResult<String>
-        requires is_value { (form : Text) → IsManifest self.now.bytes form → is_value_at form (place_seen place.now) ≡ true }
+        requires is_value { (form : Text) → IsManifest self.now.bytes form
+            → is_value_at form (place_seen place.now) ≡ true }
         ensures bytes { IfOk result (λ s. (form : Text) → IsManifest self.now.bytes form
             → string_bytes s ≡ text_of (replaced (one_edit (place_seen place.now) text.now) form)) }
-        ensures replaces { IfOk result (λ s. Replaces (one_edit (place_seen place.now) text.now) self.now.bytes (string_bytes s)) }
+        ensures replaces { IfOk result (λ s.
+            Replaces (one_edit (place_seen place.now) text.now) self.now.bytes (string_bytes s)) }
         ensures refused { IfErr result IsMemory }
     {
         self.has_form();
@@ -98,17 +103,20 @@ impl Document {
         }
     }
 
-    /// The document's text with the literals of other texts in the place of values. The places may come in any
-    /// order; what is inside a value goes with it, so none of the places lies inside another.
+    /// The document's text with the literals of other texts in the place of values. The places may come in
+    /// any order; what is inside a value goes with it, so none of the places lies inside another.
     pub fn with_literals(&self, alloc: Global, edits: &[(Place, String)]) -> CargoResult<String>
-        requires values { (form : Text) → IsManifest self.now.bytes form → AreValues (edits_seen edits.now) form }
+        requires values { (form : Text) → IsManifest self.now.bytes form
+            → AreValues (edits_seen edits.now) form }
         requires distinct { AreDistinct (edits_seen edits.now) }
         requires outside { AreOutside (edits_seen edits.now) }
         ensures bytes { IfOk result (λ s. (form : Text) → IsManifest self.now.bytes form
             → string_bytes s ≡ text_of (replaced (edits_seen edits.now) form)) }
-        ensures replaces { IfOk result (λ s. Replaces (edits_seen edits.now) self.now.bytes (string_bytes s)) }
+        ensures replaces { IfOk result (λ s.
+            Replaces (edits_seen edits.now) self.now.bytes (string_bytes s)) }
         ensures tree { IfOk result (λ s. (form : Text) → IsManifest (string_bytes s) form → (at : PlaceSeen)
-            → let edits = edits_seen edits.now in view_at form at ≡ written edits (emptied edits (tree_of self.now)) at) }
+            → let edits = edits_seen edits.now in
+            view_at form at ≡ written edits (emptied edits (tree_of self.now)) at) }
         ensures refused { IfErr result IsMemory }
     {
         self.has_form();
@@ -121,9 +129,12 @@ impl Document {
 
     /// Writes the literal of a text in the place of a value. After a refusal the document is as it was.
     pub fn set_literal(&mut self, alloc: Global, place: &[Step], text: &str) -> CargoResult<()>
-        requires is_value { (form : Text) → IsManifest self.old.bytes form → is_value_at form (place_seen place.now) ≡ true }
-        ensures bytes { IfOk result (λ _. Replaces (one_edit (place_seen place.now) text.now) self.old.bytes self.new.bytes) }
-        ensures tree { IfOk result (λ _. (at : PlaceSeen) → let edit = one_edit (place_seen place.now) text.now in
+        requires is_value { (form : Text) → IsManifest self.old.bytes form
+            → is_value_at form (place_seen place.now) ≡ true }
+        ensures bytes { IfOk result (λ _.
+            Replaces (one_edit (place_seen place.now) text.now) self.old.bytes self.new.bytes) }
+        ensures tree { IfOk result (λ _. (at : PlaceSeen)
+            → let edit = one_edit (place_seen place.now) text.now in
             tree_of self.new at ≡ written edit (emptied edit (tree_of self.old)) at) }
         ensures err { IfErr result (λ _. self.new ≡ self.old) }
         ensures refused { IfErr result IsMemory }

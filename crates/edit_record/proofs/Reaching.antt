@@ -9,7 +9,7 @@ use Rattle.std.proofs.lemmas.List.Elements.{All-head, All-tail}
 use Rattle.edit_record.specs.Laws.{HasThreeNumbers}
 use Rattle.std.specs.Cmp.Lexicographic.{nat_list_eq_equiv, pointwise}
 use Rattle.std.specs.List.{AllByRecursion, list_all, list_any}
-use Rattle.std.proofs.lemmas.Bool.{cases_Bool, eq-eqb, eqb-true}
+use Rattle.std.proofs.lemmas.Bool.{cases_Bool, eq-eqb, eqb-true, or_left, or_right}
 use Rattle.std.proofs.lemmas.List.{nil_from_length}
 use Rattle.semver.specs.Parse.{Held, Parts}
 use Rattle.semver.specs.declared.Op.{Op}
@@ -112,21 +112,14 @@ named-self v c s m p filled =
     both _ _ (both _ _ (both _ _ (equal-self v.0) (given-self c.2 v.1 m)) patch)
     (not-true _ (subst (λ (x : List ℕ). (length x == 0) ≡ false) (sym e) filled))
 
-or-left : (x y : Bool) → x ≡ true → (x || y) ≡ true
-or-left x y h = rw h refl
-
-or-right : (x y : Bool) → y ≡ true → (x || y) ≡ true
-or-right true y h = refl
-or-right false y h = h
-
 keeps-any : (v : Parts) (cs : List Held) → AllByRecursion IsShaped cs → (length v.3 == 0) ≡ false → list_any (λ c. names_pre c v) cs ≡ true
     → list_any (λ c. names_pre c v) (map tidy (map (raised v) cs)) ≡ true
 keeps-any v [] s filled h = cc h
 keeps-any v (c ∷ cs) s filled h = elim (or-cases (names_pre c v) _ h) [
   | inl here ↦
       let h1 = left_of _ _ here in
-      or-left _ _ (named-self v c s.0 (some-given c.2 v.1 (right_of _ _ (left_of _ _ h1))) (some-given c.3 v.2 (right_of _ _ h1)) filled)
-  | inr later ↦ or-right _ _ (keeps-any v cs s.1 filled later)
+      or_left _ _ (named-self v c s.0 (some-given c.2 v.1 (right_of _ _ (left_of _ _ h1))) (some-given c.3 v.2 (right_of _ _ h1)) filled)
+  | inr later ↦ or_right _ _ (keeps-any v cs s.1 filled later)
 ]
 
 keeps-allowed : (v : Parts) (cs : List Held) → AllByRecursion IsShaped cs → is_allowed cs v ≡ true → is_allowed (map tidy (map (raised v) cs)) v ≡ true
@@ -177,7 +170,7 @@ pub reaches-plain : (v : Parts) (cs : List Held) → AllByRecursion IsShaped cs 
     → v.3 ≡ [] → admits (map tidy (map (raised v) cs)) v ≡ true
 reaches-plain v cs s n h =
     let plain : (length v.3 == 0) ≡ true = rw h refl in
-    both _ _ (reaches-all v cs s n (plain-reaches v cs h)) (or-left _ _ plain)
+    both _ _ (reaches-all v cs s n (plain-reaches v cs h)) (or_left _ _ plain)
 
 three-reaches : (v : Parts) (cs : List Held) → All HasThreeNumbers cs → AllByRecursion (Reaches v) cs
 three-reaches v [] h = tt
@@ -192,6 +185,6 @@ reaches-three v c cs s n h =
     let first = All-head HasThreeNumbers c cs h in
     both _ _ (reaches-all v (c ∷ cs) s n (three-reaches v (c ∷ cs) h))
     (elim (cases_Bool (length v.3 == 0)) [
-      | inl plain ↦ or-left _ _ plain
-      | inr filled ↦ or-right _ _ (or-left _ _ (named-self v c s.0 first.0 first.1 filled))
+      | inl plain ↦ or_left _ _ plain
+      | inr filled ↦ or_right _ _ (or_left _ _ (named-self v c s.0 first.0 first.1 filled))
     ])
