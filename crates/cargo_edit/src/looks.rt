@@ -45,9 +45,12 @@ fn fetch_one<I: Index>(
         ⊎ I.gives (index_of index.old) registry.now name.now (Ok a))) }
     ensures others { (a n : List ℕ) → (bytes_eq (serialize registry.now) a && bytes_eq name.now n) ≡ false
         → kept_by index.new a n ≡ kept_by index.old a n }
-    ensures left { Leaves (IsAt (serialize registry.now) name.now) (I.gives (index_of index.old)) (I.gives (index_of index.new))
-        (I.faults (index_of index.old)) (I.faults (index_of index.new)) (kept_by index.old) (kept_by index.new) }
-    ensures refused { IfErr result (λ e. IsMemory e ⊎ ((kept_by index.old (serialize registry.now) name.now ≡ None)
+    ensures left { Leaves (IsAt (serialize registry.now) name.now)
+        (I.gives (index_of index.old)) (I.gives (index_of index.new))
+        (I.faults (index_of index.old)) (I.faults (index_of index.new))
+        (kept_by index.old) (kept_by index.new) }
+    ensures refused { IfErr result
+        (λ e. IsMemory e ⊎ ((kept_by index.old (serialize registry.now) name.now ≡ None)
         × IsRefusedAt (I.gives (index_of index.old)) registry.now name.now
         (I.faults (index_of index.old)) (I.faults (index_of index.new)) e)) }
 {
@@ -65,7 +68,8 @@ fn look_of<I: Index>(
     ensures at { IfOk result (λ l. serialize l.registry ≡ serialize registry.now) }
     ensures same { IfOk result (λ l. l.registry ≡ registry.now) }
     ensures name { IfOk result (λ l. string_bytes l.name ≡ name.now) }
-    ensures kept { IfOk result (λ l. kept_by index.now (serialize registry.now) name.now ≡ Some (answer_of l.answer)) }
+    ensures kept { IfOk result
+        (λ l. kept_by index.now (serialize registry.now) name.now ≡ Some (answer_of l.answer)) }
     ensures refused { IfErr result IsMemory }
 {
     let answer = copied_answer(alloc, index.shown(registry, name))?;
@@ -85,9 +89,12 @@ fn one_look<I: Index>(
 ) -> CargoResult<Look>
     ensures look { IfOk result (IsLook (serialize registry.now) name.now (I.gives (index_of index.old))
         (kept_by index.old) (kept_by index.new)) }
-    ensures left { Leaves (IsAt (serialize registry.now) name.now) (I.gives (index_of index.old)) (I.gives (index_of index.new))
-        (I.faults (index_of index.old)) (I.faults (index_of index.new)) (kept_by index.old) (kept_by index.new) }
-    ensures refused { IfErr result (λ e. IsMemory e ⊎ ((kept_by index.old (serialize registry.now) name.now ≡ None)
+    ensures left { Leaves (IsAt (serialize registry.now) name.now)
+        (I.gives (index_of index.old)) (I.gives (index_of index.new))
+        (I.faults (index_of index.old)) (I.faults (index_of index.new))
+        (kept_by index.old) (kept_by index.new) }
+    ensures refused { IfErr result
+        (λ e. IsMemory e ⊎ ((kept_by index.old (serialize registry.now) name.now ≡ None)
         × IsRefusedAt (I.gives (index_of index.old)) registry.now name.now
         (I.faults (index_of index.old)) (I.faults (index_of index.new)) e)) }
 {
@@ -102,12 +109,15 @@ pub(crate) fn look_up<I: Index>(
     entries: &[Entry],
     index: &mut IndexCache<I>,
 ) -> CargoResult<Vec<Look>>
-    ensures looked { IfOk result (λ looks. Looked (serialize registry.now) (I.gives (index_of index.old)) (kept_by index.old)
+    ensures looked { IfOk result
+        (λ looks. Looked (serialize registry.now) (I.gives (index_of index.old)) (kept_by index.old)
         (map name_of entries.now) looks.items (kept_by index.new)) }
-    ensures left { Leaves (IsAmong (serialize registry.now) (map name_of entries.now)) (I.gives (index_of index.old))
+    ensures left { Leaves (IsAmong (serialize registry.now) (map name_of entries.now))
+        (I.gives (index_of index.old))
         (I.gives (index_of index.new)) (I.faults (index_of index.old)) (I.faults (index_of index.new))
         (kept_by index.old) (kept_by index.new) }
-    ensures refused { IfErr result (λ e. IsMemory e ⊎ IsFailedLook registry.now (I.gives (index_of index.old))
+    ensures refused { IfErr result
+        (λ e. IsMemory e ⊎ IsFailedLook registry.now (I.gives (index_of index.old))
         (kept_by index.old) (kept_by index.new) (map name_of entries.now)
         (I.faults (index_of index.old)) (I.faults (index_of index.new)) e) }
 {

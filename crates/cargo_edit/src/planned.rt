@@ -62,16 +62,18 @@ fn plan_entries<I: Index>(
     requires some { entries.items ≡ [] → ⊥ }
     ensures same { IfOk result (λ p. p.entries ≡ entries) }
     ensures long { IfOk result (λ p. length p.rows.items ≡ length entries.items) }
-    ensures rows { IfOk result (λ p. HasRows (setting_of number options.now input.now configs.now p.looks.items)
+    ensures rows { IfOk result
+        (λ p. HasRows (setting_of number options.now input.now configs.now p.looks.items)
         input.now.bytes.items (map line_of p.rows.items)) }
-    ensures looks { IfOk result (λ p. AreLooks (IsNeededBy configs.now input.now.bytes.items) (I.gives (index_of index.old))
+    ensures looks { IfOk result
+        (λ p. AreLooks (IsNeededBy configs.now input.now.bytes.items) (I.gives (index_of index.old))
         (kept_by index.old) (kept_by index.new) p.looks.items) }
     ensures left { Leaves (IsNeededBy configs.now input.now.bytes.items) (I.gives (index_of index.old))
         (I.gives (index_of index.new)) (I.faults (index_of index.old)) (I.faults (index_of index.new))
         (kept_by index.old) (kept_by index.new) }
     ensures refused { IfErr result (λ e. IsMemory e ⊎ HasBadEntry configs.now (I.gives (index_of index.old))
-        (kept_by index.old) (kept_by index.new) (I.faults (index_of index.old)) (I.faults (index_of index.new))
-        input.now.bytes.items e) }
+        (kept_by index.old) (kept_by index.new)
+        (I.faults (index_of index.old)) (I.faults (index_of index.new)) input.now.bytes.items e) }
 {
     let registry = resolve(alloc, configs, None)?;
     let looks = look_up(alloc, &registry, &entries, index)?;
@@ -104,16 +106,18 @@ pub(crate) fn plan_input<I: Index>(
 ) -> CargoResult<Planned>
     requires { document.now.bytes ≡ input.now.bytes.items }
     ensures shown { IfOk result (IsShown input.now.bytes.items document.now) }
-    ensures rows { IfOk result (λ p. HasRows (setting_of number options.now input.now configs.now p.looks.items)
+    ensures rows { IfOk result
+        (λ p. HasRows (setting_of number options.now input.now configs.now p.looks.items)
         input.now.bytes.items (map line_of p.rows.items)) }
-    ensures looks { IfOk result (λ p. AreLooks (IsNeededBy configs.now input.now.bytes.items) (I.gives (index_of index.old))
+    ensures looks { IfOk result
+        (λ p. AreLooks (IsNeededBy configs.now input.now.bytes.items) (I.gives (index_of index.old))
         (kept_by index.old) (kept_by index.new) p.looks.items) }
     ensures left { Leaves (IsNeededBy configs.now input.now.bytes.items) (I.gives (index_of index.old))
         (I.gives (index_of index.new)) (I.faults (index_of index.old)) (I.faults (index_of index.new))
         (kept_by index.old) (kept_by index.new) }
     ensures refused { IfErr result (λ e. IsMemory e ⊎ HasBadEntry configs.now (I.gives (index_of index.old))
-        (kept_by index.old) (kept_by index.new) (I.faults (index_of index.old)) (I.faults (index_of index.new))
-        input.now.bytes.items e) }
+        (kept_by index.old) (kept_by index.new)
+        (I.faults (index_of index.old)) (I.faults (index_of index.new)) input.now.bytes.items e) }
 {
     document.has_form();
     let entries = seen_entries(alloc, document)?;
