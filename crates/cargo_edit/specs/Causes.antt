@@ -17,24 +17,31 @@ use Rattle.cargo_edit.specs.Records.{Seen, seen}
 use Rattle.cargo_edit.specs.Upgraded.{Needs}
 use Rattle.cargo_edit.specs.declared.upgrade.Input.{Input}
 
--- the bytes are not UTF-8, or they are and no form makes them a manifest; or memory ran out on bytes that are UTF-8
+-- the bytes are not UTF-8, or they are and no form makes them a manifest; or memory ran out on bytes that
+-- are UTF-8
 abbrev pub IsBadManifest : List ℕ → Error → Type 0
 IsBadManifest bytes e =
     ((number_of e ≡ 2) × (IsUtf8 bytes → ⊥))
-    ⊎ (((number_of e ≡ 1) × IsUtf8 bytes × ((form : Text) → IsManifest bytes form → ⊥)) ⊎ (IsMemory e × IsUtf8 bytes))
+    ⊎ (((number_of e ≡ 1) × IsUtf8 bytes × ((form : Text) → IsManifest bytes form → ⊥))
+    ⊎ (IsMemory e × IsUtf8 bytes))
 
 -- an entry at which a plan goes on: the answer to each look that it needs is kept
 abbrev pub IsPassed : List Config → Kept → Seen → Type 0
-IsPassed configs new e = (address : url.Parts) (name : List ℕ) → Needs configs e address name → IsSome (new (serialize address) name)
+IsPassed configs new e = (address : url.Parts) (name : List ℕ) → Needs configs e address name
+    → IsSome (new (serialize address) name)
 
--- why an entry stops a plan: its registry has no address, or the look that it needs is refused and no answer was kept
-pub data StopsAt (configs : List Config) (gives : Outcomes) (old : Kept) (before now : ℕ) (e : Seen) (error : Error) : Type 0 where
+-- why an entry stops a plan: its registry has no address, or the look that it needs is refused and no answer
+-- was kept
+pub data StopsAt (configs : List Config) (gives : Outcomes) (old : Kept) (before now : ℕ) (e : Seen)
+    (error : Error) : Type 0 where
   no_address : HasNoUrl configs None error → StopsAt configs gives old before now e error
-  no_answer : (address : url.Parts) (name : List ℕ) → Needs configs e address name → old (serialize address) name ≡ None
+  no_answer : (address : url.Parts) (name : List ℕ) → Needs configs e address name
+      → old (serialize address) name ≡ None
       → IsRefusedAt gives address name before now error → StopsAt configs gives old before now e error
 
 -- the first entry that stops a plan
-pub record StopsFirst (configs : List Config) (gives : Outcomes) (old new : Kept) (before now : ℕ) (es : List Seen) (error : Error) : Type 0 where
+pub record StopsFirst (configs : List Config) (gives : Outcomes) (old new : Kept) (before now : ℕ)
+    (es : List Seen) (error : Error) : Type 0 where
   pub front : List Seen
   pub entry : Seen
   pub rest : List Seen
@@ -43,7 +50,8 @@ pub record StopsFirst (configs : List Config) (gives : Outcomes) (old new : Kept
   pub stops : StopsAt configs gives old before now entry error
 
 -- the first seen entry of the manifest that stops a plan
-pub record HasBadEntry (configs : List Config) (gives : Outcomes) (old new : Kept) (before now : ℕ) (bytes : List ℕ) (error : Error) : Type 0 where
+pub record HasBadEntry (configs : List Config) (gives : Outcomes) (old new : Kept) (before now : ℕ)
+    (bytes : List ℕ) (error : Error) : Type 0 where
   pub form : Text
   pub manifest : IsManifest bytes form
   pub stops : StopsFirst configs gives old new before now (seen (view_at form)) error
@@ -55,21 +63,28 @@ pub record InputPasses (configs : List Config) (new : Kept) (input : Input) : Ty
   pub passed : All (IsPassed configs new) (seen (view_at form))
 
 -- the first of the inputs at which a plan does not go on, for this reason
-pub record FirstInput (inputs : List Input) (configs : List (Vec Config)) (new : Kept) (Stops : List Config → List ℕ → Type 0) : Type 0 where
+pub record FirstInput (inputs : List Input) (configs : List (Vec Config)) (new : Kept)
+    (Stops : List Config → List ℕ → Type 0) : Type 0 where
   pub i : ℕ
   pub input : Input
   pub own : Vec Config
   pub at : slice_get inputs i ≡ Some input
   pub configured : slice_get configs i ≡ Some own
-  pub passed : (j : ℕ) → j < i → IfSome (slice_get inputs j) (λ earlier. IfSome (slice_get configs j) (λ c. InputPasses c.items new earlier))
+  pub passed : (j : ℕ) → j < i
+      → IfSome (slice_get inputs j)
+      (λ earlier. IfSome (slice_get configs j) (λ c. InputPasses c.items new earlier))
   pub stops : Stops own.items input.bytes.items
 
--- why a plan over manifests that were read is refused: want of memory, or the first input with an entry that stops it
+-- why a plan over manifests that were read is refused: want of memory, or the first input with an entry that
+-- stops it
 abbrev pub IsEntryCause : List Input → List (Vec Config) → Outcomes → Kept → Kept → ℕ → ℕ → Error → Type 0
 IsEntryCause inputs configs gives old new before now e =
-    IsMemory e ⊎ FirstInput inputs configs new (λ own bytes. HasBadEntry own gives old new before now bytes e)
+    IsMemory e
+    ⊎ FirstInput inputs configs new (λ own bytes. HasBadEntry own gives old new before now bytes e)
 
--- why a plan is refused: the first input whose bytes are no manifest, or else with an entry that stops the plan
+-- why a plan is refused: the first input whose bytes are no manifest, or else with an entry that stops the
+-- plan
 abbrev pub IsCause : List Input → List (Vec Config) → Outcomes → Kept → Kept → ℕ → ℕ → Error → Type 0
 IsCause inputs configs gives old new before now e =
-    FirstInput inputs configs new (λ own bytes. IsBadManifest bytes e ⊎ HasBadEntry own gives old new before now bytes e)
+    FirstInput inputs configs new
+    (λ own bytes. IsBadManifest bytes e ⊎ HasBadEntry own gives old new before now bytes e)

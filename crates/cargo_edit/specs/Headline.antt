@@ -1,4 +1,5 @@
--- What holds of every plan: what a change leaves of a requirement, which version it reaches, and that planning again changes nothing.
+-- What holds of every plan: what a change leaves of a requirement, which version it reaches, and that
+-- planning again changes nothing.
 use Rattle.std.specs.Prelude.{◌≡◌, ◌↔◌, ℕ, List, [], ◌∷◌, All, Option, Some, None, Ok, IsOk, IsSome, IsTrue, length}
 use Rattle.std.specs.Ordering.{is_ge}
 use Rattle.semver.specs.Parse.{Parts, req_of, version_parts}
@@ -28,39 +29,49 @@ abbrev pub IsVersionTold : Option (List ℕ) → Parts → Type 0
 IsVersionTold None v = ⊥
 IsVersionTold (Some text) v = version_parts text ≡ Ok v
 
--- where the change is Compatible, the new requirement is read, and every version that it admits the old one admitted (own)
+-- where the change is Compatible, the new requirement is read, and every version that it admits the old one
+-- admitted (own)
 abbrev pub Narrows : Line → Type 0
-Narrows line = line.change ≡ Some change.Compatible → IsRead line.new × ((v : Parts) → IsAdmittedBy line.new v → IsAdmittedBy line.old v)
+Narrows line = line.change ≡ Some change.Compatible → IsRead line.new
+    × ((v : Parts) → IsAdmittedBy line.new v → IsAdmittedBy line.old v)
 
--- where the change is Compatible, the new requirement admits the compatible version; where it is Latest, it admits the latest one, if that has no pre-release (own)
+-- where the change is Compatible, the new requirement admits the compatible version; where it is Latest, it
+-- admits the latest one, if that has no pre-release (own)
 pub record Reaches (line : Line) : Type 0 where
-  pub compatible : line.change ≡ Some change.Compatible → (v : Parts) × IsVersionTold line.compatible v × IsAdmittedBy line.new v
-  pub latest : line.change ≡ Some change.Latest → (v : Parts) × IsVersionTold line.latest v × (length v.3 ≡ 0 → IsAdmittedBy line.new v)
+  pub compatible : line.change ≡ Some change.Compatible → (v : Parts) × IsVersionTold line.compatible v
+      × IsAdmittedBy line.new v
+  pub latest : line.change ≡ Some change.Latest → (v : Parts) × IsVersionTold line.latest v
+      × (length v.3 ≡ 0 → IsAdmittedBy line.new v)
 
 -- where a compatible version is told, a latest one is told, and is not less (SemVer 2.0.0, item 11)
 abbrev pub LatestIsNotLess : Line → Type 0
 LatestIsNotLess line = IsSome line.compatible
-    → (u : Parts) × (v : Parts) × IsVersionTold line.compatible u × IsVersionTold line.latest v × IsTrue (is_ge (precedence v u))
+    → (u : Parts) × (v : Parts) × IsVersionTold line.compatible u × IsVersionTold line.latest v
+    × IsTrue (is_ge (precedence v u))
 
 -- a row without a change
 abbrev pub HasNoChange : Line → Type 0
 HasNoChange line = line.change ≡ None
 
--- the bytes that stand after a plan for a manifest: those of its output, or its own where there is none (own)
+-- the bytes that stand after a plan for a manifest: those of its output, or its own where there is none
+-- (own)
 abbrev pub bytes_after : List ℕ → List Output → List ℕ
 bytes_after bytes [] = bytes
 bytes_after bytes (output ∷ more) = output.bytes.items
 
--- planned in this setting the bytes stay: they have rows, and whatever rows they have, none of them has a change and there is no output (own)
+-- planned in this setting the bytes stay: they have rows, and whatever rows they have, none of them has a
+-- change and there is no output (own)
 pub record IsFixedPoint (s : Setting) (bytes : List ℕ) : Type 0 where
   pub lines : List Line
   pub rows : HasRows s bytes lines
   pub unchanged : (again : List Line) → HasRows s bytes again → All HasNoChange again
-  pub unwritten : (path : List ℕ) (again : List Line) (outputs : List Output) → HasRows s bytes again → HasOutputs path bytes again outputs → outputs ≡ []
+  pub unwritten : (path : List ℕ) (again : List Line) (outputs : List Output) → HasRows s bytes again
+      → HasOutputs path bytes again outputs → outputs ≡ []
 
 -- two manifests need looks at the same addresses for the same names (own)
 abbrev pub NeedSame : List Config → List ℕ → List ℕ → Type 0
-NeedSame configs bytes other = (address name : List ℕ) → IsNeededBy configs other address name ↔ IsNeededBy configs bytes address name
+NeedSame configs bytes other = (address name : List ℕ) → IsNeededBy configs other address name
+    ↔ IsNeededBy configs bytes address name
 
 -- the bytes of an input that stand after the plan
 abbrev pub left_of : Input → UpgradePlan → List ℕ

@@ -33,7 +33,8 @@ setting_of i o input configs looks = record {
 }
 
 -- the plan does this for each input, in its setting (own)
-abbrev pub EachInput : Options → List Input → List (Vec Config) → (Setting → Input → UpgradePlan → Type 0) → UpgradePlan → Type 0
+abbrev pub EachInput : Options → List Input → List (Vec Config) → (Setting → Input → UpgradePlan → Type 0)
+    → UpgradePlan → Type 0
 EachInput o inputs configs P p =
     (i : ℕ) → IfSome (slice_get inputs i) (λ input. IfSome (slice_get configs i)
     (λ own. P (setting_of i o input own.items p.looks.items) input p))
@@ -66,4 +67,5 @@ outputs_at path p = filter (λ output. bytes_eq (output_path output) path) p.out
 -- the outputs stand in the order of their inputs, and there is no other (own)
 abbrev pub OutputsInOrder : List Input → UpgradePlan → Type 0
 OutputsInOrder inputs p =
-    map output_path p.outputs.items ≡ filter (λ path. not (length (outputs_at path p) == 0)) (map path_of inputs)
+    map output_path p.outputs.items
+    ≡ filter (λ path. not (length (outputs_at path p) == 0)) (map path_of inputs)

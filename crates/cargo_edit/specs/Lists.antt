@@ -41,7 +41,8 @@ warning_view w = record { input = w.input; verbose = w.verbose; text = string_by
 
 -- what is told of an entry of this name whose requirement is not read
 abbrev pub unreadable_text : List ℕ → List ℕ → List ℕ
-unreadable_text name old = codes "keeping " ++ (name ++ (codes ", unreadable requirement `" ++ (old ++ codes "`")))
+unreadable_text name old =
+    codes "keeping " ++ (name ++ (codes ", unreadable requirement `" ++ (old ++ codes "`")))
 
 -- a requirement, where it is not read
 abbrev pub unread : List ℕ → Option (List ℕ)
@@ -60,7 +61,8 @@ abbrev pub warnings_of : List Line → List Told
 warnings_of lines = filter_map warning_of lines
 
 -- what a plan tells of its rows: the names of those with a change, each once in byte order; the unreadable
--- requirements in order; whether an entry was held back for being pinned, or for not admitting the version (own)
+-- requirements in order; whether an entry was held back for being pinned, or for not admitting the version
+-- (own)
 pub record Tells (p : UpgradePlan) : Type 0 where
   pub ordered : IsStrictlySortedBy string_cmp p.modified.items
   pub modified : (name : List ℕ) → list_any (bytes_eq name) (map string_bytes p.modified.items)

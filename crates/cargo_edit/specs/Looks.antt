@@ -28,7 +28,8 @@ kept_by c address name = option_map answer_of (kept_at c address name)
 
 -- the look was at this address for this name
 abbrev pub is_look_at : List ℕ → List ℕ → Look → Bool
-is_look_at address name look = bytes_eq (serialize look.registry) address && bytes_eq (string_bytes look.name) name
+is_look_at address name look =
+    bytes_eq (serialize look.registry) address && bytes_eq (string_bytes look.name) name
 
 -- the first look at an address for a name
 abbrev pub look_at : List Look → List ℕ → List ℕ → Option Look
@@ -41,24 +42,30 @@ versions_in rust other = []
 
 -- the versions that the looks tell of and that may be taken
 abbrev pub told : Option Numbers → List Look → List ℕ → List ℕ → List Parts
-told rust looks address name = versions_in rust (option_map (λ look. answer_of look.answer) (look_at looks address name))
+told rust looks address name =
+    versions_in rust (option_map (λ look. answer_of look.answer) (look_at looks address name))
 
 -- no two looks are at one address for one name
 abbrev pub AreApart : List Look → Type 0
 AreApart [] = ⊤
-AreApart (look ∷ looks) = (look_at looks (serialize look.registry) (string_bytes look.name) ≡ None) × AreApart looks
+AreApart (look ∷ looks) =
+    (look_at looks (serialize look.registry) (string_bytes look.name) ≡ None) × AreApart looks
 
--- the looks of a plan over the answers that were kept and are kept: each address and name that is needed and no
--- other, each once, with the answer that is kept now, which was kept before or is one that the index gives; the
--- other answers that are kept are those that were
-pub record AreLooks (Needed : List ℕ → List ℕ → Type 0) (gives : Outcomes) (old new : Kept) (looks : List Look) : Type 0 where
+-- the looks of a plan over the answers that were kept and are kept: each address and name that is needed and
+-- no other, each once, with the answer that is kept now, which was kept before or is one that the index
+-- gives; the other answers that are kept are those that were
+pub record AreLooks (Needed : List ℕ → List ℕ → Type 0) (gives : Outcomes) (old new : Kept)
+    (looks : List Look) : Type 0 where
   pub complete : (address name : List ℕ) → Needed address name → IsSome (look_at looks address name)
   pub needed : All (λ look. Needed (serialize look.registry) (string_bytes look.name)) looks
   pub once : AreApart looks
-  pub as_kept : All (λ look. new (serialize look.registry) (string_bytes look.name) ≡ Some (answer_of look.answer)) looks
-  pub given : All (λ look. (old (serialize look.registry) (string_bytes look.name) ≡ Some (answer_of look.answer))
+  pub as_kept : All
+      (λ look. new (serialize look.registry) (string_bytes look.name) ≡ Some (answer_of look.answer)) looks
+  pub given : All
+      (λ look. (old (serialize look.registry) (string_bytes look.name) ≡ Some (answer_of look.answer))
       ⊎ gives look.registry (string_bytes look.name) (Ok (answer_of look.answer))) looks
-  pub others : (address name : List ℕ) → look_at looks address name ≡ None → new address name ≡ old address name
+  pub others : (address name : List ℕ) → look_at looks address name ≡ None → new address name
+      ≡ old address name
 
 -- a look that the index answered so: at a registry of this address
 pub record IsGiven (gives : Outcomes) (address name : List ℕ) (answer : Answer) : Type 0 where
@@ -66,8 +73,8 @@ pub record IsGiven (gives : Outcomes) (address name : List ℕ) (answer : Answer
   pub at : serialize registry ≡ address
   pub given : gives registry name (Ok answer)
 
--- what a call leaves of the answers that are kept, also where it is refused: each one that was kept stays, and each new
--- one is needed and is one that the index gives (own)
+-- what a call leaves of the answers that are kept, also where it is refused: each one that was kept stays,
+-- and each new one is needed and is one that the index gives (own)
 pub record AddsNeeded (Needed : List ℕ → List ℕ → Type 0) (gives : Outcomes) (old new : Kept) : Type 0 where
   pub stays : (address name : List ℕ) → IsSome (old address name) → new address name ≡ old address name
   pub added : (address name : List ℕ) → old address name ≡ None
@@ -75,4 +82,8 @@ pub record AddsNeeded (Needed : List ℕ → List ℕ → Type 0) (gives : Outco
 
 -- what rows are decided by, where the versions are those of the answers that are kept for names
 abbrev pub kept_setting : ℕ → Options → Option Numbers → (List ℕ → Option Answer) → Basis
-kept_setting input o rust kept = record { input = input; options = o; versions = λ name. versions_in rust (kept name) }
+kept_setting input o rust kept = record {
+  input = input;
+  options = o;
+  versions = λ name. versions_in rust (kept name);
+}

@@ -10,16 +10,20 @@ use Rattle.cargo_edit.specs.Records.{seen}
 use Rattle.cargo_edit.specs.Rows.{Line, writes}
 use Rattle.cargo_edit.specs.declared.upgrade.Output.{Output}
 
--- something is written, and the new bytes are those of the document with these literals, and read back as its tree with these strings (own)
+-- something is written, and the new bytes are those of the document with these literals, and read back as
+-- its tree with these strings (own)
 pub record IsRewritten (d : Shown) (edits : Edits) (new : List ℕ) : Type 0 where
   pub some : edits ≢ []
   pub replaced : Replaces edits d.bytes new
-  pub read_back : (form : Text) → IsManifest new form → (place : Place) → view_at form place ≡ written edits (tree_of d) place
+  pub read_back : (form : Text) → IsManifest new form → (place : Place) → view_at form place
+      ≡ written edits (tree_of d) place
 
--- an input of which nothing is written has no output; else its one output has its path and the new bytes (own)
+-- an input of which nothing is written has no output; else its one output has its path and the new bytes
+-- (own)
 pub data AreOutputs (path bytes : List ℕ) (edits : Edits) : List Output → Type 0 where
   unchanged : edits ≡ [] → AreOutputs path bytes edits []
-  changed : (output : Output) → edits ≢ [] → string_bytes output.path ≡ path → Replaces edits bytes output.bytes.items
+  changed : (output : Output) → edits ≢ [] → string_bytes output.path ≡ path
+      → Replaces edits bytes output.bytes.items
       → AreOutputs path bytes edits (output ∷ [])
 
 -- the outputs of an input: what its rows write, each at the version literal of its entry (own)
@@ -31,4 +35,5 @@ pub record HasOutputs (path bytes : List ℕ) (lines : List Line) (outputs : Lis
 -- the one output, with this path and these bytes (own)
 abbrev pub IsOnlyOutput : List ℕ → List ℕ → List Output → Type 0
 IsOnlyOutput path bytes outputs =
-    (output : Output) × (outputs ≡ output ∷ []) × (string_bytes output.path ≡ path) × (output.bytes.items ≡ bytes)
+    (output : Output) × (outputs ≡ output ∷ []) × (string_bytes output.path ≡ path)
+    × (output.bytes.items ≡ bytes)

@@ -8,8 +8,8 @@ use Rattle.cargo_edit.specs.Found.{seen_of}
 use Rattle.cargo_edit.specs.Records.{Seen, seen}
 use Rattle.cargo_edit.specs.declared.planned.Planned.{Planned}
 
--- the document has these bytes, and shows the tree of their form; the entries are those that are seen in it, and each
--- has a row (own)
+-- the document has these bytes, and shows the tree of their form; the entries are those that are seen in it,
+-- and each has a row (own)
 pub record IsShown (bytes : List ℕ) (d : Shown) (p : Planned) : Type 0 where
   pub form : Text
   pub manifest : IsManifest bytes form

@@ -11,8 +11,8 @@ use Rattle.cargo_edit.specs.declared.upgrade.Change.{Change}
 use Rattle.cargo_edit.specs.declared.upgrade.Options.{Options}
 use Rattle.cargo_edit.specs.declared.upgrade.Reason.{Reason}
 
--- what rows are decided by: which input they are of, the options, and the versions that may be taken, by the crate's
--- name (own)
+-- what rows are decided by: which input they are of, the options, and the versions that may be taken, by the
+-- crate's name (own)
 pub record Basis : Type 0 where
   pub input : ℕ
   pub options : Options
@@ -58,7 +58,8 @@ line_for i e near far choice = record {
 }
 
 -- the row is what the decision gives over the greatest of the versions
-pub record IsDecided (input : ℕ) (options : Options) (versions : List Parts) (e : Seen) (line : Line) : Type 0 where
+pub record IsDecided (input : ℕ) (options : Options) (versions : List Parts) (e : Seen)
+    (line : Line) : Type 0 where
   pub near : Option Parts
   pub far : Option Parts
   pub compatible : IsCompatible e.old versions near

@@ -18,8 +18,8 @@ use Rattle.cargo_edit.specs.Rows.{IsDecided, Line}
 use Rattle.cargo_edit.specs.declared.upgrade.Input.{Input}
 use Rattle.cargo_edit.specs.declared.upgrade.UpgradePlan.{UpgradePlan}
 
--- the look that an entry needs: at the address of its registry, for its name; the entries that are seen so far name no
--- registry
+-- the look that an entry needs: at the address of its registry, for its name; the entries that are seen so
+-- far name no registry
 pub record Needs (configs : List Config) (e : Seen) (address : url.Parts) (name : List ℕ) : Type 0 where
   pub has : HasAddress configs None address
   pub named : e.name ≡ name
@@ -53,7 +53,8 @@ pub record IsNeededBy (configs : List Config) (bytes address name : List ℕ) : 
   pub at : address ≡ serialize registry
 
 -- one of the inputs needs this look
-pub record IsNeeded (inputs : List Input) (configs : List (Vec Config)) (address name : List ℕ) : Type 0 where
+pub record IsNeeded (inputs : List Input) (configs : List (Vec Config))
+    (address name : List ℕ) : Type 0 where
   pub i : ℕ
   pub input : Input
   pub own : Vec Config
@@ -67,4 +68,5 @@ HasItsRows s input p = HasRows s input.bytes.items (rows_of s.input p)
 
 -- the outputs of an input are what its rows write
 abbrev pub HasItsOutputs : Setting → Input → UpgradePlan → Type 0
-HasItsOutputs s input p = HasOutputs (path_of input) input.bytes.items (rows_of s.input p) (outputs_at (path_of input) p)
+HasItsOutputs s input p =
+    HasOutputs (path_of input) input.bytes.items (rows_of s.input p) (outputs_at (path_of input) p)

@@ -62,16 +62,28 @@ fn plan_entries<I: Index>(
     requires some { entries.items ≡ [] → ⊥ }
     ensures same { IfOk result (λ p. p.entries ≡ entries) }
     ensures long { IfOk result (λ p. length p.rows.items ≡ length entries.items) }
-    ensures rows { IfOk result (λ p. HasRows (setting_of number options.now input.now configs.now p.looks.items)
+    ensures rows { IfOk result
+        (λ p. HasRows (setting_of number options.now input.now configs.now p.looks.items)
         input.now.bytes.items (map line_of p.rows.items)) }
+<<<<<<< HEAD
     ensures looks { IfOk result (λ p. AreLooks (IsNeededBy configs.now input.now.bytes.items) (I.view (index_of index.old)).gives
+=======
+    ensures looks { IfOk result
+        (λ p. AreLooks (IsNeededBy configs.now input.now.bytes.items) (I.view (index_of index.old)).gives
+>>>>>>> 85a9c1d8899451ef94d21efdd53107c28be1b421
         (kept_by index.old) (kept_by index.new) p.looks.items) }
     ensures left { Leaves (IsNeededBy configs.now input.now.bytes.items) (I.view (index_of index.old)).gives
         (I.view (index_of index.new)).gives (I.view (index_of index.old)).faults (I.view (index_of index.new)).faults
         (kept_by index.old) (kept_by index.new) }
+<<<<<<< HEAD
     ensures refused { IfErr result (λ e. IsMemory e ⊎ HasBadEntry configs.now (I.view (index_of index.old)).gives
         (kept_by index.old) (kept_by index.new) (I.view (index_of index.old)).faults (I.view (index_of index.new)).faults
         input.now.bytes.items e) }
+=======
+    ensures refused { IfErr result (λ e. IsMemory e ⊎ HasBadEntry configs.now (I.view (index_of index.old)).gives
+        (kept_by index.old) (kept_by index.new)
+        (I.view (index_of index.old)).faults (I.view (index_of index.new)).faults input.now.bytes.items e) }
+>>>>>>> 85a9c1d8899451ef94d21efdd53107c28be1b421
 {
     let registry = resolve(alloc, configs, None)?;
     let looks = look_up(alloc, &registry, &entries, index)?;
@@ -104,16 +116,28 @@ pub(crate) fn plan_input<I: Index>(
 ) -> CargoResult<Planned>
     requires { document.now.bytes ≡ input.now.bytes.items }
     ensures shown { IfOk result (IsShown input.now.bytes.items document.now) }
-    ensures rows { IfOk result (λ p. HasRows (setting_of number options.now input.now configs.now p.looks.items)
+    ensures rows { IfOk result
+        (λ p. HasRows (setting_of number options.now input.now configs.now p.looks.items)
         input.now.bytes.items (map line_of p.rows.items)) }
+<<<<<<< HEAD
     ensures looks { IfOk result (λ p. AreLooks (IsNeededBy configs.now input.now.bytes.items) (I.view (index_of index.old)).gives
+=======
+    ensures looks { IfOk result
+        (λ p. AreLooks (IsNeededBy configs.now input.now.bytes.items) (I.view (index_of index.old)).gives
+>>>>>>> 85a9c1d8899451ef94d21efdd53107c28be1b421
         (kept_by index.old) (kept_by index.new) p.looks.items) }
     ensures left { Leaves (IsNeededBy configs.now input.now.bytes.items) (I.view (index_of index.old)).gives
         (I.view (index_of index.new)).gives (I.view (index_of index.old)).faults (I.view (index_of index.new)).faults
         (kept_by index.old) (kept_by index.new) }
+<<<<<<< HEAD
     ensures refused { IfErr result (λ e. IsMemory e ⊎ HasBadEntry configs.now (I.view (index_of index.old)).gives
         (kept_by index.old) (kept_by index.new) (I.view (index_of index.old)).faults (I.view (index_of index.new)).faults
         input.now.bytes.items e) }
+=======
+    ensures refused { IfErr result (λ e. IsMemory e ⊎ HasBadEntry configs.now (I.view (index_of index.old)).gives
+        (kept_by index.old) (kept_by index.new)
+        (I.view (index_of index.old)).faults (I.view (index_of index.new)).faults input.now.bytes.items e) }
+>>>>>>> 85a9c1d8899451ef94d21efdd53107c28be1b421
 {
     document.has_form();
     let entries = seen_entries(alloc, document)?;

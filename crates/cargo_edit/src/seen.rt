@@ -9,7 +9,7 @@ ghost use Rattle.edit_document.specs.Tree.{string};
 ghost use Rattle.edit_document.specs.Items.{is_tabular, names_in, place_seen, step_seen};
 ghost use Rattle.edit_record.specs.Requirement.{cut};
 ghost use Rattle.cargo_edit.specs.Entries.{dependencies, entry_place};
-ghost use Rattle.cargo_edit.specs.Found.{seen_of};
+ghost use Rattle.cargo_edit.specs.Found.{literal_place, seen_of};
 ghost use Rattle.cargo_edit.specs.Records.{is_known, seen, seen_at, seen_with, version_place};
 
 use edit_document::{CargoResult, Document, Item, Place, Step};
@@ -21,15 +21,16 @@ use std::alloc::Global;
 pub(crate) struct Entry {
     pub(crate) name: String,
     pub(crate) place: Place,
-    /// Where its version literal stands.
-    pub(crate) literal: Place,
+    /// Whether it is a table, so that its version literal stands at the member `version`.
+    pub(crate) tabled: bool,
     /// Its requirement, cut before the first `+`.
     pub(crate) old: String,
 }
 
 // The place of one more step.
 fn push_key(alloc: Global, place: &mut Place, name: &str) -> CargoResult<()>
-    ensures ok { IfOk result (λ _. place_seen place.new.items ≡ at (place_seen place.old.items) (key name.now)) }
+    ensures ok { IfOk result
+        (λ _. place_seen place.new.items ≡ at (place_seen place.old.items) (key name.now)) }
     ensures refused { IfErr result IsMemory }
 {
     let name = String::from_str(alloc, name)?;
@@ -57,16 +58,6 @@ fn entry_place(alloc: Global, name: &str) -> CargoResult<Place>
     Ok(place)
 }
 
-// The place of the requirement of an entry that is a table.
-fn version_place(alloc: Global, name: &str) -> CargoResult<Place>
-    ensures ok { IfOk result (λ p. place_seen p.items ≡ version_place (entry_place name.now)) }
-    ensures refused { IfErr result IsMemory }
-{
-    let mut place = entry_place(alloc, name)?;
-    push_key(alloc, &mut place, "version")?;
-    Ok(place)
-}
-
 // Whether a member keeps its entry seen.
 fn is_known(name: &str) -> bool
     ensures { result ≡ is_known name.now }
@@ -87,27 +78,22 @@ fn has_known_members(item: Item<'_>) -> bool
 
 // Whether an item is a table whose members are all known.
 fn is_plain_table(item: Item<'_>) -> bool
-    ensures { result ≡ (is_tabular (view_of item.entry) && list_all is_known (names_in (view_of item.entry))) }
+    ensures { result
+        ≡ (is_tabular (view_of item.entry) && list_all is_known (names_in (view_of item.entry))) }
 {
     item.is_table_like() && has_known_members(item)
 }
 
-// An entry with a requirement at a place.
-fn entry_with(
-    alloc: Global,
-    name: &str,
-    place: Place,
-    literal: Place,
-    text: &str,
-) -> CargoResult<Entry>
-    ensures ok { IfOk result (λ e. Some (seen_of e)
-        ≡ seen_with name.now (place_seen place.items) (place_seen literal.items) (Some (string text.now))) }
+// An entry with a requirement.
+fn entry_with(alloc: Global, name: &str, tabled: bool, text: &str) -> CargoResult<Entry>
+    ensures ok { IfOk result (λ e. Some (seen_of e) ≡ seen_with name.now (entry_place name.now)
+        (literal_place tabled (entry_place name.now)) (Some (string text.now))) }
     ensures refused { IfErr result IsMemory }
 {
     Ok(Entry {
         name: String::from_str(alloc, name)?,
-        place,
-        literal,
+        place: entry_place(alloc, name)?,
+        tabled,
         old: String::from_str(alloc, cut(text))?,
     })
 }
@@ -118,23 +104,20 @@ fn string_entry(alloc: Global, name: &str, text: &str) -> CargoResult<Entry>
         ≡ seen_with name.now (entry_place name.now) (entry_place name.now) (Some (string text.now))) }
     ensures refused { IfErr result IsMemory }
 {
-    let place = entry_place(alloc, name)?;
-    let literal = entry_place(alloc, name)?;
-    entry_with(alloc, name, place, literal, text)
+    entry_with(alloc, name, false, text)
 }
 
 // The entry of this name that is a table with this version.
 fn table_entry(alloc: Global, name: &str, version: Item<'_>) -> CargoResult<Option<Entry>>
     ensures ok { IfOk result (λ o. option_map seen_of o
-        ≡ seen_with name.now (entry_place name.now) (version_place (entry_place name.now)) (Some (view_of version.entry))) }
+        ≡ seen_with name.now (entry_place name.now) (version_place (entry_place name.now))
+        (Some (view_of version.entry))) }
     ensures refused { IfErr result IsMemory }
 {
     let Some(text) = version.as_str() else {
         return Ok(None);
     };
-    let place = entry_place(alloc, name)?;
-    let literal = version_place(alloc, name)?;
-    let entry = entry_with(alloc, name, place, literal, text)?;
+    let entry = entry_with(alloc, name, true, text)?;
     Ok(Some(entry))
 }
 
@@ -142,7 +125,8 @@ fn table_entry(alloc: Global, name: &str, version: Item<'_>) -> CargoResult<Opti
 fn seen_item(alloc: Global, item: Item<'_>, name: &str) -> CargoResult<Option<Entry>>
     requires place { place_of item ≡ entry_place name.now }
     requires shown { tree_of (document_of item) (entry_place name.now) ≡ Some (view_of item) }
-    ensures ok { IfOk result (λ o. option_map seen_of o ≡ seen_at (tree_of (document_of item.entry)) name.now) }
+    ensures ok { IfOk result
+        (λ o. option_map seen_of o ≡ seen_at (tree_of (document_of item.entry)) name.now) }
     ensures refused { IfErr result IsMemory }
 {
     match item.as_str() {
@@ -165,7 +149,8 @@ fn seen_item(alloc: Global, item: Item<'_>, name: &str) -> CargoResult<Option<En
 // The member of the table of dependencies, where it is seen.
 fn seen_member(alloc: Global, table: Item<'_>, name: &str) -> CargoResult<Option<Entry>>
     requires { place_of table ≡ dependencies }
-    ensures ok { IfOk result (λ o. option_map seen_of o ≡ seen_at (tree_of (document_of table.entry)) name.now) }
+    ensures ok { IfOk result
+        (λ o. option_map seen_of o ≡ seen_at (tree_of (document_of table.entry)) name.now) }
     ensures refused { IfErr result IsMemory }
 {
     match table.get(name) {
@@ -192,6 +177,19 @@ pub(crate) fn seen_entries(alloc: Global, document: &Document) -> CargoResult<Ve
         }
     }
     Ok(entries)
+}
+
+/// The place of the version literal of an entry.
+pub(crate) fn literal_of(alloc: Global, entry: &Entry) -> CargoResult<Place>
+    ensures ok { IfOk result (λ p. place_seen p.items ≡ (seen_of entry.now).literal) }
+    ensures refused { IfErr result IsMemory }
+{
+    let mut place = copied_place(alloc, &entry.place)?;
+    if entry.tabled {
+        push_key(alloc, &mut place, "version")?;
+        return Ok(place);
+    }
+    Ok(place)
 }
 
 // The same step, on memory of its own.

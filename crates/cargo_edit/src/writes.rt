@@ -11,7 +11,7 @@ ghost use Rattle.cargo_edit.specs.Lines.{line_of};
 ghost use Rattle.cargo_edit.specs.Records.{seen};
 ghost use Rattle.cargo_edit.specs.Rows.{with_write, write_at, writes};
 
-use crate::seen::{Entry, copied_place};
+use crate::seen::{Entry, literal_of};
 use crate::upgrade::Row;
 use edit_document::{CargoResult, Document, Place};
 use std::alloc::Global;
@@ -27,7 +27,7 @@ fn edit_for(alloc: Global, entry: &Entry, row: &Row) -> CargoResult<Option<(Plac
     }
     match &row.new {
         Some(text) => {
-            let place = copied_place(alloc, &entry.literal)?;
+            let place = literal_of(alloc, entry)?;
             let text = String::from_str(alloc, text.as_str())?;
             Ok(Some((place, text)))
         }
@@ -43,7 +43,8 @@ fn push_edit(
     row: &Row,
 ) -> CargoResult<()>
     ensures ok { OnOk result (edits_seen edits.new.items
-        ≡ edits_seen edits.old.items ++ with_write (write_at (seen_of entry.now).literal (line_of row.now)) []) }
+        ≡ edits_seen edits.old.items
+        ++ with_write (write_at (seen_of entry.now).literal (line_of row.now)) []) }
     ensures refused { IfErr result IsMemory }
 {
     let edit = edit_for(alloc, entry, row)?;
@@ -63,7 +64,8 @@ pub(crate) fn edits_of(
     rows: &[Row],
 ) -> CargoResult<Vec<(Place, String)>>
     requires { length rows.now ≡ length entries.now }
-    ensures ok { IfOk result (λ es. edits_seen es.items ≡ writes (map seen_of entries.now) (map line_of rows.now)) }
+    ensures ok { IfOk result
+        (λ es. edits_seen es.items ≡ writes (map seen_of entries.now) (map line_of rows.now)) }
     ensures refused { IfErr result IsMemory }
 {
     let mut edits = Vec::new(alloc);
@@ -80,10 +82,13 @@ pub(crate) fn written(
     entries: &[Entry],
     rows: &[Row],
 ) -> CargoResult<Option<String>>
-    requires shown { (form : Text) × ShowsTree document.now form × (map seen_of entries.now ≡ seen (view_at form)) }
+    requires shown { (form : Text) × ShowsTree document.now form
+        × (map seen_of entries.now ≡ seen (view_at form)) }
     requires long { length rows.now ≡ length entries.now }
-    ensures ok { IfOk result (λ o. MatchOption o (writes (map seen_of entries.now) (map line_of rows.now) ≡ [])
-        (λ s. IsRewritten document.now (writes (map seen_of entries.now) (map line_of rows.now)) (string_bytes s))) }
+    ensures ok { IfOk result
+        (λ o. MatchOption o (writes (map seen_of entries.now) (map line_of rows.now) ≡ [])
+        (λ s. IsRewritten document.now (writes (map seen_of entries.now) (map line_of rows.now))
+        (string_bytes s))) }
     ensures refused { IfErr result IsMemory }
 {
     let edits = edits_of(alloc, entries, rows)?;
