@@ -45,13 +45,6 @@ fn fetch_one<I: Index>(
         ⊎ (I.view (index_of index.old)).gives registry.now name.now (Ok a))) }
     ensures others { (a n : List ℕ) → (bytes_eq (serialize registry.now) a && bytes_eq name.now n) ≡ false
         → kept_by index.new a n ≡ kept_by index.old a n }
-<<<<<<< HEAD
-    ensures left { Leaves (IsAt (serialize registry.now) name.now) (I.view (index_of index.old)).gives (I.view (index_of index.new)).gives
-        (I.view (index_of index.old)).faults (I.view (index_of index.new)).faults (kept_by index.old) (kept_by index.new) }
-    ensures refused { IfErr result (λ e. IsMemory e ⊎ ((kept_by index.old (serialize registry.now) name.now ≡ None)
-        × IsRefusedAt (I.view (index_of index.old)).gives registry.now name.now
-        (I.view (index_of index.old)).faults (I.view (index_of index.new)).faults e)) }
-=======
     ensures left { Leaves (IsAt (serialize registry.now) name.now)
         (I.view (index_of index.old)).gives (I.view (index_of index.new)).gives
         (I.view (index_of index.old)).faults (I.view (index_of index.new)).faults
@@ -60,7 +53,6 @@ fn fetch_one<I: Index>(
         (λ e. IsMemory e ⊎ ((kept_by index.old (serialize registry.now) name.now ≡ None)
         × IsRefusedAt (I.view (index_of index.old)).gives registry.now name.now
         (I.view (index_of index.old)).faults (I.view (index_of index.new)).faults e)) }
->>>>>>> 85a9c1d8899451ef94d21efdd53107c28be1b421
 {
     index.fetch(alloc, registry, name)
 }
@@ -97,13 +89,6 @@ fn one_look<I: Index>(
 ) -> CargoResult<Look>
     ensures look { IfOk result (IsLook (serialize registry.now) name.now (I.view (index_of index.old)).gives
         (kept_by index.old) (kept_by index.new)) }
-<<<<<<< HEAD
-    ensures left { Leaves (IsAt (serialize registry.now) name.now) (I.view (index_of index.old)).gives (I.view (index_of index.new)).gives
-        (I.view (index_of index.old)).faults (I.view (index_of index.new)).faults (kept_by index.old) (kept_by index.new) }
-    ensures refused { IfErr result (λ e. IsMemory e ⊎ ((kept_by index.old (serialize registry.now) name.now ≡ None)
-        × IsRefusedAt (I.view (index_of index.old)).gives registry.now name.now
-        (I.view (index_of index.old)).faults (I.view (index_of index.new)).faults e)) }
-=======
     ensures left { Leaves (IsAt (serialize registry.now) name.now)
         (I.view (index_of index.old)).gives (I.view (index_of index.new)).gives
         (I.view (index_of index.old)).faults (I.view (index_of index.new)).faults
@@ -112,7 +97,6 @@ fn one_look<I: Index>(
         (λ e. IsMemory e ⊎ ((kept_by index.old (serialize registry.now) name.now ≡ None)
         × IsRefusedAt (I.view (index_of index.old)).gives registry.now name.now
         (I.view (index_of index.old)).faults (I.view (index_of index.new)).faults e)) }
->>>>>>> 85a9c1d8899451ef94d21efdd53107c28be1b421
 {
     fetch_one(alloc, registry, name, index)?;
     look_of(alloc, registry, name, index)
@@ -125,14 +109,6 @@ pub(crate) fn look_up<I: Index>(
     entries: &[Entry],
     index: &mut IndexCache<I>,
 ) -> CargoResult<Vec<Look>>
-<<<<<<< HEAD
-    ensures looked { IfOk result (λ looks. Looked (serialize registry.now) (I.view (index_of index.old)).gives (kept_by index.old)
-        (map name_of entries.now) looks.items (kept_by index.new)) }
-    ensures left { Leaves (IsAmong (serialize registry.now) (map name_of entries.now)) (I.view (index_of index.old)).gives
-        (I.view (index_of index.new)).gives (I.view (index_of index.old)).faults (I.view (index_of index.new)).faults
-        (kept_by index.old) (kept_by index.new) }
-    ensures refused { IfErr result (λ e. IsMemory e ⊎ IsFailedLook registry.now (I.view (index_of index.old)).gives
-=======
     ensures looked { IfOk result
         (λ looks. Looked (serialize registry.now) (I.view (index_of index.old)).gives (kept_by index.old)
         (map name_of entries.now) looks.items (kept_by index.new)) }
@@ -142,7 +118,6 @@ pub(crate) fn look_up<I: Index>(
         (kept_by index.old) (kept_by index.new) }
     ensures refused { IfErr result
         (λ e. IsMemory e ⊎ IsFailedLook registry.now (I.view (index_of index.old)).gives
->>>>>>> 85a9c1d8899451ef94d21efdd53107c28be1b421
         (kept_by index.old) (kept_by index.new) (map name_of entries.now)
         (I.view (index_of index.old)).faults (I.view (index_of index.new)).faults e) }
 {

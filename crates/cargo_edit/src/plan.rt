@@ -89,26 +89,16 @@ fn plan_document<I: Index>(
         input.now.bytes.items (map line_of p.rows.items)) }
     ensures outputs { IfOk result (λ p. HasOutputs (string_bytes input.now.path) input.now.bytes.items
         (map line_of p.rows.items) p.outputs.items) }
-<<<<<<< HEAD
-    ensures looks { IfOk result (λ p. AreLooks (IsNeededBy configs.now input.now.bytes.items) (I.view (index_of index.old)).gives
-=======
     ensures looks { IfOk result
         (λ p. AreLooks (IsNeededBy configs.now input.now.bytes.items) (I.view (index_of index.old)).gives
->>>>>>> 85a9c1d8899451ef94d21efdd53107c28be1b421
         (kept_by index.old) (kept_by index.new) p.looks.items) }
     ensures lists { IfOk result Tells }
     ensures left { Leaves (IsNeededBy configs.now input.now.bytes.items) (I.view (index_of index.old)).gives
         (I.view (index_of index.new)).gives (I.view (index_of index.old)).faults (I.view (index_of index.new)).faults
         (kept_by index.old) (kept_by index.new) }
-<<<<<<< HEAD
-    ensures refused { IfErr result (λ e. IsMemory e ⊎ HasBadEntry configs.now (I.view (index_of index.old)).gives
-        (kept_by index.old) (kept_by index.new) (I.view (index_of index.old)).faults (I.view (index_of index.new)).faults
-        input.now.bytes.items e) }
-=======
     ensures refused { IfErr result (λ e. IsMemory e ⊎ HasBadEntry configs.now (I.view (index_of index.old)).gives
         (kept_by index.old) (kept_by index.new)
         (I.view (index_of index.old)).faults (I.view (index_of index.new)).faults input.now.bytes.items e) }
->>>>>>> 85a9c1d8899451ef94d21efdd53107c28be1b421
 {
     let planned = plan_input(alloc, 0, options, input, document, configs, index)?;
     plan_of(alloc, input, document, planned)
@@ -126,27 +116,17 @@ fn plan_manifest<I: Index>(
         input.now.bytes.items (map line_of p.rows.items)) }
     ensures outputs { IfOk result (λ p. HasOutputs (string_bytes input.now.path) input.now.bytes.items
         (map line_of p.rows.items) p.outputs.items) }
-<<<<<<< HEAD
-    ensures looks { IfOk result (λ p. AreLooks (IsNeededBy configs.now input.now.bytes.items) (I.view (index_of index.old)).gives
-=======
     ensures looks { IfOk result
         (λ p. AreLooks (IsNeededBy configs.now input.now.bytes.items) (I.view (index_of index.old)).gives
->>>>>>> 85a9c1d8899451ef94d21efdd53107c28be1b421
         (kept_by index.old) (kept_by index.new) p.looks.items) }
     ensures lists { IfOk result Tells }
     ensures left { Leaves (IsNeededBy configs.now input.now.bytes.items) (I.view (index_of index.old)).gives
         (I.view (index_of index.new)).gives (I.view (index_of index.old)).faults (I.view (index_of index.new)).faults
         (kept_by index.old) (kept_by index.new) }
-<<<<<<< HEAD
-    ensures refused { IfErr result (λ e. IsBadManifest input.now.bytes.items e ⊎ HasBadEntry configs.now (I.view (index_of index.old)).gives
-        (kept_by index.old) (kept_by index.new) (I.view (index_of index.old)).faults (I.view (index_of index.new)).faults
-        input.now.bytes.items e) }
-=======
     ensures refused { IfErr result
         (λ e. IsBadManifest input.now.bytes.items e ⊎ HasBadEntry configs.now (I.view (index_of index.old)).gives
         (kept_by index.old) (kept_by index.new)
         (I.view (index_of index.old)).faults (I.view (index_of index.new)).faults input.now.bytes.items e) }
->>>>>>> 85a9c1d8899451ef94d21efdd53107c28be1b421
 {
     let document = read_manifest(alloc, &input.bytes)?;
     plan_document(alloc, options, input, &document, configs, index)
@@ -183,29 +163,18 @@ pub fn plan_documents<I: Index>(
     // and they need the same looks
     ensures needs { IfOk result (EachInput options.now inputs.now configs.now NeedsAsBefore) }
     // each look that is needed, and no other
-<<<<<<< HEAD
-    ensures looks { IfOk result (λ p. AreLooks (IsNeeded inputs.now configs.now) (I.view (index_of index.old)).gives
-=======
     ensures looks { IfOk result
         (λ p. AreLooks (IsNeeded inputs.now configs.now) (I.view (index_of index.old)).gives
->>>>>>> 85a9c1d8899451ef94d21efdd53107c28be1b421
         (kept_by index.old) (kept_by index.new) p.looks.items) }
     ensures lists { IfOk result Tells }
     // also a refused plan adds to the answers that are kept only what is needed, as the index gives it
     ensures kept { AddsNeeded (IsNeeded inputs.now configs.now) (I.view (index_of index.old)).gives
         (kept_by index.old) (kept_by index.new) }
-<<<<<<< HEAD
-    ensures index { SameOutcomes (I.view (index_of index.old)).gives (I.view (index_of index.new)).gives }
-    ensures faults { (I.view (index_of index.old)).faults ≤ (I.view (index_of index.new)).faults }
-    ensures refused { IfErr result (IsEntryCause inputs.now configs.now (I.view (index_of index.old)).gives
-        (kept_by index.old) (kept_by index.new) (I.view (index_of index.old)).faults (I.view (index_of index.new)).faults) }
-=======
     ensures index { SameOutcomes (I.view (index_of index.old)).gives (I.view (index_of index.new)).gives }
     ensures faults { (I.view (index_of index.old)).faults ≤ (I.view (index_of index.new)).faults }
     ensures refused { IfErr result (IsEntryCause inputs.now configs.now (I.view (index_of index.old)).gives
         (kept_by index.old) (kept_by index.new)
         (I.view (index_of index.old)).faults (I.view (index_of index.new)).faults) }
->>>>>>> 85a9c1d8899451ef94d21efdd53107c28be1b421
 {
     let input = &inputs[0];
     let own = &configs[0];
@@ -246,29 +215,18 @@ pub fn plan_upgrade<I: Index>(
     // and they need the same looks
     ensures needs { IfOk result (EachInput options.now inputs.now configs.now NeedsAsBefore) }
     // each look that is needed, and no other
-<<<<<<< HEAD
-    ensures looks { IfOk result (λ p. AreLooks (IsNeeded inputs.now configs.now) (I.view (index_of index.old)).gives
-=======
     ensures looks { IfOk result
         (λ p. AreLooks (IsNeeded inputs.now configs.now) (I.view (index_of index.old)).gives
->>>>>>> 85a9c1d8899451ef94d21efdd53107c28be1b421
         (kept_by index.old) (kept_by index.new) p.looks.items) }
     ensures lists { IfOk result Tells }
     // also a refused plan adds to the answers that are kept only what is needed, as the index gives it
     ensures kept { AddsNeeded (IsNeeded inputs.now configs.now) (I.view (index_of index.old)).gives
         (kept_by index.old) (kept_by index.new) }
-<<<<<<< HEAD
-    ensures index { SameOutcomes (I.view (index_of index.old)).gives (I.view (index_of index.new)).gives }
-    ensures faults { (I.view (index_of index.old)).faults ≤ (I.view (index_of index.new)).faults }
-    ensures refused { IfErr result (IsCause inputs.now configs.now (I.view (index_of index.old)).gives
-        (kept_by index.old) (kept_by index.new) (I.view (index_of index.old)).faults (I.view (index_of index.new)).faults) }
-=======
     ensures index { SameOutcomes (I.view (index_of index.old)).gives (I.view (index_of index.new)).gives }
     ensures faults { (I.view (index_of index.old)).faults ≤ (I.view (index_of index.new)).faults }
     ensures refused { IfErr result (IsCause inputs.now configs.now (I.view (index_of index.old)).gives
         (kept_by index.old) (kept_by index.new)
         (I.view (index_of index.old)).faults (I.view (index_of index.new)).faults) }
->>>>>>> 85a9c1d8899451ef94d21efdd53107c28be1b421
 {
     let input = &inputs[0];
     let own = &configs[0];

@@ -65,25 +65,15 @@ fn plan_entries<I: Index>(
     ensures rows { IfOk result
         (λ p. HasRows (setting_of number options.now input.now configs.now p.looks.items)
         input.now.bytes.items (map line_of p.rows.items)) }
-<<<<<<< HEAD
-    ensures looks { IfOk result (λ p. AreLooks (IsNeededBy configs.now input.now.bytes.items) (I.view (index_of index.old)).gives
-=======
     ensures looks { IfOk result
         (λ p. AreLooks (IsNeededBy configs.now input.now.bytes.items) (I.view (index_of index.old)).gives
->>>>>>> 85a9c1d8899451ef94d21efdd53107c28be1b421
         (kept_by index.old) (kept_by index.new) p.looks.items) }
     ensures left { Leaves (IsNeededBy configs.now input.now.bytes.items) (I.view (index_of index.old)).gives
         (I.view (index_of index.new)).gives (I.view (index_of index.old)).faults (I.view (index_of index.new)).faults
         (kept_by index.old) (kept_by index.new) }
-<<<<<<< HEAD
-    ensures refused { IfErr result (λ e. IsMemory e ⊎ HasBadEntry configs.now (I.view (index_of index.old)).gives
-        (kept_by index.old) (kept_by index.new) (I.view (index_of index.old)).faults (I.view (index_of index.new)).faults
-        input.now.bytes.items e) }
-=======
     ensures refused { IfErr result (λ e. IsMemory e ⊎ HasBadEntry configs.now (I.view (index_of index.old)).gives
         (kept_by index.old) (kept_by index.new)
         (I.view (index_of index.old)).faults (I.view (index_of index.new)).faults input.now.bytes.items e) }
->>>>>>> 85a9c1d8899451ef94d21efdd53107c28be1b421
 {
     let registry = resolve(alloc, configs, None)?;
     let looks = look_up(alloc, &registry, &entries, index)?;
@@ -119,25 +109,15 @@ pub(crate) fn plan_input<I: Index>(
     ensures rows { IfOk result
         (λ p. HasRows (setting_of number options.now input.now configs.now p.looks.items)
         input.now.bytes.items (map line_of p.rows.items)) }
-<<<<<<< HEAD
-    ensures looks { IfOk result (λ p. AreLooks (IsNeededBy configs.now input.now.bytes.items) (I.view (index_of index.old)).gives
-=======
     ensures looks { IfOk result
         (λ p. AreLooks (IsNeededBy configs.now input.now.bytes.items) (I.view (index_of index.old)).gives
->>>>>>> 85a9c1d8899451ef94d21efdd53107c28be1b421
         (kept_by index.old) (kept_by index.new) p.looks.items) }
     ensures left { Leaves (IsNeededBy configs.now input.now.bytes.items) (I.view (index_of index.old)).gives
         (I.view (index_of index.new)).gives (I.view (index_of index.old)).faults (I.view (index_of index.new)).faults
         (kept_by index.old) (kept_by index.new) }
-<<<<<<< HEAD
-    ensures refused { IfErr result (λ e. IsMemory e ⊎ HasBadEntry configs.now (I.view (index_of index.old)).gives
-        (kept_by index.old) (kept_by index.new) (I.view (index_of index.old)).faults (I.view (index_of index.new)).faults
-        input.now.bytes.items e) }
-=======
     ensures refused { IfErr result (λ e. IsMemory e ⊎ HasBadEntry configs.now (I.view (index_of index.old)).gives
         (kept_by index.old) (kept_by index.new)
         (I.view (index_of index.old)).faults (I.view (index_of index.new)).faults input.now.bytes.items e) }
->>>>>>> 85a9c1d8899451ef94d21efdd53107c28be1b421
 {
     document.has_form();
     let entries = seen_entries(alloc, document)?;
