@@ -1,4 +1,7 @@
-//! What a refusal says.
+//! What a refusal says: the number and the text of each of the forty-nine.
+mod made;
+mod texts;
+
 use edit_document::Error;
 use std::alloc::Global;
 use std::test::Fail;

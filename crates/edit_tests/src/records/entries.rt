@@ -8,6 +8,8 @@ use edit_record::{
     find_latest_version, read_candidate,
 };
 use std::alloc::{AllocError, Global};
+use std::cmp::Ordering;
+use std::hash::{BuildHasher, BuildHasherDefault, FoldHasher};
 use std::test::Fail;
 
 /// Versions, whether they are yanked, and the Rust version that they ask for.
@@ -100,7 +102,8 @@ fn greatest_entries(rt: HostRuntime) -> Result<(), Fail> {
     rows_hold(&rt, rt.alloc(), GREATEST, LINES, greatest)
 }
 
-/// The Rust version of a text, or the refusal; the Rust version of a version.
+/// The Rust version of a text, or the refusal; the Rust version of a version; the least and the greatest;
+/// how two compare, and whether they have one hash.
 const RUST_VERSIONS: &str = "\
 1.0.0|read|1
 1.32.0|read|1.32
@@ -112,7 +115,16 @@ const RUST_VERSIONS: &str = "\
 26 rust-version must be a value like `1.32`|read|1.56, 1.57
 26 rust-version must be a value like `1.32`|read|*
 14 Invalid version requirement `stable`|read|stable
-1.2.3|from|1.2.3-rc.1";
+1.2.3|from|1.2.3-rc.1
+1.0.0|least|
+18446744073709551615.18446744073709551615.18446744073709551615|greatest|
+equal, one hash|compare|1.32.0 1.32
+less, two hashes|compare|1.2.3 1.2.4
+less, two hashes|compare|1.2.3 1.3.0
+less, two hashes|compare|1.9.9 2.0.0
+greater, two hashes|compare|1.10.0 1.9.9
+greater, two hashes|compare|1.0.10 1.0.9
+less, two hashes|compare|1.2.3 3.2.1";
 
 /// The numbers of a Rust version.
 fn numbers(alloc: Global, version: RustVersion) -> Result<String, AllocError> {
@@ -124,15 +136,54 @@ fn numbers(alloc: Global, version: RustVersion) -> Result<String, AllocError> {
     format!(in alloc; "{major}.{minor}.{patch}")
 }
 
-/// The Rust version that a text reads as, or that a version is.
-fn rust(alloc: Global, call: &str, text: &str) -> Result<String, Fail> {
-    if call == "from" {
-        let version = version(alloc, text)?;
-        return Ok(numbers(alloc, RustVersion::from(&version))?);
-    }
+/// The hash of a Rust version.
+fn hashed(version: RustVersion) -> u64 {
+    BuildHasherDefault::<FoldHasher>::default().hash_one(version)
+}
+
+/// How one Rust version compares to another, where equality and order agree, and whether they have one hash.
+fn compared(alloc: Global, one: RustVersion, other: RustVersion) -> Result<String, AllocError> {
+    let order = match one.cmp(&other) {
+        Ordering::Less if one != other => "less",
+        Ordering::Equal if one == other => "equal",
+        Ordering::Greater if one != other => "greater",
+        _ => "neither",
+    };
+    let hashes = if hashed(one) == hashed(other) {
+        "one hash"
+    } else {
+        "two hashes"
+    };
+    format!(in alloc; "{order}, {hashes}")
+}
+
+/// How the Rust versions of two texts compare.
+fn compared_texts(alloc: Global, texts: &str) -> Result<String, Fail> {
+    let (one, other) = texts.split_once(' ').ok_or("two Rust versions")?;
+    let one = rust_version(alloc, one)?.ok_or("a Rust version")?;
+    let other = rust_version(alloc, other)?.ok_or("a Rust version")?;
+    Ok(compared(alloc, one, other)?)
+}
+
+/// The Rust version that a text reads as, or the refusal.
+fn read_rust(alloc: Global, text: &str) -> Result<String, Fail> {
     match RustVersion::from_str(alloc, text) {
         Ok(version) => Ok(numbers(alloc, version)?),
         Err(error) => told(alloc, error),
+    }
+}
+
+/// What a row asks of Rust versions.
+fn rust(alloc: Global, call: &str, text: &str) -> Result<String, Fail> {
+    match call {
+        "from" => {
+            let version = version(alloc, text)?;
+            Ok(numbers(alloc, RustVersion::from(&version))?)
+        }
+        "least" => Ok(numbers(alloc, RustVersion::MIN)?),
+        "greatest" => Ok(numbers(alloc, RustVersion::MAX)?),
+        "compare" => compared_texts(alloc, text),
+        _ => read_rust(alloc, text),
     }
 }
 
