@@ -4,7 +4,7 @@ use Rattle.std.specs.Prelude.{codes}
 use Rattle.std.specs.Fmt.{digits}
 use Rattle.semver.specs.Parse.{Parts}
 use Rattle.semver.proofs.OnLiterals.{semver_on_literals}
-use Rattle.cargo_edit.specs.Decision.{Case, Choice, decision}
+use Rattle.cargo_edit.specs.Decision.{Case, decision}
 use Rattle.cargo_edit.specs.declared.upgrade.Change.TheVariants as change
 use Rattle.cargo_edit.specs.declared.upgrade.Options.{Options}
 use Rattle.cargo_edit.specs.declared.upgrade.Reason.TheVariants as reason

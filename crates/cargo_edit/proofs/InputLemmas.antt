@@ -1,6 +1,6 @@
 -- The plan of one input, as a plan of inputs.
-use Rattle.std.proofs.Common.{◌≡◌, ◌∷◌, [], List, ℕ, Option, Some, None, Bool, true, false, zero, suc, refl, ap, ◌∙◌, sym, subst, inl, inr, ◌⊎◌, ◌<◌, append-nil, arith, get_or, length, map}
-use Rattle.std.specs.Prelude.{All, IfSome, filter, if◌then◌else◌, not, slice_get, string_bytes, ◌==◌}
+use Rattle.std.proofs.Common.{◌≡◌, ◌∷◌, [], List, ℕ, Some, Bool, true, false, zero, suc, refl, ap, ◌∙◌, sym, subst, inl, inr, ◌⊎◌, append-nil, arith, get_or, length, map}
+use Rattle.std.specs.Prelude.{All, filter, if◌then◌else◌, not, slice_get, string_bytes, ◌==◌}
 use Rattle.std.specs.Global.{Vec}
 use Rattle.std.specs.Str.{bytes_eq}
 use Rattle.std.proofs.lemmas.List.Elements.{All-head, All-tail, All-weaker}
@@ -8,7 +8,7 @@ use Rattle.edit_base.specs.Errors.{IsMemory}
 use Rattle.edit_document.specs.Replaces.{Edits}
 use Rattle.edit_document.specs.Tree.{view_at}
 use Rattle.edit_base.specs.declared.errors.Error.{Error}
-use Rattle.edit_sources.specs.Index.{Outcomes, answer_of}
+use Rattle.edit_sources.specs.Index.{Outcomes}
 use Rattle.edit_sources.specs.declared.config.Config.{Config}
 use Rattle.url.specs.Parts.{serialize}
 use Rattle.cargo_edit.specs.Causes.{FirstInput, HasBadEntry, IsBadManifest, IsCause, IsEntryCause}
@@ -19,7 +19,7 @@ use Rattle.cargo_edit.specs.Outputs.{AreOutputs, HasOutputs, changed, unchanged}
 use Rattle.cargo_edit.specs.Records.{seen}
 use Rattle.cargo_edit.specs.Rows.{Line, writes}
 use Rattle.cargo_edit.specs.Upgraded.{HasItsOutputs, HasItsRows, HasRows, IsNeeded, IsNeededBy}
-use Rattle.cargo_edit.specs.Headline.{IsFixedPoint, IsSettled, NeedSame, NeedsAsBefore, bytes_after, left_of}
+use Rattle.cargo_edit.specs.Headline.{IsFixedPoint, IsSettled, NeedSame, NeedsAsBefore, bytes_after}
 use Rattle.cargo_edit.specs.declared.upgrade.Input.{Input}
 use Rattle.cargo_edit.specs.declared.upgrade.Look.{Look}
 use Rattle.cargo_edit.specs.declared.upgrade.Options.{Options}
@@ -305,11 +305,3 @@ of-entry_cause inputs configs x own gives old new before now e p q (inr f) =
     inr (of-first x own new (λ cs bytes. HasBadEntry cs gives old new before now bytes e)
     (subst (λ (cs : List (Vec Config)). FirstInput (x ∷ []) cs new (λ ds bytes. HasBadEntry ds gives old new before now bytes e)) q
     (subst (λ (xs : List Input). FirstInput xs configs new (λ ds bytes. HasBadEntry ds gives old new before now bytes e)) p f)))
-
-pub of-cause : (inputs : List Input) (configs : List (Vec Config)) (x : Input) (own : Vec Config) (gives : Outcomes) (old new : Kept) (before now : ℕ)
-    (e : Error) → inputs ≡ x ∷ [] → configs ≡ own ∷ [] → IsCause inputs configs gives old new before now e
-    → IsBadManifest x.bytes.items e ⊎ HasBadEntry own.items gives old new before now x.bytes.items e
-of-cause inputs configs x own gives old new before now e p q f =
-    of-first x own new (λ cs bytes. IsBadManifest bytes e ⊎ HasBadEntry cs gives old new before now bytes e)
-    (subst (λ (cs : List (Vec Config)). FirstInput (x ∷ []) cs new (λ ds bytes. IsBadManifest bytes e ⊎ HasBadEntry ds gives old new before now bytes e)) q
-    (subst (λ (xs : List Input). FirstInput xs configs new (λ ds bytes. IsBadManifest bytes e ⊎ HasBadEntry ds gives old new before now bytes e)) p f))

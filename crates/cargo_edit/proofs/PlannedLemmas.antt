@@ -1,5 +1,5 @@
 -- The rows and looks of a manifest, from those of its entries.
-use Rattle.std.proofs.Common.{◌≡◌, ◌∷◌, ◌++◌, [], List, ℕ, Option, None, Result, Ok, Err, map, refl, ap, ◌∙◌, sym, subst, inl, inr, ◌⊎◌, ◌<◌, Some, length, arith}
+use Rattle.std.proofs.Common.{◌≡◌, ◌∷◌, [], List, ℕ, Option, None, Result, Ok, Err, map, refl, ap, ◌∙◌, sym, subst, inl, inr, ◌⊎◌, ◌<◌, Some, length, arith}
 use Rattle.std.specs.Prelude.{All, Contains, IfErr, IsErrAnd, IsSome, option_map, string_bytes}
 use Rattle.std.specs.List.{AllZip}
 use Rattle.std.proofs.lemmas.List.{length-map}
@@ -22,7 +22,6 @@ use Rattle.cargo_edit.specs.Causes.{HasBadEntry, IsPassed}
 use Rattle.cargo_edit.specs.Causes.StopsAt.{no_address, no_answer}
 use Rattle.cargo_edit.specs.Found.{name_of, seen_of}
 use Rattle.cargo_edit.specs.Inputs.{Setting}
-use Rattle.cargo_edit.specs.Lines.{line_of}
 use Rattle.cargo_edit.specs.Looked.{IsAmong, IsFailedLook, Leaves, Looked}
 use Rattle.cargo_edit.specs.Looks.{AreLooks, Kept, kept_setting, look_at, told, versions_in}
 use Rattle.cargo_edit.specs.PlannedView.{AreSeen, IsShown}

@@ -1,6 +1,6 @@
 -- What is greatest among the versions of an answer, by its ranking.
-use Rattle.std.proofs.Common.{◌≡◌, List, ℕ, Option, Some, None, Bool, false, Ok, Err, refl, sym, subst, ap, ◌∙◌}
-use Rattle.std.specs.Prelude.{Result, All, option_map}
+use Rattle.std.proofs.Common.{◌≡◌, List, ℕ, Option, Some, None, Bool, false, Ok, Err, refl, sym, subst, ap}
+use Rattle.std.specs.Prelude.{Result, option_map}
 use Rattle.std.specs.Result.{result_ok}
 use Rattle.std.proofs.lemmas.List.Elements.{All-nil}
 use Rattle.semver.specs.Parse.{Held, Parts, req_of}

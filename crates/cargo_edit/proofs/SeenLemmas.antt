@@ -1,49 +1,16 @@
 -- What an entry's view says of whether it is seen.
-use Rattle.std.proofs.Common.{◌≡◌, List, ℕ, Option, Some, None, Bool, true, false, refl, ap, ◌∙◌, sym}
+use Rattle.std.proofs.Common.{◌≡◌, List, ℕ, Option, Some, None, Bool, true, refl, ap, ◌∙◌, sym}
 use Rattle.std.specs.Prelude.{◌&&◌}
 use Rattle.std.specs.List.{list_all}
 use Rattle.edit_document.specs.Assertions.{Place}
 use Rattle.edit_document.specs.Tree.{View, string, truth, whole, fractional, moment, static_array, table_array, inline_table, table}
-use Rattle.edit_document.specs.Items.{is_tabular, names_in, string_in}
+use Rattle.edit_document.specs.Items.{is_tabular, names_in}
 use Rattle.cargo_edit.specs.Entries.{Tree, entry_place}
 use Rattle.cargo_edit.specs.Records.{is_known, seen_at, seen_view, seen_with, version_place}
-
--- an entry that is a string
-view-string : (t : Tree) (name : List ℕ) (p : Place) (v : View) (text : List ℕ) → string_in v ≡ Some text
-    → seen_view t name p (Some v) ≡ seen_with name p p (Some (string text))
-view-string t name p (string s) text h = let e : s ≡ text = cc h in ap (λ (x : List ℕ). seen_with name p p (Some (string x))) e
-view-string t name p (truth b) text h = cc h
-view-string t name p (whole b) text h = cc h
-view-string t name p (fractional b) text h = cc h
-view-string t name p (moment b) text h = cc h
-view-string t name p (static_array b) text h = cc h
-view-string t name p (table_array b) text h = cc h
-view-string t name p (inline_table b) text h = cc h
-view-string t name p (table b) text h = cc h
-
-pub seen-string : (t : Tree) (name : List ℕ) (v : View) (text : List ℕ) → t (entry_place name) ≡ Some v → string_in v ≡ Some text
-    → seen_at t name ≡ seen_with name (entry_place name) (entry_place name) (Some (string text))
-seen-string t name v text e h =
-    ap (λ (x : Option View). seen_view t name (entry_place name) x) e ∙ view-string t name (entry_place name) v text h
 
 -- whether a view is a table whose members are known
 abbrev pub is_plain : View → Bool
 is_plain v = is_tabular v && list_all is_known (names_in v)
-
-view-other : (t : Tree) (name : List ℕ) (p : Place) (v : View) → string_in v ≡ None → is_plain v ≡ false → seen_view t name p (Some v) ≡ None
-view-other t name p (string s) h g = cc h
-view-other t name p (truth b) h g = refl
-view-other t name p (whole b) h g = refl
-view-other t name p (fractional b) h g = refl
-view-other t name p (moment b) h g = refl
-view-other t name p (static_array b) h g = refl
-view-other t name p (table_array b) h g = refl
-view-other t name p (inline_table b) h g = rw g refl
-view-other t name p (table b) h g = rw g refl
-
-pub seen-other : (t : Tree) (name : List ℕ) (v : View) → t (entry_place name) ≡ Some v → string_in v ≡ None → is_plain v ≡ false → seen_at t name ≡ None
-seen-other t name v e h g =
-    ap (λ (x : Option View). seen_view t name (entry_place name) x) e ∙ view-other t name (entry_place name) v h g
 
 view-table : (t : Tree) (name : List ℕ) (p : Place) (v : View) → is_plain v ≡ true
     → seen_view t name p (Some v) ≡ seen_with name p (version_place p) (t (version_place p))
@@ -62,29 +29,6 @@ pub seen-table : (t : Tree) (name : List ℕ) (v : View) → t (entry_place name
     → seen_at t name ≡ seen_with name (entry_place name) (version_place (entry_place name)) (t (version_place (entry_place name)))
 seen-table t name v e g =
     ap (λ (x : Option View). seen_view t name (entry_place name) x) e ∙ view-table t name (entry_place name) v g
-
-pub with-none : (name : List ℕ) (p l : Place) (v : View) → string_in v ≡ None → seen_with name p l (Some v) ≡ None
-with-none name p l (string s) h = cc h
-with-none name p l (truth b) h = refl
-with-none name p l (whole b) h = refl
-with-none name p l (fractional b) h = refl
-with-none name p l (moment b) h = refl
-with-none name p l (static_array b) h = refl
-with-none name p l (table_array b) h = refl
-with-none name p l (inline_table b) h = refl
-with-none name p l (table b) h = refl
-
-pub with-string : (name : List ℕ) (p l : Place) (v : View) (text : List ℕ) → string_in v ≡ Some text
-    → seen_with name p l (Some v) ≡ seen_with name p l (Some (string text))
-with-string name p l (string s) text h = let e : s ≡ text = cc h in ap (λ (x : List ℕ). seen_with name p l (Some (string x))) e
-with-string name p l (truth b) text h = cc h
-with-string name p l (whole b) text h = cc h
-with-string name p l (fractional b) text h = cc h
-with-string name p l (moment b) text h = cc h
-with-string name p l (static_array b) text h = cc h
-with-string name p l (table_array b) text h = cc h
-with-string name p l (inline_table b) text h = cc h
-with-string name p l (table b) text h = cc h
 
 pub seen-none : (t : Tree) (name : List ℕ) → t (entry_place name) ≡ None → seen_at t name ≡ None
 seen-none t name e = ap (λ (x : Option View). seen_view t name (entry_place name) x) e

@@ -38,9 +38,3 @@ names-split {A} {B} f xs i x h e =
 -- one more of a list's elements
 pub taken-more : {A : Type 0} (xs : List A) (i : ℕ) (x : A) → i < length xs → x ≡ get_or xs i x → take (i + 1) xs ≡ take i xs ++ x ∷ []
 taken-more {A} xs i x h e = take_more xs i x h ∙ ap (λ (y : A). take i xs ++ y ∷ []) (sym e)
-
--- the item gives one or nothing
-pub kept-option : {A B C : Type 0} (v : C → A) (f : A → Option B) (ys : List C) (y : C) (old new : List B)
-    → old ≡ filter_map f (map v ys) → new ≡ old ++ cons_option (f (v y)) [] → new ≡ filter_map f (map v (ys ++ y ∷ []))
-kept-option {A} {B} v f ys y old new e n =
-    n ∙ ap (λ (l : List B). l ++ cons_option (f (v y)) []) e ∙ sym (whole v f ys y)

@@ -1,5 +1,5 @@
 -- The ranking of an answer that is kept for a name.
-use Rattle.std.specs.Prelude.{List, Option, Some, None}
+use Rattle.std.specs.Prelude.{Option, Some, None}
 use Rattle.edit_sources.specs.Ranking.{IsRanking, ranks_of}
 use Rattle.edit_sources.specs.declared.ranking.Ranked.{Ranked}
 use Rattle.cargo_edit.specs.Looks.{Answer}

@@ -1,7 +1,7 @@
 -- From what the reader and the walk answer to the definitions: a text over which the walk ends is a document and has its tree,
 -- and one over which it stops is none.
 use Rattle.std.proofs.Common.{◌≡◌, ℕ, ◌+◌, length, Bool, true, false, ◌==◌, ◌&&◌, ◌||◌, List, Option, Some, None, refl, sym, ap, subst, ◌∙◌, true≢false}
-use Rattle.std.specs.Prelude.{map, not, IsUtf8}
+use Rattle.std.specs.Prelude.{map, not}
 use Rattle.std.specs.Str.{is_utf8}
 use Rattle.std.proofs.lemmas.Str.{IsUtf8-from_is_utf8}
 use Rattle.std.proofs.lemmas.Bool.{eqb-true}
@@ -11,15 +11,12 @@ use Rattle.edit_document.specs.Assertions.{Place, key, same_step, same_place, Is
 use Rattle.edit_document.specs.Tree.{View, string, truth, whole, fractional, moment, static_array, table_array, inline_table, table, view_at}
 use Rattle.edit_document.specs.Shown.{node_at}
 use Rattle.edit_syntax.specs.FormOf.{form_of}
-use Rattle.edit_document.specs.Nodes.{Spot, shown_spot}
 use Rattle.edit_syntax.specs.Marks.{text_marks}
 use Rattle.edit_syntax.specs.Reading.{◌>>=◌, read_text, lines_at, is_marked, past_mark}
-use Rattle.edit_document.specs.Walk.{State, start, walked, settled_state}
+use Rattle.edit_document.specs.Walk.{State, start, walked}
 use Rattle.edit_document.specs.Written.{values}
 use Rattle.edit_document.specs.DocumentLayout.{placed, spots_of, nodes_by}
-use Rattle.edit_syntax.proofs.LineLaws.{IsReadText, lines_found, lines_read}
-use Rattle.edit_syntax.proofs.LineSound.{AreGoodLines}
-use Rattle.edit_document.proofs.ArrayCounts.{IsEven}
+use Rattle.edit_syntax.proofs.LineLaws.{lines_found, lines_read}
 use Rattle.edit_document.proofs.WalkedLines.{Walked, ended, stuck, text_even}
 use Rattle.edit_document.proofs.SamePlace.{same_step_is, same_place_is}
 use Rattle.edit_document.proofs.ShownTrees.{tree_shown}

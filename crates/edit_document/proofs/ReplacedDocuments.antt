@@ -5,7 +5,7 @@ use Rattle.edit_document.specs.Assertions.{Place}
 use Rattle.edit_document.specs.Tree.{View, view_at}
 use Rattle.edit_document.specs.Supported.{IsManifest}
 use Rattle.edit_document.specs.Shown.{Shown, tree_of, ShowsTree}
-use Rattle.edit_document.specs.Replaces.{Edits, replaced, written, emptied, is_below_any, is_string, AreStrings, AreValues, AreOutside, Replaces}
+use Rattle.edit_document.specs.Replaces.{Edits, replaced, written, emptied, is_below_any, is_string, AreStrings, AreValues, AreOutside}
 use Rattle.edit_document.proofs.ReplacedTree.{AreApart, replaced_manifest, replaced_view}
 use Rattle.edit_document.proofs.ReplacedStrings.{written_same, strings_values, strings_outside, strings_emptied}
 use Rattle.edit_document.proofs.Shallow.{one_form}
@@ -17,13 +17,6 @@ tree_again edits old new form t manifest apart same e g read q =
     let is = subst (λ (b : List ℕ). IsManifest b (replaced edits form)) (sym e) (replaced_manifest edits old form manifest) in
     ap (λ z. view_at z q) (one_form new g (replaced edits form) read is) ∙ replaced_view edits old form manifest.document apart q
     ∙ written_same edits (emptied edits (view_at form)) (emptied edits t) q (ap (λ v. cond (is_below_any edits q) None v) (sym (same q)))
-
--- a document that shows the new text shows the old tree, emptied below the places, with the new strings
-pub trees_replaced : (edits : Edits) (d e : Shown) → Replaces edits d.bytes e.bytes → ((form : Text) → IsManifest d.bytes form → ShowsTree d form) → ((form : Text) → IsManifest e.bytes form → ShowsTree e form)
-    → (q : Place) → tree_of e q ≡ written edits (emptied edits (tree_of d)) q
-trees_replaced edits d e r shows shown q =
-    shown (replaced edits r.form) r.is q ∙ r.tree q
-    ∙ written_same edits (emptied edits (view_at r.form)) (emptied edits (tree_of d)) q (ap (λ v. cond (is_below_any edits q) None v) (sym (shows r.form r.was q)))
 
 -- ---- strings of a document
 

@@ -44,10 +44,6 @@ one_apart form p said has q told e =
     never : (l : List ℕ) → None ≡ Some l → ⊥
     never l h = cc
 
-pub one_view : (old : List ℕ) (form : Text) (p : Place) (said : List ℕ) → IsDocument old form → is_value_at form p ≡ true
-    → (q : Place) → view_at (replaced ((p, said) ∷ []) form) q ≡ written ((p, said) ∷ []) (emptied ((p, said) ∷ []) (view_at form)) q
-one_view old form p said document e q = replaced_view ((p, said) ∷ []) old form document (one_apart form p said (told_value form p document.no_clash e)) q
-
 -- ---- several values
 
 -- what holds of the place of each edit holds where a text is to be written

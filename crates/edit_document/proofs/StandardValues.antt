@@ -1,5 +1,5 @@
 -- Examples of TOML 1.0.0: numbers, truth values, dates and arrays. What is a document shows what stands at a place of it.
-use Rattle.std.proofs.Common.{[], ◌∷◌, ◌++◌, false, refl}
+use Rattle.std.proofs.Common.{[], ◌∷◌, false, refl}
 use Rattle.std.specs.Prelude.{codes}
 use Rattle.edit_document.specs.Assertions.{key, index}
 use Rattle.edit_document.specs.Tree.{string, truth, whole, fractional, moment, static_array}

@@ -1,5 +1,5 @@
 -- The nodes of a document: one for each place that a statement asserts, the root first and then in the order of first assertions.
-use Rattle.std.specs.Prelude.{◌≡◌, ℕ, ◌-◌, Bool, ◌&&◌, ◌||◌, nat_lt, nat_le, if◌then◌else◌, List, [], length, map, drop, slice_get, slice_index, slice_range, Option, Some, None, String, string_bytes, ◌⊎◌}
+use Rattle.std.specs.Prelude.{◌≡◌, ℕ, List, [], length, map, drop, slice_get, Option, Some, None, String, string_bytes, ◌⊎◌}
 use Rattle.std.specs.Global.{Box, Global}
 use Rattle.std.specs.Map.{lookup}
 use Rattle.std.specs.Str.{bytes_eq}

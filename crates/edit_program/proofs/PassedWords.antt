@@ -10,7 +10,7 @@ use Rattle.edit_sources.specs.ConfigurationFiles.{Climbs}
 use Rattle.edit_sources.specs.ConfigurationFiles.Climbs.{begin, step}
 use Rattle.edit_sources.specs.Store.{Files, SameFiles, StandsAt}
 use Rattle.edit_sources.specs.declared.store.Kind.TheVariants.{File, Folder}
-use Rattle.edit_program.specs.Located.{HaveNone, HasNoManifest, HasNoneAbove, IsAbsoluteOf, IsManifestPath, IsMissing, IsNearest, IsNotFound, IsThere, manifest_in}
+use Rattle.edit_program.specs.Located.{HaveNone, HasNoManifest, HasNoneAbove, IsAbsoluteOf, IsManifestPath, IsMissing, IsNearest, IsNotFound, manifest_in}
 use Rattle.edit_program.specs.Located.IsManifestAt.{named, nearest}
 
 -- the folders that were passed have no manifest
@@ -38,18 +38,6 @@ passed_more tells told old now start here above same_told same h on up missing =
   passed = h.passed ++ here ∷ [];
   climbs = step h.passed here above h.climbs on up;
   none = λ t. none_more old h.passed here (h.none t) (as_before (λ files. IsMissing files (manifest_in here)) old now same (missing (same_told ∙ t)));
-}
-
--- a manifest is found
-pub nearest_here : (tells told : Bool) (old now : Files) (start here text : List ℕ) → told ≡ tells → SameFiles old now → HasPassed tells old start here
-    → (told ≡ true → (text ≡ manifest_in here) × IsThere now (manifest_in here)) → tells ≡ true → IsNearest old start text
-nearest_here tells told old now start here text same_told same h found t = record {
-  passed = h.passed;
-  folder = here;
-  climbs = h.climbs;
-  none = h.none t;
-  there = as_before (λ files. IsThere files (manifest_in here)) old now same (found (same_told ∙ t)).1;
-  is = (found (same_told ∙ t)).0;
 }
 
 -- none is found, also at the root

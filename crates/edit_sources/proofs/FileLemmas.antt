@@ -41,11 +41,6 @@ file_in-second old new place first second a b same none =
     let gone : standing old (joined place (codes "config")) ≡ None = subst (λ p. standing old p ≡ None) a (absent (standing old first) none) in
     ap (standing new) b ∙ standing-same old new (joined place (codes "config.toml")) same ∙ sym (ap (λ o. or_else o (standing old (joined place (codes "config.toml")))) gone)
 
--- where `config` stands, it counts
-pub file_in-first : (files : Files) (place first : List ℕ) (file : List ℕ × List ℕ) → first ≡ joined place (codes "config") → standing files first ≡ Some file → file_in files place ≡ Some file
-file_in-first files place first file a is =
-    ap (λ o. or_else o (standing files (joined place (codes "config.toml")))) (subst (λ p. standing files p ≡ Some file) a is)
-
 zip_more : (o : Option (List ℕ × List ℕ)) (found : Option Config) (files : List (List ℕ × List ℕ)) (configs : List Config) → AllZip IsReadFrom files configs → IsReadOf o found → AllZip IsReadFrom (files ++ cons_option o []) (configs ++ option_to_list found)
 zip_more None None files configs all h = subst (λ fs. AllZip IsReadFrom fs (configs ++ [])) (sym (append-nil files)) (subst (λ cs. AllZip IsReadFrom files cs) (sym (append-nil configs)) all)
 zip_more (Some file) (Some config) files configs all h = all_zipped_more IsReadFrom files configs file config all h

@@ -1,5 +1,5 @@
 -- The first rank that passes a test is that of the greatest kept entry.
-use Rattle.std.proofs.Common.{◌≡◌, ℕ, ◌+◌, ◌<◌, ◌≤◌, List, [], ◌∷◌, ◌++◌, length, map, Option, Some, None, Bool, true, false, cond, ◌==◌, ◌||◌, ◌&&◌, not, IsSome, subst, sym, ap, ◌∙◌, refl, arith, zero, suc, get_or, take, drop, inl, inr, ◌⊎◌}
+use Rattle.std.proofs.Common.{◌≡◌, ℕ, ◌+◌, ◌<◌, ◌≤◌, List, [], ◌∷◌, ◌++◌, length, map, Option, Some, None, Bool, true, false, ◌==◌, ◌&&◌, not, IsSome, subst, sym, ap, ◌∙◌, refl, arith, zero, suc, get_or, take, drop, inl, inr, ◌⊎◌}
 use Rattle.std.specs.Prelude.{All, nat_le, if◌then◌else◌, option_map, slice_get, is_some, option_and_then, unwrap_or}
 use Rattle.std.specs.List.{find, list_any}
 use Rattle.std.specs.List.Sorted.{IsSorted}
@@ -13,7 +13,7 @@ use Rattle.std.proofs.lemmas.Grind.{common_steps}
 use Rattle.std.proofs.lemmas.List.Elements.{All-nil, All-cons, All-head, All-tail}
 use Rattle.std.proofs.lemmas.List.Sorted.{sorted_far}
 use Rattle.std.proofs.lemmas.List.MinMax.{ranks_by}
-use Rattle.std.proofs.lemmas.Option.{get_or_from_slice_get, slice_get_within, slice_get-get_or}
+use Rattle.std.proofs.lemmas.Option.{slice_get-get_or}
 use Rattle.semver.specs.Parse.{Parts}
 use Rattle.edit_record.specs.Admissible.{admissible_in, asked_rust, candidate_in, entry_order, if_fits, if_passes, is_kept, is_too_new, version_in}
 use Rattle.edit_version.specs.Greatest.{IsGreatest, IsGreatestKept}

@@ -1,5 +1,5 @@
 -- A path is a front of a map's keys exactly where some key lies below it.
-use Rattle.std.proofs.Common.{◌≡◌, ◌≢◌, ℕ, ◌<◌, List, ◌∷◌, ◌++◌, length, Bool, true, Option, Some, None, IsSome, IsTrue, MatchBool, false, refl, [], subst, sym, ap, ◌∙◌, get_or, rules, arith, Decides}
+use Rattle.std.proofs.Common.{◌≡◌, ℕ, ◌<◌, List, ◌∷◌, ◌++◌, length, Bool, true, Option, Some, None, IsSome, IsTrue, MatchBool, false, refl, [], subst, sym, ap, ◌∙◌, get_or, arith}
 use Rattle.std.specs.Prelude.{String, string_bytes, option_map, slice_get}
 use Rattle.std.specs.BTreeMap.{BTreeMap, get_by_text, is_at, keys, ContainsKey}
 use Rattle.std.specs.String.{string_cmp}

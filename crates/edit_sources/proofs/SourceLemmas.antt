@@ -35,14 +35,6 @@ pub Adds_more : (a b c : BTreeMap (Bor (List ℕ)) Source) (xs ys : List Definit
 Adds_more a b c xs ys early late = λ key.
     late key ∙ ap (λ o. or_else o (first key ys)) (early key) ∙ or_else_assoc (found a key) (first key xs) (first key ys) ∙ ap (or_else (found a key)) (sym (first-append key xs ys))
 
-or_else_none : {A : Type 0} (a : Option A) → a ≡ or_else a None
-or_else_none None = refl
-or_else_none (Some x) = refl
-
--- none is added
-pub Adds_none : (a : BTreeMap (Bor (List ℕ)) Source) → Adds a a []
-Adds_none a = λ key. or_else_none (found a key)
-
 -- one entry more of a list of entries
 pub Adds_turn : {X Y : Type 0} (f : Y → Definition) (g : X → Y) (a b c : BTreeMap (Bor (List ℕ)) Source) (xs : List X) (i : ℕ) (x : X) (d : Definition)
     → i < length xs → x ≡ get_or xs i x → d ≡ f (g x) → Adds a b (map f (map g (take i xs))) → Adds b c (d ∷ []) → Adds a c (map f (map g (take (i + 1) xs)))

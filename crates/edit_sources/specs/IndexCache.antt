@@ -1,5 +1,5 @@
 -- The answers of an index that are kept: a finite map from address and name to the first answer (own).
-use Rattle.std.specs.Prelude.{◌≡◌, ◌≢◌, ℕ, ◌⊎◌, List, Option, Some, None, Bool, option_map, option_and_then, string_bytes, Result, Ok, Err, IsOk, IsSome, IfSome, IfErr, OnOk, OnErr}
+use Rattle.std.specs.Prelude.{◌≡◌, ◌≢◌, ℕ, ◌⊎◌, List, Option, None, Bool, option_map, option_and_then, string_bytes, Result, Ok, Err, IsOk, IsSome, IfSome, IfErr, OnOk, OnErr}
 use Rattle.std.specs.List.{list_any}
 use Rattle.std.specs.Str.{bytes_eq}
 use Rattle.std.specs.BTreeMap.{get_by_text}

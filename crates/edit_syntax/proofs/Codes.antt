@@ -18,14 +18,8 @@ scalar_after code rest = cond (list_all is_hex rest && is_scalar (digits_value_a
 hex_step : (code b : ℕ) (rest : List ℕ) → is_hex b ≡ true → scalar_after code (b ∷ rest) ≡ scalar_after (code * 16 + digit_value b) rest
 hex_step code b rest h = rw h refl
 
-other_step : (code b : ℕ) (rest : List ℕ) → is_hex b ≡ false → scalar_after code (b ∷ rest) ≡ None
-other_step code b rest h = rw h refl
-
 is_hex_below : (b : ℕ) → digit_value b < 16 → is_hex b ≡ true
 is_hex_below b lt = grind (arith, nat_tests)
-
-is_hex_above : (b : ℕ) → (digit_value b < 16 → ⊥) → is_hex b ≡ false
-is_hex_above b not = grind (arith, nat_tests)
 
 pub scalar_step : (code i : ℕ) (digits : List ℕ) → i < length digits → digit_value (get_or digits i 0) < 16 → scalar_after code (drop i digits) ≡ scalar_after (code * 16 + digit_value (get_or digits i 0)) (drop (i + 1) digits)
 scalar_step code i digits lt small =

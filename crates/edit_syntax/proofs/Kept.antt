@@ -9,7 +9,7 @@ use Rattle.std.proofs.lemmas.List.{take_all, drop_all, get_or_past, length-take-
 use Rattle.std.proofs.lemmas.Slice.Eq.{bytes_eq-Decides}
 use Rattle.edit_syntax.specs.declared.span.Span.{Span}
 use Rattle.edit_syntax.specs.declared.read.marks.MarkKind.{MarkKind}
-use Rattle.edit_syntax.specs.declared.read.marks.MarkKind.TheVariants.{BasicPart, BasicString, Integer, Float, DateTime}
+use Rattle.edit_syntax.specs.declared.read.marks.MarkKind.TheVariants.{BasicPart, BasicString}
 use Rattle.edit_syntax.specs.Characters.{is_unescaped}
 use Rattle.edit_syntax.specs.Decoding as decoding
 use Rattle.edit_syntax.specs.Decoding.{delimited, LineSays, Says}

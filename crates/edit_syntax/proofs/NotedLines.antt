@@ -46,10 +46,6 @@ header_noted old mid new bytes key_end rest k opened key noted closed ended =
     let tail : key_end ≡ blanks key_end ++ (right_bracket ∷ rest) = blank_parts key_end (right_bracket ∷ rest) (past_some right_bracket _ rest (omega arith) (sym closed)) in
     (s, here, header_marks kinds.Header old mid new bytes key_end rest (blanks key_end ++ (right_bracket ∷ rest)) k s noted ended tail sound.0)
 
-pub header_keyless : (bytes : List ℕ) → key_at (past_blanks (drop 1 bytes)) ≡ None → header_at bytes ≡ None
-unfolding header_at
-header_keyless bytes key = rw key refl
-
 -- ---- headers of elements
 
 element_here : (bytes key_end inner rest : List ℕ) (k : Key) → key_at (past_blanks (drop 2 bytes)) ≡ Some (k, key_end) → Some inner ≡ past right_bracket (past_blanks key_end) → Some rest ≡ past right_bracket inner
@@ -67,10 +63,6 @@ element_noted old mid new bytes key_end inner rest k opened again key noted one 
     let end = right_bracket ∷ (right_bracket ∷ rest) in
     let close : past_blanks key_end ≡ end = past_some right_bracket _ inner (omega arith) (sym one) ∙ ap (λ (r : List ℕ). right_bracket ∷ r) (past_some right_bracket inner rest (omega arith) (sym two)) in
     (s, here, header_marks kinds.ElementHeader old mid new bytes key_end rest (blanks key_end ++ end) k s noted ended (blank_parts key_end end close) sound.0)
-
-pub element_keyless : (bytes : List ℕ) → key_at (past_blanks (drop 2 bytes)) ≡ None → element_header_at bytes ≡ None
-unfolding element_header_at
-element_keyless bytes key = rw key refl
 
 -- ---- lines
 

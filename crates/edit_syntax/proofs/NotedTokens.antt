@@ -34,10 +34,6 @@ told_back kind k rest (Some x) e =
     (x.0, ap (λ (r : List ℕ). Some (x.0, r)) (sym b), ap (λ (p : MarkKind × List ℕ). p.0) pairs)
 told_back kind k rest None e = absurd cc
 
-untold : {A : Type 0} (kind : A → MarkKind) (read : Read A) → None ≡ told_token kind read → read ≡ None
-untold kind (Some x) e = absurd cc
-untold kind None e = refl
-
 -- the mark that was noted is that of the token's form
 same_mark : (j k : MarkKind) (a b rest : List ℕ) → j ≡ k → a ≡ b → mark j a rest ≡ mark k b rest
 same_mark j k a b rest e f = rw (e, f) refl

@@ -67,19 +67,6 @@ abbrev pub tail : Option (List ℕ) → List ℕ
 tail None = []
 tail (Some r) = 44 ∷ r
 
-strip-tail : (t : Option (List ℕ)) → strip_spaces (tail t) ≡ tail t
-unfolding strip_spaces
-strip-tail None = refl
-strip-tail (Some r) = refl
-
-digit-tail : (t : Option (List ℕ)) → starts_digit (tail t) ≡ false
-digit-tail None = refl
-digit-tail (Some r) = refl
-
-stops-tail : (t : Option (List ℕ)) → stops (tail t) ≡ true
-stops-tail None = refl
-stops-tail (Some r) = refl
-
 -- a comparator from its major number on
 abbrev pub from_major : Bool → Op → List ℕ → Result Parsed Error
 from_major default o text =

@@ -49,9 +49,6 @@ number-err bs r x h all e =
       | inr empty ↦ rw (all, empty) refl
     ]
 
-pub number-not : (bs : List ℕ) → is_numeric bs ≡ false → ◌≡◌ {A = Option ℕ} None (number_of bs)
-number-not bs fails = rw fails refl
-
 -- ---- the plain increments give a greater version
 
 above : (n : ℕ) → nat_cmp (n + 1) n ≡ Greater

@@ -1,12 +1,12 @@
 -- Worked rows: requirements that cannot be raised, pre-releases and carets; what increments and build metadata make of a version.
-use Rattle.std.proofs.Common.{◌≡◌, ◌-◌, ◌^◌, [], ◌∷◌, None, Some, refl}
+use Rattle.std.proofs.Common.{◌≡◌, ◌-◌, ◌^◌, [], None, Some, refl}
 use Rattle.std.specs.Prelude.{codes}
 use Rattle.std.specs.Fmt.{digits}
 use Rattle.semver.specs.Parse.{Parts}
 use Rattle.semver.specs.declared.Op.TheVariants as op
 use Rattle.semver.proofs.OnLiterals.{semver_on_literals}
 use Rattle.edit_version.specs.declared.version.Phase.TheVariants as phase
-use Rattle.edit_version.specs.Requirement.{raise, Nothing, Unsupported, Text}
+use Rattle.edit_version.specs.Requirement.{raise, Unsupported, Text}
 use Rattle.edit_version.specs.Increments.{Major, Minor, Patch, Pre, Behind, Scheme, AtEnd, Metadata, Refused, To, step, with_build}
 
 -- 2.0.0

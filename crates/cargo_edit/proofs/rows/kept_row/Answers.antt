@@ -1,11 +1,11 @@
-use Rattle.std.proofs.Common.{◌≡◌, ◌∙◌, List, ℕ, Option, ap, subst, sym}
+use Rattle.std.proofs.Common.{List, ℕ, Option, ap, subst, sym}
 use Rattle.std.specs.Prelude.{option_copied, option_map}
 use Rattle.std.proofs.lemmas.Result.{IfOk-weaker}
 use Rattle.edit_version.specs.RustVersions.{numbers_of}
 use Rattle.edit_sources.specs.IndexCache.{kept_at, ranking_at}
 use Rattle.edit_sources.specs.declared.ranking.Ranked.{Ranked}
 use Rattle.url.specs.Parts.{serialize}
-use Rattle.cargo_edit.specs.Found.{name_of, seen_of}
+use Rattle.cargo_edit.specs.Found.{seen_of}
 use Rattle.cargo_edit.specs.Lines.{line_of}
 use Rattle.cargo_edit.specs.Looks.{Answer, kept_by, versions_in}
 use Rattle.cargo_edit.specs.Rankings.{IsRankingOf}

@@ -1,4 +1,4 @@
-use Rattle.std.proofs.Common.{◌∙◌, List, ℕ, ap, subst}
+use Rattle.std.proofs.Common.{◌∙◌, List, ℕ, subst}
 use Rattle.std.specs.Prelude.{option_copied, option_map}
 use Rattle.edit_version.specs.RustVersions.{numbers_of}
 use Rattle.edit_version.specs.Selection.{IsCompatible, IsLatest}

@@ -1,4 +1,4 @@
-use Rattle.std.proofs.Common.{◌<◌, length, map, arith}
+use Rattle.std.proofs.Common.{◌<◌, length, arith}
 use Rattle.edit_document.specs.Ranges.{edits_seen}
 use Rattle.cargo_edit.specs.Found.{seen_of}
 use Rattle.cargo_edit.specs.Lines.{line_of}

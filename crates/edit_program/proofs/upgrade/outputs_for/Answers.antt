@@ -1,4 +1,4 @@
-use Rattle.std.proofs.Common.{◌≡◌, ◌⊎◌, [], List, subst, sym}
+use Rattle.std.proofs.Common.{◌⊎◌, [], List, subst, sym}
 use Rattle.edit_base.specs.Errors.{IsMemory}
 use Rattle.edit_sources.specs.FileIndex.{FileGives}
 use Rattle.edit_sources.specs.IndexCache.{index_of}

@@ -1,4 +1,4 @@
-use Rattle.std.proofs.Common.{◌≡◌, List, ℕ, ◌<◌, subst, sym, ◌∙◌, map}
+use Rattle.std.proofs.Common.{List, ℕ, ◌<◌, subst, sym, ◌∙◌}
 use Rattle.std.specs.Prelude.{All}
 use Rattle.edit_sources.proofs.NameLemmas.{small_name}
 use Rattle.edit_sources.proofs.index_path.path_below.Goals as goal

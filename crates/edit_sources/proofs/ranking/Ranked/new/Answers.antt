@@ -1,4 +1,4 @@
-use Rattle.std.proofs.Common.{map, refl}
+use Rattle.std.proofs.Common.{map}
 use Rattle.edit_record.specs.IndexEntry.{entry_of}
 use Rattle.edit_sources.proofs.RankLemmas.{ranking_from_sort}
 use Rattle.edit_sources.proofs.ranking.Ranked.new.Goals as goal
