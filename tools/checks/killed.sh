@@ -64,7 +64,9 @@ def main():
         usual = time.monotonic() - began
         own = set(os.listdir(room))
         killed = most = 0
-        for turn in range(KILLS):
+        for turn in range(4 * KILLS):
+            if killed == KILLS:
+                break
             put(manifest, OLD)
             killed += kill(room, turn, usual)
             if read(manifest) not in (OLD, NEW):
@@ -72,7 +74,7 @@ def main():
             most = max(most, len(set(os.listdir(room)) - own))
         faults = []
         if killed < KILLS // 2:
-            faults.append("%d runs were killed, of %d" % (killed, KILLS))
+            faults.append("%d runs were killed, of %d" % (killed, 4 * KILLS))
         if most == 0:
             faults.append("no run was killed in its write")
         if most > MOST_LEFT:
@@ -93,7 +95,7 @@ def main():
             faults.append("the manifest is written in place where names are taken")
         if any(os.fstat(file.fileno()).st_nlink != 1 for file in held):
             faults.append("a file that another run holds is taken")
-        print("%d runs of %d killed; at most %d files left at a time, %d in the end" % (killed, KILLS, most, left))
+        print("%d runs killed; at most %d files left at a time, %d in the end" % (killed, most, left))
         return faults
 
 
