@@ -95,9 +95,11 @@ fn plan_document<I: Index>(
         (kept_by index.old) (kept_by index.new) p.looks.items) }
     ensures lists { IfOk result Tells }
     ensures left { Leaves (IsNeededBy configs.now input.now.bytes.items) (I.view (index_of index.old)).gives
-        (I.view (index_of index.new)).gives (I.view (index_of index.old)).faults (I.view (index_of index.new)).faults
+        (I.view (index_of index.new)).gives (I.view (index_of index.old)).faults (I.view
+        (index_of index.new)).faults
         (kept_by index.old) (kept_by index.new) }
-    ensures refused { IfErr result (λ e. IsMemory e ⊎ HasBadEntry configs.now (I.view (index_of index.old)).gives
+    ensures refused { IfErr result (λ e. IsMemory e
+        ⊎ HasBadEntry configs.now (I.view (index_of index.old)).gives
         (kept_by index.old) (kept_by index.new)
         (I.view (index_of index.old)).faults (I.view (index_of index.new)).faults input.now.bytes.items e) }
 {
@@ -122,10 +124,12 @@ fn plan_manifest<I: Index>(
         (kept_by index.old) (kept_by index.new) p.looks.items) }
     ensures lists { IfOk result Tells }
     ensures left { Leaves (IsNeededBy configs.now input.now.bytes.items) (I.view (index_of index.old)).gives
-        (I.view (index_of index.new)).gives (I.view (index_of index.old)).faults (I.view (index_of index.new)).faults
+        (I.view (index_of index.new)).gives (I.view (index_of index.old)).faults (I.view
+        (index_of index.new)).faults
         (kept_by index.old) (kept_by index.new) }
     ensures refused { IfErr result
-        (λ e. IsBadManifest input.now.bytes.items e ⊎ HasBadEntry configs.now (I.view (index_of index.old)).gives
+        (λ e. IsBadManifest input.now.bytes.items e
+        ⊎ HasBadEntry configs.now (I.view (index_of index.old)).gives
         (kept_by index.old) (kept_by index.new)
         (I.view (index_of index.old)).faults (I.view (index_of index.new)).faults input.now.bytes.items e) }
 {

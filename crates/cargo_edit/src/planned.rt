@@ -70,9 +70,11 @@ fn plan_entries<I: Index>(
         (λ p. AreLooks (IsNeededBy configs.now input.now.bytes.items) (I.view (index_of index.old)).gives
         (kept_by index.old) (kept_by index.new) p.looks.items) }
     ensures left { Leaves (IsNeededBy configs.now input.now.bytes.items) (I.view (index_of index.old)).gives
-        (I.view (index_of index.new)).gives (I.view (index_of index.old)).faults (I.view (index_of index.new)).faults
+        (I.view (index_of index.new)).gives (I.view (index_of index.old)).faults (I.view
+        (index_of index.new)).faults
         (kept_by index.old) (kept_by index.new) }
-    ensures refused { IfErr result (λ e. IsMemory e ⊎ HasBadEntry configs.now (I.view (index_of index.old)).gives
+    ensures refused { IfErr result (λ e. IsMemory e
+        ⊎ HasBadEntry configs.now (I.view (index_of index.old)).gives
         (kept_by index.old) (kept_by index.new)
         (I.view (index_of index.old)).faults (I.view (index_of index.new)).faults input.now.bytes.items e) }
 {
@@ -114,9 +116,11 @@ pub(crate) fn plan_input<I: Index>(
         (λ p. AreLooks (IsNeededBy configs.now input.now.bytes.items) (I.view (index_of index.old)).gives
         (kept_by index.old) (kept_by index.new) p.looks.items) }
     ensures left { Leaves (IsNeededBy configs.now input.now.bytes.items) (I.view (index_of index.old)).gives
-        (I.view (index_of index.new)).gives (I.view (index_of index.old)).faults (I.view (index_of index.new)).faults
+        (I.view (index_of index.new)).gives (I.view (index_of index.old)).faults (I.view
+        (index_of index.new)).faults
         (kept_by index.old) (kept_by index.new) }
-    ensures refused { IfErr result (λ e. IsMemory e ⊎ HasBadEntry configs.now (I.view (index_of index.old)).gives
+    ensures refused { IfErr result (λ e. IsMemory e
+        ⊎ HasBadEntry configs.now (I.view (index_of index.old)).gives
         (kept_by index.old) (kept_by index.new)
         (I.view (index_of index.old)).faults (I.view (index_of index.new)).faults input.now.bytes.items e) }
 {

@@ -80,7 +80,8 @@ impl Lookup {
 
     /// Takes the table out, or makes one where there is none.
     fn take_table(&mut self, alloc: Global) -> CargoResult<Box<BTreeMap<String, usize>>>
-        ensures same { IfOk result (λ table. (name : List ℕ) → get_by_text table.value name ≡ number_of self.old name) }
+        ensures same { IfOk result (λ table. (name : List ℕ) → get_by_text table.value name
+            ≡ number_of self.old name) }
         ensures refused { IfErr result IsMemory }
     {
         match self.table.take() {
@@ -91,7 +92,8 @@ impl Lookup {
 
     /// Adds a name.
     fn insert(&mut self, alloc: Global, name: String, number: usize) -> CargoResult<()>
-        ensures added { IfOk result (λ _. (other : List ℕ) → number_of self.new other ≡ (if bytes_eq (string_bytes name) other then Some number else number_of self.old other)) }
+        ensures added { IfOk result (λ _. (other : List ℕ) → number_of self.new other
+            ≡ (if bytes_eq (string_bytes name) other then Some number else number_of self.old other)) }
         ensures refused { IfErr result IsMemory }
     {
         let mut table = self.take_table(alloc)?;
@@ -197,8 +199,11 @@ impl Members {
         name: Words,
         number: usize,
     ) -> CargoResult<()>
-        ensures added { IfOk result (λ _. entries_of text.now self.new ≡ entries_of text.now self.old ++ (bytes_of text.now name, number) ∷ []) }
-        ensures indexed { IsIndexed text.now self.old → number_in (entries_of text.now self.old) (bytes_of text.now name) ≡ None → IfOk result (λ _. IsIndexed text.now self.new) }
+        ensures added { IfOk result (λ _. entries_of text.now self.new ≡ entries_of text.now self.old
+            ++ (bytes_of text.now name, number) ∷ []) }
+        ensures indexed { IsIndexed text.now self.old
+            → number_in (entries_of text.now self.old) (bytes_of text.now name) ≡ None → IfOk result
+            (λ _. IsIndexed text.now self.new) }
         ensures refused { IfErr result IsMemory }
     {
         if self.list.len() >= FEW {

@@ -65,7 +65,8 @@ impl Walk {
 
     /// A part of a key waits, behind those before it.
     fn await_name(&mut self, name: Words) -> CargoResult<()>
-        ensures goes { IfOk result (λ _. (text : List ℕ) (st : State) → Walks text self.old st → Walks text self.new (awaiting st (bytes_of text name))) }
+        ensures goes { IfOk result (λ _. (text : List ℕ) (st : State) → Walks text self.old st
+            → Walks text self.new (awaiting st (bytes_of text name))) }
         ensures refused { IfErr result IsMemory }
     {
         if let Some(front) = self.name.take() {
@@ -96,7 +97,9 @@ impl Walk {
         taken: Taken,
         span: Option<Span>,
     ) -> CargoResult<Option<usize>>
-        ensures goes { (st : State) → Walks text.now self.old st → IfOk result (Settles text.now self.new (settled st number front (shape_of text.now content) taken span)) }
+        ensures goes { (st : State) → Walks text.now self.old st
+            → IfOk result (Settles text.now self.new (settled st number front
+            (shape_of text.now content) taken span)) }
         ensures refused { IfErr result IsMemory }
     {
         let Some(name) = self.name.take() else {
@@ -136,7 +139,8 @@ impl Walk {
         content: Content,
         span: Option<Span>,
     ) -> CargoResult<Option<usize>>
-        ensures goes { (st : State) → Walks text.now self.old st → IfOk result (Settles text.now self.new (entered_at st (shape_of text.now content) span)) }
+        ensures goes { (st : State) → Walks text.now self.old st
+            → IfOk result (Settles text.now self.new (entered_at st (shape_of text.now content) span)) }
         ensures refused { IfErr result IsMemory }
     {
         let Some(number) = self.tables.last().copied() else {
@@ -164,7 +168,8 @@ impl Walk {
         content: Content,
         span: Option<Span>,
     ) -> CargoResult<bool>
-        ensures goes { (st : State) → Walks text.now self.old st → IfOk result (Goes text.now self.new (entered st (shape_of text.now content) span)) }
+        ensures goes { (st : State) → Walks text.now self.old st
+            → IfOk result (Goes text.now self.new (entered st (shape_of text.now content) span)) }
         ensures refused { IfErr result IsMemory }
     {
         Ok(self.enter_at(alloc, text, content, span)?.is_some())
@@ -172,7 +177,8 @@ impl Walk {
 
     /// An array or an inline table opens.
     fn open(&mut self, alloc: Global, text: &str, content: Content, span: Span) -> CargoResult<bool>
-        ensures goes { (st : State) → Walks text.now self.old st → IfOk result (Goes text.now self.new (opened st (shape_of text.now content) (Some span))) }
+        ensures goes { (st : State) → Walks text.now self.old st
+            → IfOk result (Goes text.now self.new (opened st (shape_of text.now content) (Some span))) }
         ensures refused { IfErr result IsMemory }
     {
         let Some(number) = self.enter_at(alloc, text, content, Some(span))? else {
@@ -184,7 +190,8 @@ impl Walk {
 
     /// The innermost table or array ends before so many bytes.
     fn close(&mut self, to: u32) -> bool
-        ensures { (text : List ℕ) (st : State) → Walks text self.old st → Goes text self.new (closed st to) result }
+        ensures { (text : List ℕ) (st : State) → Walks text self.old st
+            → Goes text self.new (closed st to) result }
     {
         let Some(number) = self.tables.pop() else {
             return false;
@@ -205,7 +212,8 @@ impl Walk {
 
     /// This table and no other is open.
     fn turn_to(&mut self, number: usize) -> CargoResult<()>
-        ensures turned { IfOk result (λ _. (text : List ℕ) (st : State) → Walks text self.old st → Walks text self.new (record st { tables = number ∷ [] })) }
+        ensures turned { IfOk result (λ _. (text : List ℕ) (st : State) → Walks text self.old st
+            → Walks text self.new (record st { tables = number ∷ [] })) }
         ensures refused { IfErr result IsMemory }
     {
         self.tables.clear();
@@ -215,7 +223,8 @@ impl Walk {
 
     /// The waiting key becomes a header.
     fn head(&mut self, alloc: Global, text: &str) -> CargoResult<bool>
-        ensures goes { (st : State) → Walks text.now self.old st → IfOk result (Goes text.now self.new (headed st)) }
+        ensures goes { (st : State) → Walks text.now self.old st
+            → IfOk result (Goes text.now self.new (headed st)) }
         ensures refused { IfErr result IsMemory }
     {
         let Some(number) = self.settle(
@@ -236,7 +245,8 @@ impl Walk {
 
     /// The waiting key becomes the header of an element.
     fn head_element(&mut self, alloc: Global, text: &str) -> CargoResult<bool>
-        ensures goes { (st : State) → Walks text.now self.old st → IfOk result (Goes text.now self.new (element_headed st)) }
+        ensures goes { (st : State) → Walks text.now self.old st
+            → IfOk result (Goes text.now self.new (element_headed st)) }
         ensures refused { IfErr result IsMemory }
     {
         let Some(number) = self.settle(
@@ -268,7 +278,8 @@ impl Walk {
 
     /// Takes the next mark. Answers whether the document may go on so.
     fn take(&mut self, alloc: Global, text: &str, mark: Mark) -> CargoResult<bool>
-        ensures goes { (st : State) → Walks text.now self.old st → IsToken text.now mark → IfOk result (Goes text.now self.new (step text.now mark st)) }
+        ensures goes { (st : State) → Walks text.now self.old st → IsToken text.now mark
+            → IfOk result (Goes text.now self.new (step text.now mark st)) }
         ensures refused { IfErr result IsMemory }
     {
         let span = Span {
@@ -305,7 +316,8 @@ impl Walk {
 /// The nodes of a text with these marks.
 pub(crate) fn nodes_of(alloc: Global, text: &str, marks: &[Mark]) -> CargoResult<Vec<Node>>
     ensures nodes { AllByRecursion (IsToken text.now) marks.now
-        → MatchResult result (λ v. KeepsState text.now v.items (walked text.now marks.now start)) (λ e. (IsMemory e → ⊥) → walked text.now marks.now start ≡ None) }
+        → MatchResult result (λ v. KeepsState text.now v.items (walked text.now marks.now start))
+        (λ e. (IsMemory e → ⊥) → walked text.now marks.now start ≡ None) }
     ensures refused { IfErr result (IsReadRefusal (length text.now)) }
 {
     let mut walk = Walk::new(alloc, marks.len())?;

@@ -60,11 +60,14 @@ fn answer<S: Store, O: io::Write, E: io::Write>(
     ensures answered { IfOk result (λ s. s ≢ 0 → files.new ≡ files.old) }
     ensures fault { IfOk result (λ s. s ≢ 0 → (s ≡ 2) × AreAtFault (map (λ w. w.now) words.now)) }
     ensures done { IfOk result (λ s. s ≡ 0 → (S.view files.old).tells ≡ true
-        → IsDone (map (λ w. w.now) words.now) current.now (S.view files.old).file_at (S.view files.new).file_at) }
+        → IsDone (map (λ w. w.now) words.now) current.now (S.view files.old).file_at
+        (S.view files.new).file_at) }
     ensures refused { OnErr result ((S.view files.old).tells ≡ true
-        → IsRefused (map (λ w. w.now) words.now) current.now (S.view files.old).file_at (S.view files.new).file_at) }
+        → IsRefused (map (λ w. w.now) words.now) current.now (S.view files.old).file_at
+        (S.view files.new).file_at) }
     ensures why { IfErr result (λ r. IsRunCause (map (λ w. w.now) words.now) current.now
-        (S.view files.old).tells (S.view files.old).file_at (S.view files.old).faults (S.view files.new).faults r.error) }
+        (S.view files.old).tells (S.view files.old).file_at (S.view files.old).faults
+        (S.view files.new).faults r.error) }
 {
     let command = command(alloc)?;
     let matches = match command.try_get_matches_from(words) {
@@ -78,11 +81,11 @@ fn answer<S: Store, O: io::Write, E: io::Write>(
     Ok(0)
 }
 
-/// Runs the words, which begin with the subcommand, and answers the status: 0 done; 1 a refusal, whose text is
-/// printed on `err` behind `Error: `, with its place in a second line where it is known; 2 a fault of the
-/// command line, also an empty path. `current` is the absolute folder that relative paths start from. Manifests
-/// and the index file are read and written through `files`; `index_files` serves the indexes of folders, and
-/// `cargo_home` the configurations, which no command reads so far.
+/// Runs the words, which begin with the subcommand, and answers the status: 0 done; 1 a refusal, whose text
+/// is printed on `err` behind `Error: `, with its place in a second line where it is known; 2 a fault of the
+/// command line, also an empty path. `current` is the absolute folder that relative paths start from.
+/// Manifests and the index file are read and written through `files`; `index_files` serves the indexes of
+/// folders, and `cargo_home` the configurations, which no command reads so far.
 pub fn run<S: Store, T: Store + Drop, O: io::Write, E: io::Write>(
     alloc: Global,
     words: &[&str],
@@ -97,9 +100,11 @@ pub fn run<S: Store, T: Store + Drop, O: io::Write, E: io::Write>(
     ensures faulty { result ≡ 2 → files.new ≡ files.old }
     ensures fault { result ≡ 2 → AreAtFault (map (λ w. w.now) words.now) }
     ensures done { result ≡ 0 → (S.view files.old).tells ≡ true
-        → IsDone (map (λ w. w.now) words.now) current.now (S.view files.old).file_at (S.view files.new).file_at }
+        → IsDone (map (λ w. w.now) words.now) current.now (S.view files.old).file_at
+        (S.view files.new).file_at }
     ensures refused { result ≡ 1 → (S.view files.old).tells ≡ true
-        → IsRefused (map (λ w. w.now) words.now) current.now (S.view files.old).file_at (S.view files.new).file_at }
+        → IsRefused (map (λ w. w.now) words.now) current.now (S.view files.old).file_at
+        (S.view files.new).file_at }
 {
     match answer(alloc, words, current, files, out, err) {
         Ok(status) => status,

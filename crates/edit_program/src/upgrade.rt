@@ -126,7 +126,8 @@ fn read_manifest<S: Store>(
         → IsManifestRead (S.view files.old).file_at current.now named.now
         (string_bytes m.input.path) m.input.bytes.items (option_map numbers_of m.input.rust_version)) }
     ensures document { IfOk result (λ m. m.document.bytes ≡ m.input.bytes.items) }
-    ensures refused { IfErr result (λ r. IsFault call.Kind (S.view files.old).faults (S.view files.new).faults r.error
+    ensures refused { IfErr result (λ r. IsFault call.Kind (S.view files.old).faults
+        (S.view files.new).faults r.error
         ⊎ (IsFault call.Read (S.view files.old).faults (S.view files.new).faults r.error
         ⊎ ((S.view files.old).tells ≡ true
         → IsManifestCause (S.view files.old).file_at current.now named.now r.error))) }
@@ -150,8 +151,10 @@ fn read_index<S: Store>(
     ensures store { OnlyReads (S.view files.old) (S.view files.new) }
     ensures read { IfOk result (λ i. (S.view files.old).tells ≡ true
         → IsIndexRead (S.view files.old).file_at current.now named.now i) }
-    ensures refused { IfErr result (λ r. IsFault call.Read (S.view files.old).faults (S.view files.new).faults r.error
-        ⊎ ((S.view files.old).tells ≡ true → IsIndexCause (S.view files.old).file_at current.now named.now r.error)) }
+    ensures refused { IfErr result (λ r. IsFault call.Read (S.view files.old).faults
+        (S.view files.new).faults r.error
+        ⊎ ((S.view files.old).tells ≡ true
+        → IsIndexCause (S.view files.old).file_at current.now named.now r.error)) }
 {
     let path = absolute(alloc, current, named)?;
     let lines = match files.read(alloc, path.as_str()) {
@@ -228,7 +231,8 @@ pub(crate) fn upgrade<S: Store>(
     files: &mut S,
 ) -> RunResult<()>
     ensures tells { (S.view files.new).tells ≡ (S.view files.old).tells }
-    ensures done { OnOk result ((S.view files.old).tells ≡ true → IsUpgraded current.now words.now.manifest_path.now
+    ensures done { OnOk result ((S.view files.old).tells ≡ true
+        → IsUpgraded current.now words.now.manifest_path.now
         words.now.index_file.now (S.view files.old).file_at (S.view files.new).file_at) }
     // a refusal before the write leaves each file as it was
     ensures refused { OnErr result ((S.view files.old).tells ≡ true
@@ -236,7 +240,8 @@ pub(crate) fn upgrade<S: Store>(
         ⊎ IsCutShort current.now words.now.manifest_path.now words.now.index_file.now
         (S.view files.old).file_at (S.view files.new).file_at) }
     // and each refusal has its cause
-    ensures why { IfErr result (λ r. IsUpgradeCause (S.view files.old).tells (S.view files.old).file_at current.now
+    ensures why { IfErr result (λ r. IsUpgradeCause (S.view files.old).tells
+        (S.view files.old).file_at current.now
         words.now.manifest_path.now words.now.index_file.now
         (S.view files.old).faults (S.view files.new).faults r.error) }
 {

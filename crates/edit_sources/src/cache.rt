@@ -114,7 +114,8 @@ impl<I: Index> IndexCache<I> {
     ///
     /// Refused as a look of the index is, or for want of memory; then no answer is added.
     pub fn fetch(&mut self, alloc: Global, registry: &Url, name: &str) -> CargoResult<()>
-        ensures { Fetches (I.view (index_of self.old)) (I.view (index_of self.new)) registry.now name.now self.old self.new result }
+        ensures { Fetches (I.view (index_of self.old)) (I.view
+            (index_of self.new)) registry.now name.now self.old self.new result }
     {
         if self.kept(registry.as_str(), name).is_some() {
             return Ok(());
@@ -136,7 +137,8 @@ impl<I: Index> IndexCache<I> {
         ensures kept { IfOk result (λ o. IfSome (kept_at self.old (serialize registry.now) name.now)
             (λ k. option_copied o ≡ k)) }
         ensures given { kept_at self.old (serialize registry.now) name.now ≡ None → IfOk result
-            (λ o. (I.view (index_of self.old)).gives registry.now name.now (Ok (answer_of (option_copied o)))) }
+            (λ o. (I.view (index_of self.old)).gives registry.now name.now (Ok (answer_of
+            (option_copied o)))) }
         // a kept answer is never refused
         ensures kept_answers { IsSome (kept_at self.old (serialize registry.now) name.now) → IsOk result }
         ensures refused { IfErr result (IsMissed (I.view (index_of self.old)).gives registry.now name.now
@@ -152,7 +154,8 @@ impl<I: Index> IndexCache<I> {
     pub fn has_krate(&mut self, alloc: Global, registry: &Url, name: &str) -> CargoResult<bool>
         ensures answer { IfOk result (λ b. IsTrue b
             ↔ IsSome (krate_at self.new (serialize registry.now) name.now)) }
-        ensures fetched { Fetches (I.view (index_of self.old)) (I.view (index_of self.new)) registry.now name.now self.old self.new result }
+        ensures fetched { Fetches (I.view (index_of self.old)) (I.view
+            (index_of self.new)) registry.now name.now self.old self.new result }
     {
         match self.fetch(alloc, registry, name) {
             Ok(()) => Ok(self.shown(registry, name).is_some()),
@@ -170,7 +173,8 @@ impl<I: Index> IndexCache<I> {
     ) -> CargoResult<Option<bool>>
         ensures answer { IfOk result (λ b. b ≡ option_map (λ k. has_version k version.now)
             (krate_at self.new (serialize registry.now) name.now)) }
-        ensures fetched { Fetches (I.view (index_of self.old)) (I.view (index_of self.new)) registry.now name.now self.old self.new result }
+        ensures fetched { Fetches (I.view (index_of self.old)) (I.view
+            (index_of self.new)) registry.now name.now self.old self.new result }
     {
         match self.fetch(alloc, registry, name) {
             Ok(()) => Ok(holds_version(self.shown(registry, name), version)),
@@ -183,7 +187,8 @@ impl<I: Index> IndexCache<I> {
     /// Refused as `fetch` is. Want of memory while ranking leaves the answer and no ranking; a later
     /// call ranks.
     pub fn rank(&mut self, alloc: Global, registry: &Url, name: &str) -> CargoResult<()>
-        ensures { Ranks (I.view (index_of self.old)) (I.view (index_of self.new)) registry.now name.now self.old self.new result }
+        ensures { Ranks (I.view (index_of self.old)) (I.view
+            (index_of self.new)) registry.now name.now self.old self.new result }
     {
         match self.fetch(alloc, registry, name) {
             Ok(()) => self.rank_kept(alloc, registry, name),

@@ -30,7 +30,8 @@ fn folders_upwards<'a>(alloc: Global, path: &'a str) -> Result<Vec<&'a str>, All
 
 /// The folders where configuration files may stand.
 fn places(alloc: Global, manifest_path: &str, cargo_home: Option<&str>) -> CargoResult<Vec<String>>
-    ensures searched { IfOk result (λ v. IsSearched manifest_path.now (given cargo_home.entry) (map string_bytes v.items)) }
+    ensures searched { IfOk result (λ v. IsSearched manifest_path.now (given cargo_home.entry)
+        (map string_bytes v.items)) }
     ensures refused { IfErr result IsMemory }
 {
     let folders = folders_upwards(alloc, manifest_path)?;
@@ -47,8 +48,11 @@ fn places(alloc: Global, manifest_path: &str, cargo_home: Option<&str>) -> Cargo
 /// The configuration in a file, none where no file stands.
 fn read_file<S: Store>(alloc: Global, store: &mut S, path: &str) -> CargoResult<Option<Config>>
     ensures store { OnlyReads (S.view store.old) (S.view store.new) }
-    ensures read { IfOk result (λ found. (S.view store.old).tells ≡ true → IsReadOf (standing (S.view store.old).file_at path.now) found) }
-    ensures refused { IfErr result (λ e. IsMemory e ⊎ (HasFailed (S.view store.old).faults (S.view store.new).faults e ⊎ FileFails (S.view store.old).tells (standing (S.view store.old).file_at path.now) e)) }
+    ensures read { IfOk result (λ found. (S.view store.old).tells ≡ true
+        → IsReadOf (standing (S.view store.old).file_at path.now) found) }
+    ensures refused { IfErr result (λ e. IsMemory e
+        ⊎ (HasFailed (S.view store.old).faults (S.view store.new).faults e
+        ⊎ FileFails (S.view store.old).tells (standing (S.view store.old).file_at path.now) e)) }
 {
     let bytes = match store.read(alloc, path) {
         Ok(Some(bytes)) => bytes,
@@ -64,8 +68,11 @@ fn read_file<S: Store>(alloc: Global, store: &mut S, path: &str) -> CargoResult<
 /// The configuration that counts in a place, none where no file stands there.
 fn config_in<S: Store>(alloc: Global, store: &mut S, place: &str) -> CargoResult<Option<Config>>
     ensures store { OnlyReads (S.view store.old) (S.view store.new) }
-    ensures read { IfOk result (λ found. (S.view store.old).tells ≡ true → IsReadOf (file_in (S.view store.old).file_at place.now) found) }
-    ensures refused { IfErr result (λ e. IsMemory e ⊎ (HasFailed (S.view store.old).faults (S.view store.new).faults e ⊎ FileFails (S.view store.old).tells (file_in (S.view store.old).file_at place.now) e)) }
+    ensures read { IfOk result (λ found. (S.view store.old).tells ≡ true
+        → IsReadOf (file_in (S.view store.old).file_at place.now) found) }
+    ensures refused { IfErr result (λ e. IsMemory e
+        ⊎ (HasFailed (S.view store.old).faults (S.view store.new).faults e
+        ⊎ FileFails (S.view store.old).tells (file_in (S.view store.old).file_at place.now) e)) }
 {
     let path = match join(alloc, place, "config") {
         Ok(path) => path,
@@ -99,8 +106,11 @@ fn add(configs: &mut Vec<Config>, found: Option<Config>) -> Result<(), AllocErro
 /// The configurations that count in these places, in their order.
 fn configs_in<S: Store>(alloc: Global, store: &mut S, places: &[String]) -> CargoResult<Vec<Config>>
     ensures store { OnlyReads (S.view store.old) (S.view store.new) }
-    ensures read { IfOk result (λ v. (S.view store.old).tells ≡ true → AllZip IsReadFrom (files_in (S.view store.old).file_at (map string_bytes places.now)) v.items) }
-    ensures refused { IfErr result (λ e. IsMemory e ⊎ (HasFailed (S.view store.old).faults (S.view store.new).faults e ⊎ PlaceFails (S.view store.old).tells (S.view store.old).file_at (map string_bytes places.now) e)) }
+    ensures read { IfOk result (λ v. (S.view store.old).tells ≡ true
+        → AllZip IsReadFrom (files_in (S.view store.old).file_at (map string_bytes places.now)) v.items) }
+    ensures refused { IfErr result (λ e. IsMemory e
+        ⊎ (HasFailed (S.view store.old).faults (S.view store.new).faults e
+        ⊎ PlaceFails (S.view store.old).tells (S.view store.old).file_at (map string_bytes places.now) e)) }
 {
     let mut configs = Vec::new(alloc);
     for place in places {
@@ -125,8 +135,12 @@ pub fn read_configs<S: Store>(
     cargo_home: Option<&str>,
 ) -> CargoResult<Vec<Config>>
     ensures store { OnlyReads (S.view store.old) (S.view store.new) }
-    ensures read { IfOk result (λ v. (S.view store.old).tells ≡ true → AreConfigs (S.view store.old).file_at manifest_path.now (given cargo_home.entry) v.items) }
-    ensures refused { IfErr result (λ e. IsMemory e ⊎ (HasFailed (S.view store.old).faults (S.view store.new).faults e ⊎ ConfigsFail (S.view store.old).tells (S.view store.old).file_at manifest_path.now (given cargo_home.entry) e)) }
+    ensures read { IfOk result (λ v. (S.view store.old).tells ≡ true
+        → AreConfigs (S.view store.old).file_at manifest_path.now (given cargo_home.entry) v.items) }
+    ensures refused { IfErr result (λ e. IsMemory e
+        ⊎ (HasFailed (S.view store.old).faults (S.view store.new).faults e
+        ⊎ ConfigsFail (S.view store.old).tells (S.view store.old).file_at manifest_path.now
+        (given cargo_home.entry) e)) }
 {
     let places = match places(alloc, manifest_path, cargo_home) {
         Ok(places) => places,

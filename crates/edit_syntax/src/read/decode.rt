@@ -49,7 +49,8 @@ pub fn content(text: &str, mark: Mark) -> &str
 /// Where the content of the token with this mark stands.
 pub fn content_span(mark: Mark) -> Span
     // However the text is split at the token.
-    ensures { (text before content rest said : List ℕ) → IsUtf8 text → text ≡ before ++ delimited mark.kind content rest →
+    ensures { (text before content rest said : List ℕ) → IsUtf8 text → text ≡ before
+        ++ delimited mark.kind content rest →
         mark.from ≡ length (delimited mark.kind content rest) → mark.to ≡ length rest →
         Says mark.kind content said → bytes_at text result ≡ content }
 {
@@ -102,7 +103,8 @@ fn coded(bytes: &[u8], n: usize) -> char
 /// The character that the escape at the front names, and how many bytes the escape has.
 fn escape(bytes: &[u8]) -> (char, usize)
     ensures some { 2 ≤ result.1 }
-    ensures names { (p : Piece) (rest : List ℕ) → IsEscape p → IsBasicPiece p → bytes.now ≡ piece quote p rest →
+    ensures names { (p : Piece) (rest : List ℕ) → IsEscape p → IsBasicPiece p → bytes.now
+        ≡ piece quote p rest →
         (encode_utf8 result.0 ≡ strings.said quote p) × (result.1 ≡ length (piece quote p [])) }
 {
     let letter = byte_at(bytes, 1);
@@ -138,7 +140,8 @@ fn behind(s: &str, n: usize) -> &str
 
 /// Takes the escape or the fold at the front, and tells how many bytes it has.
 fn push_piece(out: &mut String, bytes: &[u8]) -> CargoResult<usize>
-    ensures says { (p : Piece) (rest : List ℕ) → IsMarked p → IsMultiPiece p → FoldStops p (reading.first rest) → bytes.now ≡ piece quote p rest →
+    ensures says { (p : Piece) (rest : List ℕ) → IsMarked p → IsMultiPiece p
+        → FoldStops p (reading.first rest) → bytes.now ≡ piece quote p rest →
         IfOk result (λ n. (string_bytes out.new ≡ string_bytes out.old ++ strings.said quote p) × (n ≡ length (piece quote p []))) }
     ensures some { IfOk result (λ n. 1 ≤ n) }
     ensures refused { IfErr result IsMemory }
