@@ -1,6 +1,7 @@
 //! Tests of documents.
 mod answers;
 mod arrays;
+mod inline_lines;
 mod keys;
 mod literals;
 mod paths;
