@@ -58,6 +58,11 @@ pub mod LocatedEdits
 pub mod SortedRewrites
 pub mod ReplacementLaws
 pub mod ReplacedDocuments
+-- A value set at a place
+pub mod WidenedForms
+pub mod WidenedViews
+pub mod NewValues
+pub mod SetValues
 -- Worked examples
 pub mod ReplaceFacts
 pub mod FromReader

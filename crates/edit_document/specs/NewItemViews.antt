@@ -1,5 +1,5 @@
 -- What a contract sees of the new values and entries of the code.
-use Rattle.std.specs.Prelude.{ℕ, Bool, false, List, [], map, string_bytes}
+use Rattle.std.specs.Prelude.{ℕ, ◌≤◌, Bool, false, ⊤, List, [], length, map, string_bytes}
 use Rattle.std.specs.declared.string.String.{String}
 use Rattle.std.specs.declared.alloc.Global.{Global}
 use Rattle.edit_document.specs.declared.new_item.NewValue.{NewValue as WrittenValue}
@@ -7,6 +7,7 @@ use Rattle.edit_document.specs.declared.new_item.NewValue.TheVariants.{Str, Bool
 use Rattle.edit_document.specs.declared.new_item.NewItem.{NewItem as WrittenItem}
 use Rattle.edit_document.specs.declared.new_item.NewItem.TheVariants.{Value, Inline}
 use Rattle.edit_document.specs.NewItems.{NewValue, a_string, a_truth, a_list, NewItem, a_value, a_table, item_value}
+use Rattle.edit_document.specs.Assertions.{Place}
 use Rattle.edit_syntax.specs.Grammar.{value}
 
 -- a new value of the code
@@ -36,3 +37,8 @@ item_text item = value (item_value item) []
 abbrev pub is_dotted : NewItem → Bool
 is_dotted (a_value v) = false
 is_dotted (a_table by_dots ms) = by_dots
+
+-- a list asserts places one step below its own, and no place has more than 80 steps
+abbrev pub HasRoom : Place → NewValue → Type 0
+HasRoom place (a_list ss) = length place ≤ 79
+HasRoom place v = ⊤

@@ -9,6 +9,7 @@ pub mod new_item;
 mod nodes;
 pub mod place;
 mod replace;
+mod set_value;
 mod walk;
 mod words;
 
