@@ -3,6 +3,7 @@ mod answers;
 mod arrays;
 mod keys;
 mod literals;
+mod new_items;
 mod paths;
 mod shown;
 mod texts;
