@@ -41,6 +41,7 @@ pub mod Documents
 -- Values replaced by literals
 pub mod LiteralLaws
 pub mod LiteralBytes
+pub mod NewItemTexts
 pub mod ThinnedForms
 pub mod ThinnedLines
 pub mod ThinnedViews
@@ -57,6 +58,11 @@ pub mod LocatedEdits
 pub mod SortedRewrites
 pub mod ReplacementLaws
 pub mod ReplacedDocuments
+-- A value set at a place
+pub mod WidenedForms
+pub mod WidenedViews
+pub mod NewValues
+pub mod SetValues
 -- Worked examples
 pub mod ReplaceFacts
 pub mod FromReader

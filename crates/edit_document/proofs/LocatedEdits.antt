@@ -10,6 +10,7 @@ use Rattle.std.specs.Str.{IsUtf8}
 use Rattle.edit_syntax.specs.Grammar.{Text, text}
 use Rattle.edit_document.specs.Assertions.{Place, same_place}
 use Rattle.edit_document.specs.Written.{Valued, start_of, end_of}
+use Rattle.edit_document.specs.Literals.{literal_of}
 use Rattle.edit_document.specs.Replaces.{Edits, new_text, replaced, edited, AreDistinct}
 use Rattle.edit_document.specs.Splices.{Range, ranges_of, IsRangeFor, AreRanges, Locates}
 use Rattle.edit_syntax.proofs.Members.{Among, among_contained, contained_among, among_all, among_map}
@@ -125,7 +126,7 @@ located_rewrite whole form edits rs qs h utf8 p up =
     let fine = h.document.grammar.well_formed in
     let free = apart_none edits form (values_apart edits form h.document.no_clash h.values h.outside) in
     let first = first_of_distinct edits h.distinct in
-    let rises = swaps_rise (text form) (text (replaced edits form)) (edited edits form) (replaced_swaps edits form free) (edits_enclosed form edits fine) in
+    let rises = swaps_rise (text form) (text (replaced edits form)) (edited edits form) (replaced_swaps literal_of edits form free) (edits_enclosed form edits fine) in
     let distinct = IsDistinct-IsPermutation begins_with flips rs qs p (ranges_distinct form edits edits rs first rises (λ f m. m) h.distinct h.found) in
     subst (λ (l : List ℕ). Rewrites l qs (text (replaced edits form))) (sym spelled)
     (ranges_rewrite form edits qs h.document.no_clash fine free first (ranges_moved form edits rs qs h.found p) (strict qs up distinct) (subst IsUtf8 spelled utf8))

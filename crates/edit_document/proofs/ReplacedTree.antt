@@ -5,7 +5,7 @@ use Rattle.edit_document.specs.Assertions.{Place, Step, at, index, names, named,
 use Rattle.edit_document.specs.Tree.{View, string, view_at, view_of_kind, kind_at}
 use Rattle.edit_document.specs.Supported.{IsManifest}
 use Rattle.edit_document.specs.Literals.{literal_of}
-use Rattle.edit_document.specs.Replaces.{Edits, new_text, literal_or, put, replaced_inside, replaced_elements, replaced_members, replaced_statement, replaced_lines, replaced, is_below, is_below_any, written, emptied}
+use Rattle.edit_document.specs.Replaces.{Edits, Writer, new_text, written_or, put, replaced_inside, replaced_elements, replaced_members, replaced_statement, replaced_lines, replaced, is_below, is_below_any, written, emptied}
 use Rattle.edit_document.proofs.LiteralLaws.{literal_is_value, literal_says}
 use Rattle.edit_document.proofs.ThinnedForms.{Thin, none}
 use Rattle.edit_document.proofs.ThinnedLines.{thin_lines, thin_short, thin_no_clash}
@@ -17,59 +17,63 @@ use Rattle.edit_document.proofs.SamePlace.{same_place_self}
 
 -- ---- well formed
 
-formed_put : (edits : Edits) (p : Place) (u : Value) → IsValue u → IsValue (put edits p u)
-formed_put edits p u h = go (new_text edits p)
+-- what is written is well formed
+abbrev pub Forms : Writer → Type 0
+Forms write = (said : List ℕ) → IsValue (write said)
+
+formed_put : (write : Writer) → Forms write → (edits : Edits) (p : Place) (u : Value) → IsValue u → IsValue (put write edits p u)
+formed_put write fine edits p u h = go (new_text edits p)
   where
-    go : (o : Option (List ℕ)) → IsValue (literal_or o u)
+    go : (o : Option (List ℕ)) → IsValue (written_or write o u)
     go None = h
-    go (Some said) = literal_is_value said
+    go (Some said) = fine said
 
 mutual
-  formed_inside : (edits : Edits) (p : Place) (v : Value) → IsValue v → IsValue (replaced_inside edits p v)
-  formed_inside edits p (basic ps) h = h
-  formed_inside edits p (literal t) h = h
-  formed_inside edits p (multi_basic ps) h = h
-  formed_inside edits p (multi_literal ps) h = h
-  formed_inside edits p (boolean b) h = h
-  formed_inside edits p (integer n) h = h
-  formed_inside edits p (float f) h = h
-  formed_inside edits p (datetime d) h = h
-  formed_inside edits p (array g es) h = (h.0, formed_elements edits p 0 es h.1)
-  formed_inside edits p (inline g ms) h = (h.0, formed_members edits p ms h.1)
+  formed_inside : (write : Writer) → Forms write → (edits : Edits) (p : Place) (v : Value) → IsValue v → IsValue (replaced_inside write edits p v)
+  formed_inside write fine edits p (basic ps) h = h
+  formed_inside write fine edits p (literal t) h = h
+  formed_inside write fine edits p (multi_basic ps) h = h
+  formed_inside write fine edits p (multi_literal ps) h = h
+  formed_inside write fine edits p (boolean b) h = h
+  formed_inside write fine edits p (integer n) h = h
+  formed_inside write fine edits p (float f) h = h
+  formed_inside write fine edits p (datetime d) h = h
+  formed_inside write fine edits p (array g es) h = (h.0, formed_elements write fine edits p 0 es h.1)
+  formed_inside write fine edits p (inline g ms) h = (h.0, formed_members write fine edits p ms h.1)
 
-  formed_elements : (edits : Edits) (p : Place) (i : ℕ) (es : Elements) → AreElements es → AreElements (replaced_elements edits p i es)
-  formed_elements edits p i no_elements h = h
-  formed_elements edits p i (last_element v g) h = (formed_put edits (at p (index i)) _ (formed_inside edits (at p (index i)) v h.0), h.1)
-  formed_elements edits p i (element v g x es) h =
-      (formed_put edits (at p (index i)) _ (formed_inside edits (at p (index i)) v h.0), h.1, h.2, formed_elements edits p (suc i) es h.3)
+  formed_elements : (write : Writer) → Forms write → (edits : Edits) (p : Place) (i : ℕ) (es : Elements) → AreElements es → AreElements (replaced_elements write edits p i es)
+  formed_elements write fine edits p i no_elements h = h
+  formed_elements write fine edits p i (last_element v g) h = (formed_put write fine edits (at p (index i)) _ (formed_inside write fine edits (at p (index i)) v h.0), h.1)
+  formed_elements write fine edits p i (element v g x es) h =
+      (formed_put write fine edits (at p (index i)) _ (formed_inside write fine edits (at p (index i)) v h.0), h.1, h.2, formed_elements write fine edits p (suc i) es h.3)
 
-  formed_members : (edits : Edits) (p : Place) (ms : Members) → AreMembers ms → AreMembers (replaced_members edits p ms)
-  formed_members edits p no_members h = h
-  formed_members edits p (last_member k a b v c) h =
-      (h.0, h.1, h.2, formed_put edits (named p (names k)) _ (formed_inside edits (named p (names k)) v h.3), h.4)
-  formed_members edits p (member k a b v c d ms) h =
-      (h.0, h.1, h.2, formed_put edits (named p (names k)) _ (formed_inside edits (named p (names k)) v h.3), h.4, h.5, formed_members edits p ms h.6)
+  formed_members : (write : Writer) → Forms write → (edits : Edits) (p : Place) (ms : Members) → AreMembers ms → AreMembers (replaced_members write edits p ms)
+  formed_members write fine edits p no_members h = h
+  formed_members write fine edits p (last_member k a b v c) h =
+      (h.0, h.1, h.2, formed_put write fine edits (named p (names k)) _ (formed_inside write fine edits (named p (names k)) v h.3), h.4)
+  formed_members write fine edits p (member k a b v c d ms) h =
+      (h.0, h.1, h.2, formed_put write fine edits (named p (names k)) _ (formed_inside write fine edits (named p (names k)) v h.3), h.4, h.5, formed_members write fine edits p ms h.6)
 
-formed_statement : (edits : Edits) (prefix : Place) (s : Statement) → IsStatement s → IsStatement (replaced_statement edits prefix s)
-formed_statement edits prefix (pair k a b v) h = (h.0, h.1, h.2, formed_put edits (named prefix (names k)) _ (formed_inside edits (named prefix (names k)) v h.3))
-formed_statement edits prefix (header a k b) h = h
-formed_statement edits prefix (element_header a k b) h = h
+formed_statement : (write : Writer) → Forms write → (edits : Edits) (prefix : Place) (s : Statement) → IsStatement s → IsStatement (replaced_statement write edits prefix s)
+formed_statement write fine edits prefix (pair k a b v) h = (h.0, h.1, h.2, formed_put write fine edits (named prefix (names k)) _ (formed_inside write fine edits (named prefix (names k)) v h.3))
+formed_statement write fine edits prefix (header a k b) h = h
+formed_statement write fine edits prefix (element_header a k b) h = h
 
-pub formed_lines : (edits : Edits) (earlier : List Assertion) (prefix : Place) (ls : Lines) → AreLines ls → AreLines (replaced_lines edits earlier prefix ls)
-formed_lines edits earlier prefix (one_line (empty_line a c)) h = h
-formed_lines edits earlier prefix (one_line (full_line a s b c)) h = (h.0, formed_statement edits prefix s h.1, h.2, h.3)
-formed_lines edits earlier prefix (more_lines (empty_line a c) e ls) h = (h.0, formed_lines edits earlier prefix ls h.1)
-formed_lines edits earlier prefix (more_lines (full_line a s b c) e ls) h =
-    ((h.0.0, formed_statement edits prefix s h.0.1, h.0.2, h.0.3), formed_lines edits (earlier ++ of_statement earlier prefix s) (prefix_after earlier prefix s) ls h.1)
+pub formed_lines : (write : Writer) → Forms write → (edits : Edits) (earlier : List Assertion) (prefix : Place) (ls : Lines) → AreLines ls → AreLines (replaced_lines write edits earlier prefix ls)
+formed_lines write fine edits earlier prefix (one_line (empty_line a c)) h = h
+formed_lines write fine edits earlier prefix (one_line (full_line a s b c)) h = (h.0, formed_statement write fine edits prefix s h.1, h.2, h.3)
+formed_lines write fine edits earlier prefix (more_lines (empty_line a c) e ls) h = (h.0, formed_lines write fine edits earlier prefix ls h.1)
+formed_lines write fine edits earlier prefix (more_lines (full_line a s b c) e ls) h =
+    ((h.0.0, formed_statement write fine edits prefix s h.0.1, h.0.2, h.0.3), formed_lines write fine edits (earlier ++ of_statement earlier prefix s) (prefix_after earlier prefix s) ls h.1)
 
 -- ---- a document
 
-thinned : (edits : Edits) (form : Text) → Thin edits (assertions form) (assertions (replaced edits form))
+pub thinned : (edits : Edits) (form : Text) → Thin edits (assertions form) (assertions (replaced edits form))
 thinned edits form = thin_lines edits [] [] [] form.lines none
 
 pub replaced_document : (edits : Edits) (old : List ℕ) (form : Text) → IsDocument old form → IsDocument (text (replaced edits form)) (replaced edits form)
 replaced_document edits old form document = record {
-  grammar = record { spelled = refl; well_formed = formed_lines edits [] [] form.lines document.grammar.well_formed };
+  grammar = record { spelled = refl; well_formed = formed_lines literal_of literal_is_value edits [] [] form.lines document.grammar.well_formed };
   short = thin_short edits _ _ (thinned edits form) document.short;
   no_clash = thin_no_clash edits _ _ (thinned edits form) document.no_clash;
 }
@@ -111,7 +115,7 @@ written_elsewhere (x ∷ edits) tree q e =
     (λ h. ap (λ c. cond c (Some (string x.1)) (written edits tree q)) h
     ∙ written_elsewhere edits tree q (sym (ap (λ c. cond c (Some x.1) (new_text edits q)) h) ∙ e))
 
-no_root : (base xs : List Assertion) → Rooted base xs → kind_at xs [] ≡ None
+pub no_root : (base xs : List Assertion) → Rooted base xs → kind_at xs [] ≡ None
 no_root base xs (done b) = refl
 no_root base xs (next b x zs p s e st r) = ap (λ c. cond c (Some x.kind) (kind_at zs [])) (ap (λ q. same_place q []) e ∙ never p s) ∙ no_root (x ∷ b) zs r
   where

@@ -14,6 +14,7 @@ use Rattle.edit_document.specs.Items.{place_seen}
 use Rattle.edit_document.specs.Ranges.{HasRange, edits_seen}
 use Rattle.edit_document.specs.Written.{values}
 use Rattle.edit_document.specs.Supported.{IsManifest}
+use Rattle.edit_document.specs.Literals.{literal_of}
 use Rattle.edit_document.specs.Replaces.{Edits, replaced, edited, Swaps, Replaces, AreValues}
 use Rattle.edit_document.specs.Splices.{Range, range_of, IsRangeFor, AreRanges}
 use Rattle.edit_document.proofs.ReplacedTree.{AreApart, replaced_manifest, replaced_view}
@@ -29,8 +30,8 @@ replaces_apart edits old new form manifest apart e = record {
   form = form;
   was = manifest;
   bytes = e;
-  kept = subst (λ (b : List ℕ). Swaps (edited edits form) b new) (sym manifest.document.grammar.spelled)
-      (subst (λ (b : List ℕ). Swaps (edited edits form) (text form) b) (sym e) (replaced_swaps edits form (apart_none edits form apart)));
+  kept = subst (λ (b : List ℕ). Swaps literal_of (edited edits form) b new) (sym manifest.document.grammar.spelled)
+      (subst (λ (b : List ℕ). Swaps literal_of (edited edits form) (text form) b) (sym e) (replaced_swaps literal_of edits form (apart_none edits form apart)));
   is = subst (λ (b : List ℕ). IsManifest b (replaced edits form)) (sym e) (replaced_manifest edits old form manifest);
   tree = replaced_view edits old form manifest.document apart;
 }
@@ -89,6 +90,13 @@ all_ranges form edits i rs qs whole same h =
 
 -- ---- one value
 
+-- the one range is that of the one edit
+pub one_range : (form : Text) (p : Place) (said : List ℕ) (r : Range) → IsRangeFor form (p, said) r → AreRangesFor form ((p, said) ∷ []) (r ∷ [])
+one_range form p said r range = record {
+  each = λ q m. ⊎_elim (λ e. ((p, said), inl refl, subst (λ z. IsRangeFor form (p, said) z) (sym e) range)) (λ n. absurd n) m;
+  all = λ e m. ⊎_elim (λ h. (r, inl refl, subst (λ z. IsRangeFor form z r) (sym h) range)) (λ n. absurd n) m;
+}
+
 pub one_rewrite : (whole : List ℕ) (form : Text) (p : Place) (said : List ℕ) (r : Range) → IsManifest whole form → IsUtf8 whole → is_value_at form p ≡ true → IsRangeFor form (p, said) r
     → Rewrites whole (r ∷ []) (text (replaced ((p, said) ∷ []) form))
 one_rewrite whole form p said r manifest utf8 told range =
@@ -96,10 +104,7 @@ one_rewrite whole form p said r manifest utf8 told range =
     let spelled = d.grammar.spelled in
     let edits : Edits = (p, said) ∷ [] in
     let apart = one_apart form p said (told_value form p d.no_clash told) in
-    let are : AreRangesFor form edits (r ∷ []) = record {
-      each = λ q m. ⊎_elim (λ e. ((p, said), inl refl, subst (λ z. IsRangeFor form (p, said) z) (sym e) range)) (λ n. absurd n) m;
-      all = λ e m. ⊎_elim (λ h. (r, inl refl, subst (λ z. IsRangeFor form z r) (sym h) range)) (λ n. absurd n) m;
-    } in
+    let are = one_range form p said r range in
     subst (λ (l : List ℕ). Rewrites l (r ∷ []) (text (replaced edits form))) (sym spelled)
     (ranges_rewrite form edits (r ∷ []) d.no_clash d.grammar.well_formed (apart_none edits form apart) (first_of_distinct edits (tt, tt)) are (tt, tt) (subst IsUtf8 spelled utf8))
 

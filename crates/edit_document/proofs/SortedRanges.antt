@@ -5,6 +5,7 @@ use Rattle.std.specs.List.{AllByRecursion, filter_map, cons_option}
 use Rattle.edit_syntax.specs.Grammar.{value, Text, text, IsValue, AreLines}
 use Rattle.edit_document.specs.Assertions.{Place, same_place, assertions, NoClash}
 use Rattle.edit_document.specs.Written.{Valued, values, start_of, end_of}
+use Rattle.edit_document.specs.Literals.{literal_of}
 use Rattle.edit_document.specs.Replaces.{Edits, new_text, replaced, edited}
 use Rattle.edit_document.specs.Splices.{Range, spliced, AreInOrder, ranges_of, IsRangeFor}
 use Rattle.edit_syntax.proofs.Members.{Among, contained_among, among_all, among_map, map_among, among_filter, filter_among}
@@ -132,7 +133,7 @@ pub ranges_are : (form : Text) (edits : Edits) (ranges : List Range) → NoClash
     → ranges ≡ ranges_of (length (text form)) (edited edits form)
 ranges_are form edits ranges clash fine free first are up =
     rising_same ranges (ranges_of (length (text form)) (edited edits form)) up
-    (swaps_rise (text form) (text (replaced edits form)) (edited edits form) (replaced_swaps edits form free) (edits_enclosed form edits fine))
+    (swaps_rise (text form) (text (replaced edits form)) (edited edits form) (replaced_swaps literal_of edits form free) (edits_enclosed form edits fine))
     (λ r m. let e = are.each r m in range_edited form edits e.0 r first e.1 e.2) (edited_range form edits ranges clash are)
 
 -- the ranges may be cut out, and the text with the literals in their place is the replaced one
@@ -143,7 +144,7 @@ pub record Rewrites (whole : List ℕ) (ranges : List Range) (new : List ℕ) : 
 pub ranges_rewrite : (form : Text) (edits : Edits) (ranges : List Range) → NoClash (assertions form) → AreLines form.lines → NoneBelow edits → AreFirst edits → AreRangesFor form edits ranges → Rises ranges
     → IsUtf8 (text form) → Rewrites (text form) ranges (text (replaced edits form))
 ranges_rewrite form edits ranges clash fine free first are up utf8 =
-    let swaps = replaced_swaps edits form free in
+    let swaps = replaced_swaps literal_of edits form free in
     let fences = edits_enclosed form edits fine in
     let cuts = edited edits form in
     subst (λ (l : List Range). Rewrites (text form) l (text (replaced edits form))) (sym (ranges_are form edits ranges clash fine free first are up))

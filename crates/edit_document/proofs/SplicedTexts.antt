@@ -39,7 +39,7 @@ slice_behind whole front t more e =
     let len : length (front ++ t) - length front ≡ length t = omega (arith, length-append front t) in
     ap₂ (λ n (l : List ℕ). take n l) len rest_is ∙ take-append_seam t more
 
-pub swaps_spliced : (whole front old new : List ℕ) (edits : List (Valued × List ℕ)) → Swaps edits old new → whole ≡ front ++ old → spliced whole (length front) (ranges_of (length whole) edits) ≡ new
+pub swaps_spliced : (whole front old new : List ℕ) (edits : List (Valued × List ℕ)) → Swaps literal_of edits old new → whole ≡ front ++ old → spliced whole (length front) (ranges_of (length whole) edits) ≡ new
 swaps_spliced whole front old new edits (rest t) e = ap (λ (l : List ℕ). drop (length front) l) e ∙ drop-append_seam front t
 swaps_spliced whole front old new edits (next t w said more now s) e =
     let past = past_value whole front t w e in
@@ -86,7 +86,7 @@ end_boundary whole front t w utf8 e fence =
     let len : length (front ++ (t ++ value w.value [])) ≡ length head + 1 = ap length same ∙ length-append head (fence.last ∷ []) in
     subst (λ n. IsCharBoundary whole n) (sym len) (boundary_past whole head w.after fence.last utf8 whole_is fence.last_ascii)
 
-pub swaps_in_order : (whole front old new : List ℕ) (edits : List (Valued × List ℕ)) → Swaps edits old new → IsUtf8 whole → whole ≡ front ++ old → AreEnclosed edits
+pub swaps_in_order : (whole front old new : List ℕ) (edits : List (Valued × List ℕ)) → Swaps literal_of edits old new → IsUtf8 whole → whole ≡ front ++ old → AreEnclosed edits
     → AreInOrder whole (length front) (ranges_of (length whole) edits)
 swaps_in_order whole front old new edits (rest t) utf8 e fences = tt
 swaps_in_order whole front old new edits (next t w said more now s) utf8 e fences =
@@ -125,7 +125,7 @@ behind_strict m n (r ∷ more) le h = (omega (arith, h.0), behind_strict m n mor
 some_long : (text : List ℕ) → IsEnclosed text → 0 < length text
 some_long text fence = let e = ap length fence.begins in omega arith
 
-rises_from : (whole front old new : List ℕ) (edits : List (Valued × List ℕ)) → Swaps edits old new → whole ≡ front ++ old → AreEnclosed edits
+rises_from : (whole front old new : List ℕ) (edits : List (Valued × List ℕ)) → Swaps literal_of edits old new → whole ≡ front ++ old → AreEnclosed edits
     → Behind (length front) (ranges_of (length whole) edits) × Rises (ranges_of (length whole) edits)
 rises_from whole front old new edits (rest t) e fences = (tt, tt)
 rises_from whole front old new edits (next t w said more now s) e fences =
@@ -143,5 +143,5 @@ rises_from whole front old new edits (next t w said more now s) e fences =
       (behind_strict (start_of (length whole) w) (length after) (ranges_of (length whole) more) below inner.0, inner.1),
     )
 
-pub swaps_rise : (whole new : List ℕ) (edits : List (Valued × List ℕ)) → Swaps edits whole new → AreEnclosed edits → Rises (ranges_of (length whole) edits)
+pub swaps_rise : (whole new : List ℕ) (edits : List (Valued × List ℕ)) → Swaps literal_of edits whole new → AreEnclosed edits → Rises (ranges_of (length whole) edits)
 swaps_rise whole new edits s fences = (rises_from whole [] whole new edits s refl fences).1

@@ -7,17 +7,16 @@ use Rattle.edit_syntax.specs.Characters.{comma, left_bracket, right_bracket, lef
 use Rattle.edit_syntax.specs.Strings.{line_end, Key}
 use Rattle.edit_syntax.specs.Grammar.{gap, Value, basic, literal, multi_basic, multi_literal, boolean, integer, float, datetime, array, inline, value, Elements, no_elements, last_element, element, elements, Members, no_members, last_member, member, members, Statement, pair, header, element_header, statement, empty_line, full_line, comment, Lines, one_line, more_lines, lines, Text, text}
 use Rattle.edit_document.specs.Assertions.{Place, index, at, named, names, Assertion, of_statement, prefix_after}
-use Rattle.edit_document.specs.Literals.{literal_of}
 use Rattle.edit_document.specs.Written.{Valued, valued, inside, in_elements, in_members, in_statement, in_lines}
-use Rattle.edit_document.specs.Replaces.{Edits, new_text, literal_or, put, replaced_inside, replaced_elements, replaced_members, replaced_statement, replaced_lines, replaced, edited, Swaps, rest, next, is_below}
+use Rattle.edit_document.specs.Replaces.{Edits, Writer, new_text, written_or, put, replaced_inside, replaced_elements, replaced_members, replaced_statement, replaced_lines, replaced_by, edited, Swaps, rest, next, is_below}
 use Rattle.edit_document.proofs.SamePlaces.{is_within, within_same, below_at, within_at, within_named}
 use Rattle.edit_syntax.proofs.PutBefore.{IsKept, put_before, end_before, gap_before, pair_before, value_before, line_before, comment_before, statement_before, mark_before}
 use Rattle.edit_document.proofs.ThinnedForms.{edited_below}
 use Rattle.edit_document.proofs.ReplacedTree.{AreApart}
 
-pub swaps_one : (more : List (Valued × List ℕ)) → IsKept (Swaps more)
-swaps_one more c old new (rest t) = rest (c ∷ t)
-swaps_one more c old new (next t w said others now s) = next (c ∷ t) w said others now s
+pub swaps_one : (write : Writer) (more : List (Valued × List ℕ)) → IsKept (Swaps write more)
+swaps_one write more c old new (rest t) = rest (c ∷ t)
+swaps_one write more c old new (next t w said others now s) = next (c ∷ t) w said others now s
 
 abbrev pub edit_of : Edits → Valued → Option (Valued × List ℕ)
 edit_of edits w = option_map (λ said. (w, said)) (new_text edits w.place)
@@ -93,109 +92,109 @@ none_edited edits p said (w ∷ ws) free e low =
 -- ---- values
 
 -- the value at a place, where what is inside it was swapped
-swaps_put : (edits : Edits) (p : Place) (v u : Value) (more : List (Valued × List ℕ)) (old new : List ℕ) → NoneBelow edits → Swaps more old new
-    → Swaps (edits_of edits (inside p v old) ++ more) (value v old) (value u new) → Swaps (edits_of edits (valued p v old ∷ inside p v old) ++ more) (value v old) (value (put edits p u) new)
-swaps_put edits p v u more old new free s within = go (new_text edits p) refl
+swaps_put : (write : Writer) (edits : Edits) (p : Place) (v u : Value) (more : List (Valued × List ℕ)) (old new : List ℕ) → NoneBelow edits → Swaps write more old new
+    → Swaps write (edits_of edits (inside p v old) ++ more) (value v old) (value u new) → Swaps write (edits_of edits (valued p v old ∷ inside p v old) ++ more) (value v old) (value (put write edits p u) new)
+swaps_put write edits p v u more old new free s within = go (new_text edits p) refl
   where
     go : (o : Option (List ℕ)) → new_text edits p ≡ o
-        → Swaps (cons_option (option_map (λ said. (valued p v old, said)) o) (edits_of edits (inside p v old)) ++ more) (value v old) (value (literal_or o u) new)
+        → Swaps write (cons_option (option_map (λ said. (valued p v old, said)) o) (edits_of edits (inside p v old)) ++ more) (value v old) (value (written_or write o u) new)
     go None e = within
     go (Some said) e =
-        subst (λ l. Swaps ((valued p v old, said) ∷ (l ++ more)) (value v old) (value (literal_of said) new))
+        subst (λ l. Swaps write ((valued p v old, said) ∷ (l ++ more)) (value v old) (value (write said) new))
         (sym (none_edited edits p said (inside p v old) free e (inside_below p p v old (within_same p))))
         (next [] (valued p v old) said more new s)
 
 mutual
-  swaps_inside : (edits : Edits) (p : Place) (v : Value) (more : List (Valued × List ℕ)) (old new : List ℕ) → NoneBelow edits → Swaps more old new
-      → Swaps (edits_of edits (inside p v old) ++ more) (value v old) (value (replaced_inside edits p v) new)
-  swaps_inside edits p (basic ps) more old new free s = value_before (Swaps more) (swaps_one more) (basic ps) old new s
-  swaps_inside edits p (literal t) more old new free s = value_before (Swaps more) (swaps_one more) (literal t) old new s
-  swaps_inside edits p (multi_basic ps) more old new free s = value_before (Swaps more) (swaps_one more) (multi_basic ps) old new s
-  swaps_inside edits p (multi_literal ps) more old new free s = value_before (Swaps more) (swaps_one more) (multi_literal ps) old new s
-  swaps_inside edits p (boolean b) more old new free s = value_before (Swaps more) (swaps_one more) (boolean b) old new s
-  swaps_inside edits p (integer n) more old new free s = value_before (Swaps more) (swaps_one more) (integer n) old new s
-  swaps_inside edits p (float f) more old new free s = value_before (Swaps more) (swaps_one more) (float f) old new s
-  swaps_inside edits p (datetime d) more old new free s = value_before (Swaps more) (swaps_one more) (datetime d) old new s
-  swaps_inside edits p (array g es) more old new free s =
+  swaps_inside : (write : Writer) (edits : Edits) (p : Place) (v : Value) (more : List (Valued × List ℕ)) (old new : List ℕ) → NoneBelow edits → Swaps write more old new
+      → Swaps write (edits_of edits (inside p v old) ++ more) (value v old) (value (replaced_inside write edits p v) new)
+  swaps_inside write edits p (basic ps) more old new free s = value_before (Swaps write more) (swaps_one write more) (basic ps) old new s
+  swaps_inside write edits p (literal t) more old new free s = value_before (Swaps write more) (swaps_one write more) (literal t) old new s
+  swaps_inside write edits p (multi_basic ps) more old new free s = value_before (Swaps write more) (swaps_one write more) (multi_basic ps) old new s
+  swaps_inside write edits p (multi_literal ps) more old new free s = value_before (Swaps write more) (swaps_one write more) (multi_literal ps) old new s
+  swaps_inside write edits p (boolean b) more old new free s = value_before (Swaps write more) (swaps_one write more) (boolean b) old new s
+  swaps_inside write edits p (integer n) more old new free s = value_before (Swaps write more) (swaps_one write more) (integer n) old new s
+  swaps_inside write edits p (float f) more old new free s = value_before (Swaps write more) (swaps_one write more) (float f) old new s
+  swaps_inside write edits p (datetime d) more old new free s = value_before (Swaps write more) (swaps_one write more) (datetime d) old new s
+  swaps_inside write edits p (array g es) more old new free s =
       let all = edits_of edits (in_elements p 0 es (right_bracket ∷ old)) ++ more in
-      swaps_one all left_bracket _ _ (gap_before (Swaps all) (swaps_one all) g _ _ (swaps_elements edits p 0 es more _ _ free (swaps_one more right_bracket old new s)))
-  swaps_inside edits p (inline g ms) more old new free s =
+      swaps_one write all left_bracket _ _ (gap_before (Swaps write all) (swaps_one write all) g _ _ (swaps_elements write edits p 0 es more _ _ free (swaps_one write more right_bracket old new s)))
+  swaps_inside write edits p (inline g ms) more old new free s =
       let all = edits_of edits (in_members p ms (right_brace ∷ old)) ++ more in
-      swaps_one all left_brace _ _ (gap_before (Swaps all) (swaps_one all) g _ _ (swaps_members edits p ms more _ _ free (swaps_one more right_brace old new s)))
+      swaps_one write all left_brace _ _ (gap_before (Swaps write all) (swaps_one write all) g _ _ (swaps_members write edits p ms more _ _ free (swaps_one write more right_brace old new s)))
 
-  swaps_elements : (edits : Edits) (p : Place) (i : ℕ) (es : Elements) (more : List (Valued × List ℕ)) (old new : List ℕ) → NoneBelow edits → Swaps more old new
-      → Swaps (edits_of edits (in_elements p i es old) ++ more) (elements es old) (elements (replaced_elements edits p i es) new)
-  swaps_elements edits p i no_elements more old new free s = s
-  swaps_elements edits p i (last_element v g) more old new free s =
+  swaps_elements : (write : Writer) (edits : Edits) (p : Place) (i : ℕ) (es : Elements) (more : List (Valued × List ℕ)) (old new : List ℕ) → NoneBelow edits → Swaps write more old new
+      → Swaps write (edits_of edits (in_elements p i es old) ++ more) (elements es old) (elements (replaced_elements write edits p i es) new)
+  swaps_elements write edits p i no_elements more old new free s = s
+  swaps_elements write edits p i (last_element v g) more old new free s =
       let q = at p (index i) in
-      let t = gap_before (Swaps more) (swaps_one more) g old new s in
-      swaps_put edits q v (replaced_inside edits q v) more (gap g old) (gap g new) free t (swaps_inside edits q v more (gap g old) (gap g new) free t)
-  swaps_elements edits p i (element v g h es) more old new free s =
+      let t = gap_before (Swaps write more) (swaps_one write more) g old new s in
+      swaps_put write edits q v (replaced_inside write edits q v) more (gap g old) (gap g new) free t (swaps_inside write edits q v more (gap g old) (gap g new) free t)
+  swaps_elements write edits p i (element v g h es) more old new free s =
       let q = at p (index i) in
       let o = gap g (comma ∷ gap h (elements es old)) in
-      let n = gap g (comma ∷ gap h (elements (replaced_elements edits p (suc i) es) new)) in
+      let n = gap g (comma ∷ gap h (elements (replaced_elements write edits p (suc i) es) new)) in
       let all = edits_of edits (in_elements p (suc i) es old) ++ more in
-      let t = gap_before (Swaps all) (swaps_one all) g _ _ (swaps_one all comma _ _ (gap_before (Swaps all) (swaps_one all) h _ _ (swaps_elements edits p (suc i) es more old new free s))) in
-      subst (λ l. Swaps l (value v o) (value (put edits q (replaced_inside edits q v)) n)) (three_parts edits (valued q v o ∷ inside q v o) (in_elements p (suc i) es old) more)
-      (swaps_put edits q v (replaced_inside edits q v) all o n free t (swaps_inside edits q v all o n free t))
+      let t = gap_before (Swaps write all) (swaps_one write all) g _ _ (swaps_one write all comma _ _ (gap_before (Swaps write all) (swaps_one write all) h _ _ (swaps_elements write edits p (suc i) es more old new free s))) in
+      subst (λ l. Swaps write l (value v o) (value (put write edits q (replaced_inside write edits q v)) n)) (three_parts edits (valued q v o ∷ inside q v o) (in_elements p (suc i) es old) more)
+      (swaps_put write edits q v (replaced_inside write edits q v) all o n free t (swaps_inside write edits q v all o n free t))
 
-  swaps_members : (edits : Edits) (p : Place) (ms : Members) (more : List (Valued × List ℕ)) (old new : List ℕ) → NoneBelow edits → Swaps more old new
-      → Swaps (edits_of edits (in_members p ms old) ++ more) (members ms old) (members (replaced_members edits p ms) new)
-  swaps_members edits p no_members more old new free s = s
-  swaps_members edits p (last_member k a b v c) more old new free s =
+  swaps_members : (write : Writer) (edits : Edits) (p : Place) (ms : Members) (more : List (Valued × List ℕ)) (old new : List ℕ) → NoneBelow edits → Swaps write more old new
+      → Swaps write (edits_of edits (in_members p ms old) ++ more) (members ms old) (members (replaced_members write edits p ms) new)
+  swaps_members write edits p no_members more old new free s = s
+  swaps_members write edits p (last_member k a b v c) more old new free s =
       let q = named p (names k) in
-      let t = gap_before (Swaps more) (swaps_one more) c old new s in
+      let t = gap_before (Swaps write more) (swaps_one write more) c old new s in
       let all = edits_of edits (valued q v (gap c old) ∷ inside q v (gap c old)) ++ more in
-      pair_before (Swaps all) (swaps_one all) k a b _ _
-      (swaps_put edits q v (replaced_inside edits q v) more (gap c old) (gap c new) free t (swaps_inside edits q v more (gap c old) (gap c new) free t))
-  swaps_members edits p (member k a b v c d ms) more old new free s =
+      pair_before (Swaps write all) (swaps_one write all) k a b _ _
+      (swaps_put write edits q v (replaced_inside write edits q v) more (gap c old) (gap c new) free t (swaps_inside write edits q v more (gap c old) (gap c new) free t))
+  swaps_members write edits p (member k a b v c d ms) more old new free s =
       let q = named p (names k) in
       let o = gap c (comma ∷ gap d (members ms old)) in
-      let n = gap c (comma ∷ gap d (members (replaced_members edits p ms) new)) in
+      let n = gap c (comma ∷ gap d (members (replaced_members write edits p ms) new)) in
       let rest_all = edits_of edits (in_members p ms old) ++ more in
-      let t = gap_before (Swaps rest_all) (swaps_one rest_all) c _ _
-      (swaps_one rest_all comma _ _ (gap_before (Swaps rest_all) (swaps_one rest_all) d _ _ (swaps_members edits p ms more old new free s))) in
+      let t = gap_before (Swaps write rest_all) (swaps_one write rest_all) c _ _
+      (swaps_one write rest_all comma _ _ (gap_before (Swaps write rest_all) (swaps_one write rest_all) d _ _ (swaps_members write edits p ms more old new free s))) in
       let all = edits_of edits (valued q v o ∷ inside q v o) ++ rest_all in
-      subst (λ l. Swaps l (members (member k a b v c d ms) old) (members (replaced_members edits p (member k a b v c d ms)) new))
+      subst (λ l. Swaps write l (members (member k a b v c d ms) old) (members (replaced_members write edits p (member k a b v c d ms)) new))
       (three_parts edits (valued q v o ∷ inside q v o) (in_members p ms old) more)
-      (pair_before (Swaps all) (swaps_one all) k a b _ _
-      (swaps_put edits q v (replaced_inside edits q v) rest_all o n free t (swaps_inside edits q v rest_all o n free t)))
+      (pair_before (Swaps write all) (swaps_one write all) k a b _ _
+      (swaps_put write edits q v (replaced_inside write edits q v) rest_all o n free t (swaps_inside write edits q v rest_all o n free t)))
 
 -- ---- lines
 
-swaps_statement : (edits : Edits) (prefix : Place) (s : Statement) (more : List (Valued × List ℕ)) (old new : List ℕ) → NoneBelow edits → Swaps more old new
-    → Swaps (edits_of edits (in_statement prefix s old) ++ more) (statement s old) (statement (replaced_statement edits prefix s) new)
-swaps_statement edits prefix (pair k a b v) more old new free t =
+swaps_statement : (write : Writer) (edits : Edits) (prefix : Place) (s : Statement) (more : List (Valued × List ℕ)) (old new : List ℕ) → NoneBelow edits → Swaps write more old new
+    → Swaps write (edits_of edits (in_statement prefix s old) ++ more) (statement s old) (statement (replaced_statement write edits prefix s) new)
+swaps_statement write edits prefix (pair k a b v) more old new free t =
     let q = named prefix (names k) in
     let all = edits_of edits (valued q v old ∷ inside q v old) ++ more in
-    pair_before (Swaps all) (swaps_one all) k a b _ _ (swaps_put edits q v (replaced_inside edits q v) more old new free t (swaps_inside edits q v more old new free t))
-swaps_statement edits prefix (header a k b) more old new free t = statement_before (Swaps more) (swaps_one more) (header a k b) old new t
-swaps_statement edits prefix (element_header a k b) more old new free t = statement_before (Swaps more) (swaps_one more) (element_header a k b) old new t
+    pair_before (Swaps write all) (swaps_one write all) k a b _ _ (swaps_put write edits q v (replaced_inside write edits q v) more old new free t (swaps_inside write edits q v more old new free t))
+swaps_statement write edits prefix (header a k b) more old new free t = statement_before (Swaps write more) (swaps_one write more) (header a k b) old new t
+swaps_statement write edits prefix (element_header a k b) more old new free t = statement_before (Swaps write more) (swaps_one write more) (element_header a k b) old new t
 
-pub swaps_lines : (edits : Edits) (earlier : List Assertion) (prefix : Place) (ls : Lines) → NoneBelow edits
-    → Swaps (edits_of edits (in_lines earlier prefix ls)) (lines ls) (lines (replaced_lines edits earlier prefix ls))
-swaps_lines edits earlier prefix (one_line (empty_line a c)) free = rest _
-swaps_lines edits earlier prefix (one_line (full_line a s b c)) free =
+pub swaps_lines : (write : Writer) (edits : Edits) (earlier : List Assertion) (prefix : Place) (ls : Lines) → NoneBelow edits
+    → Swaps write (edits_of edits (in_lines earlier prefix ls)) (lines ls) (lines (replaced_lines write edits earlier prefix ls))
+swaps_lines write edits earlier prefix (one_line (empty_line a c)) free = rest _
+swaps_lines write edits earlier prefix (one_line (full_line a s b c)) free =
     let after = b ++ comment c [] in
     let all = edits_of edits (in_statement prefix s after) in
-    put_before (Swaps all) (swaps_one all) a _ _
-    (subst (λ l. Swaps l (statement s after) (statement (replaced_statement edits prefix s) after)) (append-nil all) (swaps_statement edits prefix s [] after after free (rest after)))
-swaps_lines edits earlier prefix (more_lines (empty_line a c) e ls) free =
+    put_before (Swaps write all) (swaps_one write all) a _ _
+    (subst (λ l. Swaps write l (statement s after) (statement (replaced_statement write edits prefix s) after)) (append-nil all) (swaps_statement write edits prefix s [] after after free (rest after)))
+swaps_lines write edits earlier prefix (more_lines (empty_line a c) e ls) free =
     let all = edits_of edits (in_lines earlier prefix ls) in
-    line_before (Swaps all) (swaps_one all) (empty_line a c) _ _ (end_before (Swaps all) (swaps_one all) e _ _ (swaps_lines edits earlier prefix ls free))
-swaps_lines edits earlier prefix (more_lines (full_line a s b c) e ls) free =
+    line_before (Swaps write all) (swaps_one write all) (empty_line a c) _ _ (end_before (Swaps write all) (swaps_one write all) e _ _ (swaps_lines write edits earlier prefix ls free))
+swaps_lines write edits earlier prefix (more_lines (full_line a s b c) e ls) free =
     let us = earlier ++ of_statement earlier prefix s in
     let p = prefix_after earlier prefix s in
     let more = edits_of edits (in_lines us p ls) in
     let o = b ++ comment c (line_end e (lines ls)) in
-    let n = b ++ comment c (line_end e (lines (replaced_lines edits us p ls))) in
-    let t = put_before (Swaps more) (swaps_one more) b _ _
-    (comment_before (Swaps more) (swaps_one more) c _ _ (end_before (Swaps more) (swaps_one more) e _ _ (swaps_lines edits us p ls free))) in
+    let n = b ++ comment c (line_end e (lines (replaced_lines write edits us p ls))) in
+    let t = put_before (Swaps write more) (swaps_one write more) b _ _
+    (comment_before (Swaps write more) (swaps_one write more) c _ _ (end_before (Swaps write more) (swaps_one write more) e _ _ (swaps_lines write edits us p ls free))) in
     let all = edits_of edits (in_statement prefix s o ++ in_lines us p ls) in
-    put_before (Swaps all) (swaps_one all) a _ _
-    (subst (λ l. Swaps l (statement s o) (statement (replaced_statement edits prefix s) n)) (sym (filter_map-append (edit_of edits) (in_statement prefix s o) (in_lines us p ls)))
-    (swaps_statement edits prefix s more o n free t))
+    put_before (Swaps write all) (swaps_one write all) a _ _
+    (subst (λ l. Swaps write l (statement s o) (statement (replaced_statement write edits prefix s) n)) (sym (filter_map-append (edit_of edits) (in_statement prefix s o) (in_lines us p ls)))
+    (swaps_statement write edits prefix s more o n free t))
 
-pub replaced_swaps : (edits : Edits) (form : Text) → NoneBelow edits → Swaps (edited edits form) (text form) (text (replaced edits form))
-replaced_swaps edits form free =
-    mark_before (Swaps (edited edits form)) (swaps_one (edited edits form)) form.marked _ _ (swaps_lines edits [] [] form.lines free)
+pub replaced_swaps : (write : Writer) (edits : Edits) (form : Text) → NoneBelow edits → Swaps write (edited edits form) (text form) (text (replaced_by write edits form))
+replaced_swaps write edits form free =
+    mark_before (Swaps write (edited edits form)) (swaps_one write (edited edits form)) form.marked _ _ (swaps_lines write edits [] [] form.lines free)

@@ -7,7 +7,7 @@ use Rattle.edit_syntax.specs.Grammar.{Value, basic, literal, multi_basic, multi_
 use Rattle.edit_document.specs.Assertions.{Place, key, index, at, same_place, Kind, leaf, Assertion, asserts, names, named, of_key, of_value, of_elements, of_members, of_pair, is_array}
 use Rattle.edit_document.specs.Tree.{view_of_value, count_elements, static_array}
 use Rattle.edit_document.specs.Literals.{literal_of}
-use Rattle.edit_document.specs.Replaces.{Edits, new_text, literal_or, put, replaced_inside, replaced_elements, replaced_members, is_below, is_below_any}
+use Rattle.edit_document.specs.Replaces.{Edits, new_text, written_or, put, replaced_inside, replaced_elements, replaced_members, is_below, is_below_any}
 use Rattle.edit_document.proofs.SamePlaces.{is_within, within_same, below_at, within_at, within_named}
 use Rattle.edit_syntax.proofs.Cases.{by_test}
 use Rattle.edit_document.proofs.SamePlace.{same_place_is}
@@ -98,32 +98,32 @@ thin_lost : (edits : Edits) (p : Place) (said : List ℕ) (xs : List Assertion) 
 thin_lost edits p said xs e no_more = none
 thin_lost edits p said xs e (one_more x zs b k l) = lose x zs [] (edited_below edits p x.place said e b) k (thin_lost edits p said zs e l)
 
-thin_put : (edits : Edits) (p : Place) (v u : Value) → Thin edits (of_value p v) (of_value p u) → Thin edits (of_value p v) (of_value p (put edits p u))
+thin_put : (edits : Edits) (p : Place) (v u : Value) → Thin edits (of_value p v) (of_value p u) → Thin edits (of_value p v) (of_value p (put literal_of edits p u))
 thin_put edits p v u t = go (new_text edits p) refl
   where
-    go : (o : Option (List ℕ)) → new_text edits p ≡ o → Thin edits (of_value p v) (of_value p (literal_or o u))
+    go : (o : Option (List ℕ)) → new_text edits p ≡ o → Thin edits (of_value p v) (of_value p (written_or literal_of o u))
     go None e = t
     go (Some said) e = thin_lost edits p said (of_value p v) e (lost_value p p v (within_same p))
 
-stands_put : (edits : Edits) (p : Place) (v u : Value) → SameView p v u → StandsFor edits p v (put edits p u)
+stands_put : (edits : Edits) (p : Place) (v u : Value) → SameView p v u → StandsFor edits p v (put literal_of edits p u)
 stands_put edits p v u same = record { kept = kept (new_text edits p); written = literal_there (new_text edits p) }
   where
-    kept : (o : Option (List ℕ)) → o ≡ None → SameView p v (literal_or o u)
+    kept : (o : Option (List ℕ)) → o ≡ None → SameView p v (written_or literal_of o u)
     kept None e = same
     kept (Some said) e = absurd cc
 
-    literal_there : (o : Option (List ℕ)) (said : List ℕ) → o ≡ Some said → literal_or o u ≡ literal_of said
+    literal_there : (o : Option (List ℕ)) (said : List ℕ) → o ≡ Some said → written_or literal_of o u ≡ literal_of said
     literal_there None said e = absurd cc
     literal_there (Some told) said e = let is : told ≡ said = cc in ap literal_of is
 
 -- ---- a value that is replaced inside shows the same
 
-same_count : (edits : Edits) (p : Place) (i : ℕ) (es : Elements) → count_elements es ≡ count_elements (replaced_elements edits p i es)
+same_count : (edits : Edits) (p : Place) (i : ℕ) (es : Elements) → count_elements es ≡ count_elements (replaced_elements literal_of edits p i es)
 same_count edits p i no_elements = refl
 same_count edits p i (last_element v g) = refl
 same_count edits p i (element v g h es) = ap suc (same_count edits p (suc i) es)
 
-same_inside : (edits : Edits) (p : Place) (v : Value) → SameView p v (replaced_inside edits p v)
+same_inside : (edits : Edits) (p : Place) (v : Value) → SameView p v (replaced_inside literal_of edits p v)
 same_inside edits p (basic ps) made = refl
 same_inside edits p (literal text) made = refl
 same_inside edits p (multi_basic ps) made = refl
@@ -135,8 +135,8 @@ same_inside edits p (datetime d) made = refl
 same_inside edits p (array g es) made = ap static_array (same_count edits p 0 es)
 same_inside edits p (inline g ms) made = refl
 
-stands_replaced : (edits : Edits) (p : Place) (v : Value) → StandsFor edits p v (put edits p (replaced_inside edits p v))
-stands_replaced edits p v = stands_put edits p v (replaced_inside edits p v) (same_inside edits p v)
+stands_replaced : (edits : Edits) (p : Place) (v : Value) → StandsFor edits p v (put literal_of edits p (replaced_inside literal_of edits p v))
+stands_replaced edits p v = stands_put edits p v (replaced_inside literal_of edits p v) (same_inside edits p v)
 
 -- ---- a replaced value thins the assertions
 
@@ -146,7 +146,7 @@ thin_key edits w by p (n ∷ []) u v e = swap by (at p (key n)) u v [] [] e none
 thin_key edits w by p (n ∷ m ∷ ns) u v e = keep _ _ _ refl (thin_key edits w by (at p (key n)) (m ∷ ns) u v (subst (λ q. StandsFor edits q u v) (sym (append_assoc p (key n ∷ []) (map key (m ∷ ns)))) e))
 
 mutual
-  thin_inside : (edits : Edits) (p : Place) (v : Value) → Thin edits (of_value p v) (of_value p (replaced_inside edits p v))
+  thin_inside : (edits : Edits) (p : Place) (v : Value) → Thin edits (of_value p v) (of_value p (replaced_inside literal_of edits p v))
   thin_inside edits p (basic ps) = none
   thin_inside edits p (literal text) = none
   thin_inside edits p (multi_basic ps) = none
@@ -158,28 +158,28 @@ mutual
   thin_inside edits p (array g es) = thin_elements edits p 0 es
   thin_inside edits p (inline g ms) = thin_members edits p ms
 
-  thin_elements : (edits : Edits) (p : Place) (i : ℕ) (es : Elements) → Thin edits (of_elements p i es) (of_elements p i (replaced_elements edits p i es))
+  thin_elements : (edits : Edits) (p : Place) (i : ℕ) (es : Elements) → Thin edits (of_elements p i es) (of_elements p i (replaced_elements literal_of edits p i es))
   thin_elements edits p i no_elements = none
   thin_elements edits p i (last_element v g) =
       let q = at p (index i) in
-      swap q q v (put edits q (replaced_inside edits q v)) _ _ (stands_replaced edits q v) (thin_put edits q v (replaced_inside edits q v) (thin_inside edits q v))
+      swap q q v (put literal_of edits q (replaced_inside literal_of edits q v)) _ _ (stands_replaced edits q v) (thin_put edits q v (replaced_inside literal_of edits q v) (thin_inside edits q v))
   thin_elements edits p i (element v g h es) =
       let q = at p (index i) in
-      swap q q v (put edits q (replaced_inside edits q v)) _ _ (stands_replaced edits q v)
-      (thin_append edits _ _ _ _ (thin_put edits q v (replaced_inside edits q v) (thin_inside edits q v)) (thin_elements edits p (suc i) es))
+      swap q q v (put literal_of edits q (replaced_inside literal_of edits q v)) _ _ (stands_replaced edits q v)
+      (thin_append edits _ _ _ _ (thin_put edits q v (replaced_inside literal_of edits q v) (thin_inside edits q v)) (thin_elements edits p (suc i) es))
 
-  thin_members : (edits : Edits) (p : Place) (ms : Members) → Thin edits (of_members p ms) (of_members p (replaced_members edits p ms))
+  thin_members : (edits : Edits) (p : Place) (ms : Members) → Thin edits (of_members p ms) (of_members p (replaced_members literal_of edits p ms))
   thin_members edits p no_members = none
   thin_members edits p (last_member k a b v c) =
       let q = named p (names k) in
-      thin_append edits _ _ _ _ (thin_key edits true q p (names k) v _ (stands_replaced edits q v)) (thin_put edits q v (replaced_inside edits q v) (thin_inside edits q v))
+      thin_append edits _ _ _ _ (thin_key edits true q p (names k) v _ (stands_replaced edits q v)) (thin_put edits q v (replaced_inside literal_of edits q v) (thin_inside edits q v))
   thin_members edits p (member k a b v c d ms) =
       let q = named p (names k) in
       thin_append edits _ _ _ _
-      (thin_append edits _ _ _ _ (thin_key edits true q p (names k) v _ (stands_replaced edits q v)) (thin_put edits q v (replaced_inside edits q v) (thin_inside edits q v)))
+      (thin_append edits _ _ _ _ (thin_key edits true q p (names k) v _ (stands_replaced edits q v)) (thin_put edits q v (replaced_inside literal_of edits q v) (thin_inside edits q v)))
       (thin_members edits p ms)
 
-pub thin_pair : (edits : Edits) (p : Place) (k : Key) (v : Value) → Thin edits (of_pair p k v) (of_pair p k (put edits (named p (names k)) (replaced_inside edits (named p (names k)) v)))
+pub thin_pair : (edits : Edits) (p : Place) (k : Key) (v : Value) → Thin edits (of_pair p k v) (of_pair p k (put literal_of edits (named p (names k)) (replaced_inside literal_of edits (named p (names k)) v)))
 thin_pair edits p k v =
     let q = named p (names k) in
-    thin_append edits _ _ _ _ (thin_key edits false q p (names k) v _ (stands_replaced edits q v)) (thin_put edits q v (replaced_inside edits q v) (thin_inside edits q v))
+    thin_append edits _ _ _ _ (thin_key edits false q p (names k) v _ (stands_replaced edits q v)) (thin_put edits q v (replaced_inside literal_of edits q v) (thin_inside edits q v))

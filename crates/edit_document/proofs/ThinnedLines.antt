@@ -3,6 +3,7 @@ use Rattle.std.proofs.Common.{◌≡◌, ℕ, suc, true, false, ◌&&◌, ◌-�
 use Rattle.std.specs.List.{AllByRecursion}
 use Rattle.edit_syntax.specs.Grammar.{Value, Statement, pair, header, element_header, empty_line, full_line, Lines, one_line, more_lines}
 use Rattle.edit_document.specs.Assertions.{Place, key, index, at, same_place, Kind, dotted, leaf, super, header_kind, array_kind, element_kind, Assertion, asserts, names, is_array_at, elements_at, resolved, fronts, header_place, of_statement, prefix_after, of_lines, together, NoClash, AreShort}
+use Rattle.edit_document.specs.Literals.{literal_of}
 use Rattle.edit_document.specs.Replaces.{Edits, replaced_statement, replaced_lines}
 use Rattle.edit_document.proofs.ThinnedForms.{Thin, none, keep, swap, lose, HasNoLeaf, thin_same, thin_append, thin_pair}
 
@@ -15,7 +16,7 @@ thin_count edits xs ys p (swap by q v w us vs e t) = thin_count edits us vs p t
 thin_count edits xs ys p (lose x us vs b k t) = ap (λ c. cond (c && same_place x.place p) (suc (elements_at us p)) (elements_at us p)) k ∙ thin_count edits us vs p t
 
 -- two lists with the same numbers of elements
-abbrev Counts : List Assertion → List Assertion → Type 0
+abbrev pub Counts : List Assertion → List Assertion → Type 0
 Counts xs ys = (p : Place) → elements_at xs p ≡ elements_at ys p
 
 same_resolved : (xs ys : List Assertion) (p : Place) → Counts xs ys → resolved xs p ≡ resolved ys p
@@ -34,14 +35,14 @@ same_header xs ys p (n ∷ []) t = refl
 same_header xs ys p (n ∷ m ∷ ns) t =
     ap (λ q. header_place xs q (m ∷ ns)) (same_resolved xs ys (at p (key n)) t) ∙ same_header xs ys (resolved ys (at p (key n))) (m ∷ ns) t
 
-same_prefix : (xs ys : List Assertion) (prefix : Place) (s : Statement) → Counts xs ys → prefix_after xs prefix s ≡ prefix_after ys prefix s
+pub same_prefix : (xs ys : List Assertion) (prefix : Place) (s : Statement) → Counts xs ys → prefix_after xs prefix s ≡ prefix_after ys prefix s
 same_prefix xs ys prefix (pair k a b v) t = refl
 same_prefix xs ys prefix (header a k b) t = same_header xs ys [] (names k) t
 same_prefix xs ys prefix (element_header a k b) t =
     ap (λ q. at q (index (elements_at xs q))) (same_header xs ys [] (names k) t)
     ∙ ap (λ n. at (header_place ys [] (names k)) (index n)) (t (header_place ys [] (names k)))
 
-same_statement : (xs ys : List Assertion) (prefix : Place) (s : Statement) → Counts xs ys → of_statement xs prefix s ≡ of_statement ys prefix s
+pub same_statement : (xs ys : List Assertion) (prefix : Place) (s : Statement) → Counts xs ys → of_statement xs prefix s ≡ of_statement ys prefix s
 same_statement xs ys prefix (pair k a b v) t = refl
 same_statement xs ys prefix (header a k b) t =
     ap (λ q. fronts xs q [] (names k) ++ asserts q q header_kind ∷ []) (same_header xs ys [] (names k) t)
@@ -52,16 +53,16 @@ same_statement xs ys prefix (element_header a k b) t =
     ∙ (let e = at (header_place ys [] (names k)) (index (elements_at ys (header_place ys [] (names k)))) in
     ap (λ l. l ++ asserts e (header_place ys [] (names k)) array_kind ∷ asserts e e element_kind ∷ []) (same_fronts xs ys e [] (names k) t))
 
-fronts_no_leaf : (earlier : List Assertion) (by p : Place) (ns : List (List ℕ)) → HasNoLeaf (fronts earlier by p ns)
+pub fronts_no_leaf : (earlier : List Assertion) (by p : Place) (ns : List (List ℕ)) → HasNoLeaf (fronts earlier by p ns)
 fronts_no_leaf earlier by p [] = tt
 fronts_no_leaf earlier by p (n ∷ []) = tt
 fronts_no_leaf earlier by p (n ∷ m ∷ ns) = (refl, fronts_no_leaf earlier by (resolved earlier (at p (key n))) (m ∷ ns))
 
-no_leaf_append : (xs ys : List Assertion) → HasNoLeaf xs → HasNoLeaf ys → HasNoLeaf (xs ++ ys)
+pub no_leaf_append : (xs ys : List Assertion) → HasNoLeaf xs → HasNoLeaf ys → HasNoLeaf (xs ++ ys)
 no_leaf_append [] ys h more = more
 no_leaf_append (x ∷ xs) ys h more = (h.0, no_leaf_append xs ys h.1 more)
 
-thin_statement : (edits : Edits) (xs ys : List Assertion) (prefix : Place) (s : Statement) → Counts xs ys → Thin edits (of_statement xs prefix s) (of_statement ys prefix (replaced_statement edits prefix s))
+pub thin_statement : (edits : Edits) (xs ys : List Assertion) (prefix : Place) (s : Statement) → Counts xs ys → Thin edits (of_statement xs prefix s) (of_statement ys prefix (replaced_statement literal_of edits prefix s))
 thin_statement edits xs ys prefix (pair k a b v) t = thin_pair edits prefix k v
 thin_statement edits xs ys prefix (header a k b) t =
     subst (λ l. Thin edits (of_statement xs prefix (header a k b)) l) (same_statement xs ys prefix (header a k b) t)
@@ -70,13 +71,13 @@ thin_statement edits xs ys prefix (element_header a k b) t =
     subst (λ l. Thin edits (of_statement xs prefix (element_header a k b)) l) (same_statement xs ys prefix (element_header a k b) t)
     (thin_same edits _ (no_leaf_append (fronts xs _ [] (names k)) _ (fronts_no_leaf xs _ [] (names k)) (refl, (refl, tt))))
 
-same_after : (edits : Edits) (xs ys : List Assertion) (prefix : Place) (s : Statement) → Counts xs ys → prefix_after xs prefix s ≡ prefix_after ys prefix (replaced_statement edits prefix s)
+same_after : (edits : Edits) (xs ys : List Assertion) (prefix : Place) (s : Statement) → Counts xs ys → prefix_after xs prefix s ≡ prefix_after ys prefix (replaced_statement literal_of edits prefix s)
 same_after edits xs ys prefix (pair k a b v) t = refl
 same_after edits xs ys prefix (header a k b) t = same_prefix xs ys prefix (header a k b) t
 same_after edits xs ys prefix (element_header a k b) t = same_prefix xs ys prefix (element_header a k b) t
 
 -- replaced lines, behind thinned assertions
-pub thin_lines : (edits : Edits) (xs ys : List Assertion) (prefix : Place) (ls : Lines) → Thin edits xs ys → Thin edits (of_lines xs prefix ls) (of_lines ys prefix (replaced_lines edits xs prefix ls))
+pub thin_lines : (edits : Edits) (xs ys : List Assertion) (prefix : Place) (ls : Lines) → Thin edits xs ys → Thin edits (of_lines xs prefix ls) (of_lines ys prefix (replaced_lines literal_of edits xs prefix ls))
 thin_lines edits xs ys prefix (one_line (empty_line a c)) t = t
 thin_lines edits xs ys prefix (one_line (full_line a s b c)) t = thin_append edits xs ys _ _ t (thin_statement edits xs ys prefix s (λ p. thin_count edits xs ys p t))
 thin_lines edits xs ys prefix (more_lines (empty_line a c) e ls) t = thin_lines edits xs ys prefix ls t
@@ -84,8 +85,8 @@ thin_lines edits xs ys prefix (more_lines (full_line a s b c) e ls) t =
     let counts : Counts xs ys = λ p. thin_count edits xs ys p t in
     let more = thin_append edits xs ys _ _ t (thin_statement edits xs ys prefix s counts) in
     let us = xs ++ of_statement xs prefix s in
-    let vs = ys ++ of_statement ys prefix (replaced_statement edits prefix s) in
-    let news = replaced_lines edits us (prefix_after xs prefix s) ls in
+    let vs = ys ++ of_statement ys prefix (replaced_statement literal_of edits prefix s) in
+    let news = replaced_lines literal_of edits us (prefix_after xs prefix s) ls in
     subst (λ q. Thin edits (of_lines us (prefix_after xs prefix s) ls) (of_lines vs q news)) (same_after edits xs ys prefix s counts)
     (thin_lines edits us vs (prefix_after xs prefix s) ls more)
 

@@ -28,7 +28,7 @@ outside_rest s r t ss rs ts b far e =
     sym (ap (λ c. c && is_within ss rs) same) ∙ far
 
 -- what lies below the target is no member of a place outside
-no_member : (target q p : Place) → is_below target p ≡ true → is_within target q ≡ false → step_from q p ≡ None
+pub no_member : (target q p : Place) → is_below target p ≡ true → is_within target q ≡ false → step_from q p ≡ None
 no_member [] q p b far = absurd cc
 no_member (s ∷ ss) [] [] b far = refl
 no_member (s ∷ []) [] (t ∷ []) b far = absurd (true≢false (sym (and_parts (same_step s t) false b).1))
@@ -91,7 +91,7 @@ not_lost : (edits : Edits) (p q : Place) → is_below_any edits p ≡ true → i
 not_lost edits p q low none_above =
     by_test (same_place p q) (λ e. absurd (true≢false (sym low ∙ ap (λ r. is_below_any edits r) (same_place_is p q e) ∙ none_above))) (λ e. e)
 
-cond_map : {A B : Type 0} (f : A → B) (c : Bool) (k : A) (x y : Option A) → option_map f x ≡ option_map f y → option_map f (cond c (Some k) x) ≡ option_map f (cond c (Some k) y)
+pub cond_map : {A B : Type 0} (f : A → B) (c : Bool) (k : A) (x y : Option A) → option_map f x ≡ option_map f y → option_map f (cond c (Some k) x) ≡ option_map f (cond c (Some k) y)
 cond_map f true k x y e = refl
 cond_map f false k x y e = e
 
@@ -148,7 +148,7 @@ kind_made q xs ys header_kind e n = ap table e
 kind_made q xs ys array_kind e n = ap table_array n
 kind_made q xs ys element_kind e n = ap table e
 
-option_made : (q : Place) (xs ys : List Assertion) (o : Option Kind) → members_of xs q ≡ members_of ys q → elements_at xs q ≡ elements_at ys q → option_map (view_of_kind xs q) o ≡ option_map (view_of_kind ys q) o
+pub option_made : (q : Place) (xs ys : List Assertion) (o : Option Kind) → members_of xs q ≡ members_of ys q → elements_at xs q ≡ elements_at ys q → option_map (view_of_kind xs q) o ≡ option_map (view_of_kind ys q) o
 option_made q xs ys None e n = refl
 option_made q xs ys (Some k) e n = ap Some (kind_made q xs ys k e n)
 

@@ -19,66 +19,80 @@ new_text (e ∷ es) place = if same_place e.0 place then Some e.1 else new_text 
 
 -- ---- the form
 
--- the literal of the text to be written, or the value where there is none
-abbrev pub literal_or : Option (List ℕ) → Value → Value
-literal_or None v = v
-literal_or (Some said) v = literal_of said
+-- how the value is written that is made of the text to be written
+abbrev pub Writer : Type 0
+Writer = List ℕ → Value
 
--- a value, or the literal that is to be written at its place
-abbrev pub put : Edits → Place → Value → Value
-put edits place v = literal_or (new_text edits place) v
+-- what is made of the text to be written, or the value where there is none
+abbrev pub written_or : Writer → Option (List ℕ) → Value → Value
+written_or write None v = v
+written_or write (Some said) v = write said
+
+-- a value, or what is to be written at its place
+abbrev pub put : Writer → Edits → Place → Value → Value
+put write edits place v = written_or write (new_text edits place) v
 
 -- a value whose inner values are replaced at the places
 abbrev mutual
   -- each value inside it gives way where a text is to be written
-  pub replaced_inside : Edits → Place → Value → Value
-  replaced_inside edits place (basic ps) = basic ps
-  replaced_inside edits place (literal text) = literal text
-  replaced_inside edits place (multi_basic ps) = multi_basic ps
-  replaced_inside edits place (multi_literal ps) = multi_literal ps
-  replaced_inside edits place (boolean b) = boolean b
-  replaced_inside edits place (integer n) = integer n
-  replaced_inside edits place (float f) = float f
-  replaced_inside edits place (datetime d) = datetime d
-  replaced_inside edits place (array g es) = array g (replaced_elements edits place 0 es)
-  replaced_inside edits place (inline g ms) = inline g (replaced_members edits place ms)
+  pub replaced_inside : Writer → Edits → Place → Value → Value
+  replaced_inside write edits place (basic ps) = basic ps
+  replaced_inside write edits place (literal text) = literal text
+  replaced_inside write edits place (multi_basic ps) = multi_basic ps
+  replaced_inside write edits place (multi_literal ps) = multi_literal ps
+  replaced_inside write edits place (boolean b) = boolean b
+  replaced_inside write edits place (integer n) = integer n
+  replaced_inside write edits place (float f) = float f
+  replaced_inside write edits place (datetime d) = datetime d
+  replaced_inside write edits place (array g es) = array g (replaced_elements write edits place 0 es)
+  replaced_inside write edits place (inline g ms) = inline g (replaced_members write edits place ms)
 
   -- the same of elements, from the one of this number on
-  pub replaced_elements : Edits → Place → ℕ → Elements → Elements
-  replaced_elements edits place i no_elements = no_elements
-  replaced_elements edits place i (last_element v g) = last_element (put edits (at place (index i)) (replaced_inside edits (at place (index i)) v)) g
-  replaced_elements edits place i (element v g h es) =
-      element (put edits (at place (index i)) (replaced_inside edits (at place (index i)) v)) g h (replaced_elements edits place (suc i) es)
+  pub replaced_elements : Writer → Edits → Place → ℕ → Elements → Elements
+  replaced_elements write edits place i no_elements = no_elements
+  replaced_elements write edits place i (last_element v g) =
+      last_element (put write edits (at place (index i)) (replaced_inside write edits (at place (index i)) v)) g
+  replaced_elements write edits place i (element v g h es) =
+      element (put write edits (at place (index i)) (replaced_inside write edits (at place (index i)) v)) g h
+      (replaced_elements write edits place (suc i) es)
 
   -- the same of members
-  pub replaced_members : Edits → Place → Members → Members
-  replaced_members edits place no_members = no_members
-  replaced_members edits place (last_member k a b v c) =
-      last_member k a b (put edits (named place (names k)) (replaced_inside edits (named place (names k)) v)) c
-  replaced_members edits place (member k a b v c d ms) =
-      member k a b (put edits (named place (names k)) (replaced_inside edits (named place (names k)) v)) c d (replaced_members edits place ms)
+  pub replaced_members : Writer → Edits → Place → Members → Members
+  replaced_members write edits place no_members = no_members
+  replaced_members write edits place (last_member k a b v c) =
+      last_member k a b (put write edits (named place (names k)) (replaced_inside write edits (named place (names k)) v)) c
+  replaced_members write edits place (member k a b v c d ms) =
+      member k a b (put write edits (named place (names k)) (replaced_inside write edits (named place (names k)) v)) c d
+      (replaced_members write edits place ms)
 
 -- a value at its place
-abbrev pub replaced_value : Edits → Place → Value → Value
-replaced_value edits place v = put edits place (replaced_inside edits place v)
+abbrev pub replaced_value : Writer → Edits → Place → Value → Value
+replaced_value write edits place v = put write edits place (replaced_inside write edits place v)
 
 -- the same of a statement under a header
-abbrev pub replaced_statement : Edits → Place → Statement → Statement
-replaced_statement edits prefix (pair k a b v) = pair k a b (replaced_value edits (named prefix (names k)) v)
-replaced_statement edits prefix (header a k b) = header a k b
-replaced_statement edits prefix (element_header a k b) = element_header a k b
+abbrev pub replaced_statement : Writer → Edits → Place → Statement → Statement
+replaced_statement write edits prefix (pair k a b v) = pair k a b (replaced_value write edits (named prefix (names k)) v)
+replaced_statement write edits prefix (header a k b) = header a k b
+replaced_statement write edits prefix (element_header a k b) = element_header a k b
 
 -- lines behind these assertions and under this header
-abbrev pub replaced_lines : Edits → List Assertion → Place → Lines → Lines
-replaced_lines edits earlier prefix (one_line (empty_line a c)) = one_line (empty_line a c)
-replaced_lines edits earlier prefix (one_line (full_line a s b c)) = one_line (full_line a (replaced_statement edits prefix s) b c)
-replaced_lines edits earlier prefix (more_lines (empty_line a c) e ls) = more_lines (empty_line a c) e (replaced_lines edits earlier prefix ls)
-replaced_lines edits earlier prefix (more_lines (full_line a s b c) e ls) =
-    more_lines (full_line a (replaced_statement edits prefix s) b c) e (replaced_lines edits (earlier ++ of_statement earlier prefix s) (prefix_after earlier prefix s) ls)
+abbrev pub replaced_lines : Writer → Edits → List Assertion → Place → Lines → Lines
+replaced_lines write edits earlier prefix (one_line (empty_line a c)) = one_line (empty_line a c)
+replaced_lines write edits earlier prefix (one_line (full_line a s b c)) =
+    one_line (full_line a (replaced_statement write edits prefix s) b c)
+replaced_lines write edits earlier prefix (more_lines (empty_line a c) e ls) =
+    more_lines (empty_line a c) e (replaced_lines write edits earlier prefix ls)
+replaced_lines write edits earlier prefix (more_lines (full_line a s b c) e ls) =
+    more_lines (full_line a (replaced_statement write edits prefix s) b c) e
+    (replaced_lines write edits (earlier ++ of_statement earlier prefix s) (prefix_after earlier prefix s) ls)
 
--- the form in which each value at one of the places is the literal of the text to be written there
+-- the form in which each value at one of the places gives way to what is made of the text to be written there
+abbrev pub replaced_by : Writer → Edits → Text → Text
+replaced_by write edits t = record { marked = t.marked; lines = replaced_lines write edits [] [] t.lines }
+
+-- the same with the literals of the texts
 abbrev pub replaced : Edits → Text → Text
-replaced edits t = record { marked = t.marked; lines = replaced_lines edits [] [] t.lines }
+replaced edits t = replaced_by literal_of edits t
 
 -- ---- the bytes
 
@@ -86,11 +100,12 @@ replaced edits t = record { marked = t.marked; lines = replaced_lines edits [] [
 abbrev pub edited : Edits → Text → List (Valued × List ℕ)
 edited edits t = filter_map (λ w. option_map (λ said. (w, said)) (new_text edits w.place)) (values t)
 
--- `t0 v1 t1 .. vn tn` and `t0 l1 t1 .. ln tn`: each value gives way to the literal of its text, and every other byte is kept
-pub data Swaps : List (Valued × List ℕ) → List ℕ → List ℕ → Type 0 where
-  rest : (t : List ℕ) → Swaps [] t t
+-- `t0 v1 t1 .. vn tn` and `t0 l1 t1 .. ln tn`: each value gives way to what is made of its text, and every other byte is kept
+pub data Swaps (write : Writer) : List (Valued × List ℕ) → List ℕ → List ℕ → Type 0 where
+  rest : (t : List ℕ) → Swaps write [] t t
   next : (t : List ℕ) (w : Valued) (said : List ℕ) (more : List (Valued × List ℕ)) (new : List ℕ)
-      → Swaps more w.after new → Swaps ((w, said) ∷ more) (t ++ value w.value w.after) (t ++ value (literal_of said) new)
+      → Swaps write more w.after new
+      → Swaps write ((w, said) ∷ more) (t ++ value w.value w.after) (t ++ value (write said) new)
 
 -- ---- the tree
 
@@ -143,6 +158,6 @@ pub record Replaces (edits : Edits) (old new : List ℕ) : Type 0 where
   pub form : Text
   pub was : IsManifest old form
   pub bytes : new ≡ text (replaced edits form)
-  pub kept : Swaps (edited edits form) old new
+  pub kept : Swaps literal_of (edited edits form) old new
   pub is : IsManifest new (replaced edits form)
   pub tree : (place : Place) → view_at (replaced edits form) place ≡ written edits (emptied edits (view_at form)) place

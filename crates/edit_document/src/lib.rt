@@ -5,9 +5,11 @@ mod assertions;
 pub mod document;
 pub mod item;
 mod literal;
+pub mod new_item;
 mod nodes;
 pub mod place;
 mod replace;
+mod set_value;
 mod walk;
 mod words;
 
@@ -16,4 +18,5 @@ pub use edit_base::{
     CargoResult, DeviceCall, Error, MergedCommand, MissingKind, MissingNames, errors, paths,
 };
 pub use item::{Item, Keys};
+pub use new_item::{NewItem, NewValue};
 pub use place::{Place, Step};

@@ -1,0 +1,75 @@
+//! Other values in the place of values.
+ghost use Rattle.std.specs.Prelude.{◌≡◌, [], ◌∷◌, ◌++◌, IfOk, IfErr, true, drop, string_bytes, take};
+ghost use Rattle.edit_base.specs.Errors.{IsMemory};
+ghost use Rattle.edit_syntax.specs.Grammar.{Text, value as value_text};
+ghost use Rattle.edit_document.specs.EditBytes.{set_text};
+ghost use Rattle.edit_document.specs.Items.{place_seen};
+ghost use Rattle.edit_document.specs.Meant.{HasSet};
+ghost use Rattle.edit_document.specs.NewItems.{new_value};
+ghost use Rattle.edit_document.specs.NewItemViews.{value_seen, HasRoom};
+ghost use Rattle.edit_document.specs.Shown.{tree_of};
+ghost use Rattle.edit_document.specs.Splices.{AreInOrder};
+ghost use Rattle.edit_document.specs.Supported.{IsManifest};
+ghost use Rattle.edit_document.specs.Tree.{is_value_at};
+
+use crate::document::Document;
+use crate::new_item::{NewValue, push_value};
+use crate::place::Step;
+use edit_base::errors::CargoResult;
+use std::alloc::Global;
+
+/// The text with the literal of a value in the place of a range.
+fn with_range(
+    alloc: Global,
+    text: &str,
+    start: usize,
+    end: usize,
+    value: &NewValue,
+) -> CargoResult<String>
+    requires { AreInOrder text.now 0 ((start, end, []) ∷ []) }
+    ensures text { IfOk result (λ s. string_bytes s
+        ≡ take start text.now ++ (value_text (new_value (value_seen value.now)) [] ++ drop end text.now)) }
+    ensures refused { IfErr result IsMemory }
+{
+    let mut out = String::with_capacity(alloc, text.len())?;
+    out.push_str(&text[..start])?;
+    push_value(&mut out, value)?;
+    out.push_str(&text[end..])?;
+    Ok(out)
+}
+
+impl Document {
+    /// The document's text with the literal of another value in the place of a value.
+    fn with_value(&self, alloc: Global, place: &[Step], value: &NewValue) -> CargoResult<String>
+        requires { (form : Text) → IsManifest self.now.bytes form
+            → is_value_at form (place_seen place.now) ≡ true }
+        ensures bytes { IfOk result (λ s. (form : Text) → IsManifest self.now.bytes form
+            → string_bytes s ≡ set_text (place_seen place.now) (value_seen value.now) form) }
+        ensures refused { IfErr result IsMemory }
+    {
+        self.has_form();
+        match self.value_range(place) {
+            Some((start, end)) => with_range(alloc, self.as_str(), start, end, value),
+            None => unreachable!(),
+        }
+    }
+
+    /// Writes the literal of another value in the place of a value, and nothing else; what stood inside the old
+    /// value goes with it. After a refusal the document is as it was.
+    pub fn set_value(&mut self, alloc: Global, place: &[Step], value: &NewValue) -> CargoResult<()>
+        requires is_value { (form : Text) → IsManifest self.old.bytes form
+            → is_value_at form (place_seen place.now) ≡ true }
+        requires room { HasRoom (place_seen place.now) (value_seen value.now) }
+        ensures bytes { IfOk result (λ _. (form : Text) → IsManifest self.old.bytes form
+            → self.new.bytes ≡ set_text (place_seen place.now) (value_seen value.now) form) }
+        ensures tree { IfOk result (λ _.
+            HasSet (place_seen place.now) (value_seen value.now) (tree_of self.old) (tree_of self.new)) }
+        ensures err { IfErr result (λ _. self.new ≡ self.old) }
+        ensures refused { IfErr result IsMemory }
+    {
+        self.has_form();
+        let text = self.with_value(alloc, place, value)?;
+        *self = Document::read(alloc, text.as_str())?;
+        Ok(())
+    }
+}
