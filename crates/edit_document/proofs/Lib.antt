@@ -57,6 +57,11 @@ pub mod LocatedEdits
 pub mod SortedRewrites
 pub mod ReplacementLaws
 pub mod ReplacedDocuments
+-- Two documents compared
+pub mod ContentViews
+pub mod Keyed
+pub mod Wholes
+pub mod SameParts
 -- Worked examples
 pub mod ReplaceFacts
 pub mod FromReader

@@ -11,6 +11,7 @@ pub mod Nodes
 pub mod DocumentLayout
 pub mod Items
 pub mod ItemViews
+pub mod Compared
 pub mod Walk
 pub mod WalkState
 pub mod Ranges
