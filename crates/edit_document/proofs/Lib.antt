@@ -62,6 +62,8 @@ pub mod ContentViews
 pub mod Keyed
 pub mod Wholes
 pub mod SameParts
+pub mod Besides
+pub mod BesideWalk
 -- Worked examples
 pub mod ReplaceFacts
 pub mod FromReader

@@ -83,10 +83,10 @@ part_or v s (suc n) = go (part_or v s n) (nth_part v n) refl
 
 -- ---- below
 
-abbrev NothingElse : Shown → ℕ → Type 0
+abbrev pub NothingElse : Shown → ℕ → Type 0
 NothingElse d n = (step : Step) → ((i : ℕ) → nth_part (view_numbered d n) i ≡ Some step → ⊥) → tree_of d (at (place_numbered d n) step) ≡ None
 
-abbrev NoneBelow : Shown → Type 0
+abbrev pub NoneBelow : Shown → Type 0
 NoneBelow d = (place more : Place) → tree_of d place ≡ None → tree_of d (place ++ more) ≡ None
 
 pub one_down : (d : Shown) (p : Place) (s : Step) (q : Place) → tree_of d (at p s ++ q) ≡ tree_of d (p ++ s ∷ q)

@@ -3,6 +3,8 @@ use Rattle.std.specs.Prelude.{◌≡◌, ℕ, ◌<◌, true, false, nat_lt, if�
 use Rattle.edit_document.specs.Assertions.{Step, key, index, Place, at}
 use Rattle.edit_document.specs.Tree.{View, string, truth, whole, fractional, moment, static_array, table_array, inline_table, table}
 use Rattle.edit_document.specs.Shown.{Shown, tree_of}
+use Rattle.edit_document.specs.EditBytes.{is_within}
+use Rattle.edit_document.specs.Meant.{Tree}
 use Rattle.edit_document.specs.Items.{place_numbered, view_numbered, names_in, key_names}
 
 -- the same stands at two places, and below them
@@ -10,8 +12,23 @@ abbrev pub SameBelow : Shown → Place → Shown → Place → Type 0
 SameBelow d p e r = (q : Place) → tree_of d (p ++ q) ≡ tree_of e (r ++ q)
 
 -- what stands below a place of a document
-abbrev pub tree_below : Shown → Place → Place → Option View
+abbrev pub tree_below : Shown → Place → Tree
 tree_below d place q = tree_of d (place ++ q)
+
+-- what is neither a place nor below it is the same in two trees
+abbrev pub SameBeside : Place → Tree → Tree → Type 0
+SameBeside place old new = (q : Place) → is_within place q ≡ false → new q ≡ old q
+
+-- the node of a number stands at the place
+abbrev pub IsNumber : Shown → Place → ℕ → Type 0
+IsNumber d place n = (n < length d.nodes) × (place_numbered d n ≡ place)
+
+-- The numbers of the nodes of a place in two documents that are the same but there and below; or they are not the
+-- same, or nothing stands there in the second.
+abbrev pub FindsBeside : Place → Shown → Shown → Option (ℕ × ℕ) → Type 0
+FindsBeside place d e r =
+    MatchOption r (SameBeside place (tree_of d) (tree_of e) → tree_of e place ≡ None)
+    (λ f. SameBeside place (tree_of d) (tree_of e) × IsNumber d place f.0 × IsNumber e place f.1)
 
 -- ---- what the code compares
 
@@ -61,6 +78,12 @@ abbrev pub AreKeys : View → Type 0
 AreKeys (inline_table ms) = ms ≡ map key (key_names ms)
 AreKeys (table ms) = ms ≡ map key (key_names ms)
 AreKeys v = ⊤
+
+-- at each part of a node but one the same stands as where its step leads to from another node
+abbrev pub SamePartsBut : Step → Shown → ℕ → Shown → ℕ → Type 0
+SamePartsBut step d n e m =
+    (i : ℕ) → (part : Step) → nth_part (view_numbered d n) i ≡ Some part → (part ≡ step → ⊥)
+    → SameBelow d (at (place_numbered d n) part) e (at (place_numbered e m) part)
 
 -- the number of the node of a member or an element
 abbrev pub NumbersPart : Shown → ℕ → ℕ → Option ℕ → Type 0

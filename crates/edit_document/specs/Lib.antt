@@ -11,7 +11,6 @@ pub mod Nodes
 pub mod DocumentLayout
 pub mod Items
 pub mod ItemViews
-pub mod Compared
 pub mod Walk
 pub mod WalkState
 pub mod Ranges
@@ -20,6 +19,7 @@ pub mod Statements
 pub mod EditBytes
 pub mod RemovedBytes
 pub mod Meant
+pub mod Compared
 pub use Rattle.edit_base.specs.Errors
 pub use Rattle.edit_base.specs.Paths
 pub use Rattle.edit_syntax.specs.Characters

@@ -2,6 +2,7 @@
 #![tactic(auto)]
 
 mod assertions;
+mod beside;
 mod compare;
 pub mod document;
 pub mod item;
