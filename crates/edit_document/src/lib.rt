@@ -7,6 +7,7 @@ mod compare;
 pub mod document;
 pub mod item;
 mod literal;
+pub mod new_item;
 mod nodes;
 pub mod place;
 mod replace;
@@ -18,4 +19,5 @@ pub use edit_base::{
     CargoResult, DeviceCall, Error, MergedCommand, MissingKind, MissingNames, errors, paths,
 };
 pub use item::{Item, Keys};
+pub use new_item::{NewItem, NewValue};
 pub use place::{Place, Step};
