@@ -8,7 +8,7 @@ use Rattle.edit_document.specs.Meant.{Tree}
 use Rattle.edit_document.specs.Tree.{View}
 use Rattle.edit_document.specs.Shown.{Shown, tree_of}
 use Rattle.edit_document.specs.Items.{place_numbered, view_numbered, count_in, Numbers}
-use Rattle.edit_document.specs.Compared.{SameBelow, tree_below, SameBeside, SamePartsBut, nth_part, NumbersPart}
+use Rattle.edit_document.specs.Compared.{SameBelow, tree_below, SameBeside, SamePartsBut, SamePart, nth_part, NumbersPart}
 use Rattle.edit_document.proofs.SamePlace.{same_step_self, same_step_is}
 use Rattle.edit_document.proofs.SameParts.{part_or, part_less, one_down, NothingElse, NoneBelow}
 
@@ -131,11 +131,6 @@ module _ (d : Shown) (n : ℕ) (e : Shown) (m : ℕ) (s : Step) (here : At d n) 
   ]
 
 -- ---- one part
-
-abbrev pub SamePart : Shown → ℕ → Shown → ℕ → ℕ → Type 0
-SamePart d n e m i =
-    (step : Step) → nth_part (view_numbered d n) i ≡ Some step
-    → SameBelow d (at (place_numbered d n) step) e (at (place_numbered e m) step)
 
 abbrev Counterpart : Shown → ℕ → Shown → ℕ → ℕ → Option ℕ → Type 0
 Counterpart d n e m i r =

@@ -65,6 +65,10 @@ pub mod Wholes
 pub mod SameParts
 pub mod Besides
 pub mod BesideWalk
+pub mod ShownValues
+pub mod OnceLists
+pub mod GrownNames
+pub mod GrownTrees
 -- Worked examples
 pub mod ReplaceFacts
 pub mod FromReader

@@ -75,7 +75,7 @@ number_at (m ∷ ms) name (suc i) e = go (bytes_eq name m.0) (number_at ms name 
 element_is : (n i : ℕ) → i < n → element_step n i ≡ Some (index i)
 element_is n i lt = ap (λ (b : Bool). cond b (Some (index i)) None) (lt-ltb i n lt)
 
-element_was : (n i : ℕ) (step : Step) → element_step n i ≡ Some step → (i < n) × (step ≡ index i)
+pub element_was : (n i : ℕ) (step : Step) → element_step n i ≡ Some step → (i < n) × (step ≡ index i)
 element_was n i step e = go (nat_lt i n) refl e
   where
     go : (b : Bool) → nat_lt i n ≡ b → cond b (Some (index i)) None ≡ Some step → (i < n) × (step ≡ index i)

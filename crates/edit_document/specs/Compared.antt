@@ -4,7 +4,8 @@ use Rattle.edit_document.specs.Assertions.{Step, key, index, Place, at}
 use Rattle.edit_document.specs.Tree.{View, string, truth, whole, fractional, moment, static_array, table_array, inline_table, table}
 use Rattle.edit_document.specs.Shown.{Shown, tree_of}
 use Rattle.edit_document.specs.EditBytes.{is_within}
-use Rattle.edit_document.specs.Meant.{Tree}
+use Rattle.edit_document.specs.NewItems.{NewValue}
+use Rattle.edit_document.specs.Meant.{Tree, new_view}
 use Rattle.edit_document.specs.Items.{place_numbered, view_numbered, names_in, key_names}
 
 -- the same stands at two places, and below them
@@ -18,6 +19,10 @@ tree_below d place q = tree_of d (place ++ q)
 -- what is neither a place nor below it is the same in two trees
 abbrev pub SameBeside : Place → Tree → Tree → Type 0
 SameBeside place old new = (q : Place) → is_within place q ≡ false → new q ≡ old q
+
+-- a place and those below it show a new value
+abbrev pub ShowsValue : Shown → Place → NewValue → Type 0
+ShowsValue d place v = (q : Place) → tree_of d (place ++ q) ≡ new_view v q
 
 -- the node of a number stands at the place
 abbrev pub IsNumber : Shown → Place → ℕ → Type 0
@@ -78,6 +83,12 @@ abbrev pub AreKeys : View → Type 0
 AreKeys (inline_table ms) = ms ≡ map key (key_names ms)
 AreKeys (table ms) = ms ≡ map key (key_names ms)
 AreKeys v = ⊤
+
+-- at a part of this number the same stands as where its step leads to from another node
+abbrev pub SamePart : Shown → ℕ → Shown → ℕ → ℕ → Type 0
+SamePart d n e m i =
+    (part : Step) → nth_part (view_numbered d n) i ≡ Some part
+    → SameBelow d (at (place_numbered d n) part) e (at (place_numbered e m) part)
 
 -- at each part of a node but one the same stands as where its step leads to from another node
 abbrev pub SamePartsBut : Step → Shown → ℕ → Shown → ℕ → Type 0

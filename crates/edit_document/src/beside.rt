@@ -2,7 +2,7 @@
 ghost use Rattle.std.specs.Prelude.{◌≡◌, ◌<◌, ℕ, true, [], ◌∷◌, Some, None, length};
 ghost use Rattle.std.specs.Bool.{Decides};
 ghost use Rattle.edit_document.specs.Assertions.{Step as StepSeen, at};
-ghost use Rattle.edit_document.specs.Compared.{SameBelow, SameBeside, SamePartsBut, FindsBeside, tree_below, nth_part};
+ghost use Rattle.edit_document.specs.Compared.{SameBeside, SamePart, SamePartsBut, FindsBeside, tree_below, nth_part};
 ghost use Rattle.edit_document.specs.Items.{place_numbered, view_numbered, place_seen, step_seen, count_in, Numbers};
 ghost use Rattle.edit_document.specs.Shown.{tree_of};
 
@@ -64,9 +64,7 @@ impl Document {
     fn same_part(&self, number: usize, index: usize, other: &Document, there: usize) -> bool
         requires here { number < length self.now.nodes }
         requires there { there < length other.now.nodes }
-        ensures { Decides result ((step : StepSeen) → nth_part (view_numbered self.now number) index ≡ Some step
-            → SameBelow self.now (at (place_numbered self.now number) step)
-            other.now (at (place_numbered other.now there) step)) }
+        ensures { Decides result (SamePart self.now number other.now there index) }
     {
         self.is_whole(number);
         let Some(part) = self.part(number, index) else {
@@ -76,6 +74,22 @@ impl Document {
             return false;
         };
         self.same_below(part, other, other_part, 81)
+    }
+
+    /// Whether the same stands at each part of a node as where its step leads to from another.
+    pub(crate) fn same_parts(&self, number: usize, other: &Document, there: usize) -> bool
+        requires here { number < length self.now.nodes }
+        requires there { there < length other.now.nodes }
+        ensures { Decides result ((index : ℕ) → SamePart self.now number other.now there index) }
+    {
+        self.is_whole(number);
+        let count = self.member_count(number);
+        'parts: for index in 0..count {
+            if !self.same_part(number, index, other, there) {
+                return false;
+            }
+        }
+        true
     }
 
     /// Whether the same stands at each part of a node but one as where its step leads to from another.

@@ -10,7 +10,7 @@ use crate::document::Document;
 use crate::nodes::{Content, cut, words_in};
 
 /// Whether two words are the same, or neither is there.
-fn same_word(word: Option<&str>, other: Option<&str>) -> bool
+pub(crate) fn same_word(word: Option<&str>, other: Option<&str>) -> bool
     ensures { Decides result (option_map (λ s. s.now) word.entry ≡ option_map (λ s. s.now) other.entry) }
 {
     match word {
@@ -24,7 +24,7 @@ fn same_word(word: Option<&str>, other: Option<&str>) -> bool
 
 impl Document {
     /// What kind of thing a node shows, as a number.
-    fn kind(&self, number: usize) -> u8
+    pub(crate) fn kind(&self, number: usize) -> u8
         requires { number < length self.now.nodes }
         ensures { result ≡ kind_of (view_numbered self.now number) }
     {
@@ -43,7 +43,7 @@ impl Document {
     }
 
     /// What a string says, or how a number, a date or a time is written.
-    fn word(&self, number: usize) -> Option<&str>
+    pub(crate) fn word(&self, number: usize) -> Option<&str>
         requires { number < length self.now.nodes }
         ensures { option_map (λ s. s.now) result ≡ word_of (view_numbered self.now number) }
     {
