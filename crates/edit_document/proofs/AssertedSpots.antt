@@ -126,7 +126,7 @@ stands_start = record {
 pub was_asserted : {made : List Assertion} {written : List Placed} {s : Spot} → (t : Tells made written s) → (s.place ≡ [] → ⊥) → kind_at made s.place ≡ Some t.kind
 was_asserted {made} {written} {s} t ne = sym (first_is made s.place ne) ∙ t.first
 
-short_at : (made : List Assertion) (p : Place) (k : Kind) → AreShort made → kind_at made p ≡ Some k → length p ≤ 80
+pub short_at : (made : List Assertion) (p : Place) (k : Kind) → AreShort made → kind_at made p ≡ Some k → length p ≤ 80
 short_at [] p k h e = absurd cc
 short_at (a ∷ made) p k h e = go (same_place a.place p) refl e (short_at made p k h.1)
   where

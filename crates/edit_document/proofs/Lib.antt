@@ -63,6 +63,17 @@ pub mod WidenedForms
 pub mod WidenedViews
 pub mod NewValues
 pub mod SetValues
+-- Two documents compared
+pub mod ContentViews
+pub mod Keyed
+pub mod Wholes
+pub mod SameParts
+pub mod Besides
+pub mod BesideWalk
+pub mod ShownValues
+pub mod OnceLists
+pub mod GrownNames
+pub mod GrownTrees
 -- Worked examples
 pub mod ReplaceFacts
 pub mod FromReader

@@ -30,7 +30,7 @@ pub record Opened (shown : Shown) (nodes : List Node) : Type 0 where
   pub holds : Holds shown.bytes nodes spots
   pub tree : IsTree spots
 
-pub opened : (inside : Inside) (shown : Shown) → IsRead inside → shown_of inside ≡ shown → Opened shown inside.nodes.items
+unfoldable pub opened : (inside : Inside) (shown : Shown) → IsRead inside → shown_of inside ≡ shown → Opened shown inside.nodes.items
 unfolding shown_by
 opened inside shown read view =
     let seen : shown.nodes ≡ nodes_by (spots_of (string_bytes inside.text)) = ap (λ (s : Shown). s.nodes) (sym view) in

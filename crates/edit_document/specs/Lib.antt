@@ -20,6 +20,7 @@ pub mod Statements
 pub mod EditBytes
 pub mod RemovedBytes
 pub mod Meant
+pub mod Compared
 pub use Rattle.edit_base.specs.Errors
 pub use Rattle.edit_base.specs.Paths
 pub use Rattle.edit_syntax.specs.Characters

@@ -24,8 +24,8 @@ use std::marker::Model;
 /// A document as it was written. A contract sees its bytes, and the places with what they show.
 #[derive(Drop)]
 pub struct Document {
-    text: String,
-    nodes: Vec<Node>,
+    pub(crate) text: String,
+    pub(crate) nodes: Vec<Node>,
 }
 
 impl Model for Document {
@@ -177,7 +177,7 @@ impl Document {
     }
 
     /// Nothing stands below a place where nothing stands, and the root stands first.
-    fn is_tree(&self)
+    pub(crate) fn is_tree(&self)
         ensures root { (0 < length self.now.nodes) × (place_numbered self.now 0 ≡ []) }
         ensures below { (place more : Place) → tree_of self.now place ≡ None → tree_of self.now (place ++ more) ≡ None }
     {

@@ -2,10 +2,14 @@
 #![tactic(auto)]
 
 mod assertions;
+mod beside;
+mod compare;
 pub mod document;
+mod grown;
 pub mod item;
 mod literal;
 pub mod new_item;
+mod new_shown;
 mod nodes;
 pub mod place;
 mod replace;

@@ -230,7 +230,7 @@ pub(crate) struct Node {
 }
 
 /// What stands there in a text, or nothing where it cannot be cut out.
-fn cut(text: &str, span: Span) -> &str
+pub(crate) fn cut(text: &str, span: Span) -> &str
     ensures { result.now ≡ bytes_at text.now span }
 {
     let start = text.len().saturating_sub(span.from as usize);

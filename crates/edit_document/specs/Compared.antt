@@ -1,0 +1,103 @@
+-- When two documents show the same at a place and below it.
+use Rattle.std.specs.Prelude.{◌≡◌, ℕ, ◌<◌, true, false, nat_lt, if◌then◌else◌, List, ◌++◌, length, slice_get, Option, Some, None, MatchOption, ◌⊎◌, map, ⊤}
+use Rattle.edit_document.specs.Assertions.{Step, key, index, Place, at}
+use Rattle.edit_document.specs.Tree.{View, string, truth, whole, fractional, moment, static_array, table_array, inline_table, table}
+use Rattle.edit_document.specs.Shown.{Shown, tree_of}
+use Rattle.edit_document.specs.EditBytes.{is_within}
+use Rattle.edit_document.specs.NewItems.{NewValue}
+use Rattle.edit_document.specs.Meant.{Tree, new_view}
+use Rattle.edit_document.specs.Items.{place_numbered, view_numbered, names_in, key_names}
+
+-- the same stands at two places, and below them
+abbrev pub SameBelow : Shown → Place → Shown → Place → Type 0
+SameBelow d p e r = (q : Place) → tree_of d (p ++ q) ≡ tree_of e (r ++ q)
+
+-- what stands below a place of a document
+abbrev pub tree_below : Shown → Place → Tree
+tree_below d place q = tree_of d (place ++ q)
+
+-- what is neither a place nor below it is the same in two trees
+abbrev pub SameBeside : Place → Tree → Tree → Type 0
+SameBeside place old new = (q : Place) → is_within place q ≡ false → new q ≡ old q
+
+-- a place and those below it show a new value
+abbrev pub ShowsValue : Shown → Place → NewValue → Type 0
+ShowsValue d place v = (q : Place) → tree_of d (place ++ q) ≡ new_view v q
+
+-- the node of a number stands at the place
+abbrev pub IsNumber : Shown → Place → ℕ → Type 0
+IsNumber d place n = (n < length d.nodes) × (place_numbered d n ≡ place)
+
+-- The numbers of the nodes of a place in two documents that are the same but there and below; or they are not the
+-- same, or nothing stands there in the second.
+abbrev pub FindsBeside : Place → Shown → Shown → Option (ℕ × ℕ) → Type 0
+FindsBeside place d e r =
+    MatchOption r (SameBeside place (tree_of d) (tree_of e) → tree_of e place ≡ None)
+    (λ f. SameBeside place (tree_of d) (tree_of e) × IsNumber d place f.0 × IsNumber e place f.1)
+
+-- ---- what the code compares
+
+-- what is shown, but for words, members and elements
+abbrev pub kind_of : View → ℕ
+kind_of (string said) = 0
+kind_of (truth false) = 1
+kind_of (truth true) = 2
+kind_of (whole said) = 3
+kind_of (fractional said) = 4
+kind_of (moment said) = 5
+kind_of (static_array n) = 6
+kind_of (table_array n) = 7
+kind_of (inline_table ms) = 8
+kind_of (table ms) = 9
+
+-- the words of a string, a number, a date or a time
+abbrev pub word_of : View → Option (List ℕ)
+word_of (string said) = Some said
+word_of (whole said) = Some said
+word_of (fractional said) = Some said
+word_of (moment said) = Some said
+word_of _ = None
+
+-- the step of an element, where there are so many
+abbrev pub element_step : ℕ → ℕ → Option Step
+element_step n i = if nat_lt i n then Some (index i) else None
+
+-- the step to a member or an element, by its number in the order of first assertions
+abbrev pub nth_part : View → ℕ → Option Step
+nth_part (static_array n) i = element_step n i
+nth_part (table_array n) i = element_step n i
+nth_part (inline_table ms) i = slice_get ms i
+nth_part (table ms) i = slice_get ms i
+nth_part _ i = None
+
+-- the step of a number is a key, the name of that number, or the index of that number
+abbrev pub AreSteps : View → Type 0
+AreSteps v = (i : ℕ) (step : Step) → nth_part v i ≡ Some step → ((name : List ℕ) × (slice_get (names_in v) i ≡ Some name) × (step ≡ key name)) ⊎ ((slice_get (names_in v) i ≡ None) × (step ≡ index i))
+
+-- the names are numbered as the steps to them
+abbrev pub AreNames : View → Type 0
+AreNames v = (i : ℕ) (name : List ℕ) → slice_get (names_in v) i ≡ Some name → nth_part v i ≡ Some (key name)
+
+-- the members of a table are keys
+abbrev pub AreKeys : View → Type 0
+AreKeys (inline_table ms) = ms ≡ map key (key_names ms)
+AreKeys (table ms) = ms ≡ map key (key_names ms)
+AreKeys v = ⊤
+
+-- at a part of this number the same stands as where its step leads to from another node
+abbrev pub SamePart : Shown → ℕ → Shown → ℕ → ℕ → Type 0
+SamePart d n e m i =
+    (part : Step) → nth_part (view_numbered d n) i ≡ Some part
+    → SameBelow d (at (place_numbered d n) part) e (at (place_numbered e m) part)
+
+-- at each part of a node but one the same stands as where its step leads to from another node
+abbrev pub SamePartsBut : Step → Shown → ℕ → Shown → ℕ → Type 0
+SamePartsBut step d n e m =
+    (i : ℕ) → (part : Step) → nth_part (view_numbered d n) i ≡ Some part → (part ≡ step → ⊥)
+    → SameBelow d (at (place_numbered d n) part) e (at (place_numbered e m) part)
+
+-- the number of the node of a member or an element
+abbrev pub NumbersPart : Shown → ℕ → ℕ → Option ℕ → Type 0
+NumbersPart d number i r =
+    MatchOption r (nth_part (view_numbered d number) i ≡ None)
+    (λ n. (step : Step) × (nth_part (view_numbered d number) i ≡ Some step) × (n < length d.nodes) × (place_numbered d n ≡ at (place_numbered d number) step))
