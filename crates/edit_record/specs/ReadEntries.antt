@@ -4,7 +4,7 @@ use Rattle.std.specs.Prelude.{ℕ, zero, suc, Bool, true, false, ◌&&◌, if◌
 use Rattle.edit_base.specs.Paths.{joined}
 use Rattle.edit_document.specs.Assertions.{key, index, Place}
 use Rattle.edit_document.specs.Items.{string_in, truth_in, type_name_of}
-use Rattle.edit_document.specs.Tree.{View, string, static_array, inline_table, table}
+use Rattle.edit_document.specs.Tree.{View, string, truth, static_array, inline_table, table}
 use Rattle.edit_record.specs.EntryRecords.{Repository, Origin, from_registry, from_path, from_git, from_workspace, EntryRecord, bare_record, Refusal, wrong_type, workspace_false, unknown_source, old_default_features, unknown_entry}
 use Rattle.edit_version.specs.Requirement.{cut}
 
@@ -112,13 +112,18 @@ path_origin t root dep path =
 abbrev pub registry_origin : List ℕ → View → Result Origin Refusal
 registry_origin dep version = ok_map (λ v. from_registry (cut v)) (text_of dep (codes "version") version)
 
--- an entry with none of those, by its member `workspace`, which must be true
+-- a member `workspace` must be true
+-- (Cargo reference, "Specifying Dependencies", inheriting a dependency from a workspace)
+abbrev pub true_workspace : List ℕ → View → Result Origin Refusal
+true_workspace dep (truth true) = Ok from_workspace
+true_workspace dep (truth false) = Err (workspace_false dep)
+true_workspace dep v = Err (wrong_type (type_name_of v) (codes "workspace") (codes "bool") dep)
+
+-- an entry with none of those, by its member `workspace`
 -- (Cargo reference, "Specifying Dependencies", inheriting a dependency from a workspace)
 abbrev pub workspace_origin : List ℕ → Option View → Result Origin Refusal
 workspace_origin dep None = Err (unknown_source dep)
-workspace_origin dep (Some v) =
-    and_then (there_or (wrong_type (type_name_of v) (codes "workspace") (codes "bool") dep) (truth_in v))
-      (λ b. if b then Ok from_workspace else Err (workspace_false dep))
+workspace_origin dep (Some v) = true_workspace dep v
 
 -- the first that is there of `git`, `path` and `version` decides (own)
 abbrev pub first_origin :
@@ -132,7 +137,7 @@ first_origin t root dep None None None = workspace_origin dep (member_in t (code
 abbrev pub origin_at : Tree → List ℕ → List ℕ → Result Origin Refusal
 origin_at t root dep =
     first_origin t root dep
-      (member_in t (codes "git")) (member_in t (codes "path")) (member_in t (codes "version"))
+    (member_in t (codes "git")) (member_in t (codes "path")) (member_in t (codes "version"))
 
 -- ---- entries
 

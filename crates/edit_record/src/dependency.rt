@@ -7,6 +7,8 @@ ghost use Rattle.edit_record.specs.Records.{IsBare, version_of};
 
 mod conversions;
 mod copies;
+mod members;
+mod read;
 mod sources;
 mod texts;
 
@@ -96,7 +98,8 @@ impl Dependency {
     /// The dependency with these features behind its own.
     pub fn extend_features(self, _alloc: Global, features: Vec<String>) -> CargoResult<Dependency>
         ensures ok { IfOk result (λ d. record_view d ≡ record (record_view self) {
-            features = Some (unwrap_or (record_view self).features [] ++ texts_view features) }) }
+          features = Some (unwrap_or (record_view self).features [] ++ texts_view features);
+        }) }
         ensures kept { IfOk result (λ d. d.available_features ≡ self.available_features) }
         ensures refused { IfErr result IsMemory }
     {
