@@ -205,7 +205,8 @@ pub called_by_workspace : record_text (bare_record x from_workspace) ≡ codes "
 called_by_workspace = refl
 
 -- a repository: the branch before the tag before the revision
-pub called_by_branch : origin_text (from_git (record (repository (codes "u") None (Some (codes "t")) None None)
+pub called_by_branch : origin_text
+    (from_git (record (repository (codes "u") None (Some (codes "t")) None None)
     { branch = Some (codes "b") })) ≡ codes "u?branch=b"
 called_by_branch = refl
 

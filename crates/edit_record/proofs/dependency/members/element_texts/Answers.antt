@@ -10,5 +10,6 @@ returns-in_err-text-clause-refused c =
     let p = err_from_is_err_and c.from_residual.result c.from_residual.ensures.1 in
     let lt : c.loop-index.index < c.len-index-end.result = omega arith in
     rw (p.1, p.2, ← c.len-index-end.ensures)
-    (wrong_element (shown_at c.args.array) c.args.dep.now c.loop-index.index _ (texts_view c.loop-index.texts)
+    (wrong_element (shown_at c.args.array) c.args.dep.now c.loop-index.index _
+    (texts_view c.loop-index.texts)
     (view_of c.in-Some.item) _ c.loop-index.invariant c.in-Some.ensures.2 c.in_err-text.ensures.refused lt)
