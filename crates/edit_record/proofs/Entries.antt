@@ -15,7 +15,7 @@ use Rattle.edit_version.specs.Laws.{holds_dash}
 use Rattle.edit_version.specs.RustVersions.{Numbers}
 use Rattle.edit_version.specs.Selection.{is_admitted, is_allowed}
 use Rattle.edit_record.specs.declared.dependency.Dependency.{Dependency}
-use Rattle.edit_record.specs.declared.dependency.Source.{Source}
+use Rattle.edit_record.specs.declared.dependency.sources.Source.{Source}
 use Rattle.std.proofs.lemmas.List.Elements.{All-cons, All-head, All-nil, All-tail, filter_map-append}
 use Rattle.semver.specs.Grammar.{IsValid}
 use Rattle.semver.proofs.Grammar.{version_parts-sound}

@@ -1,2 +1,6 @@
 pub mod Kept
 pub mod Entries
+mod CopiedLists
+mod EntryLemmas
+mod SampleEntries
+mod ReadFacts

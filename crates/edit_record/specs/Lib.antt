@@ -1,5 +1,9 @@
 pub mod IndexEntry
 pub mod Records
+pub mod EntryRecords
+pub mod EntryTexts
+pub mod ReadEntries
+pub mod RecordViews
 pub mod Admissible
 pub mod Finding
 pub mod Candidates

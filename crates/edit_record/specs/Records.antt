@@ -3,9 +3,9 @@ use Rattle.std.specs.Prelude.{◌≡◌, ℕ, List, Option, Some, None, option_a
 use Rattle.std.specs.BTreeMap.{btree_map_len}
 use Rattle.edit_version.specs.Requirement.{cut}
 use Rattle.edit_record.specs.declared.dependency.Dependency.{Dependency}
-use Rattle.edit_record.specs.declared.dependency.RegistrySource.{RegistrySource}
-use Rattle.edit_record.specs.declared.dependency.Source.{Source}
-use Rattle.edit_record.specs.declared.dependency.Source.TheVariants.{Registry, Path, Git, Workspace}
+use Rattle.edit_record.specs.declared.dependency.sources.RegistrySource.{RegistrySource}
+use Rattle.edit_record.specs.declared.dependency.sources.Source.{Source}
+use Rattle.edit_record.specs.declared.dependency.sources.Source.TheVariants.{Registry, Path, Git, Workspace}
 
 -- the version text of a source, which one that is the workspace's entry has not (own)
 abbrev pub source_version : Source → Option (List ℕ)

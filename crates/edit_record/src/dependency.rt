@@ -1,65 +1,25 @@
 //! What an entry of a dependency table says.
-ghost use Rattle.std.specs.Prelude.{◌≡◌, [], None, Some, IfOk, IfErr, option_map, string_bytes};
+ghost use Rattle.std.specs.Prelude.{◌≡◌, ◌++◌, [], None, Some, IfOk, IfErr, option_copied, option_map, string_bytes, unwrap_or};
 ghost use Rattle.edit_base.specs.Errors.{IsMemory};
-ghost use Rattle.edit_record.specs.Records.{IsBare, source_version, version_of};
-ghost use Rattle.edit_version.specs.Requirement.{cut};
-ghost use Rattle.edit_record.specs.declared.dependency.Source.TheVariants.{Registry, Path, Git, Workspace};
+ghost use Rattle.edit_record.specs.EntryRecords.{key_of};
+ghost use Rattle.edit_record.specs.RecordViews.{available_view, record_view, texts_view};
+ghost use Rattle.edit_record.specs.Records.{IsBare, version_of};
 
+mod conversions;
+mod copies;
+mod members;
+mod read;
+mod sources;
+mod texts;
+
+use copies::{copied, copied_list, joined};
 use edit_base::errors::CargoResult;
-use edit_version::requirement::before_plus;
+pub use sources::{GitSource, PathSource, RegistrySource, Source, WorkspaceSource};
 use std::alloc::Global;
 use std::collections::BTreeMap;
 
-/// A version in a registry.
-#[derive(Clone, Debug, PartialEq, Eq, PartialOrd, Ord, Hash, Drop)]
-pub struct RegistrySource {
-    pub version: String,
-}
-
-impl RegistrySource {
-    /// A requirement, of which the text before the first `+` is kept.
-    pub fn new(alloc: Global, version: &str) -> CargoResult<RegistrySource>
-        ensures ok { IfOk result (λ s. string_bytes s.version ≡ cut version.now) }
-        ensures refused { IfErr result IsMemory }
-    {
-        Ok(RegistrySource {
-            version: String::from_str(alloc, before_plus(version))?,
-        })
-    }
-}
-
-/// A folder, and perhaps a version.
-#[derive(Clone, Debug, PartialEq, Eq, PartialOrd, Ord, Hash, Drop)]
-pub struct PathSource {
-    pub path: String,
-    pub version: Option<String>,
-}
-
-/// A repository, perhaps at a branch, a tag or a revision, and perhaps a version.
-#[derive(Clone, Debug, PartialEq, Eq, PartialOrd, Ord, Hash, Drop)]
-pub struct GitSource {
-    pub git: String,
-    pub branch: Option<String>,
-    pub tag: Option<String>,
-    pub rev: Option<String>,
-    pub version: Option<String>,
-}
-
-/// The entry of that name in the workspace's table.
-#[derive(Clone, Copy, Debug, Default, PartialEq, Eq, PartialOrd, Ord, Hash)]
-pub struct WorkspaceSource;
-
-/// Where a dependency comes from.
-#[derive(Clone, Debug, PartialEq, Eq, PartialOrd, Ord, Hash, Drop)]
-pub enum Source {
-    Registry(RegistrySource),
-    Path(PathSource),
-    Git(GitSource),
-    Workspace(WorkspaceSource),
-}
-
 /// What an entry of a dependency table says.
-#[derive(Clone, Debug, PartialEq, Eq, PartialOrd, Ord, Hash, Drop)]
+#[derive(Debug, PartialEq, Eq, PartialOrd, Ord, Hash, Drop)]
 pub struct Dependency {
     /// The crate's name.
     pub name: String,
@@ -72,6 +32,7 @@ pub struct Dependency {
     pub registry: Option<String>,
     /// The entry's key, where that is not the crate's name.
     pub rename: Option<String>,
+    /// The features that the crate has, each with what it turns on.
     pub available_features: BTreeMap<String, Vec<String>>,
 }
 
@@ -104,6 +65,129 @@ impl Dependency {
         }
     }
 
+    /// The dependency with other features that its crate has.
+    pub fn set_available_features(self, features: BTreeMap<String, Vec<String>>) -> Dependency
+        ensures { result ≡ record self { available_features = features } }
+    {
+        Dependency {
+            available_features: features,
+            ..self
+        }
+    }
+
+    /// The dependency, optional or not.
+    pub fn set_optional(self, optional: bool) -> Dependency
+        ensures { result ≡ record self { optional = Some optional } }
+    {
+        Dependency {
+            optional: Some(optional),
+            ..self
+        }
+    }
+
+    /// The dependency with other features.
+    pub fn set_features(self, features: Vec<String>) -> Dependency
+        ensures { result ≡ record self { features = Some features } }
+    {
+        Dependency {
+            features: Some(features),
+            ..self
+        }
+    }
+
+    /// The dependency with these features behind its own.
+    pub fn extend_features(self, _alloc: Global, features: Vec<String>) -> CargoResult<Dependency>
+        ensures ok { IfOk result (λ d. record_view d ≡ record (record_view self) {
+          features = Some (unwrap_or (record_view self).features [] ++ texts_view features);
+        }) }
+        ensures kept { IfOk result (λ d. d.available_features ≡ self.available_features) }
+        ensures refused { IfErr result IsMemory }
+    {
+        let features = joined(self.features, features)?;
+        Ok(Dependency {
+            features: Some(features),
+            ..self
+        })
+    }
+
+    /// The dependency with its crate's default features, or without them.
+    pub fn set_default_features(self, default_features: bool) -> Dependency
+        ensures { result ≡ record self { default_features = Some default_features } }
+    {
+        Dependency {
+            default_features: Some(default_features),
+            ..self
+        }
+    }
+
+    /// The dependency with other features that it takes over from the workspace's entry.
+    pub fn set_inherited_features(self, features: Vec<String>) -> Dependency
+        ensures { result ≡ record self { inherited_features = Some features } }
+    {
+        Dependency {
+            inherited_features: Some(features),
+            ..self
+        }
+    }
+
+    /// The dependency under another key.
+    pub fn set_rename(self, alloc: Global, rename: &str) -> CargoResult<Dependency>
+        ensures ok { IfOk result (λ d. record_view d
+            ≡ record (record_view self) { rename = Some rename.now }) }
+        ensures kept { IfOk result (λ d. d.available_features ≡ self.available_features) }
+        ensures refused { IfErr result IsMemory }
+    {
+        let rename = String::from_str(alloc, rename)?;
+        Ok(Dependency {
+            rename: Some(rename),
+            ..self
+        })
+    }
+
+    /// The dependency from another registry.
+    pub fn set_registry(self, alloc: Global, registry: &str) -> CargoResult<Dependency>
+        ensures ok { IfOk result (λ d. record_view d
+            ≡ record (record_view self) { registry = Some registry.now }) }
+        ensures kept { IfOk result (λ d. d.available_features ≡ self.available_features) }
+        ensures refused { IfErr result IsMemory }
+    {
+        let registry = String::from_str(alloc, registry)?;
+        Ok(Dependency {
+            registry: Some(registry),
+            ..self
+        })
+    }
+
+    /// The same dependency on memory of its own.
+    pub fn try_clone(&self, alloc: Global) -> CargoResult<Dependency>
+        ensures ok { IfOk result (λ d. record_view d ≡ record_view self.now) }
+        ensures kept { IfOk result (λ d. available_view d ≡ available_view self.now) }
+        ensures refused { IfErr result IsMemory }
+    {
+        let source = match &self.source {
+            Some(source) => Some(source.try_clone(alloc)?),
+            None => None,
+        };
+        Ok(Dependency {
+            name: self.name.clone()?,
+            optional: self.optional,
+            features: copied_list(self.features.as_ref())?,
+            default_features: self.default_features,
+            inherited_features: copied_list(self.inherited_features.as_ref())?,
+            source,
+            registry: copied(self.registry.as_ref())?,
+            rename: copied(self.rename.as_ref())?,
+            available_features: self.available_features.clone()?,
+        })
+    }
+
+    /// Where the dependency comes from.
+    pub fn source(&self) -> Option<&Source>
+        ensures { option_copied result ≡ self.now.source }
+    {
+        self.source.as_ref()
+    }
+
     /// The source's version text, none for a workspace source.
     pub fn version(&self) -> Option<&str>
         ensures { option_map (λ s. s.now) result ≡ version_of self.now }
@@ -113,17 +197,42 @@ impl Dependency {
             None => None,
         }
     }
-}
 
-impl Source {
-    fn version(&self) -> Option<&str>
-        ensures { option_map (λ s. s.now) result ≡ source_version self.now }
+    /// The registry's name, where the entry has one.
+    pub fn registry(&self) -> Option<&str>
+        ensures { option_map (λ s. s.now) result ≡ option_map string_bytes self.now.registry }
     {
-        match self {
-            Source::Registry(source) => Some(source.version.as_str()),
-            Source::Path(source) => source.version.as_ref().map(|text| text.as_str()),
-            Source::Git(source) => source.version.as_ref().map(|text| text.as_str()),
-            Source::Workspace(_) => None,
+        self.registry.as_ref().map(|text| text.as_str())
+    }
+
+    /// The entry's key, where that is not the crate's name.
+    pub fn rename(&self) -> Option<&str>
+        ensures { option_map (λ s. s.now) result ≡ option_map string_bytes self.now.rename }
+    {
+        self.rename.as_ref().map(|text| text.as_str())
+    }
+
+    /// Whether the crate's default features are wanted, where the entry says so.
+    pub fn default_features(&self) -> Option<bool>
+        ensures { result ≡ self.now.default_features }
+    {
+        self.default_features
+    }
+
+    /// Whether the dependency is optional, where the entry says so.
+    pub fn optional(&self) -> Option<bool>
+        ensures { result ≡ self.now.optional }
+    {
+        self.optional
+    }
+
+    /// The key of the dependency's entry: its other name, else the crate's.
+    pub fn toml_key(&self) -> &str
+        ensures { result.now ≡ key_of (record_view self.now) }
+    {
+        match &self.rename {
+            Some(key) => key.as_str(),
+            None => self.name.as_str(),
         }
     }
 }

@@ -1,6 +1,8 @@
 //! Tests of records.
+mod built;
 mod dependencies;
 mod entries;
+mod entry_rows;
 mod parts;
 mod requirements;
 mod versions;

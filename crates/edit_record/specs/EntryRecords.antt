@@ -1,0 +1,63 @@
+-- The record of a dependency, and why an entry has none (Cargo reference, "Specifying Dependencies").
+use Rattle.std.specs.Prelude.{ℕ, Bool, List, Option, Some, None, unwrap_or}
+
+-- a repository: its address, where in it, and the requirement (Cargo reference, "Specifying Dependencies")
+pub record Repository : Type 0 where
+  pub address : List ℕ
+  pub branch : Option (List ℕ)
+  pub tag : Option (List ℕ)
+  pub rev : Option (List ℕ)
+  pub version : Option (List ℕ)
+
+-- where a crate comes from: a registry or a folder, each with the requirement, a repository, or the entry
+-- of the workspace (Cargo reference, "Specifying Dependencies")
+pub data Origin : Type 0 where
+  from_registry : List ℕ → Origin
+  from_path : List ℕ → Option (List ℕ) → Origin
+  from_git : Repository → Origin
+  from_workspace : Origin
+
+-- what a dependency says, but for the features that its crate has (own)
+pub record EntryRecord : Type 0 where
+  pub name : List ℕ
+  pub optional : Option Bool
+  pub features : Option (List (List ℕ))
+  pub default_features : Option Bool
+  pub inherited_features : Option (List (List ℕ))
+  pub origin : Option Origin
+  pub registry : Option (List ℕ)
+  pub rename : Option (List ℕ)
+
+-- why an entry has no record: the type that was found, the member, the type that was expected and the
+-- entry's key; in all other cases the key alone (own)
+pub data Refusal : Type 0 where
+  wrong_type : List ℕ → List ℕ → List ℕ → List ℕ → Refusal
+  workspace_false : List ℕ → Refusal
+  unknown_source : List ℕ → Refusal
+  old_default_features : List ℕ → Refusal
+  unknown_entry : List ℕ → Refusal
+
+-- a record with a name and a source alone (own)
+abbrev pub bare_record : List ℕ → Origin → EntryRecord
+bare_record dep origin = record {
+  name = dep;
+  optional = None;
+  features = None;
+  default_features = None;
+  inherited_features = None;
+  origin = Some origin;
+  registry = None;
+  rename = None;
+}
+
+-- the key of an entry: its own, or the crate's name
+-- (Cargo reference, "Specifying Dependencies", renaming dependencies)
+abbrev pub key_of : EntryRecord → List ℕ
+key_of r = unwrap_or r.rename r.name
+
+-- the requirement of a source, where it has one (own)
+abbrev pub origin_version : Origin → Option (List ℕ)
+origin_version (from_registry v) = Some v
+origin_version (from_path path v) = v
+origin_version (from_git g) = g.version
+origin_version from_workspace = None

@@ -1,0 +1,183 @@
+-- What an entry of a dependency table says: its record, or the first check that fails
+-- (Cargo reference, "Specifying Dependencies").
+use Rattle.std.specs.Prelude.{ℕ, zero, suc, Bool, true, false, ◌&&◌, if◌then◌else◌, List, [], ◌∷◌, ◌++◌, Option, Some, None, is_none, option_map, option_and_then, option_to_list, Result, Ok, Err, codes}
+use Rattle.edit_base.specs.Paths.{joined}
+use Rattle.edit_document.specs.Assertions.{key, index, Place}
+use Rattle.edit_document.specs.Items.{string_in, truth_in, type_name_of}
+use Rattle.edit_document.specs.Tree.{View, string, truth, static_array, inline_table, table}
+use Rattle.edit_record.specs.EntryRecords.{Repository, Origin, from_registry, from_path, from_git, from_workspace, EntryRecord, bare_record, Refusal, wrong_type, workspace_false, unknown_source, old_default_features, unknown_entry}
+use Rattle.edit_version.specs.Requirement.{cut}
+
+-- what stands at each place of a document (own)
+abbrev pub Tree : Type 0
+Tree = Place → Option View
+
+-- what stands at and below a place (own)
+abbrev pub below : Tree → Place → Tree
+below t place rest = t (place ++ rest)
+
+-- ---- answers, one after the other
+
+-- what follows an answer; a refusal stays (own)
+abbrev pub and_then : {A B : Type 0} → Result A Refusal → (A → Result B Refusal) → Result B Refusal
+and_then (Ok x) f = f x
+and_then (Err e) f = Err e
+
+-- an answer changed; a refusal stays (own)
+abbrev pub ok_map : {A B : Type 0} → (A → B) → Result A Refusal → Result B Refusal
+ok_map f told = and_then told (λ x. Ok (f x))
+
+-- what is there, else this refusal (own)
+abbrev pub there_or : {A : Type 0} → Refusal → Option A → Result A Refusal
+there_or r None = Err r
+there_or r (Some x) = Ok x
+
+-- the same of what need not be there at all (own)
+abbrev pub if_there : {A B : Type 0} → (A → Result B Refusal) → Option A → Result (Option B) Refusal
+if_there read None = Ok None
+if_there read (Some x) = ok_map Some (read x)
+
+-- ---- members
+
+-- the member of a name below an entry (own)
+abbrev pub member_in : Tree → List ℕ → Option View
+member_in t name = t (key name ∷ [])
+
+-- the text of a member, which must be a string (own)
+abbrev pub text_of : List ℕ → List ℕ → View → Result (List ℕ) Refusal
+text_of dep name v = there_or (wrong_type (type_name_of v) name (codes "string") dep) (string_in v)
+
+-- the text of the member of a name, where it is there (own)
+abbrev pub text_at : Tree → List ℕ → List ℕ → Result (Option (List ℕ)) Refusal
+text_at t dep name = if_there (text_of dep name) (member_in t name)
+
+-- the requirement, before its first `+` (own)
+abbrev pub version_at : Tree → List ℕ → Result (Option (List ℕ)) Refusal
+version_at t dep = ok_map (option_map cut) (text_at t dep (codes "version"))
+
+-- the truth value of the member of a name; nothing of any other type counts (own)
+abbrev pub truth_at : Tree → List ℕ → Option Bool
+truth_at t name = option_and_then truth_in (member_in t name)
+
+-- the texts of the first elements of an array, as many as this; the first that is no string is refused (own)
+abbrev pub first_texts : Tree → List ℕ → ℕ → Result (List (List ℕ)) Refusal
+first_texts t dep zero = Ok []
+first_texts t dep (suc n) =
+    and_then (first_texts t dep n) (λ ss.
+    ok_map (λ s. ss ++ option_to_list s) (if_there (text_of dep (codes "features")) (t (index n ∷ []))))
+
+-- the texts of `features`, which must be an array of strings
+-- (Cargo reference, "Features", dependency features)
+abbrev pub feature_texts : Tree → List ℕ → View → Result (List (List ℕ)) Refusal
+feature_texts t dep (static_array n) = first_texts t dep n
+feature_texts t dep v = Err (wrong_type (type_name_of v) (codes "features") (codes "array") dep)
+
+-- the texts of `features`, where it is there (Cargo reference, "Features", dependency features)
+abbrev pub features_at : Tree → List ℕ → Result (Option (List (List ℕ))) Refusal
+features_at t dep =
+    if_there (feature_texts (below t (key (codes "features") ∷ [])) dep) (member_in t (codes "features"))
+
+-- ---- sources
+
+-- of branch, tag and revision the last one that is there is kept (own)
+abbrev pub repository :
+    List ℕ → Option (List ℕ) → Option (List ℕ) → Option (List ℕ) → Option (List ℕ) → Repository
+repository address branch tag rev version = record {
+  address = address;
+  branch = if is_none tag && is_none rev then branch else None;
+  tag = if is_none rev then tag else None;
+  rev = rev;
+  version = version;
+}
+
+-- an entry with a member `git`
+-- (Cargo reference, "Specifying Dependencies", specifying dependencies from `git` repositories)
+abbrev pub git_origin : Tree → List ℕ → View → Result Origin Refusal
+git_origin t dep git =
+    and_then (text_of dep (codes "git") git) (λ address.
+    and_then (text_at t dep (codes "branch")) (λ branch.
+    and_then (text_at t dep (codes "tag")) (λ tag.
+    and_then (text_at t dep (codes "rev")) (λ rev.
+    ok_map (λ version. from_git (repository address branch tag rev version)) (version_at t dep)))))
+
+-- an entry with a member `path`, which is meant from the root on
+-- (Cargo reference, "Specifying Dependencies", specifying path dependencies)
+abbrev pub path_origin : Tree → List ℕ → List ℕ → View → Result Origin Refusal
+path_origin t root dep path =
+    and_then (text_of dep (codes "path") path) (λ place.
+    ok_map (λ version. from_path (joined root place) version) (version_at t dep))
+
+-- an entry with a member `version` and neither of those
+-- (Cargo reference, "Specifying Dependencies", specifying dependencies from crates.io)
+abbrev pub registry_origin : List ℕ → View → Result Origin Refusal
+registry_origin dep version = ok_map (λ v. from_registry (cut v)) (text_of dep (codes "version") version)
+
+-- a member `workspace` must be true
+-- (Cargo reference, "Specifying Dependencies", inheriting a dependency from a workspace)
+abbrev pub true_workspace : List ℕ → View → Result Origin Refusal
+true_workspace dep (truth true) = Ok from_workspace
+true_workspace dep (truth false) = Err (workspace_false dep)
+true_workspace dep v = Err (wrong_type (type_name_of v) (codes "workspace") (codes "bool") dep)
+
+-- an entry with none of those, by its member `workspace`
+-- (Cargo reference, "Specifying Dependencies", inheriting a dependency from a workspace)
+abbrev pub workspace_origin : List ℕ → Option View → Result Origin Refusal
+workspace_origin dep None = Err (unknown_source dep)
+workspace_origin dep (Some v) = true_workspace dep v
+
+-- the first that is there of `git`, `path` and `version` decides (own)
+abbrev pub first_origin :
+    Tree → List ℕ → List ℕ → Option View → Option View → Option View → Result Origin Refusal
+first_origin t root dep (Some git) path version = git_origin t dep git
+first_origin t root dep None (Some path) version = path_origin t root dep path
+first_origin t root dep None None (Some version) = registry_origin dep version
+first_origin t root dep None None None = workspace_origin dep (member_in t (codes "workspace"))
+
+-- the source of an entry (own)
+abbrev pub origin_at : Tree → List ℕ → List ℕ → Result Origin Refusal
+origin_at t root dep =
+    first_origin t root dep
+    (member_in t (codes "git")) (member_in t (codes "path")) (member_in t (codes "version"))
+
+-- ---- entries
+
+-- the crate's name and the entry's other name: `package` gives the one, and the key is then the other
+-- (Cargo reference, "Specifying Dependencies", renaming dependencies)
+abbrev pub names_by : Option (List ℕ) → List ℕ → List ℕ × Option (List ℕ)
+names_by None dep = (dep, None)
+names_by (Some package_name) dep = (package_name, Some dep)
+
+-- the spelling `default_features` is refused (own)
+abbrev pub old_spelling : List ℕ → Option View → Result Bool Refusal
+old_spelling dep None = Ok false
+old_spelling dep (Some v) = Err (old_default_features dep)
+
+-- a table: the checks in their order, and what is kept (own)
+abbrev pub table_record : Tree → List ℕ → List ℕ → Result EntryRecord Refusal
+table_record t root dep =
+    and_then (text_at t dep (codes "package")) (λ package_name.
+    and_then (origin_at t root dep) (λ origin.
+    and_then (text_at t dep (codes "registry")) (λ registry.
+    and_then (old_spelling dep (member_in t (codes "default_features"))) (λ spelling.
+    ok_map (λ features. record {
+      name = (names_by package_name dep).0;
+      optional = truth_at t (codes "optional");
+      features = features;
+      default_features = truth_at t (codes "default-features");
+      inherited_features = None;
+      origin = Some origin;
+      registry = registry;
+      rename = (names_by package_name dep).1;
+    }) (features_at t dep)))))
+
+-- an entry is a string, a table or an inline table (Cargo reference, "Specifying Dependencies")
+abbrev pub entry_record : Tree → List ℕ → List ℕ → Option View → Result EntryRecord Refusal
+entry_record t root dep (Some (string s)) = Ok (bare_record dep (from_registry (cut s)))
+entry_record t root dep (Some (table members)) = table_record t root dep
+entry_record t root dep (Some (inline_table members)) = table_record t root dep
+entry_record t root dep other = Err (unknown_entry dep)
+
+-- the record of the entry at a place, with its paths from this root on and under this key, or its refusal
+-- (Cargo reference, "Specifying Dependencies")
+abbrev pub record_of : Tree → Place → List ℕ → List ℕ → Result EntryRecord Refusal
+record_of t place root dep = entry_record (below t place) root dep (t place)

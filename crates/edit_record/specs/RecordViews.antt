@@ -1,0 +1,118 @@
+-- A record and a refusal as the code has them, and the texts of the refusals.
+use Rattle.std.specs.Prelude.{◌≡◌, ◌⊎◌, ℕ, List, ◌++◌, map, option_map, Option, Some, None, Result, Err, codes, String, string_bytes, Vec}
+use Rattle.std.specs.declared.alloc.Global.{Global}
+use Rattle.edit_base.specs.Errors.{IsMemory}
+use Rattle.edit_base.specs.declared.errors.Error.{Error}
+use Rattle.edit_base.specs.declared.errors.Error.TheVariants as error
+use Rattle.edit_document.specs.ItemViews.{document_of, place_of}
+use Rattle.edit_document.specs.Shown.{tree_of}
+use Rattle.edit_document.specs.declared.item.Item.{Item}
+use Rattle.edit_record.specs.ReadEntries.{Tree, below}
+use Rattle.edit_record.specs.EntryRecords.{EntryRecord, Repository, Origin, from_registry, from_path, from_git, from_workspace, Refusal, wrong_type, workspace_false, unknown_source, old_default_features, unknown_entry}
+use Rattle.edit_record.specs.declared.dependency.Dependency.{Dependency}
+use Rattle.edit_record.specs.declared.dependency.sources.GitSource.{GitSource}
+use Rattle.edit_record.specs.declared.dependency.sources.PathSource.{PathSource}
+use Rattle.edit_record.specs.declared.dependency.sources.RegistrySource.{RegistrySource}
+use Rattle.edit_record.specs.declared.dependency.sources.WorkspaceSource.{WorkspaceSource}
+use Rattle.edit_record.specs.declared.dependency.sources.Source.{Source}
+use Rattle.edit_record.specs.declared.dependency.sources.Source.TheVariants.{Registry, Path, Git, Workspace}
+
+-- ---- sources
+
+-- a folder, by its texts (own)
+abbrev pub path_view : PathSource → Origin
+path_view s = from_path (string_bytes s.path) (option_map string_bytes s.version)
+
+-- a repository, by its texts (own)
+abbrev pub repository_view : GitSource → Repository
+repository_view s = record {
+  address = string_bytes s.git;
+  branch = option_map string_bytes s.branch;
+  tag = option_map string_bytes s.tag;
+  rev = option_map string_bytes s.rev;
+  version = option_map string_bytes s.version;
+}
+
+-- a source, by its texts (own)
+abbrev pub source_view : Source → Origin
+source_view (Registry s) = from_registry (string_bytes s.version)
+source_view (Path s) = path_view s
+source_view (Git s) = from_git (repository_view s)
+source_view (Workspace s) = from_workspace
+
+-- the registry's version, where the source is one (own)
+abbrev pub registry_in : Source → Option RegistrySource
+registry_in (Registry s) = Some s
+registry_in _ = None
+
+-- the folder, where the source is one (own)
+abbrev pub path_in : Source → Option PathSource
+path_in (Path s) = Some s
+path_in _ = None
+
+-- the repository, where the source is one (own)
+abbrev pub git_in : Source → Option GitSource
+git_in (Git s) = Some s
+git_in _ = None
+
+-- the workspace's entry, where the source is that (own)
+abbrev pub workspace_in : Source → Option WorkspaceSource
+workspace_in (Workspace s) = Some s
+workspace_in _ = None
+
+-- ---- dependencies
+
+-- a list of texts (own)
+abbrev pub texts_view : Vec (String Global) Global → List (List ℕ)
+texts_view v = map string_bytes v.items
+
+-- a dependency, by its texts; the features that its crate has aside (own)
+abbrev pub record_view : Dependency → EntryRecord
+record_view d = record {
+  name = string_bytes d.name;
+  optional = d.optional;
+  features = option_map texts_view d.features;
+  default_features = d.default_features;
+  inherited_features = option_map texts_view d.inherited_features;
+  origin = option_map source_view d.source;
+  registry = option_map string_bytes d.registry;
+  rename = option_map string_bytes d.rename;
+}
+
+-- the features that the crate has, each with what it turns on, in the order of the map (own)
+abbrev pub available_view : Dependency → List (List ℕ × List (List ℕ))
+available_view d = map (λ e. (string_bytes e.0, texts_view e.1)) d.available_features.entries
+
+-- ---- entries
+
+-- what stands at and below an item (own)
+abbrev pub shown_at : Item → Tree
+shown_at i = below (tree_of (document_of i)) (place_of i)
+
+-- ---- refusals
+
+-- the error is this refusal, with these texts (own)
+abbrev pub Tells : Refusal → Error → Type 0
+Tells (wrong_type found name expected dep) (error.InvalidType a k x d) =
+    (a.now ≡ found) × (string_bytes k ≡ name) × (x.now ≡ expected) × (string_bytes d ≡ dep)
+Tells (workspace_false dep) (error.WorkspaceFalse k) = string_bytes k ≡ dep
+Tells (unknown_source dep) (error.UnknownSource k) = string_bytes k ≡ dep
+Tells (old_default_features dep) (error.OldDefaultFeatures k) = string_bytes k ≡ dep
+Tells (unknown_entry dep) (error.UnknownEntry k) = string_bytes k ≡ dep
+Tells r e = ⊥
+
+-- the error is the refusal that is told, or memory ran out (own)
+abbrev pub IsRefused : {A : Type 0} → Result A Refusal → Error → Type 0
+IsRefused told e = IsMemory e ⊎ ((r : Refusal) × (told ≡ Err r) × Tells r e)
+
+-- the text of a refusal (own)
+abbrev pub refusal_text : Refusal → List ℕ
+refusal_text (wrong_type found name expected dep) =
+    codes "Found " ++ (found ++ (codes " for " ++ (name ++ (codes " when " ++ (expected
+    ++ (codes " was expected for " ++ dep))))))
+refusal_text (workspace_false dep) = codes "`" ++ (dep ++ codes ".workspace = false` is unsupported")
+refusal_text (unknown_source dep) = codes "Unrecognized dependency source for `" ++ (dep ++ codes "`")
+refusal_text (old_default_features dep) =
+    codes "Use of `default_features` in `" ++ (dep
+    ++ codes "` is unsupported, please switch to `default-features`")
+refusal_text (unknown_entry dep) = codes "Unrecognized dependency entry format for `" ++ (dep ++ codes "`")

@@ -1,0 +1,54 @@
+//! Copies of texts and of lists of texts.
+ghost use Rattle.std.specs.Prelude.{◌≡◌, ◌++◌, [], None, Some, IfOk, option_copied, option_map, string_bytes, unwrap_or};
+ghost use Rattle.edit_record.specs.RecordViews.{texts_view};
+
+use std::alloc::{AllocError, Global};
+
+/// A text on memory of its own, where there is one.
+pub(crate) fn copied(text: Option<&String>) -> Result<Option<String>, AllocError>
+    ensures { IfOk result (λ o. option_map string_bytes o
+        ≡ option_map string_bytes (option_copied text.entry)) }
+{
+    match text {
+        Some(text) => Ok(Some(text.clone()?)),
+        None => Ok(None),
+    }
+}
+
+/// A text that is lent, on memory of its own, where there is one.
+pub(crate) fn owned(alloc: Global, text: Option<&str>) -> Result<Option<String>, AllocError>
+    ensures { IfOk result (λ o. option_map string_bytes o ≡ option_map (λ s. s.now) text.entry) }
+{
+    match text {
+        Some(text) => Ok(Some(String::from_str(alloc, text)?)),
+        None => Ok(None),
+    }
+}
+
+/// A list of texts on memory of its own, where there is one.
+pub(crate) fn copied_list(texts: Option<&Vec<String>>) -> Result<Option<Vec<String>>, AllocError>
+    ensures { IfOk result (λ o. option_map texts_view o
+        ≡ option_map texts_view (option_copied texts.entry)) }
+{
+    match texts {
+        Some(texts) => Ok(Some(texts.clone()?)),
+        None => Ok(None),
+    }
+}
+
+/// The first list, where there is one, and then the second.
+pub(crate) fn joined(
+    old: Option<Vec<String>>,
+    mut new: Vec<String>,
+) -> Result<Vec<String>, AllocError>
+    ensures { IfOk result (λ v. texts_view v
+        ≡ unwrap_or (option_map texts_view old) [] ++ texts_view new) }
+{
+    match old {
+        Some(mut texts) => {
+            texts.append(&mut new)?;
+            Ok(texts)
+        }
+        None => Ok(new),
+    }
+}

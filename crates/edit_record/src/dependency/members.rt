@@ -1,0 +1,158 @@
+//! The members of an entry, and why they are refused.
+ghost use Rattle.std.specs.Prelude.{◌≡◌, IfOk, IfErr, codes, false, option_map, string_bytes};
+ghost use Rattle.edit_base.specs.Errors.{IsMemory};
+ghost use Rattle.edit_document.specs.ItemViews.{view_of};
+ghost use Rattle.edit_document.specs.Items.{count_in, type_name_of};
+ghost use Rattle.edit_record.specs.EntryRecords.{wrong_type};
+ghost use Rattle.edit_record.specs.ReadEntries.{feature_texts, features_at, first_texts, member_in, old_spelling, text_at, text_of, truth_at, version_at};
+ghost use Rattle.edit_record.specs.RecordViews.{IsRefused, Tells, shown_at, texts_view};
+ghost use Rattle.edit_version.specs.Requirement.{cut};
+
+use edit_base::errors::{CargoResult, Error};
+use edit_document::Item;
+use edit_version::requirement::before_plus;
+use std::alloc::{AllocError, Global};
+
+/// The refusal of a member of a wrong type.
+pub(crate) fn wrong_type(
+    alloc: Global,
+    dep: &str,
+    name: &str,
+    expected: &'static str,
+    item: Item<'_>,
+) -> Result<Error, AllocError>
+    ensures { IfOk result
+        (Tells (wrong_type (type_name_of (view_of item.entry)) name.now expected.now dep.now)) }
+{
+    Ok(Error::InvalidType {
+        actual: item.type_name(),
+        key: String::from_str(alloc, name)?,
+        expected,
+        dep: String::from_str(alloc, dep)?,
+    })
+}
+
+/// The text of a member, which must be a string.
+pub(crate) fn text_of<'a>(
+    alloc: Global,
+    dep: &str,
+    name: &str,
+    item: Item<'a>,
+) -> CargoResult<&'a str>
+    ensures ok { IfOk result (λ s. text_of dep.now name.now (view_of item.entry) ≡ Ok s.now) }
+    ensures refused { IfErr result (IsRefused (text_of dep.now name.now (view_of item.entry))) }
+{
+    match item.as_str() {
+        Some(text) => Ok(text),
+        None => Err(wrong_type(alloc, dep, name, "string", item)?),
+    }
+}
+
+/// The text of the member of a name, where it is there.
+pub(crate) fn text_at<'a>(
+    alloc: Global,
+    dep: &str,
+    table: Item<'a>,
+    name: &str,
+) -> CargoResult<Option<&'a str>>
+    ensures ok { IfOk result (λ o. text_at (shown_at table.entry) dep.now name.now
+        ≡ Ok (option_map (λ s. s.now) o)) }
+    ensures refused { IfErr result (IsRefused (text_at (shown_at table.entry) dep.now name.now)) }
+{
+    match table.get(name) {
+        Some(item) => Ok(Some(text_of(alloc, dep, name, item)?)),
+        None => Ok(None),
+    }
+}
+
+/// A requirement before its first `+`, on memory of its own, where there is one.
+fn owned_version(alloc: Global, text: Option<&str>) -> Result<Option<String>, AllocError>
+    ensures { IfOk result (λ o. option_map string_bytes o
+        ≡ option_map cut (option_map (λ s. s.now) text.entry)) }
+{
+    match text {
+        Some(text) => Ok(Some(String::from_str(alloc, before_plus(text))?)),
+        None => Ok(None),
+    }
+}
+
+/// The requirement of an entry before its first `+`, where it is there.
+pub(crate) fn version_at(alloc: Global, dep: &str, table: Item<'_>) -> CargoResult<Option<String>>
+    ensures ok { IfOk result (λ o. version_at (shown_at table.entry) dep.now
+        ≡ Ok (option_map string_bytes o)) }
+    ensures refused { IfErr result (IsRefused (version_at (shown_at table.entry) dep.now)) }
+{
+    let text = text_at(alloc, dep, table, "version")?;
+    Ok(owned_version(alloc, text)?)
+}
+
+/// The boolean of the member of a name; nothing of any other type counts.
+pub(crate) fn truth_at(table: Item<'_>, name: &str) -> Option<bool>
+    ensures { result ≡ truth_at (shown_at table.entry) name.now }
+{
+    match table.get(name) {
+        Some(item) => item.as_bool(),
+        None => None,
+    }
+}
+
+/// The spelling `default_features` is refused.
+pub(crate) fn check_spelling(alloc: Global, dep: &str, table: Item<'_>) -> CargoResult<()>
+    ensures ok { IfOk result (λ _.
+        old_spelling dep.now (member_in (shown_at table.entry) (codes "default_features")) ≡ Ok false) }
+    ensures refused { IfErr result (IsRefused
+        (old_spelling dep.now (member_in (shown_at table.entry) (codes "default_features")))) }
+{
+    match table.get("default_features") {
+        Some(_) => Err(Error::OldDefaultFeatures {
+            key: String::from_str(alloc, dep)?,
+        }),
+        None => Ok(()),
+    }
+}
+
+/// The texts of an array's elements, each of which must be a string.
+fn element_texts(alloc: Global, dep: &str, array: Item<'_>) -> CargoResult<Vec<String>>
+    ensures ok { IfOk result (λ v. first_texts (shown_at array.entry) dep.now
+        (count_in (view_of array.entry)) ≡ Ok (texts_view v)) }
+    ensures refused { IfErr result (IsRefused
+        (first_texts (shown_at array.entry) dep.now (count_in (view_of array.entry)))) }
+{
+    let mut texts = Vec::new(alloc);
+    for index in 0..array.len() {
+        if let Some(item) = array.at(index) {
+            let text = text_of(alloc, dep, "features", item)?;
+            texts.push(String::from_str(alloc, text)?)?;
+        }
+    }
+    Ok(texts)
+}
+
+/// The texts of `features`, which must be an array of strings.
+fn feature_texts(alloc: Global, dep: &str, item: Item<'_>) -> CargoResult<Vec<String>>
+    ensures ok { IfOk result (λ v. feature_texts (shown_at item.entry) dep.now (view_of item.entry)
+        ≡ Ok (texts_view v)) }
+    ensures refused { IfErr result (IsRefused
+        (feature_texts (shown_at item.entry) dep.now (view_of item.entry))) }
+{
+    match item.as_array() {
+        Some(array) => element_texts(alloc, dep, array),
+        None => Err(wrong_type(alloc, dep, "features", "array", item)?),
+    }
+}
+
+/// The texts of `features`, where it is there: it must be an array of strings.
+pub(crate) fn features_at(
+    alloc: Global,
+    dep: &str,
+    table: Item<'_>,
+) -> CargoResult<Option<Vec<String>>>
+    ensures ok { IfOk result (λ o. features_at (shown_at table.entry) dep.now
+        ≡ Ok (option_map texts_view o)) }
+    ensures refused { IfErr result (IsRefused (features_at (shown_at table.entry) dep.now)) }
+{
+    match table.get("features") {
+        Some(item) => Ok(Some(feature_texts(alloc, dep, item)?)),
+        None => Ok(None),
+    }
+}

@@ -1,0 +1,279 @@
+//! Where a dependency comes from.
+ghost use Rattle.std.specs.Prelude.{◌≡◌, None, Some, IfOk, IfErr, option_copied, option_map, string_bytes};
+ghost use Rattle.edit_base.specs.Errors.{IsMemory};
+ghost use Rattle.edit_record.specs.EntryRecords.{from_path, from_registry};
+ghost use Rattle.edit_record.specs.ReadEntries.{repository};
+ghost use Rattle.edit_record.specs.RecordViews.{git_in, path_in, path_view, registry_in, repository_view, source_view, workspace_in};
+ghost use Rattle.edit_record.specs.Records.{source_version};
+ghost use Rattle.edit_version.specs.Requirement.{cut};
+
+use super::copies::copied;
+use edit_base::errors::CargoResult;
+use edit_version::requirement::before_plus;
+use std::alloc::Global;
+
+/// A version in a registry.
+#[derive(Debug, PartialEq, Eq, PartialOrd, Ord, Hash, Drop)]
+pub struct RegistrySource {
+    pub version: String,
+}
+
+impl RegistrySource {
+    /// A requirement, of which the text before the first `+` is kept.
+    pub fn new(alloc: Global, version: &str) -> CargoResult<RegistrySource>
+        ensures ok { IfOk result (λ s. string_bytes s.version ≡ cut version.now) }
+        ensures refused { IfErr result IsMemory }
+    {
+        Ok(RegistrySource {
+            version: String::from_str(alloc, before_plus(version))?,
+        })
+    }
+
+    /// The same source on memory of its own.
+    pub fn try_clone(&self, _alloc: Global) -> CargoResult<RegistrySource>
+        ensures ok { IfOk result (λ s. string_bytes s.version ≡ string_bytes self.now.version) }
+        ensures refused { IfErr result IsMemory }
+    {
+        Ok(RegistrySource {
+            version: self.version.clone()?,
+        })
+    }
+}
+
+/// A folder, and perhaps a version.
+#[derive(Debug, PartialEq, Eq, PartialOrd, Ord, Hash, Drop)]
+pub struct PathSource {
+    /// An absolute path.
+    pub path: String,
+    pub version: Option<String>,
+}
+
+impl PathSource {
+    /// A folder without a version.
+    pub fn new(alloc: Global, path: &str) -> CargoResult<PathSource>
+        ensures ok { IfOk result (λ s. path_view s ≡ from_path path.now None) }
+        ensures refused { IfErr result IsMemory }
+    {
+        Ok(PathSource {
+            path: String::from_str(alloc, path)?,
+            version: None,
+        })
+    }
+
+    /// The folder with another requirement, of which the text before the first `+` is kept.
+    pub fn set_version(self, alloc: Global, version: &str) -> CargoResult<PathSource>
+        ensures ok { IfOk result (λ s. path_view s
+            ≡ from_path (string_bytes self.path) (Some (cut version.now))) }
+        ensures refused { IfErr result IsMemory }
+    {
+        let version = String::from_str(alloc, before_plus(version))?;
+        Ok(PathSource {
+            version: Some(version),
+            ..self
+        })
+    }
+
+    /// The same source on memory of its own.
+    pub fn try_clone(&self, _alloc: Global) -> CargoResult<PathSource>
+        ensures ok { IfOk result (λ s. path_view s ≡ path_view self.now) }
+        ensures refused { IfErr result IsMemory }
+    {
+        Ok(PathSource {
+            path: self.path.clone()?,
+            version: copied(self.version.as_ref())?,
+        })
+    }
+}
+
+/// A repository, perhaps at a branch, a tag or a revision, and perhaps a version.
+#[derive(Debug, PartialEq, Eq, PartialOrd, Ord, Hash, Drop)]
+pub struct GitSource {
+    /// The repository's address.
+    pub git: String,
+    pub branch: Option<String>,
+    pub tag: Option<String>,
+    pub rev: Option<String>,
+    pub version: Option<String>,
+}
+
+impl GitSource {
+    /// A repository at its default branch, without a version.
+    pub fn new(alloc: Global, git: &str) -> CargoResult<GitSource>
+        ensures ok { IfOk result (λ s. repository_view s ≡ repository git.now None None None None) }
+        ensures refused { IfErr result IsMemory }
+    {
+        Ok(GitSource {
+            git: String::from_str(alloc, git)?,
+            branch: None,
+            tag: None,
+            rev: None,
+            version: None,
+        })
+    }
+
+    /// The repository at a branch; a tag and a revision are cleared.
+    pub fn set_branch(self, alloc: Global, branch: &str) -> CargoResult<GitSource>
+        ensures ok { IfOk result (λ s. repository_view s
+            ≡ record (repository_view self) { branch = Some branch.now; tag = None; rev = None }) }
+        ensures refused { IfErr result IsMemory }
+    {
+        let branch = String::from_str(alloc, branch)?;
+        Ok(GitSource {
+            branch: Some(branch),
+            tag: None,
+            rev: None,
+            ..self
+        })
+    }
+
+    /// The repository at a tag; a branch and a revision are cleared.
+    pub fn set_tag(self, alloc: Global, tag: &str) -> CargoResult<GitSource>
+        ensures ok { IfOk result (λ s. repository_view s
+            ≡ record (repository_view self) { branch = None; tag = Some tag.now; rev = None }) }
+        ensures refused { IfErr result IsMemory }
+    {
+        let tag = String::from_str(alloc, tag)?;
+        Ok(GitSource {
+            branch: None,
+            tag: Some(tag),
+            rev: None,
+            ..self
+        })
+    }
+
+    /// The repository at a revision; a branch and a tag are cleared.
+    pub fn set_rev(self, alloc: Global, rev: &str) -> CargoResult<GitSource>
+        ensures ok { IfOk result (λ s. repository_view s
+            ≡ record (repository_view self) { branch = None; tag = None; rev = Some rev.now }) }
+        ensures refused { IfErr result IsMemory }
+    {
+        let rev = String::from_str(alloc, rev)?;
+        Ok(GitSource {
+            branch: None,
+            tag: None,
+            rev: Some(rev),
+            ..self
+        })
+    }
+
+    /// The repository with another requirement, of which the text before the first `+` is kept.
+    pub fn set_version(self, alloc: Global, version: &str) -> CargoResult<GitSource>
+        ensures ok { IfOk result (λ s. repository_view s
+            ≡ record (repository_view self) { version = Some (cut version.now) }) }
+        ensures refused { IfErr result IsMemory }
+    {
+        let version = String::from_str(alloc, before_plus(version))?;
+        Ok(GitSource {
+            version: Some(version),
+            ..self
+        })
+    }
+
+    /// The same source on memory of its own.
+    pub fn try_clone(&self, _alloc: Global) -> CargoResult<GitSource>
+        ensures ok { IfOk result (λ s. repository_view s ≡ repository_view self.now) }
+        ensures refused { IfErr result IsMemory }
+    {
+        Ok(GitSource {
+            git: self.git.clone()?,
+            branch: copied(self.branch.as_ref())?,
+            tag: copied(self.tag.as_ref())?,
+            rev: copied(self.rev.as_ref())?,
+            version: copied(self.version.as_ref())?,
+        })
+    }
+}
+
+/// The entry of that name in the workspace's table.
+#[derive(Clone, Copy, Debug, Default, PartialEq, Eq, PartialOrd, Ord, Hash)]
+pub struct WorkspaceSource;
+
+impl WorkspaceSource {
+    /// The workspace's entry.
+    pub fn new() -> WorkspaceSource {
+        WorkspaceSource
+    }
+
+    /// The same source.
+    pub fn try_clone(&self, _alloc: Global) -> CargoResult<WorkspaceSource>
+        ensures refused { IfErr result IsMemory }
+    {
+        Ok(WorkspaceSource)
+    }
+}
+
+/// Where a dependency comes from.
+#[derive(Debug, PartialEq, Eq, PartialOrd, Ord, Hash, Drop)]
+pub enum Source {
+    Registry(RegistrySource),
+    Path(PathSource),
+    Git(GitSource),
+    Workspace(WorkspaceSource),
+}
+
+impl Source {
+    /// The version in a registry, where the source is one.
+    pub fn as_registry(&self) -> Option<&RegistrySource>
+        ensures { option_copied result ≡ registry_in self.now }
+    {
+        match self {
+            Source::Registry(source) => Some(source),
+            Source::Path(_) | Source::Git(_) | Source::Workspace(_) => None,
+        }
+    }
+
+    /// The folder, where the source is one.
+    pub fn as_path(&self) -> Option<&PathSource>
+        ensures { option_copied result ≡ path_in self.now }
+    {
+        match self {
+            Source::Path(source) => Some(source),
+            Source::Registry(_) | Source::Git(_) | Source::Workspace(_) => None,
+        }
+    }
+
+    /// The repository, where the source is one.
+    pub fn as_git(&self) -> Option<&GitSource>
+        ensures { option_copied result ≡ git_in self.now }
+    {
+        match self {
+            Source::Git(source) => Some(source),
+            Source::Registry(_) | Source::Path(_) | Source::Workspace(_) => None,
+        }
+    }
+
+    /// The workspace's entry, where the source is that.
+    pub fn as_workspace(&self) -> Option<&WorkspaceSource>
+        ensures { option_copied result ≡ workspace_in self.now }
+    {
+        match self {
+            Source::Workspace(source) => Some(source),
+            Source::Registry(_) | Source::Path(_) | Source::Git(_) => None,
+        }
+    }
+
+    /// The same source on memory of its own.
+    pub fn try_clone(&self, alloc: Global) -> CargoResult<Source>
+        ensures ok { IfOk result (λ s. source_view s ≡ source_view self.now) }
+        ensures refused { IfErr result IsMemory }
+    {
+        Ok(match self {
+            Source::Registry(source) => Source::Registry(source.try_clone(alloc)?),
+            Source::Path(source) => Source::Path(source.try_clone(alloc)?),
+            Source::Git(source) => Source::Git(source.try_clone(alloc)?),
+            Source::Workspace(source) => Source::Workspace(*source),
+        })
+    }
+
+    /// The version text, none for the workspace's entry.
+    pub(crate) fn version(&self) -> Option<&str>
+        ensures { option_map (λ s. s.now) result ≡ source_version self.now }
+    {
+        match self {
+            Source::Registry(source) => Some(source.version.as_str()),
+            Source::Path(source) => source.version.as_ref().map(|text| text.as_str()),
+            Source::Git(source) => source.version.as_ref().map(|text| text.as_str()),
+            Source::Workspace(_) => None,
+        }
+    }
+}
