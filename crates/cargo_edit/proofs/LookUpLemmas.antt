@@ -98,12 +98,18 @@ at-among {A} f xs i x name address h e same a n p =
 
 -- ---- one name more
 
+-- a name more, where it was among them
+added-again : (b a : Bool) → (b ≡ true → a ≡ true) → (if b then true else a) ≡ a
+added-again true a h = sym (h refl)
+added-again false a h = refl
+
 -- a name that was looked up before
-pub so-far-again : (address : List ℕ) (first : Outcomes) (old now : Kept) (names : List (List ℕ)) (looks : List Look) (among : List ℕ → Bool) (name : List ℕ)
-    → IsSoFar address first old now names looks among → among name ≡ true → IsSoFar address first old now (names ++ name ∷ []) looks among
-so-far-again address first old now names looks among name s h = record {
+pub so-far-again : (address : List ℕ) (first : Outcomes) (old now : Kept) (names : List (List ℕ)) (looks : List Look) (among then_among : List ℕ → Bool)
+    (name : List ℕ) → IsSoFar address first old now names looks among → among name ≡ true
+    → ((q : List ℕ) → then_among q ≡ (if bytes_eq name q then true else among q)) → IsSoFar address first old now (names ++ name ∷ []) looks then_among
+so-far-again address first old now names looks among then_among name s h u = record {
   looked = again names looks now name s.looked (sym (s.set name) ∙ h);
-  set = s.set;
+  set = λ q. u q ∙ added-again (bytes_eq name q) (among q) (λ e. ap among (sym (same-eq name q e)) ∙ h) ∙ s.set q;
 }
 
 none-of : (o : Option Look) → is_some o ≡ false → o ≡ None

@@ -1,22 +1,22 @@
 -- The decision's values, as the program has them.
 use Rattle.std.specs.Prelude.{List, ℕ, Bool, true, false, not, ◌&&◌, if◌then◌else◌, is_some, Option, option_map, string_bytes, Some, None}
-use Rattle.semver.specs.Identifiers.{parts_of}
-use Rattle.semver.specs.declared.Version.{Version}
 use Rattle.cargo_edit.specs.Decision.{Case, Choice, Outcome, first_reason, first_row, kept, given, left_out, or_else, row_change, row_text, same_text, to_compatible, to_latest, unless, unread, when}
 use Rattle.cargo_edit.specs.declared.upgrade.Options.{Options}
 use Rattle.cargo_edit.specs.declared.upgrade.Reason.{Reason}
 use Rattle.cargo_edit.specs.declared.upgrade.Reason.TheVariants as reason
+use Rattle.cargo_edit.specs.Offers.{offered}
 use Rattle.cargo_edit.specs.declared.decide.Decided.{Decided}
+use Rattle.cargo_edit.specs.declared.offers.Offer.{Offer}
 
 -- what the decision rests on, as the program has it (own)
-abbrev pub case_view : Bool → Bool → Option (List ℕ) → List ℕ → Option Version → Option Version → Case
+abbrev pub case_view : Bool → Bool → Option (List ℕ) → List ℕ → Option Offer → Option Offer → Case
 case_view excluded renamed selected old compatible latest = record {
   excluded = excluded;
   renamed = renamed;
   selected = selected;
   old = old;
-  compatible = option_map parts_of compatible;
-  latest = option_map parts_of latest;
+  compatible = offered compatible;
+  latest = offered latest;
 }
 
 -- what is decided, by its text (own)

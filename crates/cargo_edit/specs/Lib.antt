@@ -7,6 +7,7 @@ pub mod Rows
 pub mod Lines
 pub mod Found
 pub mod Looks
+pub mod Offers
 pub mod Inputs
 pub mod Looked
 pub mod Upgraded

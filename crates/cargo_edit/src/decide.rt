@@ -4,11 +4,12 @@ ghost use Rattle.cargo_edit.specs.declared.upgrade.Reason.TheVariants as reason;
 ghost use Rattle.std.specs.Prelude.{◌≡◌, if◌then◌else◌, Some, None, false, IfErr, IfOk, option_and_then, option_copied, option_map, string_bytes};
 ghost use Rattle.cargo_edit.specs.Decision.{decision, newer, or_else, same_text, text_or, unless_old};
 ghost use Rattle.cargo_edit.specs.Decided.{case_view, choice_view, decision_by, jumps_by, raised_choice};
-ghost use Rattle.edit_record.specs.Candidates.{parts_in};
+ghost use Rattle.cargo_edit.specs.Offers.{offered};
 ghost use Rattle.edit_version.specs.ReadRequirement.{text_in};
 ghost use Rattle.edit_version.specs.Requirement.{plain_text, raise};
 ghost use Rattle.semver.specs.Identifiers.{parts_of};
 
+use crate::offers::Offer;
 use crate::requirement::{Pin, pin_of};
 use crate::upgrade::{Change, Options, Reason};
 use edit_base::{CargoResult, Error};
@@ -22,23 +23,6 @@ pub(crate) struct Decided {
     pub(crate) new: String,
     pub(crate) change: Option<Change>,
     pub(crate) reason: Option<Reason>,
-}
-
-/// The text of a version, without its build metadata.
-pub(crate) fn plain_version(alloc: Global, version: &Version) -> Result<String, AllocError>
-    ensures { IfOk result (λ s. string_bytes s ≡ plain_text (parts_of version.now)) }
-{
-    let mut out = String::new(alloc);
-    write!(out, "{}", version.major)?;
-    out.push('.')?;
-    write!(out, "{}", version.minor)?;
-    out.push('.')?;
-    write!(out, "{}", version.patch)?;
-    if !version.pre.as_str().is_empty() {
-        out.push('-')?;
-        out.push_str(version.pre.as_str())?;
-    }
-    Ok(out)
 }
 
 // The text `old` raised to a version, or `other` where a comparator cannot be raised.
@@ -64,40 +48,39 @@ fn candidate(
 fn latest_candidate(
     alloc: Global,
     old: &Requirement<'_>,
-    compatible: Option<&Version>,
-    latest: Option<&Version>,
+    compatible: Option<&Offer<'_>>,
+    latest: Option<&Offer<'_>>,
 ) -> CargoResult<Option<String>>
     ensures text { IfOk result (λ o. option_map string_bytes o
         ≡ option_and_then (λ v. text_or (plain_text v) (raise (text_in old.now) v))
-        (newer (parts_in latest.entry) (parts_in compatible.entry))) }
+        (newer (offered (option_copied latest.entry)) (offered (option_copied compatible.entry)))) }
     ensures refused { IfErr result IsMemory }
 {
     let Some(latest) = latest else {
         return Ok(None);
     };
-    let text = plain_version(alloc, latest)?;
+    let text = latest.text.as_str();
     if let Some(compatible) = compatible {
-        let near = plain_version(alloc, compatible)?;
-        if text.as_str() == near.as_str() {
+        if text == compatible.text.as_str() {
             return Ok(None);
         }
     }
-    candidate(alloc, old, latest, text.as_str())
+    candidate(alloc, old, latest.version, text)
 }
 
 // The text for the compatible version.
 fn compatible_candidate(
     alloc: Global,
     old: &Requirement<'_>,
-    compatible: Option<&Version>,
+    compatible: Option<&Offer<'_>>,
 ) -> CargoResult<Option<String>>
     ensures text { IfOk result (λ o. option_map string_bytes o
         ≡ option_and_then (λ v. text_or (text_in old.now) (raise (text_in old.now) v))
-        (parts_in compatible.entry)) }
+        (offered (option_copied compatible.entry))) }
     ensures refused { IfErr result IsMemory }
 {
     match compatible {
-        Some(version) => candidate(alloc, old, version, old.text()),
+        Some(offer) => candidate(alloc, old, offer.version, old.text()),
         None => Ok(None),
     }
 }
@@ -253,8 +236,8 @@ pub(crate) fn decide(
     renamed: bool,
     selected: Option<&str>,
     old: &Requirement<'_>,
-    compatible: Option<&Version>,
-    latest: Option<&Version>,
+    compatible: Option<&Offer<'_>>,
+    latest: Option<&Offer<'_>>,
 ) -> CargoResult<Decided>
     ensures decided { IfOk result (λ d. choice_view d ≡ decision options.now
         (case_view excluded renamed (option_copied selected.entry) (text_in old.now)

@@ -5,6 +5,7 @@ mod decide;
 mod lists;
 mod looks;
 mod names;
+mod offers;
 mod plan;
 mod planned;
 mod requirement;

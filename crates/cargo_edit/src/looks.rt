@@ -9,7 +9,7 @@ ghost use Rattle.cargo_edit.specs.Found.{name_of};
 ghost use Rattle.cargo_edit.specs.Looked.{IsAmong, IsAt, IsFailedLook, IsLook, IsRefusedAt, Leaves, Looked};
 ghost use Rattle.cargo_edit.specs.Looks.{kept_by};
 
-use crate::names::{Names, add_name, has_name};
+use crate::names::{Names, add_name};
 use crate::seen::Entry;
 use crate::upgrade::Look;
 use edit_base::CargoResult;
@@ -125,11 +125,11 @@ pub(crate) fn look_up<I: Index>(
     let mut looks = Vec::new(alloc);
     'entries: for entry in entries {
         let name = entry.name.as_str();
-        if has_name(&looked, name) {
+        let had = add_name(alloc, &mut looked, name)?;
+        if had {
             continue;
         }
         let look = one_look(alloc, registry, name, index)?;
-        add_name(alloc, &mut looked, name)?;
         looks.push(look)?;
     }
     Ok(looks)

@@ -11,10 +11,12 @@ ghost use Rattle.cargo_edit.specs.Decision.{decision, newer, or_else};
 ghost use Rattle.cargo_edit.specs.Found.{name_of, seen_of};
 ghost use Rattle.cargo_edit.specs.Lines.{line_of};
 ghost use Rattle.cargo_edit.specs.Looks.{Answer, kept_by, kept_setting, versions_in};
+ghost use Rattle.cargo_edit.specs.Offers.{offered};
 ghost use Rattle.cargo_edit.specs.Rankings.{IsRankingOf};
 ghost use Rattle.cargo_edit.specs.Rows.{AreDecided, IsDecided, case_for, line_for};
 
-use crate::decide::{decide, plain_version};
+use crate::decide::decide;
+use crate::offers::{Offer, offer_of};
 use crate::seen::{Entry, copied_place};
 use crate::upgrade::{Options, Row};
 use edit_base::CargoResult;
@@ -60,35 +62,31 @@ fn latest_for<'a>(
     }
 }
 
-// The text of a version, where there is one.
-fn version_text(alloc: Global, version: Option<&Version>) -> CargoResult<Option<String>>
-    ensures ok { IfOk result (λ o. option_map string_bytes o
-        ≡ option_map plain_text (parts_in version.entry)) }
-    ensures refused { IfErr result IsMemory }
+// The text of a version that is offered.
+fn offered_text(offer: Option<Offer<'_>>) -> Option<String>
+    ensures { option_map string_bytes result ≡ option_map plain_text (offered offer.entry) }
 {
-    match version {
-        Some(version) => {
-            let text = plain_version(alloc, version)?;
-            Ok(Some(text))
-        }
-        None => Ok(None),
+    match offer {
+        Some(offer) => Some(offer.text),
+        None => None,
     }
 }
 
 // The text of the latest version, of the compatible one where there is no latest.
 fn latest_text(
     alloc: Global,
-    compatible: Option<&Version>,
-    latest: Option<&Version>,
+    compatible: Option<&Offer<'_>>,
+    latest: Option<Offer<'_>>,
 ) -> CargoResult<Option<String>>
     ensures ok { IfOk result (λ o. option_map string_bytes o ≡ option_map plain_text (or_else
-        (newer (parts_in latest.entry) (parts_in compatible.entry))
-        (parts_in compatible.entry))) }
+        (newer (offered latest.entry) (offered (option_copied compatible.entry)))
+        (offered (option_copied compatible.entry)))) }
     ensures refused { IfErr result IsMemory }
 {
-    match latest {
-        Some(version) => version_text(alloc, Some(version)),
-        None => version_text(alloc, compatible),
+    match (latest, compatible) {
+        (Some(latest), _) => Ok(Some(latest.text)),
+        (None, Some(compatible)) => Ok(Some(String::from_str(alloc, compatible.text.as_str())?)),
+        (None, None) => Ok(None),
     }
 }
 
@@ -109,17 +107,19 @@ fn row_over(
         (parts_in compatible.entry) (parts_in latest.entry)))) }
     ensures refused { IfErr result IsMemory }
 {
-    let decided = decide(alloc, options, false, false, None, old, compatible, latest)?;
-    let near = version_text(alloc, compatible)?;
-    let far = latest_text(alloc, compatible, latest)?;
+    let near = offer_of(alloc, compatible)?;
+    let far = offer_of(alloc, latest)?;
+    let compatible = near.as_ref();
+    let decided = decide(alloc, options, false, false, None, old, compatible, far.as_ref())?;
+    let latest = latest_text(alloc, compatible, far)?;
     Ok(Row {
         input,
         name: String::from_str(alloc, entry.name.as_str())?,
         place: copied_place(alloc, &entry.place)?,
         rename: None,
         old: Some(String::from_str(alloc, old.text())?),
-        compatible: near,
-        latest: far,
+        compatible: offered_text(near),
+        latest,
         new: Some(decided.new),
         reason: decided.reason,
         change: decided.change,
@@ -188,7 +188,7 @@ pub(crate) fn decided_rows<I: Index>(
     ensures kept { kept_by index.new ≡ kept_by index.old }
     ensures refused { IfErr result IsMemory }
 {
-    let mut rows = Vec::new(alloc);
+    let mut rows = Vec::with_capacity(alloc, entries.len())?;
     'entries: for entry in entries {
         let row = kept_row(alloc, input, options, rust_version, registry, entry, index)?;
         rows.push(row)?;

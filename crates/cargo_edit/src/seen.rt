@@ -212,7 +212,7 @@ pub(crate) fn copied_place(alloc: Global, steps: &[Step]) -> CargoResult<Place>
     ensures ok { IfOk result (λ p. place_seen p.items ≡ place_seen steps.now) }
     ensures refused { IfErr result IsMemory }
 {
-    let mut place = Vec::new(alloc);
+    let mut place = Vec::with_capacity(alloc, steps.len())?;
     'steps: for step in steps {
         let copy = copied_step(alloc, step)?;
         place.push(copy)?;

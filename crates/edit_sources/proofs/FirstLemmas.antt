@@ -14,14 +14,16 @@ use Rattle.std.proofs.lemmas.List.Elements.{All-nil, All-cons, All-head, All-tai
 use Rattle.std.proofs.lemmas.List.Sorted.{sorted_far}
 use Rattle.std.proofs.lemmas.List.MinMax.{ranks_by}
 use Rattle.std.proofs.lemmas.Option.{slice_get-get_or}
+use Rattle.semver.specs.Identifiers.{parts_text}
 use Rattle.semver.specs.Parse.{Parts}
-use Rattle.edit_record.specs.Admissible.{admissible_in, asked_rust, candidate_in, entry_order, if_fits, if_passes, is_kept, is_too_new, version_in}
+use Rattle.semver.proofs.Grammar.{version_parts-sound}
+use Rattle.edit_record.specs.Admissible.{admissible_in, asked_rust, candidate_in, entry_order, if_fits, if_passes, is_kept, is_too_new, version_in, version_read}
 use Rattle.edit_version.specs.Greatest.{IsGreatest, IsGreatestKept}
 use Rattle.edit_record.specs.IndexEntry.{IndexEntry}
 use Rattle.edit_version.specs.RustVersions.{Numbers}
 use Rattle.edit_version.specs.VersionOrder.{full_order}
 use Rattle.edit_record.proofs.Entries.{greatest-versions, none-versions}
-use Rattle.edit_record.proofs.Kept.{admissible-version}
+use Rattle.edit_record.proofs.Kept.{admissible-version, read-parts}
 use Rattle.edit_version.proofs.Orders.{full_total}
 use Rattle.edit_sources.specs.Ranking.{IsInOrder, IsRanking, Ranking, Tells, passes, rank_order}
 
@@ -98,14 +100,34 @@ parted (y ∷ ys) zero x h =
     ap (λ z. z ∷ ys) same
 parted (y ∷ ys) (suc i) x h = ap (λ zs. y ∷ zs) (parted ys i x h)
 
+-- the entry that a rank tells of
+pub record Told (entries : List IndexEntry) (r : Ranking) : Type 0 where
+  pub entry : IndexEntry
+  pub at : slice_get entries r.place ≡ Some entry
+  pub named : entry.name ≡ r.name
+  pub read : candidate_in entry ≡ Some (r.version, r.rust_version)
+
+told-from : (entries : List IndexEntry) (r : Ranking) (o : Option IndexEntry) → slice_get entries r.place ≡ o → option_map (λ e. e.name) o ≡ Some r.name
+    → option_and_then candidate_in o ≡ Some (r.version, r.rust_version) → Told entries r
+told-from entries r None at named read = cc named
+told-from entries r (Some e) at named read = record { entry = e; at = at; named = cc named; read = read }
+
+-- a rank that tells of an entry has it
+told : (entries : List IndexEntry) (r : Ranking) → Tells entries r → Told entries r
+told entries r t = told-from entries r (slice_get entries r.place) refl t.named t.read
+
 -- what is read of an entry tells its version
 candidate-version : (y : Bool) (r : Option Numbers) (o : Option Parts) (c : Parts × Option Numbers) → (if y then None else option_map (λ v. (v, r)) o) ≡ Some c → o ≡ Some c.0
 candidate-version true r o c h = cc h
 candidate-version false r None c h = cc h
 candidate-version false r (Some v) c h = let e : (v, r) ≡ c = cc h in ap (λ (p : Parts × Option Numbers). Some p.0) e
 
-tells-version : (entries : List IndexEntry) (r : Ranking) → Tells entries r → version_in r.entry ≡ Some r.version
-tells-version entries r t = candidate-version r.entry.yanked (asked_rust r.entry) (version_in r.entry) (r.version, r.rust_version) t.read
+pub tells-version : (entries : List IndexEntry) (r : Ranking) → (t : Told entries r) → version_in t.entry ≡ Some r.version
+tells-version entries r t = candidate-version t.entry.yanked (asked_rust t.entry) (version_in t.entry) (r.version, r.rust_version) t.read
+
+-- a version that was read is written as its text
+pub version-text : (text : List ℕ) (v : Parts) → version_read text ≡ Some v → parts_text v ≡ text
+version-text text v h = (version_parts-sound text v (read-parts text v h)).0
 
 -- entries are ordered by the versions that are read of them
 order_by_version : (a b : IndexEntry) (v w : Parts) → version_in a ≡ Some v → version_in b ≡ Some w → entry_order a b ≡ full_order v w
@@ -119,7 +141,7 @@ passes-read true test v t e = refl
 passes-read false true v t e = rw e refl
 passes-read false false v t e = rw e refl
 
-kept-passes : (rust : Option Numbers) (test : Parts → Bool) (entries : List IndexEntry) (r : Ranking) → Tells entries r → is_kept rust test r.entry ≡ passes rust test r
+kept-passes : (rust : Option Numbers) (test : Parts → Bool) (entries : List IndexEntry) (r : Ranking) → (t : Told entries r) → is_kept rust test t.entry ≡ passes rust test r
 kept-passes rust test entries r t =
     ap (λ o. is_some (if_passes test (if_fits rust o))) t.read
     ∙ passes-read (is_too_new r.rust_version rust) (test r.version) r.version test refl
@@ -155,67 +177,67 @@ sorted_order ranks h k d low high = after_not_less (get_or ranks k d) (get_or ra
 
 -- what each rank of a ranking is, beside the first that passes
 abbrev Beside : List IndexEntry → (Ranking → Bool) → Ranking → Ranking → Type 0
-Beside entries p r s = Tells entries s × ((p s ≡ false) ⊎ (is_lt (rank_order s r) ≡ false))
+Beside entries p r s = Told entries s × ((p s ≡ false) ⊎ (is_lt (rank_order s r) ≡ false))
 
 beside : (entries : List IndexEntry) (ranks : List Ranking) (p : Ranking → Bool) (r : Ranking) → IsRanking entries ranks → IsFirst p ranks r → All (Beside entries p r) ranks
 beside entries ranks p r g f k d within = elim (le_or_lt f.at k) [
   | inl after ↦
       let sorted : is_lt (rank_order (get_or ranks k d) (get_or ranks f.at d)) ≡ false = sorted_far (λ a b. is_lt (rank_order a b)) (ranks_by rank_total (λ (s : Ranking). s)) ranks (sorted_order ranks g.order) f.at k d after within in
-      (g.tells k d within, inr (subst (λ s. is_lt (rank_order (get_or ranks k d) s) ≡ false) (f.is d) sorted))
-  | inr before ↦ (g.tells k d within, inl (f.before k d before))
+      (told entries (get_or ranks k d) (g.tells k d within), inr (subst (λ s. is_lt (rank_order (get_or ranks k d) s) ≡ false) (f.is d) sorted))
+  | inr before ↦ (told entries (get_or ranks k d) (g.tells k d within), inl (f.before k d before))
 ]
 
 -- the first rank that passes is a rank
-tells_first : (entries : List IndexEntry) (ranks : List Ranking) (p : Ranking → Bool) (r : Ranking) → IsRanking entries ranks → IsFirst p ranks r → Tells entries r
-tells_first entries ranks p r g f = subst (λ s. Tells entries s) (f.is r) (g.tells f.at r f.within)
+tells_first : (entries : List IndexEntry) (ranks : List Ranking) (p : Ranking → Bool) (r : Ranking) → IsRanking entries ranks → IsFirst p ranks r → Told entries r
+tells_first entries ranks p r g f = subst (λ s. Told entries s) (f.is r) (told entries (get_or ranks f.at r) (g.tells f.at r f.within))
 
 -- of two ranks, the entry of the one that does not come first is not greater, and less where it is later
-ordered : (entries : List IndexEntry) (r s : Ranking) → Tells entries r → Tells entries s → is_lt (rank_order s r) ≡ false → (is_le (entry_order s.entry r.entry) ≡ true) × (r.place < s.place → entry_order s.entry r.entry ≡ Less)
+ordered : (entries : List IndexEntry) (r s : Ranking) → (t : Told entries r) → (u : Told entries s) → is_lt (rank_order s r) ≡ false → (is_le (entry_order u.entry t.entry) ≡ true) × (r.place < s.place → entry_order u.entry t.entry ≡ Less)
 ordered entries r s t u h =
-    let order : entry_order s.entry r.entry ≡ ordering_reverse (full_order r.version s.version) = order_by_version s.entry r.entry s.version r.version (tells-version entries s u) (tells-version entries r t) ∙ full_total.antisymm s.version r.version in
+    let order : entry_order u.entry t.entry ≡ ordering_reverse (full_order r.version s.version) = order_by_version u.entry t.entry s.version r.version (tells-version entries s u) (tells-version entries r t) ∙ full_total.antisymm s.version r.version in
     let both = decide (full_order r.version s.version) r.place s.place h in
     (ap is_le order ∙ both.0, λ low. order ∙ both.1 low)
 
-beaten_by : (entries : List IndexEntry) (rust : Option Numbers) (test : Parts → Bool) (r : Ranking) → Tells entries r → (j : ℕ) (x : IndexEntry) → slice_get entries j ≡ Some x → is_kept rust test x ≡ true → (s : Ranking) → s.place ≡ j → Beside entries (passes rust test) r s → (is_le (entry_order x r.entry) ≡ true) × (r.place < j → entry_order x r.entry ≡ Less)
+beaten_by : (entries : List IndexEntry) (rust : Option Numbers) (test : Parts → Bool) (r : Ranking) → (t : Told entries r) → (j : ℕ) (x : IndexEntry) → slice_get entries j ≡ Some x → is_kept rust test x ≡ true → (s : Ranking) → s.place ≡ j → Beside entries (passes rust test) r s → (is_le (entry_order x t.entry) ≡ true) × (r.place < j → entry_order x t.entry ≡ Less)
 beaten_by entries rust test r t j x at kept s place b =
-    let both : Some s.entry ≡ Some x = sym b.0.entry ∙ ap (slice_get entries) place ∙ at in
-    let same : s.entry ≡ x = cc both in
+    let both : Some b.0.entry ≡ Some x = sym b.0.at ∙ ap (slice_get entries) place ∙ at in
+    let same : b.0.entry ≡ x = cc both in
     let passed : passes rust test s ≡ true = sym (kept-passes rust test entries s b.0) ∙ ap (is_kept rust test) same ∙ kept in
     elim b.1 [
       | inl fails ↦ cc (passed, fails)
       | inr later ↦
           let o = ordered entries r s t b.0 later in
-          (ap (λ e. is_le (entry_order e r.entry)) (sym same) ∙ o.0, λ low. ap (λ e. entry_order e r.entry) (sym same) ∙ o.1 (subst (λ n. r.place < n) (sym place) low))
+          (ap (λ e. is_le (entry_order e t.entry)) (sym same) ∙ o.0, λ low. ap (λ e. entry_order e t.entry) (sym same) ∙ o.1 (subst (λ n. r.place < n) (sym place) low))
     ]
 
 -- a kept entry is not greater than that of the first rank that passes, and less where it is later
-beaten : (entries : List IndexEntry) (ranks : List Ranking) (rust : Option Numbers) (test : Parts → Bool) (r : Ranking) → IsRanking entries ranks → IsFirst (passes rust test) ranks r → (j : ℕ) (x : IndexEntry) → slice_get entries j ≡ Some x → is_kept rust test x ≡ true → (is_le (entry_order x r.entry) ≡ true) × (r.place < j → entry_order x r.entry ≡ Less)
-beaten entries ranks rust test r g f j x at kept =
+beaten : (entries : List IndexEntry) (ranks : List Ranking) (rust : Option Numbers) (test : Parts → Bool) (r : Ranking) → IsRanking entries ranks → IsFirst (passes rust test) ranks r → (t : Told entries r) → (j : ℕ) (x : IndexEntry) → slice_get entries j ≡ Some x → is_kept rust test x ≡ true → (is_le (entry_order x t.entry) ≡ true) × (r.place < j → entry_order x t.entry ≡ Less)
+beaten entries ranks rust test r g f t j x at kept =
     let read : IsSome (option_and_then candidate_in (slice_get entries j)) = subst (λ o. IsSome (option_and_then candidate_in o)) (sym at) (kept-read rust test (candidate_in x) kept) in
     let found = any_all (λ s. s.place == j) (Beside entries (passes rust test) r) ranks (g.each j read) (beside entries ranks (passes rust test) r g f) in
-    beaten_by entries rust test r (tells_first entries ranks (passes rust test) r g f) j x at kept found.0 (same_place found.0.place j found.1) found.2
+    beaten_by entries rust test r t j x at kept found.0 (same_place found.0.place j found.1) found.2
 
 -- the entry of the first rank that passes is the greatest that is kept, the last of equal ones
-pub greatest_first : (entries : List IndexEntry) (ranks : List Ranking) (rust : Option Numbers) (test : Parts → Bool) (r : Ranking) → IsRanking entries ranks → find (passes rust test) ranks ≡ Some r → IsGreatestKept (is_kept rust test) entry_order entries r.entry
+pub greatest_first : (entries : List IndexEntry) (ranks : List Ranking) (rust : Option Numbers) (test : Parts → Bool) (r : Ranking) → IsRanking entries ranks → find (passes rust test) ranks ≡ Some r → (t : Told entries r) × IsGreatestKept (is_kept rust test) entry_order entries t.entry
 greatest_first entries ranks rust test r g h =
     let f = first_found (passes rust test) ranks r h in
-    let t = tells_first entries ranks (passes rust test) r g f in record {
+    let t = tells_first entries ranks (passes rust test) r g f in (t, record {
       front = take r.place entries;
       rest = drop (suc r.place) entries;
-      split = parted entries r.place r.entry t.entry;
+      split = parted entries r.place t.entry t.at;
       kept = kept-passes rust test entries r t ∙ f.passed;
-      before = λ j d within kept. (beaten entries ranks rust test r g f j (get_or (take r.place entries) j d) (slice_get-take r.place entries j d within) kept).0;
-      after = λ j d within kept. (beaten entries ranks rust test r g f (suc r.place + j) (get_or (drop (suc r.place) entries) j d) (slice_get-drop (suc r.place) entries j (suc r.place + j) d within refl) kept).1 (omega arith);
-    }
+      before = λ j d within kept. (beaten entries ranks rust test r g f t j (get_or (take r.place entries) j d) (slice_get-take r.place entries j d within) kept).0;
+      after = λ j d within kept. (beaten entries ranks rust test r g f t (suc r.place + j) (get_or (drop (suc r.place) entries) j d) (slice_get-drop (suc r.place) entries j (suc r.place + j) d within refl) kept).1 (omega arith);
+    })
 
 none_kept : (entries : List IndexEntry) (ranks : List Ranking) (rust : Option Numbers) (test : Parts → Bool) → IsRanking entries ranks → All (λ s. passes rust test s ≡ false) ranks → (j : ℕ) (x : IndexEntry) → slice_get entries j ≡ Some x → is_kept rust test x ≡ true → ⊥
 none_kept entries ranks rust test g fails j x at kept =
     let read : IsSome (option_and_then candidate_in (slice_get entries j)) = subst (λ o. IsSome (option_and_then candidate_in o)) (sym at) (kept-read rust test (candidate_in x) kept) in
-    let found = any_all (λ s. s.place == j) (λ s. Tells entries s × (passes rust test s ≡ false)) ranks (g.each j read) (λ k d within. (g.tells k d within, fails k d within)) in
+    let found = any_all (λ s. s.place == j) (λ s. Told entries s × (passes rust test s ≡ false)) ranks (g.each j read) (λ k d within. (told entries (get_or ranks k d) (g.tells k d within), fails k d within)) in
     let s = found.0 in
     let place : s.place ≡ j = same_place s.place j found.1 in
-    let both : Some s.entry ≡ Some x = sym found.2.0.entry ∙ ap (slice_get entries) place ∙ at in
-    let same : s.entry ≡ x = cc both in
+    let both : Some found.2.0.entry ≡ Some x = sym found.2.0.at ∙ ap (slice_get entries) place ∙ at in
+    let same : found.2.0.entry ≡ x = cc both in
     let passed : passes rust test s ≡ true = sym (kept-passes rust test entries s found.2.0) ∙ ap (is_kept rust test) same ∙ kept in
     cc (passed, found.2.1)
 
@@ -230,9 +252,9 @@ none_first entries ranks rust test g h j d within = elim (cases_Bool (is_kept ru
 pub first_version : (entries : List IndexEntry) (ranks : List Ranking) (rust : Option Numbers) (test : Parts → Bool) (r : Ranking) → IsRanking entries ranks
     → find (passes rust test) ranks ≡ Some r → IsGreatest test full_order (admissible_in rust entries) (Some r.version)
 first_version entries ranks rust test r g h =
-    let t = tells_first entries ranks (passes rust test) r g (first_found (passes rust test) ranks r h) in
-    let v = greatest-versions rust test entries r.entry (greatest_first entries ranks rust test r g h) in
-    let both : Some v.0 ≡ Some r.version = sym (admissible-version rust r.entry v.0 v.1) ∙ tells-version entries r t in
+    let first = greatest_first entries ranks rust test r g h in
+    let v = greatest-versions rust test entries first.0.entry first.1 in
+    let both : Some v.0 ≡ Some r.version = sym (admissible-version rust first.0.entry v.0 v.1) ∙ tells-version entries r first.0 in
     let same : v.0 ≡ r.version = cc both in
     subst (λ w. IsGreatest test full_order (admissible_in rust entries) (Some w)) same v.2
 

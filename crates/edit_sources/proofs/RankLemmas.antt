@@ -43,7 +43,7 @@ at_front (x ∷ pre) e rest = at_front pre e rest
 
 tells_one : (entries : List IndexEntry) (n : ℕ) (e : IndexEntry) → slice_get entries n ≡ Some e → (o : Option (Parts × Option Numbers)) → candidate_in e ≡ o → All (Tells entries) (option_to_list (option_map (ranking n e) o))
 tells_one entries n e at None read = All-nil (Tells entries)
-tells_one entries n e at (Some c) read = All-cons (Tells entries) (ranking n e c) [] (record { entry = at; read = read }) (All-nil (Tells entries))
+tells_one entries n e at (Some c) read = All-cons (Tells entries) (ranking n e c) [] (record { named = ap (λ o. option_map (λ e. e.name) o) at; read = ap (λ o. option_and_then candidate_in o) at ∙ read }) (All-nil (Tells entries))
 
 -- each rank tells of its entry
 pub tells_from : (pre rest : List IndexEntry) → All (Tells (pre ++ rest)) (ranks_from (length pre) rest)

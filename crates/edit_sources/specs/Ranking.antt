@@ -1,5 +1,5 @@
 -- The entries of an answer ranked by their versions, the greatest first (own).
-use Rattle.std.specs.Prelude.{◌≡◌, ℕ, ◌+◌, ◌==◌, ◌&&◌, List, [], ◌∷◌, ◌++◌, map, Option, Some, Bool, true, not, IsSome, option_map, option_and_then, option_to_list, slice_get, All}
+use Rattle.std.specs.Prelude.{◌≡◌, ℕ, ◌+◌, ◌==◌, ◌&&◌, List, [], ◌∷◌, ◌++◌, map, Option, Some, Bool, true, not, IsSome, option_map, option_and_then, option_to_list, slice_get, string_bytes, All}
 use Rattle.std.specs.List.{AllPairs, list_any}
 use Rattle.std.specs.Ordering.{nat_cmp, ordering_then}
 use Rattle.std.specs.declared.cmp.Ordering.{Ordering}
@@ -7,16 +7,16 @@ use Rattle.std.specs.declared.cmp.Ordering.TheVariants.{Less}
 use Rattle.semver.specs.Identifiers.{parts_of}
 use Rattle.semver.specs.Parse.{Parts}
 use Rattle.edit_record.specs.Admissible.{candidate_in, is_too_new}
-use Rattle.edit_record.specs.IndexEntry.{IndexEntry, entry_of}
+use Rattle.edit_record.specs.IndexEntry.{IndexEntry}
 use Rattle.edit_version.specs.RustVersions.{Numbers, numbers_of}
 use Rattle.edit_version.specs.VersionOrder.{full_order}
 use Rattle.edit_sources.specs.declared.ranking.Rank.{Rank}
 use Rattle.edit_sources.specs.declared.ranking.Ranked.{Ranked}
 
--- an entry of an answer: its place there, what it says, and the versions that were read of it (own)
+-- an entry of an answer: its place there, its name, and the versions that were read of it (own)
 pub record Ranking : Type 0 where
   pub place : ℕ
-  pub entry : IndexEntry
+  pub name : List ℕ
   pub version : Parts
   pub rust_version : Option Numbers
 
@@ -24,7 +24,7 @@ pub record Ranking : Type 0 where
 abbrev pub rank_of : Rank → Ranking
 rank_of r = record {
   place = r.place.0;
-  entry = entry_of r.told;
+  name = string_bytes r.name;
   version = parts_of r.version.0;
   rust_version = option_map numbers_of r.rust_version;
 }
@@ -37,10 +37,10 @@ ranks_of ranked = map rank_of ranked.ranks.items
 abbrev pub rank_order : Ranking → Ranking → Ordering
 rank_order a b = ordering_then (full_order b.version a.version) (nat_cmp b.place a.place)
 
--- a rank that tells what stands at its place, and what is read of it (own)
+-- a rank that tells the name of the entry at its place, and what is read of it (own)
 pub record Tells (entries : List IndexEntry) (r : Ranking) : Type 0 where
-  pub entry : slice_get entries r.place ≡ Some r.entry
-  pub read : candidate_in r.entry ≡ Some (r.version, r.rust_version)
+  pub named : option_map (λ e. e.name) (slice_get entries r.place) ≡ Some r.name
+  pub read : option_and_then candidate_in (slice_get entries r.place) ≡ Some (r.version, r.rust_version)
 
 -- each entry that is readable and not yanked has a rank (own)
 abbrev pub HasEach : List IndexEntry → List Ranking → Type 0
@@ -67,7 +67,7 @@ passes rust test r = not (is_too_new r.rust_version rust) && test r.version
 
 -- an entry at a place, with what is read of it (own)
 abbrev pub ranking : ℕ → IndexEntry → Parts × Option Numbers → Ranking
-ranking place entry read = record { place = place; entry = entry; version = read.0; rust_version = read.1 }
+ranking place entry read = record { place = place; name = entry.name; version = read.0; rust_version = read.1 }
 
 -- the rank of an entry, if it is readable and not yanked (own)
 abbrev pub rank_at : ℕ → IndexEntry → List Ranking

@@ -32,7 +32,7 @@ pub(crate) fn copied(alloc: Global, entries: &[IndexVersion]) -> CargoResult<Vec
     ensures ok { IfOk result (λ v. map entry_of v.items ≡ map entry_of entries.now) }
     ensures refused { IfErr result IsMemory }
 {
-    let mut all = Vec::new(alloc);
+    let mut all = Vec::with_capacity(alloc, entries.len())?;
     for entry in entries {
         all.push(entry.try_clone(alloc)?)?;
     }

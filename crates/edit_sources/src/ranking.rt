@@ -1,7 +1,7 @@
 //! The entries of an answer, ranked once.
 ghost use Rattle.std.specs.Prelude.{◌≡◌, ◌++◌, ℕ, List, IfOk, IfErr, IsTrue, OnOk, map, option_copied, option_map, slice_get};
 ghost use Rattle.std.specs.List.{find};
-ghost use Rattle.semver.specs.Identifiers.{parts_of};
+ghost use Rattle.semver.specs.Identifiers.{parts_of, parts_text};
 ghost use Rattle.semver.specs.Parse.{Parts};
 ghost use Rattle.edit_base.specs.Errors.{IsMemory};
 ghost use Rattle.edit_record.specs.Admissible.{admissible_in, entry_order, is_kept};
@@ -10,6 +10,7 @@ ghost use Rattle.edit_record.specs.Candidates.{numbers_in, parts_in, wants};
 ghost use Rattle.edit_record.specs.Finding.{IsFound, IsFoundAtLeast};
 ghost use Rattle.edit_version.specs.Greatest.{IsGreatest, IsGreatestKept};
 ghost use Rattle.edit_record.specs.IndexEntry.{IndexEntry, entry_of};
+ghost use Rattle.edit_record.specs.Records.{IsRegistryDependency};
 ghost use Rattle.edit_version.specs.Selection.{is_admitted, is_allowed};
 ghost use Rattle.edit_version.specs.Laws.{holds_dash};
 ghost use Rattle.edit_version.specs.Requirement.{comparators_of};
@@ -37,7 +38,7 @@ pub struct Rank {
     #[derive_where(skip(EqHashOrd))]
     rust_version: Option<RustVersion>,
     #[derive_where(skip(EqHashOrd))]
-    told: IndexVersion,
+    name: String,
 }
 
 /// Adds the rank of an entry that is readable and not yanked.
@@ -54,12 +55,11 @@ fn push_rank(
     let Some(candidate) = read_candidate(alloc, told)? else {
         return Ok(());
     };
-    let told = told.try_clone(alloc)?;
     ranks.push(Rank {
         version: Reverse(candidate.version),
         place: Reverse(place),
         rust_version: candidate.rust_version,
-        told,
+        name: told.name.clone()?,
     })?;
     Ok(())
 }
@@ -69,11 +69,27 @@ fn read_ranks(alloc: Global, entries: &[IndexVersion]) -> CargoResult<Vec<Rank>>
     ensures ok { IfOk result (λ v. map rank_of v.items ≡ ranks_from 0 (map entry_of entries.now)) }
     ensures refused { IfErr result IsMemory }
 {
-    let mut ranks = Vec::new(alloc);
+    let mut ranks = Vec::with_capacity(alloc, entries.len())?;
     for (place, told) in entries.iter().enumerate() {
         push_rank(alloc, &mut ranks, place, told)?;
     }
     Ok(ranks)
+}
+
+/// The dependency on the entry of a rank. The version's text is written anew, as it was read.
+fn dependency_of(alloc: Global, rank: &Rank) -> CargoResult<Dependency>
+    ensures ok { IfOk result
+        (IsRegistryDependency (rank_of rank.now).name (parts_text (rank_of rank.now).version)) }
+    ensures refused { IfErr result IsMemory }
+{
+    let version = &rank.version.0;
+    let told = IndexVersion {
+        name: rank.name.clone()?,
+        version: format!(in alloc; "{version}")?,
+        yanked: false,
+        rust_version: None,
+    };
+    dependency_on(alloc, &told)
 }
 
 /// The first rank that is for a Rust version and whose version is wanted.
@@ -189,7 +205,7 @@ impl Ranked {
         ensures refused { IfErr result IsMemory }
     {
         match first_wanted(&self.ranks, allow_prerelease, req, rust_version) {
-            Some(rank) => Ok(Some(dependency_on(alloc, &rank.told)?)),
+            Some(rank) => Ok(Some(dependency_of(alloc, rank)?)),
             None => Ok(None),
         }
     }

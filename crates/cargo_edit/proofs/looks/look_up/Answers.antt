@@ -19,15 +19,17 @@ entries-init g c = (
       (g.I.Index.view (index_of c.args.index.now)).faults (kept_by c.args.index.now),
 )
 
-pub entries-preserved-then-has_name : goal.entries-preserved-then-has_name
-entries-preserved-then-has_name g c =
-    let more = names-more name_of c.args.entries.now c.entries.entry-index c.entry-item.result c.entries-test.true c.entry-item.is in
+pub entries-preserved-then-had : goal.entries-preserved-then-had
+entries-preserved-then-had g c =
+    let front = map name_of (take c.entries.entry-index c.args.entries.now) in
+    let more = names-more name_of c.args.entries.now c.entries.entry-index c.entry-item.result c.entries-test.true c.entry-item.is
+    ∙ ap (λ (n : List ℕ). front ++ n ∷ []) (sym c.as_str-name.ensures.value) in
     let step = so-far-again (serialize c.args.registry.now) (g.I.Index.view (index_of c.args.index.now)).gives
     (kept_by c.args.index.now) (kept_by c.entries.index) (map name_of (take c.entries.entry-index c.args.entries.now)) c.entries.looks.items
-    (contains_text c.entries.looked) (name_of c.entry-item.result) c.entries.invariant.0
-    (ap (contains_text c.entries.looked) (sym c.as_str-name.ensures.value) ∙ sym c.has_name.ensures ∙ c.if-has_name.true) in (
+    (contains_text c.entries.looked) (contains_text c.add_name.new.names) c.as_str-name.result.now c.entries.invariant.0
+    (sym c.in_ok-had.ensures.had ∙ c.if-had.true) c.in_ok-had.ensures.ok in (
       subst (λ (ns : List (List ℕ)). IsSoFar (serialize c.args.registry.now) (g.I.Index.view (index_of c.args.index.now)).gives
-          (kept_by c.args.index.now) (kept_by c.entries.index) ns c.entries.looks.items (contains_text c.entries.looked)) (sym more) step,
+          (kept_by c.args.index.now) (kept_by c.entries.index) ns c.entries.looks.items (contains_text c.add_name.new.names)) (sym more) step,
       c.entries.invariant.1,
     )
 
@@ -39,7 +41,7 @@ entries-preserved g c =
     let step = so-far-more (serialize c.args.registry.now) (g.I.Index.view (index_of c.args.index.now)).gives (g.I.Index.view (index_of c.entries.index)).gives
     (kept_by c.args.index.now) (kept_by c.entries.index) (kept_by c.one_look.new.index) front
     c.entries.looks.items c.in_ok-look.look (contains_text c.entries.looked) (contains_text c.add_name.new.names) c.as_str-name.result.now
-    c.entries.invariant.0 (sym c.has_name.ensures ∙ c.if-has_name.false) c.entries.invariant.1.same c.in_ok-look.ensures.look c.in_ok-add_name.ensures.ok in
+    c.entries.invariant.0 (sym c.in_ok-had.ensures.had ∙ c.if-had.false) c.entries.invariant.1.same c.in_ok-look.ensures.look c.in_ok-had.ensures.ok in
     let longer = subst (λ (ls : List Look). IsSoFar (serialize c.args.registry.now) (g.I.Index.view (index_of c.args.index.now)).gives
     (kept_by c.args.index.now) (kept_by c.one_look.new.index) (front ++ c.as_str-name.result.now ∷ []) ls
     (contains_text c.add_name.new.names)) (sym c.in_ok-push.ensures.items) step in (
@@ -63,15 +65,6 @@ returns-in_err-look-clause-left g c =
     (at-among name_of c.args.entries.now c.entries.entry-index c.entry-item.result c.as_str-name.result.now (serialize c.args.registry.now)
     c.entries-test.true c.entry-item.is c.as_str-name.ensures.value) c.entries.invariant.1 c.in_err-look.ensures.left
 
-pub returns-in_err-add_name-clause-left : goal.returns-in_err-add_name-clause-left
-returns-in_err-add_name-clause-left g c =
-    leaves-more (IsAmong (serialize c.args.registry.now) (map name_of c.args.entries.now)) (IsAt (serialize c.args.registry.now) c.as_str-name.result.now)
-    (g.I.Index.view (index_of c.args.index.now)).gives (g.I.Index.view (index_of c.entries.index)).gives (g.I.Index.view (index_of c.one_look.new.index)).gives
-    (g.I.Index.view (index_of c.args.index.now)).faults (g.I.Index.view (index_of c.entries.index)).faults (g.I.Index.view (index_of c.one_look.new.index)).faults
-    (kept_by c.args.index.now) (kept_by c.entries.index) (kept_by c.one_look.new.index)
-    (at-among name_of c.args.entries.now c.entries.entry-index c.entry-item.result c.as_str-name.result.now (serialize c.args.registry.now)
-    c.entries-test.true c.entry-item.is c.as_str-name.ensures.value) c.entries.invariant.1 c.in_ok-look.ensures.left
-
 pub returns-in_err-push-clause-left : goal.returns-in_err-push-clause-left
 returns-in_err-push-clause-left g c =
     leaves-more (IsAmong (serialize c.args.registry.now) (map name_of c.args.entries.now)) (IsAt (serialize c.args.registry.now) c.as_str-name.result.now)
@@ -87,10 +80,10 @@ returns-in_err-look-clause-refused g c =
     let rest = map name_of (drop (suc c.entries.entry-index) c.args.entries.now) in
     let split = names-split name_of c.args.entries.now c.entries.entry-index c.entry-item.result c.entries-test.true c.entry-item.is
     ∙ ap (λ (n : List ℕ). front ++ n ∷ rest) (sym c.as_str-name.ensures.value) in
-    refusal-has c.from_residual.result c.in_err-look.field-0.0 _ c.from_residual.ensures.1
+    refusal-has c.from_residual-in_err-look.result c.in_err-look.field-0.0 _ c.from_residual-in_err-look.ensures.1
     (failed-or c.args.registry.now (g.I.Index.view (index_of c.args.index.now)).gives (g.I.Index.view (index_of c.entries.index)).gives
     (kept_by c.args.index.now) (kept_by c.entries.index) (kept_by c.one_look.new.index) (map name_of c.args.entries.now) front
     c.entries.looks.items (contains_text c.entries.looked) c.as_str-name.result.now rest
     (g.I.Index.view (index_of c.args.index.now)).faults (g.I.Index.view (index_of c.entries.index)).faults (g.I.Index.view (index_of c.one_look.new.index)).faults
-    c.in_err-look.field-0.0 split c.entries.invariant.0 (sym c.has_name.ensures ∙ c.if-has_name.false) c.entries.invariant.1.same
+    c.in_err-look.field-0.0 split c.entries.invariant.0 (sym c.in_ok-had.ensures.had ∙ c.if-had.false) c.entries.invariant.1.same
     c.entries.invariant.1.later c.in_err-look.ensures.left.adds.stays c.in_err-look.ensures.refused)
