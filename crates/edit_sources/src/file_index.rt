@@ -41,7 +41,11 @@ fn grouped(
 {
     let mut groups: BTreeMap<String, Vec<IndexVersion>> = BTreeMap::new(alloc);
     for entry in entries {
-        groups.entry(entry.name.clone()?)?.or_default().push(entry)?;
+        let group = groups.entry(entry.name.clone()?)?.or_default();
+        if group.is_empty() {
+            group.reserve_exact(1)?;
+        }
+        group.push(entry)?;
     }
     Ok(groups)
 }
