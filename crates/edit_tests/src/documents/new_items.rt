@@ -1,12 +1,12 @@
-//! Rows of values that are set and of new entries: what the text is afterwards, what is written where, and the text
-//! before; a row ends at `~`.
+//! Rows of values that are set and of new entries: what the text is afterwards, what is written where, and the
+//! text before; a row ends at `~`.
 use super::shown::place_of;
 use crate::rows::{TILDES, rows_hold};
 use edit_document::{CargoResult, Document, NewItem, NewValue, Step};
 use std::alloc::{AllocError, Global};
 use std::test::Fail;
 
-/// A member of an inline table, an array over several lines, a boolean, an element, and texts that a literal escapes.
+/// A member of an inline table, an array over several lines, a boolean, an element, and texts with quotes.
 const SET: &str = "\
 serde = { version = \"1\", features = [\"a\", \"b\"] }|list serde/features a,b|serde = { version = \"1\", features = [\"a\"] }~\
 [features]\nx = [\"other\"]\n|list features/x other|[features]\nx = [ # all\n 'dep', # one\n { y = 1 },\n]\n~\
