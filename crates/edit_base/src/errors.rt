@@ -30,7 +30,8 @@ impl fmt::Display for DeviceCall {
     }
 }
 
-/// Why a call is refused. Each refusal has a number, which `number` gives, and a text, which `Display` prints.
+/// Why a call is refused. Each refusal has a number, which `number` gives, and a text, which `Display`
+/// prints.
 #[derive(Debug, Drop, Error)]
 pub enum Error {
     #[error("Unable to parse Cargo.toml")]

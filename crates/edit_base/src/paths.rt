@@ -69,7 +69,8 @@ fn absolute_text(alloc: Global, names: &[&str]) -> Result<String, AllocError>
     Ok(text)
 }
 
-/// An absolute path without empty parts and the parts `.` and `..`: each `..` drops the part before it, and none at the root.
+/// An absolute path without empty parts and the parts `.` and `..`: each `..` drops the part before it, and
+/// none at the root.
 pub fn normal(alloc: Global, path: &str) -> CargoResult<String>
     ensures text { IfOk result (λ s. IsNormalOf path.now (string_bytes s)) }
     ensures refused { IfErr result IsMemory }
@@ -79,7 +80,8 @@ pub fn normal(alloc: Global, path: &str) -> CargoResult<String>
     Ok(absolute_text(alloc, &names)?)
 }
 
-/// The folder that a path lies in: the text before the last slash, and `/` where that is empty or no slash is there.
+/// The folder that a path lies in: the text before the last slash, and `/` where that is empty or no slash is
+/// there.
 pub fn folder(path: &str) -> &str
     ensures { IsFolderOf path.now result.now }
 {

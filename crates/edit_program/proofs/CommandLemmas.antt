@@ -26,22 +26,29 @@ unfolding edit_app
 free = refl
 
 -- words that are matched are taken
-pub taken_by : (app : App) (words : List Text) → app ≡ edit_app → (is_simple_and_free app ≡ true → fault_of app words ≡ []) → fault_of edit_app words ≡ []
-taken_by app words is taken = ap (λ (a : App). fault_of a words) (sym is) ∙ taken (ap is_simple_and_free is ∙ free)
+pub taken_by : (app : App) (words : List Text) → app ≡ edit_app
+    → (is_simple_and_free app ≡ true → fault_of app words ≡ []) → fault_of edit_app words ≡ []
+taken_by app words is taken = ap (λ (a : App). fault_of a words) (sym is)
+    ∙ taken (ap is_simple_and_free is ∙ free)
 
-or_other : (o : Option (Bor (List ℕ))) (d : Bor (List ℕ)) → (unwrap_or o d).now ≡ unwrap_or (option_map (λ (s : Bor (List ℕ)). s.now) o) d.now
+or_other : (o : Option (Bor (List ℕ))) (d : Bor (List ℕ))
+    → (unwrap_or o d).now ≡ unwrap_or (option_map (λ (s : Bor (List ℕ)). s.now) o) d.now
 or_other None d = refl
 or_other (Some s) d = refl
 
 -- the text of an option, by the rows of the matches
-pub value_is : (m : ArgMatches) (id other : Text) (o : Option (Bor (List ℕ))) (r d : Bor (List ℕ)) → option_map (λ (s : Bor (List ℕ)). s.now) o ≡ first_value (found_of m) id → r ≡ unwrap_or o d → d.now ≡ other
+pub value_is : (m : ArgMatches) (id other : Text) (o : Option (Bor (List ℕ))) (r d : Bor (List ℕ))
+    → option_map (λ (s : Bor (List ℕ)). s.now) o ≡ first_value (found_of m) id → r ≡ unwrap_or o d
+    → d.now ≡ other
     → r.now ≡ value_of id other (rows_of (found_of m))
 value_is m id other o r d found is same =
-    ap (λ (x : Bor (List ℕ)). x.now) is ∙ or_other o d ∙ ap (unwrap_or (option_map (λ (s : Bor (List ℕ)). s.now) o)) same
+    ap (λ (x : Bor (List ℕ)). x.now) is ∙ or_other o d
+    ∙ ap (unwrap_or (option_map (λ (s : Bor (List ℕ)). s.now) o)) same
     ∙ ap (λ x. unwrap_or x other) (found ∙ first_value-rows (found_of m) id)
 
 -- what the words ask for
-pub asks_for : (app : App) (words : List Text) (m sub : ArgMatches) (manifest index : Text) → app ≡ edit_app → HasMatchesOf app words m
+pub asks_for : (app : App) (words : List Text) (m sub : ArgMatches) (manifest index : Text) → app ≡ edit_app
+    → HasMatchesOf app words m
     → (is_simple_and_free app ≡ true → fault_of app words ≡ [])
     → Some (rows_of (found_of sub)) ≡ option_map (λ (p : Text × List Row). p.1) (subcommand_rows_of m)
     → manifest ≡ value_of (codes "manifest-path") (codes "Cargo.toml") (rows_of (found_of sub))
@@ -59,18 +66,22 @@ asks_for app words m sub manifest index is matches taken rows manifest_is index_
 }
 
 -- words that are refused, and not for want of memory, are not taken
-pub not_taken : (app : App) (words : List Text) (e : Error) → app ≡ edit_app → (takes app words ≡ true → kind_of e ≡ OutOfMemory)
+pub not_taken : (app : App) (words : List Text) (e : Error) → app ≡ edit_app
+    → (takes app words ≡ true → kind_of e ≡ OutOfMemory)
     → (kind_of e ≡ OutOfMemory → ⊥) → AreNotTaken words
 not_taken app words e is passes other taken = other (passes (ap (λ (a : App). takes a words) is ∙ taken))
 
 -- and the kind of the refusal is one that they may have
-among : (kinds : Kinds) (e : Error) → HasKind kinds e → (kind_of e ≡ OutOfMemory → ⊥) → IsAmong (kind_of e) kinds
+among : (kinds : Kinds) (e : Error) → HasKind kinds e → (kind_of e ≡ OutOfMemory → ⊥)
+    → IsAmong (kind_of e) kinds
 among kinds e (inl memory) other = absurd (other memory)
 among kinds e (inr kind) other = kind
 
 -- so the command line answers them, by the status of that kind
-pub answered : (app : App) (words : List Text) (e : Error) (status : ℕ) → app ≡ edit_app → (takes app words ≡ true → kind_of e ≡ OutOfMemory)
-    → (is_simple_and_free app ≡ true → HasKind (fault_of app words) e) → (kind_of e ≡ OutOfMemory → ⊥) → status ≡ status_of (kind_of e)
+pub answered : (app : App) (words : List Text) (e : Error) (status : ℕ) → app ≡ edit_app
+    → (takes app words ≡ true → kind_of e ≡ OutOfMemory)
+    → (is_simple_and_free app ≡ true → HasKind (fault_of app words) e) → (kind_of e ≡ OutOfMemory → ⊥)
+    → status ≡ status_of (kind_of e)
     → IsAnswered words status
 answered app words e status is passes kinds other same = record {
   not_taken = not_taken app words e is passes other;
@@ -81,42 +92,58 @@ answered app words e status is passes kinds other same = record {
 }
 
 -- what was printed in place of matches answers the words
-shown_is : (app : App) (words : List Text) (e : Error) (r : Result ℕ Refusal) → app ≡ edit_app → (takes app words ≡ true → kind_of e ≡ OutOfMemory)
-    → (is_simple_and_free app ≡ true → HasKind (fault_of app words) e) → (kind_of e ≡ OutOfMemory → IsErrAnd r (λ x. IsMemory x.error))
+shown_is : (app : App) (words : List Text) (e : Error) (r : Result ℕ Refusal) → app ≡ edit_app
+    → (takes app words ≡ true → kind_of e ≡ OutOfMemory)
+    → (is_simple_and_free app ≡ true → HasKind (fault_of app words) e)
+    → (kind_of e ≡ OutOfMemory → IsErrAnd r (λ x. IsMemory x.error))
     → IfOk r (λ s. s ≡ status_of (kind_of e)) → IfOk r (IsAnswered words)
-shown_is app words e (Ok s) is passes kinds memory same = answered app words e s is passes kinds (λ no_memory. memory no_memory) same
+shown_is app words e (Ok s) is passes kinds memory same =
+    answered app words e s is passes kinds (λ no_memory. memory no_memory) same
 shown_is app words e (Err x) is passes kinds memory same = tt
 
-fault_by : (words : List Text) (s : ℕ) → IsAnswered words s → (s ≡ 0) ⊎ (s ≡ 2) → s ≢ 0 → (s ≡ 2) × AreAtFault words
+fault_by : (words : List Text) (s : ℕ) → IsAnswered words s → (s ≡ 0) ⊎ (s ≡ 2) → s ≢ 0 → (s ≡ 2)
+    × AreAtFault words
 fault_by words s by (inl zero) not_zero = absurd (not_zero zero)
 fault_by words s by (inr two) not_zero = (two, inl (subst (λ n. IsAnswered words n) two by))
 
-fault_in : (words : List Text) (r : Result ℕ Refusal) → IfOk r (IsAnswered words) → IfOk r (λ s. (s ≡ 0) ⊎ (s ≡ 2))
+fault_in : (words : List Text) (r : Result ℕ Refusal) → IfOk r (IsAnswered words)
+    → IfOk r (λ s. (s ≡ 0) ⊎ (s ≡ 2))
     → IfOk r (λ s. s ≢ 0 → (s ≡ 2) × AreAtFault words)
 fault_in words (Ok s) by small = fault_by words s by small
 fault_in words (Err x) by small = tt
 
 -- a status that is not 0 is that of a fault
-pub shown_fault : (app : App) (words : List Text) (e : Error) (r : Result ℕ Refusal) → app ≡ edit_app → (takes app words ≡ true → kind_of e ≡ OutOfMemory)
-    → (is_simple_and_free app ≡ true → HasKind (fault_of app words) e) → (kind_of e ≡ OutOfMemory → IsErrAnd r (λ x. IsMemory x.error))
-    → IfOk r (λ s. s ≡ status_of (kind_of e)) → IfOk r (λ s. (s ≡ 0) ⊎ (s ≡ 2)) → IfOk r (λ s. s ≢ 0 → (s ≡ 2) × AreAtFault words)
-shown_fault app words e r is passes kinds memory same small = fault_in words r (shown_is app words e r is passes kinds memory same) small
+pub shown_fault : (app : App) (words : List Text) (e : Error) (r : Result ℕ Refusal) → app ≡ edit_app
+    → (takes app words ≡ true → kind_of e ≡ OutOfMemory)
+    → (is_simple_and_free app ≡ true → HasKind (fault_of app words) e)
+    → (kind_of e ≡ OutOfMemory → IsErrAnd r (λ x. IsMemory x.error))
+    → IfOk r (λ s. s ≡ status_of (kind_of e)) → IfOk r (λ s. (s ≡ 0) ⊎ (s ≡ 2))
+    → IfOk r (λ s. s ≢ 0 → (s ≡ 2) × AreAtFault words)
+shown_fault app words e r is passes kinds memory same small =
+    fault_in words r (shown_is app words e r is passes kinds memory same) small
 
-done_in : (words : List Text) (r : Result ℕ Refusal) (Q : Type 0) (current : List ℕ) (files : Files) → IfOk r (IsAnswered words)
+done_in : (words : List Text) (r : Result ℕ Refusal) (Q : Type 0) (current : List ℕ) (files : Files)
+    → IfOk r (IsAnswered words)
     → IfOk r (λ s. s ≡ 0 → Q → IsDone words current files files)
-done_in words (Ok s) Q current files by = λ zero q. inl (subst (λ n. IsAnswered words n) zero by, λ path. refl)
+done_in words (Ok s) Q current files by =
+    λ zero q. inl (subst (λ n. IsAnswered words n) zero by, λ path. refl)
 done_in words (Err x) Q current files by = tt
 
 -- and 0 says that help or the version was shown
-pub shown_done : (app : App) (words : List Text) (e : Error) (r : Result ℕ Refusal) (Q : Type 0) (current : List ℕ) (files : Files) → app ≡ edit_app
-    → (takes app words ≡ true → kind_of e ≡ OutOfMemory) → (is_simple_and_free app ≡ true → HasKind (fault_of app words) e)
+pub shown_done : (app : App) (words : List Text) (e : Error) (r : Result ℕ Refusal) (Q : Type 0)
+    (current : List ℕ) (files : Files) → app ≡ edit_app
+    → (takes app words ≡ true → kind_of e ≡ OutOfMemory)
+    → (is_simple_and_free app ≡ true → HasKind (fault_of app words) e)
     → (kind_of e ≡ OutOfMemory → IsErrAnd r (λ x. IsMemory x.error)) → IfOk r (λ s. s ≡ status_of (kind_of e))
     → IfOk r (λ s. s ≡ 0 → Q → IsDone words current files files)
-shown_done app words e r Q current files is passes kinds memory same = done_in words r Q current files (shown_is app words e r is passes kinds memory same)
+shown_done app words e r Q current files is passes kinds memory same =
+    done_in words r Q current files (shown_is app words e r is passes kinds memory same)
 
 -- what could not be printed, but for want of memory, is help or the version
-pub shown_why : (app : App) (words : List Text) (e : Error) (r : Result ℕ Refusal) (current : List ℕ) (tells : Bool) (files : Files) (before now : ℕ) → app ≡ edit_app
-    → (takes app words ≡ true → kind_of e ≡ OutOfMemory) → (is_simple_and_free app ≡ true → HasKind (fault_of app words) e)
+pub shown_why : (app : App) (words : List Text) (e : Error) (r : Result ℕ Refusal) (current : List ℕ)
+    (tells : Bool) (files : Files) (before now : ℕ) → app ≡ edit_app
+    → (takes app words ≡ true → kind_of e ≡ OutOfMemory)
+    → (is_simple_and_free app ≡ true → HasKind (fault_of app words) e)
     → IfErr r (λ x. IsMemory x.error ⊎ ((x.error ≡ Output) × (status_of (kind_of e) ≡ 0)))
     → IfErr r (λ x. IsRunCause words current tells files before now x.error)
 shown_why app words e (Ok s) current tells files before now is passes kinds why = tt
@@ -125,18 +152,22 @@ shown_why app words e (Err x) current tells files before now is passes kinds (in
     inr (inl (
       unwritten.0,
       answered app words e 0 is passes kinds
-          (λ memory. let bad : 2 ≡ 0 = subst (λ k. status_of k ≡ 0) memory unwritten.1 in absurd (omega (arith, bad)))
+          (λ memory. let bad : 2 ≡ 0 = subst (λ k. status_of k ≡ 0) memory unwritten.1 in
+          absurd (omega (arith, bad)))
           (sym unwritten.1),
     ))
 
 -- why an upgrade that the words ask for is refused is why the run is
-pub upgrade_why : (words : List Text) (current : List ℕ) (tells : Bool) (files : Files) (before now : ℕ) (e : CargoError) (manifest index : Text)
-    → AsksFor words manifest index → IsUpgradeCause tells files current manifest index before now e → IsRunCause words current tells files before now e
+pub upgrade_why : (words : List Text) (current : List ℕ) (tells : Bool) (files : Files) (before now : ℕ)
+    (e : CargoError) (manifest index : Text)
+    → AsksFor words manifest index → IsUpgradeCause tells files current manifest index before now e
+    → IsRunCause words current tells files before now e
 upgrade_why words current tells files before now e manifest index asks cause =
     inr (inr (record { manifest = manifest; index = index; asks = asks; cause = cause }))
 
 -- a write that was refused is one for what the words ask
-pub upgrade_refused : (words : List Text) (current : List ℕ) (old new : Files) (manifest index : Text) → AsksFor words manifest index
+pub upgrade_refused : (words : List Text) (current : List ℕ) (old new : Files) (manifest index : Text)
+    → AsksFor words manifest index
     → SameFiles old new ⊎ IsCutShort current manifest index old new → IsRefused words current old new
 upgrade_refused words current old new manifest index asks (inl same) = inl same
 upgrade_refused words current old new manifest index asks (inr cut) =
@@ -147,27 +178,33 @@ pub on_any : {T E : Type 0} (r : Result T E) (P : Type 0) → P → OnErr r P
 on_any (Ok x) P h = tt
 on_any (Err e) P h = h
 
-map_map : {A B C : Type 0} (f : A → B) (g : B → C) (o : Option A) → option_map g (option_map f o) ≡ option_map (λ a. g (f a)) o
+map_map : {A B C : Type 0} (f : A → B) (g : B → C) (o : Option A)
+    → option_map g (option_map f o) ≡ option_map (λ a. g (f a)) o
 map_map f g None = refl
 map_map f g (Some a) = refl
 
 -- the subcommand that the words name is the one that was met
-pub name_met : (app : App) (words : List Text) (m : ArgMatches) (shown : Option Text) → app ≡ edit_app → HasMatchesOf app words m → shown ≡ subcommand_name_of m
-    → option_map (λ (p : Text × List Row). p.0) (subcommand_of edit_app words) ≡ Some (codes "upgrade") → shown ≡ Some (codes "upgrade")
+pub name_met : (app : App) (words : List Text) (m : ArgMatches) (shown : Option Text) → app ≡ edit_app
+    → HasMatchesOf app words m → shown ≡ subcommand_name_of m
+    → option_map (λ (p : Text × List Row). p.0) (subcommand_of edit_app words) ≡ Some (codes "upgrade")
+    → shown ≡ Some (codes "upgrade")
 name_met app words m shown is matches same named =
-    let alike : option_map (λ (p : Text × List Row). p.0) (subcommand_rows_of m) ≡ subcommand_name_of m = map_map _ _ (out-ArgMatches m).subcommand in
+    let alike : option_map (λ (p : Text × List Row). p.0) (subcommand_rows_of m) ≡ subcommand_name_of m =
+    map_map _ _ (out-ArgMatches m).subcommand in
     same ∙ sym alike
     ∙ ap (option_map (λ (p : Text × List Row). p.0)) (matches (ap is_simple is ∙ simple)).1
     ∙ ap (λ (a : App). option_map (λ (p : Text × List Row). p.0) (subcommand_of a words)) is
     ∙ named
 
 -- the text of what is there
-pub the_text : {A : Type 0} (f : A → Text) (o : Option A) (x : A) (text : Text) → o ≡ Some x → option_map f o ≡ Some text → f x ≡ text
+pub the_text : {A : Type 0} (f : A → Text) (o : Option A) (x : A) (text : Text) → o ≡ Some x
+    → option_map f o ≡ Some text → f x ≡ text
 the_text {A} f o x text is h =
     let same : Some (f x) ≡ Some text = subst (λ (p : Option A). option_map f p ≡ Some text) is h in
     cc
 
-pub no_text : {A : Type 0} (f : A → Text) (o : Option A) (text : Text) → o ≡ None → option_map f o ≡ Some text → ⊥
+pub no_text : {A : Type 0} (f : A → Text) (o : Option A) (text : Text) → o ≡ None
+    → option_map f o ≡ Some text → ⊥
 no_text {A} f o text is h =
     let same : None ≡ Some text = subst (λ (p : Option A). option_map f p ≡ Some text) is h in
     cc

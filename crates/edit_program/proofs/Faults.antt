@@ -8,9 +8,11 @@ use Rattle.edit_program.specs.Located.{IsFault}
 
 raised_later : (a b c : ℕ) → a ≤ b → raised b c → raised a c
 raised_later a b c le (inl lt) = inl (omega arith)
-raised_later a b c le (inr ends) = ⊎_elim (λ same. inr (same ∙ ends.0, ends.1)) (λ lt. inl (omega arith)) (eq-or-lt_of_le le)
+raised_later a b c le (inr ends) = ⊎_elim (λ same. inr (same ∙ ends.0, ends.1)) (λ lt. inl (omega arith))
+    (eq-or-lt_of_le le)
 
 -- a fault of a call is one from an earlier count on
-pub fault_later : (call : DeviceCall) (a b c : ℕ) (e : Error) → a ≤ b → IsFault call b c e → IsFault call a c e
+pub fault_later : (call : DeviceCall) (a b c : ℕ) (e : Error) → a ≤ b → IsFault call b c e
+    → IsFault call a c e
 fault_later call a b c e le (inl memory) = inl memory
 fault_later call a b c e le (inr failed) = inr (failed.0, raised_later a b c le failed.1)

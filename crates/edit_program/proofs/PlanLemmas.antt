@@ -14,26 +14,35 @@ use Rattle.cargo_edit.specs.Causes.{HasBadEntry}
 use Rattle.cargo_edit.specs.Looks.{Kept, kept_by}
 use Rattle.edit_program.specs.Causes.{IsPlanCause}
 
-nothing_kept : (cache : IndexCache FileIndex) → ((address name : List ℕ) → kept_at cache address name ≡ None) → (address name : List ℕ) → kept_by cache address name ≡ None
+nothing_kept : (cache : IndexCache FileIndex) → ((address name : List ℕ) → kept_at cache address name ≡ None)
+    → (address name : List ℕ) → kept_by cache address name ≡ None
 nothing_kept cache empty address name = ap (option_map answer_of) (empty address name)
 
 -- an answer that was looked up is one that the index gives
-pub one_given : (cache : IndexCache FileIndex) (index : FileIndex) (address name : List ℕ) (answer : Option (List IndexEntry)) → index_of cache ≡ index → ((at of : List ℕ) → kept_at cache at of ≡ None)
+pub one_given : (cache : IndexCache FileIndex) (index : FileIndex) (address name : List ℕ)
+    (answer : Option (List IndexEntry)) → index_of cache ≡ index
+    → ((at of : List ℕ) → kept_at cache at of ≡ None)
     → (kept_by cache address name ≡ Some answer) ⊎ FileGives (index_of cache) name (Ok answer)
     → FileGives index name (Ok answer)
 one_given cache index address name answer is empty given = ⊎_elim
-    (λ kept. absurd (let none : None ≡ Some answer = sym (nothing_kept cache empty address name) ∙ kept in cc))
+    (λ kept. absurd (let none : None ≡ Some answer = sym (nothing_kept cache empty address name)
+    ∙ kept in cc))
     (λ gives. subst (λ (i : FileIndex). FileGives i name (Ok answer)) is gives)
     given
 
 -- a plan that is refused over such a cache, but for want of memory, has its cause in the index
-pub no_plan : (cache : IndexCache FileIndex) (index : FileIndex) (bytes : List ℕ) (kept : Kept) (e : Error) → index_of cache ≡ index → ((at of : List ℕ) → kept_at cache at of ≡ None)
-    → IsMemory e ⊎ HasBadEntry [] (λ address name outcome. FileGives (index_of cache) name outcome) (kept_by cache) kept 0 0 bytes e → IsMemory e ⊎ IsPlanCause bytes index e
+pub no_plan : (cache : IndexCache FileIndex) (index : FileIndex) (bytes : List ℕ) (kept : Kept) (e : Error)
+    → index_of cache ≡ index → ((at of : List ℕ) → kept_at cache at of ≡ None)
+    → IsMemory e ⊎ HasBadEntry [] (λ address name outcome. FileGives (index_of cache) name outcome)
+    (kept_by cache) kept 0 0 bytes e → IsMemory e ⊎ IsPlanCause bytes index e
 no_plan cache index bytes kept e is empty (inl memory) = inl memory
 no_plan cache index bytes kept e is empty (inr cause) =
-    let none : kept_by cache ≡ (λ address name. None) = fun_ext (λ address. fun_ext (nothing_kept cache empty address)) in
+    let none : kept_by cache ≡ (λ address name. None) =
+    fun_ext (λ address. fun_ext (nothing_kept cache empty address)) in
     inr (record {
       kept = kept;
-      cause = subst (λ (old : Kept). HasBadEntry [] (λ address name outcome. FileGives index name outcome) old kept 0 0 bytes e) none
-          (subst (λ (i : FileIndex). HasBadEntry [] (λ address name outcome. FileGives i name outcome) (kept_by cache) kept 0 0 bytes e) is cause);
+      cause = subst (λ (old : Kept). HasBadEntry [] (λ address name outcome. FileGives index name outcome)
+          old kept 0 0 bytes e) none
+          (subst (λ (i : FileIndex). HasBadEntry [] (λ address name outcome. FileGives i name outcome)
+          (kept_by cache) kept 0 0 bytes e) is cause);
     })

@@ -78,7 +78,8 @@ pub record IsPlanned (path bytes : List ℕ) (rust : Option Numbers) (index : Fi
   pub options : Options
   pub default : IsDefault options
   pub looks : List Look
-  pub complete : (address name : List ℕ) → IsNeededBy [] bytes address name → IsSome (look_at looks address name)
+  pub complete : (address name : List ℕ) → IsNeededBy [] bytes address name
+      → IsSome (look_at looks address name)
   pub given : All (λ look. FileGives index (string_bytes look.name) (Ok (answer_of look.answer))) looks
   pub rows : List Line
   pub decided : HasRows (alone options rust looks) bytes rows

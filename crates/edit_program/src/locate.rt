@@ -24,7 +24,8 @@ pub(crate) fn absolute(alloc: Global, current: &str, path: &str) -> CargoResult<
 fn is_there<S: Store>(alloc: Global, files: &mut S, path: &str) -> RunResult<bool>
     ensures store { OnlyReads (S.view files.old) (S.view files.new) }
     ensures there { IfOk result (λ b. (S.view files.old).tells ≡ true
-        → MatchBool b (IsThere (S.view files.old).file_at path.now) (IsMissing (S.view files.old).file_at path.now)) }
+        → MatchBool b (IsThere (S.view files.old).file_at path.now)
+        (IsMissing (S.view files.old).file_at path.now)) }
     ensures refused { IfErr result (λ r.
         IsFault call.Kind (S.view files.old).faults (S.view files.new).faults r.error) }
 {
@@ -46,7 +47,8 @@ pub(crate) fn find<S: Store>(
     ensures store { OnlyReads (S.view files.old) (S.view files.new) }
     ensures found { IfOk result (λ p. (S.view files.old).tells ≡ true
         → IsManifestPath (S.view files.old).file_at current.now specified.now (string_bytes p)) }
-    ensures refused { IfErr result (λ r. IsFault call.Kind (S.view files.old).faults (S.view files.new).faults r.error
+    ensures refused { IfErr result (λ r.
+        IsFault call.Kind (S.view files.old).faults (S.view files.new).faults r.error
         ⊎ ((S.view files.old).tells ≡ true
         → HasNoManifest (S.view files.old).file_at current.now specified.now r.error)) }
 {
@@ -92,7 +94,8 @@ fn search<S: Store>(alloc: Global, files: &mut S, start: &str) -> RunResult<Stri
     ensures store { OnlyReads (S.view files.old) (S.view files.new) }
     ensures found { IfOk result (λ p. (S.view files.old).tells ≡ true
         → IsNearest (S.view files.old).file_at start.now (string_bytes p)) }
-    ensures refused { IfErr result (λ r. IsFault call.Kind (S.view files.old).faults (S.view files.new).faults r.error
+    ensures refused { IfErr result (λ r.
+        IsFault call.Kind (S.view files.old).faults (S.view files.new).faults r.error
         ⊎ ((S.view files.old).tells ≡ true → IsNotFound (S.view files.old).file_at start.now r.error)) }
 {
     let mut dir = start;

@@ -32,7 +32,8 @@ use Rattle.edit_version.proofs.Orders.{full_total}
 pub entry_total : IsTotalOrder entry_order
 entry_total = on_total (λ (e : IndexEntry). unwrap_or (version_in e) (0, 0, 0, [], [])) full_total
 
-weaker-passes : (test wide : Parts → Bool) → ((v : Parts) → test v ≡ true → wide v ≡ true) → (o : Option Parts)
+weaker-passes : (test wide : Parts → Bool) → ((v : Parts) → test v ≡ true → wide v ≡ true)
+    → (o : Option Parts)
     → is_some (if_passes test o) ≡ true → is_some (if_passes wide o) ≡ true
 weaker-passes test wide more None h = h
 weaker-passes test wide more (Some v) h = elim (cases_Bool (test v)) [
@@ -41,46 +42,58 @@ weaker-passes test wide more (Some v) h = elim (cases_Bool (test v)) [
 ]
 
 -- what a test keeps, a weaker test keeps
-pub kept-weaker : (rust : Option Numbers) (test wide : Parts → Bool) → ((v : Parts) → test v ≡ true → wide v ≡ true) → (e : IndexEntry)
+pub kept-weaker : (rust : Option Numbers) (test wide : Parts → Bool)
+    → ((v : Parts) → test v ≡ true → wide v ≡ true) → (e : IndexEntry)
     → is_kept rust test e ≡ true → is_kept rust wide e ≡ true
 kept-weaker rust test wide more e h = weaker-passes test wide more (admissible rust e) h
 
 -- where a requirement has a greatest entry, the latest one is there and not less
-pub found-at_least : (rust : Option Numbers) (pre : Bool) (entries : List IndexEntry) (o : Option Dependency) → IsFound rust (is_allowed pre) entries o
-    → (req : List ℕ) → (IsTrue (holds_dash req) → IsTrue pre) → (e : IndexEntry) → IsGreatestKept (is_kept rust (is_admitted req)) entry_order entries e
+pub found-at_least : (rust : Option Numbers) (pre : Bool) (entries : List IndexEntry) (o : Option Dependency)
+    → IsFound rust (is_allowed pre) entries o
+    → (req : List ℕ) → (IsTrue (holds_dash req) → IsTrue pre) → (e : IndexEntry)
+    → IsGreatestKept (is_kept rust (is_admitted req)) entry_order entries e
     → IsFoundAtLeast rust (is_allowed pre) entries e o
 found-at_least rust pre entries None h req dash e g =
     wider-found (is_kept rust (is_admitted req)) (is_kept rust (is_allowed pre)) entry_order
-    (λ x k. kept-weaker rust (is_admitted req) (is_allowed pre) (λ v a. admitted-allowed req pre v dash a) x k) entries e g h
+    (λ x k. kept-weaker rust (is_admitted req) (is_allowed pre) (λ v a. admitted-allowed req pre v dash a) x
+    k) entries e g h
 found-at_least rust pre entries (Some d) h req dash e g = (
   h.0,
   h.1,
   h.2,
   wider (is_kept rust (is_admitted req)) (is_kept rust (is_allowed pre)) entry_order entry_total
-      (λ x k. kept-weaker rust (is_admitted req) (is_allowed pre) (λ v a. admitted-allowed req pre v dash a) x k) entries e h.0 g h.1,
+      (λ x k. kept-weaker rust (is_admitted req) (is_allowed pre) (λ v a. admitted-allowed req pre v dash a)
+      x k) entries e h.0 g h.1,
 )
 
 -- ---- the versions of the entries
 
-one-more : {X Y : Type 0} (P : X → Type 0) (Q : Y → Type 0) (f : X → Option Y) → ((x : X) (y : Y) → f x ≡ Some y → P x → Q y)
-    → (x : X) (xs : List X) (o : Option Y) → f x ≡ o → P x → All Q (filter_map f xs) → All Q (filter_map f (x ∷ xs))
+one-more : {X Y : Type 0} (P : X → Type 0) (Q : Y → Type 0) (f : X → Option Y)
+    → ((x : X) (y : Y) → f x ≡ Some y → P x → Q y)
+    → (x : X) (xs : List X) (o : Option Y) → f x ≡ o → P x → All Q (filter_map f xs)
+    → All Q (filter_map f (x ∷ xs))
 one-more P Q f step x xs None e p rest = rw e rest
 one-more P Q f step x xs (Some y) e p rest = rw e (All-cons Q y (filter_map f xs) (step x y e p) rest)
 
-All-filter_map : {X Y : Type 0} (P : X → Type 0) (Q : Y → Type 0) (f : X → Option Y) → ((x : X) (y : Y) → f x ≡ Some y → P x → Q y)
+All-filter_map : {X Y : Type 0} (P : X → Type 0) (Q : Y → Type 0) (f : X → Option Y)
+    → ((x : X) (y : Y) → f x ≡ Some y → P x → Q y)
     → (xs : List X) → All P xs → All Q (filter_map f xs)
 All-filter_map P Q f step [] h = All-nil Q
 All-filter_map P Q f step (x ∷ xs) h =
     one-more P Q f step x xs (f x) refl (All-head P x xs h) (All-filter_map P Q f step xs (All-tail P x xs h))
 
 -- the version of an admissible entry is one that `semver` reads
-pub admissible-valid : (rust : Option Numbers) (e : IndexEntry) (v : Parts) → admissible rust e ≡ Some v → IsValid v
-admissible-valid rust e v h = (version_parts-sound e.version v (read-parts e.version v (admissible-version rust e v h))).1
+pub admissible-valid : (rust : Option Numbers) (e : IndexEntry) (v : Parts) → admissible rust e ≡ Some v
+    → IsValid v
+admissible-valid rust e v h = (version_parts-sound e.version v
+    (read-parts e.version v (admissible-version rust e v h))).1
 
-one-valid : (rust : Option Numbers) (e : IndexEntry) (es : List IndexEntry) (o : Option Parts) → admissible rust e ≡ o
+one-valid : (rust : Option Numbers) (e : IndexEntry) (es : List IndexEntry) (o : Option Parts)
+    → admissible rust e ≡ o
     → All IsValid (admissible_in rust es) → All IsValid (admissible_in rust (e ∷ es))
 one-valid rust e es None h rest = rw h rest
-one-valid rust e es (Some v) h rest = rw h (All-cons IsValid v (admissible_in rust es) (admissible-valid rust e v h) rest)
+one-valid rust e es (Some v) h rest =
+    rw h (All-cons IsValid v (admissible_in rust es) (admissible-valid rust e v h) rest)
 
 -- so are all that are told of
 pub all-valid : (rust : Option Numbers) (entries : List IndexEntry) → All IsValid (admissible_in rust entries)
@@ -89,20 +102,24 @@ all-valid rust (e ∷ es) = one-valid rust e es (admissible rust e) refl (all-va
 
 -- ---- the greatest entry, and the greatest version
 
-at-read : (rust : Option Numbers) (x e : IndexEntry) (u v : Parts) → admissible rust x ≡ Some u → admissible rust e ≡ Some v
+at-read : (rust : Option Numbers) (x e : IndexEntry) (u v : Parts) → admissible rust x ≡ Some u
+    → admissible rust e ≡ Some v
     → entry_order x e ≡ full_order u v
 at-read rust x e u v h g = rw (admissible-version rust x u h, admissible-version rust e v g) refl
 
-kept-true : (rust : Option Numbers) (test : Parts → Bool) (e : IndexEntry) (v : Parts) → admissible rust e ≡ Some v → test v ≡ true → is_kept rust test e ≡ true
+kept-true : (rust : Option Numbers) (test : Parts → Bool) (e : IndexEntry) (v : Parts)
+    → admissible rust e ≡ Some v → test v ≡ true → is_kept rust test e ≡ true
 kept-true rust test e v h t = rw (h, t) refl
 
-kept-false : (rust : Option Numbers) (test : Parts → Bool) (e : IndexEntry) (v : Parts) → admissible rust e ≡ Some v → is_kept rust test e ≡ false → test v ≡ false
+kept-false : (rust : Option Numbers) (test : Parts → Bool) (e : IndexEntry) (v : Parts)
+    → admissible rust e ≡ Some v → is_kept rust test e ≡ false → test v ≡ false
 kept-false rust test e v h f = elim (cases_Bool (test v)) [
   | inl holds ↦ cc (sym (kept-true rust test e v h holds) ∙ f)
   | inr fails ↦ fails
 ]
 
-kept-some : (test : Parts → Bool) (o : Option Parts) → is_some (if_passes test o) ≡ true → (v : Parts) × (o ≡ Some v) × (test v ≡ true)
+kept-some : (test : Parts → Bool) (o : Option Parts) → is_some (if_passes test o) ≡ true → (v : Parts)
+    × (o ≡ Some v) × (test v ≡ true)
 kept-some test None h = cc h
 kept-some test (Some v) h = elim (cases_Bool (test v)) [
   | inl holds ↦ (v, refl, holds)
@@ -115,19 +132,24 @@ pub kept-has : (rust : Option Numbers) (test : Parts → Bool) (e : IndexEntry) 
 kept-has rust test e h = kept-some test (admissible rust e) h
 
 -- where no entry is kept, none of the versions passes the test
-pub none-versions : (rust : Option Numbers) (test : Parts → Bool) (entries : List IndexEntry) → IsGreatest (is_kept rust test) entry_order entries None
+pub none-versions : (rust : Option Numbers) (test : Parts → Bool) (entries : List IndexEntry)
+    → IsGreatest (is_kept rust test) entry_order entries None
     → IsGreatest test full_order (admissible_in rust entries) None
 none-versions rust test entries h =
-    All-filter_map (λ e. is_kept rust test e ≡ false) (λ v. test v ≡ false) (admissible rust) (λ e v a f. kept-false rust test e v a f) entries h
+    All-filter_map (λ e. is_kept rust test e ≡ false) (λ v. test v ≡ false) (admissible rust)
+    (λ e v a f. kept-false rust test e v a f) entries h
 
 -- the version of the greatest entry is the greatest of the versions
-pub greatest-versions : (rust : Option Numbers) (test : Parts → Bool) (entries : List IndexEntry) (e : IndexEntry)
+pub greatest-versions : (rust : Option Numbers) (test : Parts → Bool) (entries : List IndexEntry)
+    (e : IndexEntry)
     → IsGreatestKept (is_kept rust test) entry_order entries e
-    → (v : Parts) × (admissible rust e ≡ Some v) × IsGreatestKept test full_order (admissible_in rust entries) v
+    → (v : Parts) × (admissible rust e ≡ Some v)
+    × IsGreatestKept test full_order (admissible_in rust entries) v
 greatest-versions rust test entries e h =
     let k = kept-has rust test e h.kept in
     let whole : admissible_in rust entries ≡ admissible_in rust h.front ++ admissible_in rust (e ∷ h.rest) =
-    ap (λ (l : List IndexEntry). admissible_in rust l) h.split ∙ filter_map-append (admissible rust) h.front (e ∷ h.rest) in
+    ap (λ (l : List IndexEntry). admissible_in rust l) h.split
+    ∙ filter_map-append (admissible rust) h.front (e ∷ h.rest) in
     let head : admissible_in rust (e ∷ h.rest) ≡ k.0 ∷ admissible_in rust h.rest = rw k.1 refl in (
       k.0,
       k.1,
@@ -136,26 +158,39 @@ greatest-versions rust test entries e h =
         rest = admissible_in rust h.rest;
         split = whole ∙ ap (λ (l : List Parts). admissible_in rust h.front ++ l) head;
         kept = k.2;
-        before = All-filter_map (λ x. is_kept rust test x ≡ true → is_le (entry_order x e) ≡ true) (λ u. test u ≡ true → is_le (full_order u k.0) ≡ true)
-            (admissible rust) (λ x u a p t. ap is_le (sym (at-read rust x e u k.0 a k.1)) ∙ p (kept-true rust test x u a t)) h.front h.before;
-        after = All-filter_map (λ x. is_kept rust test x ≡ true → entry_order x e ≡ Less) (λ u. test u ≡ true → full_order u k.0 ≡ Less)
-            (admissible rust) (λ x u a p t. sym (at-read rust x e u k.0 a k.1) ∙ p (kept-true rust test x u a t)) h.rest h.after;
+        before = All-filter_map (λ x. is_kept rust test x ≡ true → is_le (entry_order x e) ≡ true)
+            (λ u. test u ≡ true → is_le (full_order u k.0) ≡ true)
+            (admissible rust) (λ x u a p t. ap is_le (sym (at-read rust x e u k.0 a k.1))
+            ∙ p (kept-true rust test x u a t)) h.front h.before;
+        after = All-filter_map (λ x. is_kept rust test x ≡ true → entry_order x e ≡ Less) (λ u. test u ≡ true
+            → full_order u k.0 ≡ Less)
+            (admissible rust) (λ x u a p t. sym (at-read rust x e u k.0 a k.1)
+            ∙ p (kept-true rust test x u a t)) h.rest h.after;
       },
     )
 
 -- ---- what a search finds, in versions
 
 -- a found dependency has the name of an entry and the text of the greatest version, without build metadata
-pub found-version : (rust : Option Numbers) (test : Parts → Bool) (entries : List IndexEntry) (d : Dependency) → IsFound rust test entries (Some d)
-    → (v : Parts) × IsValid v × IsGreatestKept test full_order (admissible_in rust entries) v × (version_of d ≡ Some (plain_text v))
+pub found-version : (rust : Option Numbers) (test : Parts → Bool) (entries : List IndexEntry)
+    (d : Dependency) → IsFound rust test entries (Some d)
+    → (v : Parts) × IsValid v × IsGreatestKept test full_order (admissible_in rust entries) v
+    × (version_of d ≡ Some (plain_text v))
 found-version rust test entries d h =
     let g = greatest-versions rust test entries h.0 h.1 in
     let read = read-parts h.0.version g.0 (admissible-version rust h.0 g.0 g.1) in
     let text : version_of d ≡ Some (cut h.0.version) =
-    ap (λ (s : Option Source). option_and_then source_version s) h.2.1.1 ∙ ap (λ (t : List ℕ). Some t) h.2.1.2 in
-    (g.0, admissible-valid rust h.0 g.0 g.1, g.2, text ∙ ap (λ (t : List ℕ). Some t) (cut-text h.0.version g.0 read))
+    ap (λ (s : Option Source). option_and_then source_version s) h.2.1.1
+    ∙ ap (λ (t : List ℕ). Some t) h.2.1.2 in (
+      g.0,
+      admissible-valid rust h.0 g.0 g.1,
+      g.2,
+      text
+          ∙ ap (λ (t : List ℕ). Some t) (cut-text h.0.version g.0 read),
+    )
 
 -- where nothing is found, no version passes the test
-pub found-none : (rust : Option Numbers) (test : Parts → Bool) (entries : List IndexEntry) → IsFound rust test entries None
+pub found-none : (rust : Option Numbers) (test : Parts → Bool) (entries : List IndexEntry)
+    → IsFound rust test entries None
     → IsGreatest test full_order (admissible_in rust entries) None
 found-none rust test entries h = none-versions rust test entries h

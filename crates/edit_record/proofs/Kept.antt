@@ -8,7 +8,8 @@ use Rattle.edit_record.specs.Admissible.{admissible, asked_rust, candidate_in, i
 use Rattle.edit_record.specs.IndexEntry.{IndexEntry}
 use Rattle.edit_version.specs.RustVersions.{Numbers}
 
-passes-some : (test : Parts → Bool) (o : Option Parts) (v : Parts) → if_passes test o ≡ Some v → (o ≡ Some v) × (test v ≡ true)
+passes-some : (test : Parts → Bool) (o : Option Parts) (v : Parts) → if_passes test o ≡ Some v → (o ≡ Some v)
+    × (test v ≡ true)
 passes-some test None v h = cc h
 passes-some test (Some w) v h = elim (cases_Bool (test w)) [
   | inl holds ↦
@@ -18,7 +19,8 @@ passes-some test (Some w) v h = elim (cases_Bool (test w)) [
   | inr fails ↦ cc (rw fails at h)
 ]
 
-fits-some : (rust : Option Numbers) (o : Option (Parts × Option Numbers)) (v : Parts) → if_fits rust o ≡ Some v
+fits-some : (rust : Option Numbers) (o : Option (Parts × Option Numbers)) (v : Parts)
+    → if_fits rust o ≡ Some v
     → (c : Parts × Option Numbers) × (o ≡ Some c) × (c.0 ≡ v)
 fits-some rust None v h = cc h
 fits-some rust (Some c) v h = elim (cases_Bool (is_too_new c.1 rust)) [
@@ -30,7 +32,8 @@ candidate-some : (y : Bool) (r : Option Numbers) (o : Option Parts) (c : Parts �
     → (if y then None else option_map (λ v. (v, r)) o) ≡ Some c → o ≡ Some c.0
 candidate-some true r o c h = cc h
 candidate-some false r None c h = cc h
-candidate-some false r (Some v) c h = let e : (v, r) ≡ c = cc h in ap (λ (p : Parts × Option Numbers). Some p.0) e
+candidate-some false r (Some v) c h = let e : (v, r) ≡ c = cc h in
+    ap (λ (p : Parts × Option Numbers). Some p.0) e
 
 if_read-ok : (r : Result Parts Error) (v : Parts) → if_read r ≡ Some v → r ≡ Ok v
 if_read-ok (Ok w) v h = let e : w ≡ v = cc h in ap (λ (x : Parts). Ok x) e
@@ -41,16 +44,19 @@ pub read-parts : (text : List ℕ) (v : Parts) → version_read text ≡ Some v 
 read-parts text v h = if_read-ok (version_parts text) v h
 
 -- the version of an admissible entry is that of its text
-pub admissible-version : (rust : Option Numbers) (e : IndexEntry) (v : Parts) → admissible rust e ≡ Some v → version_in e ≡ Some v
+pub admissible-version : (rust : Option Numbers) (e : IndexEntry) (v : Parts) → admissible rust e ≡ Some v
+    → version_in e ≡ Some v
 admissible-version rust e v h =
     let f = fits-some rust (candidate_in e) v h in
     candidate-some e.yanked (asked_rust e) (version_in e) f.0 f.1 ∙ ap (λ (w : Parts). Some w) f.2
 
 -- a kept entry is admissible, and its version passes the test
-pub kept-admissible : (rust : Option Numbers) (test : Parts → Bool) (e : IndexEntry) (v : Parts) → kept_in rust test e ≡ Some v
+pub kept-admissible : (rust : Option Numbers) (test : Parts → Bool) (e : IndexEntry) (v : Parts)
+    → kept_in rust test e ≡ Some v
     → (admissible rust e ≡ Some v) × (test v ≡ true)
 kept-admissible rust test e v h = passes-some test (admissible rust e) v h
 
 -- and its version is that of its text
-pub kept-version : (rust : Option Numbers) (test : Parts → Bool) (e : IndexEntry) (v : Parts) → kept_in rust test e ≡ Some v → version_in e ≡ Some v
+pub kept-version : (rust : Option Numbers) (test : Parts → Bool) (e : IndexEntry) (v : Parts)
+    → kept_in rust test e ≡ Some v → version_in e ≡ Some v
 kept-version rust test e v h = admissible-version rust e v (kept-admissible rust test e v h).0

@@ -11,4 +11,9 @@ pub record IndexEntry : Type 0 where
 
 -- an entry by its texts (own)
 abbrev pub entry_of : IndexVersion → IndexEntry
-entry_of v = record { name = string_bytes v.name; version = string_bytes v.version; yanked = v.yanked; rust_version = option_map string_bytes v.rust_version }
+entry_of v = record {
+  name = string_bytes v.name;
+  version = string_bytes v.version;
+  yanked = v.yanked;
+  rust_version = option_map string_bytes v.rust_version;
+}

@@ -31,4 +31,5 @@ pub record IsBare (crate_name : List ℕ) (d : Dependency) : Type 0 where
 
 -- a dependency of this name in a registry, at this version text before its first `+` (own)
 abbrev pub IsRegistryDependency : List ℕ → List ℕ → Dependency → Type 0
-IsRegistryDependency name version d = IsBare name d × ((s : RegistrySource) × (d.source ≡ Some (Registry s)) × (string_bytes s.version ≡ cut version))
+IsRegistryDependency name version d = IsBare name d
+    × ((s : RegistrySource) × (d.source ≡ Some (Registry s)) × (string_bytes s.version ≡ cut version))

@@ -6,11 +6,13 @@ use Rattle.std.specs.List.{flat_map}
 use Rattle.edit_base.specs.Paths.{absolute}
 use Rattle.edit_base.proofs.paths.absolute_text.Goals as goal
 
-flat_map-map : (xs : List (Bor (List ℕ))) → flat_map (λ n. 47 ∷ n.now) xs ≡ flat_map (λ n. 47 ∷ n) (map (λ x. x.now) xs)
+flat_map-map : (xs : List (Bor (List ℕ)))
+    → flat_map (λ n. 47 ∷ n.now) xs ≡ flat_map (λ n. 47 ∷ n) (map (λ x. x.now) xs)
 flat_map-map [] = refl
 flat_map-map (x ∷ xs) = ap (λ t. (47 ∷ x.now) ++ t) (flat_map-map xs)
 
-absolute_is : (xs : List (Bor (List ℕ))) → 0 < length xs → flat_map (λ n. 47 ∷ n.now) xs ≡ absolute (map (λ x. x.now) xs)
+absolute_is : (xs : List (Bor (List ℕ))) → 0 < length xs
+    → flat_map (λ n. 47 ∷ n.now) xs ≡ absolute (map (λ x. x.now) xs)
 absolute_is [] h = absurd (omega arith)
 absolute_is (x ∷ xs) h = flat_map-map (x ∷ xs)
 

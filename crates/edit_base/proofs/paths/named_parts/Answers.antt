@@ -14,7 +14,8 @@ loop-part-preserved-then-is_idle c =
     let idle : IsIdle (get_or c.args.parts.now c.loop-part.part-index d).now = search rules in
     let within : c.loop-part.part-index < length c.args.parts.now = c.loop-part-test.true in
     let one = part_more c.args.parts.now c.loop-part.part-index d within in
-    subst (λ ps. Named ps (map (λ x. x.now) c.loop-part.names.items)) (sym one) (named_drop _ _ _ c.loop-part.invariant idle)
+    subst (λ ps. Named ps (map (λ x. x.now) c.loop-part.names.items)) (sym one)
+    (named_drop _ _ _ c.loop-part.invariant idle)
 
 pub loop-part-preserved : goal.loop-part-preserved
 loop-part-preserved c =
@@ -22,6 +23,12 @@ loop-part-preserved c =
     let busy : IsIdle (get_or c.args.parts.now c.loop-part.part-index d).now → ⊥ = search rules in
     let within : c.loop-part.part-index < length c.args.parts.now = c.loop-part-test.true in
     let one = part_more c.args.parts.now c.loop-part.part-index d within in
-    let all : map (λ x. x.now) c.push.new.self.items ≡ map (λ x. x.now) c.loop-part.names.items ++ (get_or c.args.parts.now c.loop-part.part-index d).now ∷ [] = ap (λ xs. map (λ (x : Bor (List ℕ)). x.now) xs) c.in_ok-push.ensures.items ∙ map-append (λ (x : Bor (List ℕ)). x.now) c.loop-part.names.items (get_or c.args.parts.now c.loop-part.part-index d ∷ []) in
+    let all : map (λ x. x.now) c.push.new.self.items ≡ map (λ x. x.now) c.loop-part.names.items
+    ++ (get_or c.args.parts.now c.loop-part.part-index d).now ∷ [] =
+    ap (λ xs. map (λ (x : Bor (List ℕ)). x.now) xs) c.in_ok-push.ensures.items
+    ∙ map-append (λ (x : Bor (List ℕ)). x.now) c.loop-part.names.items
+    (get_or c.args.parts.now c.loop-part.part-index d ∷ []) in
     subst (λ ps. Named ps (map (λ x. x.now) c.push.new.self.items)) (sym one)
-    (subst (λ ns. Named (map (λ x. x.now) (take c.loop-part.part-index c.args.parts.now) ++ (get_or c.args.parts.now c.loop-part.part-index d).now ∷ []) ns) (sym all) (named_take _ _ _ c.loop-part.invariant busy))
+    (subst (λ ns. Named (map (λ x. x.now) (take c.loop-part.part-index c.args.parts.now)
+    ++ (get_or c.args.parts.now c.loop-part.part-index d).now ∷ []) ns) (sym all)
+    (named_take _ _ _ c.loop-part.invariant busy))

@@ -14,7 +14,9 @@ pub returns-in-Ok-Folder-clause-found : goal.returns-in-Ok-Folder-clause-found
 returns-in-Ok-Folder-clause-found g c =
     let stands = rw c.in-Ok-Folder.field-0-is at c.in-Ok-Folder.ensures.stands in
     IfOk-weaker c.search.result _ _
-    (λ p near. path_nearest _ _ _ (g.S.Store.view c.kind.new.self).file_at _ _ _ c.as_str.result.now c.as_str-in-Ok-Folder.result.now _ c.in_ok-path.ensures.text c.as_str.ensures.value c.as_str-in-Ok-Folder.ensures.value
+    (λ p near. path_nearest _ _ _ (g.S.Store.view c.kind.new.self).file_at _ _ _ c.as_str.result.now
+    c.as_str-in-Ok-Folder.result.now _ c.in_ok-path.ensures.text c.as_str.ensures.value
+    c.as_str-in-Ok-Folder.ensures.value
     c.kind.ensures.tells c.kind.ensures.files stands near)
     c.search.ensures.found
 
@@ -23,8 +25,12 @@ returns-in-Ok-Folder-clause-refused g c =
     let stands = rw c.in-Ok-Folder.field-0-is at c.in-Ok-Folder.ensures.stands in
     IfErr-weaker c.search.result _ _
     (λ r refused. ⊎_elim
-    (λ fault. inl (fault_later call.Kind (g.S.Store.view c.args.files.now).faults (g.S.Store.view c.kind.new.self).faults (g.S.Store.view c.search.new.files).faults r.error c.kind.ensures.cause.later fault))
-    (λ none. inr (none_found _ _ _ (g.S.Store.view c.kind.new.self).file_at _ _ _ c.as_str.result.now c.as_str-in-Ok-Folder.result.now r.error c.in_ok-path.ensures.text c.as_str.ensures.value c.as_str-in-Ok-Folder.ensures.value
+    (λ fault. inl (fault_later call.Kind (g.S.Store.view c.args.files.now).faults
+    (g.S.Store.view c.kind.new.self).faults (g.S.Store.view c.search.new.files).faults r.error
+    c.kind.ensures.cause.later fault))
+    (λ none. inr (none_found _ _ _ (g.S.Store.view c.kind.new.self).file_at _ _ _ c.as_str.result.now
+    c.as_str-in-Ok-Folder.result.now r.error c.in_ok-path.ensures.text c.as_str.ensures.value
+    c.as_str-in-Ok-Folder.ensures.value
     c.kind.ensures.tells c.kind.ensures.files stands none))
     refused)
     c.search.ensures.refused
@@ -32,4 +38,5 @@ returns-in-Ok-Folder-clause-refused g c =
 pub returns-in-Ok-Absent-clause-refused : goal.returns-in-Ok-Absent-clause-refused
 returns-in-Ok-Absent-clause-refused g c =
     let stands = rw c.in-Ok-Absent.field-0-is at c.in-Ok-Absent.ensures.stands in
-    inr (λ t. nothing_there _ _ _ _ c.as_str.result.now _ c.in_ok-path.ensures.text c.as_str.ensures.value c.at_path.ensures (stands t))
+    inr (λ t. nothing_there _ _ _ _ c.as_str.result.now _ c.in_ok-path.ensures.text c.as_str.ensures.value
+    c.at_path.ensures (stands t))

@@ -7,7 +7,8 @@ pub folders-init : goal.folders-init
 folders-init g c = record {
   utf8 = c.utf8.start;
   store = search rules;
-  passed = passed_none (g.S.Store.view c.args.files.now).tells (g.S.Store.view c.args.files.now).file_at c.args.start.now;
+  passed = passed_none (g.S.Store.view c.args.files.now).tells (g.S.Store.view c.args.files.now).file_at
+      c.args.start.now;
 }
 
 pub folders-preserved : goal.folders-preserved
@@ -21,7 +22,8 @@ folders-preserved g c =
         files = λ path. c.manifest_at.ensures.store.files path ∙ before.store.files path;
         later = omega (arith, before.store.later, c.manifest_at.ensures.store.later);
       };
-      passed = passed_more _ _ _ (g.S.Store.view c.folders.files).file_at _ c.folders.dir.now _ before.store.tells before.store.files before.passed on c.folder-dir.ensures
+      passed = passed_more _ _ _ (g.S.Store.view c.folders.files).file_at _ c.folders.dir.now _
+          before.store.tells before.store.files before.passed on c.folder-dir.ensures
           (rw c.in_default.is at c.in_ok-path.ensures.found);
     }
 
@@ -32,7 +34,8 @@ returns-in-None-clause-refused g c =
     ⊎_elim (λ memory. inl (inl memory))
     (λ named. inr (λ t. (
       named,
-      none_above _ _ _ (g.S.Store.view c.folders.files).file_at _ c.folders.dir.now before.store.tells before.store.files before.passed root
+      none_above _ _ _ (g.S.Store.view c.folders.files).file_at _ c.folders.dir.now before.store.tells
+          before.store.files before.passed root
           (rw c.in-None.is at c.in_ok-path-2.ensures.found) t,
     )))
     c.not_found.ensures

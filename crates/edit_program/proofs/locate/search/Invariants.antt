@@ -9,7 +9,8 @@ abbrev pub invariant-folders : goal.invariant-folders
 invariant-folders g l = record {
   utf8 : shadow (Utf8 l.dir);
   store : OnlyReads (g.S.Store.view l.initial.files) (g.S.Store.view l.files);
-  passed : HasPassed (g.S.Store.view l.initial.files).tells (g.S.Store.view l.initial.files).file_at l.start l.dir;
+  passed : HasPassed (g.S.Store.view l.initial.files).tells (g.S.Store.view l.initial.files).file_at l.start
+      l.dir;
 }
 
 abbrev pub decreases-folders : goal.decreases-folders

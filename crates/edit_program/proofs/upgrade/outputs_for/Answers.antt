@@ -24,17 +24,24 @@ returns-clause-ok c =
       default = c.default_options-options.ensures;
       looks = p.looks.items;
       complete = λ address name need.
-          c.in_ok-plan.ensures.looks.complete address name (needed-first c.from_ref-inputs.result.now c.from_ref-configs.result.now x c.new-none.result []
-          c.from_ref-inputs.ensures.value c.from_ref-configs.ensures.value (sym c.new-none.ensures.items) address name need);
+          c.in_ok-plan.ensures.looks.complete address name
+          (needed-first c.from_ref-inputs.result.now c.from_ref-configs.result.now x c.new-none.result []
+          c.from_ref-inputs.ensures.value c.from_ref-configs.ensures.value (sym c.new-none.ensures.items)
+          address name need);
       given = λ k d lt.
-          one_given c.new-cache.result c.args.index _ _ _ c.new-cache.ensures.index c.new-cache.ensures.empty (c.in_ok-plan.ensures.looks.given k d lt);
+          one_given c.new-cache.result c.args.index _ _ _ c.new-cache.ensures.index c.new-cache.ensures.empty
+          (c.in_ok-plan.ensures.looks.given k d lt);
       rows = rows_of 0 p;
-      decided = subst (λ (cs : List Config). HasRows (setting_of 0 o x cs p.looks.items) x.bytes.items (rows_of 0 p)) c.new-none.ensures.items
-          (of-each o c.from_ref-inputs.result.now c.from_ref-configs.result.now HasItsRows p x c.new-none.result
+      decided = subst (λ (cs : List Config). HasRows (setting_of 0 o x cs p.looks.items) x.bytes.items
+          (rows_of 0 p)) c.new-none.ensures.items
+          (of-each o c.from_ref-inputs.result.now c.from_ref-configs.result.now HasItsRows p x
+          c.new-none.result
           c.from_ref-inputs.ensures.value c.from_ref-configs.ensures.value c.in_ok-plan.ensures.rows);
       writes = subst (λ (os : List Output). HasOutputs (path_of x) x.bytes.items (rows_of 0 p) os)
-          (only-outputs c.from_ref-inputs.result.now x p c.from_ref-inputs.ensures.value c.in_ok-plan.ensures.outputs_in_order)
-          (of-each o c.from_ref-inputs.result.now c.from_ref-configs.result.now HasItsOutputs p x c.new-none.result
+          (only-outputs c.from_ref-inputs.result.now x p c.from_ref-inputs.ensures.value
+          c.in_ok-plan.ensures.outputs_in_order)
+          (of-each o c.from_ref-inputs.result.now c.from_ref-configs.result.now HasItsOutputs p x
+          c.new-none.result
           c.from_ref-inputs.ensures.value c.from_ref-configs.ensures.value c.in_ok-plan.ensures.outputs);
     }
 
@@ -43,9 +50,13 @@ returns-in_err-plan-clause-refused c =
     let x = c.args.manifest.now.input in
     let e = c.in_err-plan.field-0.0 in
     let cause = of-entry_cause c.from_ref-inputs.result.now c.from_ref-configs.result.now x c.new-none.result
-    (λ address name outcome. FileGives (index_of c.new-cache.result) name outcome) (kept_by c.new-cache.result) (kept_by c.plan_documents.new.index) 0 0 e
+    (λ address name outcome. FileGives (index_of c.new-cache.result) name outcome)
+    (kept_by c.new-cache.result) (kept_by c.plan_documents.new.index) 0 0 e
     c.from_ref-inputs.ensures.value c.from_ref-configs.ensures.value c.in_err-plan.ensures.refused in
     refusal_same c.from_residual.result e _ c.from_residual.ensures.1
-    (no_plan c.new-cache.result c.args.index x.bytes.items (kept_by c.plan_documents.new.index) e c.new-cache.ensures.index c.new-cache.ensures.empty
-    (subst (λ (cs : List Config). IsMemory e ⊎ HasBadEntry cs (λ address name outcome. FileGives (index_of c.new-cache.result) name outcome)
-    (kept_by c.new-cache.result) (kept_by c.plan_documents.new.index) 0 0 x.bytes.items e) c.new-none.ensures.items cause))
+    (no_plan c.new-cache.result c.args.index x.bytes.items (kept_by c.plan_documents.new.index) e
+    c.new-cache.ensures.index c.new-cache.ensures.empty
+    (subst (λ (cs : List Config). IsMemory e
+    ⊎ HasBadEntry cs (λ address name outcome. FileGives (index_of c.new-cache.result) name outcome)
+    (kept_by c.new-cache.result) (kept_by c.plan_documents.new.index) 0 0 x.bytes.items e)
+    c.new-none.ensures.items cause))

@@ -11,7 +11,8 @@ use Rattle.edit_record.proofs.find.advanced.Goals as goal
 
 pub invariant_of-later : goal.invariant_of-later
 invariant_of-later c = record {
-  read = kept-version (option_map numbers_of c.args.rust_version) (is_wanted c.args.allow_prerelease (option_map comparators_of (option_copied c.args.req)))
+  read = kept-version (option_map numbers_of c.args.rust_version)
+      (is_wanted c.args.allow_prerelease (option_map comparators_of (option_copied c.args.req)))
       (entry_of c.args.told.now) (parts_of c.in-Some.version)
       (sym c.in_ok-kept.ensures.ok ∙ ap (λ (o : Option Version). option_map parts_of o) c.in-Some.is);
 }

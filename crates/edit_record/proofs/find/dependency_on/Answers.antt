@@ -7,7 +7,8 @@ use Rattle.edit_record.proofs.find.dependency_on.Goals as goal
 
 pub returns-clause-ok : goal.returns-clause-ok
 returns-clause-ok c =
-    let P : Dependency → Type 0 = λ d. IsRegistryDependency (string_bytes c.args.told.now.name) (string_bytes c.args.told.now.version) d in
+    let P : Dependency → Type 0 = λ d. IsRegistryDependency (string_bytes c.args.told.now.name)
+    (string_bytes c.args.told.now.version) d in
     let bare = c.in_ok-dependency.ensures.ok.0 in
     subst P (sym c.set_source.ensures) (
       record {
@@ -20,5 +21,10 @@ returns-clause-ok c =
         rename = bare.rename;
         available_features = bare.available_features;
       },
-      (c.in_ok-source.source, refl, c.in_ok-source.ensures.ok ∙ ap (λ (t : List ℕ). cut t) c.as_str.ensures.value),
+      (
+        c.in_ok-source.source,
+        refl,
+        c.in_ok-source.ensures.ok
+            ∙ ap (λ (t : List ℕ). cut t) c.as_str.ensures.value,
+      ),
     )

@@ -12,13 +12,16 @@ use Rattle.edit_record.specs.declared.dependency.Dependency.{Dependency}
 use Rattle.edit_record.proofs.Entries.{found-at_least}
 use Rattle.edit_record.proofs.find.find_latest_version.Goals as goal
 
-at_least : (rust : Option Numbers) (pre : Bool) (entries : List IndexEntry) (r : Result (Option Dependency) Error)
+at_least : (rust : Option Numbers) (pre : Bool) (entries : List IndexEntry)
+    (r : Result (Option Dependency) Error)
     → IfOk r (λ o. IsFound rust (is_allowed pre) entries o)
     → IfOk r (λ o. (req : List ℕ) → (IsTrue (holds_dash req) → IsTrue pre) → (e : IndexEntry)
-    → IsGreatestKept (is_kept rust (is_admitted req)) entry_order entries e → IsFoundAtLeast rust (is_allowed pre) entries e o)
+    → IsGreatestKept (is_kept rust (is_admitted req)) entry_order entries e
+    → IsFoundAtLeast rust (is_allowed pre) entries e o)
 at_least rust pre entries (Ok o) h = λ req dash e g. found-at_least rust pre entries o h req dash e g
 at_least rust pre entries (Err e) h = tt
 
 pub returns-clause-at_least : goal.returns-clause-at_least
 returns-clause-at_least c =
-    at_least (option_map numbers_of c.args.rust_version) c.args.allow_prerelease (map entry_of c.args.versions.now) c.find_version.result c.find_version.ensures.ok
+    at_least (option_map numbers_of c.args.rust_version) c.args.allow_prerelease
+    (map entry_of c.args.versions.now) c.find_version.result c.find_version.ensures.ok

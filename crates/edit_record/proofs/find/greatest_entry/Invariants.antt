@@ -9,5 +9,6 @@ use Rattle.edit_record.proofs.find.greatest_entry.Given as goal
 
 abbrev pub invariant-entries : goal.invariant-entries
 invariant-entries l =
-    IsGreatest (is_kept (option_map numbers_of l.rust_version) (is_wanted l.allow_prerelease (option_map comparators_of (option_copied l.req))))
+    IsGreatest (is_kept (option_map numbers_of l.rust_version)
+    (is_wanted l.allow_prerelease (option_map comparators_of (option_copied l.req))))
     entry_order (map entry_of (take l.told-index l.versions)) (option_map (λ f. entry_of f.told.now) l.best)
