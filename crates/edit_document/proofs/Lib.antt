@@ -64,3 +64,9 @@ pub mod OnTexts
 pub mod StandardKeys
 pub mod StandardValues
 pub mod StandardTables
+pub mod EditFacts
+pub mod EntryFacts
+pub mod InsertFacts
+pub mod RemoveFacts
+pub mod OverLinesFacts
+pub mod LeftFacts
