@@ -35,3 +35,4 @@ pub mod DelimitedContents
 pub mod Kept
 -- Worked examples
 pub mod StandardFacts
+pub mod FirstLines

@@ -26,10 +26,10 @@ pub record EndsLine (rest : List ℕ) : Type 0 where
   pub no_blank : is_blank (first rest) ≡ false
   pub over : is_line_over (first rest) ≡ true
 
-end_of_text : EndsLine []
+pub end_of_text : EndsLine []
 end_of_text = record { no_ch = refl; no_comment = refl; no_blank = refl; over = refl }
 
-end_of_line : (e : LineEnd) (rest : List ℕ) → EndsLine (line_end e rest)
+pub end_of_line : (e : LineEnd) (rest : List ℕ) → EndsLine (line_end e rest)
 end_of_line lf rest = record { no_ch = refl; no_comment = refl; no_blank = refl; over = refl }
 end_of_line crlf rest = record { no_ch = refl; no_comment = refl; no_blank = refl; over = refl }
 
@@ -124,7 +124,7 @@ not_over : (e : LineEnd) (rest : List ℕ) → eqb (length (line_end e rest)) 0 
 not_over lf rest = suc_not_zero (length rest)
 not_over crlf rest = suc_not_zero (suc (length rest))
 
-first_good : (n : ℕ) (l : Line) (e : LineEnd) (ls : Lines) → AreGoodLines n (more_lines l e ls) → IsGoodLine n l
+pub first_good : (n : ℕ) (l : Line) (e : LineEnd) (ls : Lines) → AreGoodLines n (more_lines l e ls) → IsGoodLine n l
 first_good n l e ls h = record { valid = h.valid.0; shallow = let k = h.shallow in omega arith }
 
 others_good : (n : ℕ) (l : Line) (e : LineEnd) (ls : Lines) → AreGoodLines n (more_lines l e ls) → AreGoodLines n ls

@@ -4,5 +4,5 @@
 pub mod read;
 pub mod span;
 
-pub use read::{Mark, MarkKind, read_marks};
+pub use read::{Mark, MarkKind, first_line, next_line, past_mark, read_marks};
 pub use span::Span;

@@ -10,6 +10,7 @@ mod bytes;
 mod dates;
 pub mod decode;
 mod gaps;
+mod line_by_line;
 mod lines;
 pub mod marks;
 mod multi;
@@ -20,13 +21,14 @@ mod values;
 use bytes::{byte_at, first, skip};
 pub use decode::{content, content_span, is_plain, said};
 use edit_base::errors::{CargoResult, Error};
+pub use line_by_line::{first_line, next_line};
 use lines::lines;
 use marks::ReadError;
 pub use marks::{Mark, MarkKind};
 use std::alloc::Global;
 
 /// What follows a byte order mark or nothing.
-fn past_mark(text: &[u8]) -> &[u8]
+pub fn past_mark(text: &[u8]) -> &[u8]
     ensures { result.now ≡ reading.past_mark text.now }
 {
     if first(text) == 0xEF && byte_at(text, 1) == 0xBB && byte_at(text, 2) == 0xBF {

@@ -1,0 +1,41 @@
+//! The reading of one line of a text.
+ghost use Rattle.std.specs.Prelude.{◌≡◌, ◌≤◌, ℕ, List, ◌++◌, [], MatchResult};
+ghost use Rattle.edit_base.specs.Errors.{IsMemory};
+ghost use Rattle.edit_syntax.specs.Strings.{LineEnd, line_end};
+ghost use Rattle.edit_syntax.specs.Grammar.{Lines, AreLines, lines as lines_text};
+ghost use Rattle.edit_syntax.specs.Depth.{lines_depth};
+ghost use Rattle.edit_syntax.specs.FirstLine.{after_first, first_marks};
+
+use super::gaps::past_line_end;
+use super::lines::line;
+use super::marks::{Mark, ReadError};
+use edit_base::errors::{CargoResult, Error};
+
+/// Notes down the first of some lines, with arrays and inline tables at most 80 deep in one another, and answers
+/// what follows it: nothing, or its newline and the other lines.
+pub fn first_line<'a>(out: &mut Vec<Mark>, text: &'a [u8]) -> CargoResult<&'a [u8]>
+    // The first line of whatever is in the grammar is read, unless memory runs out.
+    ensures only { (form : Lines) → text.now ≡ lines_text form → AreLines form → lines_depth form ≤ 80 →
+        MatchResult result
+        (λ rest. (rest.now ≡ after_first form) × (out.new.items ≡ out.old.items ++ first_marks form))
+        IsMemory }
+{
+    match line(out, text, 80) {
+        Ok(rest) => Ok(rest),
+        Err(ReadError::Memory) => Err(Error::Memory),
+        Err(ReadError::NotToml { left }) => Err(Error::NotToml {
+            at: text.len().saturating_sub(left),
+        }),
+    }
+}
+
+/// What follows a newline, or nothing where the text ends.
+pub fn next_line(text: &[u8]) -> &[u8]
+    ensures next { (e : LineEnd) (rest : List ℕ) → text.now ≡ line_end e rest → result.now ≡ rest }
+    ensures end { text.now ≡ [] → result.now ≡ [] }
+{
+    match past_line_end(text) {
+        Some(rest) => rest,
+        None => text,
+    }
+}
