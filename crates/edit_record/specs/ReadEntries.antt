@@ -152,23 +152,28 @@ abbrev pub old_spelling : List ℕ → Option View → Result Bool Refusal
 old_spelling dep None = Ok false
 old_spelling dep (Some v) = Err (old_default_features dep)
 
+-- what is checked behind the source: `registry`, the spelling `default_features`, and `features` (own)
+abbrev pub options_at : Tree → List ℕ → Result (Option (List ℕ) × Option (List (List ℕ))) Refusal
+options_at t dep =
+    and_then (text_at t dep (codes "registry")) (λ registry.
+    and_then (old_spelling dep (member_in t (codes "default_features"))) (λ spelling.
+    ok_map (λ features. (registry, features)) (features_at t dep)))
+
 -- a table: the checks in their order, and what is kept (own)
 abbrev pub table_record : Tree → List ℕ → List ℕ → Result EntryRecord Refusal
 table_record t root dep =
     and_then (text_at t dep (codes "package")) (λ package_name.
     and_then (origin_at t root dep) (λ origin.
-    and_then (text_at t dep (codes "registry")) (λ registry.
-    and_then (old_spelling dep (member_in t (codes "default_features"))) (λ spelling.
-    ok_map (λ features. record {
+    ok_map (λ options. record {
       name = (names_by package_name dep).0;
       optional = truth_at t (codes "optional");
-      features = features;
+      features = options.1;
       default_features = truth_at t (codes "default-features");
       inherited_features = None;
       origin = Some origin;
-      registry = registry;
+      registry = options.0;
       rename = (names_by package_name dep).1;
-    }) (features_at t dep)))))
+    }) (options_at t dep)))
 
 -- an entry is a string, a table or an inline table (Cargo reference, "Specifying Dependencies")
 abbrev pub entry_record : Tree → List ℕ → List ℕ → Option View → Result EntryRecord Refusal

@@ -12,8 +12,9 @@ mod read;
 mod sources;
 mod texts;
 
-use copies::{copied, copied_list, joined};
+use copies::{copied_lists, copied_pair, joined};
 use edit_base::errors::CargoResult;
+use sources::copied_source;
 pub use sources::{GitSource, PathSource, RegistrySource, Source, WorkspaceSource};
 use std::alloc::Global;
 use std::collections::BTreeMap;
@@ -164,19 +165,21 @@ impl Dependency {
         ensures kept { IfOk result (λ d. available_view d ≡ available_view self.now) }
         ensures refused { IfErr result IsMemory }
     {
-        let source = match &self.source {
-            Some(source) => Some(source.try_clone(alloc)?),
-            None => None,
-        };
+        let (registry, rename) = copied_pair(self.registry.as_ref(), self.rename.as_ref())?;
+        let (features, inherited_features) = copied_lists(
+            self.features.as_ref(),
+            self.inherited_features.as_ref(),
+        )?;
+        let source = copied_source(alloc, self.source.as_ref())?;
         Ok(Dependency {
             name: self.name.clone()?,
             optional: self.optional,
-            features: copied_list(self.features.as_ref())?,
+            features,
             default_features: self.default_features,
-            inherited_features: copied_list(self.inherited_features.as_ref())?,
+            inherited_features,
             source,
-            registry: copied(self.registry.as_ref())?,
-            rename: copied(self.rename.as_ref())?,
+            registry,
+            rename,
             available_features: self.available_features.clone()?,
         })
     }

@@ -26,7 +26,7 @@ pub(crate) fn owned(alloc: Global, text: Option<&str>) -> Result<Option<String>,
 }
 
 /// A list of texts on memory of its own, where there is one.
-pub(crate) fn copied_list(texts: Option<&Vec<String>>) -> Result<Option<Vec<String>>, AllocError>
+fn copied_list(texts: Option<&Vec<String>>) -> Result<Option<Vec<String>>, AllocError>
     ensures { IfOk result (λ o. option_map texts_view o
         ≡ option_map texts_view (option_copied texts.entry)) }
 {
@@ -34,6 +34,32 @@ pub(crate) fn copied_list(texts: Option<&Vec<String>>) -> Result<Option<Vec<Stri
         Some(texts) => Ok(Some(texts.clone()?)),
         None => Ok(None),
     }
+}
+
+/// Two texts on memory of their own, where they are there.
+pub(crate) fn copied_pair(
+    one: Option<&String>,
+    other: Option<&String>,
+) -> Result<(Option<String>, Option<String>), AllocError>
+    ensures one { IfOk result (λ p. option_map string_bytes p.0
+        ≡ option_map string_bytes (option_copied one.entry)) }
+    ensures other { IfOk result (λ p. option_map string_bytes p.1
+        ≡ option_map string_bytes (option_copied other.entry)) }
+{
+    Ok((copied(one)?, copied(other)?))
+}
+
+/// Two lists of texts on memory of their own, where they are there.
+pub(crate) fn copied_lists(
+    one: Option<&Vec<String>>,
+    other: Option<&Vec<String>>,
+) -> Result<(Option<Vec<String>>, Option<Vec<String>>), AllocError>
+    ensures one { IfOk result (λ p. option_map texts_view p.0
+        ≡ option_map texts_view (option_copied one.entry)) }
+    ensures other { IfOk result (λ p. option_map texts_view p.1
+        ≡ option_map texts_view (option_copied other.entry)) }
+{
+    Ok((copied_list(one)?, copied_list(other)?))
 }
 
 /// The first list, where there is one, and then the second.

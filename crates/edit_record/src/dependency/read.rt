@@ -5,8 +5,8 @@ ghost use Rattle.edit_base.specs.Errors.{IsMemory};
 ghost use Rattle.edit_document.specs.ItemViews.{document_of, place_of, view_of};
 ghost use Rattle.edit_document.specs.Shown.{tree_of};
 ghost use Rattle.edit_record.specs.EntryRecords.{from_git, from_workspace};
-ghost use Rattle.edit_record.specs.ReadEntries.{git_origin, member_in, names_by, origin_at, path_origin, record_of, repository, table_record, true_workspace, workspace_origin};
-ghost use Rattle.edit_record.specs.RecordViews.{IsRefused, path_view, record_view, repository_view, shown_at, source_view};
+ghost use Rattle.edit_record.specs.ReadEntries.{git_origin, member_in, names_by, options_at, origin_at, path_origin, record_of, repository, table_record, true_workspace, workspace_origin};
+ghost use Rattle.edit_record.specs.RecordViews.{IsRefused, path_view, record_view, repository_view, shown_at, source_view, texts_view};
 
 use super::Dependency;
 use super::copies::owned;
@@ -152,6 +152,22 @@ fn names(
     }
 }
 
+/// What an entry says behind its source: its registry and its features.
+fn options_at(
+    alloc: Global,
+    dep: &str,
+    table: Item<'_>,
+) -> CargoResult<(Option<String>, Option<Vec<String>>)>
+    ensures ok { IfOk result (λ o. options_at (shown_at table.entry) dep.now
+        ≡ Ok (option_map string_bytes o.0, option_map texts_view o.1)) }
+    ensures refused { IfErr result (IsRefused (options_at (shown_at table.entry) dep.now)) }
+{
+    let registry = text_at(alloc, dep, table, "registry")?;
+    check_spelling(alloc, dep, table)?;
+    let features = features_at(alloc, dep, table)?;
+    Ok((owned(alloc, registry)?, features))
+}
+
 /// The record of an entry that is a table.
 fn table_record(alloc: Global, root: &str, dep: &str, table: Item<'_>) -> CargoResult<Dependency>
     ensures ok { IfOk result (λ d. table_record (shown_at table.entry) root.now dep.now
@@ -160,11 +176,9 @@ fn table_record(alloc: Global, root: &str, dep: &str, table: Item<'_>) -> CargoR
     ensures refused { IfErr result (IsRefused (table_record (shown_at table.entry) root.now dep.now)) }
 {
     let crate_name = text_at(alloc, dep, table, "package")?;
-    let source = source_of(alloc, root, dep, table)?;
-    let registry = text_at(alloc, dep, table, "registry")?;
-    check_spelling(alloc, dep, table)?;
-    let features = features_at(alloc, dep, table)?;
     let (name, rename) = names(alloc, dep, crate_name)?;
+    let source = source_of(alloc, root, dep, table)?;
+    let (registry, features) = options_at(alloc, dep, table)?;
     Ok(Dependency {
         name,
         optional: truth_at(table, "optional"),
@@ -172,7 +186,7 @@ fn table_record(alloc: Global, root: &str, dep: &str, table: Item<'_>) -> CargoR
         default_features: truth_at(table, "default-features"),
         inherited_features: None,
         source: Some(source),
-        registry: owned(alloc, registry)?,
+        registry,
         rename,
         available_features: BTreeMap::new(alloc),
     })

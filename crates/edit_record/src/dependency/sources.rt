@@ -277,3 +277,15 @@ impl Source {
         }
     }
 }
+
+/// A source on memory of its own, where there is one.
+pub(crate) fn copied_source(alloc: Global, source: Option<&Source>) -> CargoResult<Option<Source>>
+    ensures ok { IfOk result (λ o. option_map source_view o
+        ≡ option_map source_view (option_copied source.entry)) }
+    ensures refused { IfErr result IsMemory }
+{
+    match source {
+        Some(source) => Ok(Some(source.try_clone(alloc)?)),
+        None => Ok(None),
+    }
+}

@@ -16,37 +16,13 @@ returns-in_err-registry-clause-refused c =
     rw (p.1, p.2, c.in_ok-crate_name.ensures.ok, c.in_ok-source.ensures.ok)
     (refusal_stays _ _ _ c.in_err-registry.ensures.refused)
 
-pub returns-in_err-check_spelling-clause-refused : goal.returns-in_err-check_spelling-clause-refused
-returns-in_err-check_spelling-clause-refused c =
-    let stop = c.from_residual-in_err-check_spelling in
-    let p = err_from_is_err_and stop.result stop.ensures.1 in
-    rw (p.1, p.2, c.in_ok-crate_name.ensures.ok, c.in_ok-source.ensures.ok, c.in_ok-registry.ensures.ok)
-    (refusal_stays _ _ _ c.in_err-check_spelling.ensures.refused)
-
-pub returns-in_err-features-clause-refused : goal.returns-in_err-features-clause-refused
-returns-in_err-features-clause-refused c =
-    let stop = c.from_residual-in_err-features in
-    let p = err_from_is_err_and stop.result stop.ensures.1 in
-    rw (
-      p.1,
-      p.2,
-      c.in_ok-crate_name.ensures.ok,
-      c.in_ok-source.ensures.ok,
-      c.in_ok-registry.ensures.ok,
-      c.in_ok-check_spelling.ensures.ok,
-    )
-    (refusal_stays _ _ _ c.in_err-features.ensures.refused)
-
 pub returns-clause-ok : goal.returns-clause-ok
 returns-clause-ok c =
     rw (
       c.in_ok-crate_name.ensures.ok,
       c.in_ok-source.ensures.ok,
       c.in_ok-registry.ensures.ok,
-      c.in_ok-check_spelling.ensures.ok,
-      c.in_ok-features.ensures.ok,
       ← c.in_ok-name.ensures,
       ← c.truth_at.ensures,
       ← c.truth_at-2.ensures,
-      ← c.in_ok-owned.ensures,
     ) refl
