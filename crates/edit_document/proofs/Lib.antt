@@ -62,6 +62,7 @@ pub mod ReplacedDocuments
 pub mod WidenedForms
 pub mod WidenedViews
 pub mod NewValues
+pub mod SetBytes
 pub mod SetValues
 -- Two documents compared
 pub mod ContentViews

@@ -1,4 +1,4 @@
--- A value set at a place: the bytes that are written, that they are a document, and its tree.
+-- A value set at a place: the bytes are a document, and its tree is the one that is meant.
 use Rattle.std.proofs.Common.{◌≡◌, ℕ, ◌-◌, Bool, true, false, ◌&&◌, ◌||◌, cond, List, [], ◌∷◌, ◌++◌, length, take, drop, Option, None, Some, option_map, refl, sym, ap, ap₂, ◌∙◌, subst, true≢false, append_assoc, append-nil, length-append, arith}
 use Rattle.std.proofs.Math.Seq.{take-append_seam, drop-append_seam}
 use Rattle.std.specs.List.{filter_map, cons_option}
@@ -34,155 +34,12 @@ use Rattle.edit_syntax.proofs.Members.{among_contained}
 use Rattle.edit_document.proofs.UniqueValues.{value_listed}
 use Rattle.edit_document.proofs.WidenedForms.{one, turned, Widened, widened}
 use Rattle.edit_document.proofs.WidenedViews.{IsFree, none_free, self_far, widened_short, widened_apart, widened_here, widened_below, widened_else}
-
--- the form with the value at the place
-abbrev pub form_set : Place → NewValue → Text → Text
-form_set p v form = replaced_by (turned (new_value v)) (one p) form
-
--- ---- the bytes
-
-none_swapped : (write : Writer) (edits : List (Valued × List ℕ)) (old new : List ℕ) → Swaps write edits old new → edits ≡ [] → new ≡ old
-none_swapped write edits old new (rest t) e = refl
-none_swapped write edits old new (next t w said more now s) e = absurd cc
-
--- one value that gives way, with the text before it
-record OneSwap (write : Writer) (c : Valued × List ℕ) (old new : List ℕ) : Type 0 where
-  before : List ℕ
-  was : old ≡ before ++ value c.0.value c.0.after
-  is : new ≡ before ++ value (write c.1) c.0.after
-
-one_swap : (write : Writer) (edits : List (Valued × List ℕ)) (c : Valued × List ℕ) (old new : List ℕ) → Swaps write edits old new → edits ≡ c ∷ [] → OneSwap write c old new
-one_swap write edits c old new (rest t) e = absurd cc
-one_swap write edits c old new (next t w said more now s) e =
-    let first : (w, said) ≡ c = head_is e in
-    let left : more ≡ [] = tail_is e in
-    let all = none_swapped write more w.after now s left in
-    subst (λ (d : Valued × List ℕ). OneSwap write d (t ++ value w.value w.after) (t ++ value (write said) now)) first
-    (record { before = t; was = refl; is = ap (λ (l : List ℕ). t ++ value (write said) l) all })
-  where
-    head_is : (w, said) ∷ more ≡ c ∷ [] → (w, said) ≡ c
-    head_is h = let k : Some (w, said) ≡ Some c = ap first_there h in some_same (w, said) c k
-      where
-        first_there : List (Valued × List ℕ) → Option (Valued × List ℕ)
-        first_there [] = None
-        first_there (d ∷ ds) = Some d
-
-        some_same : (a b : Valued × List ℕ) → Some a ≡ Some b → a ≡ b
-        some_same a b h = cc
-
-    tail_is : (w, said) ∷ more ≡ c ∷ [] → more ≡ []
-    tail_is h = ap others h
-      where
-        others : List (Valued × List ℕ) → List (Valued × List ℕ)
-        others [] = []
-        others (d ∷ ds) = ds
-
-one_edited : (total : ℕ) (r : Range) (cs : List (Valued × List ℕ)) → r ∷ [] ≡ ranges_of total cs
-    → (c : Valued × List ℕ) × (cs ≡ c ∷ []) × (r.0 ≡ start_of total c.0) × (r.1 ≡ end_of total c.0)
-one_edited total r [] e = absurd cc
-one_edited total r (c ∷ []) e =
-    let same : r ≡ (start_of total c.0, end_of total c.0, c.1) = first_is e in
-    (c, refl, ap (λ (z : Range). z.0) same, ap (λ (z : Range). z.1) same)
-  where
-    first_is : r ∷ [] ≡ (start_of total c.0, end_of total c.0, c.1) ∷ [] → r ≡ (start_of total c.0, end_of total c.0, c.1)
-    first_is h = some_same r _ (ap first_there h)
-      where
-        first_there : List Range → Option Range
-        first_there [] = None
-        first_there (d ∷ ds) = Some d
-
-        some_same : (a b : Range) → Some a ≡ Some b → a ≡ b
-        some_same a b h = cc
-one_edited total r (c ∷ d ∷ cs) e = absurd cc
-
--- the range of the value at the place is the one that gives way
-found_edit : (form : Text) (p : Place) (start end : ℕ) (old : List ℕ) → IsDocument old form → is_value_at form p ≡ true → IsWrittenAt form p start end
-    → (c : Valued × List ℕ) × (edited (one p) form ≡ c ∷ []) × (start ≡ start_of (length (text form)) c.0) × (end ≡ end_of (length (text form)) c.0)
-found_edit form p start end old document told range =
-    let apart = one_apart form p [] (told_value form p document.no_clash told) in
-    let r : Range = (start, end, []) in
-    one_edited (length (text form)) r (edited (one p) form)
-    (ranges_are form (one p) (r ∷ []) document.no_clash document.grammar.well_formed (apart_none (one p) form apart) (first_of_distinct (one p) (tt, tt))
-    (one_range form p [] r (range, refl)) (tt, tt))
-
-same_flip : (p q : Place) → same_place p q ≡ same_place q p
-same_flip p q =
-    by_test (same_place p q)
-    (λ h. h ∙ sym (ap (λ r. same_place q r) (same_place_is p q h) ∙ same_place_self q))
-    (λ h. h ∙ sym (by_test (same_place q p)
-    (λ g. absurd (true≢false (sym (ap (λ r. same_place r q) (sym (same_place_is q p g)) ∙ same_place_self q) ∙ h))) (λ g. g)))
-
--- what is written there
-abbrev splice_at : NewValue → Valued → Splice
-splice_at v w = record { from = value w.value w.after; to = w.after; now = value (new_value v) [] }
-
-abbrev splice_for : Place → NewValue → Valued → Option Splice
-splice_for p v w = cond (same_place w.place p) (Some (splice_at v w)) None
-
-only_one : (o : Option Splice) → first_of (o ∷ []) ≡ o
-only_one None = refl
-only_one (Some s) = refl
-
-first_edit : (p : Place) (v : NewValue) (ws : List Valued) (c : Valued × List ℕ) (more : List (Valued × List ℕ)) → filter_map (edit_of (one p)) ws ≡ c ∷ more → first_made (splice_for p v) ws ≡ Some (splice_at v c.0)
-first_edit p v [] c more e = absurd cc
-first_edit p v (w ∷ ws) c more e = go (same_place p w.place) (same_flip w.place p) e (first_edit p v ws c more)
-  where
-    first_there : List (Valued × List ℕ) → Option (Valued × List ℕ)
-    first_there [] = None
-    first_there (d ∷ ds) = Some d
-
-    some_same : (a b : Valued × List ℕ) → Some a ≡ Some b → a ≡ b
-    some_same a b h = cc
-
-    go : (b : Bool) → same_place w.place p ≡ b → cons_option (option_map (λ said. (w, said)) (cond b (Some []) None)) (filter_map (edit_of (one p)) ws) ≡ c ∷ more
-        → (filter_map (edit_of (one p)) ws ≡ c ∷ more → first_made (splice_for p v) ws ≡ Some (splice_at v c.0)) → first_made (splice_for p v) (w ∷ ws) ≡ Some (splice_at v c.0)
-    go true h k ih =
-        let same : (w, []) ≡ c = some_same (w, []) c (ap first_there k) in
-        ap (λ b. first_of (cond b (Some (splice_at v w)) None ∷ first_made (splice_for p v) ws ∷ [])) h ∙ ap (λ (d : Valued × List ℕ). Some (splice_at v d.0)) same
-    go false h k ih = ap (λ b. first_of (cond b (Some (splice_at v w)) None ∷ first_made (splice_for p v) ws ∷ [])) h ∙ only_one (first_made (splice_for p v) ws) ∙ ih k
-
--- what the code writes and what the definition says are the text of the new form
-pub record SetAt (p : Place) (v : NewValue) (form : Text) (start end : ℕ) : Type 0 where
-  pub written : take start (text form) ++ (value (new_value v) [] ++ drop end (text form)) ≡ text (form_set p v form)
-  pub meant : set_text p v form ≡ text (form_set p v form)
-
-cut_front : (whole front back : List ℕ) → whole ≡ front ++ back → length whole - length back ≡ length front
-cut_front whole front back e = let all = ap length e in let one = length-append front back in omega arith
-
-take_front : (whole front back : List ℕ) → whole ≡ front ++ back → take (length whole - length back) whole ≡ front
-take_front whole front back e = ap₂ (λ n (l : List ℕ). take n l) (cut_front whole front back e) e ∙ take-append_seam front back
-
-drop_front : (whole front back : List ℕ) → whole ≡ front ++ back → drop (length whole - length back) whole ≡ back
-drop_front whole front back e = ap₂ (λ n (l : List ℕ). drop n l) (cut_front whole front back e) e ∙ drop-append_seam front back
-
-pub set_at : (form : Text) (p : Place) (v : NewValue) (start end : ℕ) (old : List ℕ) → IsDocument old form → is_value_at form p ≡ true → IsWrittenAt form p start end → SetAt p v form start end
-set_at form p v start end old document told range =
-    let u = new_value v in
-    let f = found_edit form p start end old document told range in
-    let c = f.0 in
-    let apart = one_apart form p [] (told_value form p document.no_clash told) in
-    let swap = one_swap (turned u) (edited (one p) form) c (text form) (text (form_set p v form)) (replaced_swaps (turned u) (one p) form (apart_none (one p) form apart)) f.1 in
-    let t = swap.before in
-    let after = c.0.after in
-    let inner : text form ≡ (t ++ value c.0.value []) ++ after =
-    swap.was ∙ ap (λ (l : List ℕ). t ++ l) (value_rest c.0.value after) ∙ sym (append_assoc t (value c.0.value []) after) in
-    let front = take_front (text form) t (value c.0.value after) swap.was in
-    let back = drop_front (text form) (t ++ value c.0.value []) after inner in
-    let whole : t ++ (value u [] ++ after) ≡ text (form_set p v form) = ap (λ (l : List ℕ). t ++ l) (sym (value_rest u after)) ∙ sym swap.is in
-    record {
-      written =
-          ap₂ (λ (a : List ℕ) (b : List ℕ). a ++ (value u [] ++ b)) (ap (λ n. take n (text form)) f.2 ∙ front) (ap (λ n. drop n (text form)) f.3 ∙ back) ∙ whole;
-      meant =
-          ap (λ (o : Option Splice). spliced o) (first_edit p v (values form) c [] f.1) ∙ ap (λ (a : List ℕ). a ++ (value u [] ++ after)) front ∙ whole;
-    }
-  where
-    spliced : Option Splice → List ℕ
-    spliced None = text form
-    spliced (Some s) = take (length (text form) - length s.from) (text form) ++ (s.now ++ s.to)
+use Rattle.edit_document.proofs.SetBytes.{form_set, set_at}
 
 -- ---- a document
 
-module _ (old : List ℕ) (form : Text) (p : Place) (v : NewValue) (document : IsDocument old form) (told : is_value_at form p ≡ true) where
+module _ (old : List ℕ) (form : Text) (p : Place) (v : NewValue) (document : IsDocument old form)
+    (told : is_value_at form p ≡ true) where
   there : new_text (one p) p ≡ Some []
   there = ap (λ c. cond c (Some []) None) (same_place_self p)
 
@@ -190,7 +47,8 @@ module _ (old : List ℕ) (form : Text) (p : Place) (v : NewValue) (document : I
   literal_there =
       let has = told_value form p document.no_clash told in
       let apart = one_apart form p [] has p [] there in
-      thin_literal (one p) p [] (assertions form) (assertions (replaced (one p) form)) has.0 there apart.1 has.1 (thinned (one p) form)
+      thin_literal (one p) p [] (assertions form)
+      (assertions (replaced (one p) form)) has.0 there apart.1 has.1 (thinned (one p) form)
 
   replaced_is : IsDocument (text (replaced (one p) form)) (replaced (one p) form)
   replaced_is = replaced_document (one p) old form document
@@ -198,23 +56,33 @@ module _ (old : List ℕ) (form : Text) (p : Place) (v : NewValue) (document : I
   free : IsFree p (assertions (replaced (one p) form))
   free = none_free p _ (λ q low. nothing p q refl low)
     where
-      nothing : (r q : Place) → r ≡ p → is_below p q ≡ true → kind_at (assertions (replaced (one p) form)) q ≡ None
-      nothing [] q e low = absurd (never (sym (no_root [] _ (rooted (replaced (one p) form))) ∙ ap (λ z. kind_at (assertions (replaced (one p) form)) z) e ∙ literal_there))
+      nothing : (r q : Place) → r ≡ p → is_below p q ≡ true
+          → kind_at (assertions (replaced (one p) form)) q ≡ None
+      nothing [] q e low =
+          absurd (never (sym (no_root [] _ (rooted (replaced (one p) form)))
+          ∙ ap (λ z. kind_at (assertions (replaced (one p) form)) z) e ∙ literal_there))
         where
           never : None ≡ Some (leaf (literal_of [])) → ⊥
           never h = cc
       nothing (s ∷ ss) q e low =
           shut_below (replaced (one p) form) s ss q (literal_of []) refl replaced_is.no_clash
-          (has_kind (s ∷ ss) (literal_of []) _ (ap (λ z. kind_at (assertions (replaced (one p) form)) z) e ∙ literal_there)) (ap (λ z. is_below z q) e ∙ low)
+          (has_kind (s ∷ ss) (literal_of []) _ (ap (λ z. kind_at (assertions (replaced (one p) form)) z) e
+          ∙ literal_there)) (ap (λ z. is_below z q) e ∙ low)
 
   turns : Widened p (new_value v) (assertions (replaced (one p) form)) (assertions (form_set p v form))
   turns = widened p (new_value v) form (new_flat p v)
 
   pub set_document : HasRoom p v → IsDocument (text (form_set p v form)) (form_set p v form)
   set_document room = record {
-    grammar = record { spelled = refl; well_formed = formed_lines (turned (new_value v)) (λ said. new_is_value v) (one p) [] [] form.lines document.grammar.well_formed };
+    grammar =
+        record {
+          spelled = refl;
+          well_formed = formed_lines (turned (new_value v)) (λ said. new_is_value v)
+              (one p) [] [] form.lines document.grammar.well_formed;
+        };
     short = widened_short p (new_value v) _ _ (new_short p v room) turns replaced_is.short;
-    no_clash = widened_apart p (new_value v) _ _ (new_under p v) (new_apart p v) turns free replaced_is.no_clash;
+    no_clash = widened_apart p (new_value v) _ _ (new_under p v)
+        (new_apart p v) turns free replaced_is.no_clash;
   }
 
   -- ---- the tree
@@ -229,17 +97,24 @@ module _ (old : List ℕ) (form : Text) (p : Place) (v : NewValue) (document : I
   below_more (t ∷ q) r s = ap (λ b. b && is_below q (q ++ s ∷ r)) (same_step_self t) ∙ below_more q r s
 
   below_far : (q : Place) → is_within p q ≡ false → is_below p q ≡ false
-  below_far q far = by_test (is_below p q) (λ low. absurd (true≢false (sym (below_within p q low) ∙ far))) (λ h. h)
+  below_far q far = by_test (is_below p q) (λ low. absurd (true≢false (sym (below_within p q low) ∙ far)))
+      (λ h. h)
 
   elsewhere : (q : Place) → is_inside p q ≡ false → view_at (form_set p v form) q ≡ view_at form q
   elsewhere q out =
       let far : is_within p q ≡ false = sym (same_inside p q) ∙ out in
       sym (widened_else p (new_value v) q _ _ far (new_under p v) (new_flat p v) turns)
       ∙ sym (thin_view (one p) q (assertions form) (assertions (replaced (one p) form))
-      (record { same = ap (λ c. cond c (Some []) None) (self_far p q far); above = ap (λ c. c || false) (below_far q far) }) (thinned (one p) form))
+      (record {
+        same = ap (λ c. cond c (Some []) None) (self_far p q far);
+        above =
+            ap (λ c. c || false) (below_far q far);
+      }) (thinned (one p) form))
 
   shown : (r q : Place) → r ≡ p → view_at (form_set p v form) (p ++ q) ≡ new_view v q
-  shown [] q e = absurd (never (sym (no_root [] _ (rooted (replaced (one p) form))) ∙ ap (λ z. kind_at (assertions (replaced (one p) form)) z) e ∙ literal_there))
+  shown [] q e =
+      absurd (never (sym (no_root [] _ (rooted (replaced (one p) form)))
+      ∙ ap (λ z. kind_at (assertions (replaced (one p) form)) z) e ∙ literal_there))
     where
       never : None ≡ Some (leaf (literal_of [])) → ⊥
       never h = cc
@@ -251,31 +126,48 @@ module _ (old : List ℕ) (form : Text) (p : Place) (v : NewValue) (document : I
       ∙ new_shows made (s ∷ ss) v
   shown (s ∷ ss) (t ∷ q) e =
       let made = assertions (form_set p v form) in
-      let is = widened_below p (new_value v) (literal_of []) (p ++ t ∷ q) _ made (below_more p q t) turns free replaced_is.no_clash literal_there in
+      let is = widened_below p (new_value v) (literal_of []) (p ++ t ∷ q) _ made
+      (below_more p q t) turns free replaced_is.no_clash literal_there in
       ap (λ z. view_at (form_set p v form) (z ++ t ∷ q)) (sym e)
-      ∙ ap (λ o. option_map (view_of_kind made (s ∷ (ss ++ t ∷ q))) o) (ap (λ z. kind_at made (z ++ t ∷ q)) e ∙ is)
+      ∙ ap (λ o. option_map (view_of_kind made (s ∷ (ss ++ t ∷ q))) o)
+      (ap (λ z. kind_at made (z ++ t ∷ q)) e ∙ is)
       ∙ new_shows_below made p v t q (s ∷ (ss ++ t ∷ q))
 
-  pub set_tree : (t u : Tree) → ((q : Place) → t q ≡ view_at form q) → ((q : Place) → u q ≡ view_at (form_set p v form) q) → HasSet p v t u
+  pub set_tree : (t u : Tree) → ((q : Place) → t q ≡ view_at form q)
+      → ((q : Place) → u q ≡ view_at (form_set p v form) q) → HasSet p v t u
   set_tree t u olds news = record {
     there = λ q. news (p ++ q) ∙ shown p q refl;
     elsewhere = λ q out. news q ∙ elsewhere q out ∙ sym (olds q);
   }
 
 -- whatever form the old text has, the definition says the same
-pub set_any : (old : List ℕ) (p : Place) (v : NewValue) (f g : Text) → IsManifest old f → IsManifest old g → set_text p v f ≡ set_text p v g
+pub set_any : (old : List ℕ) (p : Place) (v : NewValue) (f g : Text) → IsManifest old f → IsManifest old g
+    → set_text p v f ≡ set_text p v g
 set_any old p v f g a b = ap (λ z. set_text p v z) (one_form old f g a b)
 
 -- the value at the place is written somewhere
-is_written : (form : Text) (p : Place) → NoClash (assertions form) → is_value_at form p ≡ true → (start : ℕ) × (end : ℕ) × IsWrittenAt form p start end
+is_written : (form : Text) (p : Place) → NoClash (assertions form) → is_value_at form p ≡ true
+    → (start : ℕ) × (end : ℕ) × IsWrittenAt form p start end
 is_written form p clash told =
     let w = value_listed form p clash told in
-    let total = length (text form) in
-    (start_of total w.0, end_of total w.0, record { valued = w.0; told = among_contained w.0 (values form) w.1; there = w.2; starts = refl; ends = refl })
+    let total = length (text form) in (
+      start_of total w.0,
+      end_of total w.0,
+      record {
+        valued = w.0;
+        told =
+            among_contained w.0 (values form) w.1;
+        there = w.2;
+        starts = refl;
+        ends = refl;
+      },
+    )
 
 -- the text with the value is a document
-pub set_manifest : (old new : List ℕ) (form : Text) (p : Place) (v : NewValue) → IsManifest old form → is_value_at form p ≡ true → HasRoom p v → new ≡ set_text p v form → IsManifest new (form_set p v form)
+pub set_manifest : (old new : List ℕ) (form : Text) (p : Place) (v : NewValue) → IsManifest old form
+    → is_value_at form p ≡ true → HasRoom p v → new ≡ set_text p v form → IsManifest new (form_set p v form)
 set_manifest old new form p v manifest told room e =
     let r = is_written form p manifest.document.no_clash told in
     let same = set_at form p v r.0 r.1 old manifest.document told r.2 in
-    subst (λ (b : List ℕ). IsManifest b (form_set p v form)) (sym (e ∙ same.meant)) (record { document = set_document old form p v manifest.document told room })
+    subst (λ (b : List ℕ). IsManifest b (form_set p v form)) (sym (e ∙ same.meant))
+    (record { document = set_document old form p v manifest.document told room })

@@ -1,4 +1,5 @@
--- Strings written at places: the form that a text then has, the bytes that are kept, and the tree that is meant.
+-- Values written at places: the form that a text then has, the bytes that are kept, and the tree that is
+-- meant where strings are written.
 use Rattle.std.specs.Prelude.{◌≡◌, ℕ, suc, Bool, true, false, ◌&&◌, ◌||◌, if◌then◌else◌, List, [], ◌∷◌, ◌++◌, Option, Some, None, option_map, ⊤}
 use Rattle.std.specs.List.{AllByRecursion, filter_map}
 use Rattle.edit_syntax.specs.Grammar.{Value, basic, literal, multi_basic, multi_literal, boolean, integer, float, datetime, array, inline, value, Elements, no_elements, last_element, element, Members, no_members, last_member, member, Statement, pair, header, element_header, empty_line, full_line, Lines, one_line, more_lines, Text, text}
@@ -51,18 +52,24 @@ abbrev mutual
   pub replaced_elements : Writer → Edits → Place → ℕ → Elements → Elements
   replaced_elements write edits place i no_elements = no_elements
   replaced_elements write edits place i (last_element v g) =
-      last_element (put write edits (at place (index i)) (replaced_inside write edits (at place (index i)) v)) g
+      last_element
+      (put write edits (at place (index i)) (replaced_inside write edits (at place (index i)) v)) g
   replaced_elements write edits place i (element v g h es) =
-      element (put write edits (at place (index i)) (replaced_inside write edits (at place (index i)) v)) g h
+      element (put write edits (at place (index i))
+      (replaced_inside write edits (at place (index i)) v)) g h
       (replaced_elements write edits place (suc i) es)
 
   -- the same of members
   pub replaced_members : Writer → Edits → Place → Members → Members
   replaced_members write edits place no_members = no_members
   replaced_members write edits place (last_member k a b v c) =
-      last_member k a b (put write edits (named place (names k)) (replaced_inside write edits (named place (names k)) v)) c
+      last_member k a b
+      (put write edits (named place (names k))
+      (replaced_inside write edits (named place (names k)) v)) c
   replaced_members write edits place (member k a b v c d ms) =
-      member k a b (put write edits (named place (names k)) (replaced_inside write edits (named place (names k)) v)) c d
+      member k a b
+      (put write edits (named place (names k))
+      (replaced_inside write edits (named place (names k)) v)) c d
       (replaced_members write edits place ms)
 
 -- a value at its place
@@ -71,7 +78,8 @@ replaced_value write edits place v = put write edits place (replaced_inside writ
 
 -- the same of a statement under a header
 abbrev pub replaced_statement : Writer → Edits → Place → Statement → Statement
-replaced_statement write edits prefix (pair k a b v) = pair k a b (replaced_value write edits (named prefix (names k)) v)
+replaced_statement write edits prefix (pair k a b v) =
+    pair k a b (replaced_value write edits (named prefix (names k)) v)
 replaced_statement write edits prefix (header a k b) = header a k b
 replaced_statement write edits prefix (element_header a k b) = element_header a k b
 
@@ -84,7 +92,8 @@ replaced_lines write edits earlier prefix (more_lines (empty_line a c) e ls) =
     more_lines (empty_line a c) e (replaced_lines write edits earlier prefix ls)
 replaced_lines write edits earlier prefix (more_lines (full_line a s b c) e ls) =
     more_lines (full_line a (replaced_statement write edits prefix s) b c) e
-    (replaced_lines write edits (earlier ++ of_statement earlier prefix s) (prefix_after earlier prefix s) ls)
+    (replaced_lines write edits (earlier ++ of_statement earlier prefix s)
+    (prefix_after earlier prefix s) ls)
 
 -- the form in which each value at one of the places gives way to what is made of the text to be written there
 abbrev pub replaced_by : Writer → Edits → Text → Text
@@ -100,7 +109,8 @@ replaced edits t = replaced_by literal_of edits t
 abbrev pub edited : Edits → Text → List (Valued × List ℕ)
 edited edits t = filter_map (λ w. option_map (λ said. (w, said)) (new_text edits w.place)) (values t)
 
--- `t0 v1 t1 .. vn tn` and `t0 l1 t1 .. ln tn`: each value gives way to what is made of its text, and every other byte is kept
+-- `t0 v1 t1 .. vn tn` and `t0 l1 t1 .. ln tn`: each value gives way to what is made of its text, and every
+-- other byte is kept
 pub data Swaps (write : Writer) : List (Valued × List ℕ) → List ℕ → List ℕ → Type 0 where
   rest : (t : List ℕ) → Swaps write [] t t
   next : (t : List ℕ) (w : Valued) (said : List ℕ) (more : List (Valued × List ℕ)) (new : List ℕ)
@@ -160,4 +170,5 @@ pub record Replaces (edits : Edits) (old new : List ℕ) : Type 0 where
   pub bytes : new ≡ text (replaced edits form)
   pub kept : Swaps literal_of (edited edits form) old new
   pub is : IsManifest new (replaced edits form)
-  pub tree : (place : Place) → view_at (replaced edits form) place ≡ written edits (emptied edits (view_at form)) place
+  pub tree : (place : Place)
+      → view_at (replaced edits form) place ≡ written edits (emptied edits (view_at form)) place

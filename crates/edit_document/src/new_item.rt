@@ -20,8 +20,8 @@ pub enum NewValue {
     Strings(Vec<String>),
 }
 
-/// A new entry: a value, or a table of values by their names, in the order in which they are written. A dotted table
-/// is the one member `workspace`, true, to be written behind the entry's key as `.workspace = true`.
+/// A new entry: a value, or a table of values by their names, in the order in which they are written. A
+/// dotted table is the one member `workspace`, true, to be written behind a key as `.workspace = true`.
 #[derive(Debug, Drop)]
 pub enum NewItem {
     Value(NewValue),

@@ -54,8 +54,8 @@ impl Document {
         }
     }
 
-    /// Writes the literal of another value in the place of a value, and nothing else; what stood inside the old
-    /// value goes with it. After a refusal the document is as it was.
+    /// Writes the literal of another value in the place of a value, and nothing else; what stood inside the
+    /// old value goes with it. It is refused for want of memory alone, and then the document is as it was.
     pub fn set_value(&mut self, alloc: Global, place: &[Step], value: &NewValue) -> CargoResult<()>
         requires is_value { (form : Text) → IsManifest self.old.bytes form
             → is_value_at form (place_seen place.now) ≡ true }

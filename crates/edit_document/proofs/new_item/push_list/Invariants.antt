@@ -4,4 +4,5 @@ use Rattle.edit_document.proofs.NewItemTexts.{joined}
 use Rattle.edit_document.proofs.new_item.push_list.Given as goal
 
 abbrev pub invariant-others : goal.invariant-others
-invariant-others l = string_bytes l.out ≡ string_bytes l.initial.out ++ joined (λ s. literal_bytes (string_bytes s)) (take l.text-index l.others)
+invariant-others l = string_bytes l.out ≡ string_bytes l.initial.out ++ joined
+    (λ s. literal_bytes (string_bytes s)) (take l.text-index l.others)

@@ -6,4 +6,5 @@ use Rattle.edit_document.proofs.new_item.push_table.Given as goal
 
 abbrev pub invariant-others : goal.invariant-others
 invariant-others l = string_bytes l.out
-    ≡ string_bytes l.initial.out ++ joined (λ m. new_pair (string_bytes m.0) (value_seen m.1) []) (take l.member-index l.others)
+    ≡ string_bytes l.initial.out ++ joined (λ m. new_pair (string_bytes m.0) (value_seen m.1) [])
+    (take l.member-index l.others)
