@@ -75,6 +75,8 @@ pub mod ShownValues
 pub mod OnceLists
 pub mod GrownNames
 pub mod GrownTrees
+pub mod ShownItems
+pub mod EditedDocuments
 -- Worked examples
 pub mod ReplaceFacts
 pub mod FromReader

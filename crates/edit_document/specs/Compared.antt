@@ -1,11 +1,11 @@
 -- When two documents show the same at a place and below it.
-use Rattle.std.specs.Prelude.{◌≡◌, ℕ, ◌<◌, true, false, nat_lt, if◌then◌else◌, List, ◌++◌, length, slice_get, Option, Some, None, MatchOption, ◌⊎◌, map, ⊤}
+use Rattle.std.specs.Prelude.{Bool, ◌≡◌, ℕ, ◌<◌, true, false, nat_lt, if◌then◌else◌, List, ◌∷◌, [], ◌++◌, length, slice_get, Option, Some, None, MatchOption, ◌⊎◌, map, ⊤}
 use Rattle.edit_document.specs.Assertions.{Step, key, index, Place, at}
 use Rattle.edit_document.specs.Tree.{View, string, truth, whole, fractional, moment, static_array, table_array, inline_table, table}
 use Rattle.edit_document.specs.Shown.{Shown, tree_of}
 use Rattle.edit_document.specs.EditBytes.{is_within}
-use Rattle.edit_document.specs.NewItems.{NewValue}
-use Rattle.edit_document.specs.Meant.{Tree, new_view}
+use Rattle.edit_document.specs.NewItems.{NewValue, NewItem}
+use Rattle.edit_document.specs.Meant.{Tree, new_view, view_of_members, member_view, item_view}
 use Rattle.edit_document.specs.Items.{place_numbered, view_numbered, names_in, key_names}
 
 -- the same stands at two places, and below them
@@ -23,6 +23,19 @@ SameBeside place old new = (q : Place) → is_within place q ≡ false → new q
 -- a place and those below it show a new value
 abbrev pub ShowsValue : Shown → Place → NewValue → Type 0
 ShowsValue d place v = (q : Place) → tree_of d (place ++ q) ≡ new_view v q
+
+-- what a table of new values shows at this place below its own: an inline one, or one by dotted keys
+abbrev pub members_shown : Bool → List (List ℕ × NewValue) → Tree
+members_shown is_inline ms [] = Some (view_of_members is_inline ms)
+members_shown is_inline ms (step ∷ q) = member_view ms step q
+
+-- a place and those below it show such a table
+abbrev pub ShowsMembers : Shown → Place → Bool → List (List ℕ × NewValue) → Type 0
+ShowsMembers d place is_inline ms = (q : Place) → tree_of d (place ++ q) ≡ members_shown is_inline ms q
+
+-- a place and those below it show a new entry, inside an inline table or not
+abbrev pub ShowsItem : Shown → Place → Bool → NewItem → Type 0
+ShowsItem d place inside item = (q : Place) → tree_of d (place ++ q) ≡ item_view inside item q
 
 -- the node of a number stands at the place
 abbrev pub IsNumber : Shown → Place → ℕ → Type 0
@@ -77,6 +90,11 @@ AreSteps v = (i : ℕ) (step : Step) → nth_part v i ≡ Some step → ((name :
 -- the names are numbered as the steps to them
 abbrev pub AreNames : View → Type 0
 AreNames v = (i : ℕ) (name : List ℕ) → slice_get (names_in v) i ≡ Some name → nth_part v i ≡ Some (key name)
+
+-- no name of a member stands twice
+abbrev pub AreApart : View → Type 0
+AreApart v =
+    (i j : ℕ) → (name : List ℕ) → slice_get (names_in v) i ≡ Some name → slice_get (names_in v) j ≡ Some name → i ≡ j
 
 -- the members of a table are keys
 abbrev pub AreKeys : View → Type 0

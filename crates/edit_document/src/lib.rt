@@ -3,8 +3,10 @@
 
 mod assertions;
 mod beside;
+mod changed;
 mod compare;
 pub mod document;
+mod edited;
 mod grown;
 pub mod item;
 mod literal;

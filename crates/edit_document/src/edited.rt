@@ -1,0 +1,95 @@
+//! The document of an edit's text: it is taken where it reads as the edit means it.
+ghost use Rattle.std.specs.Prelude.{◌≡◌, ◌⊎◌, None, IfOk, IfErr};
+ghost use Rattle.edit_base.specs.Errors.{IsMemory};
+ghost use Rattle.edit_base.specs.declared.errors.Error.TheVariants.{EditRefused};
+ghost use Rattle.edit_syntax.specs.Grammar.{Text};
+ghost use Rattle.edit_document.specs.Assertions.{at, key as key_step};
+ghost use Rattle.edit_document.specs.EditBytes.{inserted_text, replaced_text};
+ghost use Rattle.edit_document.specs.Items.{place_seen};
+ghost use Rattle.edit_document.specs.Meant.{Inserted, InsertFails, HasReplaced, ReplaceFails};
+ghost use Rattle.edit_document.specs.NewItemViews.{value_seen, item_seen};
+ghost use Rattle.edit_document.specs.Shown.{tree_of, ShowsTree};
+ghost use Rattle.edit_document.specs.Supported.{IsManifest};
+
+use crate::document::Document;
+use crate::new_item::{NewItem, NewValue};
+use crate::place::Step;
+use edit_base::errors::{CargoResult, Error};
+use std::alloc::Global;
+
+/// Reads the text that an edit leaves. Where it is no document, the edit is refused.
+pub(crate) fn read_edited(alloc: Global, text: &str) -> CargoResult<Document>
+    ensures bytes { IfOk result (λ d. d.bytes ≡ text.now) }
+    ensures shows { IfOk result (λ d. (form : Text) → IsManifest text.now form → ShowsTree d form) }
+    ensures refused { IfErr result (λ e. IsMemory e
+        ⊎ ((e ≡ EditRefused) × ((form : Text) → IsManifest text.now form → ⊥))) }
+{
+    match Document::read(alloc, text) {
+        Ok(new) => {
+            new.has_form();
+            Ok(new)
+        }
+        Err(Error::NotToml { at: _ }) => Err(Error::EditRefused),
+        Err(error) => Err(error),
+    }
+}
+
+impl Document {
+    /// Takes the text of this document with a member inserted, where it reads as that is meant. After a refusal
+    /// the document is as it was.
+    pub(crate) fn take_inserted(
+        &mut self,
+        alloc: Global,
+        text: &str,
+        place: &[Step],
+        key: &str,
+        value: &NewValue,
+    ) -> CargoResult<()>
+        requires written { (form : Text) → IsManifest self.old.bytes form
+            → text.now ≡ inserted_text (place_seen place.now) key.now (value_seen value.now) form }
+        requires absent { tree_of self.old (at (place_seen place.now) (key_step key.now)) ≡ None }
+        ensures bytes { IfOk result (λ _. (form : Text) → IsManifest self.old.bytes form
+            → self.new.bytes ≡ inserted_text (place_seen place.now) key.now (value_seen value.now) form) }
+        ensures tree { IfOk result (λ _. Inserted (place_seen place.now) key.now (value_seen value.now)
+            (tree_of self.old) (tree_of self.new)) }
+        ensures err { IfErr result (λ _. self.new ≡ self.old) }
+        ensures refused { IfErr result (λ e. IsMemory e ⊎ ((e ≡ EditRefused)
+            × InsertFails (place_seen place.now) key.now (value_seen value.now) self.old.bytes)) }
+    {
+        self.has_form();
+        let new = read_edited(alloc, text)?;
+        if !self.has_grown(&new, place, key, value) {
+            return Err(Error::EditRefused);
+        }
+        *self = new;
+        Ok(())
+    }
+
+    /// Takes the text of this document with another entry at a place, where it reads as that is meant. After a
+    /// refusal the document is as it was.
+    pub(crate) fn take_replaced(
+        &mut self,
+        alloc: Global,
+        text: &str,
+        place: &[Step],
+        item: &NewItem,
+    ) -> CargoResult<()>
+        requires written { (form : Text) → IsManifest self.old.bytes form
+            → text.now ≡ replaced_text (place_seen place.now) (item_seen item.now) form }
+        ensures bytes { IfOk result (λ _. (form : Text) → IsManifest self.old.bytes form
+            → self.new.bytes ≡ replaced_text (place_seen place.now) (item_seen item.now) form) }
+        ensures tree { IfOk result (λ _. HasReplaced (place_seen place.now) (item_seen item.now)
+            (tree_of self.old) (tree_of self.new)) }
+        ensures err { IfErr result (λ _. self.new ≡ self.old) }
+        ensures refused { IfErr result (λ e. IsMemory e ⊎ ((e ≡ EditRefused)
+            × ReplaceFails (place_seen place.now) (item_seen item.now) self.old.bytes)) }
+    {
+        self.has_form();
+        let new = read_edited(alloc, text)?;
+        if !self.has_replaced(&new, place, item) {
+            return Err(Error::EditRefused);
+        }
+        *self = new;
+        Ok(())
+    }
+}
