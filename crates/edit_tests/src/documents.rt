@@ -1,9 +1,0 @@
-//! Tests of documents.
-mod answers;
-mod arrays;
-mod keys;
-mod literals;
-mod paths;
-mod shown;
-mod texts;
-mod values;
