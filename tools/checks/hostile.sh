@@ -12,12 +12,16 @@ refused() { # name, status wanted, and in how many seconds
 }
 PROGRAM=$1
 repeat() { awk -v text="$1" -v count="$2" 'BEGIN { for (i = 0; i < count; i++) printf "%s", text }'; }
-for open in '[' '{a='; do
+for open in '[' '{a=' '{\na=' '{#\na='; do
   { printf 'a = '; repeat "$open" 100000; } > "$room/Cargo.toml"
   refused "100,000 times $open" 1
 done
 { printf 'a'; repeat '.a' 100000; printf ' = 1\n'; } > "$room/Cargo.toml"
 refused '100,000 parts in a key' 1
+{ printf 'a = { b = 1'; repeat '#\n' 500000; printf ', }\n'; } > "$room/Cargo.toml"
+refused '500,000 comments in an inline table' 0
+{ printf 'a = { b = 1,'; repeat '\n' 1000000; printf ', }\n'; } > "$room/Cargo.toml"
+refused 'a million line ends between two commas' 1
 for parts in 80 81; do
   # the key of a pair, and a header, each of so many parts: a place has at most 80 steps
   case $parts in 80) want=0 ;; *) want=1 ;; esac

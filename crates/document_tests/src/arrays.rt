@@ -103,7 +103,7 @@ no|read|a = [ # ]~\
 no|read|a = [1\r2]~\
 no|read|a = [1] 2~\
 yes|read|a = { b = [\n] }~\
-no|read|a = { b = []\n}~\
+yes|read|a = { b = []\n}~\
 no|read|a = [1]\n[a]\n~\
 no|read|a = [1]\na = [2]\n";
 

@@ -20,7 +20,7 @@ no|read a key twice, spelled otherwise|a = true\n\"\\u0061\" = true\n~\
 no|read a header twice|[a]\n[a]\n~\
 yes|read one key in two tables|[a]\nx = true\n[b]\nx = true\n~\
 no|read a member twice|a = { x = true, x = false }\n~\
-no|read a comma after the last member|a = { x = true, }\n~\
+yes|read a comma after the last member|a = { x = true, }\n~\
 no|read no value|a =\n~\
 yes|read a byte order mark alone|\u{feff}~\
 yes|read a byte order mark first|\u{feff}[a]\n~\

@@ -64,3 +64,4 @@ pub mod OnTexts
 pub mod StandardKeys
 pub mod StandardValues
 pub mod StandardTables
+pub mod StandardInline

@@ -1,6 +1,6 @@
 -- A document with strings written at places is a document again, of the same part of the grammar, with the tree that is meant.
 use Rattle.std.proofs.Common.{◌≡◌, ℕ, suc, true, false, ◌||◌, cond, List, [], ◌∷◌, ◌++◌, Option, None, Some, option_map, refl, sym, ap, ◌∙◌, true≢false}
-use Rattle.edit_syntax.specs.Grammar.{Value, basic, literal, multi_basic, multi_literal, boolean, integer, float, datetime, array, inline, Elements, no_elements, last_element, element, Members, no_members, last_member, member, Statement, pair, header, element_header, empty_line, full_line, Lines, one_line, more_lines, Text, text, IsValue, AreElements, AreMembers, IsMember, IsStatement, AreLines}
+use Rattle.edit_syntax.specs.Grammar.{Value, basic, literal, multi_basic, multi_literal, boolean, integer, float, datetime, array, inline, Elements, no_elements, last_element, element, Members, no_members, last_member, member, Statement, pair, header, element_header, empty_line, full_line, Lines, one_line, more_lines, Text, text, IsValue, AreElements, AreMembers, IsStatement, AreLines}
 use Rattle.edit_document.specs.Assertions.{Place, Step, at, index, names, named, same_place, leaf, Assertion, of_statement, assertions, prefix_after, NoClash, IsDocument}
 use Rattle.edit_document.specs.Tree.{View, string, view_at, view_of_kind, kind_at}
 use Rattle.edit_document.specs.Supported.{IsManifest}
@@ -23,11 +23,6 @@ formed_put edits p u h = go (new_text edits p)
     go : (o : Option (List ℕ)) → IsValue (literal_or o u)
     go None = h
     go (Some said) = literal_is_value said
-
-member_stays : (edits : Edits) (p : Place) (ms : Members) → IsMember ms → IsMember (replaced_members edits p ms)
-member_stays edits p no_members h = h
-member_stays edits p (last_member k a b v c) h = tt
-member_stays edits p (member k a b v c d ms) h = tt
 
 mutual
   formed_inside : (edits : Edits) (p : Place) (v : Value) → IsValue v → IsValue (replaced_inside edits p v)
@@ -53,7 +48,7 @@ mutual
   formed_members edits p (last_member k a b v c) h =
       (h.0, h.1, h.2, formed_put edits (named p (names k)) _ (formed_inside edits (named p (names k)) v h.3), h.4)
   formed_members edits p (member k a b v c d ms) h =
-      (h.0, h.1, h.2, formed_put edits (named p (names k)) _ (formed_inside edits (named p (names k)) v h.3), h.4, h.5, formed_members edits p ms h.6, member_stays edits p ms h.7)
+      (h.0, h.1, h.2, formed_put edits (named p (names k)) _ (formed_inside edits (named p (names k)) v h.3), h.4, h.5, formed_members edits p ms h.6)
 
 formed_statement : (edits : Edits) (prefix : Place) (s : Statement) → IsStatement s → IsStatement (replaced_statement edits prefix s)
 formed_statement edits prefix (pair k a b v) h = (h.0, h.1, h.2, formed_put edits (named prefix (names k)) _ (formed_inside edits (named prefix (names k)) v h.3))

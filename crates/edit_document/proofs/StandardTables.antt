@@ -151,11 +151,6 @@ pub tables_in_an_array : Shows (codes "points = [ { x = 1, y = 2, z = 3 },\n    
 unfolding on_texts
 tables_in_an_array = shows (codes "points = [ { x = 1, y = 2, z = 3 },\n           { x = 7, y = 8, z = 9 },\n           { x = 2, y = 4, z = 8 } ]") (key (codes "points") ∷ index 2 ∷ key (codes "z") ∷ []) (whole (codes "8")) refl refl
 
--- "Inline Table": a comma at the end
-pub inline_comma_at_the_end : IsNone (codes "t = { a = true, }")
-unfolding on_texts
-inline_comma_at_the_end = is_none (codes "t = { a = true, }") refl refl
-
 -- The document of no byte
 pub empty_document : Shows [] [] (table [])
 unfolding on_texts

@@ -6,6 +6,7 @@ use Rattle.std.proofs.lemmas.List.{length-append}
 use Rattle.edit_syntax.specs.Characters.{quote, apostrophe, right_brace, is_blank, is_bare, All}
 use Rattle.edit_syntax.specs.Strings.{Part, bare, basic_part, literal_part, part, IsPart, Key, Dotted, key, dotted, IsKey}
 use Rattle.edit_syntax.specs.Reading.{◌>>=◌, first, front, after, blanks, past_blanks, basic_at, literal_at, part_at, dotted_at, key_at}
+use Rattle.edit_syntax.proofs.GapLaws.{opens_gap}
 use Rattle.edit_syntax.proofs.TokenLaws.{bind_some, chosen, tested, some_is, first_is, run_parts, run_all, front_again, after_again, length-pieces, basic_sound, basic_again, literal_sound, literal_again}
 
 -- what may follow a bare key
@@ -50,15 +51,15 @@ part_again (bare (b ∷ text)) rest h ends =
 
 -- ---- keys
 
-bare_first : (b : ℕ) → is_bare b ≡ true → (is_blank b ≡ false) × (eqb b right_brace ≡ false)
-bare_first b h = (grind (arith, nat_tests), grind (arith, nat_tests))
+bare_first : (b : ℕ) → is_bare b ≡ true → (is_blank b ≡ false) × (opens_gap b ≡ false) × (eqb b right_brace ≡ false)
+bare_first b h = (grind (arith, nat_tests), grind (arith, nat_tests), grind (arith, nat_tests))
 
--- a part begins with neither white space nor a closing brace
-pub part_first : (k : Part) (rest : List ℕ) → IsPart k → (is_blank (first (part k rest)) ≡ false) × (eqb (first (part k rest)) right_brace ≡ false)
+-- a part begins with neither white space nor a gap nor a closing brace
+pub part_first : (k : Part) (rest : List ℕ) → IsPart k → (is_blank (first (part k rest)) ≡ false) × (opens_gap (first (part k rest)) ≡ false) × (eqb (first (part k rest)) right_brace ≡ false)
 part_first (bare []) rest h = absurd (omega (arith, h.0))
 part_first (bare (b ∷ text)) rest h = bare_first b h.1.0
-part_first (basic_part ps) rest h = (refl, refl)
-part_first (literal_part text) rest h = (refl, refl)
+part_first (basic_part ps) rest h = (refl, refl, refl)
+part_first (literal_part text) rest h = (refl, refl, refl)
 
 -- white space and then this byte ends a bare key
 pub ends_bare : (a : List ℕ) (b : ℕ) (rest : List ℕ) → All is_blank a → is_bare b ≡ false → EndsBare (a ++ (b ∷ rest))

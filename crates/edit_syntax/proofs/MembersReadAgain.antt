@@ -1,20 +1,19 @@
 -- Pairs, members and elements that are spelled so are read, where their values are.
-use Rattle.std.proofs.Common.{◌≡◌, ℕ, zero, suc, ◌+◌, ◌≤◌, not, true, false, ◌&&◌, ◌==◌, eqb, Bool, List, [], ◌∷◌, ◌++◌, length, Some, refl, sym, ap, subst, arith}
+use Rattle.std.proofs.Common.{◌≡◌, ℕ, zero, suc, ◌+◌, ◌≤◌, not, true, false, ◌&&◌, ◌==◌, eqb, Bool, List, [], ◌∷◌, ◌++◌, length, Some, refl, ap, arith}
 use Rattle.std.proofs.lemmas.Bool.Decides.{nat_tests}
 use Rattle.std.proofs.lemmas.List.{length-append}
 use Rattle.edit_syntax.specs.Characters.{quote, apostrophe, comma, equals, right_bracket, right_brace, is_blank, All}
 use Rattle.edit_syntax.specs.Strings.{Part, bare, basic_part, literal_part, part, Key, Dotted, key, dotted, IsKey}
-use Rattle.edit_syntax.specs.Grammar.{Between, gap, Value, basic, literal, multi_basic, multi_literal, boolean, integer, float, datetime, array, inline, Elements, no_elements, last_element, element, Members, no_members, last_member, member, value, elements, members, IsValue, AreElements, AreMembers, IsMember}
+use Rattle.edit_syntax.specs.Grammar.{gap, Value, basic, literal, multi_basic, multi_literal, boolean, integer, float, datetime, array, inline, Elements, no_elements, last_element, element, Members, no_members, last_member, member, value, elements, members, IsValue, AreElements, AreMembers}
 use Rattle.edit_syntax.specs.Depth.{depth}
-use Rattle.edit_syntax.specs.Reading.{Read, first, blank_gap, Pair, pair_at, members_at, elements_at}
+use Rattle.edit_syntax.specs.Reading.{Read, first, Pair, pair_at, members_at, elements_at}
 use Rattle.edit_syntax.proofs.TokenLaws.{front_again, after_again, length-pieces}
 use Rattle.edit_syntax.proofs.KeyLaws.{part_first, key_again, ends_key}
-use Rattle.edit_syntax.proofs.ValueLaws.{gap_blanks, blank_gap_is, AreReadable, AreReadableElements, pair_text, IsPair}
+use Rattle.edit_syntax.proofs.ValueLaws.{AreReadable, AreReadableElements, pair_text, IsPair}
 use Rattle.edit_syntax.proofs.GapLaws.{opens_gap, gap_longer, front_gap_again, past_gap_again, gap_ends}
 use Rattle.edit_syntax.specs.Numbers.{integer_text, float_text, datetime_text}
-use Rattle.edit_syntax.specs.ReadingNumbers.{begins}
 use Rattle.edit_syntax.proofs.NumberReadAgain.{is_start, integer_start, float_start}
-use Rattle.edit_syntax.proofs.NumberEnds.{EndsValue, ends_value}
+use Rattle.edit_syntax.proofs.NumberEnds.{EndsValue}
 use Rattle.edit_syntax.proofs.DateReadAgain.{datetime_start}
 use Rattle.edit_syntax.proofs.ValueEdges.{value_rest}
 
@@ -61,11 +60,11 @@ dotted_longer (d ∷ ds) rest =
 pub key_longer : (k : Key) (rest : List ℕ) → length rest ≤ length (key k rest)
 key_longer k rest = omega (arith, part_longer k.first (dotted k.others rest), dotted_longer k.others rest)
 
--- how many members
-abbrev pub count : Members → ℕ
-count no_members = 0
-count (last_member k a b v c) = 1
-count (member k a b v c d ms) = suc (count ms)
+-- how many turns the members take
+abbrev pub member_turns : Members → ℕ
+member_turns no_members = 1
+member_turns (last_member k a b v c) = 1
+member_turns (member k a b v c d ms) = suc (member_turns ms)
 
 pub pair_longer : (k : Key) (a b : List ℕ) (rest : List ℕ) → suc (length rest) ≤ length (key k (a ++ (equals ∷ (b ++ rest))))
 pair_longer k a b rest = omega (arith, key_longer k (a ++ (equals ∷ (b ++ rest))), length-append a (equals ∷ (b ++ rest)), length-append b rest)
@@ -73,7 +72,7 @@ pair_longer k a b rest = omega (arith, key_longer k (a ++ (equals ∷ (b ++ rest
 pub value_longer : (v : Value) (rest : List ℕ) → IsValue v → length rest ≤ length (value v rest)
 value_longer v rest h = omega (arith, ap length (value_rest v rest), length-append (value v []) rest)
 
-pub members_longer : (ms : Members) (rest : List ℕ) → AreMembers ms → length rest + count ms ≤ length (members ms rest)
+pub members_longer : (ms : Members) (rest : List ℕ) → AreMembers ms → length rest + member_turns ms ≤ suc (length (members ms rest))
 members_longer no_members rest h = omega arith
 members_longer (last_member k a b v c) rest h = omega (arith, pair_longer k a b (value v (gap c rest)), value_longer v (gap c rest) h.3, gap_longer c rest)
 members_longer (member k a b v c d ms) rest h =
@@ -88,61 +87,45 @@ AgainAll read no_members = Unit {0}
 AgainAll read (last_member k a b v c) = Again read v
 AgainAll read (member k a b v c d ms) = Again read v × AgainAll read ms
 
--- a key begins with neither white space nor a closing brace
-pub key_first : (k : Key) (rest : List ℕ) → IsKey k → (is_blank (first (key k rest)) ≡ false) × (eqb (first (key k rest)) right_brace ≡ false)
+-- a key begins with neither white space nor a gap nor a closing brace
+pub key_first : (k : Key) (rest : List ℕ) → IsKey k → (is_blank (first (key k rest)) ≡ false) × (opens_gap (first (key k rest)) ≡ false) × (eqb (first (key k rest)) right_brace ≡ false)
 key_first k rest h = part_first k.first (dotted k.others rest) h.0
 
-pub members_first : (ms : Members) (rest : List ℕ) → AreMembers ms → IsMember ms → (is_blank (first (members ms rest)) ≡ false) × (eqb (first (members ms rest)) right_brace ≡ false)
-members_first no_members rest h some = absurd some
-members_first (last_member k a b v c) rest h some = key_first k _ h.0
-members_first (member k a b v c d ms) rest h some = key_first k _ h.0
+-- what stands between the braces begins with no gap
+pub members_gapless : (ms : Members) (rest : List ℕ) → AreMembers ms → opens_gap (first (members ms (right_brace ∷ rest))) ≡ false
+members_gapless no_members rest h = refl
+members_gapless (last_member k a b v c) rest h = (key_first k _ h.0).1
+members_gapless (member k a b v c d ms) rest h = (key_first k _ h.0).1
 
 -- the pair of a member
 pair_of : (n : ℕ) (p : Pair) → IsKey p.key → All is_blank p.before → All is_blank p.behind → IsValue p.value → depth p.value ≤ n → IsPair n p
 pair_of n p hk ha hb hv le = record { key = hk; before = ha; behind = hb; value = record { valid = hv; shallow = le } }
 
-last_again : (n : ℕ) (read : List ℕ → Read Value) (count : ℕ) (p : Pair) (c rest : List ℕ) → IsPair n p → All is_blank c → Again read p.value
-    → members_at read (suc count) (pair_text p (c ++ (right_brace ∷ rest))) ≡ Some (last_member p.key p.before p.behind p.value (blank_gap c), rest)
+pub members_again : (n : ℕ) (read : List ℕ → Read Value) (few : ℕ) (ms : Members) (rest : List ℕ) → AreReadable n ms → AgainAll read ms → member_turns ms ≤ few → members_at read few (members ms (right_brace ∷ rest)) ≡ Some (ms, rest)
 unfolding members_at
-last_again n read count p c rest h hc again =
-    let end = right_brace ∷ rest in
-    rw (pair_again n read p (c ++ end) h again (ends_value c end hc refl), after_again is_blank c end hc refl, front_again is_blank c end hc refl) refl
-
-more_again : (n : ℕ) (read : List ℕ → Read Value) (count : ℕ) (p : Pair) (c d : List ℕ) (ms : Members) (more rest : List ℕ) → IsPair n p → All is_blank c → All is_blank d → Again read p.value → is_blank (first more) ≡ false → members_at read count more ≡ Some (ms, rest)
-    → members_at read (suc count) (pair_text p (c ++ (comma ∷ (d ++ more)))) ≡ Some (member p.key p.before p.behind p.value (blank_gap c) (blank_gap d) ms, rest)
-unfolding members_at
-more_again n read count p c d ms more rest h hc hd again begins others =
-    let end = comma ∷ (d ++ more) in
-    rw (pair_again n read p (c ++ end) h again (ends_value c end hc refl), after_again is_blank c end hc refl, front_again is_blank c end hc refl, after_again is_blank d more hd begins, front_again is_blank d more hd begins, others) refl
-
-pub members_again : (n : ℕ) (read : List ℕ → Read Value) (few : ℕ) (ms : Members) (rest : List ℕ) → AreReadable n ms → IsMember ms → AgainAll read ms → count ms ≤ few → members_at read few (members ms (right_brace ∷ rest)) ≡ Some (ms, rest)
-members_again n read few no_members rest h some again le = absurd some
-members_again n read zero (last_member k a b v c) rest h some again le = absurd (omega arith)
-members_again n read zero (member k a b v c d ms) rest h some again le = absurd (omega arith)
-members_again n read (suc few) (last_member k a b v c) rest h some again le =
+members_again n read zero no_members rest h again le = absurd (omega arith)
+members_again n read zero (last_member k a b v c) rest h again le = absurd (omega arith)
+members_again n read zero (member k a b v c d ms) rest h again le = absurd (omega arith)
+members_again n read (suc few) no_members rest h again le = refl
+members_again n read (suc few) (last_member k a b v c) rest h again le =
     let p : Pair = record { key = k; before = a; behind = b; value = v } in
     let hv = h.valid in
-    let one = pair_of n p hv.0 hv.1 hv.2 hv.3 h.shallow in
-    let g = blank_gap_is c hv.4 in
-    let here : members_at read (suc few) (pair_text p (gap (blank_gap g.0) (right_brace ∷ rest))) ≡ Some (last_member k a b v (blank_gap g.0), rest) =
-    rw (gap_blanks g.0 (right_brace ∷ rest)) (last_again n read few p g.0 rest one g.2 again) in
-    subst (λ (y : List Between). members_at read (suc few) (pair_text p (gap y (right_brace ∷ rest))) ≡ Some (last_member k a b v y, rest)) (sym g.1) here
-members_again n read (suc few) (member k a b v c d ms) rest h some again le =
+    let end = right_brace ∷ rest in
+    let begins = (key_first k (a ++ (equals ∷ (b ++ value v (gap c end)))) hv.0).2 in
+    let one = pair_again n read p (gap c end) (pair_of n p hv.0 hv.1 hv.2 hv.3 h.shallow) again (gap_ends c end hv.4 refl) in
+    rw (begins, one, past_gap_again c end hv.4 refl, front_gap_again c end hv.4 refl) refl
+members_again n read (suc few) (member k a b v c d ms) rest h again le =
     let p : Pair = record { key = k; before = a; behind = b; value = v } in
     let hv = h.valid in
     let hd : depth v ≤ n = let w = h.shallow in omega arith in
     let hms : AreReadable n ms = record { valid = hv.6; shallow = let w = h.shallow in omega arith } in
-    let one = pair_of n p hv.0 hv.1 hv.2 hv.3 hd in
-    let g = blank_gap_is c hv.4 in
-    let i = blank_gap_is d hv.5 in
     let more = members ms (right_brace ∷ rest) in
-    let begins = (members_first ms (right_brace ∷ rest) hv.6 hv.7).0 in
-    let others = members_again n read few ms rest hms hv.7 again.1 (omega arith) in
-    let here : members_at read (suc few) (pair_text p (gap (blank_gap g.0) (comma ∷ gap (blank_gap i.0) more))) ≡ Some (member k a b v (blank_gap g.0) (blank_gap i.0) ms, rest) =
-    rw (gap_blanks g.0 (comma ∷ gap (blank_gap i.0) more), gap_blanks i.0 more) (more_again n read few p g.0 i.0 ms more rest one g.2 i.2 again.0 begins others) in
-    let half : members_at read (suc few) (pair_text p (gap c (comma ∷ gap (blank_gap i.0) more))) ≡ Some (member k a b v c (blank_gap i.0) ms, rest) =
-    subst (λ (y : List Between). members_at read (suc few) (pair_text p (gap y (comma ∷ gap (blank_gap i.0) more))) ≡ Some (member k a b v y (blank_gap i.0) ms, rest)) (sym g.1) here in
-    subst (λ (y : List Between). members_at read (suc few) (pair_text p (gap c (comma ∷ gap y more))) ≡ Some (member k a b v c y ms, rest)) (sym i.1) half
+    let end = comma ∷ gap d more in
+    let begins = (key_first k (a ++ (equals ∷ (b ++ value v (gap c end)))) hv.0).2 in
+    let one = pair_again n read p (gap c end) (pair_of n p hv.0 hv.1 hv.2 hv.3 hd) again.0 (gap_ends c end hv.4 refl) in
+    let inner = members_gapless ms rest hv.6 in
+    let others = members_again n read few ms rest hms again.1 (omega arith) in
+    rw (begins, one, past_gap_again c end hv.4 refl, front_gap_again c end hv.4 refl, past_gap_again d more hv.5 inner, front_gap_again d more hv.5 inner, others) refl
 
 -- ---- elements
 

@@ -10,11 +10,12 @@ use Rattle.edit_syntax.specs.declared.read.marks.ReadError.TheVariants.{Memory}
 use Rattle.edit_syntax.specs.Characters.{comma, equals, left_bracket, left_brace, right_brace}
 use Rattle.edit_syntax.specs.Strings.{Key, key}
 use Rattle.edit_syntax.specs.Grammar.{gap, Value, inline, Members, no_members, last_member, member, value, members}
-use Rattle.edit_syntax.specs.Reading.{◌>>=◌, Read, first, blanks, past_blanks, blank_gap, past, key_at, Pair, pair_at, members_at, value_at}
+use Rattle.edit_syntax.specs.Reading.{◌>>=◌, Read, first, blanks, past_blanks, past, key_at, Pair, pair_at, members_at, value_at, gap_front, past_gap}
 use Rattle.edit_syntax.specs.Marks.{mark, key_marks, value_marks, members_marks}
 use Rattle.edit_syntax.specs.Noting.{Notes, pair_marks, inner_marks}
 use Rattle.edit_syntax.proofs.TokenLaws.{first_is, past_some}
-use Rattle.edit_syntax.proofs.ValueLaws.{gap_parts, blank_parts, Sound, members_sound, value_sound}
+use Rattle.edit_syntax.proofs.GapLaws.{front_parts}
+use Rattle.edit_syntax.proofs.ValueLaws.{blank_parts, Sound, members_sound, value_sound}
 
 -- ---- pairs
 
@@ -59,36 +60,37 @@ pair_failed read text old new e e2 r was same h =
 
 -- ---- members
 
+-- a member before others
 abbrev pub made : Pair → List ℕ → Members → Members
-made p r ms = member p.key p.before p.behind p.value (blank_gap (blanks r)) (blank_gap (blanks (drop 1 (past_blanks r)))) ms
+made p r ms = member p.key p.before p.behind p.value (gap_front r) (gap_front (drop 1 (past_gap r))) ms
 
-pub members_more : (read : List ℕ → Read Value) (count : ℕ) (text r : List ℕ) (p : Pair) → pair_at read text ≡ Some (p, r) → eqb (first (past_blanks r)) comma ≡ true
-    → members_at read (suc count) text ≡ (members_at read count (past_blanks (drop 1 (past_blanks r))) >>= λ ms. Some (made p r ms.0, ms.1))
+members_more : (read : List ℕ → Read Value) (count : ℕ) (text r : List ℕ) (p : Pair) → eqb (first text) right_brace ≡ false → pair_at read text ≡ Some (p, r) → eqb (first (past_gap r)) comma ≡ true
+    → members_at read (suc count) text ≡ (members_at read count (past_gap (drop 1 (past_gap r))) >>= λ ms. Some (made p r ms.0, ms.1))
 unfolding members_at
-members_more read count text r p e sign = rw (e, sign) refl
+members_more read count text r p unclosed e sign = rw (unclosed, e, sign) refl
 
-made_marks : (n : ℕ) (read : List ℕ → Read Value) → Sound n read → (count : ℕ) (r : List ℕ) (p : Pair) (ms : Members) (after : List ℕ) → eqb (first (past_blanks r)) comma ≡ true
-    → members_at read count (past_blanks (drop 1 (past_blanks r))) ≡ Some (ms, after) → inner_marks (made p r ms) after ≡ pair_marks p r ++ inner_marks ms after
+made_marks : (n : ℕ) (read : List ℕ → Read Value) → Sound n read → (count : ℕ) (r : List ℕ) (p : Pair) (ms : Members) (after : List ℕ) → eqb (first (past_gap r)) comma ≡ true
+    → members_at read count (past_gap (drop 1 (past_gap r))) ≡ Some (ms, after) → inner_marks (made p r ms) after ≡ pair_marks p r ++ inner_marks ms after
 made_marks n read sound count r p ms after sign e =
-    let next = drop 1 (past_blanks r) in
+    let next = drop 1 (past_gap r) in
     let more = members ms (right_brace ∷ after) in
-    let others = members_sound n read sound count (past_blanks next) (ms, after) e in
-    let tail = comma ∷ gap (blank_gap (blanks next)) more in
-    let two : next ≡ gap (blank_gap (blanks next)) more = gap_parts next more others.0 in
-    let whole : r ≡ gap (blank_gap (blanks r)) tail = gap_parts r tail (first_is comma (past_blanks r) (omega arith) sign ∙ ap (λ (t : List ℕ). comma ∷ t) two) in
+    let others = members_sound n read sound count (past_gap next) (ms, after) e in
+    let tail = comma ∷ gap (gap_front next) more in
+    let two : next ≡ gap (gap_front next) more = front_parts next more others.0 in
+    let whole : r ≡ gap (gap_front r) tail = front_parts r tail (first_is comma (past_gap r) (omega arith) sign ∙ ap (λ (t : List ℕ). comma ∷ t) two) in
     let close = mark kinds.CloseTable (right_brace ∷ after) after ∷ [] in
-    let one : inner_marks (made p r ms) after ≡ (pair_marks p (gap (blank_gap (blanks r)) tail) ++ members_marks ms (right_brace ∷ after)) ++ close = refl in
-    one ∙ append_assoc (pair_marks p (gap (blank_gap (blanks r)) tail)) (members_marks ms (right_brace ∷ after)) close ∙ ap (λ (t : List ℕ). pair_marks p t ++ inner_marks ms after) (sym whole)
+    let one : inner_marks (made p r ms) after ≡ (pair_marks p (gap (gap_front r) tail) ++ members_marks ms (right_brace ∷ after)) ++ close = refl in
+    one ∙ append_assoc (pair_marks p (gap (gap_front r) tail)) (members_marks ms (right_brace ∷ after)) close ∙ ap (λ (t : List ℕ). pair_marks p t ++ inner_marks ms after) (sym whole)
 
 -- whatever is read from here on, behind these marks, completes what is read from the start behind the old ones
 pub record Completes (read : List ℕ → Read Value) (total : Read Members) (count : ℕ) (text : List ℕ) (old out : List Mark) : Type 0 where
   pub some : (x : Members × List ℕ) → members_at read count text ≡ Some x → (ms : Members) × (total ≡ Some (ms, x.1)) × (out ++ inner_marks x.0 x.1 ≡ old ++ inner_marks ms x.1)
   pub none : members_at read count text ≡ None → total ≡ None
 
-pub members_turn : (n : ℕ) (read : List ℕ → Read Value) → Sound n read → (total : Read Members) (count : ℕ) (text r : List ℕ) (p : Pair) (old out new : List Mark) → pair_at read text ≡ Some (p, r) → eqb (first (past_blanks r)) comma ≡ true
-    → new ≡ out ++ pair_marks p r → Completes read total (suc count) text old out → Completes read total count (past_blanks (drop 1 (past_blanks r))) old new
-members_turn n read sound total count text r p old out new e sign noted before =
-    let step = members_more read count text r p e sign in
+pub members_turn : (n : ℕ) (read : List ℕ → Read Value) → Sound n read → (total : Read Members) (count : ℕ) (text r : List ℕ) (p : Pair) (old out new : List Mark) → eqb (first text) right_brace ≡ false → pair_at read text ≡ Some (p, r)
+    → eqb (first (past_gap r)) comma ≡ true → new ≡ out ++ pair_marks p r → Completes read total (suc count) text old out → Completes read total count (past_gap (drop 1 (past_gap r))) old new
+members_turn n read sound total count text r p old out new unclosed e sign noted before =
+    let step = members_more read count text r p unclosed e sign in
     record {
       some = λ x h.
           let here : members_at read (suc count) text ≡ Some (made p r x.0, x.1) = step ∙ rw h refl in
@@ -97,81 +99,76 @@ members_turn n read sound total count text r p old out new e sign noted before =
       none = λ h. before.none (step ∙ rw h refl);
     }
 
-pub members_over : (read : List ℕ → Read Value) (count : ℕ) (text r : List ℕ) (p : Pair) → pair_at read text ≡ Some (p, r) → eqb (first (past_blanks r)) comma ≡ false
-    → members_at read (suc count) text ≡ (past right_brace (past_blanks r) >>= λ rest. Some (last_member p.key p.before p.behind p.value (blank_gap (blanks r)), rest))
+members_over : (read : List ℕ → Read Value) (count : ℕ) (text r : List ℕ) (p : Pair) → eqb (first text) right_brace ≡ false → pair_at read text ≡ Some (p, r) → eqb (first (past_gap r)) comma ≡ false
+    → members_at read (suc count) text ≡ (past right_brace (past_gap r) >>= λ rest. Some (last_member p.key p.before p.behind p.value (gap_front r), rest))
 unfolding members_at
-members_over read count text r p e sign = rw (e, sign) refl
+members_over read count text r p unclosed e sign = rw (unclosed, e, sign) refl
 
-pub members_done : (read : List ℕ → Read Value) (total : Read Members) (count : ℕ) (text r after : List ℕ) (p : Pair) (old out mid new : List Mark) → pair_at read text ≡ Some (p, r) → eqb (first (past_blanks r)) comma ≡ false
-    → Some after ≡ past right_brace (past_blanks r) → mid ≡ out ++ pair_marks p r → new ≡ mid ++ (mark kinds.CloseTable (past_blanks r) after ∷ []) → Completes read total (suc count) text old out
+members_closed : (read : List ℕ → Read Value) (count : ℕ) (text : List ℕ) → eqb (first text) right_brace ≡ true → members_at read (suc count) text ≡ Some (no_members, drop 1 text)
+unfolding members_at
+members_closed read count text closed = rw closed refl
+
+-- the closing brace stands where a member may
+pub members_end : (read : List ℕ → Read Value) (total : Read Members) (count : ℕ) (text : List ℕ) (old out new : List Mark) → eqb (first text) right_brace ≡ true → new ≡ out ++ (mark kinds.CloseTable text (drop 1 text) ∷ [])
+    → Completes read total (suc count) text old out → (ms : Members) × (total ≡ Some (ms, drop 1 text)) × (new ≡ old ++ inner_marks ms (drop 1 text))
+members_end read total count text old out new closed ended before =
+    let b = before.some (no_members, drop 1 text) (members_closed read count text closed) in
+    let brace : text ≡ right_brace ∷ drop 1 text = first_is right_brace text (omega arith) closed in
+    (b.0, b.1, ended ∙ ap (λ (t : List ℕ). out ++ (mark kinds.CloseTable t (drop 1 text) ∷ [])) brace ∙ b.2)
+
+-- the closing brace stands behind a member
+pub members_done : (read : List ℕ → Read Value) (total : Read Members) (count : ℕ) (text r after : List ℕ) (p : Pair) (old out mid new : List Mark) → eqb (first text) right_brace ≡ false → pair_at read text ≡ Some (p, r) → eqb (first (past_gap r)) comma ≡ false
+    → Some after ≡ past right_brace (past_gap r) → mid ≡ out ++ pair_marks p r → new ≡ mid ++ (mark kinds.CloseTable (past_gap r) after ∷ []) → Completes read total (suc count) text old out
     → (ms : Members) × (total ≡ Some (ms, after)) × (new ≡ old ++ inner_marks ms after)
-members_done read total count text r after p old out mid new e sign closed noted ended before =
-    let c = blank_gap (blanks r) in
+members_done read total count text r after p old out mid new unclosed e sign closed noted ended before =
+    let c = gap_front r in
     let m = last_member p.key p.before p.behind p.value c in
-    let here : members_at read (suc count) text ≡ Some (m, after) = members_over read count text r p e sign ∙ rw (← closed) refl in
+    let here : members_at read (suc count) text ≡ Some (m, after) = members_over read count text r p unclosed e sign ∙ rw (← closed) refl in
     let b = before.some (m, after) here in
-    let brace : past_blanks r ≡ right_brace ∷ after = past_some right_brace (past_blanks r) after (omega arith) (sym closed) in
-    let whole : r ≡ gap c (right_brace ∷ after) = gap_parts r (right_brace ∷ after) brace in
+    let brace : past_gap r ≡ right_brace ∷ after = past_some right_brace (past_gap r) after (omega arith) (sym closed) in
+    let whole : r ≡ gap c (right_brace ∷ after) = front_parts r (right_brace ∷ after) brace in
     let close = mark kinds.CloseTable (right_brace ∷ after) after ∷ [] in
     let one : inner_marks m after ≡ pair_marks p (gap c (right_brace ∷ after)) ++ close = refl in
-    let all : inner_marks m after ≡ pair_marks p r ++ (mark kinds.CloseTable (past_blanks r) after ∷ []) =
+    let all : inner_marks m after ≡ pair_marks p r ++ (mark kinds.CloseTable (past_gap r) after ∷ []) =
     one ∙ ap (λ (t : List ℕ). pair_marks p t ++ close) (sym whole) ∙ ap (λ (t : List ℕ). pair_marks p r ++ (mark kinds.CloseTable t after ∷ [])) (sym brace) in
-    (b.0, b.1, ended ∙ ap (λ (t : List Mark). t ++ (mark kinds.CloseTable (past_blanks r) after ∷ [])) noted ∙ append_assoc out (pair_marks p r) (mark kinds.CloseTable (past_blanks r) after ∷ []) ∙ ap (λ (t : List Mark). out ++ t) (sym all) ∙ b.2)
+    (b.0, b.1, ended ∙ ap (λ (t : List Mark). t ++ (mark kinds.CloseTable (past_gap r) after ∷ [])) noted ∙ append_assoc out (pair_marks p r) (mark kinds.CloseTable (past_gap r) after ∷ []) ∙ ap (λ (t : List Mark). out ++ t) (sym all) ∙ b.2)
 
-pub members_refused : (read : List ℕ → Read Value) (total : Read Members) (count : ℕ) (text r : List ℕ) (p : Pair) (old out : List Mark) → pair_at read text ≡ Some (p, r) → eqb (first (past_blanks r)) comma ≡ false
-    → None ≡ past right_brace (past_blanks r) → Completes read total (suc count) text old out → total ≡ None
-members_refused read total count text r p old out e sign closed before = before.none (members_over read count text r p e sign ∙ rw (← closed) refl)
+pub members_refused : (read : List ℕ → Read Value) (total : Read Members) (count : ℕ) (text r : List ℕ) (p : Pair) (old out : List Mark) → eqb (first text) right_brace ≡ false → pair_at read text ≡ Some (p, r) → eqb (first (past_gap r)) comma ≡ false
+    → None ≡ past right_brace (past_gap r) → Completes read total (suc count) text old out → total ≡ None
+members_refused read total count text r p old out unclosed e sign closed before = before.none (members_over read count text r p unclosed e sign ∙ rw (← closed) refl)
 
-pub members_fail : (read : List ℕ → Read Value) (total : Read Members) (count : ℕ) (text : List ℕ) (old out : List Mark) → pair_at read text ≡ None → Completes read total (suc count) text old out → total ≡ None
+members_fail : (read : List ℕ → Read Value) (total : Read Members) (count : ℕ) (text : List ℕ) (old out : List Mark) → eqb (first text) right_brace ≡ false → pair_at read text ≡ None → Completes read total (suc count) text old out → total ≡ None
 unfolding members_at
-members_fail read total count text old out e before = before.none (rw e refl)
+members_fail read total count text old out unclosed e before = before.none (rw (unclosed, e) refl)
 
 pub members_none : (read : List ℕ → Read Value) (text : List ℕ) → members_at read 0 text ≡ None
 unfolding members_at
 members_none read text = refl
 
 -- the exit of a pair that was not read
-pub members_failed : (read : List ℕ → Read Value) (total : Read Members) (count : ℕ) (text : List ℕ) (old new : Vec Mark) (out : List Mark) (e e2 : ReadError) (r : Result (Bor (List ℕ)) ReadError) → r ≡ Err e2 → e2 ≡ e
+pub members_failed : (read : List ℕ → Read Value) (total : Read Members) (count : ℕ) (text : List ℕ) (old new : Vec Mark) (out : List Mark) (e e2 : ReadError) (r : Result (Bor (List ℕ)) ReadError) → r ≡ Err e2 → e2 ≡ e → eqb (first text) right_brace ≡ false
     → ((e ≡ Memory → ⊥) → pair_at read text ≡ None) → Completes read total (suc count) text old.items out → Notes inner_marks old new r total
-members_failed read total count text old new out e e2 r was same h before =
-    subst (λ (x : Result (Bor (List ℕ)) ReadError). Notes inner_marks old new x total) (sym was) (λ other. members_fail read total count text old.items out (h (λ m. other (same ∙ m))) before)
+members_failed read total count text old new out e e2 r was same unclosed h before =
+    subst (λ (x : Result (Bor (List ℕ)) ReadError). Notes inner_marks old new x total) (sym was) (λ other. members_fail read total count text old.items out unclosed (h (λ m. other (same ∙ m))) before)
 
 -- ---- inline tables
 
 brace_no_bracket : (b : ℕ) → eqb b left_brace ≡ true → eqb b left_bracket ≡ false
 brace_no_bracket b h = grind (arith, nat_tests)
 
-pub inline_noted : (n : ℕ) (old mid new : Vec Mark) (text : List ℕ) (r : Result (Bor (List ℕ)) ReadError) → eqb (first text) left_brace ≡ true → eqb (first (past_blanks (drop 1 text))) right_brace ≡ false
-    → mid.items ≡ old.items ++ (mark kinds.OpenTable text (drop 1 text) ∷ []) → Notes inner_marks mid new r (members_at (value_at n) (length text) (past_blanks (drop 1 text))) → Notes value_marks old new r (value_at (suc n) text)
+pub inline_noted : (n : ℕ) (old mid new : Vec Mark) (text : List ℕ) (r : Result (Bor (List ℕ)) ReadError) → eqb (first text) left_brace ≡ true
+    → mid.items ≡ old.items ++ (mark kinds.OpenTable text (drop 1 text) ∷ []) → Notes inner_marks mid new r (members_at (value_at n) (length text) (past_gap (drop 1 text))) → Notes value_marks old new r (value_at (suc n) text)
 unfolding value_at
-inline_noted n old mid new text (Ok after) opened other noted h =
+inline_noted n old mid new text (Ok after) opened noted h =
     let inner = drop 1 text in
-    let g = blank_gap (blanks inner) in
+    let g = gap_front inner in
     let v = inline g h.0 in
     let more = members h.0 (right_brace ∷ after.now) in
-    let here : value_at (suc n) text ≡ Some (v, after.now) = rw (brace_no_bracket (first text) opened, opened, other, h.1) refl in
+    let here : value_at (suc n) text ≡ Some (v, after.now) = rw (brace_no_bracket (first text) opened, opened, h.1) refl in
     let sound = value_sound (suc n) text (v, after.now) here in
-    let ms = members_sound n (value_at n) (value_sound n) (length text) (past_blanks inner) (h.0, after.now) h.1 in
-    let tail : inner ≡ gap g more = gap_parts inner more ms.0 in
+    let ms = members_sound n (value_at n) (value_sound n) (length text) (past_gap inner) (h.0, after.now) h.1 in
+    let tail : inner ≡ gap g more = front_parts inner more ms.0 in
     let same : mark kinds.OpenTable text inner ≡ mark kinds.OpenTable (value v after.now) (gap g more) =
     ap (λ (t : List ℕ). mark kinds.OpenTable t inner) sound.0 ∙ ap (λ (t : List ℕ). mark kinds.OpenTable (value v after.now) t) tail in
     (v, here, h.2 ∙ ap (λ (m : List Mark). m ++ inner_marks h.0 after.now) (noted ∙ ap (λ (m : Mark). old.items ++ (m ∷ [])) same) ∙ append_assoc old.items _ (inner_marks h.0 after.now))
-inline_noted n old mid new text (Err e) opened other noted h = λ refused. rw (brace_no_bracket (first text) opened, opened, other, h refused) refl
-
-pub empty_noted : (n : ℕ) (old mid new : List Mark) (text : List ℕ) → eqb (first text) left_brace ≡ true → eqb (first (past_blanks (drop 1 text))) right_brace ≡ true
-    → mid ≡ old ++ (mark kinds.OpenTable text (drop 1 text) ∷ []) → new ≡ mid ++ (mark kinds.CloseTable (past_blanks (drop 1 text)) (drop 1 (past_blanks (drop 1 text))) ∷ [])
-    → (v : Value) × (value_at (suc n) text ≡ Some (v, drop 1 (past_blanks (drop 1 text)))) × (new ≡ old ++ value_marks v (drop 1 (past_blanks (drop 1 text))))
-unfolding value_at
-empty_noted n old mid new text opened closed noted ended =
-    let inner = drop 1 text in
-    let after = drop 1 (past_blanks inner) in
-    let g = blank_gap (blanks inner) in
-    let v = inline g no_members in
-    let here : value_at (suc n) text ≡ Some (v, after) = rw (brace_no_bracket (first text) opened, opened, closed) refl in
-    let sound = value_sound (suc n) text (v, after) here in
-    let brace : past_blanks inner ≡ right_brace ∷ after = first_is right_brace (past_blanks inner) (omega arith) closed in
-    let tail : inner ≡ gap g (right_brace ∷ after) = gap_parts inner (right_brace ∷ after) brace in
-    let same : mark kinds.OpenTable text inner ≡ mark kinds.OpenTable (value v after) (gap g (right_brace ∷ after)) =
-    ap (λ (t : List ℕ). mark kinds.OpenTable t inner) sound.0 ∙ ap (λ (t : List ℕ). mark kinds.OpenTable (value v after) t) tail in
-    let last : mark kinds.CloseTable (past_blanks inner) after ≡ mark kinds.CloseTable (right_brace ∷ after) after = ap (λ (t : List ℕ). mark kinds.CloseTable t after) brace in
-    (v, here, ended ∙ ap (λ (m : List Mark). m ++ (mark kinds.CloseTable (past_blanks inner) after ∷ [])) noted ∙ append_assoc old (mark kinds.OpenTable text inner ∷ []) (mark kinds.CloseTable (past_blanks inner) after ∷ []) ∙ rw (same, last) refl)
+inline_noted n old mid new text (Err e) opened noted h = λ refused. rw (brace_no_bracket (first text) opened, opened, h refused) refl

@@ -1,11 +1,11 @@
 -- The laws of values: what is read is spelled so, and what is spelled so is read.
-use Rattle.std.proofs.Common.{◌≡◌, ℕ, if◌then◌else◌, zero, suc, ◌<◌, ◌≤◌, true, false, ◌&&◌, eqb, List, [], ◌∷◌, ◌++◌, length, slice_index, drop, Some, refl, sym, ap, subst, ◌∙◌, inl, inr, arith}
+use Rattle.std.proofs.Common.{◌≡◌, ℕ, if◌then◌else◌, zero, suc, ◌<◌, ◌≤◌, true, false, ◌&&◌, eqb, List, ◌∷◌, ◌++◌, length, slice_index, drop, Some, refl, ap, subst, ◌∙◌, inl, inr, arith}
 use Rattle.edit_syntax.specs.Characters.{quote, apostrophe, comma, equals, left_bracket, right_bracket, left_brace, right_brace, is_blank, All}
 use Rattle.edit_syntax.specs.Strings.{key, IsKey}
-use Rattle.edit_syntax.specs.Grammar.{three, Between, blank, break, remark, gap, IsGap, IsBlankGap, Value, basic, literal, multi_basic, multi_literal, boolean, integer, float, datetime, array, inline, Elements, no_elements, last_element, element, Members, no_members, last_member, member, value, elements, members, IsValue, AreElements, AreMembers, IsMember}
+use Rattle.edit_syntax.specs.Grammar.{three, Between, gap, IsGap, Value, basic, literal, multi_basic, multi_literal, boolean, integer, float, datetime, array, inline, Elements, no_elements, last_element, element, Members, no_members, last_member, member, value, elements, members, IsValue, AreElements, AreMembers}
 use Rattle.edit_syntax.specs.Depth.{depth, elements_depth, members_depth}
 use Rattle.edit_syntax.specs.ReadingNumbers.{begins, number_at}
-use Rattle.edit_syntax.specs.Reading.{◌>>=◌, Read, multi_at, first, past, blanks, past_blanks, blank_gap, gap_front, past_gap, basic_at, literal_at, key_at, scalar_at, starts, Pair, pair_at, members_at, elements_at, value_at}
+use Rattle.edit_syntax.specs.Reading.{◌>>=◌, Read, multi_at, first, past, blanks, past_blanks, gap_front, past_gap, basic_at, literal_at, key_at, scalar_at, starts, Pair, pair_at, members_at, elements_at, value_at}
 use Rattle.edit_syntax.proofs.TokenLaws.{bind_some, chosen, some_is, first_is, at_drop, past_some, run_parts, run_all, basic_sound, literal_sound}
 use Rattle.edit_syntax.proofs.KeyLaws.{key_sound}
 use Rattle.edit_syntax.proofs.NumberLaws.{IsNumber, begins_is, number_sound}
@@ -13,26 +13,9 @@ use Rattle.edit_syntax.proofs.MultiLaws.{multi_basic_sound, multi_literal_sound}
 use Rattle.edit_syntax.proofs.GapLaws.{front_parts, front_gap}
 use Rattle.std.proofs.lemmas.Bool.{and_parts}
 
--- ---- gaps of tabs and spaces
-
-pub gap_blanks : (bytes rest : List ℕ) → gap (blank_gap bytes) rest ≡ bytes ++ rest
-gap_blanks [] rest = refl
-gap_blanks (b ∷ bytes) rest = ap (λ (r : List ℕ). b ∷ r) (gap_blanks bytes rest)
-
-pub is_blank_gap : (bytes : List ℕ) → All is_blank bytes → IsBlankGap (blank_gap bytes)
-is_blank_gap [] h = tt
-is_blank_gap (b ∷ bytes) h = (h.0, is_blank_gap bytes h.1)
-
-pub blank_gap_is : (g : List Between) → IsBlankGap g → (bytes : List ℕ) × (g ≡ blank_gap bytes) × All is_blank bytes
-blank_gap_is [] h = ([], refl, tt)
-blank_gap_is (blank b ∷ g) h = let more = blank_gap_is g h.1 in (b ∷ more.0, ap (λ (r : List Between). blank b ∷ r) more.1, (h.0, more.2))
-blank_gap_is (break e ∷ g) h = absurd h.0
-blank_gap_is (remark text e ∷ g) h = absurd h.0
+-- ---- white space
 
 -- the tabs and spaces at the front, and what follows them
-pub gap_parts : (text rest : List ℕ) → past_blanks text ≡ rest → text ≡ gap (blank_gap (blanks text)) rest
-gap_parts text rest e = run_parts is_blank text ∙ ap (λ (r : List ℕ). blanks text ++ r) e ∙ sym (gap_blanks (blanks text) rest)
-
 pub blank_parts : (text rest : List ℕ) → past_blanks text ≡ rest → text ≡ blanks text ++ rest
 blank_parts text rest e = run_parts is_blank text ∙ ap (λ (r : List ℕ). blanks text ++ r) e
 
@@ -158,41 +141,48 @@ pair_sound n read sound text x e =
 -- ---- members
 
 -- the readability of a pair before others
-member_readable : (n : ℕ) (p : Pair) (c d : List Between) (ms : Members) → IsPair n p → IsBlankGap c → IsBlankGap d → IsMember ms → AreReadable n ms → AreReadable n (member p.key p.before p.behind p.value c d ms)
-member_readable n p c d ms one hc hd some others = record {
-  valid = (one.key, one.before, one.behind, one.value.valid, hc, hd, others.valid, some);
+member_readable : (n : ℕ) (p : Pair) (c d : List Between) (ms : Members) → IsPair n p → IsGap c → IsGap d → AreReadable n ms → AreReadable n (member p.key p.before p.behind p.value c d ms)
+member_readable n p c d ms one hc hd others = record {
+  valid = (one.key, one.before, one.behind, one.value.valid, hc, hd, others.valid);
   shallow = let k = one.value.shallow in let l = others.shallow in omega arith;
 }
 
-last_readable : (n : ℕ) (p : Pair) (c : List Between) → IsPair n p → IsBlankGap c → AreReadable n (last_member p.key p.before p.behind p.value c)
+last_readable : (n : ℕ) (p : Pair) (c : List Between) → IsPair n p → IsGap c → AreReadable n (last_member p.key p.before p.behind p.value c)
 last_readable n p c one hc = record {
   valid = (one.key, one.before, one.behind, one.value.valid, hc);
   shallow = one.value.shallow;
 }
 
-pub members_sound : (n : ℕ) (read : List ℕ → Read Value) → Sound n read → (count : ℕ) (text : List ℕ) (x : Members × List ℕ) → members_at read count text ≡ Some x → (text ≡ members x.0 (right_brace ∷ x.1)) × AreReadable n x.0 × IsMember x.0
+no_members_readable : (n : ℕ) → AreReadable n no_members
+no_members_readable n = record { valid = tt; shallow = omega arith }
+
+pub members_sound : (n : ℕ) (read : List ℕ → Read Value) → Sound n read → (count : ℕ) (text : List ℕ) (x : Members × List ℕ) → members_at read count text ≡ Some x → (text ≡ members x.0 (right_brace ∷ x.1)) × AreReadable n x.0
 unfolding members_at
 members_sound n read sound zero text x e = absurd cc
 members_sound n read sound (suc count) text x e =
-    let P : Members × List ℕ → Type 0 = λ y. (text ≡ members y.0 (right_brace ∷ y.1)) × AreReadable n y.0 × IsMember y.0 in
-    let a = bind_some (pair_at read text) _ x e in
-    let p = a.0.0 in
-    let r = a.0.1 in
-    let one = pair_sound n read sound text a.0 a.1 in
-    elim (chosen (eqb (first (past_blanks r)) comma) _ _ (Some x) a.2) [
-      | inl h ↦
-          let next = drop 1 (past_blanks r) in
-          let b = bind_some (members_at read count (past_blanks next)) _ x h.1 in
-          let others = members_sound n read sound count (past_blanks next) b.0 b.1 in
-          let more = members b.0.0 (right_brace ∷ b.0.1) in
-          let two : next ≡ gap (blank_gap (blanks next)) more = gap_parts next more others.0 in
-          let three : r ≡ gap (blank_gap (blanks r)) (comma ∷ gap (blank_gap (blanks next)) more) =
-          gap_parts r (comma ∷ gap (blank_gap (blanks next)) more) (first_is comma (past_blanks r) (omega arith) h.0 ∙ ap (λ (t : List ℕ). comma ∷ t) two) in
-          subst P (some_is _ x b.2) (one.0 ∙ ap (pair_text p) three, member_readable n p (blank_gap (blanks r)) (blank_gap (blanks next)) b.0.0 one.1 (is_blank_gap (blanks r) (run_all is_blank r)) (is_blank_gap (blanks next) (run_all is_blank next)) others.2 others.1, tt)
+    let P : Members × List ℕ → Type 0 = λ y. (text ≡ members y.0 (right_brace ∷ y.1)) × AreReadable n y.0 in
+    elim (chosen (eqb (first text) right_brace) _ _ (Some x) e) [
+      | inl h ↦ subst P (some_is _ x h.1) (first_is right_brace text (omega arith) h.0, no_members_readable n)
       | inr h ↦
-          let b = bind_some (past right_brace (past_blanks r)) _ x h.1 in
-          let two : r ≡ gap (blank_gap (blanks r)) (right_brace ∷ b.0) = gap_parts r (right_brace ∷ b.0) (past_some right_brace (past_blanks r) b.0 (omega arith) b.1) in
-          subst P (some_is _ x b.2) (one.0 ∙ ap (pair_text p) two, last_readable n p (blank_gap (blanks r)) one.1 (is_blank_gap (blanks r) (run_all is_blank r)), tt)
+          let a = bind_some (pair_at read text) _ x h.1 in
+          let p = a.0.0 in
+          let r = a.0.1 in
+          let one = pair_sound n read sound text a.0 a.1 in
+          elim (chosen (eqb (first (past_gap r)) comma) _ _ (Some x) a.2) [
+            | inl k ↦
+                let next = drop 1 (past_gap r) in
+                let b = bind_some (members_at read count (past_gap next)) _ x k.1 in
+                let others = members_sound n read sound count (past_gap next) b.0 b.1 in
+                let more = members b.0.0 (right_brace ∷ b.0.1) in
+                let two : next ≡ gap (gap_front next) more = front_parts next more others.0 in
+                let three : r ≡ gap (gap_front r) (comma ∷ gap (gap_front next) more) =
+                front_parts r (comma ∷ gap (gap_front next) more) (first_is comma (past_gap r) (omega arith) k.0 ∙ ap (λ (t : List ℕ). comma ∷ t) two) in
+                subst P (some_is _ x b.2) (one.0 ∙ ap (pair_text p) three, member_readable n p (gap_front r) (gap_front next) b.0.0 one.1 (front_gap r) (front_gap next) others.1)
+            | inr k ↦
+                let b = bind_some (past right_brace (past_gap r)) _ x k.1 in
+                let two : r ≡ gap (gap_front r) (right_brace ∷ b.0) = front_parts r (right_brace ∷ b.0) (past_some right_brace (past_gap r) b.0 (omega arith) b.1) in
+                subst P (some_is _ x b.2) (one.0 ∙ ap (pair_text p) two, last_readable n p (gap_front r) one.1 (front_gap r))
+          ]
     ]
 
 -- ---- elements
@@ -243,11 +233,8 @@ array_readable n g es hg h = record { valid = (hg, h.valid); shallow = let k = h
 
 -- ---- inline tables
 
-inline_readable : (n : ℕ) (g : List Between) (ms : Members) → IsBlankGap g → AreReadable n ms → IsReadable (suc n) (inline g ms)
+inline_readable : (n : ℕ) (g : List Between) (ms : Members) → IsGap g → AreReadable n ms → IsReadable (suc n) (inline g ms)
 inline_readable n g ms hg h = record { valid = (hg, h.valid); shallow = let k = h.shallow in omega arith }
-
-empty_readable : (n : ℕ) → AreReadable n no_members
-empty_readable n = record { valid = tt; shallow = omega arith }
 
 pub value_sound : (n : ℕ) → Sound n (value_at n)
 unfolding value_at
@@ -255,8 +242,6 @@ value_sound zero text x e = scalar_sound 0 text x e
 value_sound (suc n) text x e =
     let P : Value × List ℕ → Type 0 = λ y. (text ≡ value y.0 y.1) × IsReadable (suc n) y.0 in
     let inner = drop 1 text in
-    let g = blank_gap (blanks inner) in
-    let hg = is_blank_gap (blanks inner) (run_all is_blank inner) in
     elim (chosen (eqb (first text) left_bracket) _ _ (Some x) e) [
       | inl h ↦
           let b = bind_some (elements_at (value_at n) (length text) (past_gap inner)) _ x h.1 in
@@ -265,17 +250,10 @@ value_sound (suc n) text x e =
           subst P (some_is _ x b.2) (first_is left_bracket text (omega arith) h.0 ∙ ap (λ (t : List ℕ). left_bracket ∷ t) tail, array_readable n (gap_front inner) b.0.0 (front_gap inner) es.1)
       | inr other ↦ elim (chosen (eqb (first text) left_brace) _ _ (Some x) other.1) [
         | inl h ↦
-            let opened = first_is left_brace text (omega arith) h.0 in
-            elim (chosen (eqb (first (past_blanks inner)) right_brace) _ _ (Some x) h.1) [
-              | inl k ↦
-                  let tail : inner ≡ gap g (right_brace ∷ drop 1 (past_blanks inner)) = gap_parts inner (right_brace ∷ drop 1 (past_blanks inner)) (first_is right_brace (past_blanks inner) (omega arith) k.0) in
-                  subst P (some_is _ x k.1) (opened ∙ ap (λ (t : List ℕ). left_brace ∷ t) tail, inline_readable n g no_members hg (empty_readable n))
-              | inr k ↦
-                  let b = bind_some (members_at (value_at n) (length text) (past_blanks inner)) _ x k.1 in
-                  let ms = members_sound n (value_at n) (value_sound n) (length text) (past_blanks inner) b.0 b.1 in
-                  let tail : inner ≡ gap g (members b.0.0 (right_brace ∷ b.0.1)) = gap_parts inner (members b.0.0 (right_brace ∷ b.0.1)) ms.0 in
-                  subst P (some_is _ x b.2) (opened ∙ ap (λ (t : List ℕ). left_brace ∷ t) tail, inline_readable n g b.0.0 hg ms.1)
-            ]
+            let b = bind_some (members_at (value_at n) (length text) (past_gap inner)) _ x h.1 in
+            let ms = members_sound n (value_at n) (value_sound n) (length text) (past_gap inner) b.0 b.1 in
+            let tail : inner ≡ gap (gap_front inner) (members b.0.0 (right_brace ∷ b.0.1)) = front_parts inner (members b.0.0 (right_brace ∷ b.0.1)) ms.0 in
+            subst P (some_is _ x b.2) (first_is left_brace text (omega arith) h.0 ∙ ap (λ (t : List ℕ). left_brace ∷ t) tail, inline_readable n (gap_front inner) b.0.0 (front_gap inner) ms.1)
         | inr h ↦ scalar_sound (suc n) text x h.1
       ]
     ]

@@ -1,13 +1,12 @@
 -- What is spelled so is read, however the text was split.
-use Rattle.std.proofs.Common.{◌≡◌, ℕ, zero, suc, ◌≤◌, true, false, eqb, List, [], ◌∷◌, ◌++◌, length, Some, refl, sym, subst, ◌∙◌, arith}
+use Rattle.std.proofs.Common.{◌≡◌, ℕ, zero, suc, ◌≤◌, true, false, eqb, List, [], ◌∷◌, length, Some, refl, ◌∙◌, arith}
 use Rattle.std.proofs.lemmas.Bool.Decides.{nat_tests}
-use Rattle.std.proofs.lemmas.List.{length-append}
-use Rattle.edit_syntax.specs.Characters.{quote, apostrophe, left_bracket, right_bracket, left_brace, right_brace, is_blank, All}
-use Rattle.edit_syntax.specs.Grammar.{Between, gap, IsGap, IsBlankGap, Value, basic, literal, multi_basic, multi_literal, boolean, integer, float, datetime, array, inline, Elements, no_elements, last_element, element, Members, no_members, last_member, member, value, elements, members, IsValue, AreElements, AreMembers, IsMember}
+use Rattle.edit_syntax.specs.Characters.{quote, apostrophe, left_bracket, right_bracket, left_brace, right_brace, All}
+use Rattle.edit_syntax.specs.Grammar.{Between, gap, IsGap, Value, basic, literal, multi_basic, multi_literal, boolean, integer, float, datetime, array, inline, Elements, no_elements, last_element, element, Members, no_members, last_member, member, value, elements, members, IsValue, AreElements, AreMembers}
 use Rattle.edit_syntax.specs.Depth.{depth, elements_depth, members_depth}
-use Rattle.edit_syntax.specs.Reading.{first, blank_gap, scalar_at, value_at}
-use Rattle.edit_syntax.proofs.TokenLaws.{front_again, after_again, basic_again, literal_again}
-use Rattle.edit_syntax.proofs.ValueLaws.{gap_blanks, blank_gap_is, AreReadable, AreReadableElements}
+use Rattle.edit_syntax.specs.Reading.{first, scalar_at, value_at}
+use Rattle.edit_syntax.proofs.TokenLaws.{basic_again, literal_again}
+use Rattle.edit_syntax.proofs.ValueLaws.{AreReadable, AreReadableElements}
 use Rattle.edit_syntax.proofs.GapLaws.{gap_longer, front_gap_again, past_gap_again}
 use Rattle.edit_syntax.specs.Numbers.{integer_text, float_text, datetime_text}
 use Rattle.edit_syntax.specs.ReadingNumbers.{begins, number_at}
@@ -19,7 +18,7 @@ use Rattle.edit_syntax.proofs.MultiReadAgain.{multi_basic_again, multi_literal_a
 use Rattle.edit_syntax.proofs.NumberReadAgain.{is_start, integer_start, float_start, integer_again, float_again}
 use Rattle.edit_syntax.proofs.NumberEnds.{EndsValue}
 use Rattle.edit_syntax.proofs.DateReadAgain.{datetime_start, datetime_again}
-use Rattle.edit_syntax.proofs.MembersReadAgain.{Again, count, members_longer, AgainAll, members_first, members_again, elements_gapless, turns, elements_longer, AgainElements, elements_again}
+use Rattle.edit_syntax.proofs.MembersReadAgain.{Again, members_longer, AgainAll, members_again, elements_gapless, turns, elements_longer, AgainElements, elements_again, member_turns, members_gapless}
 
 -- ---- values
 
@@ -69,31 +68,13 @@ scalar_again (datetime d) rest h e ends = number_scalar (datetime_text d rest) (
 scalar_again (array g es) rest h e ends = absurd (omega arith)
 scalar_again (inline g ms) rest h e ends = absurd (omega arith)
 
-empty_again : (n : ℕ) (g rest : List ℕ) → All is_blank g → value_at (suc n) (left_brace ∷ (g ++ (right_brace ∷ rest))) ≡ Some (inline (blank_gap g) no_members, rest)
+inline_again : (n : ℕ) (g : List Between) (ms : Members) (rest : List ℕ) → IsGap g → AreReadable n ms → AgainAll (value_at n) ms → value_at (suc n) (value (inline g ms) rest) ≡ Some (inline g ms, rest)
 unfolding value_at
-empty_again n g rest hg = rw (after_again is_blank g (right_brace ∷ rest) hg refl, front_again is_blank g (right_brace ∷ rest) hg refl) refl
-
-some_again : (n : ℕ) (g : List ℕ) (ms : Members) (rest : List ℕ) → All is_blank g → AreReadable n ms → IsMember ms → AgainAll (value_at n) ms
-    → value_at (suc n) (left_brace ∷ (g ++ members ms (right_brace ∷ rest))) ≡ Some (inline (blank_gap g) ms, rest)
-unfolding value_at
-some_again n g ms rest hg h some again =
-    let more = members ms (right_brace ∷ rest) in
-    let begins = members_first ms (right_brace ∷ rest) h.valid some in
-    let enough : count ms ≤ length (left_brace ∷ (g ++ more)) = omega (arith, length-append g more, members_longer ms (right_brace ∷ rest) h.valid) in
-    rw (after_again is_blank g more hg begins.0, front_again is_blank g more hg begins.0, begins.1, members_again n (value_at n) (length (left_brace ∷ (g ++ more))) ms rest h some again enough) refl
-
-inline_blank : (n : ℕ) (g : List ℕ) (ms : Members) (rest : List ℕ) → All is_blank g → AreReadable n ms → AgainAll (value_at n) ms
-    → value_at (suc n) (left_brace ∷ (g ++ members ms (right_brace ∷ rest))) ≡ Some (inline (blank_gap g) ms, rest)
-inline_blank n g no_members rest hg h again = empty_again n g rest hg
-inline_blank n g (last_member k a b v c) rest hg h again = some_again n g (last_member k a b v c) rest hg h tt again
-inline_blank n g (member k a b v c d ms) rest hg h again = some_again n g (member k a b v c d ms) rest hg h tt again
-
-inline_again : (n : ℕ) (g : List Between) (ms : Members) (rest : List ℕ) → IsBlankGap g → AreReadable n ms → AgainAll (value_at n) ms → value_at (suc n) (value (inline g ms) rest) ≡ Some (inline g ms, rest)
 inline_again n g ms rest hg h again =
-    let i = blank_gap_is g hg in
     let more = members ms (right_brace ∷ rest) in
-    let here : value_at (suc n) (left_brace ∷ gap (blank_gap i.0) more) ≡ Some (inline (blank_gap i.0) ms, rest) = rw (gap_blanks i.0 more) (inline_blank n i.0 ms rest i.2 h again) in
-    subst (λ (y : List Between). value_at (suc n) (left_brace ∷ gap y more) ≡ Some (inline y ms, rest)) (sym i.1) here
+    let begins = members_gapless ms rest h.valid in
+    let enough : member_turns ms ≤ length (left_brace ∷ gap g more) = omega (arith, gap_longer g more, members_longer ms (right_brace ∷ rest) h.valid) in
+    rw (past_gap_again g more hg begins, front_gap_again g more hg begins, members_again n (value_at n) (length (left_brace ∷ gap g more)) ms rest h again enough) refl
 
 array_again : (n : ℕ) (g : List Between) (es : Elements) (rest : List ℕ) → IsGap g → AreReadableElements n es → AgainElements (value_at n) es → value_at (suc n) (value (array g es) rest) ≡ Some (array g es, rest)
 unfolding value_at

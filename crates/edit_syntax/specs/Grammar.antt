@@ -1,12 +1,14 @@
--- Values, statements, lines and texts: forms, how they are spelled and when they are well formed (TOML 1.0.0, "Spec" to
--- "Array of Tables"). A text is in the grammar with a form if the form is well formed and is spelled so.
+-- Values, statements, lines and texts: forms, how they are spelled and when they are well formed (TOML 1.0.0,
+-- "Spec" to "Array of Tables", and inline tables as TOML 1.1.0 has them). A text is in the grammar with a form
+-- if the form is well formed and is spelled so.
 use Rattle.std.specs.Prelude.{◌≡◌, ℕ, Bool, true, false, List, [], ◌∷◌, Option, Some, None, ⊤}
 use Rattle.std.specs.List.{AllByRecursion}
 use Rattle.edit_syntax.specs.Characters.{quote, hash, apostrophe, comma, equals, left_bracket, right_bracket, left_brace, right_brace, is_blank, is_ch, is_literal_ch, All}
 use Rattle.edit_syntax.specs.Strings.{◌·◌, LineEnd, line_end, Piece, pieces, basic_text, literal_text, IsBasicPiece, IsMultiPiece, IsRawPiece, RunsFit, FoldsAreWhole, Key, key, IsKey}
 use Rattle.edit_syntax.specs.Numbers.{Integer, integer_text, IsInteger, Float, float_text, IsFloat, DateTime, datetime_text, IsDateTime}
 
--- what may stand between the values of an array: a tab or a space, a newline, a comment and its newline ("Array")
+-- what may stand between the values of an array or the pairs of an inline table: a tab or a space, a newline,
+-- a comment and its newline ("Array"; TOML 1.1.0, "Inline Table")
 pub data Between : Type 0 where
   blank : ℕ → Between
   break : LineEnd → Between
@@ -28,16 +30,6 @@ IsBetween (remark text e) = All is_ch text
 -- each of them is well formed
 abbrev pub IsGap : List Between → Type 0
 IsGap g = AllByRecursion IsBetween g
-
--- a tab or a space
-abbrev pub IsBlankBetween : Between → Type 0
-IsBlankBetween (blank b) = is_blank b ≡ true
-IsBlankBetween (break e) = ⊥
-IsBlankBetween (remark text e) = ⊥
-
--- without a newline: tabs and spaces alone ("Inline Table")
-abbrev pub IsBlankGap : List Between → Type 0
-IsBlankGap g = AllByRecursion IsBlankBetween g
 
 mutual
   -- a value: a string, a boolean, a number, a date or time, an array or an inline table ("Key/Value Pair")
@@ -61,8 +53,9 @@ mutual
     last_element : Value → List Between → Elements
     element : Value → List Between → List Between → Elements → Elements
 
-  -- What stands from there to the closing brace. Each member has the white space before the equals sign and after it,
-  -- and the gap after the value; a comma has the gap after it ("Inline Table").
+  -- What stands from there to the closing brace: a pair, with the white space before its equals sign and after
+  -- it, and the gap after its value, and a comma with the gap after it before what is left (TOML 1.1.0, "Inline
+  -- Table").
   pub data Members : Type 0 where
     no_members : Members
     last_member : Key → List ℕ → List ℕ → Value → List Between → Members
@@ -76,12 +69,6 @@ boolean_text false rest = 102 ∷ (97 ∷ (108 ∷ (115 ∷ (101 ∷ rest))))
 -- three delimiters
 abbrev pub three : ℕ → List ℕ → List ℕ
 three mark rest = mark ∷ (mark ∷ (mark ∷ rest))
-
--- there is a member
-abbrev pub IsMember : Members → Type 0
-IsMember no_members = ⊥
-IsMember (last_member k a b v c) = ⊤
-IsMember (member k a b v c d ms) = ⊤
 
 abbrev mutual
   -- how a value is spelled
@@ -121,7 +108,7 @@ abbrev mutual
   IsValue (float f) = IsFloat f
   IsValue (datetime d) = IsDateTime d
   IsValue (array g es) = IsGap g × AreElements es
-  IsValue (inline g ms) = IsBlankGap g × AreMembers ms
+  IsValue (inline g ms) = IsGap g × AreMembers ms
 
   -- a comma may stand after the last value
   pub AreElements : Elements → Type 0
@@ -129,11 +116,11 @@ abbrev mutual
   AreElements (last_element v g) = IsValue v × IsGap g
   AreElements (element v g h es) = IsValue v × IsGap g × IsGap h × AreElements es
 
-  -- no comma stands after the last pair
+  -- a comma may stand after the last pair; a key, its equals sign and where its value begins stand on one line
   pub AreMembers : Members → Type 0
   AreMembers no_members = ⊤
-  AreMembers (last_member k a b v c) = IsKey k × All is_blank a × All is_blank b × IsValue v × IsBlankGap c
-  AreMembers (member k a b v c d ms) = IsKey k × All is_blank a × All is_blank b × IsValue v × IsBlankGap c × IsBlankGap d × AreMembers ms × IsMember ms
+  AreMembers (last_member k a b v c) = IsKey k × All is_blank a × All is_blank b × IsValue v × IsGap c
+  AreMembers (member k a b v c d ms) = IsKey k × All is_blank a × All is_blank b × IsValue v × IsGap c × IsGap d × AreMembers ms
 
 -- ---- lines
 

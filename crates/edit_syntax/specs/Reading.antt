@@ -1,6 +1,6 @@
 -- Reading from left to right: a part of the grammar and the text behind it, or nothing. The contracts of the
 -- private functions cite these; what they have to do with the grammar is proved in proofs/.
-use Rattle.std.specs.Prelude.{ℕ, zero, suc, ◌+◌, Bool, true, false, not, ◌&&◌, ◌||◌, ◌==◌, if◌then◌else◌, List, [], ◌∷◌, length, map, take, drop, slice_index, Option, Some, None}
+use Rattle.std.specs.Prelude.{ℕ, zero, suc, ◌+◌, Bool, true, false, not, ◌&&◌, ◌||◌, ◌==◌, if◌then◌else◌, List, [], ◌∷◌, length, take, drop, slice_index, Option, Some, None}
 use Rattle.std.specs.List.{list_all}
 use Rattle.std.specs.Str.Parse.{digits_value}
 use Rattle.edit_syntax.specs.Characters.{line_feed, carriage_return, quote, hash, apostrophe, comma, equals, left_bracket, backslash, right_bracket, left_brace, right_brace, is_blank, is_ch, is_bare, is_literal_ch, is_basic_ch}
@@ -9,10 +9,6 @@ use Rattle.edit_syntax.specs.Strings as strings
 use Rattle.edit_syntax.specs.Grammar.{Between, blank, break, remark, Value, basic, literal, multi_basic, multi_literal, boolean, array, inline, Elements, no_elements, last_element, element, Members, no_members, last_member, member, Statement, pair, header, element_header, Line, empty_line, full_line, Lines, one_line, more_lines, Text}
 use Rattle.edit_syntax.specs.ReadingNumbers.{begins, number_at}
 pub use Rattle.edit_syntax.specs.ReadingSteps.{Read, ◌>>=◌, first, front, after, blanks, past_blanks, past}
-
--- tabs and spaces, as what stands between values
-abbrev pub blank_gap : List ℕ → List Between
-blank_gap bytes = map blank bytes
 
 -- a newline
 unfoldable pub line_end_at : List ℕ → Read LineEnd
@@ -37,7 +33,7 @@ unfoldable pub gap_at : ℕ → List ℕ → List Between × List ℕ
 gap_at zero text = ([], text)
 gap_at (suc n) text = and_more (gap_at n) text (between_at text)
 
--- the gap of an array at the front
+-- the gap at the front
 abbrev pub gap_front : List ℕ → List Between
 gap_front text = (gap_at (length text) text).0
 
@@ -206,13 +202,15 @@ pair_at value_at text = do
   v ← value_at (past_blanks rest)
   Some (record { key = k.0; before = blanks k.1; behind = blanks rest; value = v.0 }, v.1)
 
--- from a member on, in at most n members, up to the closing brace
+-- from a member or the closing brace on, in fewer than n members, up to the closing brace
 unfoldable pub members_at : (List ℕ → Read Value) → ℕ → List ℕ → Read Members
 members_at value_at zero text = None
-members_at value_at (suc n) text = pair_at value_at text >>= λ p.
-    if first (past_blanks p.1) == comma
-    then (members_at value_at n (past_blanks (drop 1 (past_blanks p.1))) >>= λ ms. Some (member p.0.key p.0.before p.0.behind p.0.value (blank_gap (blanks p.1)) (blank_gap (blanks (drop 1 (past_blanks p.1)))) ms.0, ms.1))
-    else (past right_brace (past_blanks p.1) >>= λ rest. Some (last_member p.0.key p.0.before p.0.behind p.0.value (blank_gap (blanks p.1)), rest))
+members_at value_at (suc n) text =
+    if first text == right_brace then Some (no_members, drop 1 text)
+    else (pair_at value_at text >>= λ p.
+    if first (past_gap p.1) == comma
+    then (members_at value_at n (past_gap (drop 1 (past_gap p.1))) >>= λ ms. Some (member p.0.key p.0.before p.0.behind p.0.value (gap_front p.1) (gap_front (drop 1 (past_gap p.1))) ms.0, ms.1))
+    else (past right_brace (past_gap p.1) >>= λ rest. Some (last_member p.0.key p.0.before p.0.behind p.0.value (gap_front p.1), rest)))
 
 -- from an element or the closing bracket on, in fewer than n elements, up to the closing bracket
 unfoldable pub elements_at : (List ℕ → Read Value) → ℕ → List ℕ → Read Elements
@@ -231,9 +229,7 @@ value_at (suc n) text =
     if first text == left_bracket
     then (elements_at (value_at n) (length text) (past_gap (drop 1 text)) >>= λ es. Some (array (gap_front (drop 1 text)) es.0, es.1))
     else (if first text == left_brace
-    then (if first (past_blanks (drop 1 text)) == right_brace
-    then Some (inline (blank_gap (blanks (drop 1 text))) no_members, drop 1 (past_blanks (drop 1 text)))
-    else (members_at (value_at n) (length text) (past_blanks (drop 1 text)) >>= λ ms. Some (inline (blank_gap (blanks (drop 1 text))) ms.0, ms.1)))
+    then (members_at (value_at n) (length text) (past_gap (drop 1 text)) >>= λ ms. Some (inline (gap_front (drop 1 text)) ms.0, ms.1))
     else scalar_at text)
 
 -- ---- lines

@@ -1,5 +1,6 @@
 //! Tests of plans.
 mod forms;
+mod inline_lines;
 mod refused;
 mod rows;
 mod upgrade;

@@ -1,4 +1,4 @@
-//! What may stand between the values of an array.
+//! What may stand between the values of an array and between the pairs of an inline table.
 ghost use Rattle.std.specs.Prelude.{◌≡◌};
 ghost use Rattle.edit_syntax.specs.Reading as reading;
 ghost use Rattle.edit_syntax.specs.Noting.{Skips};

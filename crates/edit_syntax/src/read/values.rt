@@ -1,7 +1,7 @@
 //! Keys, values and pairs, noted down from left to right.
 ghost use Rattle.std.specs.Prelude.{◌≡◌, ◌+◌, ◌<◌, MatchResult, drop, length};
 ghost use Rattle.edit_syntax.specs.declared.read.marks.ReadError.TheVariants.{Memory};
-ghost use Rattle.edit_syntax.specs.Characters.{left_bracket};
+ghost use Rattle.edit_syntax.specs.Characters.{left_brace, left_bracket};
 ghost use Rattle.edit_syntax.specs.Reading as reading;
 ghost use Rattle.edit_syntax.specs.Marks.{mark, key_marks, value_marks};
 ghost use Rattle.edit_syntax.specs.Noting.{Notes, Noted, part_marks, array_marks, pair_marks, inner_marks};
@@ -92,6 +92,13 @@ pub(crate) fn pair<'a>(
     value(out, past_run(rest, Class::Blank), depth)
 }
 
+/// What follows a comma and the gap behind it.
+fn past_comma(s: &[u8]) -> &[u8]
+    ensures { result.now ≡ reading.past_gap (drop 1 s.now) }
+{
+    past_gap(skip(s, 1))
+}
+
 /// The pairs of an inline table, and its closing brace.
 #[cycle(values)]
 fn members<'a>(
@@ -105,8 +112,13 @@ fn members<'a>(
 {
     let mut rest = s;
     'members: for _member in 0..count {
+        if first(rest) == b'}' {
+            let after = skip(rest, 1);
+            note(out, MarkKind::CloseTable, rest, after)?;
+            return Ok(after);
+        }
         let after_value = pair(out, rest, depth)?;
-        let end = past_run(after_value, Class::Blank);
+        let end = past_gap(after_value);
         if first(end) != b',' {
             let Some(after) = past(end, b'}') else {
                 return Err(ReadError::NotToml { left: end.len() });
@@ -114,16 +126,9 @@ fn members<'a>(
             note(out, MarkKind::CloseTable, end, after)?;
             return Ok(after);
         }
-        rest = past_run(skip(end, 1), Class::Blank);
+        rest = past_comma(end);
     }
     Err(ReadError::NotToml { left: rest.len() })
-}
-
-/// What follows a comma and the gap behind it.
-fn past_comma(s: &[u8]) -> &[u8]
-    ensures { result.now ≡ reading.past_gap (drop 1 s.now) }
-{
-    past_gap(skip(s, 1))
 }
 
 /// The elements of an array, and its closing bracket.
@@ -170,6 +175,18 @@ fn array<'a>(out: &mut Vec<Mark>, s: &'a [u8], depth: usize) -> Result<&'a [u8],
     elements(out, past_gap(behind), depth, s.len())
 }
 
+/// An inline table whose members' values stand at most so deep.
+#[cycle(values)]
+fn inline_table<'a>(out: &mut Vec<Mark>, s: &'a [u8], depth: usize) -> Result<&'a [u8], ReadError>
+    requires shallow { depth < 1000 }
+    requires opened { reading.first s.now ≡ left_brace }
+    ensures { Notes value_marks out.old out.new result (reading.value_at (depth + 1) s.now) }
+{
+    let behind = skip(s, 1);
+    note(out, MarkKind::OpenTable, s, behind)?;
+    members(out, past_gap(behind), depth, s.len())
+}
+
 /// A value whose arrays and inline tables stand at most so deep.
 #[cycle(values)]
 #[tactic(auto, unfolding(crate::specs::Reading::value_at))]
@@ -183,16 +200,8 @@ fn value<'a>(out: &mut Vec<Mark>, s: &'a [u8], depth: usize) -> Result<&'a [u8],
     if first(s) == b'[' {
         return array(out, s, depth - 1);
     }
-    if first(s) != b'{' {
-        return scalar(out, s);
+    if first(s) == b'{' {
+        return inline_table(out, s, depth - 1);
     }
-    let behind = skip(s, 1);
-    note(out, MarkKind::OpenTable, s, behind)?;
-    let inner = past_run(behind, Class::Blank);
-    if first(inner) == b'}' {
-        let after = skip(inner, 1);
-        note(out, MarkKind::CloseTable, inner, after)?;
-        return Ok(after);
-    }
-    members(out, inner, depth - 1, s.len())
+    scalar(out, s)
 }

@@ -2,14 +2,14 @@ use Rattle.std.proofs.Common.{◌≡◌, drop, ℕ, ◌+◌, ◌-◌, suc, List,
 use Rattle.std.proofs.lemmas.Bool.Decides.{nat_tests}
 use Rattle.std.proofs.lemmas.Result.{err_from_is_err_and}
 use Rattle.edit_syntax.specs.Characters.{comma, equals, left_bracket, right_bracket, left_brace, right_brace}
-use Rattle.edit_syntax.specs.Grammar.{Value, Elements}
-use Rattle.edit_syntax.specs.Reading.{Pair, first, past_blanks, past_gap, past, key_at, pair_at, value_at, members_at, elements_at}
-use Rattle.edit_syntax.specs.Noting.{Notes, array_marks, pair_marks}
+use Rattle.edit_syntax.specs.Grammar.{Value, Elements, Members}
+use Rattle.edit_syntax.specs.Reading.{Pair, first, past_gap, past, key_at, pair_at, value_at, members_at, elements_at}
+use Rattle.edit_syntax.specs.Noting.{Notes, array_marks, pair_marks, inner_marks}
 use Rattle.edit_syntax.specs.Marks.{key_marks, value_marks}
 use Rattle.edit_syntax.specs.Strings.{Key}
 use Rattle.edit_syntax.proofs.Loops.{one_less}
 use Rattle.edit_syntax.proofs.ValueLaws.{value_sound}
-use Rattle.edit_syntax.proofs.NotedValues.{Completes, members_turn, members_done, members_refused, members_failed, members_none, pair_noted, pair_failed, pair_unsigned, inline_noted, empty_noted}
+use Rattle.edit_syntax.proofs.NotedValues.{Completes, members_turn, members_end, members_done, members_refused, members_failed, members_none, pair_noted, pair_failed, pair_unsigned, inline_noted}
 use Rattle.edit_syntax.proofs.NotedElements.{Fills, elements_turn, elements_end, elements_done, elements_refused, elements_failed, elements_none, array_noted}
 use Rattle.edit_syntax.proofs.read.values.+values.Goals as goal
 
@@ -18,50 +18,63 @@ members-members-init t c =
     let k : c.args.count - 0 ≡ c.args.count = omega arith in
     record { some = λ x e. (x.0, (rw k at e), refl); none = λ e. rw k at e }
 
+pub members-returns-then-first-eq125 : goal.members-returns-then-first-eq125
+members-returns-then-first-eq125 t c =
+    let read = value_at c.args.depth in
+    let k = one_less c.args.count c.members._member c.members-test.true in
+    let closed : eqb (first c.members.rest.now) right_brace ≡ true = grind (arith, nat_tests) in
+    let after : c.skip-after.result.now ≡ drop 1 c.members.rest.now = c.skip-after.ensures in
+    subst (λ (r : List ℕ). (x : Members) × (members_at read c.args.count c.args.s.now ≡ Some (x, r)) × (c.note.new.out.items ≡ c.args.out.now.items ++ inner_marks x r)) (sym after)
+    (members_end read (members_at read c.args.count c.args.s.now) (c.args.count - (c.members._member + 1)) c.members.rest.now c.args.out.now.items c.members.out.items c.note.new.out.items closed (rw (← after) c.in_ok-note.ensures) (rw k at c.members.invariant))
+
 pub members-returns-in_err-after_value : goal.members-returns-in_err-after_value
 members-returns-in_err-after_value t c =
     let read = value_at c.args.depth in
     let k = one_less c.args.count c.members._member c.members-test.true in
-    let p = err_from_is_err_and c.from_residual.result c.from_residual.ensures.1 in
-    members_failed read (members_at read c.args.count c.args.s.now) (c.args.count - (c.members._member + 1)) c.members.rest.now c.args.out.now c.pair.new.out c.members.out.items c.in_err-after_value.field-0.0 p.0 c.from_residual.result p.1 p.2
+    let unclosed : eqb (first c.members.rest.now) right_brace ≡ false = grind (arith, nat_tests) in
+    let p = err_from_is_err_and c.from_residual-in_err-after_value.result c.from_residual-in_err-after_value.ensures.1 in
+    members_failed read (members_at read c.args.count c.args.s.now) (c.args.count - (c.members._member + 1)) c.members.rest.now c.args.out.now c.pair.new.out c.members.out.items c.in_err-after_value.field-0.0 p.0 c.from_residual-in_err-after_value.result p.1 p.2 unclosed
     c.in_err-after_value.ensures (rw k at c.members.invariant)
 
 pub members-returns-in_default : goal.members-returns-in_default
 members-returns-in_default t c other =
     let read = value_at c.args.depth in
     let k = one_less c.args.count c.members._member c.members-test.true in
+    let unclosed : eqb (first c.members.rest.now) right_brace ≡ false = grind (arith, nat_tests) in
     let r = c.in_ok-after_value.after_value.now in
     let p : (p : Pair) × (pair_at read c.members.rest.now ≡ Some (p, r)) × (c.pair.new.out.items ≡ c.members.out.items ++ pair_marks p r) = c.in_ok-after_value.ensures in
-    let end : c.past_run-end.result.now ≡ past_blanks r = c.past_run-end.ensures in
-    let test : eqb (first c.past_run-end.result.now) comma ≡ false = grind (arith, nat_tests) in
-    let sign : eqb (first (past_blanks r)) comma ≡ false = rw (← end) test in
-    let closed : None ≡ past right_brace c.past_run-end.result.now = c.in_default.ensures in
-    members_refused read (members_at read c.args.count c.args.s.now) (c.args.count - (c.members._member + 1)) c.members.rest.now r p.0 c.args.out.now.items c.members.out.items p.1 sign (closed ∙ ap (past right_brace) end) (rw k at c.members.invariant)
+    let end : c.past_gap-end.result.now ≡ past_gap r = c.past_gap-end.ensures in
+    let test : eqb (first c.past_gap-end.result.now) comma ≡ false = grind (arith, nat_tests) in
+    let sign : eqb (first (past_gap r)) comma ≡ false = rw (← end) test in
+    let closed : None ≡ past right_brace c.past_gap-end.result.now = c.in_default.ensures in
+    members_refused read (members_at read c.args.count c.args.s.now) (c.args.count - (c.members._member + 1)) c.members.rest.now r p.0 c.args.out.now.items c.members.out.items unclosed p.1 sign (closed ∙ ap (past right_brace) end) (rw k at c.members.invariant)
 
 pub members-returns-then-first-ne44 : goal.members-returns-then-first-ne44
 members-returns-then-first-ne44 t c =
     let read = value_at c.args.depth in
     let k = one_less c.args.count c.members._member c.members-test.true in
+    let unclosed : eqb (first c.members.rest.now) right_brace ≡ false = grind (arith, nat_tests) in
     let r = c.in_ok-after_value.after_value.now in
     let p : (p : Pair) × (pair_at read c.members.rest.now ≡ Some (p, r)) × (c.pair.new.out.items ≡ c.members.out.items ++ pair_marks p r) = c.in_ok-after_value.ensures in
-    let end : c.past_run-end.result.now ≡ past_blanks r = c.past_run-end.ensures in
-    let test : eqb (first c.past_run-end.result.now) comma ≡ false = grind (arith, nat_tests) in
-    let sign : eqb (first (past_blanks r)) comma ≡ false = rw (← end) test in
-    let closed : Some c.in-Some.after.now ≡ past right_brace c.past_run-end.result.now = c.in-Some.ensures in
-    members_done read (members_at read c.args.count c.args.s.now) (c.args.count - (c.members._member + 1)) c.members.rest.now r c.in-Some.after.now p.0 c.args.out.now.items c.members.out.items c.pair.new.out.items c.note.new.out.items p.1 sign (closed ∙ ap (past right_brace) end) p.2 (rw (← end) c.in_ok-note.ensures) (rw k at c.members.invariant)
+    let end : c.past_gap-end.result.now ≡ past_gap r = c.past_gap-end.ensures in
+    let test : eqb (first c.past_gap-end.result.now) comma ≡ false = grind (arith, nat_tests) in
+    let sign : eqb (first (past_gap r)) comma ≡ false = rw (← end) test in
+    let closed : Some c.in-Some.after.now ≡ past right_brace c.past_gap-end.result.now = c.in-Some.ensures in
+    members_done read (members_at read c.args.count c.args.s.now) (c.args.count - (c.members._member + 1)) c.members.rest.now r c.in-Some.after.now p.0 c.args.out.now.items c.members.out.items c.pair.new.out.items c.note-then-first-ne44.new.out.items unclosed p.1 sign (closed ∙ ap (past right_brace) end) p.2 (rw (← end) c.in_ok-note-2.ensures) (rw k at c.members.invariant)
 
 pub members-members-preserved : goal.members-members-preserved
 members-members-preserved t c =
     let read = value_at c.args.depth in
     let k = one_less c.args.count c.members._member c.members-test.true in
+    let unclosed : eqb (first c.members.rest.now) right_brace ≡ false = grind (arith, nat_tests) in
     let r = c.in_ok-after_value.after_value.now in
     let p : (p : Pair) × (pair_at read c.members.rest.now ≡ Some (p, r)) × (c.pair.new.out.items ≡ c.members.out.items ++ pair_marks p r) = c.in_ok-after_value.ensures in
-    let end : c.past_run-end.result.now ≡ past_blanks r = c.past_run-end.ensures in
-    let test : eqb (first c.past_run-end.result.now) comma ≡ true = grind (arith, nat_tests) in
-    let sign : eqb (first (past_blanks r)) comma ≡ true = rw (← end) test in
-    let next : c.past_run-rest.result.now ≡ past_blanks (drop 1 (past_blanks r)) = c.past_run-rest.ensures ∙ ap past_blanks (c.skip.ensures ∙ ap (drop 1) end) in
+    let end : c.past_gap-end.result.now ≡ past_gap r = c.past_gap-end.ensures in
+    let test : eqb (first c.past_gap-end.result.now) comma ≡ true = grind (arith, nat_tests) in
+    let sign : eqb (first (past_gap r)) comma ≡ true = rw (← end) test in
+    let next : c.past_comma-rest.result.now ≡ past_gap (drop 1 (past_gap r)) = c.past_comma-rest.ensures ∙ ap (λ (x : List ℕ). past_gap (drop 1 x)) end in
     subst (λ (x : List ℕ). Completes read (members_at read c.args.count c.args.s.now) (c.args.count - (c.members._member + 1)) x c.args.out.now.items c.pair.new.out.items) (sym next)
-    (members_turn c.args.depth read (value_sound c.args.depth) (members_at read c.args.count c.args.s.now) (c.args.count - (c.members._member + 1)) c.members.rest.now r p.0 c.args.out.now.items c.members.out.items c.pair.new.out.items p.1 sign p.2 (rw k at c.members.invariant))
+    (members_turn c.args.depth read (value_sound c.args.depth) (members_at read c.args.count c.args.s.now) (c.args.count - (c.members._member + 1)) c.members.rest.now r p.0 c.args.out.now.items c.members.out.items c.pair.new.out.items unclosed p.1 sign p.2 (rw k at c.members.invariant))
 
 pub members-returns : goal.members-returns
 members-returns t c other =
@@ -83,32 +96,6 @@ pair-returns t c =
     let p : (k : Key) × (key_at c.args.s.now ≡ Some (k, c.in_ok-after_key.after_key.now)) × (c.key.new.out.items ≡ c.args.out.now.items ++ key_marks k c.in_ok-after_key.after_key.now) = c.in_ok-after_key.ensures in
     pair_noted c.args.depth (value_at c.args.depth) (value_sound c.args.depth) c.args.out.now c.key.new.out c.value.new.out c.args.s.now c.in_ok-after_key.after_key.now c.in-Some.rest.now p.0 c.value.result
     p.1 p.2 (c.in-Some.ensures ∙ ap (past equals) c.past_run-sign.ensures) (rw (← c.past_run.ensures) c.value.ensures)
-
-pub value-returns-then-first-eq125 : goal.value-returns-then-first-eq125
-value-returns-then-first-eq125 t c =
-    let n = c.args.depth - 1 in
-    let k : c.args.depth ≡ suc n = omega arith in
-    let s = c.args.s.now in
-    let opened : eqb (first s) left_brace ≡ true = grind (arith, nat_tests) in
-    let inner : c.past_run-inner.result.now ≡ past_blanks (drop 1 s) = c.past_run-inner.ensures ∙ ap past_blanks c.skip-behind.ensures in
-    let test : eqb (first c.past_run-inner.result.now) right_brace ≡ true = grind (arith, nat_tests) in
-    let closed : eqb (first (past_blanks (drop 1 s))) right_brace ≡ true = rw (← inner) test in
-    let after : c.skip-after.result.now ≡ drop 1 (past_blanks (drop 1 s)) = c.skip-after.ensures ∙ ap (drop 1) inner in
-    subst (λ (d : ℕ). (x : Value) × (value_at d s ≡ Some (x, c.skip-after.result.now)) × (c.note-then-first-eq125.new.out.items ≡ c.args.out.now.items ++ value_marks x c.skip-after.result.now)) (sym k)
-    (subst (λ (r : List ℕ). (x : Value) × (value_at (suc n) s ≡ Some (x, r)) × (c.note-then-first-eq125.new.out.items ≡ c.args.out.now.items ++ value_marks x r)) (sym after)
-    (empty_noted n c.args.out.now.items c.note.new.out.items c.note-then-first-eq125.new.out.items s opened closed (rw (← c.skip-behind.ensures) c.in_ok-note.ensures) (rw (← after, ← inner) c.in_ok-note-2.ensures)))
-
-pub value-returns : goal.value-returns
-value-returns t c =
-    let n = c.args.depth - 1 in
-    let k : c.args.depth ≡ suc n = omega arith in
-    let s = c.args.s.now in
-    let opened : eqb (first s) left_brace ≡ true = grind (arith, nat_tests) in
-    let inner : c.past_run-inner.result.now ≡ past_blanks (drop 1 s) = c.past_run-inner.ensures ∙ ap past_blanks c.skip-behind.ensures in
-    let test : eqb (first c.past_run-inner.result.now) right_brace ≡ false = grind (arith, nat_tests) in
-    let other : eqb (first (past_blanks (drop 1 s))) right_brace ≡ false = rw (← inner) test in
-    subst (λ (d : ℕ). Notes value_marks c.args.out.now c.members.new.out c.members.result (value_at d s)) (sym k)
-    (inline_noted n c.args.out.now c.note.new.out c.members.new.out s c.members.result opened other (rw (← c.skip-behind.ensures) c.in_ok-note.ensures) (rw (← inner) c.members.ensures))
 
 pub elements-elements-init : goal.elements-elements-init
 elements-elements-init t c =
@@ -186,3 +173,12 @@ array-returns t c =
     let inner : c.past_gap.result.now ≡ past_gap (drop 1 s) = c.past_gap.ensures ∙ ap past_gap c.skip-behind.ensures in
     subst (λ (d : ℕ). Notes value_marks c.args.out.now c.elements.new.out c.elements.result (value_at d s)) (sym k)
     (array_noted c.args.depth c.args.out.now c.note.new.out c.elements.new.out s c.elements.result opened (rw (← c.skip-behind.ensures) c.in_ok-note.ensures) (rw (← inner) c.elements.ensures))
+
+pub inline_table-returns : goal.inline_table-returns
+inline_table-returns t c =
+    let k : c.args.depth + 1 ≡ suc c.args.depth = omega arith in
+    let s = c.args.s.now in
+    let opened : eqb (first s) left_brace ≡ true = eq-eqb (first s) left_brace c.requires.opened in
+    let inner : c.past_gap.result.now ≡ past_gap (drop 1 s) = c.past_gap.ensures ∙ ap past_gap c.skip-behind.ensures in
+    subst (λ (d : ℕ). Notes value_marks c.args.out.now c.members.new.out c.members.result (value_at d s)) (sym k)
+    (inline_noted c.args.depth c.args.out.now c.note.new.out c.members.new.out s c.members.result opened (rw (← c.skip-behind.ensures) c.in_ok-note.ensures) (rw (← inner) c.members.ensures))

@@ -20,6 +20,9 @@ invariant-members-members l = Completes (value_at l.depth) (members_at (value_at
 abbrev pub decreases-array : goal.decreases-array
 decreases-array l = 4 * l.depth + 3
 
+abbrev pub decreases-inline_table : goal.decreases-inline_table
+decreases-inline_table l = 4 * l.depth + 3
+
 abbrev pub decreases-elements : goal.decreases-elements
 decreases-elements l = 4 * l.depth + 2
 
