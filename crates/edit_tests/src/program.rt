@@ -5,6 +5,7 @@ use edit_sources::{FaultStore, HostStore, MemoryStore, Store};
 use std::alloc::Global;
 use std::test::Fail;
 use std::{fs, process, str};
+use test_rows::{field, same};
 
 const MANIFEST: &str = "[dependencies]\nserde = { version = '1.0', optional = true } # keep\n";
 
@@ -16,22 +17,20 @@ const INDEX: &str = "{\"name\":\"serde\",\"vers\":\"1.2.3\"}\n";
 
 const WORDS: &str = "upgrade --manifest-path Cargo.toml --index-file index.json";
 
-const EMPTY_PATH: &str = "\
+/// Each row: the words, and the status and what was printed on both streams, over no files.
+const TEXTS: &str = "\
+upgrade --manifest-path '' --index-file index.json|\
 2 error: a value is required for '--manifest-path <PATH>' but none was supplied
 
 For more information, try '--help'.
-";
-
-const NO_INDEX_FILE: &str = "\
+@upgrade --manifest-path Cargo.toml|\
 2 error: the following required arguments were not provided:
   --index-file <FILE>
 
 Usage: cargo-edit upgrade --manifest-path <PATH> --index-file <FILE>
 
 For more information, try '--help'.
-";
-
-const UPGRADE_HELP: &str = "\
+@upgrade --help|\
 0 Raises the dependency requirements of a manifest
 
 Usage: cargo-edit upgrade --manifest-path <PATH> --index-file <FILE>
@@ -41,10 +40,12 @@ Options:
       --index-file <FILE>     Index lines, as a registry's index has them
   -h, --help                  Print help
   -V, --version               Print version
+@upgrade -V|\
+0 cargo-edit-upgrade 0.13.14
 ";
 
-/// Each row: what it shows, the files, which call of the store fails (9: none), the words (`-`: the usual ones,
-/// `''` an empty one), and the status, the manifest afterwards and what was printed on standard error.
+/// Each row: what it shows, the files, which call of the store fails (9: none), the words (`-`: the usual
+/// ones, `''` an empty one), and the status, the manifest afterwards and what was printed on standard error.
 const ROWS: &str = "\
 raises one manifest|mi|9|-|0 raised \
 @nothing there|i|9|-|1 none Error: Failed to get cargo file metadata
@@ -91,11 +92,6 @@ help|mi|9|upgrade --help|0 manifest \
 @an empty path of an index file|mi|9|upgrade --manifest-path Cargo.toml --index-file ''|2 manifest \
 @another subcommand|mi|9|raise --manifest-path Cargo.toml --index-file index.json|2 manifest \
 @no words|mi|9||2 manifest ";
-
-/// The field of a row, from 0.
-fn field(row: &str, number: usize) -> &str {
-    row.split('|').nth(number).unwrap_or("")
-}
 
 /// Where a file of a row stands.
 fn path_of(file: char) -> &'static str {
@@ -198,7 +194,7 @@ fn words_of<'a>(alloc: Global, text: &'a str) -> Option<Vec<&'a str>> {
         .ok()
 }
 
-/// Runs a row.
+/// Runs a row over its files.
 fn ran(alloc: Global, row: &str) -> Option<String> {
     let at = field(row, 2).parse().ok()?;
     let words = words_of(alloc, field(row, 3))?;
@@ -207,43 +203,55 @@ fn ran(alloc: Global, row: &str) -> Option<String> {
     outcome(alloc, words.as_slice(), "/w", &mut files)
 }
 
+/// Succeeds where a row gives what it wants.
+fn row_holds(alloc: Global, row: &str) -> Result<(), Fail> {
+    let seen = ran(alloc, row).ok_or("no outcome")?;
+    same(row, seen.as_str(), field(row, 4))
+}
+
+/// Succeeds where what a row gives begins with what it wants.
+fn status_holds(alloc: Global, row: &str) -> Result<(), Fail> {
+    let seen = ran(alloc, row).ok_or("no outcome")?;
+    let want = field(row, 4);
+    same(row, seen.get(..want.len()).unwrap_or(""), want)
+}
+
 #[test]
 fn rows(rt: HostRuntime) -> Result<(), Fail> {
     for row in ROWS.split('@') {
-        let seen = ran(rt.alloc(), row).ok_or("no outcome")?;
-        assert_eq!(rt; seen.as_str(), field(row, 4), "{row}");
+        row_holds(rt.alloc(), row)?;
     }
     for row in STATUSES.split('@') {
-        let seen = ran(rt.alloc(), row).ok_or("no outcome")?;
-        assert!(rt; seen.starts_with(field(row, 4)), "{row}");
+        status_holds(rt.alloc(), row)?;
     }
     Ok(())
 }
 
-/// What a row of words prints over no files: the status, then standard output, then standard error.
-fn texts_of(alloc: Global, text: &str) -> Option<String> {
-    let words = words_of(alloc, text)?;
-    let mut files = MemoryStore::new(alloc);
-    let (status, out, err) = printed(alloc, words.as_slice(), "/w", &mut files);
-    let out = str::from_utf8(&out).ok()?;
-    let err = str::from_utf8(&err).ok()?;
+/// A status, what stands on standard output, and what stands on standard error.
+fn streams(alloc: Global, status: u8, out: &[u8], err: &[u8]) -> Option<String> {
+    let out = str::from_utf8(out).ok()?;
+    let err = str::from_utf8(err).ok()?;
     format!(in alloc; "{status} {out}{err}").ok()
+}
+
+/// What words print over no files.
+fn texts_of(alloc: Global, words: &[&str]) -> Option<String> {
+    let mut files = MemoryStore::new(alloc);
+    let (status, out, err) = printed(alloc, words, "/w", &mut files);
+    streams(alloc, status, &out, &err)
+}
+
+/// Succeeds where the words of a row print what it wants.
+fn text_holds(alloc: Global, row: &str) -> Result<(), Fail> {
+    let words = words_of(alloc, field(row, 0)).ok_or("no words")?;
+    let seen = texts_of(alloc, words.as_slice()).ok_or("no text")?;
+    same(row, seen.as_str(), field(row, 1))
 }
 
 #[test]
 fn texts(rt: HostRuntime) -> Result<(), Fail> {
-    let rows = [
-        (
-            EMPTY_PATH,
-            "upgrade --manifest-path '' --index-file index.json",
-        ),
-        (NO_INDEX_FILE, "upgrade --manifest-path Cargo.toml"),
-        (UPGRADE_HELP, "upgrade --help"),
-        ("0 cargo-edit-upgrade 0.13.14\n", "upgrade -V"),
-    ];
-    for (text, words) in rows {
-        let seen = texts_of(rt.alloc(), words).ok_or("no text")?;
-        assert_eq!(rt; seen.as_str(), text, "{words}");
+    for row in TEXTS.split('@') {
+        text_holds(rt.alloc(), row)?;
     }
     Ok(())
 }
@@ -254,23 +262,26 @@ fn put(rt: &HostRuntime, folder: &str, name: &str, text: &str) -> Option<()> {
     fs::write(rt, path.as_str(), text.as_bytes()).ok()
 }
 
-/// Runs the usual words over files of the machine, in a folder.
-fn ran_in(rt: &HostRuntime, folder: &str) -> Option<String> {
+/// Lays out a manifest and an index file in a folder of the machine.
+fn lay_out(rt: &HostRuntime, folder: &str) -> Option<()> {
     fs::create_dir_all(rt, folder).ok()?;
     put(rt, folder, "Cargo.toml", MANIFEST)?;
-    put(rt, folder, "index.json", INDEX)?;
-    let words = words_of(rt.alloc(), "-")?;
+    put(rt, folder, "index.json", INDEX)
+}
+
+/// Runs the usual words over the files of the machine, in a folder.
+fn ran_in(rt: &HostRuntime, folder: &str) -> Option<String> {
     let mut files = HostStore::new(rt.clone().ok()?);
-    let seen = outcome(rt.alloc(), words.as_slice(), folder, &mut files)?;
-    fs::remove_dir_all(rt, folder).ok()?;
-    Some(seen)
+    let words = words_of(rt.alloc(), "-")?;
+    outcome(rt.alloc(), words.as_slice(), folder, &mut files)
 }
 
 #[test]
 fn real_files(rt: HostRuntime) -> Result<(), Fail> {
     let id = process::id(rt.process());
     let folder = format!(in rt.alloc(); "/tmp/cargo-edit-{id}")?;
+    lay_out(&rt, folder.as_str()).ok_or("no files")?;
     let seen = ran_in(&rt, folder.as_str()).ok_or("no outcome")?;
-    assert_eq!(rt; seen.as_str(), "0 raised ");
-    Ok(())
+    fs::remove_dir_all(&rt, folder.as_str())?;
+    same("real files", seen.as_str(), "0 raised ")
 }

@@ -1,8 +1,8 @@
 //! The forms in which an entry of the root table `dependencies` may be written.
 use super::upgrade::{index_of, outcome};
-use crate::fields::same;
 use std::alloc::Global;
 use std::test::Fail;
+use test_rows::same;
 
 // A manifest, `>>>`, and the manifest afterwards; between two rows stands `===`. The first line of a row says
 // what it shows. Of each name that is looked up there are 1.0.0 and 1.2.3.
@@ -202,7 +202,7 @@ fn forms_of_an_entry(rt: HostRuntime) -> Result<(), Fail> {
     for row in ROWS.split("===\n") {
         let seen = seen_of(rt.alloc(), row)?;
         let want = want_of(rt.alloc(), row)?;
-        same(&rt, cut(row).0, seen.as_str(), want.as_str());
+        same(cut(row).0, seen.as_str(), want.as_str())?;
     }
     Ok(())
 }

@@ -1,7 +1,7 @@
 //! Entries that are inline tables over several lines.
 use super::upgrade::{index_of, outcome};
-use crate::fields::same;
 use std::test::Fail;
+use test_rows::same;
 
 /// A manifest whose entry is an inline table over several lines, with a comment and a comma after its last pair.
 const BEFORE: &str = "\
@@ -29,8 +29,7 @@ fn an_entry_over_several_lines(rt: HostRuntime) -> Result<(), Fail> {
     let alloc = rt.alloc();
     let mut index = index_of(alloc, "x", "2.0.0")?;
     let seen = outcome(alloc, "i", BEFORE.as_bytes(), &mut index)?;
-    same(&rt, BEFORE, seen.as_str(), AFTER);
-    Ok(())
+    same(BEFORE, seen.as_str(), AFTER)
 }
 
 #[test]
@@ -42,6 +41,5 @@ fn an_entry_over_several_lines_that_end_with_cr_lf(rt: HostRuntime) -> Result<()
     let after = manifest.replace(alloc, "\n", "\r\n")?;
     let seen = outcome(alloc, "i", before.as_bytes(), &mut index)?;
     let want = format!(in alloc; "{after}\r\n\n{told}")?;
-    same(&rt, before.as_str(), seen.as_str(), want.as_str());
-    Ok(())
+    same(before.as_str(), seen.as_str(), want.as_str())
 }

@@ -1,8 +1,8 @@
 //! Manifests for which no plan is made, and the empty one.
 use super::upgrade::{index_of, outcome};
-use crate::fields::{field, same, unfolded};
 use std::alloc::Global;
 use std::test::Fail;
+use test_rows::{field, same, unfolded};
 
 // A name, the refusal, and the manifest.
 const ROWS: &str = "\
@@ -25,26 +25,20 @@ fn seen_of_lines(alloc: Global, lines: &str) -> Result<String, Fail> {
 fn refused_manifests(rt: HostRuntime) -> Result<(), Fail> {
     for row in ROWS.lines() {
         let seen = seen_of_lines(rt.alloc(), field(row, 2))?;
-        same(&rt, row, seen.as_str(), field(row, 1));
+        same(row, seen.as_str(), field(row, 1))?;
     }
     let seen = seen_of(rt.alloc(), b"[dependencies]\nx = \"\xFF\"\n")?;
     same(
-        &rt,
         "no UTF-8",
         seen.as_str(),
         "2 Failed to read manifest contents",
-    );
+    )?;
     Ok(())
 }
 
 #[test]
 fn an_empty_manifest(rt: HostRuntime) -> Result<(), Fail> {
     let seen = seen_of(rt.alloc(), b"")?;
-    same(
-        &rt,
-        "no output, row or look",
-        seen.as_str(),
-        "-\nlooks: 0\n",
-    );
+    same("no output, row or look", seen.as_str(), "-\nlooks: 0\n")?;
     Ok(())
 }

@@ -1,8 +1,8 @@
 //! Worked rows: what becomes of one entry.
 use super::upgrade::{index_of, outcome};
-use crate::fields::{field, same, text};
 use std::alloc::Global;
 use std::test::Fail;
+use test_rows::{field, same, text};
 
 // An entry, the options (`i` incompatible, `p` pinned), the versions of its name (`!` is yanked), and
 // the entry afterwards, `-` where nothing is written; then its row: the requirement, the compatible
@@ -53,13 +53,11 @@ fn seen_of(alloc: Global, row: &str) -> Result<String, Fail> {
 
 /// What a row wants.
 fn want_of(alloc: Global, row: &str) -> Result<String, Fail> {
-    let mut want = manifest(alloc, field(row, 3))?;
-    writeln!(want, "\n{}", field(row, 4))?;
-    if !field(row, 5).is_empty() {
-        writeln!(want, "{}", field(row, 5))?;
-    }
-    want.push_str("looks: 1\n")?;
-    Ok(want)
+    let manifest = manifest(alloc, field(row, 3))?;
+    let told = field(row, 4);
+    let warning = field(row, 5);
+    let end = if warning.is_empty() { "" } else { "\n" };
+    Ok(format!(in alloc; "{manifest}\n{told}\n{warning}{end}looks: 1\n")?)
 }
 
 #[test]
@@ -67,7 +65,7 @@ fn worked_rows(rt: HostRuntime) -> Result<(), Fail> {
     for row in ROWS.lines() {
         let seen = seen_of(rt.alloc(), row)?;
         let want = want_of(rt.alloc(), row)?;
-        same(&rt, row, seen.as_str(), want.as_str());
+        same(row, seen.as_str(), want.as_str())?;
     }
     Ok(())
 }

@@ -1,12 +1,11 @@
 //! A plan of one manifest, and what is told of it.
-use crate::fields::text;
-use crate::refusals::told;
 use cargo_edit::{Input, Options, Row, UpgradePlan, plan_upgrade};
 use edit_base::CargoResult;
 use edit_sources::{FileIndex, IndexCache};
 use std::alloc::Global;
 use std::str;
 use std::test::Fail;
+use test_rows::{text, told};
 
 /// The manifest that is planned for.
 fn input_of(alloc: Global, bytes: &[u8]) -> CargoResult<Input> {

@@ -1,0 +1,99 @@
+//! What is answered to a question about a text.
+use super::arrays::ARRAYS;
+use super::keys::FRUITS;
+use super::shown::{place_of, shown};
+use super::texts::MANIFEST;
+use edit_base::Error;
+use edit_document::{Document, Step};
+use std::alloc::{AllocError, Global};
+use std::test::Fail;
+use test_rows::{made, text, told};
+
+/// The text of a name, or the text itself.
+fn text_named(name: &str) -> &str {
+    match name {
+        "arrays" => ARRAYS,
+        "fruits" => FRUITS,
+        "manifest" => MANIFEST,
+        text => text,
+    }
+}
+
+/// `no` for a text that is no document.
+fn refused(alloc: Global, error: Error) -> Result<String, Fail> {
+    let refusal = told(alloc, error)?;
+    if refusal.as_str() == "1 Unable to parse Cargo.toml" {
+        return text(alloc, "no");
+    }
+    Ok(refusal)
+}
+
+/// `yes` where a document shows the text that was read.
+fn read(alloc: Global, document: &Document, source: &str) -> Result<String, Fail> {
+    let printed = format!(in alloc; "{document}")?;
+    let copied = made(alloc, document.text(alloc))?;
+    let is_kept = [document.as_str(), printed.as_str(), copied.as_str()] == [source; 3];
+    text(alloc, if is_kept { "yes" } else { "another text" })
+}
+
+/// The text of a document with another string at a place, or `no value` where none was written there.
+fn set_at(
+    alloc: Global,
+    document: &mut Document,
+    place: &[Step],
+    string: &str,
+) -> Result<String, Fail> {
+    let is_value = document.is_value(place);
+    if !is_value {
+        return text(alloc, "no value");
+    }
+    match document.set_literal(alloc, place, string) {
+        Ok(()) => made(alloc, document.text(alloc)),
+        Err(error) => told(alloc, error),
+    }
+}
+
+/// The same, of a place and a string with a space between them.
+fn set(alloc: Global, document: &mut Document, words: &str) -> Result<String, Fail> {
+    let (place, string) = words.split_once(' ').unwrap_or((words, ""));
+    let place = place_of(alloc, place)?;
+    set_at(alloc, document, &place, string)
+}
+
+/// What is answered about a document.
+fn asked(alloc: Global, document: &mut Document, call: &str, text: &str) -> Result<String, Fail> {
+    let (question, rest) = call.split_once(' ').unwrap_or((call, ""));
+    match question {
+        "read" => read(alloc, document, text),
+        "set" => set(alloc, document, rest),
+        _ => shown(alloc, document, question, rest),
+    }
+}
+
+/// What is answered about a text: `read` and a remark, `set` with a place and a string, or a question and a
+/// place.
+pub(crate) fn answer(alloc: Global, call: &str, argument: &str) -> Result<String, Fail> {
+    let text = text_named(argument);
+    match Document::read(alloc, text) {
+        Ok(mut document) => asked(alloc, &mut document, call, text),
+        Err(error) => refused(alloc, error),
+    }
+}
+
+/// A text in which each second part between carets stands as often as told.
+fn repeated(alloc: Global, parts: &str, count: usize) -> Result<String, AllocError> {
+    let mut text = String::new(alloc);
+    let mut is_repeated = false;
+    for part in parts.split('^') {
+        let times = if is_repeated { count } else { 1 };
+        text.push_str(part.repeat(alloc, times)?.as_str())?;
+        is_repeated = !is_repeated;
+    }
+    Ok(text)
+}
+
+/// Whether a text is read in which each second part between carets stands as often as the call says.
+pub(crate) fn deep(alloc: Global, call: &str, argument: &str) -> Result<String, Fail> {
+    let text = repeated(alloc, argument, call.parse().unwrap_or(0))?;
+    answer(alloc, "read", text.as_str())
+}

@@ -1,0 +1,28 @@
+//! Tests of documents, of paths and of the texts of refusals, by the public calls of `edit_document` and
+//! `edit_base` alone.
+//!
+//! They stand in a crate of their own, since a crate with tests is proved once more with them.
+#![tactic(auto)]
+
+#[cfg(test)]
+mod answers;
+#[cfg(test)]
+mod arrays;
+#[cfg(test)]
+mod inline_lines;
+#[cfg(test)]
+mod keys;
+#[cfg(test)]
+mod literals;
+#[cfg(test)]
+mod new_items;
+#[cfg(test)]
+mod paths;
+#[cfg(test)]
+mod refusals;
+#[cfg(test)]
+mod shown;
+#[cfg(test)]
+mod texts;
+#[cfg(test)]
+mod values;

@@ -1,0 +1,96 @@
+//! What a document shows at a place, as one text.
+use edit_document::{Document, Item, Step};
+use std::alloc::{AllocError, Global};
+use std::test::Fail;
+use test_rows::text;
+
+/// A step: an index behind a number sign, or a key.
+fn step_of(alloc: Global, step: &str) -> Result<Step, AllocError> {
+    match step.strip_prefix("#") {
+        Some(index) => Ok(Step::Index(index.parse().unwrap_or(99))),
+        None => Ok(Step::Key(String::from_str(alloc, step)?)),
+    }
+}
+
+/// The steps of a place, which stand with slashes between them; none of the empty text.
+pub(crate) fn place_of(alloc: Global, place: &str) -> Result<Vec<Step>, AllocError> {
+    let mut steps = Vec::new(alloc);
+    for step in place.split_terminator('/') {
+        steps.push(step_of(alloc, step)?)?;
+    }
+    Ok(steps)
+}
+
+/// What stands one step further.
+fn stepped<'a>(item: Item<'a>, step: &str) -> Option<Item<'a>> {
+    match step.strip_prefix("#") {
+        Some(index) => item.at(index.parse().unwrap_or(99)),
+        None => item.get(step),
+    }
+}
+
+/// The item of a place, reached from the root step by step.
+fn walked<'a>(document: &'a Document, place: &str) -> Option<Item<'a>> {
+    let mut item = document.item(&[])?;
+    for step in place.split_terminator('/') {
+        item = stepped(item, step)?;
+    }
+    Some(item)
+}
+
+/// The word for a truth.
+fn word(truth: bool) -> &'static str {
+    if truth { "true" } else { "false" }
+}
+
+/// What an item answers to a question, where the answer is a text of the document or a word.
+fn told_of<'a>(item: Item<'a>, question: &str) -> &'a str {
+    match question {
+        "type" => item.type_name(),
+        "string" => item.as_str().unwrap_or("-"),
+        "truth" => item.as_bool().map_or("-", word),
+        "array" => item.as_array().map_or("-", |array| array.type_name()),
+        "is_str" => word(item.is_str()),
+        "is_table_like" => word(item.is_table_like()),
+        "is_inline_table" => word(item.is_inline_table()),
+        _ => "no question",
+    }
+}
+
+/// The keys of an item with spaces between them.
+fn keys_of(alloc: Global, item: Item<'_>) -> Result<String, AllocError> {
+    let keys = item.keys().collect::<Vec<&str>>(alloc)?;
+    keys.as_slice().join(alloc, " ")
+}
+
+/// What an item answers to a question.
+fn answer_of(alloc: Global, item: Item<'_>, question: &str) -> Result<String, Fail> {
+    match question {
+        "keys" => Ok(keys_of(alloc, item)?),
+        "len" => Ok(item.len().to_string(alloc)?),
+        _ => text(alloc, told_of(item, question)),
+    }
+}
+
+/// The type of what stands at a place, found by the place as a whole; `-` for nothing.
+fn type_at(alloc: Global, document: &Document, place: &str) -> Result<String, AllocError> {
+    let place = place_of(alloc, place)?;
+    let name = document.item(&place).map_or("-", |item| item.type_name());
+    String::from_str(alloc, name)
+}
+
+/// What a document answers to a question about a place; `-` where nothing stands.
+pub(crate) fn shown(
+    alloc: Global,
+    document: &Document,
+    question: &str,
+    place: &str,
+) -> Result<String, Fail> {
+    if question == "item" {
+        return Ok(type_at(alloc, document, place)?);
+    }
+    match walked(document, place) {
+        Some(item) => answer_of(alloc, item, question),
+        None => text(alloc, "-"),
+    }
+}

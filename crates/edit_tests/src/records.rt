@@ -1,8 +1,0 @@
-//! Tests of records.
-mod built;
-mod dependencies;
-mod entries;
-mod entry_rows;
-mod parts;
-mod requirements;
-mod versions;

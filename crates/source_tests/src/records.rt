@@ -1,0 +1,8 @@
+//! Tests of records.
+mod built;
+mod dependencies;
+mod entries;
+mod entry_rows;
+pub(crate) mod parts;
+mod requirements;
+mod versions;

@@ -1,0 +1,74 @@
+//! Stores in memory, and a call that fails.
+use super::steps::steps;
+use edit_sources::{FaultStore, MemoryStore};
+use std::test::Fail;
+
+// A name, a call, a path, the text that is written, and what is wanted.
+const MEMORY: &str = "\
+a file|write|/w/Cargo.toml|a|written
+a file below|write|/w/a/lib.rs|b|written
+a file again|write|/w/Cargo.toml|cd|written
+the root|kind|/||folder
+a front|kind|/w||folder
+a longer front|kind|/w/a||folder
+a file's kind|kind|/w/Cargo.toml||file
+a part of a name|kind|/w/Cargo||absent
+below a file|kind|/w/Cargo.toml/x||absent
+nothing|kind|/w/b||absent
+the last text|read|/w/Cargo.toml||cd
+a folder has no text|read|/w||none
+no fault|faults|||0";
+
+#[test]
+fn folders_in_memory(rt: HostRuntime) -> Result<(), Fail> {
+    let mut store = MemoryStore::new(rt.alloc());
+    steps(rt.alloc(), &mut store, MEMORY)
+}
+
+// What stands before the calls are counted.
+const BEFORE: &str = "\
+a file|write|/b|old bytes|written
+another file|write|/c|old|written";
+
+// The call number 1 fails, and a write leaves 4 bytes.
+const FAILS: &str = "\
+call 0|write|/a|new a|written
+call 1|write|/b|new b|3 Failed to write updated Cargo.toml
+counted|faults|||1";
+
+// What stands below the store then.
+const BELOW: &str = "\
+written|read|/a||new a
+cut short|read|/b||new |
+as it was|read|/c||old";
+
+// Nothing fails any more.
+const AFTER: &str = "\
+written again|write|/b|new b|written
+the new text|read|/b||new b
+its kind|kind|/b||file
+no other fault|faults|||1";
+
+#[test]
+fn one_call_fails(rt: HostRuntime) -> Result<(), Fail> {
+    let mut inner = MemoryStore::new(rt.alloc());
+    steps(rt.alloc(), &mut inner, BEFORE)?;
+    let mut store = FaultStore::new(inner, 1, 4);
+    steps(rt.alloc(), &mut store, FAILS)?;
+    steps(rt.alloc(), &mut store.inner, BELOW)?;
+    steps(rt.alloc(), &mut store, AFTER)
+}
+
+// Each call, where it is the first one and fails.
+const FIRST: &str = "\
+a kind|kind|/||3 Failed to look at a path
+a read|read|/||3 Failed to read a file";
+
+#[test]
+fn the_first_call_fails(rt: HostRuntime) -> Result<(), Fail> {
+    for row in FIRST.lines() {
+        let mut store = FaultStore::new(MemoryStore::new(rt.alloc()), 0, 9);
+        steps(rt.alloc(), &mut store, row)?;
+    }
+    Ok(())
+}
