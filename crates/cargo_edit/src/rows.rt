@@ -110,7 +110,8 @@ fn row_over(
     let near = offer_of(alloc, compatible)?;
     let far = offer_of(alloc, latest)?;
     let compatible = near.as_ref();
-    let decided = decide(alloc, options, false, false, None, old, compatible, far.as_ref())?;
+    let latest = far.as_ref();
+    let decided = decide(alloc, options, false, false, None, old, compatible, latest)?;
     let latest = latest_text(alloc, compatible, far)?;
     Ok(Row {
         input,

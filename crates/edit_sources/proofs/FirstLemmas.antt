@@ -221,14 +221,17 @@ beaten entries ranks rust test r g f t j x at kept =
 pub greatest_first : (entries : List IndexEntry) (ranks : List Ranking) (rust : Option Numbers) (test : Parts → Bool) (r : Ranking) → IsRanking entries ranks → find (passes rust test) ranks ≡ Some r → (t : Told entries r) × IsGreatestKept (is_kept rust test) entry_order entries t.entry
 greatest_first entries ranks rust test r g h =
     let f = first_found (passes rust test) ranks r h in
-    let t = tells_first entries ranks (passes rust test) r g f in (t, record {
-      front = take r.place entries;
-      rest = drop (suc r.place) entries;
-      split = parted entries r.place t.entry t.at;
-      kept = kept-passes rust test entries r t ∙ f.passed;
-      before = λ j d within kept. (beaten entries ranks rust test r g f t j (get_or (take r.place entries) j d) (slice_get-take r.place entries j d within) kept).0;
-      after = λ j d within kept. (beaten entries ranks rust test r g f t (suc r.place + j) (get_or (drop (suc r.place) entries) j d) (slice_get-drop (suc r.place) entries j (suc r.place + j) d within refl) kept).1 (omega arith);
-    })
+    let t = tells_first entries ranks (passes rust test) r g f in (
+      t,
+      record {
+        front = take r.place entries;
+        rest = drop (suc r.place) entries;
+        split = parted entries r.place t.entry t.at;
+        kept = kept-passes rust test entries r t ∙ f.passed;
+        before = λ j d within kept. (beaten entries ranks rust test r g f t j (get_or (take r.place entries) j d) (slice_get-take r.place entries j d within) kept).0;
+        after = λ j d within kept. (beaten entries ranks rust test r g f t (suc r.place + j) (get_or (drop (suc r.place) entries) j d) (slice_get-drop (suc r.place) entries j (suc r.place + j) d within refl) kept).1 (omega arith);
+      },
+    )
 
 none_kept : (entries : List IndexEntry) (ranks : List Ranking) (rust : Option Numbers) (test : Parts → Bool) → IsRanking entries ranks → All (λ s. passes rust test s ≡ false) ranks → (j : ℕ) (x : IndexEntry) → slice_get entries j ≡ Some x → is_kept rust test x ≡ true → ⊥
 none_kept entries ranks rust test g fails j x at kept =
