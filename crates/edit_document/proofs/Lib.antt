@@ -71,6 +71,7 @@ pub mod GrownNames
 pub mod GrownTrees
 pub mod ShownItems
 pub mod EditedDocuments
+pub mod UnorderedViews
 -- Worked examples
 pub mod ReplaceFacts
 pub mod FromReader

@@ -5,7 +5,7 @@ use Rattle.edit_document.specs.Tree.{View, string, truth, whole, fractional, mom
 use Rattle.edit_document.specs.Shown.{Shown, tree_of}
 use Rattle.edit_document.specs.EditBytes.{is_within}
 use Rattle.edit_document.specs.NewItems.{NewValue, NewItem}
-use Rattle.edit_document.specs.Meant.{Tree, new_view, view_of_members, member_view, item_view}
+use Rattle.edit_document.specs.Meant.{Tree, SameButOrder, new_view, view_of_members, member_view, item_view}
 use Rattle.edit_document.specs.Items.{place_numbered, view_numbered, names_in, key_names}
 
 -- the same stands at two places, and below them
@@ -15,6 +15,10 @@ SameBelow d p e r = (q : Place) → tree_of d (p ++ q) ≡ tree_of e (r ++ q)
 -- what stands below a place of a document
 abbrev pub tree_below : Shown → Place → Tree
 tree_below d place q = tree_of d (place ++ q)
+
+-- the same stands at two places and below them, but for the order of members
+abbrev pub SameButOrderBelow : Shown → Place → Shown → Place → Type 0
+SameButOrderBelow d p e r = (q : Place) → SameButOrder (tree_of d (p ++ q)) (tree_of e (r ++ q))
 
 -- what is neither a place nor below it is the same in two trees
 abbrev pub SameBeside : Place → Tree → Tree → Type 0
@@ -113,6 +117,12 @@ abbrev pub SamePartsBut : Step → Shown → ℕ → Shown → ℕ → Type 0
 SamePartsBut step d n e m =
     (i : ℕ) → (part : Step) → nth_part (view_numbered d n) i ≡ Some part → (part ≡ step → ⊥)
     → SameBelow d (at (place_numbered d n) part) e (at (place_numbered e m) part)
+
+-- each name of a node's members is one of another node's members
+abbrev pub HasNamesOf : Shown → ℕ → Shown → ℕ → Type 0
+HasNamesOf d n e m =
+    (i : ℕ) → (name : List ℕ) → slice_get (names_in (view_numbered d n)) i ≡ Some name
+    → tree_of e (at (place_numbered e m) (key name)) ≡ None → ⊥
 
 -- the number of the node of a member or an element
 abbrev pub NumbersPart : Shown → ℕ → ℕ → Option ℕ → Type 0

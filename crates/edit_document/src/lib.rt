@@ -15,6 +15,7 @@ mod new_shown;
 mod nodes;
 pub mod place;
 mod replace;
+mod unordered;
 mod walk;
 mod words;
 
