@@ -62,6 +62,7 @@ pub mod ReplacedDocuments
 pub mod ContentViews
 pub mod Keyed
 pub mod Wholes
+pub mod PartNumbers
 pub mod SameParts
 pub mod Besides
 pub mod BesideWalk
@@ -70,6 +71,8 @@ pub mod OnceLists
 pub mod GrownNames
 pub mod GrownTrees
 pub mod ShownItems
+pub mod ApartViews
+pub mod ReplacedEntries
 pub mod EditedDocuments
 pub mod UnorderedViews
 -- Worked examples

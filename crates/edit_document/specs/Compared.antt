@@ -45,8 +45,8 @@ ShowsItem d place inside item = (q : Place) → tree_of d (place ++ q) ≡ item_
 abbrev pub IsNumber : Shown → Place → ℕ → Type 0
 IsNumber d place n = (n < length d.nodes) × (place_numbered d n ≡ place)
 
--- The numbers of the nodes of a place in two documents that are the same but there and below; or they are not the
--- same, or nothing stands there in the second.
+-- The numbers of the nodes of a place in two documents that are the same but there and below; or they are not
+-- the same, or nothing stands there in the second.
 abbrev pub FindsBeside : Place → Shown → Shown → Option (ℕ × ℕ) → Type 0
 FindsBeside place d e r =
     MatchOption r (SameBeside place (tree_of d) (tree_of e) → tree_of e place ≡ None)
@@ -89,7 +89,10 @@ nth_part _ i = None
 
 -- the step of a number is a key, the name of that number, or the index of that number
 abbrev pub AreSteps : View → Type 0
-AreSteps v = (i : ℕ) (step : Step) → nth_part v i ≡ Some step → ((name : List ℕ) × (slice_get (names_in v) i ≡ Some name) × (step ≡ key name)) ⊎ ((slice_get (names_in v) i ≡ None) × (step ≡ index i))
+AreSteps v =
+    (i : ℕ) (step : Step) → nth_part v i ≡ Some step
+    → ((name : List ℕ) × (slice_get (names_in v) i ≡ Some name) × (step ≡ key name))
+    ⊎ ((slice_get (names_in v) i ≡ None) × (step ≡ index i))
 
 -- the names are numbered as the steps to them
 abbrev pub AreNames : View → Type 0
@@ -98,7 +101,8 @@ AreNames v = (i : ℕ) (name : List ℕ) → slice_get (names_in v) i ≡ Some n
 -- no name of a member stands twice
 abbrev pub AreApart : View → Type 0
 AreApart v =
-    (i j : ℕ) → (name : List ℕ) → slice_get (names_in v) i ≡ Some name → slice_get (names_in v) j ≡ Some name → i ≡ j
+    (i j : ℕ) → (name : List ℕ) → slice_get (names_in v) i ≡ Some name
+    → slice_get (names_in v) j ≡ Some name → i ≡ j
 
 -- the members of a table are keys
 abbrev pub AreKeys : View → Type 0
@@ -128,4 +132,5 @@ HasNamesOf d n e m =
 abbrev pub NumbersPart : Shown → ℕ → ℕ → Option ℕ → Type 0
 NumbersPart d number i r =
     MatchOption r (nth_part (view_numbered d number) i ≡ None)
-    (λ n. (step : Step) × (nth_part (view_numbered d number) i ≡ Some step) × (n < length d.nodes) × (place_numbered d n ≡ at (place_numbered d number) step))
+    (λ n. (step : Step) × (nth_part (view_numbered d number) i ≡ Some step) × (n < length d.nodes)
+    × (place_numbered d n ≡ at (place_numbered d number) step))
