@@ -25,7 +25,8 @@ choice_view d = record { new = string_bytes d.new; change = d.change; reason = d
 
 -- `held_back`, from the text that could be written for the latest version (own)
 abbrev pub held_by : Bool → Bool → Option (List ℕ) → Option Reason
-held_by jumps pinned far = when (is_some far && not jumps) (Some (if pinned then reason.Pinned else reason.Incompatible))
+held_by jumps pinned far =
+    when (is_some far && not jumps) (Some (if pinned then reason.Pinned else reason.Incompatible))
 
 -- `row_reason`, from the texts that could be written (own)
 abbrev pub reason_by : Bool → Bool → Option (List ℕ) → Option (List ℕ) → Outcome → Option Reason
@@ -34,7 +35,8 @@ reason_by jumps pinned far near (given text) = None
 reason_by jumps pinned far near unread = None
 reason_by jumps pinned far near (to_latest text) = None
 reason_by jumps pinned far near (to_compatible text) = held_by jumps pinned far
-reason_by jumps pinned far near kept = or_else (held_by jumps pinned far) (when (is_some near) (Some reason.Compatible))
+reason_by jumps pinned far near kept =
+    or_else (held_by jumps pinned far) (when (is_some near) (Some reason.Compatible))
 
 -- whether an entry may get the latest version: pinned entries follow one option, the others another
 abbrev pub jumps_by : Options → Bool → Bool
@@ -45,17 +47,21 @@ abbrev pub choice_by : Options → Bool → Bool → List ℕ → Option (List �
 choice_by o pinned aside old far near row = record {
   new = row_text old row;
   change = row_change old row;
-  reason = first_reason row aside (reason_by (jumps_by o pinned) pinned far near row) (same_text (row_text old row) old);
+  reason = first_reason row aside (reason_by (jumps_by o pinned) pinned far near row)
+      (same_text (row_text old row) old);
 }
 
 -- the decision for a readable text, where no given text is taken (own)
 abbrev pub raised_choice : Options → Bool → Bool → List ℕ → Option (List ℕ) → Option (List ℕ) → Choice
 raised_choice o pinned aside old far near =
-    choice_by o pinned aside old far near (first_row false None true (when (jumps_by o pinned) far) (when o.compatible near))
+    choice_by o pinned aside old far near
+        (first_row false None true (when (jumps_by o pinned) far) (when o.compatible near))
 
 -- the decision, from the texts that could be written
-abbrev pub decision_by : Options → Bool → Bool → Bool → Option (List ℕ) → List ℕ → Option (List ℕ) → Option (List ℕ) → Choice
+abbrev pub decision_by : Options → Bool → Bool → Bool → Option (List ℕ) → List ℕ → Option (List ℕ)
+    → Option (List ℕ) → Choice
 decision_by o excluded pinned readable selected old far near =
     let aside = is_some selected && pinned && not o.pinned in
     choice_by o pinned aside old far near
-    (first_row excluded (unless aside selected) readable (when (jumps_by o pinned) far) (when o.compatible near))
+    (first_row excluded (unless aside selected) readable (when (jumps_by o pinned) far)
+        (when o.compatible near))

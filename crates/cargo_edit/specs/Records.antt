@@ -1,5 +1,5 @@
--- Which entries a plan sees, and what they say. An entry that is a string gives its requirement; an entry that
--- is a table has it as its member `version` (Cargo reference, "Specifying Dependencies").
+-- Which entries a plan sees, and what they say. An entry that is a string gives its requirement; an entry
+-- that is a table has it as its member `version` (Cargo reference, "Specifying Dependencies").
 use Rattle.std.specs.Prelude.{ℕ, List, Bool, ◌||◌, if◌then◌else◌, Option, Some, None, codes}
 use Rattle.std.specs.List.{filter_map, list_all}
 use Rattle.edit_document.specs.Assertions.{key, Place, at, same_bytes}
@@ -25,16 +25,19 @@ version_place p = at p (key (codes "version"))
 
 -- a member that an entry may have to be seen so far: `version`, `optional` or `default-features`
 abbrev pub is_known : List ℕ → Bool
-is_known name = same_bytes name (codes "version") || (same_bytes name (codes "optional") || same_bytes name (codes "default-features"))
+is_known name = same_bytes name (codes "version")
+    || (same_bytes name (codes "optional") || same_bytes name (codes "default-features"))
 
 -- an entry of this name with a requirement at this place, where that is a string
 abbrev pub seen_with : List ℕ → Place → Place → Option View → Option Seen
-seen_with name place literal (Some (string text)) = Some (record { name = name; rename = None; place = place; literal = literal; old = cut text })
+seen_with name place literal (Some (string text)) =
+    Some (record { name = name; rename = None; place = place; literal = literal; old = cut text })
 seen_with name place literal other = None
 
 -- a table is seen where each of its members is known and its `version` is a string
 abbrev pub seen_table : Tree → List ℕ → Place → View → Option Seen
-seen_table t name place view = if list_all is_known (names_in view) then seen_with name place (version_place place) (t (version_place place)) else None
+seen_table t name place view = if list_all is_known (names_in view)
+    then seen_with name place (version_place place) (t (version_place place)) else None
 
 -- a string is seen; a table is seen as above; nothing else is
 abbrev pub seen_view : Tree → List ℕ → Place → Option View → Option Seen

@@ -141,10 +141,10 @@ pub grown_names : (n : List ℕ) (v w : View) → Grown (key n) (Some v) (Some w
 grown_names n v w g = grown_any n (key n) (Some v) (Some w) v w g refl refl refl
 
 -- it is a table, or an inline table
-abbrev IsTabled : View → Type 0
+abbrev pub IsTabled : View → Type 0
 IsTabled v = ((ms : List Step) × (v ≡ table ms)) ⊎ ((ms : List Step) × (v ≡ inline_table ms))
 
-tabled : (v : View) → 8 ≤ kind_of v → IsTabled v
+pub tabled : (v : View) → 8 ≤ kind_of v → IsTabled v
 tabled (table ms) k = inl (ms, refl)
 tabled (inline_table ms) k = inr (ms, refl)
 tabled (string s) k = absurd (omega (arith, k))

@@ -68,6 +68,7 @@ pub mod SetValues
 pub mod ContentViews
 pub mod Keyed
 pub mod Wholes
+pub mod PartNumbers
 pub mod SameParts
 pub mod Besides
 pub mod BesideWalk
@@ -76,7 +77,10 @@ pub mod OnceLists
 pub mod GrownNames
 pub mod GrownTrees
 pub mod ShownItems
+pub mod ApartViews
+pub mod ReplacedEntries
 pub mod EditedDocuments
+pub mod UnorderedViews
 -- Worked examples
 pub mod ReplaceFacts
 pub mod FromReader

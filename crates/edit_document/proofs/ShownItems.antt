@@ -1,23 +1,19 @@
 -- What the names and the parts of a node tell of a new entry that it shows.
-use Rattle.std.proofs.Common.{◌≡◌, ℕ, zero, suc, Bool, true, false, cond, eqb, not, ◌||◌, List, [], ◌∷◌, ◌++◌, ◌-◌, length, take, map, Option, Some, None, refl, sym, ap, subst, ◌∙◌, append-nil, arith}
+use Rattle.std.proofs.Common.{◌≡◌, ℕ, zero, suc, Bool, true, false, cond, not, ◌||◌, List, [], ◌∷◌, ◌++◌, length, map, Option, Some, None, refl, sym, ap, ◌∙◌, append-nil, arith}
 use Rattle.std.specs.Bool.{Decides}
 use Rattle.std.specs.Prelude.{slice_get, option_map, option_and_then, find}
-use Rattle.std.specs.List.{filter_map}
 use Rattle.std.proofs.lemmas.Option.{same_Some, slice_get-map}
-use Rattle.edit_syntax.specs.Grammar.{Value, basic, literal, multi_basic, multi_literal, boolean, integer, float, datetime, array, inline}
-use Rattle.edit_document.specs.declared.place.Step.{Step as WrittenStep}
-use Rattle.edit_document.specs.Assertions.{Step, key, index, Place, at, same_bytes, Assertion, Kind, dotted, leaf, super, header_kind, array_kind, element_kind}
-use Rattle.edit_document.specs.Tree.{View, string, truth, whole, fractional, moment, static_array, table_array, inline_table, table, members_of, step_from, kind_at, view_of_value, view_of_kind, view_in}
+use Rattle.edit_document.specs.Assertions.{Step, key, index, Place, at, same_bytes}
+use Rattle.edit_document.specs.Tree.{View, string, truth, whole, fractional, moment, static_array, table_array, inline_table, table}
 use Rattle.edit_document.specs.NewItems.{NewValue, NewItem, a_value, a_table}
-use Rattle.edit_document.specs.Meant.{new_view, view_of_members, item_view, above, is_inline_table, HasReplaced}
+use Rattle.edit_document.specs.Meant.{new_view, view_of_members, item_view}
 use Rattle.edit_document.specs.Shown.{Shown, tree_of}
-use Rattle.edit_document.specs.Items.{key_names, names_in, place_numbered, place_seen, step_seen, viewed, view_numbered, Numbers}
-use Rattle.edit_document.specs.Compared.{kind_of, nth_part, AreSteps, AreKeys, AreApart, ShowsValue, ShowsMembers, ShowsItem, FindsBeside, members_shown}
+use Rattle.edit_document.specs.Items.{key_names, names_in, place_numbered, view_numbered, Numbers}
+use Rattle.edit_document.specs.Compared.{kind_of, nth_part, AreSteps, AreKeys, AreApart, ShowsValue, ShowsMembers, ShowsItem, members_shown}
 use Rattle.edit_document.proofs.SamePlace.{same_bytes_self, same_bytes_is}
 use Rattle.edit_document.proofs.SameParts.{one_down, NothingElse, NoneBelow}
 use Rattle.edit_document.proofs.Views.{names_keys}
 use Rattle.edit_document.proofs.ShownValues.{new_some, shown_at, unshown_at}
-use Rattle.edit_document.proofs.OnceLists.{apart_once, names_apart}
 
 abbrev Pair : Type 0
 Pair = List ℕ × NewValue
@@ -244,84 +240,3 @@ pair_found d p o m n r name numbers decided =
 pub pair_missed : (d : Shown) (p : Place) (o : Option (List ℕ)) (m : Pair) → tree_of d (at p (key m.0)) ≡ None
     → Pairs d p o m → ⊥
 pair_missed d p o m none h = unshown_at d (at p (key m.0)) m.1 none h.1
-
--- ---- names of a tree's tables
-
-apart_scalar : (v : View) → names_in v ≡ [] → AreApart v
-apart_scalar v e i j n x y = absurd (let clash : None ≡ Some n = sym (ap (λ (ns : List (List ℕ)). slice_get ns i) e) ∙ x in cc)
-
-pub apart_value : (made : List Assertion) (p : Place) (v : Value) → AreApart (view_of_value made p v)
-apart_value made p (basic ps) = apart_scalar (view_of_value made p (basic ps)) refl
-apart_value made p (literal text) = apart_scalar (view_of_value made p (literal text)) refl
-apart_value made p (multi_basic ps) = apart_scalar (view_of_value made p (multi_basic ps)) refl
-apart_value made p (multi_literal ps) = apart_scalar (view_of_value made p (multi_literal ps)) refl
-apart_value made p (boolean b) = apart_scalar (view_of_value made p (boolean b)) refl
-apart_value made p (integer n) = apart_scalar (view_of_value made p (integer n)) refl
-apart_value made p (float f) = apart_scalar (view_of_value made p (float f)) refl
-apart_value made p (datetime d) = apart_scalar (view_of_value made p (datetime d)) refl
-apart_value made p (array g es) = apart_scalar (view_of_value made p (array g es)) refl
-apart_value made p (inline g ms) = names_apart (members_of made p) (apart_once (filter_map (λ a. step_from p a.place) made))
-
-apart_members : (made : List Assertion) (p : Place) → AreApart (table (members_of made p))
-apart_members made p = names_apart (members_of made p) (apart_once (filter_map (λ a. step_from p a.place) made))
-
-apart_kind : (made : List Assertion) (p : Place) (k : Kind) → AreApart (view_of_kind made p k)
-apart_kind made p (leaf v) = apart_value made p v
-apart_kind made p (dotted true) = apart_members made p
-apart_kind made p (dotted false) = apart_members made p
-apart_kind made p super = apart_members made p
-apart_kind made p header_kind = apart_members made p
-apart_kind made p element_kind = apart_members made p
-apart_kind made p array_kind = apart_scalar (view_of_kind made p array_kind) refl
-
-pub apart_view : (made : List Assertion) (p : Place) → AreApart (viewed (view_in made p))
-apart_view made [] = apart_members made []
-apart_view made (s ∷ ss) = go (kind_at made (s ∷ ss))
-  where
-    go : (o : Option Kind) → AreApart (viewed (option_map (view_of_kind made (s ∷ ss)) o))
-    go None = λ i j n x y. absurd cc
-    go (Some k) = apart_kind made (s ∷ ss) k
-
--- ---- a new entry at a place
-
-module _ (d e : Shown) (place : Place) (item : NewItem) where
-  pub replaced_there : (n m : ℕ) (inside r : Bool) → inside ≡ is_inline_table (tree_of d (above place))
-      → FindsBeside place d e (Some (n, m)) → Decides r (ShowsItem e (place_numbered e m) inside item)
-      → Decides r (HasReplaced place item (tree_of d) (tree_of e))
-  replaced_there n m inside r is (beside, left, right) decided =
-      let there : Decides r (ShowsItem e place inside item) =
-      subst (λ (p : Place). Decides r (ShowsItem e p inside item)) right.1 decided in
-      let within : Decides r (ShowsItem e place (is_inline_table (tree_of d (above place))) item) =
-      subst (λ (b : Bool). Decides r (ShowsItem e place b item)) is there in
-      (λ t. record { there = within.0 t; elsewhere = beside }, λ h. within.1 h.there)
-
-  pub replaced_nowhere : FindsBeside place d e None → HasReplaced place item (tree_of d) (tree_of e) → ⊥
-  replaced_nowhere finds h =
-      item_some (is_inline_table (tree_of d (above place))) item
-      (sym (h.there []) ∙ ap (tree_of e) (append-nil place) ∙ finds h.elsewhere)
-
--- the place above a place of the code
-pub above_seen : (steps : List WrittenStep) (n : ℕ) → n ≡ length steps - 1 → place_seen (take n steps) ≡ above (place_seen steps)
-above_seen [] n e = ap (λ (k : ℕ). place_seen (take k [])) e
-above_seen (s ∷ []) n e = ap (λ (k : ℕ). place_seen (take k (s ∷ []))) e
-above_seen (s ∷ t ∷ ts) n e =
-    let k : n ≡ suc (length ts) = omega (arith, e) in
-    let rest : length ts ≡ length (t ∷ ts) - 1 = omega arith in
-    ap (λ (j : ℕ). place_seen (take j (s ∷ t ∷ ts))) k
-    ∙ ap (λ (p : Place). step_seen s ∷ p) (above_seen (t ∷ ts) (length ts) rest)
-
--- an inline table is told by its kind
-pub inline_kind : (v : View) (k : ℕ) → k ≡ kind_of v → eqb k 8 ≡ is_inline_table (Some v)
-inline_kind v k e = ap (λ (j : ℕ). eqb j 8) e ∙ go v
-  where
-    go : (v : View) → eqb (kind_of v) 8 ≡ is_inline_table (Some v)
-    go (string s) = refl
-    go (truth true) = refl
-    go (truth false) = refl
-    go (whole s) = refl
-    go (fractional s) = refl
-    go (moment s) = refl
-    go (static_array n) = refl
-    go (table_array n) = refl
-    go (inline_table ms) = refl
-    go (table ms) = refl

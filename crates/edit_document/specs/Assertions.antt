@@ -70,7 +70,8 @@ named place ns = place ++ map key ns
 abbrev pub of_key : Bool → Place → Place → List (List ℕ) → Value → List Assertion
 of_key within by place [] v = []
 of_key within by place (n ∷ []) v = asserts by (at place (key n)) (leaf v) ∷ []
-of_key within by place (n ∷ m ∷ ns) v = asserts by (at place (key n)) (dotted within) ∷ of_key within by (at place (key n)) (m ∷ ns) v
+of_key within by place (n ∷ m ∷ ns) v =
+    asserts by (at place (key n)) (dotted within) ∷ of_key within by (at place (key n)) (m ∷ ns) v
 
 -- what a value asserts below its own place
 abbrev mutual
@@ -86,21 +87,27 @@ abbrev mutual
   of_value place (array g es) = of_elements place 0 es
   of_value place (inline ws ms) = of_members place ms
 
-  -- the elements of an array from the one of this number on: a Leaf on each, and what it asserts below itself
+  -- the elements of an array from the one of this number on:
+  -- a Leaf on each, and what it asserts below itself
   pub of_elements : Place → ℕ → Elements → List Assertion
   of_elements place i no_elements = []
-  of_elements place i (last_element v g) = asserts (at place (index i)) (at place (index i)) (leaf v) ∷ of_value (at place (index i)) v
-  of_elements place i (element v g h es) = asserts (at place (index i)) (at place (index i)) (leaf v) ∷ (of_value (at place (index i)) v ++ of_elements place (suc i) es)
+  of_elements place i (last_element v g) =
+      asserts (at place (index i)) (at place (index i)) (leaf v) ∷ of_value (at place (index i)) v
+  of_elements place i (element v g h es) = asserts (at place (index i)) (at place (index i)) (leaf v)
+      ∷ (of_value (at place (index i)) v ++ of_elements place (suc i) es)
 
   -- the pairs of an inline table: what their keys assert, and what their values assert below themselves
   pub of_members : Place → Members → List Assertion
   of_members place no_members = []
-  of_members place (last_member k a b v c) = of_key true (named place (names k)) place (names k) v ++ of_value (named place (names k)) v
-  of_members place (member k a b v c d ms) = (of_key true (named place (names k)) place (names k) v ++ of_value (named place (names k)) v) ++ of_members place ms
+  of_members place (last_member k a b v c) =
+      of_key true (named place (names k)) place (names k) v ++ of_value (named place (names k)) v
+  of_members place (member k a b v c d ms) = (of_key true (named place (names k)) place (names k) v
+      ++ of_value (named place (names k)) v) ++ of_members place ms
 
 -- what a pair under a header asserts: its key, and its value below itself
 abbrev pub of_pair : Place → Key → Value → List Assertion
-of_pair place k v = of_key false (named place (names k)) place (names k) v ++ of_value (named place (names k)) v
+of_pair place k v =
+    of_key false (named place (names k)) place (names k) v ++ of_value (named place (names k)) v
 
 -- ---- headers
 
@@ -116,17 +123,20 @@ is_array_at place a = is_array a.kind && same_place a.place place
 -- how many elements an array of tables has so far
 abbrev pub elements_at : List Assertion → Place → ℕ
 elements_at [] place = 0
-elements_at (a ∷ earlier) place = cond (is_array_at place a) (suc (elements_at earlier place)) (elements_at earlier place)
+elements_at (a ∷ earlier) place =
+    cond (is_array_at place a) (suc (elements_at earlier place)) (elements_at earlier place)
 
 -- the last element, where an earlier statement asserted Array on the place
 abbrev pub resolved : List Assertion → Place → Place
-resolved earlier place = if nat_lt 0 (elements_at earlier place) then at place (index (elements_at earlier place - 1)) else place
+resolved earlier place =
+    if nat_lt 0 (elements_at earlier place) then at place (index (elements_at earlier place - 1)) else place
 
 -- Super on the front parts, and the place of the last part
 abbrev pub fronts : List Assertion → Place → Place → List (List ℕ) → List Assertion
 fronts earlier by place [] = []
 fronts earlier by place (n ∷ []) = []
-fronts earlier by place (n ∷ m ∷ ns) = asserts by (resolved earlier (at place (key n))) super ∷ fronts earlier by (resolved earlier (at place (key n))) (m ∷ ns)
+fronts earlier by place (n ∷ m ∷ ns) = asserts by (resolved earlier (at place (key n))) super
+    ∷ fronts earlier by (resolved earlier (at place (key n))) (m ∷ ns)
 
 -- the place of a header's last part, where each part before it goes on below the last element of an array
 abbrev pub header_place : List Assertion → Place → List (List ℕ) → Place
@@ -136,11 +146,13 @@ header_place earlier place (n ∷ m ∷ ns) = header_place earlier (resolved ear
 
 -- ---- texts
 
--- the header that holds after a statement behind these assertions, under this header: its own place or element
+-- the header that holds after a statement behind these
+-- assertions, under this header: its own place or element
 abbrev pub prefix_after : List Assertion → Place → Statement → Place
 prefix_after earlier prefix (pair k a b v) = prefix
 prefix_after earlier prefix (header a k b) = header_place earlier [] (names k)
-prefix_after earlier prefix (element_header a k b) = let place = header_place earlier [] (names k) in at place (index (elements_at earlier place))
+prefix_after earlier prefix (element_header a k b) =
+    let place = header_place earlier [] (names k) in at place (index (elements_at earlier place))
 
 -- the place that a statement names by its whole key
 abbrev pub place_named : List Assertion → Place → Statement → Place
@@ -157,14 +169,16 @@ of_statement earlier prefix (header a k b) =
 of_statement earlier prefix (element_header a k b) =
     let place = header_place earlier [] (names k) in
     let element = at place (index (elements_at earlier place)) in
-    fronts earlier element [] (names k) ++ asserts element place array_kind ∷ asserts element element element_kind ∷ []
+    fronts earlier element [] (names k)
+        ++ asserts element place array_kind ∷ asserts element element element_kind ∷ []
 
 -- what lines assert, behind these assertions and under this header
 abbrev pub of_lines : List Assertion → Place → Lines → List Assertion
 of_lines earlier prefix (one_line (empty_line a c)) = earlier
 of_lines earlier prefix (one_line (full_line a s b c)) = earlier ++ of_statement earlier prefix s
 of_lines earlier prefix (more_lines (empty_line a c) e ls) = of_lines earlier prefix ls
-of_lines earlier prefix (more_lines (full_line a s b c) e ls) = of_lines (earlier ++ of_statement earlier prefix s) (prefix_after earlier prefix s) ls
+of_lines earlier prefix (more_lines (full_line a s b c) e ls) =
+    of_lines (earlier ++ of_statement earlier prefix s) (prefix_after earlier prefix s) ls
 
 -- the assertions of a text, in its order
 abbrev pub assertions : Text → List Assertion
@@ -188,7 +202,8 @@ together _ _ = false
 -- each assertion may stand with each later one on its place
 abbrev pub NoClash : List Assertion → Type 0
 NoClash [] = ⊤
-NoClash (a ∷ made) = AllByRecursion (λ b. a.place ≡ b.place → together a.kind b.kind ≡ true) made × NoClash made
+NoClash (a ∷ made) =
+    AllByRecursion (λ b. a.place ≡ b.place → together a.kind b.kind ≡ true) made × NoClash made
 
 -- no place has more than 80 steps
 abbrev pub AreShort : List Assertion → Type 0

@@ -5,7 +5,7 @@ use Rattle.edit_document.specs.Tree.{View, string, truth, whole, fractional, mom
 use Rattle.edit_document.specs.Shown.{Shown, tree_of}
 use Rattle.edit_document.specs.EditBytes.{is_within}
 use Rattle.edit_document.specs.NewItems.{NewValue, NewItem}
-use Rattle.edit_document.specs.Meant.{Tree, new_view, view_of_members, member_view, item_view}
+use Rattle.edit_document.specs.Meant.{Tree, SameButOrder, new_view, view_of_members, member_view, item_view}
 use Rattle.edit_document.specs.Items.{place_numbered, view_numbered, names_in, key_names}
 
 -- the same stands at two places, and below them
@@ -15,6 +15,10 @@ SameBelow d p e r = (q : Place) → tree_of d (p ++ q) ≡ tree_of e (r ++ q)
 -- what stands below a place of a document
 abbrev pub tree_below : Shown → Place → Tree
 tree_below d place q = tree_of d (place ++ q)
+
+-- the same stands at two places and below them, but for the order of members
+abbrev pub SameButOrderBelow : Shown → Place → Shown → Place → Type 0
+SameButOrderBelow d p e r = (q : Place) → SameButOrder (tree_of d (p ++ q)) (tree_of e (r ++ q))
 
 -- what is neither a place nor below it is the same in two trees
 abbrev pub SameBeside : Place → Tree → Tree → Type 0
@@ -41,8 +45,8 @@ ShowsItem d place inside item = (q : Place) → tree_of d (place ++ q) ≡ item_
 abbrev pub IsNumber : Shown → Place → ℕ → Type 0
 IsNumber d place n = (n < length d.nodes) × (place_numbered d n ≡ place)
 
--- The numbers of the nodes of a place in two documents that are the same but there and below; or they are not the
--- same, or nothing stands there in the second.
+-- The numbers of the nodes of a place in two documents that are the same but there and below; or they are
+-- not the same, or nothing stands there in the second.
 abbrev pub FindsBeside : Place → Shown → Shown → Option (ℕ × ℕ) → Type 0
 FindsBeside place d e r =
     MatchOption r (SameBeside place (tree_of d) (tree_of e) → tree_of e place ≡ None)
@@ -85,7 +89,10 @@ nth_part _ i = None
 
 -- the step of a number is a key, the name of that number, or the index of that number
 abbrev pub AreSteps : View → Type 0
-AreSteps v = (i : ℕ) (step : Step) → nth_part v i ≡ Some step → ((name : List ℕ) × (slice_get (names_in v) i ≡ Some name) × (step ≡ key name)) ⊎ ((slice_get (names_in v) i ≡ None) × (step ≡ index i))
+AreSteps v =
+    (i : ℕ) (step : Step) → nth_part v i ≡ Some step
+    → ((name : List ℕ) × (slice_get (names_in v) i ≡ Some name) × (step ≡ key name))
+    ⊎ ((slice_get (names_in v) i ≡ None) × (step ≡ index i))
 
 -- the names are numbered as the steps to them
 abbrev pub AreNames : View → Type 0
@@ -94,7 +101,8 @@ AreNames v = (i : ℕ) (name : List ℕ) → slice_get (names_in v) i ≡ Some n
 -- no name of a member stands twice
 abbrev pub AreApart : View → Type 0
 AreApart v =
-    (i j : ℕ) → (name : List ℕ) → slice_get (names_in v) i ≡ Some name → slice_get (names_in v) j ≡ Some name → i ≡ j
+    (i j : ℕ) → (name : List ℕ) → slice_get (names_in v) i ≡ Some name
+    → slice_get (names_in v) j ≡ Some name → i ≡ j
 
 -- the members of a table are keys
 abbrev pub AreKeys : View → Type 0
@@ -114,8 +122,15 @@ SamePartsBut step d n e m =
     (i : ℕ) → (part : Step) → nth_part (view_numbered d n) i ≡ Some part → (part ≡ step → ⊥)
     → SameBelow d (at (place_numbered d n) part) e (at (place_numbered e m) part)
 
+-- each name of a node's members is one of another node's members
+abbrev pub HasNamesOf : Shown → ℕ → Shown → ℕ → Type 0
+HasNamesOf d n e m =
+    (i : ℕ) → (name : List ℕ) → slice_get (names_in (view_numbered d n)) i ≡ Some name
+    → tree_of e (at (place_numbered e m) (key name)) ≡ None → ⊥
+
 -- the number of the node of a member or an element
 abbrev pub NumbersPart : Shown → ℕ → ℕ → Option ℕ → Type 0
 NumbersPart d number i r =
     MatchOption r (nth_part (view_numbered d number) i ≡ None)
-    (λ n. (step : Step) × (nth_part (view_numbered d number) i ≡ Some step) × (n < length d.nodes) × (place_numbered d n ≡ at (place_numbered d number) step))
+    (λ n. (step : Step) × (nth_part (view_numbered d number) i ≡ Some step) × (n < length d.nodes)
+    × (place_numbered d n ≡ at (place_numbered d number) step))

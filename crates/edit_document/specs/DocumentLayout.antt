@@ -69,7 +69,8 @@ shown_by bytes = record { bytes = bytes; nodes = nodes_by (spots_of bytes) }
 abbrev pub shown_of : Inside → Shown
 shown_of d = shown_by (string_bytes d.text)
 
--- the text was read, and the nodes keep the spots of its form, which show its tree and where its values are written
+-- the text was read, and the nodes keep the spots of its
+-- form, which show its tree and where its values are written
 pub record IsRead (d : Inside) : Type 0 where
   pub spots : List Spot
   pub found : spots_of (string_bytes d.text) ≡ Some spots
@@ -78,4 +79,5 @@ pub record IsRead (d : Inside) : Type 0 where
   pub holds : Holds (string_bytes d.text) d.nodes.items spots
   pub tree : IsTree spots
   pub views : (place : Place) → node_at (map shown_spot spots) place ≡ view_at form place
-  pub spans : (n : ℕ) (s : Spot) → slice_get spots n ≡ Some s → s.span ≡ span_at (map placed (values form)) s.place
+  pub spans : (n : ℕ) (s : Spot) → slice_get spots n ≡ Some s
+      → s.span ≡ span_at (map placed (values form)) s.place

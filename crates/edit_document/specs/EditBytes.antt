@@ -147,7 +147,8 @@ inline_grown m (inline g no_members) after =
     let close = right_brace ∷ after in
     if is_blank_gap g then Some (record { from = gap g close; to = close; now = codes " " · m · codes " " })
     else Some (put_before (gap g close) (codes " " · m))
-inline_grown m (inline g ms) after = Some (put_before (behind_last ms (right_brace ∷ after)) (codes ", " · m))
+inline_grown m (inline g ms) after =
+    Some (put_before (behind_last ms (right_brace ∷ after)) (codes ", " · m))
 inline_grown m _ after = None
 
 -- of an inline table

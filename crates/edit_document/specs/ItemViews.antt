@@ -22,7 +22,8 @@ view_of i = viewed (tree_of (document_of i) (place_of i))
 -- the item of a place, with something that stands there, or nothing where nothing stands
 abbrev pub Finds : Shown → Place → Option Item → Type 0
 Finds d place r =
-    MatchOption r (tree_of d place ≡ None) (λ i. (document_of i ≡ d) × (place_of i ≡ place) × (tree_of d place ≡ Some (view_of i)))
+    MatchOption r (tree_of d place ≡ None) (λ i. (document_of i ≡ d) × (place_of i ≡ place)
+        × (tree_of d place ≡ Some (view_of i)))
 
 -- the names that are left
 abbrev pub keys_left : Keys → List (List ℕ)

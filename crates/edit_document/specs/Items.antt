@@ -118,4 +118,6 @@ Shows _ _ = ⊥
 
 -- the number of the place, or nothing where nothing stands there
 abbrev pub Numbers : Shown → Place → Option ℕ → Type 0
-Numbers d place r = MatchOption r (tree_of d place ≡ None) (λ n. (tree_of d place ≡ Some (view_numbered d n)) × (place_numbered d n ≡ place) × (n < length d.nodes))
+Numbers d place r = MatchOption r (tree_of d place
+    ≡ None) (λ n. (tree_of d place ≡ Some (view_numbered d n)) × (place_numbered d n ≡ place)
+    × (n < length d.nodes))

@@ -8,7 +8,8 @@ use Rattle.edit_syntax.specs.Grammar.{Value, basic, value}
 abbrev pub hex_digit : ℕ → ℕ
 hex_digit d = if nat_lt d 10 then 48 + d else 55 + d
 
--- how a byte is written: `\"`, `\\`, `\b`, `\t`, `\n`, `\f`, `\r`; other control characters as `\u` and four digits; all else as it is
+-- how a byte is written: `\"`, `\\`, `\b`, `\t`, `\n`, `\f`, `\r`;
+-- other control characters as `\u` and four digits; all else as it is
 abbrev pub literal_piece : ℕ → Piece
 literal_piece b =
     if b == quote || b == backslash then letter b

@@ -1,4 +1,5 @@
--- The nodes of a document: one for each place that a statement asserts, the root first and then in the order of first assertions.
+-- The nodes of a document: one for each place that a statement
+-- asserts, the root first and then in the order of first assertions.
 use Rattle.std.specs.Prelude.{◌≡◌, ℕ, List, [], length, map, drop, slice_get, Option, Some, None, String, string_bytes, ◌⊎◌}
 use Rattle.std.specs.Global.{Box, Global}
 use Rattle.std.specs.Map.{lookup}
@@ -35,8 +36,8 @@ shape_said kinds.Float text = scalar (fractional text)
 shape_said kinds.DateTime text = scalar (moment text)
 shape_said _ text = scalar (string text)
 
--- a place, its shape, by what it is taken, the names and numbers of its members in the order of their first assertions,
--- the numbers of its elements, and where its value is written
+-- a place, its shape, by what it is taken, the names and numbers of its members in the order of their first
+-- assertions, the numbers of its elements, and where its value is written
 pub record Spot : Type 0 where
   pub place : Place
   pub shape : Shape
@@ -107,7 +108,8 @@ number_in entries name = lookup (λ n. bytes_eq name n) entries
 
 -- all members but the first few are looked up by their names
 abbrev pub IsIndexed : List ℕ → Members → Type 0
-IsIndexed text members = (name : List ℕ) → number_of members.others name ≡ number_in (drop 8 (entries_of text members)) name
+IsIndexed text members =
+    (name : List ℕ) → number_of members.others name ≡ number_in (drop 8 (entries_of text members)) name
 
 -- a node keeps a spot of the document of a text; of its place it keeps how many steps there are
 pub record Keeps (text : List ℕ) (node : Node) (spot : Spot) : Type 0 where
@@ -122,7 +124,8 @@ pub record Keeps (text : List ℕ) (node : Node) (spot : Spot) : Type 0 where
 -- each node keeps the spot of its number
 pub record Holds (text : List ℕ) (nodes : List Node) (spots : List Spot) : Type 0 where
   pub len : length nodes ≡ length spots
-  pub each : (n : ℕ) (node : Node) (spot : Spot) → slice_get nodes n ≡ Some node → slice_get spots n ≡ Some spot → Keeps text node spot
+  pub each : (n : ℕ) (node : Node) (spot : Spot) → slice_get nodes n ≡ Some node
+      → slice_get spots n ≡ Some spot → Keeps text node spot
 
 -- ---- places
 
@@ -144,10 +147,12 @@ pub record IsBelow (spots : List Spot) (number : ℕ) (place : Place) : Type 0 w
   pub place_is : place ≡ at upper.place step
   pub listed : below upper step ≡ Some number
 
--- the spots of a tree: the root stands first, no place stands twice, and the places one step below those that stand are
--- those that their members and elements number
+-- the spots of a tree: the root stands first, no place stands twice, and the places one step below those
+-- that stand are those that their members and elements number
 pub record IsTree (spots : List Spot) : Type 0 where
   pub root : StandsAt spots 0 []
-  pub unique : (i j : ℕ) (s t : Spot) → slice_get spots i ≡ Some s → slice_get spots j ≡ Some t → s.place ≡ t.place → i ≡ j
-  pub down : (i j : ℕ) (s : Spot) (step : Step) → slice_get spots i ≡ Some s → below s step ≡ Some j → StandsAt spots j (at s.place step)
+  pub unique : (i j : ℕ) (s t : Spot) → slice_get spots i ≡ Some s → slice_get spots j ≡ Some t
+      → s.place ≡ t.place → i ≡ j
+  pub down : (i j : ℕ) (s : Spot) (step : Step) → slice_get spots i ≡ Some s → below s step ≡ Some j
+      → StandsAt spots j (at s.place step)
   pub up : (j : ℕ) (t : Spot) → slice_get spots j ≡ Some t → (t.place ≡ []) ⊎ IsBelow spots j t.place

@@ -14,8 +14,8 @@ use Rattle.edit_document.specs.EditBytes.{before, with_splice, last_made, is_wit
 abbrev pub is_gone : Place → Stated → Bool
 is_gone gone s = is_within gone (place_named s.earlier s.prefix s.statement)
 
--- What is left of lines from a spot on. A statement that goes takes the blank and comment lines before it, and
--- its own lines with the newline.
+-- What is left of lines from a spot on. A statement that goes takes the
+-- blank and comment lines before it, and its own lines with the newline.
 abbrev pub lines_left : Place → List ℕ → List Stated → List ℕ
 lines_left gone from [] = from
 lines_left gone from (s ∷ ss) =
@@ -45,8 +45,8 @@ without_blanks (b ∷ rest) = if is_blank b then without_blanks rest else b ∷ 
 abbrev pub behind_comma : (List ℕ → List ℕ) → Left → List ℕ
 behind_comma lead l = if l.comma_stays then comma ∷ lead l.rest else l.rest
 
--- A member that goes takes the comma behind it and the tabs and spaces there; where no comma is behind it, it
--- takes the comma before it and leaves the gap behind itself.
+-- A member that goes takes the comma behind it and the tabs and spaces there; where no comma is behind it,
+-- it takes the comma before it and leaves the gap behind itself.
 abbrev pub without_member : (List ℕ → List ℕ) → (List ℕ → List ℕ) → Left → Left
 without_member trail lead l =
     if l.comma_stays then with_it (without_blanks (lead l.rest)) else without_it (trail l.rest)

@@ -95,7 +95,8 @@ replaced_lines write edits earlier prefix (more_lines (full_line a s b c) e ls) 
     (replaced_lines write edits (earlier ++ of_statement earlier prefix s)
     (prefix_after earlier prefix s) ls)
 
--- the form in which each value at one of the places gives way to what is made of the text to be written there
+-- the form in which each value at one of the places gives
+-- way to what is made of the text to be written there
 abbrev pub replaced_by : Writer → Edits → Text → Text
 replaced_by write edits t = record { marked = t.marked; lines = replaced_lines write edits [] [] t.lines }
 

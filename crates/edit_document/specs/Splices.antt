@@ -24,7 +24,8 @@ spliced text at (r ∷ more) = slice_range text at r.0 ++ (literal_bytes r.2 ++ 
 -- the ranges stand one behind the other, and the text may be cut at their ends
 abbrev pub AreInOrder : List ℕ → ℕ → List Range → Type 0
 AreInOrder text at [] = ⊤
-AreInOrder text at (r ∷ more) = (at ≤ r.0) × (r.0 ≤ r.1) × IsCharBoundary text r.0 × IsCharBoundary text r.1 × AreInOrder text r.1 more
+AreInOrder text at (r ∷ more) =
+    (at ≤ r.0) × (r.0 ≤ r.1) × IsCharBoundary text r.0 × IsCharBoundary text r.1 × AreInOrder text r.1 more
 
 -- the ranges of values in a text of this length
 abbrev pub ranges_of : ℕ → List (Valued × List ℕ) → List Range

@@ -21,7 +21,8 @@ pub record Stated : Type 0 where
   pub after : List ℕ
   pub next : List ℕ
 
--- a statement with the white space before it, the text behind it, from its line's end, and from the next line
+-- a statement with the white space before it, the text
+-- behind it, from its line's end, and from the next line
 abbrev pub stated_line : List Assertion → Place → List ℕ → Statement → List ℕ → List ℕ → List ℕ → Stated
 stated_line earlier prefix a s behind after next = record {
   prefix = prefix;

@@ -1,5 +1,5 @@
--- By what a place is taken, and what may take it again: the assertions of a place are kept as one word, which tells
--- what may still be asserted there.
+-- By what a place is taken, and what may take it again: the assertions of a place are kept as one word,
+-- which tells what may still be asserted there.
 use Rattle.std.specs.Prelude.{Bool, true, false}
 use Rattle.edit_document.specs.declared.nodes.Taken.{Taken}
 use Rattle.edit_document.specs.declared.nodes.Taken.TheVariants.{Dotted, Value, Super, Header, Array, Element}

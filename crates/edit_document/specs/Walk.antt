@@ -1,5 +1,5 @@
--- How the spots of a text come from its marks, one after the other. The contracts of the private functions cite this;
--- what it has to do with the assertions of a form is proved in proofs/.
+-- How the spots of a text come from its marks, one after the other. The contracts of the private functions
+-- cite this; what it has to do with the assertions of a form is proved in proofs/.
 use Rattle.std.specs.Prelude.{ℕ, ◌-◌, Bool, true, false, nat_le, nat_lt, if◌then◌else◌, List, [], ◌∷◌, ◌++◌, length, take, drop, slice_get, slice_set, Option, Some, None, option_map, option_to_list, unwrap_or}
 use Rattle.std.specs.Str.{is_utf8}
 use Rattle.edit_syntax.specs.declared.read.marks.Mark.{Mark}
@@ -64,7 +64,8 @@ said bytes m = told m.kind (suffix bytes m.from) (m.from - m.to) >>= as_text
 
 -- a spot without members
 abbrev pub spot_at : Place → Shape → Taken → Option Span → Spot
-spot_at place shape taken span = record { place = place; shape = shape; taken = taken; members = []; elements = []; span = span }
+spot_at place shape taken span =
+    record { place = place; shape = shape; taken = taken; members = []; elements = []; span = span }
 
 -- the number of the member of a name of the spot of a number
 unfoldable pub child : List Spot → ℕ → List ℕ → Option ℕ
@@ -75,9 +76,11 @@ abbrev pub last_table : Shape → List ℕ → Option ℕ
 last_table sections numbers = last_of numbers
 last_table _ numbers = None
 
--- the spot whose place is taken: a header that goes on below an array of tables goes on below its last element
+-- the spot whose place is taken: a header that goes on below
+-- an array of tables goes on below its last element
 unfoldable pub target_of : List Spot → ℕ → Taken → ℕ
-target_of spots number Super = unwrap_or (slice_get spots number >>= λ s. last_table s.shape s.elements) number
+target_of spots number Super =
+    unwrap_or (slice_get spots number >>= λ s. last_table s.shape s.elements) number
 target_of spots number _ = number
 
 -- a spot whose place is taken again
@@ -101,26 +104,31 @@ with_element s number = record s { elements = s.elements ++ number ∷ [] }
 unfoldable pub added : List Spot → ℕ → List ℕ → Shape → Taken → Option Span → Option (List Spot × ℕ)
 added spots number name shape taken span = slice_get spots number >>= λ s.
     if nat_le 80 (length s.place) then None
-    else Some (slice_set spots number (with_member s name (length spots)) ++ spot_at (at s.place (key name)) shape taken span ∷ [], length spots)
+    else Some (slice_set spots number (with_member s name (length spots))
+        ++ spot_at (at s.place (key name)) shape taken span ∷ [], length spots)
 
 -- an element more of the spot of a number, and its own number; refused past 80 steps
 unfoldable pub element_added : List Spot → ℕ → Shape → Taken → Option Span → Option (List Spot × ℕ)
 element_added spots number shape taken span = slice_get spots number >>= λ s.
     if nat_le 80 (length s.place) then None
-    else Some (slice_set spots number (with_element s (length spots)) ++ spot_at (at s.place (index (length s.elements))) shape taken span ∷ [], length spots)
+    else Some (slice_set spots number (with_element s (length spots))
+        ++ spot_at (at s.place (index (length s.elements))) shape taken span ∷ [], length spots)
 
 -- the spots, and the number of one of them
 abbrev pub numbered : ℕ → Option (List Spot) → Option (List Spot × ℕ)
 numbered number o = option_map (λ spots. (spots, number)) o
 
 -- the member of this number, if there is one, is taken again, else a member is added
-abbrev pub asserted_at : Option ℕ → List Spot → ℕ → List ℕ → Shape → Taken → Option Span → Option (List Spot × ℕ)
+abbrev pub asserted_at : Option ℕ → List Spot → ℕ → List ℕ → Shape → Taken → Option Span
+    → Option (List Spot × ℕ)
 asserted_at None spots number name shape taken span = added spots number name shape taken span
-asserted_at (Some j) spots number name shape taken span = numbered (target_of spots j taken) (taken_again spots (target_of spots j taken) taken)
+asserted_at (Some j) spots number name shape taken span =
+    numbered (target_of spots j taken) (taken_again spots (target_of spots j taken) taken)
 
 -- a member of the spot of a number is asserted, with the number of the spot whose place is taken
 unfoldable pub asserted : List Spot → ℕ → List ℕ → Shape → Taken → Option Span → Option (List Spot × ℕ)
-asserted spots number name shape taken span = asserted_at (child spots number name) spots number name shape taken span
+asserted spots number name shape taken span =
+    asserted_at (child spots number name) spots number name shape taken span
 
 -- what stands at the place of a front part of a key
 abbrev pub front_shape : Bool → Shape
@@ -129,12 +137,13 @@ front_shape is_inline = if is_inline then inline else section
 -- the table in which the last part of a key stands, from a table on
 unfoldable pub reached : List Spot → ℕ → List (List ℕ) → Shape → Taken → Option (List Spot × ℕ)
 reached spots number [] shape taken = Some (spots, number)
-reached spots number (name ∷ names) shape taken = asserted spots number name shape taken None >>= λ r. reached r.0 r.1 names shape taken
+reached spots number (name ∷ names) shape taken =
+    asserted spots number name shape taken None >>= λ r. reached r.0 r.1 names shape taken
 
 -- ---- the walk
 
--- the spots so far; the numbers of the header and of the arrays and inline tables that are open, the innermost last; the parts of
--- the key that waits for its value: the last one, and those before it
+-- the spots so far; the numbers of the header and of the arrays and inline tables that are open, the
+-- innermost last; the parts of the key that waits for its value: the last one, and those before it
 pub record State : Type 0 where
   pub spots : List Spot
   pub tables : List ℕ
@@ -160,13 +169,16 @@ is_dotted_within count _ = false
 
 -- the waiting key takes a place below a table, with its number
 unfoldable pub settled : State → ℕ → Taken → Shape → Taken → Option Span → Option (State × ℕ)
-settled st number front shape taken span = st.name >>= λ name. reached st.spots number st.fronts (front_shape (is_dotted_within (length st.tables) front)) front >>= λ r.
+settled st number front shape taken span = st.name
+    >>= λ name. reached st.spots number st.fronts
+    (front_shape (is_dotted_within (length st.tables) front)) front >>= λ r.
     asserted r.0 r.1 name shape taken span >>= λ q. Some (settled_state q.0 st.tables, q.1)
 
 -- the waiting key becomes a member of a table; where none waits, an element more stands in an array
 abbrev pub entered_below : Option (List ℕ) → State → ℕ → Shape → Option Span → Option (State × ℕ)
 entered_below (Some name) st number shape span = settled st number Dotted shape Value span
-entered_below None st number shape span = element_added st.spots number shape Value span >>= λ q. Some (record st { spots = q.0 }, q.1)
+entered_below None st number shape span =
+    element_added st.spots number shape Value span >>= λ q. Some (record st { spots = q.0 }, q.1)
 
 -- a value enters the innermost table or array, with its number
 abbrev pub entered_at : State → Shape → Option Span → Option (State × ℕ)
@@ -178,12 +190,14 @@ entered st shape span = entered_at st shape span >>= λ r. Some r.0
 
 -- an array or an inline table opens
 abbrev pub opened : State → Shape → Option Span → Option State
-opened st shape span = entered_at st shape span >>= λ r. Some (record r.0 { tables = r.0.tables ++ r.1 ∷ [] })
+opened st shape span =
+    entered_at st shape span >>= λ r. Some (record r.0 { tables = r.0.tables ++ r.1 ∷ [] })
 
 -- the innermost table or array ends before so many bytes
 abbrev pub closed : State → ℕ → Option State
 closed st to = last_of st.tables >>= λ number. slice_get st.spots number >>= λ s. s.span >>= λ span.
-    Some (record st { spots = slice_set st.spots number (record s { span = Some (record { from = span.from; to = to }) }); tables = without_last st.tables })
+    Some (record st { spots = slice_set st.spots number
+        (record s { span = Some (record { from = span.from; to = to }) }); tables = without_last st.tables })
 
 -- this table and no other is open
 abbrev pub turned : State × ℕ → State
@@ -195,7 +209,8 @@ headed st = settled st 0 Super section Header None >>= λ r. Some (turned r)
 
 -- the waiting key becomes the header of an element
 abbrev pub element_headed : State → Option State
-element_headed st = settled st 0 Super sections Array None >>= λ r. element_added r.0.spots r.1 section Element None >>= λ q.
+element_headed st =
+    settled st 0 Super sections Array None >>= λ r. element_added r.0.spots r.1 section Element None >>= λ q.
     Some (turned (record r.0 { spots = q.0 }, q.1))
 
 -- the span of a mark's token

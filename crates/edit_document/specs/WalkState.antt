@@ -17,7 +17,8 @@ Adds text nodes made false = made ≡ None
 -- the nodes keep the spots that were made, and the number is that of one of them; or none were made
 abbrev pub Puts : List ℕ → List Node → Option (List Spot × ℕ) → Option ℕ → Type 0
 Puts text nodes made None = made ≡ None
-Puts text nodes made (Some number) = (spots : List Spot) × (made ≡ Some (spots, number)) × Holds text nodes spots
+Puts text nodes made (Some number) =
+    (spots : List Spot) × (made ≡ Some (spots, number)) × Holds text nodes spots
 
 -- the walk over a text is in this state
 pub record Walks (text : List ℕ) (walk : Walk) (st : State) : Type 0 where
@@ -46,7 +47,9 @@ KeepsState text nodes (Some st) = Holds text nodes st.spots
 -- the token of the mark stands in the text with this meaning
 abbrev pub SaysAt : List ℕ → Mark → List ℕ → Type 0
 SaysAt bytes m name =
-    (before : List ℕ) × (content : List ℕ) × (rest : List ℕ) × (bytes ≡ before ++ delimited m.kind content rest) × (m.from ≡ length (delimited m.kind content rest)) × (m.to ≡ length rest) × Says m.kind content name
+    (before : List ℕ) × (content : List ℕ) × (rest : List ℕ)
+        × (bytes ≡ before ++ delimited m.kind content rest)
+        × (m.from ≡ length (delimited m.kind content rest)) × (m.to ≡ length rest) × Says m.kind content name
 
 -- a token that says something
 abbrev pub is_said : MarkKind → Bool

@@ -34,22 +34,27 @@ abbrev mutual
   -- each element from the one of this number on, and the values inside it
   pub in_elements : Place → ℕ → Elements → List ℕ → List Valued
   in_elements place i no_elements rest = []
-  in_elements place i (last_element v g) rest = valued (at place (index i)) v (gap g rest) ∷ inside (at place (index i)) v (gap g rest)
+  in_elements place i (last_element v g) rest =
+      valued (at place (index i)) v (gap g rest) ∷ inside (at place (index i)) v (gap g rest)
   in_elements place i (element v g h es) rest =
       valued (at place (index i)) v (gap g (comma ∷ gap h (elements es rest)))
-      ∷ (inside (at place (index i)) v (gap g (comma ∷ gap h (elements es rest))) ++ in_elements place (suc i) es rest)
+      ∷ (inside (at place (index i)) v (gap g (comma ∷ gap h (elements es rest)))
+          ++ in_elements place (suc i) es rest)
 
   -- each member's value, and the values inside it
   pub in_members : Place → Members → List ℕ → List Valued
   in_members place no_members rest = []
-  in_members place (last_member k a b v c) rest = valued (named place (names k)) v (gap c rest) ∷ inside (named place (names k)) v (gap c rest)
+  in_members place (last_member k a b v c) rest =
+      valued (named place (names k)) v (gap c rest) ∷ inside (named place (names k)) v (gap c rest)
   in_members place (member k a b v c d ms) rest =
       valued (named place (names k)) v (gap c (comma ∷ gap d (members ms rest)))
-      ∷ (inside (named place (names k)) v (gap c (comma ∷ gap d (members ms rest))) ++ in_members place ms rest)
+      ∷ (inside (named place (names k)) v (gap c (comma ∷ gap d (members ms rest)))
+          ++ in_members place ms rest)
 
 -- the values of a statement under a header
 abbrev pub in_statement : Place → Statement → List ℕ → List Valued
-in_statement prefix (pair k a b v) after = valued (named prefix (names k)) v after ∷ inside (named prefix (names k)) v after
+in_statement prefix (pair k a b v) after =
+    valued (named prefix (names k)) v after ∷ inside (named prefix (names k)) v after
 in_statement prefix (header a k b) after = []
 in_statement prefix (element_header a k b) after = []
 
@@ -59,7 +64,8 @@ in_lines earlier prefix (one_line (empty_line a c)) = []
 in_lines earlier prefix (one_line (full_line a s b c)) = in_statement prefix s (b · comment c [])
 in_lines earlier prefix (more_lines (empty_line a c) e ls) = in_lines earlier prefix ls
 in_lines earlier prefix (more_lines (full_line a s b c) e ls) =
-    in_statement prefix s (b · comment c (line_end e (lines ls))) ++ in_lines (earlier ++ of_statement earlier prefix s) (prefix_after earlier prefix s) ls
+    in_statement prefix s (b · comment c (line_end e (lines ls)))
+        ++ in_lines (earlier ++ of_statement earlier prefix s) (prefix_after earlier prefix s) ls
 
 -- the values of a text, in its order
 abbrev pub values : Text → List Valued

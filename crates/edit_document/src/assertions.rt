@@ -43,7 +43,8 @@ fn stronger(before: Taken, after: Taken) -> Taken
 
 /// Takes the place of a node again. Answers whether it may be.
 fn take_again(nodes: &mut Vec<Node>, number: usize, taken: Taken) -> bool
-    ensures { (text : List ℕ) (spots : List Spot) → Holds text nodes.old.items spots → Adds text nodes.new.items (taken_again spots number taken) result }
+    ensures { (text : List ℕ) (spots : List Spot) → Holds text nodes.old.items spots
+        → Adds text nodes.new.items (taken_again spots number taken) result }
 {
     if number >= nodes.len() {
         return false;
@@ -70,7 +71,8 @@ fn find(text: &str, nodes: &[Node], number: usize, name: &str) -> Option<usize>
 
 /// The last table of an array of tables.
 fn last_table(node: &Node) -> Option<usize>
-    ensures { (text : List ℕ) → result ≡ last_table (shape_of text node.now.content) node.now.elements.items }
+    ensures { (text : List ℕ) → result
+        ≡ last_table (shape_of text node.now.content) node.now.elements.items }
 {
     match &node.content {
         Content::Tables => node.elements.last().copied(),
@@ -87,7 +89,8 @@ fn last_table(node: &Node) -> Option<usize>
 
 /// The last element of an array of tables, and any other node itself.
 fn last_element(nodes: &[Node], number: usize) -> usize
-    ensures { (text : List ℕ) (spots : List Spot) → Holds text nodes.now spots → result ≡ target_of spots number Super }
+    ensures { (text : List ℕ) (spots : List Spot) → Holds text nodes.now spots
+        → result ≡ target_of spots number Super }
 {
     if number >= nodes.len() {
         return number;
@@ -95,9 +98,11 @@ fn last_element(nodes: &[Node], number: usize) -> usize
     last_table(&nodes[number]).unwrap_or(number)
 }
 
-/// The node whose place is taken: a header that goes on below an array of tables goes on below its last element.
+/// The node whose place is taken: a header that goes on
+/// below an array of tables goes on below its last element.
 fn target(nodes: &[Node], number: usize, taken: Taken) -> usize
-    ensures { (text : List ℕ) (spots : List Spot) → Holds text nodes.now spots → result ≡ target_of spots number taken }
+    ensures { (text : List ℕ) (spots : List Spot) → Holds text nodes.now spots
+        → result ≡ target_of spots number taken }
 {
     match taken {
         Taken::Super => last_element(nodes, number),
@@ -124,8 +129,10 @@ fn add(
     taken: Taken,
     span: Option<Span>,
 ) -> CargoResult<Option<usize>>
-    ensures added { (spots : List Spot) → Holds text.now nodes.old.items spots → child spots number (bytes_of text.now name) ≡ None
-        → IfOk result (Puts text.now nodes.new.items (added spots number (bytes_of text.now name) (shape_of text.now content) taken span)) }
+    ensures added { (spots : List Spot) → Holds text.now nodes.old.items spots
+        → child spots number (bytes_of text.now name) ≡ None
+        → IfOk result (Puts text.now nodes.new.items
+            (added spots number (bytes_of text.now name) (shape_of text.now content) taken span)) }
     ensures refused { IfErr result IsMemory }
 {
     let count = nodes.len();
@@ -158,7 +165,9 @@ pub(crate) fn add_element(
     taken: Taken,
     span: Option<Span>,
 ) -> CargoResult<Option<usize>>
-    ensures added { (text : List ℕ) (spots : List Spot) → Holds text nodes.old.items spots → IfOk result (Puts text nodes.new.items (element_added spots number (shape_of text content) taken span)) }
+    ensures added { (text : List ℕ) (spots : List Spot) → Holds text nodes.old.items spots
+        → IfOk result (Puts text nodes.new.items
+        (element_added spots number (shape_of text content) taken span)) }
     ensures refused { IfErr result IsMemory }
 {
     let count = nodes.len();
@@ -182,8 +191,8 @@ pub(crate) fn add_element(
     Ok(Some(count))
 }
 
-/// Asserts a member of the node of a number: the one of the name where there is one, else a new one. Answers the
-/// number of the node whose place is taken, or nothing where it may not be.
+/// Asserts a member of the node of a number: the one of the name where there is one, else a new one. Answers
+/// the number of the node whose place is taken, or nothing where it may not be.
 pub(crate) fn assert_member(
     alloc: Global,
     text: &str,
@@ -195,7 +204,8 @@ pub(crate) fn assert_member(
     span: Option<Span>,
 ) -> CargoResult<Option<usize>>
     ensures made { (spots : List Spot) → Holds text.now nodes.old.items spots
-        → IfOk result (Puts text.now nodes.new.items (asserted spots number (bytes_of text.now name) (shape_of text.now content) taken span)) }
+        → IfOk result (Puts text.now nodes.new.items
+            (asserted spots number (bytes_of text.now name) (shape_of text.now content) taken span)) }
     ensures refused { IfErr result IsMemory }
 {
     let Some(member) = find(text, nodes, number, words_in(text, &name)) else {
@@ -208,8 +218,8 @@ pub(crate) fn assert_member(
     Ok(Some(place))
 }
 
-/// The number of the table in which the last part of a key stands, from the table of a number on: each part before
-/// it takes a place.
+/// The number of the table in which the last part of a key stands,
+/// from the table of a number on: each part before it takes a place.
 pub(crate) fn reach(
     alloc: Global,
     text: &str,
@@ -220,7 +230,8 @@ pub(crate) fn reach(
     taken: Taken,
 ) -> CargoResult<Option<usize>>
     ensures made { (spots : List Spot) → Holds text.now nodes.old.items spots
-        → IfOk result (Puts text.now nodes.new.items (reached spots number (map (bytes_of text.now) fronts.now) (front_shape is_inline) taken)) }
+        → IfOk result (Puts text.now nodes.new.items
+            (reached spots number (map (bytes_of text.now) fronts.now) (front_shape is_inline) taken)) }
     ensures refused { IfErr result IsMemory }
 {
     let mut table = number;

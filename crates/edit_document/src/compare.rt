@@ -65,7 +65,8 @@ impl Document {
     /// the root. It does nothing.
     pub(crate) fn is_whole(&self, number: usize)
         requires { number < length self.now.nodes }
-        ensures parts { (step : StepSeen) → ((i : ℕ) → nth_part (view_numbered self.now number) i ≡ Some step → ⊥)
+        ensures parts { (step : StepSeen)
+            → ((i : ℕ) → nth_part (view_numbered self.now number) i ≡ Some step → ⊥)
             → tree_of self.now (at (place_numbered self.now number) step) ≡ None }
         ensures stands { (step : StepSeen) → (i : ℕ) → nth_part (view_numbered self.now number) i ≡ Some step
             → tree_of self.now (at (place_numbered self.now number) step) ≡ None → ⊥ }

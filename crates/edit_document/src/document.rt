@@ -61,7 +61,8 @@ impl Document {
         // What is read is a document, and shows its tree.
         ensures found { IfOk result (λ d. (form : Text) × IsManifest text.now form × ShowsTree d form) }
         // Whatever is a document is read, in whichever way the text was split, unless memory runs out.
-        ensures only { (form : Text) → IsManifest text.now form → MatchResult result (λ d. ShowsTree d form) IsMemory }
+        ensures only { (form : Text) → IsManifest text.now form
+            → MatchResult result (λ d. ShowsTree d form) IsMemory }
         ensures refused { IfErr result (IsReadRefusal (length text.now)) }
     {
         let marks = read_marks(alloc, text.as_bytes())?;
@@ -135,7 +136,8 @@ impl Document {
     /// The name of a member of a node.
     pub(crate) fn member_name(&self, number: usize, index: usize) -> Option<&str>
         requires { number < length self.now.nodes }
-        ensures { option_map (λ s. s.now) result ≡ slice_get (names_in (view_numbered self.now number)) index }
+        ensures { option_map (λ s. s.now) result
+            ≡ slice_get (names_in (view_numbered self.now number)) index }
     {
         let node = &self.nodes[number];
         match &node.content {
@@ -179,7 +181,8 @@ impl Document {
     /// Nothing stands below a place where nothing stands, and the root stands first.
     pub(crate) fn is_tree(&self)
         ensures root { (0 < length self.now.nodes) × (place_numbered self.now 0 ≡ []) }
-        ensures below { (place more : Place) → tree_of self.now place ≡ None → tree_of self.now (place ++ more) ≡ None }
+        ensures below { (place more : Place) → tree_of self.now place ≡ None
+            → tree_of self.now (place ++ more) ≡ None }
     {
         let _nodes = &self.nodes;
     }
@@ -211,7 +214,8 @@ impl Document {
 
     /// Where the value of a place is written, from its first byte to its end, or `None` where no value is.
     pub(crate) fn value_range(&self, place: &[Step]) -> Option<(usize, usize)>
-        ensures { (form : Text) → IsManifest self.now.bytes form → HasRange form (place_seen place.now) result }
+        ensures { (form : Text) → IsManifest self.now.bytes form
+            → HasRange form (place_seen place.now) result }
     {
         let len = self.text.len();
         let number = self.number(place)?;

@@ -35,8 +35,8 @@ pub(crate) fn read_edited(alloc: Global, text: &str) -> CargoResult<Document>
 }
 
 impl Document {
-    /// Takes the text of this document with a member inserted, where it reads as that is meant. After a refusal
-    /// the document is as it was.
+    /// Takes the text of this document with a member inserted, where it reads as that is meant. After a
+    /// refusal the document is as it was.
     pub(crate) fn take_inserted(
         &mut self,
         alloc: Global,
@@ -65,8 +65,8 @@ impl Document {
         Ok(())
     }
 
-    /// Takes the text of this document with another entry at a place, where it reads as that is meant. After a
-    /// refusal the document is as it was.
+    /// Takes the text of this document with another entry at a place, where it reads as that is meant. After
+    /// a refusal the document is as it was.
     pub(crate) fn take_replaced(
         &mut self,
         alloc: Global,

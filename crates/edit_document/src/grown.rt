@@ -17,9 +17,11 @@ impl Document {
     /// How many members a node has before the one of a name.
     fn name_index(&self, number: usize, key: &str) -> Option<usize>
         requires { number < length self.now.nodes }
-        ensures { MatchOption result ((i : ℕ) → slice_get (names_in (view_numbered self.now number)) i ≡ Some key.now → ⊥)
+        ensures { MatchOption result
+            ((i : ℕ) → slice_get (names_in (view_numbered self.now number)) i ≡ Some key.now → ⊥)
             (λ k. (slice_get (names_in (view_numbered self.now number)) k ≡ Some key.now)
-            × ((i : ℕ) → i < k → slice_get (names_in (view_numbered self.now number)) i ≡ Some key.now → ⊥)) }
+            × ((i : ℕ) → i < k → slice_get (names_in (view_numbered self.now number)) i ≡ Some key.now
+                → ⊥)) }
     {
         let count = self.name_count(number);
         'names: for index in 0..count {

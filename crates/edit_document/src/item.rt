@@ -65,7 +65,9 @@ impl<'a> Item<'a> {
 
     /// The item itself, where it is an array that was written as a value.
     pub fn as_array(self) -> Option<Item<'a>>
-        ensures { MatchOption result (is_static_array (view_of self.entry) ≡ false) (λ i. (is_static_array (view_of self.entry) ≡ true) × (document_of i ≡ document_of self.entry) × (place_of i ≡ place_of self.entry)) }
+        ensures { MatchOption result (is_static_array (view_of self.entry) ≡ false)
+            (λ i. (is_static_array (view_of self.entry) ≡ true)
+            × (document_of i ≡ document_of self.entry) × (place_of i ≡ place_of self.entry)) }
     {
         match self.seen() {
             Seen::Text(_) | Seen::Truth(_) | Seen::Inline | Seen::Table | Seen::Tables => None,

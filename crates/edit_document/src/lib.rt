@@ -16,6 +16,7 @@ mod nodes;
 pub mod place;
 mod replace;
 mod set_value;
+mod unordered;
 mod walk;
 mod words;
 

@@ -55,7 +55,8 @@ impl NewItem {
 
 /// Appends what stands behind the key of an entry: ` = ` and the entry as a value, or `.workspace = true`.
 pub(crate) fn push_entry(out: &mut String, item: &NewItem) -> Result<(), AllocError>
-    ensures { OnOk result (string_bytes out.new ≡ string_bytes out.old ++ new_entry (item_seen item.now) []) }
+    ensures { OnOk result (string_bytes out.new
+        ≡ string_bytes out.old ++ new_entry (item_seen item.now) []) }
 {
     if item.is_dotted() {
         out.push_str(".workspace = true")

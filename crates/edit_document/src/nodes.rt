@@ -113,8 +113,8 @@ pub(crate) struct Member {
 /// How many members are looked through one by one.
 const FEW: usize = 8;
 
-/// The members of a place in the order of their first assertions, and the numbers of those behind the first few by
-/// their names.
+/// The members of a place in the order of their first assertions,
+/// and the numbers of those behind the first few by their names.
 #[derive(Drop)]
 pub(crate) struct Members {
     list: Vec<Member>,
@@ -185,7 +185,8 @@ impl Members {
 
     /// The name of the member that comes behind so many others.
     pub(crate) fn name<'a>(&'a self, text: &'a str, index: usize) -> Option<&'a str>
-        ensures { option_map (λ s. s.now) result ≡ slice_get (names_in (entries_of text.now self.now)) index }
+        ensures { option_map (λ s. s.now) result
+            ≡ slice_get (names_in (entries_of text.now self.now)) index }
     {
         let member = self.list.get(index)?;
         Some(words_in(text, &member.name))

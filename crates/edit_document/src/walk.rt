@@ -15,8 +15,8 @@ use edit_syntax::Span;
 use edit_syntax::read::{Mark, MarkKind};
 use std::alloc::Global;
 
-/// The nodes so far; the numbers of the header and of the arrays and inline tables that are open, the innermost last;
-/// and the parts of the key that waits for its value: the last one, and those before it.
+/// The nodes so far; the numbers of the header and of the arrays and inline tables that are open, the
+/// innermost last; and the parts of the key that waits for its value: the last one, and those before it.
 #[derive(Drop)]
 pub(crate) struct Walk {
     nodes: Vec<Node>,

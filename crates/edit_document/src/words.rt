@@ -12,7 +12,8 @@ use std::alloc::Global;
 
 /// What a token says that may have delimiters: where that is what is written, it stays in the text.
 fn delimited_words(alloc: Global, text: &str, mark: Mark) -> CargoResult<Words>
-    ensures says { (name : List ℕ) → SaysAt text.now mark name → IfOk result (λ w. bytes_of text.now w ≡ name) }
+    ensures says { (name : List ℕ) → SaysAt text.now mark name
+        → IfOk result (λ w. bytes_of text.now w ≡ name) }
     ensures refused { IfErr result IsMemory }
 {
     let written = content(text, mark);
@@ -25,7 +26,8 @@ fn delimited_words(alloc: Global, text: &str, mark: Mark) -> CargoResult<Words>
 
 /// What the token of a string or of a key's part says.
 pub(crate) fn words_of(alloc: Global, text: &str, mark: Mark) -> CargoResult<Words>
-    ensures says { (name : List ℕ) → SaysAt text.now mark name → IfOk result (λ w. bytes_of text.now w ≡ name) }
+    ensures says { (name : List ℕ) → SaysAt text.now mark name
+        → IfOk result (λ w. bytes_of text.now w ≡ name) }
     ensures refused { IfErr result IsMemory }
 {
     match mark.kind {
@@ -36,7 +38,8 @@ pub(crate) fn words_of(alloc: Global, text: &str, mark: Mark) -> CargoResult<Wor
 
 /// What the token of a string, a number, a date or a time shows.
 pub(crate) fn worded(alloc: Global, text: &str, mark: Mark) -> CargoResult<Content>
-    ensures shows { (name : List ℕ) → SaysAt text.now mark name → IfOk result (λ c. shape_of text.now c ≡ shape_said mark.kind name) }
+    ensures shows { (name : List ℕ) → SaysAt text.now mark name
+        → IfOk result (λ c. shape_of text.now c ≡ shape_said mark.kind name) }
     ensures refused { IfErr result IsMemory }
 {
     match mark.kind {

@@ -1,15 +1,18 @@
--- What a configuration file says of registries and sources (Cargo reference, "Configuration", registries and source).
+-- What a configuration file says of registries and sources
+-- (Cargo reference, "Configuration", registries and source).
 use Rattle.std.specs.Prelude.{◌≡◌, ℕ, List, [], ◌∷◌, Option, Some, None, codes, option_map, option_and_then}
 use Rattle.std.specs.Str.{IsUtf8}
 use Rattle.toml.specs.Data.{Data, Members, no_members, member, get_member, as_str, as_table}
 use Rattle.toml.specs.Parse.{parse_document}
 
--- what a file says of a source: the address of its registry, and the key of the source that replaces it ("Source Replacement")
+-- what a file says of a source: the address of its registry, and
+-- the key of the source that replaces it ("Source Replacement")
 pub record Source : Type 0 where
   pub registry : Option (List ℕ)
   pub replace_with : Option (List ℕ)
 
--- what a file says: the index of each key of `registries`, and each source of `source`, in the order of the keys in the table that `toml` reads
+-- what a file says: the index of each key of `registries`, and each source
+-- of `source`, in the order of the keys in the table that `toml` reads
 pub record Configuration : Type 0 where
   pub registries : List (List ℕ × Option (List ℕ))
   pub sources : List (List ℕ × Source)
@@ -28,13 +31,16 @@ optional_text (Some value) = option_map (λ text. Some text) (as_str value)
 abbrev pub text_at : List ℕ → Members → Option (Option (List ℕ))
 text_at key members = optional_text (get_member key members)
 
--- what a table below `registries` says: its `index` (Cargo reference, "Configuration", registries.<name>.index)
+-- what a table below `registries` says: its `index` (Cargo
+-- reference, "Configuration", registries.<name>.index)
 abbrev pub index_of : Data → Option (Option (List ℕ))
 index_of value = option_and_then (text_at (codes "index")) (as_table value)
 
--- what a table below `source` says: its `registry` and its `replace-with` (Cargo reference, "Configuration", source.<name>)
+-- what a table below `source` says: its `registry` and its
+-- `replace-with` (Cargo reference, "Configuration", source.<name>)
 abbrev pub source_in : Members → Option Source
-source_in members = both (λ r w. record { registry = r; replace_with = w }) (text_at (codes "registry") members) (text_at (codes "replace-with") members)
+source_in members = both (λ r w. record { registry = r; replace_with = w })
+    (text_at (codes "registry") members) (text_at (codes "replace-with") members)
 
 -- the same of a value, which says nothing where it is no table (own)
 abbrev pub source_of : Data → Option Source
@@ -60,7 +66,8 @@ sources_in document = table_of source_of (get_member (codes "source") document)
 
 -- what a document says; all else in it is ignored (own)
 abbrev pub configuration_of : Members → Option Configuration
-configuration_of document = both (λ r s. record { registries = r; sources = s }) (registries_in document) (sources_in document)
+configuration_of document =
+    both (λ r s. record { registries = r; sources = s }) (registries_in document) (sources_in document)
 
 -- the bytes are UTF-8, a TOML document, and say this (own)
 pub record Says (bytes : List ℕ) (said : Configuration) : Type 0 where
@@ -69,8 +76,10 @@ pub record Says (bytes : List ℕ) (said : Configuration) : Type 0 where
   pub toml : parse_document bytes ≡ Some members
   pub reads : configuration_of members ≡ Some said
 
--- the bytes are not UTF-8, are no TOML document, or have a `registries` or `source` that is no table of tables, or an `index`, a `registry` or a `replace-with` that is no text (own)
+-- the bytes are not UTF-8, are no TOML document, or have a `registries` or `source` that is no table of
+-- tables, or an `index`, a `registry` or a `replace-with` that is no text (own)
 pub data SaysNothing (bytes : List ℕ) : Type 0 where
   not_utf8 : (IsUtf8 bytes → ⊥) → SaysNothing bytes
   not_toml : parse_document bytes ≡ None → SaysNothing bytes
-  misshapen : (members : Members) → parse_document bytes ≡ Some members → configuration_of members ≡ None → SaysNothing bytes
+  misshapen : (members : Members) → parse_document bytes ≡ Some members → configuration_of members ≡ None
+      → SaysNothing bytes

@@ -1,4 +1,5 @@
--- Which configuration files count, the first one first (Cargo reference, "Configuration", Hierarchical structure).
+-- Which configuration files count, the first one first (Cargo
+-- reference, "Configuration", Hierarchical structure).
 use Rattle.std.specs.Prelude.{◌≡◌, ◌≢◌, ℕ, List, [], ◌∷◌, ◌++◌, map, Option, Some, None, option_map, Bool, true, codes, ⊤, string_bytes}
 use Rattle.std.specs.List.{filter_map, AllZip}
 use Rattle.std.specs.Option.{option_to_list}
@@ -16,7 +17,8 @@ use Rattle.edit_sources.specs.declared.config.Config.{Config}
 -- the folders that are passed on the way upwards from one, and the folder that is reached (own)
 pub data Climbs (start : List ℕ) : List (List ℕ) → List ℕ → Type 0 where
   begin : Climbs start [] start
-  step : (passed : List (List ℕ)) (here above : List ℕ) → Climbs start passed here → here ≢ codes "/" → IsFolderOf here above → Climbs start (passed ++ here ∷ []) above
+  step : (passed : List (List ℕ)) (here above : List ℕ) → Climbs start passed here → here ≢ codes "/"
+      → IsFolderOf here above → Climbs start (passed ++ here ∷ []) above
 
 -- the folders of a file, from its own upwards to the root (own)
 pub record IsUpwards (path : List ℕ) (folders : List (List ℕ)) : Type 0 where
@@ -26,7 +28,8 @@ pub record IsUpwards (path : List ℕ) (folders : List (List ℕ)) : Type 0 wher
   pub climbs : Climbs start passed (codes "/")
   pub all : folders ≡ passed ++ codes "/" ∷ []
 
--- where files may stand: `.cargo` in each folder from the manifest's upwards, and then the home of cargo (Cargo reference, "Configuration", Hierarchical structure)
+-- where files may stand: `.cargo` in each folder from the manifest's upwards, and then the home of cargo
+-- (Cargo reference, "Configuration", Hierarchical structure)
 pub record IsSearched (manifest : List ℕ) (home : Option (List ℕ)) (places : List (List ℕ)) : Type 0 where
   pub folders : List (List ℕ)
   pub upwards : IsUpwards manifest folders
@@ -36,9 +39,11 @@ pub record IsSearched (manifest : List ℕ) (home : Option (List ℕ)) (places :
 abbrev pub standing : Files → List ℕ → Option (List ℕ × List ℕ)
 standing files path = option_map (λ bytes. (path, bytes)) (files path)
 
--- the file that counts in a place: `config`, else `config.toml` (Cargo reference, "Configuration", Hierarchical structure)
+-- the file that counts in a place: `config`, else `config.toml`
+-- (Cargo reference, "Configuration", Hierarchical structure)
 abbrev pub file_in : Files → List ℕ → Option (List ℕ × List ℕ)
-file_in files place = or_else (standing files (joined place (codes "config"))) (standing files (joined place (codes "config.toml")))
+file_in files place = or_else (standing files (joined place (codes "config")))
+    (standing files (joined place (codes "config.toml")))
 
 -- the files that count in these places, in their order (own)
 abbrev pub files_in : Files → List (List ℕ) → List (List ℕ × List ℕ)
@@ -72,7 +77,8 @@ pub record FileFails (tells : Bool) (counts : Option (List ℕ × List ℕ)) (e 
   pub unread : IsUnread file e
 
 -- the configurations of a manifest: what each file that counts says, in order (own)
-pub record AreConfigs (files : Files) (manifest : List ℕ) (home : Option (List ℕ)) (configs : List Config) : Type 0 where
+pub record AreConfigs (files : Files) (manifest : List ℕ) (home : Option (List ℕ))
+    (configs : List Config) : Type 0 where
   pub places : List (List ℕ)
   pub searched : IsSearched manifest home places
   pub each : AllZip IsReadFrom (files_in files places) configs
@@ -86,19 +92,22 @@ pub record PlaceFails (tells : Bool) (files : Files) (places : List (List ℕ)) 
   pub fails : FileFails tells (file_in files place) e
 
 -- why the configurations of a manifest are not read (own)
-pub record ConfigsFail (tells : Bool) (files : Files) (manifest : List ℕ) (home : Option (List ℕ)) (e : Error) : Type 0 where
+pub record ConfigsFail (tells : Bool) (files : Files) (manifest : List ℕ) (home : Option (List ℕ))
+    (e : Error) : Type 0 where
   pub places : List (List ℕ)
   pub searched : IsSearched manifest home places
   pub fails : PlaceFails tells files places e
 
 -- the URL of a registry under the configurations of a manifest (own)
-pub record ConfiguredUrl (files : Files) (manifest : List ℕ) (home registry : Option (List ℕ)) (url : Parts) : Type 0 where
+pub record ConfiguredUrl (files : Files) (manifest : List ℕ) (home registry : Option (List ℕ))
+    (url : Parts) : Type 0 where
   pub configs : List Config
   pub read : AreConfigs files manifest home configs
   pub address : HasAddress configs registry url
 
 -- why a registry has no URL under the configurations of a manifest (own)
-pub record HasNoConfiguredUrl (tells : Bool) (files : Files) (manifest : List ℕ) (home registry : Option (List ℕ)) (e : Error) : Type 0 where
+pub record HasNoConfiguredUrl (tells : Bool) (files : Files) (manifest : List ℕ)
+    (home registry : Option (List ℕ)) (e : Error) : Type 0 where
   pub configs : List Config
   pub read : tells ≡ true → AreConfigs files manifest home configs
   pub none : HasNoUrl configs registry e

@@ -26,7 +26,8 @@ source_entry s = (string_bytes s.0, source_view s.1)
 
 -- what a configuration holds (own)
 abbrev pub configuration : Config → said.Configuration
-configuration c = record { registries = map registry_entry c.registries.items; sources = map source_entry c.sources.items }
+configuration c =
+    record { registries = map registry_entry c.registries.items; sources = map source_entry c.sources.items }
 
 -- the refusal that names this path (own)
 abbrev pub IsConfigRefusal : List ℕ → Error → Type 0
@@ -52,9 +53,14 @@ pub record IsNoUrl (address : List ℕ) (e : Error) : Type 0 where
   pub fault : ParseError
   pub reads : parse_url None address ≡ Err fault
 
--- why a registry has no URL: its key is not defined, its chain breaks, has no address at its end, or one that is no URL (own)
+-- why a registry has no URL: its key is not defined, its chain
+-- breaks, has no address at its end, or one that is no URL (own)
 pub data HasNoUrl (configs : List Config) (registry : Option (List ℕ)) : Error → Type 0 where
-  no_head : (key : String Global) → chain.HasNoHead (all_definitions configs) registry (string_bytes key) → HasNoUrl configs registry (refusal.RegistryNotFound key)
-  breaks : (key : String Global) → chain.BreaksAt (all_definitions configs) registry (string_bytes key) → HasNoUrl configs registry (refusal.SourceNotFound key)
-  no_address : chain.HasNoAddress (all_definitions configs) registry → HasNoUrl configs registry refusal.MissingRegistry
-  no_url : (text : List ℕ) (e : ParseError) → chain.Address (all_definitions configs) registry text → parse_url None text ≡ Err e → HasNoUrl configs registry refusal.InvalidUrl
+  no_head : (key : String Global) → chain.HasNoHead (all_definitions configs) registry (string_bytes key)
+      → HasNoUrl configs registry (refusal.RegistryNotFound key)
+  breaks : (key : String Global) → chain.BreaksAt (all_definitions configs) registry (string_bytes key)
+      → HasNoUrl configs registry (refusal.SourceNotFound key)
+  no_address : chain.HasNoAddress (all_definitions configs) registry
+      → HasNoUrl configs registry refusal.MissingRegistry
+  no_url : (text : List ℕ) (e : ParseError) → chain.Address (all_definitions configs) registry text
+      → parse_url None text ≡ Err e → HasNoUrl configs registry refusal.InvalidUrl

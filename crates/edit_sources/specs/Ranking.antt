@@ -67,7 +67,8 @@ passes rust test r = not (is_too_new r.rust_version rust) && test r.version
 
 -- an entry at a place, with what is read of it (own)
 abbrev pub ranking : ℕ → IndexEntry → Parts × Option Numbers → Ranking
-ranking place entry read = record { place = place; name = entry.name; version = read.0; rust_version = read.1 }
+ranking place entry read =
+    record { place = place; name = entry.name; version = read.0; rust_version = read.1 }
 
 -- the rank of an entry, if it is readable and not yanked (own)
 abbrev pub rank_at : ℕ → IndexEntry → List Ranking

@@ -1,4 +1,5 @@
--- The address of a registry: a chain of sources, each replaced by the next (Cargo reference, "Source Replacement").
+-- The address of a registry: a chain of sources, each replaced
+-- by the next (Cargo reference, "Source Replacement").
 use Rattle.std.specs.Prelude.{◌≡◌, ℕ, List, [], ◌∷◌, ◌++◌, map, Option, Some, None, unwrap_or, Bool, true, false, cond, ◌⊎◌, codes}
 use Rattle.std.specs.List.{list_any, flat_map}
 use Rattle.std.specs.Str.{bytes_eq}
@@ -25,7 +26,8 @@ definitions_of c = map registry_definition c.registries ++ map source_definition
 abbrev pub definitions : List Configuration → List Definition
 definitions cs = flat_map definitions_of cs
 
--- the source of a key: its first definition stands (Cargo reference, "Configuration", Hierarchical structure)
+-- the source of a key: its first definition stands (Cargo
+-- reference, "Configuration", Hierarchical structure)
 abbrev pub first : List ℕ → List Definition → Option Source
 first key [] = None
 first key (d ∷ ds) = cond (bytes_eq key d.key) (Some d.source) (first key ds)
@@ -40,7 +42,8 @@ crates_io = codes "crates-io"
 
 -- a source with the default registry's address where it has none (own)
 abbrev pub with_default : Source → Source
-with_default s = record { registry = Some (unwrap_or s.registry crates_io_index); replace_with = s.replace_with }
+with_default s =
+    record { registry = Some (unwrap_or s.registry crates_io_index); replace_with = s.replace_with }
 
 -- a source that says nothing (own)
 abbrev pub no_source : Source
@@ -56,15 +59,18 @@ abbrev pub head_key : Option (List ℕ) → List ℕ
 head_key None = crates_io
 head_key (Some registry) = cond (bytes_eq registry crates_io_index) crates_io registry
 
--- the source at which a registry begins, where its key is defined as this: that of the default registry need not be defined, and has an address (own)
+-- the source at which a registry begins, where its key is defined as this: that of the default registry need
+-- not be defined, and has an address (own)
 abbrev pub head_source_of : Option (List ℕ) → Option Source → Option Source
-head_source_of registry defined = cond (is_default registry) (Some (with_default (unwrap_or defined no_source))) defined
+head_source_of registry defined =
+    cond (is_default registry) (Some (with_default (unwrap_or defined no_source))) defined
 
 -- the source at which a registry begins (own)
 abbrev pub head_source : List Definition → Option (List ℕ) → Option Source
 head_source ds registry = head_source_of registry (first (head_key registry) ds)
 
--- the source found at a key: where the default registry's address is itself the key, it has that address where it gives none (own)
+-- the source found at a key: where the default registry's address
+-- is itself the key, it has that address where it gives none (own)
 abbrev pub addressed : List ℕ → Option Source → Option Source
 addressed key None = None
 addressed key (Some s) = Some (cond (bytes_eq key crates_io_index) (with_default s) s)
@@ -77,10 +83,13 @@ named ds key = addressed key (first key ds)
 abbrev pub is_used : List (List ℕ) → List ℕ → Bool
 is_used used key = list_any (λ u. bytes_eq u key) used
 
--- distinct keys from the head on, each named by `replace-with` in the first definition of the one before it, and the source of the last (own)
+-- distinct keys from the head on, each named by `replace-with` in the
+-- first definition of the one before it, and the source of the last (own)
 pub data Reaches (ds : List Definition) (registry : Option (List ℕ)) : List (List ℕ) → Source → Type 0 where
   head : (s : Source) → head_source ds registry ≡ Some s → Reaches ds registry (head_key registry ∷ []) s
-  next : (used : List (List ℕ)) (s t : Source) (key : List ℕ) → Reaches ds registry used s → s.replace_with ≡ Some key → is_used used key ≡ false → named ds key ≡ Some t → Reaches ds registry (used ++ key ∷ []) t
+  next : (used : List (List ℕ)) (s t : Source) (key : List ℕ) → Reaches ds registry used s
+      → s.replace_with ≡ Some key → is_used used key ≡ false → named ds key ≡ Some t
+      → Reaches ds registry (used ++ key ∷ []) t
 
 -- the last source of the chain, which no other replaces (own)
 pub record EndsAt (ds : List Definition) (registry : Option (List ℕ)) (s : Source) : Type 0 where

@@ -95,7 +95,8 @@ fn registry_entries(
     alloc: Global,
     table: &Table,
 ) -> Result<Option<Vec<(String, Option<String>)>>, AllocError>
-    ensures { IfOk result (λ found. option_map (λ v. map registry_entry v.items) found ≡ entries_of said.index_of (table_view table.now)) }
+    ensures { IfOk result (λ found. option_map (λ v. map registry_entry v.items) found
+        ≡ entries_of said.index_of (table_view table.now)) }
 {
     let mut registries = Vec::new(alloc);
     for (key, value) in table {
@@ -113,7 +114,8 @@ fn source_entries(
     alloc: Global,
     table: &Table,
 ) -> Result<Option<Vec<(String, ConfigSource)>>, AllocError>
-    ensures { IfOk result (λ found. option_map (λ v. map source_entry v.items) found ≡ entries_of said.source_of (table_view table.now)) }
+    ensures { IfOk result (λ found. option_map (λ v. map source_entry v.items) found
+        ≡ entries_of said.source_of (table_view table.now)) }
 {
     let mut sources = Vec::new(alloc);
     for (key, value) in table {
@@ -140,7 +142,8 @@ fn registries_in(
     alloc: Global,
     table: &Table,
 ) -> Result<Option<Vec<(String, Option<String>)>>, AllocError>
-    ensures { IfOk result (λ found. option_map (λ v. map registry_entry v.items) found ≡ said.registries_in (table_view table.now)) }
+    ensures { IfOk result (λ found. option_map (λ v. map registry_entry v.items) found
+        ≡ said.registries_in (table_view table.now)) }
 {
     let Some(value) = value_at(table, "registries") else {
         return Ok(Some(Vec::new(alloc)));
@@ -156,7 +159,8 @@ fn sources_in(
     alloc: Global,
     table: &Table,
 ) -> Result<Option<Vec<(String, ConfigSource)>>, AllocError>
-    ensures { IfOk result (λ found. option_map (λ v. map source_entry v.items) found ≡ said.sources_in (table_view table.now)) }
+    ensures { IfOk result (λ found. option_map (λ v. map source_entry v.items) found
+        ≡ said.sources_in (table_view table.now)) }
 {
     let Some(value) = value_at(table, "source") else {
         return Ok(Some(Vec::new(alloc)));
@@ -170,7 +174,8 @@ fn sources_in(
 /// What a document says; `None` where it is misshapen.
 fn configuration_in(alloc: Global, path: &str, table: &Table) -> Result<Option<Config>, AllocError>
     ensures named { IfOk result (λ found. IfSome found (λ c. string_bytes c.path ≡ path.now)) }
-    ensures said { IfOk result (λ found. option_map configuration found ≡ configuration_of (table_view table.now)) }
+    ensures said { IfOk result (λ found. option_map configuration found
+        ≡ configuration_of (table_view table.now)) }
 {
     let Some(registries) = registries_in(alloc, table)? else {
         return Ok(None);
@@ -196,9 +201,11 @@ impl Config {
         ensures named { IfOk result (λ c. string_bytes c.path ≡ path.now) }
         ensures said { IfOk result (λ c. Says bytes.now (configuration c)) }
         // and nothing else; no file says something and nothing
-        ensures only { IfOk result (λ c. (other : Configuration) → Says bytes.now other → other ≡ configuration c) }
+        ensures only { IfOk result (λ c. (other : Configuration) → Says bytes.now other
+            → other ≡ configuration c) }
         ensures something { IfOk result (λ c. SaysNothing bytes.now → ⊥) }
-        ensures refused { IfErr result (λ e. IsMemory e ⊎ (IsConfigRefusal path.now e × SaysNothing bytes.now)) }
+        ensures refused { IfErr result (λ e. IsMemory e
+            ⊎ (IsConfigRefusal path.now e × SaysNothing bytes.now)) }
     {
         let Ok(text) = std::str::from_utf8(bytes) else {
             return Err(unreadable(alloc, path));

@@ -40,7 +40,8 @@ fn url_of(alloc: Global, address: &str) -> CargoResult<Url>
 pub fn resolve(alloc: Global, configs: &[Config], registry: Option<&str>) -> CargoResult<Url>
     ensures address { IfOk result (λ url. HasAddress configs.now (given registry.entry) url) }
     // and no other URL is
-    ensures only { IfOk result (λ url. (other : Parts) → HasAddress configs.now (given registry.entry) other → other ≡ url) }
+    ensures only { IfOk result (λ url. (other : Parts)
+        → HasAddress configs.now (given registry.entry) other → other ≡ url) }
     ensures refused { IfErr result (λ e. IsMemory e ⊎ HasNoUrl configs.now (given registry.entry) e) }
 {
     let source = chain::last_source(alloc, configs, registry)?;
@@ -60,8 +61,15 @@ pub fn registry_url<S: Store>(
     registry: Option<&str>,
 ) -> CargoResult<Url>
     ensures store { OnlyReads (S.view store.old) (S.view store.new) }
-    ensures address { IfOk result (λ url. (S.view store.old).tells ≡ true → ConfiguredUrl (S.view store.old).file_at manifest_path.now (given cargo_home.entry) (given registry.entry) url) }
-    ensures refused { IfErr result (λ e. IsMemory e ⊎ (HasFailed (S.view store.old).faults (S.view store.new).faults e ⊎ (ConfigsFail (S.view store.old).tells (S.view store.old).file_at manifest_path.now (given cargo_home.entry) e ⊎ HasNoConfiguredUrl (S.view store.old).tells (S.view store.old).file_at manifest_path.now (given cargo_home.entry) (given registry.entry) e))) }
+    ensures address { IfOk result (λ url. (S.view store.old).tells ≡ true
+        → ConfiguredUrl (S.view store.old).file_at manifest_path.now (given cargo_home.entry)
+        (given registry.entry) url) }
+    ensures refused { IfErr result (λ e. IsMemory e
+        ⊎ (HasFailed (S.view store.old).faults (S.view store.new).faults e
+        ⊎ (ConfigsFail (S.view store.old).tells (S.view store.old).file_at manifest_path.now
+        (given cargo_home.entry) e
+        ⊎ HasNoConfiguredUrl (S.view store.old).tells (S.view store.old).file_at manifest_path.now
+        (given cargo_home.entry) (given registry.entry) e))) }
 {
     let configs = match read_configs(alloc, store, manifest_path, cargo_home) {
         Ok(configs) => configs,

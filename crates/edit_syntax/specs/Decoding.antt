@@ -1,4 +1,5 @@
--- What stands between the delimiters of a key's part or of a string, and what it says (TOML 1.0.0, "Keys" and "String").
+-- What stands between the delimiters of a key's part or of a
+-- string, and what it says (TOML 1.0.0, "Keys" and "String").
 use Rattle.std.specs.Prelude.{◌≡◌, ℕ, ◌<◌, Bool, false, ◌&&◌, ◌||◌, ◌==◌, if◌then◌else◌, List, [], ◌∷◌, ◌++◌, length, drop, slice_index, ⊤}
 use Rattle.std.specs.List.{AllByRecursion}
 use Rattle.edit_syntax.specs.declared.read.marks.MarkKind.{MarkKind}
@@ -47,11 +48,13 @@ FoldStops _ b = ⊤
 
 -- bytes that are the pieces of a basic string, and what these say
 abbrev pub BasicSays : List ℕ → List ℕ → Type 0
-BasicSays content said = (ps : List Piece) × AllByRecursion IsBasicPiece ps × (content ≡ pieces quote ps []) × (said ≡ says quote ps)
+BasicSays content said = (ps : List Piece) × AllByRecursion IsBasicPiece ps
+    × (content ≡ pieces quote ps []) × (said ≡ says quote ps)
 
 -- bytes that are pieces of a basic string, also over several lines, and what these say
 abbrev pub LineSays : List ℕ → List ℕ → Type 0
-LineSays content said = (ps : List Piece) × AllByRecursion IsMultiPiece ps × FoldsAreWhole ps × (content ≡ pieces quote ps []) × (said ≡ says quote ps)
+LineSays content said = (ps : List Piece) × AllByRecursion IsMultiPiece ps × FoldsAreWhole ps
+    × (content ≡ pieces quote ps []) × (said ≡ says quote ps)
 
 -- what follows a newline that comes first
 abbrev pub past_break : List ℕ → List ℕ
@@ -61,11 +64,13 @@ past_break text =
 
 -- the same of the contents of strings over several lines, without a newline that comes first ("String")
 abbrev pub MultiSays : List ℕ → List ℕ → Type 0
-MultiSays content said = (ps : List Piece) × AllByRecursion IsMultiPiece ps × FoldsAreWhole ps × (content ≡ pieces quote ps []) × (said ≡ says_multi quote ps)
+MultiSays content said = (ps : List Piece) × AllByRecursion IsMultiPiece ps × FoldsAreWhole ps
+    × (content ≡ pieces quote ps []) × (said ≡ says_multi quote ps)
 
 -- the same between apostrophes
 abbrev pub RawSays : List ℕ → List ℕ → Type 0
-RawSays content said = (ps : List Piece) × AllByRecursion IsRawPiece ps × (content ≡ pieces apostrophe ps []) × (said ≡ says_multi apostrophe ps)
+RawSays content said = (ps : List Piece) × AllByRecursion IsRawPiece ps
+    × (content ≡ pieces apostrophe ps []) × (said ≡ says_multi apostrophe ps)
 
 -- bytes of ASCII, as numbers, dates and times are, which say themselves
 abbrev pub WordSays : List ℕ → List ℕ → Type 0

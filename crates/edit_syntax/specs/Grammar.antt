@@ -1,14 +1,14 @@
--- Values, statements, lines and texts: forms, how they are spelled and when they are well formed (TOML 1.0.0,
--- "Spec" to "Array of Tables", and inline tables as TOML 1.1.0 has them). A text is in the grammar with a form
--- if the form is well formed and is spelled so.
+-- Values, statements, lines and texts: forms, how they are spelled and when they are well formed (TOML
+-- 1.0.0, "Spec" to "Array of Tables", and inline tables as TOML 1.1.0 has them). A text is in the grammar
+-- with a form if the form is well formed and is spelled so.
 use Rattle.std.specs.Prelude.{◌≡◌, ℕ, Bool, true, false, List, [], ◌∷◌, Option, Some, None, ⊤}
 use Rattle.std.specs.List.{AllByRecursion}
 use Rattle.edit_syntax.specs.Characters.{quote, hash, apostrophe, comma, equals, left_bracket, right_bracket, left_brace, right_brace, is_blank, is_ch, is_literal_ch, All}
 use Rattle.edit_syntax.specs.Strings.{◌·◌, LineEnd, line_end, Piece, pieces, basic_text, literal_text, IsBasicPiece, IsMultiPiece, IsRawPiece, RunsFit, FoldsAreWhole, Key, key, IsKey}
 use Rattle.edit_syntax.specs.Numbers.{Integer, integer_text, IsInteger, Float, float_text, IsFloat, DateTime, datetime_text, IsDateTime}
 
--- what may stand between the values of an array or the pairs of an inline table: a tab or a space, a newline,
--- a comment and its newline ("Array"; TOML 1.1.0, "Inline Table")
+-- what may stand between the values of an array or the pairs of an inline table: a tab or a space, a
+-- newline, a comment and its newline ("Array"; TOML 1.1.0, "Inline Table")
 pub data Between : Type 0 where
   blank : ℕ → Between
   break : LineEnd → Between
@@ -47,15 +47,16 @@ mutual
     -- with the gap after the opening brace
     inline : List Between → Members → Value
 
-  -- What stands from there to the closing bracket: a value and the gap after it, and a comma with the gap after it before what is left ("Array").
+  -- What stands from there to the closing bracket: a value and the gap after it, and a comma with the gap
+  -- after it before what is left ("Array").
   pub data Elements : Type 0 where
     no_elements : Elements
     last_element : Value → List Between → Elements
     element : Value → List Between → List Between → Elements → Elements
 
-  -- What stands from there to the closing brace: a pair, with the white space before its equals sign and after
-  -- it, and the gap after its value, and a comma with the gap after it before what is left (TOML 1.1.0, "Inline
-  -- Table").
+  -- What stands from there to the closing brace: a pair, with the white space
+  -- before its equals sign and after it, and the gap after its value, and a comma
+  -- with the gap after it before what is left (TOML 1.1.0, "Inline Table").
   pub data Members : Type 0 where
     no_members : Members
     last_member : Key → List ℕ → List ℕ → Value → List Between → Members
@@ -94,7 +95,8 @@ abbrev mutual
   pub members : Members → List ℕ → List ℕ
   members no_members rest = rest
   members (last_member k a b v c) rest = key k (a · equals ∷ (b · value v (gap c rest)))
-  members (member k a b v c d ms) rest = key k (a · equals ∷ (b · value v (gap c (comma ∷ gap d (members ms rest)))))
+  members (member k a b v c d ms) rest =
+      key k (a · equals ∷ (b · value v (gap c (comma ∷ gap d (members ms rest)))))
 
 abbrev mutual
   -- a value is well formed
@@ -116,11 +118,13 @@ abbrev mutual
   AreElements (last_element v g) = IsValue v × IsGap g
   AreElements (element v g h es) = IsValue v × IsGap g × IsGap h × AreElements es
 
-  -- a comma may stand after the last pair; a key, its equals sign and where its value begins stand on one line
+  -- a comma may stand after the last pair; a key, its equals
+  -- sign and where its value begins stand on one line
   pub AreMembers : Members → Type 0
   AreMembers no_members = ⊤
   AreMembers (last_member k a b v c) = IsKey k × All is_blank a × All is_blank b × IsValue v × IsGap c
-  AreMembers (member k a b v c d ms) = IsKey k × All is_blank a × All is_blank b × IsValue v × IsGap c × IsGap d × AreMembers ms
+  AreMembers (member k a b v c d ms) =
+      IsKey k × All is_blank a × All is_blank b × IsValue v × IsGap c × IsGap d × AreMembers ms
 
 -- ---- lines
 
@@ -134,7 +138,8 @@ pub data Statement : Type 0 where
 abbrev pub statement : Statement → List ℕ → List ℕ
 statement (pair k a b v) rest = key k (a · equals ∷ (b · value v rest))
 statement (header a k b) rest = left_bracket ∷ (a · key k (b · right_bracket ∷ rest))
-statement (element_header a k b) rest = left_bracket ∷ (left_bracket ∷ (a · key k (b · right_bracket ∷ (right_bracket ∷ rest))))
+statement (element_header a k b) rest =
+    left_bracket ∷ (left_bracket ∷ (a · key k (b · right_bracket ∷ (right_bracket ∷ rest))))
 
 -- a statement is well formed
 abbrev pub IsStatement : Statement → Type 0

@@ -1,6 +1,6 @@
 -- What reading notes down of a text: a mark for each token that a document needs, in the order of the text.
--- A mark tells how many bytes there are from its token's start and from its token's end to the end of the text.
--- Each definition takes the text that follows, as the spelling does.
+-- A mark tells how many bytes there are from its token's start and from its token's end to the end of the
+-- text. Each definition takes the text that follows, as the spelling does.
 use Rattle.std.specs.Prelude.{ℕ, ◌≤◌, true, false, List, [], ◌∷◌, ◌++◌, length, ⊤}
 use Rattle.edit_base.specs.declared.errors.Error.{Error}
 use Rattle.edit_base.specs.declared.errors.Error.TheVariants.{NotToml, Memory}
@@ -43,7 +43,8 @@ abbrev pub token : MarkKind → Value → List ℕ → List Mark
 token kind v rest = mark kind (value v rest) rest ∷ []
 
 abbrev mutual
-  -- of a token its mark; of an array or an inline table a mark that opens it, the marks of what stands inside, and one that closes it
+  -- of a token its mark; of an array or an inline table a mark that
+  -- opens it, the marks of what stands inside, and one that closes it
   pub value_marks : Value → List ℕ → List Mark
   value_marks (basic ps) rest = token kinds.BasicString (basic ps) rest
   value_marks (literal text) rest = token kinds.LiteralString (literal text) rest
@@ -65,7 +66,8 @@ abbrev mutual
   pub elements_marks : Elements → List ℕ → List Mark
   elements_marks no_elements rest = []
   elements_marks (last_element v g) rest = value_marks v (gap g rest)
-  elements_marks (element v g h es) rest = value_marks v (gap g (comma ∷ gap h (elements es rest))) ++ elements_marks es rest
+  elements_marks (element v g h es) rest =
+      value_marks v (gap g (comma ∷ gap h (elements es rest))) ++ elements_marks es rest
 
   -- a key's marks and those of its value, for each pair
   pub members_marks : Members → List ℕ → List Mark
@@ -84,7 +86,8 @@ statement_marks (pair k a b v) rest = key_marks k (a · equals ∷ (b · value v
 statement_marks (header a k b) rest =
     key_marks k (b · right_bracket ∷ rest) ++ mark kinds.Header (statement (header a k b) rest) rest ∷ []
 statement_marks (element_header a k b) rest =
-    key_marks k (b · right_bracket ∷ (right_bracket ∷ rest)) ++ mark kinds.ElementHeader (statement (element_header a k b) rest) rest ∷ []
+    key_marks k (b · right_bracket ∷ (right_bracket ∷ rest))
+        ++ mark kinds.ElementHeader (statement (element_header a k b) rest) rest ∷ []
 
 -- a line has the marks of its statement
 abbrev pub line_marks : Line → List ℕ → List Mark

@@ -1,4 +1,5 @@
--- What the private functions of reading promise: what follows the part of the text that they read, and its marks.
+-- What the private functions of reading promise: what follows
+-- the part of the text that they read, and its marks.
 use Rattle.std.specs.Prelude.{◌≡◌, ℕ, Bool, true, false, List, [], ◌∷◌, ◌++◌, Option, Some, None, option_map, Result, MatchResult}
 use Rattle.std.specs.Borrow.{Bor}
 use Rattle.std.specs.Global.{Vec}
@@ -34,10 +35,13 @@ class_test Binary = base_digit binary
 abbrev pub Skips : {A : Type 0} → Option (Bor (List ℕ)) → Read A → Type 0
 Skips r read = option_map (λ rest. rest.now) r ≡ option_map (λ p. p.1) read
 
--- what follows what was read, and its marks behind the old ones; nothing is read where reading gives nothing, unless memory ran out
-abbrev pub Notes : {A : Type 0} → (A → List ℕ → List Mark) → Vec Mark → Vec Mark → Result (Bor (List ℕ)) ReadError → Read A → Type 0
+-- what follows what was read, and its marks behind the old ones;
+-- nothing is read where reading gives nothing, unless memory ran out
+abbrev pub Notes : {A : Type 0} → (A → List ℕ → List Mark) → Vec Mark → Vec Mark
+    → Result (Bor (List ℕ)) ReadError → Read A → Type 0
 Notes {A} marks old new r read =
-    MatchResult r (λ rest. (x : A) × (read ≡ Some (x, rest.now)) × (new.items ≡ old.items ++ marks x rest.now)) (λ e. (e ≡ Memory → ⊥) → read ≡ None)
+    MatchResult r (λ rest. (x : A) × (read ≡ Some (x, rest.now))
+        × (new.items ≡ old.items ++ marks x rest.now)) (λ e. (e ≡ Memory → ⊥) → read ≡ None)
 
 -- a mark was added, or memory ran out
 abbrev pub Noted : Vec Mark → Vec Mark → Result (Unit {0}) ReadError → Mark → Type 0
@@ -71,12 +75,15 @@ part_marks p rest = part_mark p rest ∷ []
 
 -- the marks of a pair: its key and its value
 abbrev pub pair_marks : Pair → List ℕ → List Mark
-pair_marks p rest = key_marks p.key (p.before · equals ∷ (p.behind · value p.value rest)) ++ value_marks p.value rest
+pair_marks p rest =
+    key_marks p.key (p.before · equals ∷ (p.behind · value p.value rest)) ++ value_marks p.value rest
 
 -- of an inline table's members and its closing brace
 abbrev pub inner_marks : Members → List ℕ → List Mark
-inner_marks ms rest = members_marks ms (right_brace ∷ rest) ++ mark kinds.CloseTable (right_brace ∷ rest) rest ∷ []
+inner_marks ms rest =
+    members_marks ms (right_brace ∷ rest) ++ mark kinds.CloseTable (right_brace ∷ rest) rest ∷ []
 
 -- of an array's elements and its closing bracket
 abbrev pub array_marks : Elements → List ℕ → List Mark
-array_marks es rest = elements_marks es (right_bracket ∷ rest) ++ mark kinds.CloseArray (right_bracket ∷ rest) rest ∷ []
+array_marks es rest =
+    elements_marks es (right_bracket ∷ rest) ++ mark kinds.CloseArray (right_bracket ∷ rest) rest ∷ []

@@ -1,5 +1,5 @@
--- Numbers, dates and times: their shape, as text (TOML 1.0.0, "Integer", "Float", "Offset Date-Time", "Local Date-Time",
--- "Local Date" and "Local Time"). Whether a date exists is not looked at.
+-- Numbers, dates and times: their shape, as text (TOML 1.0.0, "Integer", "Float", "Offset Date-Time", "Local
+-- Date-Time", "Local Date" and "Local Time"). Whether a date exists is not looked at.
 use Rattle.std.specs.Prelude.{◌≡◌, ℕ, ◌<◌, Bool, true, false, ◌&&◌, ◌||◌, ◌==◌, nat_le, if◌then◌else◌, List, [], ◌∷◌, length, Option, Some, None, IfSome, ⊤}
 use Rattle.std.specs.Char.{is_digit}
 use Rattle.edit_syntax.specs.Characters.{space, All}
@@ -31,7 +31,8 @@ abbrev mutual
   -- nothing, a digit, or an underscore and a digit
   pub are_more_digits : (ℕ → Bool) → List ℕ → Bool
   are_more_digits class [] = true
-  are_more_digits class (b ∷ rest) = if b == 95 then are_digits class rest else (class b && are_more_digits class rest)
+  are_more_digits class (b ∷ rest) =
+      if b == 95 then are_digits class rest else (class b && are_more_digits class rest)
 
 -- 0, or digits that do not begin with 0 ("Integer", no leading zeros)
 abbrev pub is_whole : List ℕ → Bool
@@ -100,14 +101,16 @@ optional_exponent (Some e) rest = exponent e rest
 
 -- how a float is spelled
 abbrev pub float_text : Float → List ℕ → List ℕ
-float_text (with_fraction s whole fraction e) rest = sign s (whole · 46 ∷ (fraction · optional_exponent e rest))
+float_text (with_fraction s whole fraction e) rest =
+    sign s (whole · 46 ∷ (fraction · optional_exponent e rest))
 float_text (with_exponent s whole e) rest = sign s (whole · exponent e rest)
 float_text (infinite s) rest = sign s (105 ∷ (110 ∷ (102 ∷ rest)))
 float_text (not_a_number s) rest = sign s (110 ∷ (97 ∷ (110 ∷ rest)))
 
 -- its parts are digits, where leading zeros may stand in the fraction and the exponent alone
 abbrev pub IsFloat : Float → Type 0
-IsFloat (with_fraction s whole fraction e) = (is_whole whole ≡ true) × (are_digits is_decimal fraction ≡ true) × IfSome e IsExponent
+IsFloat (with_fraction s whole fraction e) =
+    (is_whole whole ≡ true) × (are_digits is_decimal fraction ≡ true) × IfSome e IsExponent
 IsFloat (with_exponent s whole e) = (is_whole whole ≡ true) × IsExponent e
 IsFloat (infinite s) = ⊤
 IsFloat (not_a_number s) = ⊤
@@ -148,7 +151,8 @@ IsDate d = HasDigits 4 d.year × HasDigits 2 d.month × HasDigits 2 d.day
 
 -- two, two and two digits, and digits in the fraction
 abbrev pub IsTime : Time → Type 0
-IsTime t = HasDigits 2 t.hour × HasDigits 2 t.minute × HasDigits 2 t.second × IfSome t.fraction (λ digits. (0 < length digits) × All is_decimal digits)
+IsTime t = HasDigits 2 t.hour × HasDigits 2 t.minute × HasDigits 2 t.second
+    × IfSome t.fraction (λ digits. (0 < length digits) × All is_decimal digits)
 
 -- none, `Z`, or a sign with hours and minutes ("Offset Date-Time")
 pub data Offset : Type 0 where
@@ -184,4 +188,5 @@ datetime_text (both d between t o) rest = date d (between ∷ time t (offset o r
 abbrev pub IsDateTime : DateTime → Type 0
 IsDateTime (only_date d) = IsDate d
 IsDateTime (only_time t) = IsTime t
-IsDateTime (both d between t o) = IsDate d × ((between == 84 || between == 116 || between == space) ≡ true) × IsTime t × IsOffset o
+IsDateTime (both d between t o) =
+    IsDate d × ((between == 84 || between == 116 || between == space) ≡ true) × IsTime t × IsOffset o

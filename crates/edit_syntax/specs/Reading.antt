@@ -14,13 +14,16 @@ pub use Rattle.edit_syntax.specs.ReadingSteps.{Read, ◌>>=◌, first, front, af
 unfoldable pub line_end_at : List ℕ → Read LineEnd
 line_end_at text =
     if first text == line_feed then Some (lf, drop 1 text)
-    else (if first text == carriage_return && slice_index text 1 == line_feed then Some (crlf, drop 2 text) else None)
+    else (if first text == carriage_return && slice_index text 1 == line_feed
+        then Some (crlf, drop 2 text) else None)
 
 -- a tab or a space, a newline, or a comment and its newline
 unfoldable pub between_at : List ℕ → Read Between
 between_at text =
     if is_blank (first text) then Some (blank (first text), drop 1 text)
-    else (if first text == hash then (line_end_at (after is_ch (drop 1 text)) >>= λ e. Some (remark (front is_ch (drop 1 text)) e.0, e.1))
+    else (if first text == hash
+        then (line_end_at (after is_ch (drop 1 text))
+        >>= λ e. Some (remark (front is_ch (drop 1 text)) e.0, e.1))
     else (line_end_at text >>= λ e. Some (break e.0, e.1)))
 
 -- what was read, and more behind it
@@ -45,11 +48,13 @@ past_gap text = (gap_at (length text) text).1
 
 -- the scalar value that these hexadecimal digits name
 abbrev pub scalar : List ℕ → Option ℕ
-scalar digits = if list_all is_hex digits && is_scalar (digits_value 16 digits) then Some (digits_value 16 digits) else None
+scalar digits = if list_all is_hex digits && is_scalar (digits_value 16 digits)
+    then Some (digits_value 16 digits) else None
 
 -- n digits that name a scalar value
 unfoldable pub coded_at : (List ℕ → Piece) → ℕ → List ℕ → Read Piece
-coded_at made n text = if length (take n text) == n then (scalar (take n text) >>= λ c. Some (made (take n text), drop n text)) else None
+coded_at made n text = if length (take n text) == n
+    then (scalar (take n text) >>= λ c. Some (made (take n text), drop n text)) else None
 
 -- an escape, from its backslash on
 unfoldable pub escape_at : List ℕ → Read Piece
@@ -77,13 +82,15 @@ basic_at text = pieces_at (length text) text
 
 -- behind the opening apostrophe
 unfoldable pub literal_at : List ℕ → Read (List ℕ)
-literal_at text = past apostrophe (after is_literal_ch text) >>= λ rest. Some (front is_literal_ch text, rest)
+literal_at text =
+    past apostrophe (after is_literal_ch text) >>= λ rest. Some (front is_literal_ch text, rest)
 
 -- ---- strings over several lines ("String", multi-line strings)
 
 -- a tab, a space or a newline comes first (own)
 abbrev pub begins_space : List ℕ → Bool
-begins_space text = is_blank (first text) || first text == line_feed || (first text == carriage_return && slice_index text 1 == line_feed)
+begins_space text = is_blank (first text) || first text == line_feed
+    || (first text == carriage_return && slice_index text 1 == line_feed)
 
 -- a tab, a space or a newline
 unfoldable pub space_at : List ℕ → Read Space
@@ -95,12 +102,14 @@ space_at text =
 unfoldable pub spaces_at : ℕ → List ℕ → Read (List Space)
 spaces_at zero text = None
 spaces_at (suc n) text =
-    if begins_space text then (space_at text >>= λ s. spaces_at n s.1 >>= λ more. Some (s.0 ∷ more.0, more.1))
+    if begins_space text
+        then (space_at text >>= λ s. spaces_at n s.1 >>= λ more. Some (s.0 ∷ more.0, more.1))
     else Some ([], text)
 
 -- a backslash at the end of a line, and all white space and newlines that follow
 unfoldable pub fold_at : List ℕ → Read Piece
-fold_at text = line_end_at (past_blanks (drop 1 text)) >>= λ e. spaces_at (length e.1 + 1) e.1 >>= λ more. Some (fold (blanks (drop 1 text)) e.0 more.0, more.1)
+fold_at text = line_end_at (past_blanks (drop 1 text)) >>= λ e. spaces_at (length e.1 + 1) e.1
+    >>= λ more. Some (fold (blanks (drop 1 text)) e.0 more.0, more.1)
 
 -- LF or CR, where a newline may stand (own)
 abbrev pub is_line_break : ℕ → Bool
@@ -163,24 +172,29 @@ unfoldable pub dotted_at : ℕ → List ℕ → Read (List Dotted)
 dotted_at zero text = None
 dotted_at (suc n) text =
     if first (past_blanks text) == 46
-    then (part_at (past_blanks (drop 1 (past_blanks text))) >>= λ p. dotted_at n p.1 >>= λ ds. Some (record { before = blanks text; behind = blanks (drop 1 (past_blanks text)); part = p.0 } ∷ ds.0, ds.1))
+    then (part_at (past_blanks (drop 1 (past_blanks text))) >>= λ p. dotted_at n p.1
+        >>= λ ds. Some (record { before = blanks text; behind = blanks
+        (drop 1 (past_blanks text)); part = p.0 } ∷ ds.0, ds.1))
     else Some ([], text)
 
 -- a key
 unfoldable pub key_at : List ℕ → Read Key
-key_at text = part_at text >>= λ k. dotted_at (length text) k.1 >>= λ ds. Some (record { first = k.0; others = ds.0 }, ds.1)
+key_at text = part_at text >>= λ k. dotted_at (length text) k.1
+    >>= λ ds. Some (record { first = k.0; others = ds.0 }, ds.1)
 
 -- ---- values
 
 -- these bytes come first
 abbrev pub starts : ℕ → ℕ → ℕ → ℕ → List ℕ → Bool
-starts a b c d text = first text == a && slice_index text 1 == b && slice_index text 2 == c && slice_index text 3 == d
+starts a b c d text =
+    first text == a && slice_index text 1 == b && slice_index text 2 == c && slice_index text 3 == d
 
 -- a value that is one token
 unfoldable pub scalar_at : List ℕ → Read Value
 scalar_at text =
     if begins quote quote quote text then (multi_at quote (drop 3 text) >>= λ p. Some (multi_basic p.0, p.1))
-    else (if begins apostrophe apostrophe apostrophe text then (multi_at apostrophe (drop 3 text) >>= λ p. Some (multi_literal p.0, p.1))
+    else (if begins apostrophe apostrophe apostrophe text
+        then (multi_at apostrophe (drop 3 text) >>= λ p. Some (multi_literal p.0, p.1))
     else (if first text == quote then (basic_at (drop 1 text) >>= λ p. Some (basic p.0, p.1))
     else (if first text == apostrophe then (literal_at (drop 1 text) >>= λ p. Some (literal p.0, p.1))
     else (if starts 116 114 117 101 text then Some (boolean true, drop 4 text)
@@ -209,8 +223,11 @@ members_at value_at (suc n) text =
     if first text == right_brace then Some (no_members, drop 1 text)
     else (pair_at value_at text >>= λ p.
     if first (past_gap p.1) == comma
-    then (members_at value_at n (past_gap (drop 1 (past_gap p.1))) >>= λ ms. Some (member p.0.key p.0.before p.0.behind p.0.value (gap_front p.1) (gap_front (drop 1 (past_gap p.1))) ms.0, ms.1))
-    else (past right_brace (past_gap p.1) >>= λ rest. Some (last_member p.0.key p.0.before p.0.behind p.0.value (gap_front p.1), rest)))
+    then (members_at value_at n (past_gap (drop 1 (past_gap p.1)))
+        >>= λ ms. Some (member p.0.key p.0.before p.0.behind p.0.value (gap_front p.1)
+        (gap_front (drop 1 (past_gap p.1))) ms.0, ms.1))
+    else (past right_brace (past_gap p.1)
+        >>= λ rest. Some (last_member p.0.key p.0.before p.0.behind p.0.value (gap_front p.1), rest)))
 
 -- from an element or the closing bracket on, in fewer than n elements, up to the closing bracket
 unfoldable pub elements_at : (List ℕ → Read Value) → ℕ → List ℕ → Read Elements
@@ -219,7 +236,8 @@ elements_at value_at (suc n) text =
     if first text == right_bracket then Some (no_elements, drop 1 text)
     else (value_at text >>= λ v.
     if first (past_gap v.1) == comma
-    then (elements_at value_at n (past_gap (drop 1 (past_gap v.1))) >>= λ es. Some (element v.0 (gap_front v.1) (gap_front (drop 1 (past_gap v.1))) es.0, es.1))
+    then (elements_at value_at n (past_gap (drop 1 (past_gap v.1)))
+        >>= λ es. Some (element v.0 (gap_front v.1) (gap_front (drop 1 (past_gap v.1))) es.0, es.1))
     else (past right_bracket (past_gap v.1) >>= λ rest. Some (last_element v.0 (gap_front v.1), rest)))
 
 -- a value with arrays and inline tables at most n deep in one another
@@ -227,20 +245,25 @@ unfoldable pub value_at : ℕ → List ℕ → Read Value
 value_at zero text = scalar_at text
 value_at (suc n) text =
     if first text == left_bracket
-    then (elements_at (value_at n) (length text) (past_gap (drop 1 text)) >>= λ es. Some (array (gap_front (drop 1 text)) es.0, es.1))
+    then (elements_at (value_at n) (length text) (past_gap (drop 1 text))
+        >>= λ es. Some (array (gap_front (drop 1 text)) es.0, es.1))
     else (if first text == left_brace
-    then (members_at (value_at n) (length text) (past_gap (drop 1 text)) >>= λ ms. Some (inline (gap_front (drop 1 text)) ms.0, ms.1))
+    then (members_at (value_at n) (length text) (past_gap (drop 1 text))
+        >>= λ ms. Some (inline (gap_front (drop 1 text)) ms.0, ms.1))
     else scalar_at text)
 
 -- ---- lines
 
 -- a header, from its opening bracket on
 unfoldable pub header_at : List ℕ → Read Statement
-header_at text = key_at (past_blanks (drop 1 text)) >>= λ k. past right_bracket (past_blanks k.1) >>= λ rest. Some (header (blanks (drop 1 text)) k.0 (blanks k.1), rest)
+header_at text = key_at (past_blanks (drop 1 text)) >>= λ k. past right_bracket (past_blanks k.1)
+    >>= λ rest. Some (header (blanks (drop 1 text)) k.0 (blanks k.1), rest)
 
 -- the header of an element, from its opening brackets on
 unfoldable pub element_header_at : List ℕ → Read Statement
-element_header_at text = key_at (past_blanks (drop 2 text)) >>= λ k. past right_bracket (past_blanks k.1) >>= λ inner. past right_bracket inner >>= λ rest. Some (element_header (blanks (drop 2 text)) k.0 (blanks k.1), rest)
+element_header_at text = key_at (past_blanks (drop 2 text)) >>= λ k. past right_bracket (past_blanks k.1)
+    >>= λ inner. past right_bracket inner
+    >>= λ rest. Some (element_header (blanks (drop 2 text)) k.0 (blanks k.1), rest)
 
 -- a header, the header of an element, or a pair
 unfoldable pub statement_at : ℕ → List ℕ → Read Statement
@@ -266,7 +289,9 @@ unfoldable pub line_at : ℕ → List ℕ → Read Line
 line_at depth text =
     if is_line_over (first (past_blanks text))
     then Some (empty_line (blanks text) (comment_front (past_blanks text)), past_comment (past_blanks text))
-    else (statement_at depth (past_blanks text) >>= λ s. Some (full_line (blanks text) s.0 (blanks s.1) (comment_front (past_blanks s.1)), past_comment (past_blanks s.1)))
+    else (statement_at depth (past_blanks text)
+        >>= λ s. Some (full_line (blanks text) s.0 (blanks s.1)
+        (comment_front (past_blanks s.1)), past_comment (past_blanks s.1)))
 
 -- all of the text, in at most n lines
 unfoldable pub lines_at : ℕ → ℕ → List ℕ → Option Lines
@@ -285,4 +310,5 @@ past_mark text = if is_marked text then drop 3 text else text
 
 -- a text with arrays and inline tables at most so deep in one another
 unfoldable pub read_text : ℕ → List ℕ → Option Text
-read_text depth text = lines_at depth (length (past_mark text) + 1) (past_mark text) >>= λ ls. Some (record { marked = is_marked text; lines = ls })
+read_text depth text = lines_at depth (length (past_mark text) + 1) (past_mark text)
+    >>= λ ls. Some (record { marked = is_marked text; lines = ls })

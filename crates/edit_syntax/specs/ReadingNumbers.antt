@@ -1,5 +1,6 @@
--- Reading numbers, dates and times from left to right (TOML 1.0.0, "Integer", "Float", "Offset Date-Time" to "Local Time").
--- What may follow a value decides nothing here: whatever follows is refused later where it may not.
+-- Reading numbers, dates and times from left to right (TOML 1.0.0, "Integer",
+-- "Float", "Offset Date-Time" to "Local Time"). What may follow a value
+-- decides nothing here: whatever follows is refused later where it may not.
 use Rattle.std.specs.Prelude.{ℕ, Bool, ◌&&◌, ◌||◌, ◌==◌, nat_le, if◌then◌else◌, List, take, drop, slice_index, Option, Some, None}
 use Rattle.std.specs.List.{prefix_len}
 use Rattle.edit_syntax.specs.Numbers.{Sign, no_sign, plus, minus, is_decimal, are_digits, is_whole, Base, hexadecimal, octal, binary, base_digit, decimal, based, Exponent, with_fraction, with_exponent, infinite, not_a_number, Date, Time, Offset, local, zulu, shift, only_date, only_time, both}
@@ -14,11 +15,13 @@ is_marked class b = class b || b == 95
 
 -- the longest front of digits and underscores, where it is digits ("Integer", underscores between digits)
 unfoldable pub digits_at : (ℕ → Bool) → List ℕ → Read (List ℕ)
-digits_at class text = if are_digits class (front (is_marked class) text) then Some (front (is_marked class) text, after (is_marked class) text) else None
+digits_at class text = if are_digits class (front (is_marked class) text)
+    then Some (front (is_marked class) text, after (is_marked class) text) else None
 
 -- the same of a decimal integer without its sign ("Integer", no leading zeros)
 unfoldable pub whole_at : List ℕ → Read (List ℕ)
-whole_at text = if is_whole (front (is_marked is_decimal) text) then Some (front (is_marked is_decimal) text, after (is_marked is_decimal) text) else None
+whole_at text = if is_whole (front (is_marked is_decimal) text)
+    then Some (front (is_marked is_decimal) text, after (is_marked is_decimal) text) else None
 
 -- ---- numbers
 
@@ -36,19 +39,22 @@ is_power b = b == 101 || b == 69
 
 -- an exponent, from its letter on ("Float")
 unfoldable pub exponent_at : List ℕ → Read Exponent
-exponent_at text = digits_at is_decimal (past_sign (drop 1 text)) >>= λ d. Some (record { letter = first text; sign = sign_of (drop 1 text); digits = d.0 }, d.1)
+exponent_at text = digits_at is_decimal (past_sign (drop 1 text))
+    >>= λ d. Some (record { letter = first text; sign = sign_of (drop 1 text); digits = d.0 }, d.1)
 
 -- a float, from behind its fraction on ("Float")
 unfoldable pub fraction_read : Sign → List ℕ → List ℕ → List ℕ → Read Value
 fraction_read s whole fraction text =
-    if is_power (first text) then (exponent_at text >>= λ e. Some (float (with_fraction s whole fraction (Some e.0)), e.1))
+    if is_power (first text)
+        then (exponent_at text >>= λ e. Some (float (with_fraction s whole fraction (Some e.0)), e.1))
     else Some (float (with_fraction s whole fraction None), text)
 
 -- an integer or a float, from behind its whole part on ("Integer", "Float")
 unfoldable pub whole_read : Sign → List ℕ → List ℕ → Read Value
 whole_read s whole text =
     if first text == 46 then (digits_at is_decimal (drop 1 text) >>= λ f. fraction_read s whole f.0 f.1)
-    else (if is_power (first text) then (exponent_at text >>= λ e. Some (float (with_exponent s whole e.0), e.1))
+    else (if is_power (first text)
+        then (exponent_at text >>= λ e. Some (float (with_exponent s whole e.0), e.1))
     else Some (integer (decimal s whole), text))
 
 -- these bytes come first (own)
@@ -78,18 +84,21 @@ group_at n b text = count_at n text >>= λ d. past b d.1 >>= λ rest. Some (d.0,
 
 -- a date ("Local Date")
 unfoldable pub date_at : List ℕ → Read Date
-date_at text = group_at 4 45 text >>= λ y. group_at 2 45 y.1 >>= λ m. count_at 2 m.1 >>= λ d. Some (record { year = y.0; month = m.0; day = d.0 }, d.1)
+date_at text = group_at 4 45 text >>= λ y. group_at 2 45 y.1 >>= λ m. count_at 2 m.1
+    >>= λ d. Some (record { year = y.0; month = m.0; day = d.0 }, d.1)
 
 -- the digits behind a dot, or nothing where none stands there ("Local Time", fractions of a second)
 unfoldable pub second_at : List ℕ → Read (Option (List ℕ))
 second_at text =
     if first text == 46
-    then (if is_decimal (first (drop 1 text)) then Some (Some (front is_decimal (drop 1 text)), after is_decimal (drop 1 text)) else None)
+    then (if is_decimal (first (drop 1 text))
+        then Some (Some (front is_decimal (drop 1 text)), after is_decimal (drop 1 text)) else None)
     else Some (None, text)
 
 -- a time ("Local Time")
 unfoldable pub time_at : List ℕ → Read Time
-time_at text = group_at 2 58 text >>= λ h. group_at 2 58 h.1 >>= λ m. count_at 2 m.1 >>= λ s. second_at s.1 >>= λ f.
+time_at text =
+    group_at 2 58 text >>= λ h. group_at 2 58 h.1 >>= λ m. count_at 2 m.1 >>= λ s. second_at s.1 >>= λ f.
     Some (record { hour = h.0; minute = m.0; second = s.0; fraction = f.0 }, f.1)
 
 -- `Z` or `z`, or a sign with hours and minutes, or nothing ("Offset Date-Time")
@@ -97,7 +106,8 @@ unfoldable pub offset_at : List ℕ → Read Offset
 offset_at text =
     if first text == 90 || first text == 122 then Some (zulu (first text), drop 1 text)
     else (if first text == 43 || first text == 45
-    then (group_at 2 58 (drop 1 text) >>= λ h. count_at 2 h.1 >>= λ m. Some (shift (first text) h.0 m.0, m.1))
+    then (group_at 2 58 (drop 1 text) >>= λ h. count_at 2 h.1
+        >>= λ m. Some (shift (first text) h.0 m.0, m.1))
     else Some (local, text))
 
 -- `T`, `t`, or a space and a digit, which join a time to a date ("Offset Date-Time")
@@ -107,7 +117,8 @@ joins text = first text == 84 || first text == 116 || (first text == 32 && is_de
 -- from a date on ("Offset Date-Time", "Local Date-Time", "Local Date")
 unfoldable pub dated_at : List ℕ → Read Value
 dated_at text = date_at text >>= λ d.
-    if joins d.1 then (time_at (drop 1 d.1) >>= λ t. offset_at t.1 >>= λ o. Some (datetime (both d.0 (first d.1) t.0 o.0), o.1))
+    if joins d.1 then (time_at (drop 1 d.1) >>= λ t. offset_at t.1
+        >>= λ o. Some (datetime (both d.0 (first d.1) t.0 o.0), o.1))
     else Some (datetime (only_date d.0), d.1)
 
 -- a time alone ("Local Time")

@@ -1,5 +1,6 @@
--- Line ends, strings and keys: what they are made of, how they are spelled, when they are well formed and what they
--- say (TOML 1.0.0, "Spec", "String" and "Keys"). Each spelling takes the text that follows, so that a row reads from left to right.
+-- Line ends, strings and keys: what they are made of, how they are spelled, when
+-- they are well formed and what they say (TOML 1.0.0, "Spec", "String" and "Keys").
+-- Each spelling takes the text that follows, so that a row reads from left to right.
 use Rattle.std.specs.Prelude.{◌≡◌, ℕ, zero, suc, ◌<◌, Bool, true, false, ◌&&◌, ◌||◌, ◌==◌, nat_lt, nat_le, if◌then◌else◌, List, [], ◌∷◌, ◌++◌, length, ⊤, encode_utf8}
 use Rattle.std.specs.List.{AllByRecursion, flat_map}
 use Rattle.std.specs.Char.{is_digit}
@@ -49,7 +50,8 @@ pub data Piece : Type 0 where
   letter : ℕ → Piece
   short : List ℕ → Piece
   long : List ℕ → Piece
-  -- of multi-line strings: a line end, a fold (white space, a line end, and what white space and line ends follow), a delimiter that is text
+  -- of multi-line strings: a line end, a fold (white space, a line end,
+  -- and what white space and line ends follow), a delimiter that is text
   feed : LineEnd → Piece
   fold : List ℕ → LineEnd → List Space → Piece
   delimiter : Piece
@@ -143,7 +145,8 @@ FoldsAreWhole (_ ∷ ps) = FoldsAreWhole ps
 
 -- the character that the letter of an escape names ("String")
 abbrev pub escaped : ℕ → ℕ
-escaped c = if c == 98 then 8 else (if c == 116 then 9 else (if c == 110 then 10 else (if c == 102 then 12 else (if c == 114 then 13 else c))))
+escaped c = if c == 98 then 8 else (if c == 116
+    then 9 else (if c == 110 then 10 else (if c == 102 then 12 else (if c == 114 then 13 else c))))
 
 -- what a piece says
 abbrev pub said : ℕ → Piece → List ℕ
@@ -220,4 +223,5 @@ key k rest = part k.first (dotted k.others rest)
 
 -- each part is well formed, with white space alone beside the dots
 abbrev pub IsKey : Key → Type 0
-IsKey k = IsPart k.first × AllByRecursion (λ d. All is_blank d.before × All is_blank d.behind × IsPart d.part) k.others
+IsKey k = IsPart k.first × AllByRecursion (λ d. All is_blank d.before × All is_blank d.behind
+    × IsPart d.part) k.others

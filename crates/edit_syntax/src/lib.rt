@@ -1,4 +1,5 @@
-//! The grammar of manifests: characters, strings, numbers, the reading of a text into marks, and what its tokens say.
+//! The grammar of manifests: characters, strings, numbers,
+//! the reading of a text into marks, and what its tokens say.
 #![tactic(auto)]
 
 pub mod read;

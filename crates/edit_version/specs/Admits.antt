@@ -1,5 +1,6 @@
--- Which versions a requirement admits, in the words of its documentation (Cargo reference, "Specifying Dependencies"; SemVer 2.0.0, item 11):
--- numbers equal or in list order, and pre-releases by their precedence, of which the empty one is the greatest.
+-- Which versions a requirement admits, in the words of its documentation (Cargo reference, "Specifying
+-- Dependencies"; SemVer 2.0.0, item 11): numbers equal or in list order, and pre-releases by their
+-- precedence, of which the empty one is the greatest.
 use Rattle.std.specs.Prelude.{ℕ, ◌==◌, ◌&&◌, ◌||◌, nat_lt, nat_le, Bool, true, false, not, List, Option, Some, None, nat_eq, length, if◌then◌else◌}
 use Rattle.std.specs.Cmp.Lexicographic.{pointwise}
 use Rattle.std.specs.List.{list_all, list_any}
@@ -30,16 +31,19 @@ patch_reaches p pre w = nat_lt p w.2 || ((w.2 == p) && pre_reaches w.3 pre)
 abbrev pub minor_reaches : ℕ → ℕ → List ℕ → Parts → Bool
 minor_reaches m p pre w = nat_lt m w.1 || ((w.1 == m) && patch_reaches p pre w)
 
--- a patch that is not less, or any where none is given, with a pre-release that is not below (Cargo reference, "Tilde requirements")
+-- a patch that is not less, or any where none is given, with a
+-- pre-release that is not below (Cargo reference, "Tilde requirements")
 abbrev pub tilde_patch : Option ℕ → List ℕ → Parts → Bool
 tilde_patch None pre w = pre_reaches w.3 pre
 tilde_patch (Some p) pre w = patch_reaches p pre w
 
--- `~`: the same major and a given minor, and a patch that is not less (Cargo reference, "Tilde requirements")
+-- `~`: the same major and a given minor, and a patch that is
+-- not less (Cargo reference, "Tilde requirements")
 abbrev pub is_in_tilde : Held → Parts → Bool
 is_in_tilde c w = (w.0 == c.1) && agrees c.2 w.1 && tilde_patch c.3 c.4 w
 
--- `^` with a minor number, and perhaps a patch: not less, and the leftmost number that is not 0 stays (Cargo reference, "Caret requirements")
+-- `^` with a minor number, and perhaps a patch: not less, and the leftmost
+-- number that is not 0 stays (Cargo reference, "Caret requirements")
 abbrev pub caret_minor : ℕ → ℕ → Option ℕ → List ℕ → Parts → Bool
 caret_minor major m None pre w = if major == 0 then w.1 == m else nat_le m w.1
 caret_minor major m (Some p) pre w = minor_reaches m p pre w
@@ -62,7 +66,8 @@ patch_beyond num pre None own w = false
 patch_beyond num pre (Some p) own w = num w.2 p || ((w.2 == p) && pre w.3 own)
 
 -- the same from the minor number on
-abbrev pub minor_beyond : (ℕ → ℕ → Bool) → (List ℕ → List ℕ → Bool) → Option ℕ → Option ℕ → List ℕ → Parts → Bool
+abbrev pub minor_beyond : (ℕ → ℕ → Bool) → (List ℕ → List ℕ → Bool) → Option ℕ → Option ℕ → List ℕ → Parts
+    → Bool
 minor_beyond num pre None p own w = false
 minor_beyond num pre (Some m) p own w = num w.1 m || ((w.1 == m) && patch_beyond num pre p own w)
 
@@ -102,6 +107,7 @@ is_given (Some m) n = m == n
 abbrev pub names_pre : Held → Parts → Bool
 names_pre c w = (c.1 == w.0) && is_given c.2 w.1 && is_given c.3 w.2 && not (length c.4 == 0)
 
--- every comparator accepts the version, and one names a pre-release of its numbers if it has one (Cargo reference, "Multiple requirements", "Pre-releases")
+-- every comparator accepts the version, and one names a pre-release of its numbers if it has one (Cargo
+-- reference, "Multiple requirements", "Pre-releases")
 abbrev pub admits : List Held → Parts → Bool
 admits cs w = list_all (λ c. accepts c w) cs && (length w.3 == 0 || list_any (λ c. names_pre c w) cs)

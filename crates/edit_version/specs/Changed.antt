@@ -11,9 +11,11 @@ use Rattle.edit_version.specs.declared.version.Phase.{Phase}
 
 -- why a change was refused, with what the refusal tells of the version as it was (own)
 abbrev pub IsCause : Change → Parts → Error → Type 0
-IsCause c old (error.ReleaseLevel level version) = (p : Phase) × (c ≡ Refused (Behind p)) × (level.now ≡ word p) × (string_bytes version ≡ parts_text old)
+IsCause c old (error.ReleaseLevel level version) =
+    (p : Phase) × (c ≡ Refused (Behind p)) × (level.now ≡ word p) × (string_bytes version ≡ parts_text old)
 IsCause c old error.PrereleaseScheme = c ≡ Refused Scheme
-IsCause c old (error.NumberAtEnd major minor patch) = (c ≡ Refused AtEnd) × (major ≡ old.0) × (minor ≡ old.1) × (patch ≡ old.2)
+IsCause c old (error.NumberAtEnd major minor patch) =
+    (c ≡ Refused AtEnd) × (major ≡ old.0) × (minor ≡ old.1) × (patch ≡ old.2)
 IsCause c old (error.InvalidMetadata text) = c ≡ Refused (Metadata (string_bytes text))
 IsCause c old error.Memory = Unit {0}
 IsCause c old _ = ⊥

@@ -17,7 +17,8 @@ word_name word = before_first (λ b. b == 64) word
 
 -- the requirement in a word, after its first `@`, none where there is no `@` (own)
 abbrev pub word_requirement : List ℕ → Option (List ℕ)
-word_requirement word = if position_or_len (λ b. b == 64) word == length word then None else Some (after_first (λ b. b == 64) word)
+word_requirement word = if position_or_len (λ b. b == 64) word == length word
+    then None else Some (after_first (λ b. b == 64) word)
 
 -- a character that a crate's name may have: `-`, `_`, a letter or a number of Unicode (own)
 abbrev pub is_name_char : ℕ → Bool
@@ -57,15 +58,18 @@ IsRefusedName text _ = ⊥
 
 -- why the requirement of a word is refused (own)
 abbrev pub IsRefusedRequirement : Option (List ℕ) → Error → Type 0
-IsRefusedRequirement req (error.InvalidRequirement text) = (req ≡ Some (string_bytes text)) × IsErr (req_of (string_bytes text))
+IsRefusedRequirement req (error.InvalidRequirement text) =
+    (req ≡ Some (string_bytes text)) × IsErr (req_of (string_bytes text))
 IsRefusedRequirement req error.Memory = Unit {0}
 IsRefusedRequirement req _ = ⊥
 
 -- why a word is refused: for the characters of its name, else for its requirement, where memory lasts (own)
 abbrev pub IsRefusedWord : List ℕ → Error → Type 0
 IsRefusedWord word (error.InvalidName name characters) =
-    (0 < length (unfit (word_name word))) × (string_bytes name ≡ word_name word) × (string_bytes characters ≡ listed (unfit (word_name word)))
+    (0 < length (unfit (word_name word))) × (string_bytes name ≡ word_name word)
+        × (string_bytes characters ≡ listed (unfit (word_name word)))
 IsRefusedWord word (error.InvalidRequirement text) =
-    (unfit (word_name word) ≡ []) × (word_requirement word ≡ Some (string_bytes text)) × IsErr (req_of (string_bytes text))
+    (unfit (word_name word) ≡ []) × (word_requirement word ≡ Some (string_bytes text))
+        × IsErr (req_of (string_bytes text))
 IsRefusedWord word error.Memory = Unit {0}
 IsRefusedWord word _ = ⊥

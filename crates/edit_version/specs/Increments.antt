@@ -74,7 +74,8 @@ numbered p n = word p ++ (46 ∷ decimal n)
 -- the decimal number of 64 bits that a text is (own)
 abbrev pub number_of : List ℕ → Option ℕ
 number_of text =
-    if is_numeric text && nat_lt 0 (length text) && nat_lt (digits_value 10 text) (2 ^ 64) then Some (digits_value 10 text) else None
+    if is_numeric text && nat_lt 0 (length text) && nat_lt (digits_value 10 text) (2 ^ 64)
+        then Some (digits_value 10 text) else None
 
 -- the word of a pre-release, up to its first dot (own)
 abbrev pub word_of : List ℕ → List ℕ
@@ -83,7 +84,8 @@ word_of pre = before_first (λ b. b == 46) pre
 -- the number after the first dot, 0 where there is no dot (own)
 abbrev pub number_after : List ℕ → Option ℕ
 number_after pre =
-    if position_or_len (λ b. b == 46) pre == length pre then Some 0 else number_of (after_first (λ b. b == 46) pre)
+    if position_or_len (λ b. b == 46) pre == length pre
+        then Some 0 else number_of (after_first (λ b. b == 46) pre)
 
 -- the next pre-release of a phase, from a word and its number, none where it is no number (own)
 abbrev pub next_of : Phase → Parts → List ℕ → Option ℕ → Change
@@ -93,7 +95,8 @@ next_of p v w (Some n) =
     else (if is_text w (word p) then if_fits (n + 1) (v.0, v.1, v.2, numbered p (n + 1), v.4)
     else To (v.0, v.1, v.2, numbered p 1, v.4))
 
--- the next version of a phase: the first of the next patch version, or of a pre-release the next number, or the first of a later phase (own)
+-- the next version of a phase: the first of the next patch version, or
+-- of a pre-release the next number, or the first of a later phase (own)
 abbrev pub next_phase : Phase → Parts → Change
 next_phase p v =
     if length v.3 == 0 then if_fits (v.2 + 1) (v.0, v.1, v.2 + 1, numbered p 1, [])

@@ -1,4 +1,5 @@
--- What follows where a requirement is raised (own, over SemVer 2.0.0 and Cargo reference, "Specifying Dependencies").
+-- What follows where a requirement is raised (own, over SemVer
+-- 2.0.0 and Cargo reference, "Specifying Dependencies").
 use Rattle.std.specs.List.{list_any}
 use Rattle.std.specs.Prelude.{◌≡◌, ◌<◌, ◌^◌, ◌⊎◌, ◌==◌, ◌↔◌, ◌∷◌, [], ℕ, Bool, List, map, Option, Some, None, Ok, String, string_bytes, true, false, All, IsOk, IsSome, IsTrue, length}
 use Rattle.std.specs.declared.alloc.Global.{Global}
@@ -11,14 +12,16 @@ use Rattle.semver.specs.declared.Op.TheVariants as op
 use Rattle.edit_version.specs.Admits.{admits}
 use Rattle.edit_version.specs.Requirement.{Nothing, raise}
 
--- a version that can be read: numbers of 64 bits, and no pre-release or one of its grammar (SemVer 2.0.0, items 2 and 9)
+-- a version that can be read: numbers of 64 bits, and no
+-- pre-release or one of its grammar (SemVer 2.0.0, items 2 and 9)
 pub record IsVersion (v : Parts) : Type 0 where
   pub major : v.0 < 2 ^ 64
   pub minor : v.1 < 2 ^ 64
   pub patch : v.2 < 2 ^ 64
   pub pre : is_pre_release v.3 ≡ true
 
--- a version with no pre-release, or with one of the grammar, as each has that was read from a text (SemVer 2.0.0, item 9)
+-- a version with no pre-release, or with one of the grammar,
+-- as each has that was read from a text (SemVer 2.0.0, item 9)
 abbrev pub IsReadable : Parts → Type 0
 IsReadable v = IsTrue (is_pre_release v.3)
 
@@ -37,7 +40,8 @@ HasThreeNumbers c = IsSome c.2 × IsSome c.3
 
 -- the version has no pre-release, or the text has comparators, all of three numbers
 abbrev pub CanReach : List ℕ → Parts → Type 0
-CanReach text v = (length v.3 ≡ 0) ⊎ ((cs : List Held) × (req_of text ≡ Ok cs) × (0 < length cs) × All HasThreeNumbers cs)
+CanReach text v =
+    (length v.3 ≡ 0) ⊎ ((cs : List Held) × (req_of text ≡ Ok cs) × (0 < length cs) × All HasThreeNumbers cs)
 
 -- `semver` reads the text, and raising it gives no other
 abbrev pub IsSettled : List ℕ → Parts → Type 0
@@ -66,17 +70,21 @@ HasSameOperators old new = (cs : List Held) × (ds : List Held) × (req_of old �
 
 -- the operators stay, and a `-` stays exactly where the version has a pre-release
 abbrev pub KeepsForm : List ℕ → List ℕ → Parts → Type 0
-KeepsForm old new v = HasSameOperators old new × (IsTrue (holds_dash old) → (IsTrue (holds_dash new) ↔ (0 < length v.3)))
+KeepsForm old new v =
+    HasSameOperators old new × (IsTrue (holds_dash old) → (IsTrue (holds_dash new) ↔ (0 < length v.3)))
 
 -- the order of versions without their build metadata (SemVer 2.0.0, item 11)
 abbrev pub precedence : Parts → Parts → Ordering
-precedence a b = ordering_then (nat_cmp a.0 b.0) (ordering_then (nat_cmp a.1 b.1) (ordering_then (nat_cmp a.2 b.2) (pre_cmp a.3 b.3)))
+precedence a b = ordering_then (nat_cmp a.0 b.0)
+    (ordering_then (nat_cmp a.1 b.1) (ordering_then (nat_cmp a.2 b.2) (pre_cmp a.3 b.3)))
 
 -- where the old text has a `-` and the version a pre-release, no version that the new one admits is lower
 abbrev pub AdmitsNoLower : List ℕ → List ℕ → Parts → Type 0
-AdmitsNoLower old new v = IsTrue (holds_dash old) → 0 < length v.3 → (w : Parts) → Admits new w → IsTrue (is_ge (precedence w v))
+AdmitsNoLower old new v =
+    IsTrue (holds_dash old) → 0 < length v.3 → (w : Parts) → Admits new w → IsTrue (is_ge (precedence w v))
 
 -- the text of a version, cut before its build metadata, is a requirement that admits the version, that
 -- has no comparator but one caret, and that stays as it is when it is raised to the version
 abbrev pub IsPlainRequirement : List ℕ → Parts → Type 0
-IsPlainRequirement t v = (req_of t ≡ Ok ((op.Caret, v.0, Some v.1, Some v.2, v.3) ∷ [])) × (raise t v ≡ Nothing)
+IsPlainRequirement t v =
+    (req_of t ≡ Ok ((op.Caret, v.0, Some v.1, Some v.2, v.3) ∷ [])) × (raise t v ≡ Nothing)

@@ -23,7 +23,8 @@ IsNoRustVersion text _ = ⊥
 -- why a text is not raised: it is no requirement, or a comparator of it cannot be raised (own)
 abbrev pub IsRefusal : Raised → List ℕ → Error → Type 0
 IsRefusal r text (error.InvalidRequirement s) = (r ≡ Unread) × (string_bytes s ≡ text)
-IsRefusal r text (error.Unsupported s) = (c : Held) × (r ≡ Unsupported c) × (string_bytes s ≡ comparator_text c)
+IsRefusal r text (error.Unsupported s) =
+    (c : Held) × (r ≡ Unsupported c) × (string_bytes s ≡ comparator_text c)
 IsRefusal r text error.Memory = Unit {0}
 IsRefusal r text _ = ⊥
 

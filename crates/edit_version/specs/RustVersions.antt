@@ -1,4 +1,5 @@
--- Versions of Rust, as a manifest or an index names them (Cargo reference, "The Manifest Format", rust-version).
+-- Versions of Rust, as a manifest or an index names them
+-- (Cargo reference, "The Manifest Format", rust-version).
 use Rattle.std.specs.Prelude.{ℕ, List, [], ◌∷◌, Bool, nat_lt, ◌==◌, ◌&&◌, ◌||◌, Option, Some, None, Result, Ok, Err, unwrap_or}
 use Rattle.semver.specs.Parse.{Held, req_of}
 use Rattle.semver.specs.declared.error.Error.{Error}
@@ -13,7 +14,8 @@ Numbers = ℕ × ℕ × ℕ
 abbrev pub numbers_of : RustVersion → Numbers
 numbers_of v = (v.major, v.minor, v.patch)
 
--- the numbers that comparators name: those of one caret without pre-release, missing ones being 0 (Cargo reference, "The Manifest Format", rust-version)
+-- the numbers that comparators name: those of one caret without pre-release, missing ones being 0 (Cargo
+-- reference, "The Manifest Format", rust-version)
 abbrev pub rust_numbers : List Held → Option Numbers
 rust_numbers ((op.Caret, major, minor, patch, []) ∷ []) = Some (major, unwrap_or minor 0, unwrap_or patch 0)
 rust_numbers other = None

@@ -67,7 +67,8 @@ fn check_name(alloc: Global, name: &str) -> CargoResult<()>
 
 // The requirement of a word, where it is one.
 fn check_requirement(alloc: Global, req: Option<&str>) -> CargoResult<Option<String>>
-    ensures ok { IfOk result (λ o. (option_map string_bytes o ≡ option_map (λ s. s.now) req.entry) × IsReadOrAbsent (option_map (λ s. s.now) req.entry)) }
+    ensures ok { IfOk result (λ o. (option_map string_bytes o ≡ option_map (λ s. s.now) req.entry)
+        × IsReadOrAbsent (option_map (λ s. s.now) req.entry)) }
     ensures refused { IfErr result (λ e. IsRefusedRequirement (option_map (λ s. s.now) req.entry) e) }
 {
     let Some(req) = req else {

@@ -28,9 +28,9 @@ pub trait VersionExt {
     /// The next patch version, likewise.
     fn increment_patch(&mut self) -> CargoResult<()>;
 
-    /// The next alpha: `alpha.1` of the next patch version, or of a pre-release the next number, or `alpha.1`
-    /// in the place of another word, with its build metadata. Refused with 17 where the pre-release is not a
-    /// word or a word and a number, with 16 where it is a beta or rc, and with 18.
+    /// The next alpha: `alpha.1` of the next patch version, or of a pre-release the next number, or
+    /// `alpha.1` in the place of another word, with its build metadata. Refused with 17 where the
+    /// pre-release is not a word or a word and a number, with 16 where it is a beta or rc, and with 18.
     fn increment_alpha(&mut self, alloc: Global) -> CargoResult<()>;
 
     /// The next beta, likewise; refused with 16 where the pre-release is an rc.
@@ -180,7 +180,8 @@ fn read_build(alloc: Global, text: &str) -> CargoResult<BuildMetadata>
 
 // A pre-release of a phase.
 fn numbered(alloc: Global, phase: Phase, number: u64) -> CargoResult<Prerelease>
-    ensures ok { IfOk result (λ p. (pre_text p ≡ numbered phase number) × IsTrue (is_pre_release (pre_text p))) }
+    ensures ok { IfOk result (λ p. (pre_text p ≡ numbered phase number)
+        × IsTrue (is_pre_release (pre_text p))) }
     ensures err { IfErr result (λ e. e ≡ error.Memory) }
 {
     let word = phase.word();
@@ -227,7 +228,8 @@ fn next_number(alloc: Global, version: &Version, phase: Phase) -> CargoResult<u6
     requires { 0 < length (pre_text version.now.pre) }
     ensures ok { IfOk result (λ n. next_phase phase (parts_of version.now)
         ≡ To (version.now.major, version.now.minor, version.now.patch, numbered phase n, build_text version.now.build)) }
-    ensures err { IfErr result (λ e. IsCause (next_phase phase (parts_of version.now)) (parts_of version.now) e) }
+    ensures err { IfErr result (λ e. IsCause (next_phase phase (parts_of version.now))
+        (parts_of version.now) e) }
 {
     let Some((word, number)) = word_and_number(version.pre.as_str()) else {
         return Err(Error::PrereleaseScheme);

@@ -32,7 +32,8 @@ fn define<'a>(
     key: &'a str,
     source: Source<'a>,
 ) -> Result<(), AllocError>
-    ensures { OnOk result (Adds sources.old sources.new (record { key = key.entry.now; source = source_texts source.entry } ∷ [])) }
+    ensures { OnOk result (Adds sources.old sources.new
+        (record { key = key.entry.now; source = source_texts source.entry } ∷ [])) }
 {
     if !sources.contains_key(key) {
         sources.insert(key, source)?;
@@ -45,7 +46,8 @@ fn add_registries<'a>(
     sources: &mut BTreeMap<&'a str, Source<'a>>,
     registries: &'a [(String, Option<String>)],
 ) -> Result<(), AllocError>
-    ensures { OnOk result (Adds sources.old sources.new (map registry_definition (map registry_entry registries.entry.now))) }
+    ensures { OnOk result (Adds sources.old sources.new
+        (map registry_definition (map registry_entry registries.entry.now))) }
 {
     for (key, index) in registries {
         let source = Source {
@@ -62,7 +64,8 @@ fn add_sources<'a>(
     sources: &mut BTreeMap<&'a str, Source<'a>>,
     defined: &'a [(String, ConfigSource)],
 ) -> Result<(), AllocError>
-    ensures { OnOk result (Adds sources.old sources.new (map source_definition (map source_entry defined.entry.now))) }
+    ensures { OnOk result (Adds sources.old sources.new
+        (map source_definition (map source_entry defined.entry.now))) }
 {
     for (key, source) in defined {
         let source = Source {
@@ -89,7 +92,8 @@ fn first_definitions<'a>(
     alloc: Global,
     configs: &'a [Config],
 ) -> Result<BTreeMap<&'a str, Source<'a>>, AllocError>
-    ensures { IfOk result (λ sources. (key : List ℕ) → found sources key ≡ first key (all_definitions configs.entry.now)) }
+    ensures { IfOk result (λ sources. (key : List ℕ)
+        → found sources key ≡ first key (all_definitions configs.entry.now)) }
 {
     let mut sources = BTreeMap::new(alloc);
     for config in configs {
@@ -146,7 +150,8 @@ fn head_key<'a>(registry: Option<&'a str>) -> &'a str
 
 /// The source at which a registry begins, of what its key defines.
 fn head<'a>(found: Option<Source<'a>>, registry: Option<&str>) -> Option<Source<'a>>
-    ensures { option_map source_texts result ≡ spec.head_source_of (given registry.entry) (option_map source_texts found.entry) }
+    ensures { option_map source_texts result
+        ≡ spec.head_source_of (given registry.entry) (option_map source_texts found.entry) }
 {
     if !is_default(registry) {
         return found;
@@ -160,7 +165,8 @@ fn head<'a>(found: Option<Source<'a>>, registry: Option<&str>) -> Option<Source<
 
 /// The refusal of a registry that no file defines.
 fn registry_not_found(alloc: Global, key: &str) -> Error
-    ensures { IsMemory result ⊎ ((name : String Global) × (result ≡ RegistryNotFound name) × (string_bytes name ≡ key.now)) }
+    ensures { IsMemory result
+        ⊎ ((name : String Global) × (result ≡ RegistryNotFound name) × (string_bytes name ≡ key.now)) }
 {
     match String::from_str(alloc, key) {
         Ok(key) => Error::RegistryNotFound { key },
@@ -170,7 +176,8 @@ fn registry_not_found(alloc: Global, key: &str) -> Error
 
 /// The refusal of a source that no file defines or that was used.
 fn source_not_found(alloc: Global, key: &str) -> Error
-    ensures { IsMemory result ⊎ ((name : String Global) × (result ≡ SourceNotFound name) × (string_bytes name ≡ key.now)) }
+    ensures { IsMemory result
+        ⊎ ((name : String Global) × (result ≡ SourceNotFound name) × (string_bytes name ≡ key.now)) }
 {
     match String::from_str(alloc, key) {
         Ok(key) => Error::SourceNotFound { key },
@@ -185,7 +192,8 @@ pub(crate) fn last_source<'a>(
     configs: &'a [Config],
     registry: Option<&'a str>,
 ) -> CargoResult<Source<'a>>
-    ensures ends { IfOk result (λ s. spec.EndsAt (all_definitions configs.entry.now) (given registry.entry) (source_texts s)) }
+    ensures ends { IfOk result (λ s. spec.EndsAt (all_definitions configs.entry.now) (given registry.entry)
+        (source_texts s)) }
     ensures refused { IfErr result (λ e. IsMemory e ⊎ HasNoUrl configs.entry.now (given registry.entry) e) }
 {
     let mut left = first_definitions(alloc, configs)?;

@@ -11,8 +11,8 @@ use super::lines::line;
 use super::marks::{Mark, ReadError};
 use edit_base::errors::{CargoResult, Error};
 
-/// Notes down the first of some lines, with arrays and inline tables at most 80 deep in one another, and answers
-/// what follows it: nothing, or its newline and the other lines.
+/// Notes down the first of some lines, with arrays and inline tables at most 80 deep in one another, and
+/// answers what follows it: nothing, or its newline and the other lines.
 pub fn first_line<'a>(out: &mut Vec<Mark>, text: &'a [u8]) -> CargoResult<&'a [u8]>
     // The first line of whatever is in the grammar is read, unless memory runs out.
     ensures only { (form : Lines) → text.now ≡ lines_text form → AreLines form → lines_depth form ≤ 80 →

@@ -100,8 +100,10 @@ pub(crate) fn line<'a>(
 
 /// The marks of lines, with arrays and inline tables at most 80 deep in one another.
 pub(crate) fn lines(alloc: Global, text: &[u8]) -> Result<Vec<Mark>, ReadError>
-    ensures found { IfOk result (λ v. (form : Lines) × (text.now ≡ lines form) × AreLines form × (lines_depth form ≤ 80) × (v.items ≡ lines_marks form)) }
-    ensures only { (form : Lines) → text.now ≡ lines form → AreLines form → lines_depth form ≤ 80 → MatchResult result (λ v. v.items ≡ lines_marks form) (λ e. e ≡ Memory) }
+    ensures found { IfOk result (λ v. (form : Lines) × (text.now ≡ lines form) × AreLines form
+        × (lines_depth form ≤ 80) × (v.items ≡ lines_marks form)) }
+    ensures only { (form : Lines) → text.now ≡ lines form → AreLines form → lines_depth form ≤ 80
+        → MatchResult result (λ v. v.items ≡ lines_marks form) (λ e. e ≡ Memory) }
 {
     let mut out = Vec::new(alloc);
     let mut rest = text;

@@ -33,7 +33,8 @@ pub enum MarkKind {
 }
 
 /// A token of a text: how many bytes there are from its first byte to the text's end, and from its own end
-/// to the text's end. A text of 4 GB and more is refused for want of memory, which its marks would take ten times.
+/// to the text's end. A text of 4 GB and more is refused for
+/// want of memory, which its marks would take ten times.
 #[derive(Clone, Copy, Debug, PartialEq, Eq)]
 pub struct Mark {
     pub kind: MarkKind,

@@ -104,7 +104,8 @@ fn past_exponent(s: &[u8]) -> Option<&[u8]>
 /// The kind of a float, and what follows it, from behind its fraction on.
 #[tactic(auto, unfolding(crate::specs::ReadingNumbers::fraction_read))]
 fn behind_fraction(s: &[u8]) -> Option<(MarkKind, &[u8])>
-    ensures { (sign : Sign) (whole fraction : List ℕ) → seen_token result ≡ told_token value_kind (reading.fraction_read sign whole fraction s.now) }
+    ensures { (sign : Sign) (whole fraction : List ℕ)
+        → seen_token result ≡ told_token value_kind (reading.fraction_read sign whole fraction s.now) }
 {
     if is_power(first(s)) {
         let rest = past_exponent(s)?;
@@ -116,7 +117,8 @@ fn behind_fraction(s: &[u8]) -> Option<(MarkKind, &[u8])>
 /// The kind of a number, and what follows it, from behind its whole part on.
 #[tactic(auto, unfolding(crate::specs::ReadingNumbers::whole_read))]
 fn behind_whole(s: &[u8]) -> Option<(MarkKind, &[u8])>
-    ensures { (sign : Sign) (whole : List ℕ) → seen_token result ≡ told_token value_kind (reading.whole_read sign whole s.now) }
+    ensures { (sign : Sign) (whole : List ℕ)
+        → seen_token result ≡ told_token value_kind (reading.whole_read sign whole s.now) }
 {
     if first(s) == b'.' {
         let behind = past_digits(skip(s, 1), Class::Decimal)?;
@@ -154,7 +156,8 @@ fn past_decimal(s: &[u8]) -> Option<(MarkKind, &[u8])>
 /// The kind of an integer with a prefix, and what follows it, from behind the prefix on.
 #[tactic(auto, unfolding(crate::specs::ReadingNumbers::based_at))]
 fn past_based(s: &[u8], class: Class) -> Option<(MarkKind, &[u8])>
-    ensures { (base : Base) → class_test class ≡ numbers.base_digit base → seen_token result ≡ told_token value_kind (reading.based_at base s.now) }
+    ensures { (base : Base) → class_test class ≡ numbers.base_digit base
+        → seen_token result ≡ told_token value_kind (reading.based_at base s.now) }
 {
     let rest = past_digits(s, class)?;
     Some((MarkKind::Integer, rest))

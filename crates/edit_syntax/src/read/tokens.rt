@@ -106,7 +106,8 @@ pub(crate) fn past_part(s: &[u8]) -> Option<(MarkKind, &[u8])>
 
 /// Whether these four bytes come next.
 fn starts(s: &[u8], word: [u8; 4]) -> bool
-    ensures { result ≡ reading.starts (slice_index word 0) (slice_index word 1) (slice_index word 2) (slice_index word 3) s.now }
+    ensures { result ≡ reading.starts (slice_index word 0) (slice_index word 1) (slice_index word 2)
+        (slice_index word 3) s.now }
 {
     first(s) == word[0]
         && byte_at(s, 1) == word[1]

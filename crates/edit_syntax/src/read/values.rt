@@ -108,7 +108,8 @@ fn members<'a>(
     count: usize,
 ) -> Result<&'a [u8], ReadError>
     requires { depth < 1000 }
-    ensures { Notes inner_marks out.old out.new result (reading.members_at (reading.value_at depth) count s.now) }
+    ensures { Notes inner_marks out.old out.new result
+        (reading.members_at (reading.value_at depth) count s.now) }
 {
     let mut rest = s;
     'members: for _member in 0..count {
@@ -140,7 +141,8 @@ fn elements<'a>(
     count: usize,
 ) -> Result<&'a [u8], ReadError>
     requires { depth < 1000 }
-    ensures { Notes array_marks out.old out.new result (reading.elements_at (reading.value_at depth) count s.now) }
+    ensures { Notes array_marks out.old out.new result
+        (reading.elements_at (reading.value_at depth) count s.now) }
 {
     let mut rest = s;
     'elements: for _element in 0..count {

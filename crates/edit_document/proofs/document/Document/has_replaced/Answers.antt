@@ -1,6 +1,6 @@
 use Rattle.edit_document.specs.Items.{place_seen}
 use Rattle.edit_document.specs.NewItemViews.{item_seen}
-use Rattle.edit_document.proofs.ShownItems.{replaced_there, replaced_nowhere}
+use Rattle.edit_document.proofs.ReplacedEntries.{replaced_there, replaced_nowhere}
 use Rattle.edit_document.proofs.document.Document.has_replaced.Goals as goal
 
 pub returns-in-Some : goal.returns-in-Some

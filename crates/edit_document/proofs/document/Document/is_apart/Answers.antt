@@ -2,7 +2,7 @@ use Rattle.std.proofs.Common.{sym, ap, subst}
 use Rattle.edit_document.specs.Assertions.{assertions}
 use Rattle.edit_document.specs.Items.{place_numbered, viewed}
 use Rattle.edit_document.specs.Compared.{AreApart}
-use Rattle.edit_document.proofs.ShownItems.{apart_view}
+use Rattle.edit_document.proofs.ApartViews.{apart_view}
 use Rattle.edit_document.proofs.document.Document.is_apart.Goals as goal
 
 pub returns : goal.returns
