@@ -1,39 +1,24 @@
 -- A value set at a place: the bytes that are written.
-use Rattle.std.proofs.Common.{◌≡◌, ℕ, ◌-◌, Bool, true, false, ◌&&◌, ◌||◌, cond, List, [], ◌∷◌, ◌++◌, length, take, drop, Option, None, Some, option_map, refl, sym, ap, ap₂, ◌∙◌, subst, true≢false, append_assoc, append-nil, length-append, arith}
+use Rattle.std.proofs.Common.{◌≡◌, ℕ, ◌-◌, Bool, true, false, cond, List, [], ◌∷◌, ◌++◌, length, take, drop, Option, None, Some, option_map, refl, sym, ap, ap₂, ◌∙◌, subst, true≢false, append_assoc, length-append, arith}
 use Rattle.std.proofs.Math.Seq.{take-append_seam, drop-append_seam}
 use Rattle.std.specs.List.{filter_map, cons_option}
 use Rattle.edit_syntax.specs.Grammar.{value, Text, text}
 use Rattle.edit_syntax.proofs.Cases.{by_test}
 use Rattle.edit_syntax.proofs.ValueEdges.{value_rest}
-use Rattle.edit_document.specs.Assertions.{Place, Step, same_step, same_place, leaf, assertions, NoClash, IsDocument}
+use Rattle.edit_document.specs.Assertions.{Place, same_place, IsDocument}
 use Rattle.edit_document.specs.EditBytes.{Splice, first_of, first_made, set_text}
-use Rattle.edit_document.specs.EditBytes.{is_within as is_inside}
-use Rattle.edit_document.specs.Literals.{literal_of}
-use Rattle.edit_document.specs.Meant.{Tree, HasSet, new_view}
 use Rattle.edit_document.specs.NewItems.{NewValue, new_value}
-use Rattle.edit_document.specs.NewItemViews.{HasRoom}
-use Rattle.edit_document.specs.Replaces.{Writer, new_text, replaced_by, replaced, edited, Swaps, rest, next, is_below}
+use Rattle.edit_document.specs.Replaces.{Writer, replaced_by, edited, Swaps, rest, next}
 use Rattle.edit_document.specs.Splices.{Range, ranges_of}
-use Rattle.edit_document.specs.Supported.{IsManifest}
-use Rattle.edit_document.specs.Tree.{view_at, view_of_kind, kind_at, is_value_at}
+use Rattle.edit_document.specs.Tree.{is_value_at}
 use Rattle.edit_document.specs.Written.{Valued, values, start_of, end_of, IsWrittenAt}
 use Rattle.edit_document.proofs.LocatedEdits.{first_of_distinct}
-use Rattle.edit_document.proofs.NewValues.{new_is_value, new_under, new_flat, new_short, new_apart, new_shows, new_shows_below}
-use Rattle.edit_document.proofs.NothingBelow.{shut_below, rooted}
-use Rattle.edit_document.proofs.Parts.{has_kind}
 use Rattle.edit_document.proofs.ReplacedStrings.{told_value, one_apart}
-use Rattle.edit_document.proofs.ReplacedTree.{formed_lines, thinned, replaced_document, no_root}
 use Rattle.edit_document.proofs.ReplacementLaws.{one_range}
-use Rattle.edit_document.proofs.SamePlace.{same_step_self, same_place_self, same_place_is}
-use Rattle.edit_document.proofs.SamePlaces.{is_within, below_within}
-use Rattle.edit_document.proofs.Shallow.{one_form}
+use Rattle.edit_document.proofs.SamePlace.{same_place_self, same_place_is}
 use Rattle.edit_document.proofs.SortedRanges.{ranges_are}
 use Rattle.edit_document.proofs.SwappedTexts.{apart_none, replaced_swaps, edit_of}
-use Rattle.edit_document.proofs.ThinnedViews.{thin_view, thin_literal}
-use Rattle.edit_syntax.proofs.Members.{among_contained}
-use Rattle.edit_document.proofs.UniqueValues.{value_listed}
-use Rattle.edit_document.proofs.WidenedForms.{one, turned, Widened, widened}
-use Rattle.edit_document.proofs.WidenedViews.{IsFree, none_free, self_far, widened_short, widened_apart, widened_here, widened_below, widened_else}
+use Rattle.edit_document.proofs.WidenedForms.{one, turned}
 
 -- the form with the value at the place
 abbrev pub form_set : Place → NewValue → Text → Text
