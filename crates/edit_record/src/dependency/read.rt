@@ -195,11 +195,11 @@ fn table_record(alloc: Global, root: &str, dep: &str, table: Item<'_>) -> CargoR
 impl Dependency {
     /// The record of an entry of a dependency table under its key, with its path meant from this folder on.
     ///
-    /// A string is the version in a registry. Else the entry is a table or an inline table (25
-    /// UnknownEntry). `package` gives the name, and the key is then the other name. The first of `git`,
-    /// `path`, `version` and `workspace` gives the source (22 WorkspaceFalse, 23 UnknownSource). Then come
-    /// `registry`, `default_features` (24 OldDefaultFeatures) and `features`. A member of a wrong type is
-    /// refused (21 InvalidType), but for `default-features` and `optional`, which count only as booleans.
+    /// A string is the version in a registry. Else it is a table or an inline table (25 UnknownEntry).
+    /// `package` gives the name, and the key is then the other name. The first of `git`, `path`, `version`
+    /// and `workspace` gives the source (22 WorkspaceFalse, 23 UnknownSource). Then come `registry`,
+    /// `default_features` (24 OldDefaultFeatures) and `features`. A member of a wrong type is refused
+    /// (21 InvalidType), but for `default-features` and `optional`, which count only as booleans.
     pub fn from_toml(
         alloc: Global,
         crate_root: &str,
