@@ -19,6 +19,8 @@ pub mod Statements
 pub mod EditBytes
 pub mod RemovedBytes
 pub mod Meant
+pub mod Entries
+pub mod Standings
 pub use Rattle.edit_base.specs.Errors
 pub use Rattle.edit_base.specs.Paths
 pub use Rattle.edit_syntax.specs.Characters

@@ -5,6 +5,7 @@ mod assertions;
 pub mod document;
 pub mod item;
 mod literal;
+mod locate;
 mod nodes;
 pub mod place;
 mod replace;
