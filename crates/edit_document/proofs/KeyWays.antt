@@ -10,7 +10,7 @@ use Rattle.edit_syntax.specs.Characters.{is_blank, All}
 use Rattle.edit_syntax.specs.Strings.{Part, bare, basic_part, literal_part, part, IsPart, name, Dotted, dotted, Key, IsKey}
 use Rattle.edit_syntax.specs.Strings as strings
 use Rattle.edit_syntax.specs.Marks.{part_kind, part_mark, dotted_marks, key_marks}
-use Rattle.edit_document.specs.declared.locate.Way.{Way}
+use Rattle.edit_document.specs.declared.way.Way.{Way}
 use Rattle.edit_document.specs.Assertions.{key, Place, at, same_place, Assertion, names, named, resolved, header_place}
 use Rattle.edit_document.specs.EditBytes.{as_it_is}
 use Rattle.edit_document.specs.Statements.{Named, dotted_parts, parts, front_parts, behind_part}

@@ -4,8 +4,8 @@ use Rattle.std.specs.Prelude.{slice_index}
 use Rattle.std.proofs.lemmas.List.{length-set}
 use Rattle.edit_syntax.specs.declared.read.marks.Mark.{Mark}
 use Rattle.edit_syntax.specs.Grammar.{Statement, pair, header, element_header}
-use Rattle.edit_document.specs.declared.locate.Way.{Way}
-use Rattle.edit_document.specs.declared.locate.Way.TheVariants.{On, Below, Off}
+use Rattle.edit_document.specs.declared.way.Way.{Way}
+use Rattle.edit_document.specs.declared.way.Way.TheVariants.{On, Below, Off}
 use Rattle.edit_document.specs.declared.locate.Entry.{Entry}
 use Rattle.edit_document.specs.declared.locate.Spots.{Spots}
 use Rattle.edit_document.specs.declared.locate.Standing.{Standing}

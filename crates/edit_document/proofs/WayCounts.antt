@@ -5,8 +5,8 @@ use Rattle.std.proofs.lemmas.List.{append-nil, get_or-set_same, get_or-set_other
 use Rattle.std.proofs.lemmas.Bool.Decides.{eqb_tells}
 use Rattle.edit_syntax.specs.Strings.{Key}
 use Rattle.edit_syntax.specs.Grammar.{Value, pair, header, element_header}
-use Rattle.edit_document.specs.declared.locate.Way.{Way}
-use Rattle.edit_document.specs.declared.locate.Way.TheVariants.{On, Below, Off}
+use Rattle.edit_document.specs.declared.way.Way.{Way}
+use Rattle.edit_document.specs.declared.way.Way.TheVariants.{On, Below, Off}
 use Rattle.edit_document.specs.Assertions.{index, Place, at, header_kind, array_kind, element_kind, Assertion, asserts, names, named, of_key, of_value, is_array_at, elements_at, fronts, header_place, of_statement}
 use Rattle.edit_document.specs.Entries.{way_on, way, counted, Counts}
 use Rattle.edit_document.proofs.SamePlace.{same_step_self, same_place_self, other_place}

@@ -3,8 +3,8 @@ use Rattle.std.specs.Prelude.{◌≡◌, ◌≤◌, ℕ, ◌+◌, ◌-◌, Bool,
 use Rattle.edit_syntax.specs.Characters.{equals, right_bracket}
 use Rattle.edit_syntax.specs.Strings.{◌·◌, Key, key}
 use Rattle.edit_syntax.specs.Grammar.{value, Statement, pair, header, element_header}
-use Rattle.edit_document.specs.declared.locate.Way.{Way}
-use Rattle.edit_document.specs.declared.locate.Way.TheVariants.{On, Below, Off}
+use Rattle.edit_document.specs.declared.way.Way.{Way}
+use Rattle.edit_document.specs.declared.way.Way.TheVariants.{On, Below, Off}
 use Rattle.edit_document.specs.declared.locate.Entry.{Entry}
 use Rattle.edit_syntax.specs.declared.read.marks.Mark.{Mark}
 use Rattle.edit_syntax.specs.declared.read.marks.MarkKind.{MarkKind}

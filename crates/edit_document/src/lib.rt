@@ -10,6 +10,7 @@ mod nodes;
 pub mod place;
 mod replace;
 mod walk;
+mod way;
 mod words;
 
 pub use document::Document;

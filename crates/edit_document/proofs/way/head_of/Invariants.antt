@@ -1,6 +1,6 @@
 use Rattle.std.proofs.Common.{◌≡◌, drop}
 use Rattle.edit_document.specs.Entries.{head_of}
-use Rattle.edit_document.proofs.locate.head_of.Given as goal
+use Rattle.edit_document.proofs.way.head_of.Given as goal
 
 -- the marks so far are those of parts of a key
 abbrev pub invariant-marks : goal.invariant-marks

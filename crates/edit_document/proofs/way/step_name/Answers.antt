@@ -1,7 +1,7 @@
 use Rattle.std.proofs.Common.{sym, ◌∙◌}
 use Rattle.std.proofs.lemmas.Slice.Eq.{bytes_eq-Decides}
 use Rattle.edit_document.proofs.Ways.{name_on, name_off, index_off}
-use Rattle.edit_document.proofs.locate.step_name.Goals as goal
+use Rattle.edit_document.proofs.way.step_name.Goals as goal
 
 pub returns-then-eq : goal.returns-then-eq
 returns-then-eq c =

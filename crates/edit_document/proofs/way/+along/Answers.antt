@@ -2,7 +2,7 @@ use Rattle.std.proofs.Common.{true, false, sym, ◌∙◌}
 use Rattle.edit_syntax.specs.declared.read.marks.MarkKind.TheVariants as kinds
 use Rattle.edit_document.specs.Items.{place_seen}
 use Rattle.edit_document.proofs.KeyWays.{says_first, last_way, more_way}
-use Rattle.edit_document.proofs.locate.+along.Goals as goal
+use Rattle.edit_document.proofs.way.+along.Goals as goal
 
 pub returns-then-not-begins_part-clause-goes : goal.returns-then-not-begins_part-clause-goes
 returns-then-not-begins_part-clause-goes t c table resolve n ns h follows begins =
