@@ -13,7 +13,7 @@ IsEven made = (p : Place) → elements_at made p ≡ elements_below made p
 
 -- ---- one assertion more
 
-arrays_more : (made : List Assertion) (a : Assertion) (p : Place) (b : Bool) → is_array_at p a ≡ b → elements_at (made ++ a ∷ []) p ≡ cond b (suc (elements_at made p)) (elements_at made p)
+pub arrays_more : (made : List Assertion) (a : Assertion) (p : Place) (b : Bool) → is_array_at p a ≡ b → elements_at (made ++ a ∷ []) p ≡ cond b (suc (elements_at made p)) (elements_at made p)
 arrays_more [] a p b e = ap (λ (x : Bool). cond x 1 0) e
 arrays_more (c ∷ made) a p b e = go (is_array_at p c) b (arrays_more made a p b e)
   where
@@ -24,7 +24,7 @@ arrays_more (c ∷ made) a p b e = go (is_array_at p c) b (arrays_more made a p 
     go false true ih = ih
     go false false ih = ih
 
-arrays_stay : (made : List Assertion) (a : Assertion) (p : Place) → is_array a.kind ≡ false → elements_at (made ++ a ∷ []) p ≡ elements_at made p
+pub arrays_stay : (made : List Assertion) (a : Assertion) (p : Place) → is_array a.kind ≡ false → elements_at (made ++ a ∷ []) p ≡ elements_at made p
 arrays_stay made a p e = arrays_more made a p false (ap (λ (b : Bool). b && same_place a.place p) e)
 
 -- neither an array nor an element
@@ -33,7 +33,7 @@ is_plain array_kind = false
 is_plain element_kind = false
 is_plain _ = true
 
-plain_array : (k : Kind) → is_plain k ≡ true → is_array k ≡ false
+pub plain_array : (k : Kind) → is_plain k ≡ true → is_array k ≡ false
 plain_array (dotted b) e = refl
 plain_array (leaf v) e = refl
 plain_array super e = refl
@@ -62,7 +62,7 @@ even_plain made (a ∷ more) e h =
     let one : IsEven (made ++ a ∷ []) = λ p. arrays_stay made a p (plain_array a.kind h.0) ∙ e p ∙ sym (elements_stay made a p (plain_element a.kind h.0)) in
     subst IsEven (append_assoc made (a ∷ []) more) (even_plain (made ++ a ∷ []) more one h.1)
 
-plain_both : (xs ys : List Assertion) → ArePlain xs → ArePlain ys → ArePlain (xs ++ ys)
+pub plain_both : (xs ys : List Assertion) → ArePlain xs → ArePlain ys → ArePlain (xs ++ ys)
 plain_both [] ys h g = g
 plain_both (x ∷ xs) ys h g = (h.0, plain_both xs ys h.1 g)
 
@@ -123,13 +123,13 @@ arrays_alone (a ∷ made) p h = go (same_place a.place p) refl (arrays_alone mad
 
 -- ---- what values and headers assert
 
-plain_key : (within : Bool) (by p : Place) (ns : List (List ℕ)) (v : Value) → ArePlain (of_key within by p ns v)
+pub plain_key : (within : Bool) (by p : Place) (ns : List (List ℕ)) (v : Value) → ArePlain (of_key within by p ns v)
 plain_key within by p [] v = tt
 plain_key within by p (n ∷ []) v = (refl, tt)
 plain_key within by p (n ∷ m ∷ ns) v = (refl, plain_key within by (at p (key n)) (m ∷ ns) v)
 
 mutual
-  plain_value : (p : Place) (v : Value) → ArePlain (of_value p v)
+  pub plain_value : (p : Place) (v : Value) → ArePlain (of_value p v)
   plain_value p (basic ps) = tt
   plain_value p (literal t) = tt
   plain_value p (multi_basic ps) = tt
@@ -155,7 +155,7 @@ mutual
       let q = named p (names k) in
       plain_both (of_key true q p (names k) v ++ of_value q v) (of_members p ms) (plain_both (of_key true q p (names k) v) (of_value q v) (plain_key true q p (names k) v) (plain_value q v)) (plain_members p ms)
 
-plain_fronts : (earlier : List Assertion) (by p : Place) (ns : List (List ℕ)) → ArePlain (fronts earlier by p ns)
+pub plain_fronts : (earlier : List Assertion) (by p : Place) (ns : List (List ℕ)) → ArePlain (fronts earlier by p ns)
 plain_fronts earlier by p [] = tt
 plain_fronts earlier by p (n ∷ []) = tt
 plain_fronts earlier by p (n ∷ m ∷ ns) = (refl, plain_fronts earlier by (resolved earlier (at p (key n))) (m ∷ ns))

@@ -38,7 +38,7 @@ pub record Read (bytes : List ℕ) (form : Text) : Type 0 where
 pub read_of : (bytes : List ℕ) (form : Text) → IsManifest bytes form → IsUtf8 bytes → Read bytes form
 read_of bytes form m u = record { spells = m.document.grammar; utf8 = u }
 
-ends_all : (bytes : List ℕ) (form : Text) → Read bytes form → Ends bytes (lines form.lines)
+pub ends_all : (bytes : List ℕ) (form : Text) → Read bytes form → Ends bytes (lines form.lines)
 ends_all bytes form r = behind form.marked (lines form.lines) r.spells.spelled
   where
     behind : (b : Bool) (rest : List ℕ) → bytes ≡ byte_order_mark b rest → Ends bytes rest

@@ -14,35 +14,35 @@ a_string_entry = refl
 -- an optional one
 pub an_optional_entry : value
     (item_value (a_table false ((codes "version", a_string (codes "1.0")) ∷
-        (codes "optional", a_truth true) ∷ []))) [] ≡
+    (codes "optional", a_truth true) ∷ []))) [] ≡
     (codes "{ version = \"1.0\", optional = true }")
 an_optional_entry = refl
 
 -- one without default features
 pub an_entry_without_defaults : value
     (item_value (a_table false ((codes "version", a_string (codes "1.0")) ∷
-        (codes "default-features", a_truth false) ∷ []))) [] ≡
+    (codes "default-features", a_truth false) ∷ []))) [] ≡
     (codes "{ version = \"1.0\", default-features = false }")
 an_entry_without_defaults = refl
 
 -- a renamed one
 pub a_renamed_entry : value
     (item_value (a_table false ((codes "version", a_string (codes "1.0")) ∷
-        (codes "package", a_string (codes "dep")) ∷ []))) [] ≡
+    (codes "package", a_string (codes "dep")) ∷ []))) [] ≡
     (codes "{ version = \"1.0\", package = \"dep\" }")
 a_renamed_entry = refl
 
 -- one of another registry
 pub an_entry_of_a_registry : value
     (item_value (a_table false ((codes "version", a_string (codes "1.0")) ∷
-        (codes "registry", a_string (codes "alternative")) ∷ []))) [] ≡
+    (codes "registry", a_string (codes "alternative")) ∷ []))) [] ≡
     (codes "{ version = \"1.0\", registry = \"alternative\" }")
 an_entry_of_a_registry = refl
 
 -- three members
 pub a_renamed_entry_without_defaults : value
     (item_value (a_table false ((codes "version", a_string (codes "1.0")) ∷
-        (codes "package", a_string (codes "dep")) ∷ (codes "default-features", a_truth false) ∷ []))) [] ≡
+    (codes "package", a_string (codes "dep")) ∷ (codes "default-features", a_truth false) ∷ []))) [] ≡
     (codes "{ version = \"1.0\", package = \"dep\", default-features = false }")
 a_renamed_entry_without_defaults = refl
 
@@ -194,7 +194,7 @@ a_quoted_key = inserts (codes "[a]\n") (key (codes "a") ∷ []) (codes "b \"c\""
 
 -- an empty key, and an empty list
 pub an_empty_key : Inserts (codes "[a]\n") (key (codes "a") ∷
-        []) [] (a_list ([])) (codes "[a]\n\"\" = []\n")
+    []) [] (a_list ([])) (codes "[a]\n\"\" = []\n")
 unfolding on_texts
 an_empty_key = inserts (codes "[a]\n") (key (codes "a") ∷ []) [] (a_list ([]))
     (codes "[a]\n\"\" = []\n") refl

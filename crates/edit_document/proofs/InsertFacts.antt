@@ -22,7 +22,7 @@ into_a_tight_inline_table = inserts (codes "x={a=1}") (key (codes "x") ∷ []) (
 
 -- an empty inline table: the white space in its braces gives way
 pub into_an_empty_inline_table : Inserts (codes "x = {  }") (key (codes "x") ∷
-        []) (codes "n") (a_truth true)
+    []) (codes "n") (a_truth true)
     (codes "x = { n = true }")
 unfolding on_texts
 into_an_empty_inline_table = inserts (codes "x = {  }") (key (codes "x") ∷ []) (codes "n") (a_truth true)
@@ -63,7 +63,7 @@ behind_the_last_pair = inserts (codes "[a]\nx = 1 # c\n\n[b]\ny = 2\n") (key (co
 -- the same with CR LF
 pub behind_the_last_pair_of_cr_lf : Inserts (codes "[a]\r\nx = 1 # c\r\n\r\n[a.b]\r\n")
     (key (codes "a") ∷
-        []) (codes "n") (a_truth true) (codes "[a]\r\nx = 1 # c\r\nn = true\r\n\r\n[a.b]\r\n")
+    []) (codes "n") (a_truth true) (codes "[a]\r\nx = 1 # c\r\nn = true\r\n\r\n[a.b]\r\n")
 unfolding on_texts
 behind_the_last_pair_of_cr_lf = inserts (codes "[a]\r\nx = 1 # c\r\n\r\n[a.b]\r\n") (key (codes "a") ∷ [])
     (codes "n") (a_truth true) (codes "[a]\r\nx = 1 # c\r\nn = true\r\n\r\n[a.b]\r\n") refl
@@ -133,7 +133,7 @@ into_the_first_element = inserts (codes "[[a]]\nx = 1\n[[a]]\n[a.b]\n") (key (co
 
 -- the second, which has no pair
 pub into_the_second_element : Inserts (codes "[[a]]\nx = 1\n[[a]]\n[a.b]\n") (key (codes "a") ∷ index 1 ∷
-        [])
+    [])
     (codes "n") (a_truth true) (codes "[[a]]\nx = 1\n[[a]]\nn = true\n[a.b]\n")
 unfolding on_texts
 into_the_second_element = inserts (codes "[[a]]\nx = 1\n[[a]]\n[a.b]\n") (key (codes "a") ∷ index 1 ∷ [])

@@ -24,7 +24,7 @@ a_header_stays = refl
 -- a table made by dotted keys vanishes with its last pair
 pub a_dotted_table_vanishes :
     left_of (codes "a.b.c = 1\na.d = 2\n") (key (codes "a") ∷ key (codes "b") ∷ key (codes "c") ∷ [])
-        (key (codes "a") ∷ key (codes "b") ∷ [])
+    (key (codes "a") ∷ key (codes "b") ∷ [])
     ≡ None
 unfolding on_texts
 a_dotted_table_vanishes = refl
@@ -92,6 +92,6 @@ an_inner_dotted_entry = refl
 -- a member of an entry
 pub an_entry_member :
     item_view false (a_table false ((codes "a", a_truth true) ∷ (codes "b", a_string (codes "c")) ∷ []))
-        (key (codes "b") ∷ [])
+    (key (codes "b") ∷ [])
     ≡ Some (string (codes "c"))
 an_entry_member = refl

@@ -95,3 +95,9 @@ pub mod InsertFacts
 pub mod RemoveFacts
 pub mod OverLinesFacts
 pub mod LeftFacts
+-- Where statements stand
+pub mod Ways
+pub mod KeyWays
+pub mod WayCounts
+pub mod TakenStatements
+pub mod StatedLines

@@ -95,7 +95,7 @@ the_only_element = removes (codes "x = [ 1 ]") (key (codes "x") ∷ index 0 ∷ 
 
 -- an array over lines: the comma and the blanks behind it go, the comment stays
 pub an_element_over_lines : Removes (codes "x = [\n 1, # one\n 2, # two\n]") (key (codes "x") ∷ index 0 ∷
-        [])
+    [])
     (codes "x = [\n # one\n 2, # two\n]")
 unfolding on_texts
 an_element_over_lines = removes (codes "x = [\n 1, # one\n 2, # two\n]") (key (codes "x") ∷ index 0 ∷ [])
@@ -106,7 +106,7 @@ pub a_last_element_over_lines : Removes (codes "x = [\n 1, # one\n 2, # two\n]")
     (key (codes "x") ∷ index 1 ∷ []) (codes "x = [\n 1, # one\n # two\n]")
 unfolding on_texts
 a_last_element_over_lines = removes (codes "x = [\n 1, # one\n 2, # two\n]") (key (codes "x") ∷ index 1 ∷
-        [])
+    [])
     (codes "x = [\n 1, # one\n # two\n]") refl
 
 -- its last element, without a comma behind it

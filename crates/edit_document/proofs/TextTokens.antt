@@ -29,7 +29,7 @@ basic_parts ps rest = ap (λ (t : List ℕ). quote ∷ t) (pieces_rest quote ps 
 
 -- ---- one token
 
-part_token : (bytes : List ℕ) (p : Part) (rest : List ℕ) → IsPart p → IsUtf8 bytes → Ends bytes (part p rest) → IsToken bytes (part_mark p rest)
+pub part_token : (bytes : List ℕ) (p : Part) (rest : List ℕ) → IsPart p → IsUtf8 bytes → Ends bytes (part p rest) → IsToken bytes (part_mark p rest)
 part_token bytes (bare text) rest h u ends e = (text, said_part bytes (bare text) rest h u ends, (ends.0, text, rest, ends.1, refl, refl, (h.0, h.1, refl)))
 part_token bytes (basic_part ps) rest h u ends e =
     (says quote ps, said_part bytes (basic_part ps) rest h u ends, (ends.0, pieces quote ps [], rest, ends.1 ∙ ap (λ (t : List ℕ). ends.0 ++ t) (basic_parts ps rest), ap length (basic_parts ps rest), refl, (ps, h, refl, refl)))

@@ -21,6 +21,8 @@ pub mod EditBytes
 pub mod RemovedBytes
 pub mod Meant
 pub mod Compared
+pub mod Entries
+pub mod Standings
 pub use Rattle.edit_base.specs.Errors
 pub use Rattle.edit_base.specs.Paths
 pub use Rattle.edit_syntax.specs.Characters

@@ -10,6 +10,7 @@ mod edited;
 mod grown;
 pub mod item;
 mod literal;
+mod locate;
 pub mod new_item;
 mod new_shown;
 mod nodes;
@@ -18,6 +19,7 @@ mod replace;
 mod set_value;
 mod unordered;
 mod walk;
+mod way;
 mod words;
 
 pub use document::Document;
