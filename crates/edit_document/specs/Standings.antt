@@ -12,7 +12,8 @@ use Rattle.edit_document.specs.Statements.{Stated, parts}
 use Rattle.edit_document.specs.Entries.{way, Counts, head_of, AreParts, key_of}
 
 -- behind these assertions and under this header
-pub record StandsTo (target : Place) (earlier : List Assertion) (prefix : Place) (standing : Standing) : Type 0 where
+pub record StandsTo (target : Place) (earlier : List Assertion) (prefix : Place)
+    (standing : Standing) : Type 0 where
   pub under : standing.prefix ≡ way target prefix
   pub size : length standing.counts.items ≡ suc (length target)
   pub counts : Counts target earlier standing.counts.items

@@ -125,7 +125,8 @@ impl Standing {
         marks: &[Mark],
         spots: Spots,
     ) -> CargoResult<Entry>
-        ensures taken { (s : Stated) → is_table_header s.statement ≡ true → IsTaken text.now marks.now s spots
+        ensures taken { (s : Stated) → is_table_header s.statement ≡ true
+            → IsTaken text.now marks.now s spots
             → StandsTo (place_seen place.now) s.earlier s.prefix self.old
             → IfOk result (λ e. (e ≡ entries_seen.entry_of (place_seen place.now) s)
             × StandsTo (place_seen place.now) (s.earlier ++ of_statement s.earlier s.prefix s.statement)
@@ -155,7 +156,8 @@ impl Standing {
         marks: &[Mark],
         spots: Spots,
     ) -> CargoResult<Entry>
-        ensures taken { (s : Stated) → is_element_header s.statement ≡ true → IsTaken text.now marks.now s spots
+        ensures taken { (s : Stated) → is_element_header s.statement ≡ true
+            → IsTaken text.now marks.now s spots
             → StandsTo (place_seen place.now) s.earlier s.prefix self.old
             → IfOk result (λ e. (e ≡ entries_seen.entry_of (place_seen place.now) s)
             × StandsTo (place_seen place.now) (s.earlier ++ of_statement s.earlier s.prefix s.statement)

@@ -14,7 +14,8 @@ use edit_base::errors::CargoResult;
 use edit_syntax::{Mark, MarkKind};
 use std::alloc::Global;
 
-/// How a place stands to one that is looked for: on the way to it by so many steps, below it, or off the way.
+/// How a place stands to one that is looked for: on the way
+/// to it by so many steps, below it, or off the way.
 #[derive(Clone, Copy, Debug, PartialEq, Eq)]
 pub(crate) enum Way {
     On(usize),
