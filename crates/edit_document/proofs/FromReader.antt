@@ -35,7 +35,7 @@ IsNone bytes = (form : Text) → IsDocument bytes form → ⊥
 -- ---- the form
 
 -- what is read is in the grammar
-form_spells : (bytes : List ℕ) (form : Text) → form_of bytes ≡ Some form → Spells bytes form
+pub form_spells : (bytes : List ℕ) (form : Text) → form_of bytes ≡ Some form → Spells bytes form
 unfolding read_text
 form_spells bytes form e = go (lines_at 80 (length (past_mark bytes) + 1) (past_mark bytes)) refl
   where

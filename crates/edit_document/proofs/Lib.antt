@@ -65,3 +65,9 @@ pub mod StandardKeys
 pub mod StandardValues
 pub mod StandardTables
 pub mod StandardInline
+pub mod EditFacts
+pub mod EntryFacts
+pub mod InsertFacts
+pub mod RemoveFacts
+pub mod OverLinesFacts
+pub mod LeftFacts

@@ -14,6 +14,11 @@ pub mod ItemViews
 pub mod Walk
 pub mod WalkState
 pub mod Ranges
+pub mod NewItems
+pub mod Statements
+pub mod EditBytes
+pub mod RemovedBytes
+pub mod Meant
 pub use Rattle.edit_base.specs.Errors
 pub use Rattle.edit_base.specs.Paths
 pub use Rattle.edit_syntax.specs.Characters
