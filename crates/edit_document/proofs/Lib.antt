@@ -41,6 +41,7 @@ pub mod Documents
 -- Values replaced by literals
 pub mod LiteralLaws
 pub mod LiteralBytes
+pub mod NewItemTexts
 pub mod ThinnedForms
 pub mod ThinnedLines
 pub mod ThinnedViews

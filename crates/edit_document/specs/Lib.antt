@@ -15,6 +15,7 @@ pub mod Walk
 pub mod WalkState
 pub mod Ranges
 pub mod NewItems
+pub mod NewItemViews
 pub mod Statements
 pub mod EditBytes
 pub mod RemovedBytes

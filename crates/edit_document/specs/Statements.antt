@@ -24,8 +24,13 @@ pub record Stated : Type 0 where
 -- a statement with the white space before it, the text behind it, from its line's end, and from the next line
 abbrev pub stated_line : List Assertion → Place → List ℕ → Statement → List ℕ → List ℕ → List ℕ → Stated
 stated_line earlier prefix a s behind after next = record {
-  prefix = prefix; earlier = earlier; statement = s;
-  line = a · statement s behind; behind = behind; after = after; next = next;
+  prefix = prefix;
+  earlier = earlier;
+  statement = s;
+  line = a · statement s behind;
+  behind = behind;
+  after = after;
+  next = next;
 }
 
 -- the statements of lines, behind these assertions and under this header

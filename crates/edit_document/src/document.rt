@@ -2,6 +2,7 @@
 ghost use Rattle.std.specs.Prelude.{◌≡◌, Some, None, ◌<◌, [], ◌++◌, IfOk, IfErr, MatchResult, string_bytes, length, map, slice_get, option_map};
 ghost use Rattle.edit_document.specs.Assertions.{Place, at, key as key_step, index as index_step};
 ghost use Rattle.edit_base.specs.Errors.{IsMemory};
+ghost use Rattle.edit_document.specs.DocumentLayout.{shown_by};
 ghost use Rattle.edit_document.specs.ItemViews.{Finds};
 ghost use Rattle.edit_syntax.specs.Grammar.{Text};
 ghost use Rattle.edit_document.specs.Shown.{tree_of, ShowsTree};
@@ -229,6 +230,25 @@ impl Document {
             Some(number) => Some(Item::new(self, number)),
             None => None,
         }
+    }
+
+    /// What a document shows follows from its text.
+    fn shows_text(&self)
+        ensures { self.now ≡ shown_by self.now.bytes }
+    {
+        let _nodes = &self.nodes;
+    }
+
+    /// A document of the same text, which shows the same.
+    pub fn try_clone(&self, alloc: Global) -> CargoResult<Document>
+        ensures same { IfOk result (λ d. d ≡ self.now) }
+        ensures refused { IfErr result IsMemory }
+    {
+        self.has_form();
+        self.shows_text();
+        let copy = Document::read(alloc, self.as_str())?;
+        copy.shows_text();
+        Ok(copy)
     }
 
     /// The text, as it was read.

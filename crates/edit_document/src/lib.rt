@@ -5,6 +5,7 @@ mod assertions;
 pub mod document;
 pub mod item;
 mod literal;
+pub mod new_item;
 mod nodes;
 pub mod place;
 mod replace;
@@ -16,4 +17,5 @@ pub use edit_base::{
     CargoResult, DeviceCall, Error, MergedCommand, MissingKind, MissingNames, errors, paths,
 };
 pub use item::{Item, Keys};
+pub use new_item::{NewItem, NewValue};
 pub use place::{Place, Step};

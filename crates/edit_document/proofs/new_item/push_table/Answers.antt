@@ -1,0 +1,16 @@
+use Rattle.std.proofs.Common.{◌∙◌, [], string_bytes, arith}
+use Rattle.edit_document.specs.NewItems.{new_pair}
+use Rattle.edit_document.specs.NewItemViews.{value_seen}
+use Rattle.edit_document.proofs.NewItemTexts.{joined_more, table_done, on_appended}
+use Rattle.edit_document.proofs.new_item.push_table.Goals as goal
+
+pub others-preserved : goal.others-preserved
+others-preserved c =
+    joined_more (λ m. new_pair (string_bytes m.0) (value_seen m.1) []) _ c.others.member-index c.member-item.result _ _ _ _ c.others-test.true
+    c.member-item.is c.others.invariant c.in_ok-push_str-2.ensures.bytes (c.in_ok-push_pair-2.ensures {u = tt})
+
+pub returns : goal.returns
+returns c =
+    on_appended c.push_str-3.result _ _ _ c.push_str-3.ensures.bytes
+    (λ last. last ∙ table_done (λ m. (string_bytes m.0, value_seen m.1)) c.args.members.now c.first-item.result c.others.member-index (string_bytes c.args.out.now) _ _ _ (omega arith)
+    c.first-item.is c.others-test.false c.in_ok-push_str.ensures.bytes (c.in_ok-push_pair.ensures {u = tt}) c.others.invariant)

@@ -1,0 +1,9 @@
+use Rattle.std.proofs.Common.{◌≡◌, ◌++◌, [], string_bytes, take}
+use Rattle.edit_document.specs.NewItems.{new_pair}
+use Rattle.edit_document.specs.NewItemViews.{value_seen}
+use Rattle.edit_document.proofs.NewItemTexts.{joined}
+use Rattle.edit_document.proofs.new_item.push_table.Given as goal
+
+abbrev pub invariant-others : goal.invariant-others
+invariant-others l = string_bytes l.out
+    ≡ string_bytes l.initial.out ++ joined (λ m. new_pair (string_bytes m.0) (value_seen m.1) []) (take l.member-index l.others)

@@ -1,0 +1,38 @@
+-- What a contract sees of the new values and entries of the code.
+use Rattle.std.specs.Prelude.{ℕ, Bool, false, List, [], map, string_bytes}
+use Rattle.std.specs.declared.string.String.{String}
+use Rattle.std.specs.declared.alloc.Global.{Global}
+use Rattle.edit_document.specs.declared.new_item.NewValue.{NewValue as WrittenValue}
+use Rattle.edit_document.specs.declared.new_item.NewValue.TheVariants.{Str, Bool as Truth, Strings}
+use Rattle.edit_document.specs.declared.new_item.NewItem.{NewItem as WrittenItem}
+use Rattle.edit_document.specs.declared.new_item.NewItem.TheVariants.{Value, Inline}
+use Rattle.edit_document.specs.NewItems.{NewValue, a_string, a_truth, a_list, NewItem, a_value, a_table, item_value}
+use Rattle.edit_syntax.specs.Grammar.{value}
+
+-- a new value of the code
+abbrev pub value_seen : WrittenValue → NewValue
+value_seen (Str s) = a_string (string_bytes s)
+value_seen (Truth b) = a_truth b
+value_seen (Strings v) = a_list (map string_bytes v.items)
+
+-- a name of the code with a new value
+abbrev pub pair_seen : String Global × WrittenValue → List ℕ × NewValue
+pair_seen m = (string_bytes m.0, value_seen m.1)
+
+-- names of the code, each with a new value
+abbrev pub pairs_seen : List (String Global × WrittenValue) → List (List ℕ × NewValue)
+pairs_seen members = map pair_seen members
+
+-- a new entry of the code
+abbrev pub item_seen : WrittenItem → NewItem
+item_seen (Value v) = a_value (value_seen v)
+item_seen (Inline members dotted) = a_table dotted (pairs_seen members.items)
+
+-- the text of an entry, which may stand behind a key and an equals sign
+abbrev pub item_text : NewItem → List ℕ
+item_text item = value (item_value item) []
+
+-- it is written by a dotted key
+abbrev pub is_dotted : NewItem → Bool
+is_dotted (a_value v) = false
+is_dotted (a_table by_dots ms) = by_dots
