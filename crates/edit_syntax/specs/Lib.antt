@@ -11,3 +11,4 @@ pub mod ReadingNumbers
 pub mod Reading
 pub mod Noting
 pub mod Decoding
+pub mod Steps

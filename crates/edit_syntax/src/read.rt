@@ -9,11 +9,12 @@ ghost use Rattle.edit_syntax.specs.Marks.{text_marks, IsReadRefusal};
 mod bytes;
 mod dates;
 pub mod decode;
-mod gaps;
+pub mod gaps;
 mod lines;
 pub mod marks;
 mod multi;
 mod numbers;
+pub mod steps;
 mod tokens;
 mod values;
 
