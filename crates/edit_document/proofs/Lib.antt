@@ -72,3 +72,7 @@ pub mod InsertFacts
 pub mod RemoveFacts
 pub mod OverLinesFacts
 pub mod LeftFacts
+pub mod SlotLaws
+pub mod SlotTurns
+pub mod SlotKeys
+pub mod SlotSteps

@@ -3,6 +3,7 @@
 
 mod assertions;
 pub mod document;
+mod inside;
 pub mod item;
 mod literal;
 pub mod new_item;
