@@ -19,7 +19,8 @@ abbrev pub Ends : List ℕ → List ℕ → Type 0
 Ends text s = (front : List ℕ) × (text ≡ front ++ s)
 
 -- an element or a member at the front of the end of a text, with the gap behind it, up to what ends it
-pub record StandsAt (text s : List ℕ) (is_table : Bool) (it : Slot) (c : List Between) (rest : List ℕ) : Type 0 where
+pub record StandsAt (text s : List ℕ) (is_table : Bool) (it : Slot) (c : List Between) (rest : List ℕ)
+    : Type 0 where
   pub valid : IsSlot is_table it
   pub between : IsGap c
   pub ends : ends_item (first rest) ≡ true

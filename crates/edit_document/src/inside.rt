@@ -49,9 +49,9 @@ fn before<'a>(from: &'a [u8], to: &[u8]) -> &'a [u8]
     &from[..len]
 }
 
-/// What is left of an array or an inline table, as far as its elements or members were read: the bytes up to the
-/// last one that stays, and two ways to go on behind it. Where one more stays, or a comma stands behind the last,
-/// the comma behind it stays; else it goes.
+/// What is left of an array or an inline table, as far as its elements or members were read: the bytes up to
+/// the last one that stays, and two ways to go on behind it. Where one more stays, or a comma stands behind
+/// the last one, the comma behind it stays; else it goes.
 #[derive(Drop)]
 struct Remainder {
     firm: Vec<u8>,
@@ -76,8 +76,10 @@ impl Remainder {
 
     /// An element or a member stays, with the comma behind it if need be.
     fn keep(&mut self, item: &[u8], comma: &[u8]) -> Result<(), AllocError>
-        ensures firm { OnOk result (self.new.firm.items ≡ (self.old.firm.items ++ self.old.with_comma.items) ++ item.now) }
-        ensures rest { OnOk result ((self.new.with_comma.items ≡ comma.now) × (self.new.without_comma.items ≡ [])) }
+        ensures firm { OnOk result (self.new.firm.items
+            ≡ (self.old.firm.items ++ self.old.with_comma.items) ++ item.now) }
+        ensures rest { OnOk result ((self.new.with_comma.items ≡ comma.now)
+            × (self.new.without_comma.items ≡ [])) }
     {
         self.firm.extend_from_slice(self.with_comma.as_slice())?;
         self.firm.extend_from_slice(item)?;
@@ -98,8 +100,8 @@ impl Remainder {
         Ok(())
     }
 
-    /// The element or the member at the front of `rest` goes or stays, where a comma stands at `stop`, behind the
-    /// gap at `after`, and another or the end at `next`.
+    /// The element or the member at the front of `rest` goes or stays, where a comma stands at `stop`, behind
+    /// the gap at `after`, and another or the end at `next`.
     fn take(
         &mut self,
         is_gone: bool,
@@ -123,7 +125,8 @@ impl Remainder {
 
     /// The whole, where the last one goes or stays and no comma stands behind it.
     fn end(self, is_gone: bool, rest: &[u8], after: &[u8]) -> Result<Vec<u8>, AllocError>
-        ensures { IfOk result (λ v. v.items ≡ (if is_gone then (self.firm.items ++ self.without_comma.items) ++ after.now
+        ensures { IfOk result (λ v. v.items ≡ (if is_gone
+            then (self.firm.items ++ self.without_comma.items) ++ after.now
             else (self.firm.items ++ self.with_comma.items) ++ rest.now)) }
     {
         if is_gone {
@@ -221,7 +224,8 @@ fn past_slot<'a>(
     below: &[Step],
 ) -> CargoResult<(bool, &'a [u8])>
     ensures { (it : Slot) (c : List Between) (rest : List ℕ) → StandsAt text.now s.now is_table it c rest
-        → MatchResult result (λ r. (r.0 ≡ goes (place_seen below.now) index it) × (r.1.now ≡ gap c rest)) IsMemory }
+        → MatchResult result (λ r. (r.0 ≡ goes (place_seen below.now) index it)
+            × (r.1.now ≡ gap c rest)) IsMemory }
 {
     if !is_table {
         let rest = past_value(alloc, s)?;
@@ -234,7 +238,8 @@ fn past_slot<'a>(
     Ok((is_gone, rest))
 }
 
-/// The bytes of an array or an inline table without the element at a place below it, or the members that name one.
+/// The bytes of an array or an inline table without the element at a place below it, or the members that name
+/// one.
 fn slots_left(alloc: Global, text: &str, below: &[Step]) -> CargoResult<Vec<u8>>
     ensures { (is_table : Bool) (g : List Between) (ss : Slots) → IsEnclosed is_table g ss text.now
         → MatchResult result (λ v. v.items ≡ enclosed_left is_table (place_seen below.now) g ss) IsMemory }
@@ -260,12 +265,14 @@ fn slots_left(alloc: Global, text: &str, below: &[Step]) -> CargoResult<Vec<u8>>
     Ok(left.with(rest)?)
 }
 
-/// The bytes of the array or the inline table that is written as `text`, where the element or the member at the
-/// place `below` it is removed: with the comma behind it and the white space there, or else with the comma before it.
+/// The bytes of the array or the inline table that is written as `text`, where the element or the member at
+/// the place `below` it is removed: with the comma behind it and the white space there, or else with the comma
+/// before it.
 pub(crate) fn value_without(alloc: Global, text: &str, below: &[Step]) -> CargoResult<Vec<u8>>
     ensures { (place : Place) (v : Value) → IsContainer v → IsValue v → depth v ≤ 80
         → text.now ≡ value_text v []
-        → MatchResult result (λ w. w.items ≡ value_left (place ++ place_seen below.now) place v []) IsMemory }
+        → MatchResult result
+            (λ w. w.items ≡ value_left (place ++ place_seen below.now) place v []) IsMemory }
 {
     slots_left(alloc, text, below)
 }

@@ -46,8 +46,8 @@ pub fn past_value(alloc: Global, s: &[u8]) -> CargoResult<&[u8]>
     }
 }
 
-/// What follows the key at the front, its equals sign and the white space beside it, with the marks of the key's
-/// parts in `out` (TOML 1.0.0, "Keys").
+/// What follows the key at the front, its equals sign and the white space beside it, with the marks of the
+/// key's parts in `out` (TOML 1.0.0, "Keys").
 pub fn past_name<'a>(out: &mut Vec<Mark>, s: &'a [u8]) -> CargoResult<&'a [u8]>
     ensures { (k : Key) (a b more : List ℕ) → IsNaming k a b more
         → s.now ≡ key_text k (a · equals ∷ (b · more))
