@@ -225,7 +225,7 @@ fn past_slot<'a>(
 ) -> CargoResult<(bool, &'a [u8])>
     ensures { (it : Slot) (c : List Between) (rest : List ℕ) → StandsAt text.now s.now is_table it c rest
         → MatchResult result (λ r. (r.0 ≡ goes (place_seen below.now) index it)
-            × (r.1.now ≡ gap c rest)) IsMemory }
+        × (r.1.now ≡ gap c rest)) IsMemory }
 {
     if !is_table {
         let rest = past_value(alloc, s)?;
@@ -272,7 +272,7 @@ pub(crate) fn value_without(alloc: Global, text: &str, below: &[Step]) -> CargoR
     ensures { (place : Place) (v : Value) → IsContainer v → IsValue v → depth v ≤ 80
         → text.now ≡ value_text v []
         → MatchResult result
-            (λ w. w.items ≡ value_left (place ++ place_seen below.now) place v []) IsMemory }
+        (λ w. w.items ≡ value_left (place ++ place_seen below.now) place v []) IsMemory }
 {
     slots_left(alloc, text, below)
 }
