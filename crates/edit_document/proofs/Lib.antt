@@ -81,6 +81,17 @@ pub mod ApartViews
 pub mod ReplacedEntries
 pub mod EditedDocuments
 pub mod UnorderedViews
+-- Where statements stand
+pub mod Ways
+pub mod KeyWays
+pub mod WayCounts
+pub mod TakenStatements
+pub mod StatedLines
+-- Inside an array or an inline table
+pub mod SlotLaws
+pub mod SlotTurns
+pub mod SlotKeys
+pub mod SlotSteps
 -- Worked examples
 pub mod ReplaceFacts
 pub mod FromReader
@@ -95,9 +106,3 @@ pub mod InsertFacts
 pub mod RemoveFacts
 pub mod OverLinesFacts
 pub mod LeftFacts
--- Where statements stand
-pub mod Ways
-pub mod KeyWays
-pub mod WayCounts
-pub mod TakenStatements
-pub mod StatedLines

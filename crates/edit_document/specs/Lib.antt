@@ -29,3 +29,6 @@ pub use Rattle.edit_syntax.specs.Characters
 pub use Rattle.edit_syntax.specs.Strings
 pub use Rattle.edit_syntax.specs.Numbers
 pub use Rattle.edit_syntax.specs.Grammar
+pub mod Slots
+pub mod SlotTexts
+pub mod Remainders

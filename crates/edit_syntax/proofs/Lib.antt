@@ -22,6 +22,7 @@ pub mod MembersReadAgain
 pub mod LineLaws
 pub mod LineSound
 pub mod ValueEdges
+pub mod StepLaws
 pub mod PutBefore
 -- The marks that the code notes
 pub mod NotedTokens

@@ -12,3 +12,4 @@ pub mod Reading
 pub mod Noting
 pub mod Decoding
 pub mod FirstLine
+pub mod Steps

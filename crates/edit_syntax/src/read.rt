@@ -9,12 +9,13 @@ ghost use Rattle.edit_syntax.specs.Marks.{text_marks, IsReadRefusal};
 mod bytes;
 mod dates;
 pub mod decode;
-mod gaps;
+pub mod gaps;
 mod line_by_line;
 mod lines;
 pub mod marks;
 mod multi;
 mod numbers;
+pub mod steps;
 mod tokens;
 mod values;
 

@@ -34,7 +34,7 @@ fn past_between(s: &[u8]) -> Option<&[u8]>
 }
 
 /// What follows the white space, newlines and comments at the front.
-pub(crate) fn past_gap(s: &[u8]) -> &[u8]
+pub fn past_gap(s: &[u8]) -> &[u8]
     ensures { result.now ≡ reading.past_gap s.now }
 {
     let mut rest = s;

@@ -192,7 +192,11 @@ fn inline_table<'a>(out: &mut Vec<Mark>, s: &'a [u8], depth: usize) -> Result<&'
 /// A value whose arrays and inline tables stand at most so deep.
 #[cycle(values)]
 #[tactic(auto, unfolding(crate::specs::Reading::value_at))]
-fn value<'a>(out: &mut Vec<Mark>, s: &'a [u8], depth: usize) -> Result<&'a [u8], ReadError>
+pub(crate) fn value<'a>(
+    out: &mut Vec<Mark>,
+    s: &'a [u8],
+    depth: usize,
+) -> Result<&'a [u8], ReadError>
     requires { depth < 1000 }
     ensures { Notes value_marks out.old out.new result (reading.value_at depth s.now) }
 {

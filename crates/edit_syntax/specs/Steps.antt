@@ -1,0 +1,25 @@
+-- What stands before a step over a value or a key of an array or an inline table.
+use Rattle.std.specs.Prelude.{◌≡◌, ℕ, ◌≤◌, Bool, true, false, ◌||◌, ◌==◌, List}
+use Rattle.edit_syntax.specs.Characters.{comma, right_bracket, right_brace, is_blank, All}
+use Rattle.edit_syntax.specs.Strings.{Key, IsKey}
+use Rattle.edit_syntax.specs.Grammar.{Between, IsGap, Value, IsValue}
+use Rattle.edit_syntax.specs.Depth.{depth}
+use Rattle.edit_syntax.specs.ReadingSteps.{first}
+
+-- a comma or a closing bracket or brace, which ends a value and the gap behind it
+abbrev pub ends_item : ℕ → Bool
+ends_item b = b == comma || b == right_bracket || b == right_brace
+
+-- a value and the gap behind it, up to what ends them, with arrays and inline tables at most 80 deep
+pub record IsItem (v : Value) (g : List Between) (rest : List ℕ) : Type 0 where
+  pub valid : IsValue v
+  pub shallow : depth v ≤ 80
+  pub between : IsGap g
+  pub ends : ends_item (first rest) ≡ true
+
+-- a key with the white space before its equals sign and behind it, up to what begins with neither
+pub record IsNaming (k : Key) (a b more : List ℕ) : Type 0 where
+  pub key : IsKey k
+  pub before : All is_blank a
+  pub behind : All is_blank b
+  pub begins : is_blank (first more) ≡ false

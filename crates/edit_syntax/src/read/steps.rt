@@ -1,0 +1,66 @@
+//! Steps over the values and the keys of an array or an inline table, for those who edit it.
+ghost use Rattle.std.specs.Prelude.{◌≡◌, ℕ, List, ◌∷◌, ◌++◌, MatchResult};
+ghost use Rattle.edit_base.specs.Errors.{IsMemory};
+ghost use Rattle.edit_syntax.specs.declared.read.marks.ReadError.TheVariants.{Memory};
+ghost use Rattle.edit_syntax.specs.Characters.{equals};
+ghost use Rattle.edit_syntax.specs.Strings.{◌·◌, Key, key as key_text};
+ghost use Rattle.edit_syntax.specs.Grammar.{Between, gap, Value, value as value_text};
+ghost use Rattle.edit_syntax.specs.Marks.{key_marks};
+ghost use Rattle.edit_syntax.specs.Reading as reading;
+ghost use Rattle.edit_syntax.specs.Steps.{IsItem, IsNaming};
+
+use super::bytes::{Class, past, past_run};
+use super::marks::{Mark, ReadError};
+use super::values::{key, value};
+use edit_base::errors::{CargoResult, Error};
+use std::alloc::Global;
+
+/// The refusal of a text of so many bytes that could not be read.
+fn refusal(error: ReadError, len: usize) -> Error
+    ensures { error ≡ Memory → IsMemory result }
+{
+    match error {
+        ReadError::Memory => Error::Memory,
+        ReadError::NotToml { left } => Error::NotToml {
+            at: len.saturating_sub(left),
+        },
+    }
+}
+
+/// What follows the tabs and spaces at the front (TOML 1.0.0, "Spec").
+pub fn past_blanks(s: &[u8]) -> &[u8]
+    ensures { result.now ≡ reading.past_blanks s.now }
+{
+    past_run(s, Class::Blank)
+}
+
+/// What follows the value at the front, in an array or an inline table (TOML 1.0.0, "Key/Value Pair").
+pub fn past_value(alloc: Global, s: &[u8]) -> CargoResult<&[u8]>
+    ensures { (v : Value) (g : List Between) (rest : List ℕ) → IsItem v g rest
+        → s.now ≡ value_text v (gap g rest) → MatchResult result (λ r. r.now ≡ gap g rest) IsMemory }
+{
+    let mut marks = Vec::new(alloc);
+    match value(&mut marks, s, 80) {
+        Ok(rest) => Ok(rest),
+        Err(error) => Err(refusal(error, s.len())),
+    }
+}
+
+/// What follows the key at the front, its equals sign and the white space beside it, with the marks of the
+/// key's parts in `out` (TOML 1.0.0, "Keys").
+pub fn past_name<'a>(out: &mut Vec<Mark>, s: &'a [u8]) -> CargoResult<&'a [u8]>
+    ensures { (k : Key) (a b more : List ℕ) → IsNaming k a b more
+        → s.now ≡ key_text k (a · equals ∷ (b · more))
+        → MatchResult result (λ r. (r.now ≡ more)
+        × (out.new.items ≡ out.old.items ++ key_marks k (a · equals ∷ (b · more)))) IsMemory }
+{
+    let after_key = match key(out, s) {
+        Ok(rest) => rest,
+        Err(error) => return Err(refusal(error, s.len())),
+    };
+    let sign = past_blanks(after_key);
+    let Some(rest) = past(sign, b'=') else {
+        return Err(refusal(ReadError::NotToml { left: sign.len() }, s.len()));
+    };
+    Ok(past_blanks(rest))
+}
