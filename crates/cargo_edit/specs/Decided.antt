@@ -55,7 +55,7 @@ choice_by o pinned aside old far near row = record {
 abbrev pub raised_choice : Options → Bool → Bool → List ℕ → Option (List ℕ) → Option (List ℕ) → Choice
 raised_choice o pinned aside old far near =
     choice_by o pinned aside old far near
-        (first_row false None true (when (jumps_by o pinned) far) (when o.compatible near))
+    (first_row false None true (when (jumps_by o pinned) far) (when o.compatible near))
 
 -- the decision, from the texts that could be written
 abbrev pub decision_by : Options → Bool → Bool → Bool → Option (List ℕ) → List ℕ → Option (List ℕ)
@@ -64,4 +64,4 @@ decision_by o excluded pinned readable selected old far near =
     let aside = is_some selected && pinned && not o.pinned in
     choice_by o pinned aside old far near
     (first_row excluded (unless aside selected) readable (when (jumps_by o pinned) far)
-        (when o.compatible near))
+    (when o.compatible near))

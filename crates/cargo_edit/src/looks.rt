@@ -115,7 +115,7 @@ pub(crate) fn look_up<I: Index>(
     ensures left { Leaves (IsAmong (serialize registry.now) (map name_of entries.now))
         (I.view (index_of index.old)).gives
         (I.view (index_of index.new)).gives (I.view (index_of index.old)).faults
-            (I.view (index_of index.new)).faults
+        (I.view (index_of index.new)).faults
         (kept_by index.old) (kept_by index.new) }
     ensures refused { IfErr result
         (λ e. IsMemory e ⊎ IsFailedLook registry.now (I.view (index_of index.old)).gives

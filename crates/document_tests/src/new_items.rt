@@ -39,7 +39,12 @@ fn listed(alloc: Global, text: &str) -> Result<Vec<String>, AllocError> {
 }
 
 /// Sets the list of the parts, at a place of at most 79 steps.
-fn set_list(alloc: Global, document: &mut Document, place: &[Step], list: Vec<String>) -> CargoResult<()> {
+fn set_list(
+    alloc: Global,
+    document: &mut Document,
+    place: &[Step],
+    list: Vec<String>,
+) -> CargoResult<()> {
     if !document.is_value(place) || place.len() > 79 {
         return Ok(());
     }

@@ -170,7 +170,7 @@ of_statement earlier prefix (element_header a k b) =
     let place = header_place earlier [] (names k) in
     let element = at place (index (elements_at earlier place)) in
     fronts earlier element [] (names k)
-        ++ asserts element place array_kind ∷ asserts element element element_kind ∷ []
+    ++ asserts element place array_kind ∷ asserts element element element_kind ∷ []
 
 -- what lines assert, behind these assertions and under this header
 abbrev pub of_lines : List Assertion → Place → Lines → List Assertion

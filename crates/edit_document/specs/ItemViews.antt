@@ -23,7 +23,7 @@ view_of i = viewed (tree_of (document_of i) (place_of i))
 abbrev pub Finds : Shown → Place → Option Item → Type 0
 Finds d place r =
     MatchOption r (tree_of d place ≡ None) (λ i. (document_of i ≡ d) × (place_of i ≡ place)
-        × (tree_of d place ≡ Some (view_of i)))
+    × (tree_of d place ≡ Some (view_of i)))
 
 -- the names that are left
 abbrev pub keys_left : Keys → List (List ℕ)

@@ -70,8 +70,8 @@ of_members (member k a b v c d ms) = more_slots (of_pair k a b v) c d (of_member
 
 -- ---- what goes
 
--- The element of this number is the one at a place below the array; the member names a place below the inline
--- table, or one below that.
+-- The element of this number is the one at a place below the array;
+-- the member names a place below the inline table, or one below that.
 abbrev pub goes : Place → ℕ → Slot → Bool
 goes below i (of_value v) = same_place (index i ∷ []) below
 goes below i (of_pair k a b v) = is_within below (map name_step (names k))

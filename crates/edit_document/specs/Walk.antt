@@ -104,15 +104,21 @@ with_element s number = record s { elements = s.elements ++ number ∷ [] }
 unfoldable pub added : List Spot → ℕ → List ℕ → Shape → Taken → Option Span → Option (List Spot × ℕ)
 added spots number name shape taken span = slice_get spots number >>= λ s.
     if nat_le 80 (length s.place) then None
-    else Some (slice_set spots number (with_member s name (length spots))
-        ++ spot_at (at s.place (key name)) shape taken span ∷ [], length spots)
+    else Some (
+      slice_set spots number (with_member s name (length spots))
+          ++ spot_at (at s.place (key name)) shape taken span ∷ [],
+      length spots,
+    )
 
 -- an element more of the spot of a number, and its own number; refused past 80 steps
 unfoldable pub element_added : List Spot → ℕ → Shape → Taken → Option Span → Option (List Spot × ℕ)
 element_added spots number shape taken span = slice_get spots number >>= λ s.
     if nat_le 80 (length s.place) then None
-    else Some (slice_set spots number (with_element s (length spots))
-        ++ spot_at (at s.place (index (length s.elements))) shape taken span ∷ [], length spots)
+    else Some (
+      slice_set spots number (with_element s (length spots))
+          ++ spot_at (at s.place (index (length s.elements))) shape taken span ∷ [],
+      length spots,
+    )
 
 -- the spots, and the number of one of them
 abbrev pub numbered : ℕ → Option (List Spot) → Option (List Spot × ℕ)
@@ -196,8 +202,11 @@ opened st shape span =
 -- the innermost table or array ends before so many bytes
 abbrev pub closed : State → ℕ → Option State
 closed st to = last_of st.tables >>= λ number. slice_get st.spots number >>= λ s. s.span >>= λ span.
-    Some (record st { spots = slice_set st.spots number
-        (record s { span = Some (record { from = span.from; to = to }) }); tables = without_last st.tables })
+    Some (record st {
+      spots = slice_set st.spots number
+          (record s { span = Some (record { from = span.from; to = to }) });
+      tables = without_last st.tables;
+    })
 
 -- this table and no other is open
 abbrev pub turned : State × ℕ → State

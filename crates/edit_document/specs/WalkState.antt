@@ -48,8 +48,8 @@ KeepsState text nodes (Some st) = Holds text nodes st.spots
 abbrev pub SaysAt : List ℕ → Mark → List ℕ → Type 0
 SaysAt bytes m name =
     (before : List ℕ) × (content : List ℕ) × (rest : List ℕ)
-        × (bytes ≡ before ++ delimited m.kind content rest)
-        × (m.from ≡ length (delimited m.kind content rest)) × (m.to ≡ length rest) × Says m.kind content name
+    × (bytes ≡ before ++ delimited m.kind content rest)
+    × (m.from ≡ length (delimited m.kind content rest)) × (m.to ≡ length rest) × Says m.kind content name
 
 -- a token that says something
 abbrev pub is_said : MarkKind → Bool

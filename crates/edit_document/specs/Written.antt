@@ -39,7 +39,7 @@ abbrev mutual
   in_elements place i (element v g h es) rest =
       valued (at place (index i)) v (gap g (comma ∷ gap h (elements es rest)))
       ∷ (inside (at place (index i)) v (gap g (comma ∷ gap h (elements es rest)))
-          ++ in_elements place (suc i) es rest)
+      ++ in_elements place (suc i) es rest)
 
   -- each member's value, and the values inside it
   pub in_members : Place → Members → List ℕ → List Valued
@@ -49,7 +49,7 @@ abbrev mutual
   in_members place (member k a b v c d ms) rest =
       valued (named place (names k)) v (gap c (comma ∷ gap d (members ms rest)))
       ∷ (inside (named place (names k)) v (gap c (comma ∷ gap d (members ms rest)))
-          ++ in_members place ms rest)
+      ++ in_members place ms rest)
 
 -- the values of a statement under a header
 abbrev pub in_statement : Place → Statement → List ℕ → List Valued
@@ -65,7 +65,7 @@ in_lines earlier prefix (one_line (full_line a s b c)) = in_statement prefix s (
 in_lines earlier prefix (more_lines (empty_line a c) e ls) = in_lines earlier prefix ls
 in_lines earlier prefix (more_lines (full_line a s b c) e ls) =
     in_statement prefix s (b · comment c (line_end e (lines ls)))
-        ++ in_lines (earlier ++ of_statement earlier prefix s) (prefix_after earlier prefix s) ls
+    ++ in_lines (earlier ++ of_statement earlier prefix s) (prefix_after earlier prefix s) ls
 
 -- the values of a text, in its order
 abbrev pub values : Text → List Valued

@@ -132,7 +132,7 @@ fn add(
     ensures added { (spots : List Spot) → Holds text.now nodes.old.items spots
         → child spots number (bytes_of text.now name) ≡ None
         → IfOk result (Puts text.now nodes.new.items
-            (added spots number (bytes_of text.now name) (shape_of text.now content) taken span)) }
+        (added spots number (bytes_of text.now name) (shape_of text.now content) taken span)) }
     ensures refused { IfErr result IsMemory }
 {
     let count = nodes.len();
@@ -205,7 +205,7 @@ pub(crate) fn assert_member(
 ) -> CargoResult<Option<usize>>
     ensures made { (spots : List Spot) → Holds text.now nodes.old.items spots
         → IfOk result (Puts text.now nodes.new.items
-            (asserted spots number (bytes_of text.now name) (shape_of text.now content) taken span)) }
+        (asserted spots number (bytes_of text.now name) (shape_of text.now content) taken span)) }
     ensures refused { IfErr result IsMemory }
 {
     let Some(member) = find(text, nodes, number, words_in(text, &name)) else {
@@ -231,7 +231,7 @@ pub(crate) fn reach(
 ) -> CargoResult<Option<usize>>
     ensures made { (spots : List Spot) → Holds text.now nodes.old.items spots
         → IfOk result (Puts text.now nodes.new.items
-            (reached spots number (map (bytes_of text.now) fronts.now) (front_shape is_inline) taken)) }
+        (reached spots number (map (bytes_of text.now) fronts.now) (front_shape is_inline) taken)) }
     ensures refused { IfErr result IsMemory }
 {
     let mut table = number;

@@ -20,7 +20,7 @@ impl Document {
         ensures { Decides result
             ((slice_get (names_in (view_numbered self.now number)) index ≡ Some (string_bytes member.now.0))
             × ShowsValue self.now (at (place_numbered self.now number)
-                (key_step (string_bytes member.now.0)))
+            (key_step (string_bytes member.now.0)))
             (value_seen member.now.1)) }
     {
         let name = member.0.as_str();

@@ -21,7 +21,7 @@ impl Document {
             ((i : ℕ) → slice_get (names_in (view_numbered self.now number)) i ≡ Some key.now → ⊥)
             (λ k. (slice_get (names_in (view_numbered self.now number)) k ≡ Some key.now)
             × ((i : ℕ) → i < k → slice_get (names_in (view_numbered self.now number)) i ≡ Some key.now
-                → ⊥)) }
+            → ⊥)) }
     {
         let count = self.name_count(number);
         'names: for index in 0..count {

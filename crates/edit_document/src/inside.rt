@@ -100,8 +100,8 @@ impl Remainder {
         Ok(())
     }
 
-    /// The element or the member at the front of `rest` goes or stays, where a comma stands at `stop`, behind
-    /// the gap at `after`, and another or the end at `next`.
+    /// The element or the member at the front of `rest` goes or stays, where a comma stands at `stop`,
+    /// behind the gap at `after`, and another or the end at `next`.
     fn take(
         &mut self,
         is_gone: bool,
@@ -238,8 +238,8 @@ fn past_slot<'a>(
     Ok((is_gone, rest))
 }
 
-/// The bytes of an array or an inline table without the element at a place below it, or the members that name
-/// one.
+/// The bytes of an array or an inline table without the
+/// element at a place below it, or the members that name one.
 fn slots_left(alloc: Global, text: &str, below: &[Step]) -> CargoResult<Vec<u8>>
     ensures { (is_table : Bool) (g : List Between) (ss : Slots) → IsEnclosed is_table g ss text.now
         → MatchResult result (λ v. v.items ≡ enclosed_left is_table (place_seen below.now) g ss) IsMemory }
@@ -266,8 +266,8 @@ fn slots_left(alloc: Global, text: &str, below: &[Step]) -> CargoResult<Vec<u8>>
 }
 
 /// The bytes of the array or the inline table that is written as `text`, where the element or the member at
-/// the place `below` it is removed: with the comma behind it and the white space there, or else with the comma
-/// before it.
+/// the place `below` it is removed: with the comma behind it
+/// and the white space there, or else with the comma before it.
 pub(crate) fn value_without(alloc: Global, text: &str, below: &[Step]) -> CargoResult<Vec<u8>>
     ensures { (place : Place) (v : Value) → IsContainer v → IsValue v → depth v ≤ 80
         → text.now ≡ value_text v []

@@ -10,8 +10,11 @@ use Rattle.edit_sources.specs.declared.registry.chain.Source.{Source}
 
 -- the texts of a source (own)
 abbrev pub source_texts : Source → said.Source
-source_texts s = record { registry = option_map (λ t. t.now) s.registry; replace_with = option_map
-    (λ t. t.now) s.replace_with }
+source_texts s = record {
+  registry = option_map (λ t. t.now) s.registry;
+  replace_with = option_map
+      (λ t. t.now) s.replace_with;
+}
 
 -- the source that a map holds at a key (own)
 abbrev pub found : BTreeMap (Bor (List ℕ)) Source → List ℕ → Option said.Source

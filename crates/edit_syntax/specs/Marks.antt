@@ -87,7 +87,7 @@ statement_marks (header a k b) rest =
     key_marks k (b · right_bracket ∷ rest) ++ mark kinds.Header (statement (header a k b) rest) rest ∷ []
 statement_marks (element_header a k b) rest =
     key_marks k (b · right_bracket ∷ (right_bracket ∷ rest))
-        ++ mark kinds.ElementHeader (statement (element_header a k b) rest) rest ∷ []
+    ++ mark kinds.ElementHeader (statement (element_header a k b) rest) rest ∷ []
 
 -- a line has the marks of its statement
 abbrev pub line_marks : Line → List ℕ → List Mark

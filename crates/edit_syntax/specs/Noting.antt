@@ -41,7 +41,7 @@ abbrev pub Notes : {A : Type 0} → (A → List ℕ → List Mark) → Vec Mark 
     → Result (Bor (List ℕ)) ReadError → Read A → Type 0
 Notes {A} marks old new r read =
     MatchResult r (λ rest. (x : A) × (read ≡ Some (x, rest.now))
-        × (new.items ≡ old.items ++ marks x rest.now)) (λ e. (e ≡ Memory → ⊥) → read ≡ None)
+    × (new.items ≡ old.items ++ marks x rest.now)) (λ e. (e ≡ Memory → ⊥) → read ≡ None)
 
 -- a mark was added, or memory ran out
 abbrev pub Noted : Vec Mark → Vec Mark → Result (Unit {0}) ReadError → Mark → Type 0

@@ -15,15 +15,15 @@ unfoldable pub line_end_at : List ℕ → Read LineEnd
 line_end_at text =
     if first text == line_feed then Some (lf, drop 1 text)
     else (if first text == carriage_return && slice_index text 1 == line_feed
-        then Some (crlf, drop 2 text) else None)
+    then Some (crlf, drop 2 text) else None)
 
 -- a tab or a space, a newline, or a comment and its newline
 unfoldable pub between_at : List ℕ → Read Between
 between_at text =
     if is_blank (first text) then Some (blank (first text), drop 1 text)
     else (if first text == hash
-        then (line_end_at (after is_ch (drop 1 text))
-        >>= λ e. Some (remark (front is_ch (drop 1 text)) e.0, e.1))
+    then (line_end_at (after is_ch (drop 1 text))
+    >>= λ e. Some (remark (front is_ch (drop 1 text)) e.0, e.1))
     else (line_end_at text >>= λ e. Some (break e.0, e.1)))
 
 -- what was read, and more behind it
@@ -103,7 +103,7 @@ unfoldable pub spaces_at : ℕ → List ℕ → Read (List Space)
 spaces_at zero text = None
 spaces_at (suc n) text =
     if begins_space text
-        then (space_at text >>= λ s. spaces_at n s.1 >>= λ more. Some (s.0 ∷ more.0, more.1))
+    then (space_at text >>= λ s. spaces_at n s.1 >>= λ more. Some (s.0 ∷ more.0, more.1))
     else Some ([], text)
 
 -- a backslash at the end of a line, and all white space and newlines that follow
@@ -173,8 +173,15 @@ dotted_at zero text = None
 dotted_at (suc n) text =
     if first (past_blanks text) == 46
     then (part_at (past_blanks (drop 1 (past_blanks text))) >>= λ p. dotted_at n p.1
-        >>= λ ds. Some (record { before = blanks text; behind = blanks
-        (drop 1 (past_blanks text)); part = p.0 } ∷ ds.0, ds.1))
+    >>= λ ds. Some (
+      record {
+        before = blanks text;
+        behind = blanks
+            (drop 1 (past_blanks text));
+        part = p.0;
+      } ∷ ds.0,
+      ds.1,
+    ))
     else Some ([], text)
 
 -- a key
@@ -194,7 +201,7 @@ unfoldable pub scalar_at : List ℕ → Read Value
 scalar_at text =
     if begins quote quote quote text then (multi_at quote (drop 3 text) >>= λ p. Some (multi_basic p.0, p.1))
     else (if begins apostrophe apostrophe apostrophe text
-        then (multi_at apostrophe (drop 3 text) >>= λ p. Some (multi_literal p.0, p.1))
+    then (multi_at apostrophe (drop 3 text) >>= λ p. Some (multi_literal p.0, p.1))
     else (if first text == quote then (basic_at (drop 1 text) >>= λ p. Some (basic p.0, p.1))
     else (if first text == apostrophe then (literal_at (drop 1 text) >>= λ p. Some (literal p.0, p.1))
     else (if starts 116 114 117 101 text then Some (boolean true, drop 4 text)
@@ -224,10 +231,13 @@ members_at value_at (suc n) text =
     else (pair_at value_at text >>= λ p.
     if first (past_gap p.1) == comma
     then (members_at value_at n (past_gap (drop 1 (past_gap p.1)))
-        >>= λ ms. Some (member p.0.key p.0.before p.0.behind p.0.value (gap_front p.1)
-        (gap_front (drop 1 (past_gap p.1))) ms.0, ms.1))
+    >>= λ ms. Some (
+      member p.0.key p.0.before p.0.behind p.0.value (gap_front p.1)
+          (gap_front (drop 1 (past_gap p.1))) ms.0,
+      ms.1,
+    ))
     else (past right_brace (past_gap p.1)
-        >>= λ rest. Some (last_member p.0.key p.0.before p.0.behind p.0.value (gap_front p.1), rest)))
+    >>= λ rest. Some (last_member p.0.key p.0.before p.0.behind p.0.value (gap_front p.1), rest)))
 
 -- from an element or the closing bracket on, in fewer than n elements, up to the closing bracket
 unfoldable pub elements_at : (List ℕ → Read Value) → ℕ → List ℕ → Read Elements
@@ -237,7 +247,7 @@ elements_at value_at (suc n) text =
     else (value_at text >>= λ v.
     if first (past_gap v.1) == comma
     then (elements_at value_at n (past_gap (drop 1 (past_gap v.1)))
-        >>= λ es. Some (element v.0 (gap_front v.1) (gap_front (drop 1 (past_gap v.1))) es.0, es.1))
+    >>= λ es. Some (element v.0 (gap_front v.1) (gap_front (drop 1 (past_gap v.1))) es.0, es.1))
     else (past right_bracket (past_gap v.1) >>= λ rest. Some (last_element v.0 (gap_front v.1), rest)))
 
 -- a value with arrays and inline tables at most n deep in one another
@@ -246,10 +256,10 @@ value_at zero text = scalar_at text
 value_at (suc n) text =
     if first text == left_bracket
     then (elements_at (value_at n) (length text) (past_gap (drop 1 text))
-        >>= λ es. Some (array (gap_front (drop 1 text)) es.0, es.1))
+    >>= λ es. Some (array (gap_front (drop 1 text)) es.0, es.1))
     else (if first text == left_brace
     then (members_at (value_at n) (length text) (past_gap (drop 1 text))
-        >>= λ ms. Some (inline (gap_front (drop 1 text)) ms.0, ms.1))
+    >>= λ ms. Some (inline (gap_front (drop 1 text)) ms.0, ms.1))
     else scalar_at text)
 
 -- ---- lines
@@ -290,8 +300,11 @@ line_at depth text =
     if is_line_over (first (past_blanks text))
     then Some (empty_line (blanks text) (comment_front (past_blanks text)), past_comment (past_blanks text))
     else (statement_at depth (past_blanks text)
-        >>= λ s. Some (full_line (blanks text) s.0 (blanks s.1)
-        (comment_front (past_blanks s.1)), past_comment (past_blanks s.1)))
+    >>= λ s. Some (
+      full_line (blanks text) s.0 (blanks s.1)
+          (comment_front (past_blanks s.1)),
+      past_comment (past_blanks s.1),
+    ))
 
 -- all of the text, in at most n lines
 unfoldable pub lines_at : ℕ → ℕ → List ℕ → Option Lines

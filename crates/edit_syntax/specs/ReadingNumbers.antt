@@ -46,7 +46,7 @@ exponent_at text = digits_at is_decimal (past_sign (drop 1 text))
 unfoldable pub fraction_read : Sign → List ℕ → List ℕ → List ℕ → Read Value
 fraction_read s whole fraction text =
     if is_power (first text)
-        then (exponent_at text >>= λ e. Some (float (with_fraction s whole fraction (Some e.0)), e.1))
+    then (exponent_at text >>= λ e. Some (float (with_fraction s whole fraction (Some e.0)), e.1))
     else Some (float (with_fraction s whole fraction None), text)
 
 -- an integer or a float, from behind its whole part on ("Integer", "Float")
@@ -54,7 +54,7 @@ unfoldable pub whole_read : Sign → List ℕ → List ℕ → Read Value
 whole_read s whole text =
     if first text == 46 then (digits_at is_decimal (drop 1 text) >>= λ f. fraction_read s whole f.0 f.1)
     else (if is_power (first text)
-        then (exponent_at text >>= λ e. Some (float (with_exponent s whole e.0), e.1))
+    then (exponent_at text >>= λ e. Some (float (with_exponent s whole e.0), e.1))
     else Some (integer (decimal s whole), text))
 
 -- these bytes come first (own)
@@ -92,7 +92,7 @@ unfoldable pub second_at : List ℕ → Read (Option (List ℕ))
 second_at text =
     if first text == 46
     then (if is_decimal (first (drop 1 text))
-        then Some (Some (front is_decimal (drop 1 text)), after is_decimal (drop 1 text)) else None)
+    then Some (Some (front is_decimal (drop 1 text)), after is_decimal (drop 1 text)) else None)
     else Some (None, text)
 
 -- a time ("Local Time")
@@ -107,7 +107,7 @@ offset_at text =
     if first text == 90 || first text == 122 then Some (zulu (first text), drop 1 text)
     else (if first text == 43 || first text == 45
     then (group_at 2 58 (drop 1 text) >>= λ h. count_at 2 h.1
-        >>= λ m. Some (shift (first text) h.0 m.0, m.1))
+    >>= λ m. Some (shift (first text) h.0 m.0, m.1))
     else Some (local, text))
 
 -- `T`, `t`, or a space and a digit, which join a time to a date ("Offset Date-Time")
@@ -118,7 +118,7 @@ joins text = first text == 84 || first text == 116 || (first text == 32 && is_de
 unfoldable pub dated_at : List ℕ → Read Value
 dated_at text = date_at text >>= λ d.
     if joins d.1 then (time_at (drop 1 d.1) >>= λ t. offset_at t.1
-        >>= λ o. Some (datetime (both d.0 (first d.1) t.0 o.0), o.1))
+    >>= λ o. Some (datetime (both d.0 (first d.1) t.0 o.0), o.1))
     else Some (datetime (only_date d.0), d.1)
 
 -- a time alone ("Local Time")

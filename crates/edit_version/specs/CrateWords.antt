@@ -67,9 +67,9 @@ IsRefusedRequirement req _ = ⊥
 abbrev pub IsRefusedWord : List ℕ → Error → Type 0
 IsRefusedWord word (error.InvalidName name characters) =
     (0 < length (unfit (word_name word))) × (string_bytes name ≡ word_name word)
-        × (string_bytes characters ≡ listed (unfit (word_name word)))
+    × (string_bytes characters ≡ listed (unfit (word_name word)))
 IsRefusedWord word (error.InvalidRequirement text) =
     (unfit (word_name word) ≡ []) × (word_requirement word ≡ Some (string_bytes text))
-        × IsErr (req_of (string_bytes text))
+    × IsErr (req_of (string_bytes text))
 IsRefusedWord word error.Memory = Unit {0}
 IsRefusedWord word _ = ⊥

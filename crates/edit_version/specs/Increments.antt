@@ -75,7 +75,7 @@ numbered p n = word p ++ (46 ∷ decimal n)
 abbrev pub number_of : List ℕ → Option ℕ
 number_of text =
     if is_numeric text && nat_lt 0 (length text) && nat_lt (digits_value 10 text) (2 ^ 64)
-        then Some (digits_value 10 text) else None
+    then Some (digits_value 10 text) else None
 
 -- the word of a pre-release, up to its first dot (own)
 abbrev pub word_of : List ℕ → List ℕ
@@ -85,7 +85,7 @@ word_of pre = before_first (λ b. b == 46) pre
 abbrev pub number_after : List ℕ → Option ℕ
 number_after pre =
     if position_or_len (λ b. b == 46) pre == length pre
-        then Some 0 else number_of (after_first (λ b. b == 46) pre)
+    then Some 0 else number_of (after_first (λ b. b == 46) pre)
 
 -- the next pre-release of a phase, from a word and its number, none where it is no number (own)
 abbrev pub next_of : Phase → Parts → List ℕ → Option ℕ → Change

@@ -143,7 +143,7 @@ fn push_piece(out: &mut String, bytes: &[u8]) -> CargoResult<usize>
     ensures says { (p : Piece) (rest : List ℕ) → IsMarked p → IsMultiPiece p
         → FoldStops p (reading.first rest) → bytes.now ≡ piece quote p rest →
         IfOk result (λ n. (string_bytes out.new ≡ string_bytes out.old ++ strings.said quote p)
-            × (n ≡ length (piece quote p []))) }
+        × (n ≡ length (piece quote p []))) }
     ensures some { IfOk result (λ n. 1 ≤ n) }
     ensures refused { IfErr result IsMemory }
 {
