@@ -108,7 +108,7 @@ path_origin t root dep path =
     ok_map (λ version. from_path (joined root place) version) (version_at t dep))
 
 -- an entry with a member `version` and neither of those
--- (Cargo reference, "Specifying Dependencies", specifying dependencies from crates.io)
+-- (Cargo reference, "Specifying Dependencies")
 abbrev pub registry_origin : List ℕ → View → Result Origin Refusal
 registry_origin dep version = ok_map (λ v. from_registry (cut v)) (text_of dep (codes "version") version)
 

@@ -14,7 +14,11 @@ use Rattle.edit_sources.specs.declared.config.ConfigSource.{ConfigSource}
 
 -- the texts of a source (own)
 abbrev pub source_view : ConfigSource → said.Source
-source_view s = record { registry = option_map string_bytes s.registry; replace_with = option_map string_bytes s.replace_with }
+source_view s =
+    record {
+      registry = option_map string_bytes s.registry;
+      replace_with = option_map string_bytes s.replace_with;
+    }
 
 -- a key of `registries` and its index (own)
 abbrev pub registry_entry : String Global × Option (String Global) → List ℕ × Option (List ℕ)

@@ -227,7 +227,13 @@ fn word_and_number(pre: &str) -> Option<(&str, u64)>
 fn next_number(alloc: Global, version: &Version, phase: Phase) -> CargoResult<u64>
     requires { 0 < length (pre_text version.now.pre) }
     ensures ok { IfOk result (λ n. next_phase phase (parts_of version.now)
-        ≡ To (version.now.major, version.now.minor, version.now.patch, numbered phase n, build_text version.now.build)) }
+        ≡ To (
+          version.now.major,
+          version.now.minor,
+          version.now.patch,
+          numbered phase n,
+          build_text version.now.build,
+        )) }
     ensures err { IfErr result (λ e. IsCause (next_phase phase (parts_of version.now))
         (parts_of version.now) e) }
 {
