@@ -101,3 +101,9 @@ pub mod KeyWays
 pub mod WayCounts
 pub mod TakenStatements
 pub mod StatedLines
+pub mod SpotTexts
+pub mod Choices
+pub mod StatementSpots
+pub mod InsertedLines
+pub mod EntryChoices
+pub mod OutsideValues
