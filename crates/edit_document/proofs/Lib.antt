@@ -87,6 +87,13 @@ pub mod KeyWays
 pub mod WayCounts
 pub mod TakenStatements
 pub mod StatedLines
+-- A member more in lines
+pub mod SpotTexts
+pub mod Choices
+pub mod StatementSpots
+pub mod InsertedLines
+pub mod EntryChoices
+pub mod OutsideValues
 -- Inside an array or an inline table
 pub mod SlotLaws
 pub mod SlotTurns

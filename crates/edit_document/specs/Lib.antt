@@ -23,6 +23,7 @@ pub mod Meant
 pub mod Compared
 pub mod Entries
 pub mod Standings
+pub mod Spots
 pub use Rattle.edit_base.specs.Errors
 pub use Rattle.edit_base.specs.Paths
 pub use Rattle.edit_syntax.specs.Characters

@@ -127,9 +127,17 @@ pub(crate) fn push_pair(out: &mut String, member: &(String, NewValue)) -> Result
     ensures { OnOk result (string_bytes out.new
         ≡ string_bytes out.old ++ new_pair (string_bytes member.now.0) (value_seen member.now.1) []) }
 {
-    push_key(out, member.0.as_str())?;
+    push_member(out, member.0.as_str(), &member.1)
+}
+
+/// Appends a name, ` = ` and a literal.
+pub(crate) fn push_member(out: &mut String, name: &str, value: &NewValue) -> Result<(), AllocError>
+    ensures { OnOk result (string_bytes out.new
+        ≡ string_bytes out.old ++ new_pair name.now (value_seen value.now) []) }
+{
+    push_key(out, name)?;
     out.push_str(" = ")?;
-    push_value(out, &member.1)
+    push_value(out, value)
 }
 
 /// Appends a key: bare where it can be, else a string literal.

@@ -6,6 +6,7 @@ ghost use Rattle.edit_base.specs.Errors.{IsMemory};
 ghost use Rattle.edit_document.specs.Nodes.{bytes_of, number_of, entries_in, entries_of, names_in, number_in, IsIndexed};
 ghost use Rattle.edit_syntax.specs.Spans.{bytes_at};
 
+use crate::spots::between;
 use edit_base::errors::CargoResult;
 use edit_syntax::Span;
 use std::alloc::Global;
@@ -234,13 +235,7 @@ pub(crate) struct Node {
 pub(crate) fn cut(text: &str, span: Span) -> &str
     ensures { result.now ≡ bytes_at text.now span }
 {
-    let start = text.len().saturating_sub(span.from as usize);
-    let end = text.len().saturating_sub(span.to as usize);
-    if start <= end && text.is_char_boundary(start) && text.is_char_boundary(end) {
-        &text[start..end]
-    } else {
-        ""
-    }
+    between(text, span.from as usize, span.to as usize)
 }
 
 /// Whether what stands there may have so many bytes: as many as lie between its ends, or none.
