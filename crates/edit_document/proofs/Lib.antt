@@ -14,6 +14,7 @@ pub mod TakenPairs
 pub mod AssertedSpots
 pub mod NewAssertions
 pub mod MemberAssertions
+pub mod MemberTurns
 pub mod HeaderFronts
 pub mod KeyPlaces
 pub mod ArrayCounts
@@ -74,6 +75,7 @@ pub mod Besides
 pub mod BesideWalk
 pub mod ShownValues
 pub mod OnceLists
+pub mod GrownInline
 pub mod GrownNames
 pub mod GrownTrees
 pub mod ShownItems

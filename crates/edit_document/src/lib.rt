@@ -8,6 +8,7 @@ mod compare;
 pub mod document;
 mod edited;
 mod grown;
+mod inline;
 mod inside;
 pub mod item;
 mod literal;
