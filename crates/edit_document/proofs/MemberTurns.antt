@@ -1,12 +1,12 @@
 -- The loop over the members of an inline table up to the last one: where it stands, and what follows that one's value.
-use Rattle.std.proofs.Common.{◌≡◌, ℕ, suc, ◌+◌, ◌≤◌, Bool, true, false, eqb, List, [], ◌∷◌, ◌++◌, length, drop, refl, sym, true≢false, ap, ◌∙◌, append_assoc, arith}
+use Rattle.std.proofs.Common.{◌≡◌, ℕ, ◌+◌, ◌≤◌, true, false, eqb, List, [], ◌∷◌, ◌++◌, length, drop, refl, sym, true≢false, ap, ◌∙◌, append_assoc, arith}
 use Rattle.edit_syntax.specs.Characters.{comma, right_brace}
 use Rattle.edit_syntax.specs.Grammar.{Between, gap, Value, Members, no_members, last_member, member}
 use Rattle.edit_syntax.specs.Strings.{Key}
 use Rattle.edit_syntax.specs.Reading.{first, past_gap}
 use Rattle.edit_syntax.proofs.GapLaws.{past_gap_again, gap_longer}
 use Rattle.edit_document.specs.EditBytes.{behind_last}
-use Rattle.edit_document.specs.Slots.{Slot, slot, IsSlot, Slots, no_slots, last_slot, more_slots, slots, AreSlots, of_members, IsEnclosed}
+use Rattle.edit_document.specs.Slots.{Slot, slot, Slots, no_slots, last_slot, more_slots, slots, AreSlots, of_members, IsEnclosed}
 use Rattle.edit_document.specs.SlotTexts.{Ends, StandsAt}
 use Rattle.edit_document.proofs.Ends.{ends_past, ends_one, ends_gap}
 use Rattle.edit_document.proofs.SlotLaws.{gap_rest, slot_rest, slot_begins, slots_gapless}
@@ -39,12 +39,18 @@ table_past no_members rest = refl
 table_past (last_member k a b v c) rest = refl
 table_past (member k a b v c d ms) rest = members_past k a b v c d ms rest
 
+-- behind the brace and its gap the members come
+pub members_come : (text : List ℕ) (g : List Between) (ms : Members) → IsEnclosed true g (of_members ms) text → past_gap (drop 1 text) ≡ slots (of_members ms) (right_brace ∷ [])
+members_come text g ms h =
+    let inner = slots (of_members ms) (right_brace ∷ []) in
+    ap (λ (x : List ℕ). past_gap (drop 1 x)) h.spelled ∙ past_gap_again g inner h.between (slots_gapless true (of_members ms) h.slots_valid)
+
 pub members_start : (text : List ℕ) (g : List Between) (ms : Members) (rest : List ℕ) → IsEnclosed true g (of_members ms) text → rest ≡ past_gap (drop 1 text)
     → AtMembers text 0 rest rest (behind_last ms (right_brace ∷ []))
 members_start text g ms rest h e =
     let at = enclosed_start true text [] g (of_members ms) rest h e in
     let close = right_brace ∷ [] in
-    let next : rest ≡ slots (of_members ms) close = e ∙ ap (λ (x : List ℕ). past_gap (drop 1 x)) h.spelled ∙ past_gap_again g (slots (of_members ms) close) h.between (slots_gapless true (of_members ms) h.slots_valid) in
+    let next : rest ≡ slots (of_members ms) close = e ∙ members_come text g ms h in
     record {
       ss = of_members ms;
       valid = h.slots_valid;

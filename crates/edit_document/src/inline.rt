@@ -81,12 +81,6 @@ pub(crate) fn inline_with(alloc: Global, text: &str, member: &str) -> CargoResul
         return Ok(empty_with(alloc, bytes, member.as_bytes())?);
     }
     let after = past_last(alloc, text)?;
-    let grown = joined(
-        alloc,
-        before(bytes, after),
-        b", ",
-        member.as_bytes(),
-        after,
-    )?;
+    let grown = joined(alloc, before(bytes, after), b", ", member.as_bytes(), after)?;
     Ok(grown)
 }

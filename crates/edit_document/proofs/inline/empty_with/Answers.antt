@@ -1,4 +1,4 @@
-use Rattle.std.proofs.Common.{◌≡◌, List, ◌∷◌, ◌++◌, sym, ◌∙◌}
+use Rattle.std.proofs.Common.{sym, ◌∙◌}
 use Rattle.std.proofs.lemmas.Result.{IfOk-weaker}
 use Rattle.edit_document.proofs.GrownInline.{empty_closes, blank_grown, opened_grown}
 use Rattle.edit_document.proofs.inline.empty_with.Goals as goal

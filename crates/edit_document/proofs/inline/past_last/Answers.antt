@@ -3,7 +3,6 @@ use Rattle.std.proofs.lemmas.Result.{err_from_is_err_and}
 use Rattle.edit_syntax.specs.Characters.{comma, right_brace}
 use Rattle.edit_syntax.specs.Reading.{first, past_gap}
 use Rattle.edit_document.specs.EditBytes.{behind_last}
-use Rattle.edit_document.specs.Slots.{of_members}
 use Rattle.edit_document.proofs.SlotKeys.{inline_enclosed}
 use Rattle.edit_document.proofs.SlotSteps.{keeps_memory}
 use Rattle.edit_document.proofs.SlotTurns.{stop_is}
