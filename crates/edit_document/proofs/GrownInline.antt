@@ -31,7 +31,7 @@ empty_closes g text inner close h e at_inner at_close =
     at_close ∙ ap past_blanks (at_inner ∙ ap (λ (x : List ℕ). drop 1 x) e) ∙ past_blanks_is (gap g (right_brace ∷ [])) ∙ trimmed_gap g (right_brace ∷ []) h refl in
     ap (λ (x : List ℕ). eqb (first x) right_brace) shown ∙ trimmed_closes g
 
-some_is : {A : Type 0} (a b : A) → Some a ≡ Some b → b ≡ a
+pub some_is : {A : Type 0} (a b : A) → Some a ≡ Some b → b ≡ a
 some_is a b e = ap (λ (o : Option _). unwrap_or o a) (sym e)
 
 -- white space alone gives way

@@ -78,6 +78,7 @@ pub mod OnceLists
 pub mod GrownInline
 pub mod GrownNames
 pub mod GrownTrees
+pub mod GrownWhole
 pub mod ShownItems
 pub mod ApartViews
 pub mod ReplacedEntries
