@@ -105,6 +105,7 @@ pub mod StandardTables
 pub mod StandardInline
 pub mod EditFacts
 pub mod EntryFacts
+pub mod InlineSpots
 pub mod InsertFacts
 pub mod RemoveFacts
 pub mod OverLinesFacts
