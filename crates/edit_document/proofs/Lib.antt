@@ -14,6 +14,7 @@ pub mod TakenPairs
 pub mod AssertedSpots
 pub mod NewAssertions
 pub mod MemberAssertions
+pub mod MemberTurns
 pub mod HeaderFronts
 pub mod KeyPlaces
 pub mod ArrayCounts
@@ -74,8 +75,10 @@ pub mod Besides
 pub mod BesideWalk
 pub mod ShownValues
 pub mod OnceLists
+pub mod GrownInline
 pub mod GrownNames
 pub mod GrownTrees
+pub mod GrownWhole
 pub mod ShownItems
 pub mod ApartViews
 pub mod ReplacedEntries
@@ -109,6 +112,7 @@ pub mod StandardTables
 pub mod StandardInline
 pub mod EditFacts
 pub mod EntryFacts
+pub mod InlineSpots
 pub mod InsertFacts
 pub mod RemoveFacts
 pub mod OverLinesFacts

@@ -32,12 +32,12 @@ none_swapped write edits old new (rest t) e = refl
 none_swapped write edits old new (next t w said more now s) e = absurd cc
 
 -- one value that gives way, with the text before it
-record OneSwap (write : Writer) (c : Valued × List ℕ) (old new : List ℕ) : Type 0 where
-  before : List ℕ
-  was : old ≡ before ++ value c.0.value c.0.after
-  is : new ≡ before ++ value (write c.1) c.0.after
+pub record OneSwap (write : Writer) (c : Valued × List ℕ) (old new : List ℕ) : Type 0 where
+  pub before : List ℕ
+  pub was : old ≡ before ++ value c.0.value c.0.after
+  pub is : new ≡ before ++ value (write c.1) c.0.after
 
-one_swap : (write : Writer) (edits : List (Valued × List ℕ)) (c : Valued × List ℕ) (old new : List ℕ)
+pub one_swap : (write : Writer) (edits : List (Valued × List ℕ)) (c : Valued × List ℕ) (old new : List ℕ)
     → Swaps write edits old new → edits ≡ c ∷ [] → OneSwap write c old new
 one_swap write edits c old new (rest t) e = absurd cc
 one_swap write edits c old new (next t w said more now s) e =
@@ -85,7 +85,7 @@ one_edited total r (c ∷ []) e =
 one_edited total r (c ∷ d ∷ cs) e = absurd cc
 
 -- the range of the value at the place is the one that gives way
-found_edit : (form : Text) (p : Place) (start end : ℕ) (old : List ℕ) → IsDocument old form
+pub found_edit : (form : Text) (p : Place) (start end : ℕ) (old : List ℕ) → IsDocument old form
     → is_value_at form p ≡ true → IsWrittenAt form p start end
     → (c : Valued × List ℕ) × (edited (one p) form ≡ c ∷ []) × (start ≡ start_of (length (text form)) c.0) ×
     (end ≡ end_of (length (text form)) c.0)
@@ -97,7 +97,7 @@ found_edit form p start end old document told range =
     (apart_none (one p) form apart) (first_of_distinct (one p) (tt, tt))
     (one_range form p [] r (range, refl)) (tt, tt))
 
-same_flip : (p q : Place) → same_place p q ≡ same_place q p
+pub same_flip : (p q : Place) → same_place p q ≡ same_place q p
 same_flip p q =
     by_test (same_place p q)
     (λ h. h ∙ sym (ap (λ r. same_place q r) (same_place_is p q h) ∙ same_place_self q))
@@ -113,7 +113,7 @@ splice_at v w = record { from = value w.value w.after; to = w.after; now = value
 abbrev splice_for : Place → NewValue → Valued → Option Splice
 splice_for p v w = cond (same_place w.place p) (Some (splice_at v w)) None
 
-only_one : (o : Option Splice) → first_of (o ∷ []) ≡ o
+pub only_one : (o : Option Splice) → first_of (o ∷ []) ≡ o
 only_one None = refl
 only_one (Some s) = refl
 
@@ -154,12 +154,12 @@ pub record SetAt (p : Place) (v : NewValue) (form : Text) (start end : ℕ) : Ty
 cut_front : (whole front back : List ℕ) → whole ≡ front ++ back → length whole - length back ≡ length front
 cut_front whole front back e = let all = ap length e in let one = length-append front back in omega arith
 
-take_front : (whole front back : List ℕ) → whole ≡ front ++ back
+pub take_front : (whole front back : List ℕ) → whole ≡ front ++ back
     → take (length whole - length back) whole ≡ front
 take_front whole front back e = ap₂ (λ n (l : List ℕ). take n l) (cut_front whole front back e) e
     ∙ take-append_seam front back
 
-drop_front : (whole front back : List ℕ) → whole ≡ front ++ back
+pub drop_front : (whole front back : List ℕ) → whole ≡ front ++ back
     → drop (length whole - length back) whole ≡ back
 drop_front whole front back e = ap₂ (λ n (l : List ℕ). drop n l) (cut_front whole front back e) e
     ∙ drop-append_seam front back

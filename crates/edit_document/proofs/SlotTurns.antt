@@ -57,10 +57,10 @@ closing_no_comma : (t : Bool) → eqb (closing t) comma ≡ false
 closing_no_comma true = refl
 closing_no_comma false = refl
 
-slot_longer : (s : Slot) (c : List Between) (rest : List ℕ) → length rest ≤ length (slot s (gap c rest))
+pub slot_longer : (s : Slot) (c : List Between) (rest : List ℕ) → length rest ≤ length (slot s (gap c rest))
 slot_longer s c rest = omega (arith, ap length (slot_rest s (gap c rest)), length-append (slot s []) (gap c rest), gap_longer c rest)
 
-slots_some : (ss : Slots) (b : ℕ) → 1 ≤ length (slots ss (b ∷ []))
+pub slots_some : (ss : Slots) (b : ℕ) → 1 ≤ length (slots ss (b ∷ []))
 slots_some no_slots b = omega arith
 slots_some (last_slot s c) b = omega (arith, slot_longer s c (b ∷ []))
 slots_some (more_slots s c d ss) b = omega (arith, slot_longer s c (comma ∷ gap d (slots ss (b ∷ []))))

@@ -25,14 +25,14 @@ use edit_syntax::read::steps::{past_blanks, past_name, past_value};
 use std::alloc::{AllocError, Global};
 
 /// Whether a byte comes first.
-fn begins(s: &[u8], b: u8) -> bool
+pub(crate) fn begins(s: &[u8], b: u8) -> bool
     ensures { result ≡ (reading.first s.now == b) }
 {
     s.first().copied().unwrap_or(0) == b
 }
 
 /// What follows the first byte.
-fn behind_one(s: &[u8]) -> &[u8]
+pub(crate) fn behind_one(s: &[u8]) -> &[u8]
     ensures { result.now ≡ drop 1 s.now }
 {
     match s {
@@ -42,7 +42,7 @@ fn behind_one(s: &[u8]) -> &[u8]
 }
 
 /// What stands before a text's end.
-fn before<'a>(from: &'a [u8], to: &[u8]) -> &'a [u8]
+pub(crate) fn before<'a>(from: &'a [u8], to: &[u8]) -> &'a [u8]
     ensures { result.now ≡ take (length from.now - length to.now) from.now }
 {
     let len = from.len().saturating_sub(to.len());
@@ -215,7 +215,7 @@ fn is_element(index: usize, below: &[Step]) -> bool
 }
 
 /// Whether the element or the member at the front goes, and what follows it.
-fn past_slot<'a>(
+pub(crate) fn past_slot<'a>(
     alloc: Global,
     text: &str,
     s: &'a [u8],
