@@ -64,6 +64,13 @@ pub mod WidenedViews
 pub mod NewValues
 pub mod SetBytes
 pub mod SetValues
+-- Places that one statement alone names
+pub mod NamedPairs
+pub mod HeadedPlaces
+pub mod PairedPlaces
+pub mod AlonePlaces
+pub mod OnlyMembers
+pub mod OneStatements
 -- Two documents compared
 pub mod ContentViews
 pub mod Keyed
