@@ -71,6 +71,9 @@ pub mod PairedPlaces
 pub mod AlonePlaces
 pub mod OnlyMembers
 pub mod OneStatements
+pub mod NodeStatements
+pub mod NodeAnswers
+pub mod AloneTurns
 -- Two documents compared
 pub mod ContentViews
 pub mod Keyed

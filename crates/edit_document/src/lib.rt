@@ -16,6 +16,7 @@ pub mod new_item;
 mod new_shown;
 mod nodes;
 pub mod place;
+mod one_statement;
 mod replace;
 mod set_value;
 mod unordered;
