@@ -1,8 +1,7 @@
 -- What may still be asserted of a place tells which assertions stand there, and how often pairs name it.
-use Rattle.std.proofs.Common.{◌≡◌, ℕ, suc, Bool, true, false, not, ◌&&◌, ◌||◌, cond, List, [], ◌∷◌, Option, Some, None, refl, sym, ap, ◌∙◌, true≢false}
-use Rattle.std.proofs.lemmas.Bool.{and_parts, or_left, or_right}
-use Rattle.std.specs.List.{AllByRecursion, list_any}
-use Rattle.edit_syntax.specs.Grammar.{Value}
+use Rattle.std.proofs.Common.{◌≡◌, suc, Bool, true, false, not, ◌&&◌, ◌||◌, cond, List, [], ◌∷◌, Some, None, refl, sym, ap, ◌∙◌, true≢false}
+use Rattle.std.proofs.lemmas.Bool.{and_parts}
+use Rattle.std.specs.List.{AllByRecursion}
 use Rattle.edit_document.specs.Assertions.{Place, same_place, Kind, dotted, leaf, super, header_kind, array_kind, element_kind, Assertion, together, NoClash}
 use Rattle.edit_document.specs.Tree.{kind_at}
 use Rattle.edit_document.proofs.HeadedPlaces.{is_headed_at}

@@ -1,10 +1,10 @@
 -- The turns from a place down its only members.
-use Rattle.std.proofs.Common.{◌≡◌, ℕ, suc, ◌<◌, ◌≤◌, ◌+◌, ◌==◌, Bool, true, false, not, ◌&&◌, cond, List, [], ◌∷◌, ◌++◌, length, get_or, take, Option, Some, None, is_some, refl, sym, ap, subst, ◌∙◌, arith}
+use Rattle.std.proofs.Common.{◌≡◌, ℕ, ◌<◌, ◌≤◌, ◌+◌, ◌==◌, false, not, ◌&&◌, cond, List, [], ◌∷◌, ◌++◌, length, get_or, take, Option, Some, None, is_some, refl, sym, ap, ◌∙◌, arith}
 use Rattle.std.specs.Prelude.{option_map}
 use Rattle.std.specs.List.{filter, list_any}
 use Rattle.std.proofs.lemmas.List.{length-append, take_all}
 use Rattle.edit_syntax.specs.Grammar.{Text}
-use Rattle.edit_document.specs.Assertions.{Step, key, index, Place, at, same_place, Kind, assertions}
+use Rattle.edit_document.specs.Assertions.{Step, key, index, Place, at, Kind, assertions}
 use Rattle.edit_document.specs.EditBytes.{as_it_is, part_to, is_header_of, is_one_statement}
 use Rattle.edit_document.specs.Items.{place_numbered, place_seen, step_seen}
 use Rattle.edit_document.specs.declared.place.Step.{Step as WrittenStep}
@@ -65,8 +65,7 @@ pub reaches_next : (d : Shown) (place : Place) (i n m : ℕ) → Reaches d place
 reaches_next d place i n m r answers form manifest =
     let a = answers form r.2.0 r.2.1 manifest r.2.2 in
     let long : length (place_numbered d m) ≡ length (place_numbered d n) + 1 =
-    ap length a.1.1.1 ∙ length-append (place_numbered d n) (key a.1.0 ∷ []) in
-    (
+    ap length a.1.1.1 ∙ length-append (place_numbered d n) (key a.1.0 ∷ []) in (
       a.1.1.0,
       omega (arith, long, r.1),
       (place_numbered d n, a.1.0, a.1.1.1),

@@ -4,7 +4,7 @@ use Rattle.std.proofs.lemmas.Bool.{and_parts, and_from, or_left, or_right}
 use Rattle.std.specs.List.{list_any}
 use Rattle.edit_document.specs.Statements.{stated_line}
 use Rattle.edit_syntax.specs.Grammar.{Statement, pair, header, element_header, empty_line, full_line, Lines, one_line, more_lines, Text}
-use Rattle.edit_syntax.proofs.Cases.{by_test, or_false}
+use Rattle.edit_syntax.proofs.Cases.{by_test}
 use Rattle.edit_document.specs.Assertions.{Place, Step, key, index, at, same_step, same_place, Kind, super, header_kind, array_kind, element_kind, Assertion, asserts, names, is_array, is_array_at, elements_at, resolved, fronts, header_place, of_statement, prefix_after, of_lines, assertions}
 use Rattle.edit_document.specs.EditBytes.{is_within as is_inside, is_header_of}
 use Rattle.edit_document.proofs.NamedPairs.{is_paired, has_head, head_append, ArePaired, pair_pairs, statement_heads}

@@ -1,6 +1,5 @@
 -- The pairs and headers that name a place, told by the assertions of a text.
-use Rattle.std.proofs.Common.{◌≡◌, ℕ, suc, ◌+◌, ◌==◌, Bool, true, false, not, ◌&&◌, ◌||◌, cond, List, [], ◌∷◌, ◌++◌, map, length, Option, Some, None, is_some, refl, sym, ap, ap₂, ◌∙◌, true≢false, arith}
-use Rattle.std.proofs.lemmas.Bool.{and_parts}
+use Rattle.std.proofs.Common.{◌≡◌, ℕ, suc, ◌+◌, ◌==◌, Bool, true, false, not, ◌&&◌, ◌||◌, cond, List, [], ◌∷◌, ◌++◌, map, length, Some, None, is_some, refl, sym, ap, ap₂, ◌∙◌, true≢false, arith}
 use Rattle.std.specs.List.{AllByRecursion, filter, flat_map, list_any}
 use Rattle.edit_syntax.specs.Characters.{comma, right_bracket, right_brace}
 use Rattle.edit_syntax.specs.Strings.{◌·◌, Dotted, Key, name, line_end}
@@ -8,9 +7,9 @@ use Rattle.edit_syntax.specs.Grammar.{gap, Value, basic, literal, multi_basic, m
 use Rattle.edit_syntax.proofs.Cases.{by_test}
 use Rattle.edit_document.specs.Assertions.{Place, key, index, at, same_place, Kind, dotted, leaf, super, header_kind, array_kind, element_kind, Assertion, asserts, names, named, elements_at, of_key, of_value, of_elements, of_members, resolved, fronts, header_place, of_statement, prefix_after, of_lines, assertions}
 use Rattle.edit_document.specs.EditBytes.{is_within as is_inside, as_it_is, part_to, is_header_of, is_one_statement}
-use Rattle.edit_document.specs.Statements.{Named, dotted_parts, behind_part, Paired, paired, paired_members, paired_value, paired_statement, Stated, stated_line, stated_in, stated, line_pairs, inner_pairs}
+use Rattle.edit_document.specs.Statements.{dotted_parts, behind_part, Paired, paired, paired_members, paired_value, paired_statement, Stated, stated_line, stated_in, line_pairs, inner_pairs}
 use Rattle.edit_document.specs.Replaces.{is_below}
-use Rattle.edit_document.specs.Written.{Valued, valued, inside, in_elements, in_members, in_statement, in_lines, values}
+use Rattle.edit_document.specs.Written.{valued, inside, in_elements, in_members, in_statement, in_lines}
 use Rattle.edit_document.proofs.SamePlace.{same_place_is, other_place}
 use Rattle.edit_document.proofs.SamePlaces.{is_within, within_same, within_at, below_at, not_below_itself}
 

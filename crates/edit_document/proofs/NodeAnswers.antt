@@ -1,5 +1,5 @@
 -- What the answers of a document's nodes say of the statements that name their places.
-use Rattle.std.proofs.Common.{◌≡◌, ℕ, suc, ◌<◌, ◌≤◌, ◌+◌, Bool, true, false, List, [], ◌∷◌, length, Option, Some, None, refl, sym, ap, subst, ◌∙◌, arith}
+use Rattle.std.proofs.Common.{◌≡◌, ℕ, true, false, List, [], ◌∷◌, length, Option, Some, None, refl, sym, ap, subst, ◌∙◌, arith}
 use Rattle.std.specs.Prelude.{map, slice_get, IsUtf8, string_bytes}
 use Rattle.std.proofs.lemmas.Option.{same_Some}
 use Rattle.edit_syntax.specs.Grammar.{Text}
@@ -17,13 +17,12 @@ use Rattle.edit_document.specs.Nodes.{names_of}
 use Rattle.edit_document.specs.OneStatement.{HasMember, Answers}
 use Rattle.edit_document.specs.Shown.{Shown, tree_of}
 use Rattle.edit_document.specs.Supported.{IsManifest}
-use Rattle.edit_document.specs.Taking.{joins}
 use Rattle.edit_document.specs.Written.{values}
 use Rattle.edit_document.proofs.AssertedSpots.{Stands}
 use Rattle.edit_document.proofs.NodeStatements.{value_states, super_states, array_states, headed_states, names_seen, only_states, other_states}
 use Rattle.edit_document.proofs.Shallow.{one_form}
 use Rattle.edit_document.proofs.ShownForms.{shown_bytes}
-use Rattle.edit_document.proofs.Views.{Opened, opened, Found, view_of_spot, view_spot}
+use Rattle.edit_document.proofs.Views.{Opened, opened, Found, view_spot}
 use Rattle.edit_document.proofs.Wholes.{stands_of}
 
 -- the spots of a document stand for the assertions of its form
@@ -70,7 +69,7 @@ module _ (d : Shown) (nodes : List Node) (opens : Opened d nodes) (n : ℕ) (nod
   pub only_answer : node.taken ≡ Dotted → (m : ℕ) → HasMember d n (Some m) → Answers form d n (AsMember m)
   only_answer e m h = (
     here_is ∙ only_states form opens.spots n f.spot st f.stands upper name there (taken Dotted e) h.0 (sym (names_are e) ∙ h.1)
-    ∙ ap (λ p. is_one_statement form (at p (key h.0))) (sym f.place) ∙ ap (λ p. is_one_statement form p) (sym h.2.1),
+        ∙ ap (λ p. is_one_statement form (at p (key h.0))) (sym f.place) ∙ ap (λ p. is_one_statement form p) (sym h.2.1),
     (h.0, h.2),
   )
 

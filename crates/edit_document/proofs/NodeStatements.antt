@@ -1,10 +1,10 @@
 -- What a node of a document tells of the statements that name its place.
-use Rattle.std.proofs.Common.{◌≡◌, ℕ, zero, suc, Bool, true, false, List, [], ◌∷◌, length, map, Option, Some, None, refl, sym, ap, subst, ◌∙◌, true≢false}
+use Rattle.std.proofs.Common.{◌≡◌, ℕ, zero, suc, true, false, List, [], ◌∷◌, length, map, Some, None, refl, sym, ap, subst, ◌∙◌, true≢false}
 use Rattle.std.specs.Prelude.{slice_get}
 use Rattle.std.proofs.lemmas.Option.{same_Some}
 use Rattle.edit_syntax.specs.Grammar.{Value, Text}
 use Rattle.edit_document.specs.declared.nodes.Taken.{Taken}
-use Rattle.edit_document.specs.declared.nodes.Taken.TheVariants.{Dotted, Value as ByValue, Super, Header, Array, Element}
+use Rattle.edit_document.specs.declared.nodes.Taken.TheVariants.{Dotted, Value as ByValue, Super, Header, Array}
 use Rattle.edit_document.specs.Assertions.{Step, key, index, Place, at, Kind, dotted, leaf, super, header_kind, array_kind, element_kind, Assertion, assertions, together}
 use Rattle.edit_document.specs.DocumentLayout.{placed}
 use Rattle.edit_document.specs.EditBytes.{is_one_statement}

@@ -1,17 +1,17 @@
 -- Which places one statement alone names, told by the kind of their first assertion and by their members.
-use Rattle.std.proofs.Common.{◌≡◌, ℕ, zero, suc, ◌+◌, ◌≤◌, ◌==◌, Bool, true, false, not, ◌&&◌, ◌||◌, cond, List, [], ◌∷◌, Option, Some, None, refl, sym, ap, ap₂, subst, ◌∙◌, ◌⊎◌, inl, inr, true≢false, arith}
+use Rattle.std.proofs.Common.{◌≡◌, ℕ, suc, ◌+◌, ◌≤◌, ◌==◌, Bool, true, false, not, ◌&&◌, ◌||◌, cond, List, [], ◌∷◌, Option, Some, None, refl, sym, ap, ap₂, subst, ◌∙◌, ◌⊎◌, inl, inr, true≢false, arith}
 use Rattle.std.proofs.lemmas.Bool.{and_parts, eqb-true}
 use Rattle.std.proofs.lemmas.Option.{same_Some}
 use Rattle.std.specs.List.{AllByRecursion}
 use Rattle.edit_syntax.specs.Grammar.{Value, Text}
 use Rattle.edit_syntax.proofs.Cases.{by_test}
-use Rattle.edit_document.specs.Assertions.{Place, Step, key, index, at, same_place, Kind, dotted, leaf, super, header_kind, array_kind, element_kind, Assertion, assertions, together, NoClash}
+use Rattle.edit_document.specs.Assertions.{Place, Step, key, at, same_place, Kind, dotted, leaf, super, header_kind, array_kind, element_kind, Assertion, assertions, together, NoClash}
 use Rattle.edit_document.specs.Tree.{step_from, kind_at}
-use Rattle.edit_document.proofs.Below.{step_from_at, step_from_is}
+use Rattle.edit_document.proofs.Below.{step_from_at}
 use Rattle.edit_document.proofs.HeadedPlaces.{is_headed_at, headed_down, headed_up}
 use Rattle.edit_document.proofs.MoreAssertions.{allowed}
 use Rattle.edit_document.proofs.NamedPairs.{is_paired, pairs_at, has_head, is_alone}
-use Rattle.edit_document.proofs.PairedPlaces.{tally, goes_on, is_key, is_inner, members_even_out}
+use Rattle.edit_document.proofs.PairedPlaces.{tally, is_key, is_inner, members_even_out}
 use Rattle.edit_document.proofs.AlonePlaces.{dotted_open, dotted_pairs}
 use Rattle.edit_document.proofs.OnlyMembers.{HasOnly, shown, inner_pairs, head_above, head_next}
 use Rattle.edit_document.proofs.SamePlace.{same_place_is, last_same}

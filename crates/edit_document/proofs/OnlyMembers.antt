@@ -1,18 +1,15 @@
 -- A place that only dotted keys and headers go through, with one member: the same statements name the member.
-use Rattle.std.proofs.Common.{◌≡◌, ℕ, ◌==◌, Bool, true, false, not, ◌&&◌, ◌||◌, cond, List, [], ◌∷◌, ◌++◌, map, suc, Option, Some, None, refl, sym, ap, ap₂, ◌∙◌, ◌⊎◌, inl, inr, ⊎_elim, true≢false}
+use Rattle.std.proofs.Common.{◌≡◌, ℕ, Bool, true, false, ◌&&◌, ◌||◌, cond, List, [], ◌∷◌, suc, Option, Some, None, refl, sym, ap, ap₂, ◌∙◌, true≢false}
 use Rattle.std.proofs.lemmas.Bool.{and_parts, and_from, or_left, or_right}
 use Rattle.std.specs.List.{AllByRecursion}
-use Rattle.edit_syntax.specs.Grammar.{Text}
 use Rattle.edit_syntax.proofs.Cases.{by_test}
-use Rattle.edit_document.specs.Assertions.{Place, Step, key, index, at, same_step, same_place, Kind, dotted, leaf, super, header_kind, array_kind, element_kind, Assertion, assertions, together}
+use Rattle.edit_document.specs.Assertions.{Place, Step, key, at, same_step, same_place, Kind, dotted, leaf, super, header_kind, array_kind, element_kind, Assertion}
 use Rattle.edit_document.specs.EditBytes.{is_within as is_inside}
 use Rattle.edit_document.specs.Tree.{step_from, kind_at}
 use Rattle.edit_document.proofs.Below.{step_from_at, step_from_is}
-use Rattle.edit_document.proofs.HeadedPlaces.{is_headed_at, headed_down, inside_self, inside_more, inside_trans}
-use Rattle.edit_document.proofs.MoreAssertions.{allowed}
-use Rattle.edit_document.proofs.NamedPairs.{is_paired, pairs_at, is_head, has_head, is_alone}
-use Rattle.edit_document.proofs.PairedPlaces.{tally, goes_on, is_key, is_inner, owns, IsOpen, members_even_out}
-use Rattle.edit_document.proofs.AlonePlaces.{dotted_open, dotted_pairs}
+use Rattle.edit_document.proofs.HeadedPlaces.{inside_self, inside_more, inside_trans}
+use Rattle.edit_document.proofs.NamedPairs.{is_paired, pairs_at, is_head, has_head}
+use Rattle.edit_document.proofs.PairedPlaces.{tally, is_key, is_inner, owns, IsOpen}
 use Rattle.edit_document.proofs.SamePlace.{same_place_is, same_place_self, same_step_is, same_step_self}
 
 -- whatever is asserted one step below the place is its member of this name

@@ -1,16 +1,15 @@
 -- Below a place that only dotted keys and headers go through, pairs assert as many members as dotted keys go on there.
 use Rattle.std.proofs.Common.{◌≡◌, ℕ, suc, ◌+◌, Bool, true, false, ◌&&◌, cond, List, [], ◌∷◌, ◌++◌, map, Option, Some, None, refl, sym, ap, ◌∙◌, subst, true≢false, append_assoc, arith}
 use Rattle.std.specs.List.{AllByRecursion}
-use Rattle.edit_syntax.specs.Strings.{name, Key}
 use Rattle.edit_syntax.specs.Grammar.{Value, basic, literal, multi_basic, multi_literal, boolean, integer, float, datetime, array, inline, Elements, no_elements, last_element, element, Members, no_members, last_member, member, Statement, pair, header, element_header, empty_line, full_line, Lines, one_line, more_lines, Text}
 use Rattle.edit_syntax.proofs.Cases.{by_test}
-use Rattle.edit_document.specs.Assertions.{Place, Step, key, index, at, same_place, Kind, dotted, leaf, super, header_kind, array_kind, element_kind, Assertion, asserts, names, named, elements_at, of_key, of_value, of_elements, of_members, resolved, fronts, header_place, of_statement, prefix_after, of_lines, assertions}
+use Rattle.edit_document.specs.Assertions.{Place, Step, key, index, at, same_place, Kind, dotted, leaf, header_kind, array_kind, element_kind, Assertion, asserts, names, named, elements_at, of_key, of_value, of_elements, of_members, resolved, fronts, header_place, of_statement, prefix_after, of_lines, assertions}
 use Rattle.edit_document.specs.Replaces.{is_below}
 use Rattle.edit_document.specs.Tree.{step_from}
 use Rattle.edit_document.proofs.Below.{step_from_at, step_from_is}
 use Rattle.edit_document.proofs.NamedPairs.{is_paired}
-use Rattle.edit_document.proofs.SamePlace.{same_place_is, same_place_self, last_same, other_place, not_below}
-use Rattle.edit_document.proofs.SamePlaces.{is_within, within_same, below_at, below_within, not_below_itself}
+use Rattle.edit_document.proofs.SamePlace.{same_place_is, same_place_self, last_same}
+use Rattle.edit_document.proofs.SamePlaces.{within_same, below_at, below_within, not_below_itself}
 
 -- ---- counts
 

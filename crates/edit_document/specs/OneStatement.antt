@@ -1,9 +1,9 @@
 -- What a node's answer says of the statements that name its place.
-use Rattle.std.specs.Prelude.{◌≡◌, ℕ, ◌<◌, true, false, List, [], ◌∷◌, length, Option, MatchOption}
+use Rattle.std.specs.Prelude.{◌≡◌, ℕ, true, false, List, [], ◌∷◌, length, Option, MatchOption}
 use Rattle.edit_syntax.specs.Grammar.{Text}
 use Rattle.edit_document.specs.declared.one_statement.Statements.{Statements}
 use Rattle.edit_document.specs.declared.one_statement.Statements.TheVariants.{One, Other, AsMember}
-use Rattle.edit_document.specs.Assertions.{Place, at, key}
+use Rattle.edit_document.specs.Assertions.{at, key}
 use Rattle.edit_document.specs.Compared.{IsNumber}
 use Rattle.edit_document.specs.EditBytes.{is_one_statement}
 use Rattle.edit_document.specs.Items.{place_numbered, view_numbered, names_in}

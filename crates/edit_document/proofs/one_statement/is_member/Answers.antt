@@ -1,4 +1,4 @@
-use Rattle.std.proofs.Common.{◌≡◌, ◌-◌, sym, ap, ◌∙◌, length, take, arith}
+use Rattle.std.proofs.Common.{◌-◌, ap, ◌∙◌, length, take, arith}
 use Rattle.std.specs.Prelude.{string_bytes}
 use Rattle.edit_document.specs.Assertions.{at}
 use Rattle.edit_document.specs.Items.{place_seen, step_seen}
@@ -11,5 +11,5 @@ returns-in-Key-clause-yes c e =
       place_seen (take i c.args.place.now),
       string_bytes c.in-Key.field-0,
       last_member c.args.place.now c.last-item.result i (omega (arith, c.in-len1-up.len_at_least)) c.last-item.is
-      ∙ ap (λ s. at (place_seen (take i c.args.place.now)) (step_seen s)) c.in-Key.is,
+          ∙ ap (λ s. at (place_seen (take i c.args.place.now)) (step_seen s)) c.in-Key.is,
     )

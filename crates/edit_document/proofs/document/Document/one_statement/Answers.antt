@@ -1,4 +1,4 @@
-use Rattle.std.proofs.Common.{◌≡◌, false, refl, sym, ap, ◌∙◌, arith}
+use Rattle.std.proofs.Common.{refl, sym, ◌∙◌}
 use Rattle.edit_document.specs.Items.{place_seen}
 use Rattle.edit_document.proofs.AloneTurns.{unnamed_none, nothing_alone}
 use Rattle.edit_document.proofs.document.Document.one_statement.Goals as goal

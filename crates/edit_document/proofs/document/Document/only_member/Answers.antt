@@ -1,4 +1,4 @@
-use Rattle.std.proofs.Common.{◌≡◌, sym, ◌∙◌, arith}
+use Rattle.std.proofs.Common.{sym, arith}
 use Rattle.edit_document.proofs.NodeAnswers.{first_none, only_found}
 use Rattle.edit_document.proofs.document.Document.only_member.Goals as goal
 

@@ -1,6 +1,5 @@
 use Rattle.std.specs.Str.{IsUtf8}
-use Rattle.std.proofs.Common.{subst, sym, ◌∙◌, ap}
-use Rattle.edit_document.specs.OneStatement.{HasMember}
+use Rattle.std.proofs.Common.{subst}
 use Rattle.edit_document.proofs.NodeAnswers.{stood, value_answer, super_answer, array_answer, header_answer, element_answer, only_answer, other_answer}
 use Rattle.edit_document.proofs.Views.{opened, within, found}
 use Rattle.edit_document.proofs.document.Document.statements.Goals as goal
