@@ -15,7 +15,7 @@ use Rattle.edit_document.specs.Supported.{IsManifest}
 use Rattle.edit_document.specs.Tree.{kind_at, view_at, view_of_kind}
 use Rattle.edit_document.specs.declared.one_statement.Statements.TheVariants.{AsMember}
 use Rattle.edit_document.specs.OneStatement.{Answers}
-use Rattle.edit_document.proofs.NamedPairs.{one_statement_is}
+use Rattle.edit_document.proofs.NamedHeads.{one_statement_is}
 use Rattle.edit_document.proofs.OneStatements.{unpaired, none_alone, at_cons}
 use Rattle.edit_document.proofs.SamePlace.{other_place, last_same}
 

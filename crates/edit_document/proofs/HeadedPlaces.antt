@@ -7,7 +7,8 @@ use Rattle.edit_syntax.specs.Grammar.{Statement, pair, header, element_header, e
 use Rattle.edit_syntax.proofs.Cases.{by_test}
 use Rattle.edit_document.specs.Assertions.{Place, Step, key, index, at, same_step, same_place, Kind, super, header_kind, array_kind, element_kind, Assertion, asserts, names, is_array, is_array_at, elements_at, resolved, fronts, header_place, of_statement, prefix_after, of_lines, assertions}
 use Rattle.edit_document.specs.EditBytes.{is_within as is_inside, is_header_of}
-use Rattle.edit_document.proofs.NamedPairs.{is_paired, has_head, head_append, ArePaired, pair_pairs, statement_heads}
+use Rattle.edit_document.proofs.NamedHeads.{has_head, head_append, ArePaired, pair_pairs, statement_heads}
+use Rattle.edit_document.proofs.NamedPairs.{is_paired}
 use Rattle.edit_document.proofs.SamePlace.{same_step_is, same_step_self, same_place_is, same_place_self}
 
 -- something that no pair asserts stands at the place

@@ -66,6 +66,7 @@ pub mod SetBytes
 pub mod SetValues
 -- Places that one statement alone names
 pub mod NamedPairs
+pub mod NamedHeads
 pub mod HeadedPlaces
 pub mod PairedPlaces
 pub mod AlonePlaces

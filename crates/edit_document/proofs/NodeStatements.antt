@@ -17,7 +17,8 @@ use Rattle.edit_document.proofs.AlonePlaces.{header_none, array_none, headed_her
 use Rattle.edit_document.proofs.AssertedSpots.{Stands, Tells, Lists, shape_of_kind, was_asserted, step_below}
 use Rattle.edit_document.proofs.HeadedPlaces.{headed_up}
 use Rattle.edit_document.proofs.MoreAssertions.{allowed}
-use Rattle.edit_document.proofs.NamedPairs.{IsKeyed, is_alone, one_statement_is}
+use Rattle.edit_document.proofs.NamedHeads.{is_alone, one_statement_is}
+use Rattle.edit_document.proofs.NamedPairs.{IsKeyed}
 use Rattle.edit_document.proofs.OnceLists.{apart_once, names_apart}
 use Rattle.edit_document.proofs.OneStatements.{first_fits, leaf_alone, none_alone, headed_alone, at_cons, only_alone, bare_alone, two_alone}
 use Rattle.edit_document.proofs.SamePlace.{last_same, not_root}

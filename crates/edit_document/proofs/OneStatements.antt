@@ -10,7 +10,8 @@ use Rattle.edit_document.specs.Tree.{step_from, kind_at}
 use Rattle.edit_document.proofs.Below.{step_from_at}
 use Rattle.edit_document.proofs.HeadedPlaces.{is_headed_at, headed_down, headed_up}
 use Rattle.edit_document.proofs.MoreAssertions.{allowed}
-use Rattle.edit_document.proofs.NamedPairs.{is_paired, pairs_at, has_head, is_alone}
+use Rattle.edit_document.proofs.NamedHeads.{has_head, is_alone}
+use Rattle.edit_document.proofs.NamedPairs.{is_paired, pairs_at}
 use Rattle.edit_document.proofs.PairedPlaces.{tally, is_key, is_inner, members_even_out}
 use Rattle.edit_document.proofs.AlonePlaces.{dotted_open, dotted_pairs}
 use Rattle.edit_document.proofs.OnlyMembers.{HasOnly, shown, inner_pairs, head_above, head_next}

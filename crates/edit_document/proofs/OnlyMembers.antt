@@ -8,7 +8,8 @@ use Rattle.edit_document.specs.EditBytes.{is_within as is_inside}
 use Rattle.edit_document.specs.Tree.{step_from, kind_at}
 use Rattle.edit_document.proofs.Below.{step_from_at, step_from_is}
 use Rattle.edit_document.proofs.HeadedPlaces.{inside_self, inside_more, inside_trans}
-use Rattle.edit_document.proofs.NamedPairs.{is_paired, pairs_at, is_head, has_head}
+use Rattle.edit_document.proofs.NamedHeads.{is_head, has_head}
+use Rattle.edit_document.proofs.NamedPairs.{is_paired, pairs_at}
 use Rattle.edit_document.proofs.PairedPlaces.{tally, is_key, is_inner, owns, IsOpen}
 use Rattle.edit_document.proofs.SamePlace.{same_place_is, same_place_self, same_step_is, same_step_self}
 
