@@ -17,6 +17,8 @@ mod literals;
 #[cfg(test)]
 mod new_items;
 #[cfg(test)]
+mod one_statement;
+#[cfg(test)]
 mod paths;
 #[cfg(test)]
 mod refusals;

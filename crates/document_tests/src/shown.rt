@@ -79,6 +79,12 @@ fn type_at(alloc: Global, document: &Document, place: &str) -> Result<String, Al
     String::from_str(alloc, name)
 }
 
+/// Whether one statement alone names a place.
+fn is_one_statement(alloc: Global, document: &Document, place: &str) -> Result<String, Fail> {
+    let place = place_of(alloc, place)?;
+    text(alloc, word(document.one_statement(&place)))
+}
+
 /// What a document answers to a question about a place; `-` where nothing stands.
 pub(crate) fn shown(
     alloc: Global,
@@ -88,6 +94,9 @@ pub(crate) fn shown(
 ) -> Result<String, Fail> {
     if question == "item" {
         return Ok(type_at(alloc, document, place)?);
+    }
+    if question == "one_statement" {
+        return is_one_statement(alloc, document, place);
     }
     match walked(document, place) {
         Some(item) => answer_of(alloc, item, question),

@@ -65,6 +65,17 @@ pub mod WidenedViews
 pub mod NewValues
 pub mod SetBytes
 pub mod SetValues
+-- Places that one statement alone names
+pub mod NamedPairs
+pub mod NamedHeads
+pub mod HeadedPlaces
+pub mod PairedPlaces
+pub mod AlonePlaces
+pub mod OnlyMembers
+pub mod OneStatements
+pub mod NodeStatements
+pub mod NodeAnswers
+pub mod AloneTurns
 -- Two documents compared
 pub mod ContentViews
 pub mod Keyed

@@ -33,3 +33,4 @@ pub use Rattle.edit_syntax.specs.Grammar
 pub mod Slots
 pub mod SlotTexts
 pub mod Remainders
+pub mod OneStatement

@@ -17,6 +17,7 @@ mod locate;
 pub mod new_item;
 mod new_shown;
 mod nodes;
+mod one_statement;
 pub mod place;
 mod replace;
 mod set_value;

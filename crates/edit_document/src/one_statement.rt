@@ -1,0 +1,103 @@
+//! Places that one statement alone names.
+ghost use Rattle.std.specs.Prelude.{◌≡◌, ◌<◌, ℕ, List, true, false, length};
+ghost use Rattle.edit_syntax.specs.Grammar.{Text};
+ghost use Rattle.edit_document.specs.Assertions.{Place, at, key as key_step};
+ghost use Rattle.edit_document.specs.EditBytes.{is_one_statement};
+ghost use Rattle.edit_document.specs.Items.{place_numbered, place_seen};
+ghost use Rattle.edit_document.specs.OneStatement.{HasMember, Answers};
+ghost use Rattle.edit_document.specs.Supported.{IsManifest};
+
+use crate::document::Document;
+use crate::nodes::Taken;
+use crate::place::Step;
+
+/// What a node tells of the statements that name its place.
+#[derive(Clone, Copy)]
+pub(crate) enum Statements {
+    /// One pair, and no header.
+    One,
+    /// None, several, or a header.
+    Other,
+    /// The same as those of its only member.
+    AsMember(usize),
+}
+
+/// Whether a place is that of a member of a table.
+fn is_member(place: &[Step]) -> bool
+    ensures yes { result ≡ true → (upper : Place) × (name : List ℕ)
+        × (place_seen place.now ≡ at upper (key_step name)) }
+    ensures no { result ≡ false → (upper : Place) → (name : List ℕ)
+        → place_seen place.now ≡ at upper (key_step name) → ⊥ }
+{
+    let [_upper @ .., last] = place else {
+        return false;
+    };
+    match last {
+        Step::Key(_) => true,
+        Step::Index(_) => false,
+    }
+}
+
+impl Document {
+    /// The number of the member of a node that has no other.
+    fn only_member(&self, number: usize) -> Option<usize>
+        requires { number < length self.now.nodes }
+        ensures { HasMember self.now number result }
+    {
+        self.is_whole(number);
+        if self.name_count(number) != 1 {
+            return None;
+        }
+        match self.member_name(number, 0) {
+            Some(name) => self.member(number, name),
+            None => None,
+        }
+    }
+
+    /// How the statements stand that name the place of a node that is a member.
+    fn statements(&self, number: usize) -> Statements
+        requires { number < length self.now.nodes }
+        ensures { (form : Text) → (upper : Place) → (name : List ℕ) → IsManifest self.now.bytes form
+            → place_numbered self.now number ≡ at upper (key_step name)
+            → Answers form self.now number result }
+    {
+        let _text = self.text.as_str();
+        let node = &self.nodes[number];
+        match node.taken {
+            Taken::Value => Statements::One,
+            Taken::Super => Statements::Other,
+            Taken::Header => Statements::Other,
+            Taken::Array => Statements::Other,
+            Taken::Element => Statements::Other,
+            Taken::Dotted => match self.only_member(number) {
+                Some(next) => Statements::AsMember(next),
+                None => Statements::Other,
+            },
+        }
+    }
+
+    /// Whether exactly one pair names a place by some part of its key, and no header does. The root and an
+    /// element of an array are named by no pair. It takes no memory.
+    pub fn one_statement(&self, place: &[Step]) -> bool
+        ensures { (form : Text) → IsManifest self.now.bytes form
+            → result ≡ is_one_statement form (place_seen place.now) }
+    {
+        self.has_form();
+        if !is_member(place) {
+            return false;
+        }
+        let Some(first) = self.number(place) else {
+            return false;
+        };
+        let mut number = first;
+        'steps: for _step in 0..81_usize {
+            match self.statements(number) {
+                Statements::One => return true,
+                Statements::Other => return false,
+                Statements::AsMember(next) => number = next,
+            }
+        }
+        self.is_whole(number);
+        false
+    }
+}
