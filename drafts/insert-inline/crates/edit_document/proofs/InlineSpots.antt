@@ -1,0 +1,161 @@
+-- Where a member more is written into an inline table of a text.
+use Rattle.std.proofs.Common.{◌≡◌, ℕ, ◌-◌, ◌+◌, ◌<◌, Bool, true, false, cond, List, [], ◌∷◌, length, get_or, Option, Some, None, refl, sym, ap, ap₂, ◌∙◌, ◌⊎◌, inl, inr, length-append, arith}
+use Rattle.std.specs.Prelude.{IsUtf8}
+use Rattle.std.proofs.lemmas.Str.{IsCharBoundary-after_ascii}
+use Rattle.edit_syntax.specs.Characters.{comma, left_brace, right_brace}
+use Rattle.edit_syntax.specs.Grammar.{Between, gap, inline, value, IsValue, Members, no_members, last_member, member, members, AreMembers, Text}
+use Rattle.edit_syntax.proofs.ListElements.{get_seam}
+use Rattle.edit_syntax.proofs.Members.{Among}
+use Rattle.edit_document.specs.Assertions.{Place, same_place, NoClash, assertions}
+use Rattle.edit_document.specs.EditBytes.{Splice, first_of, first_made, behind_last, inline_grown, in_inline}
+use Rattle.edit_document.specs.Spots.{IsSpot}
+use Rattle.edit_document.specs.Written.{Valued, values}
+use Rattle.edit_document.proofs.Ends.{Ends, ends_one, ends_pair, ends_gap, ends_value}
+use Rattle.edit_document.proofs.InlineMembers.{gap_starts}
+use Rattle.edit_document.proofs.SamePlace.{same_place_self, same_place_is}
+use Rattle.edit_document.proofs.StatementSpots.{Starts, spot_of}
+use Rattle.edit_document.proofs.UniqueValues.{values_unique}
+
+-- ---- spots
+
+ends_members : (bytes : List ℕ) (ms : Members) (rest : List ℕ) → Ends bytes (members ms rest) → Ends bytes rest
+ends_members bytes no_members rest e = e
+ends_members bytes (last_member k a b v c) rest e =
+    ends_gap bytes c rest (ends_value bytes v _ (ends_pair bytes k a b (value v (gap c rest)) e))
+ends_members bytes (member k a b v c d ms) rest e =
+    ends_members bytes ms rest
+    (ends_gap bytes d _ (ends_one bytes comma _ (ends_gap bytes c _ (ends_value bytes v _
+    (ends_pair bytes k a b (value v (gap c (comma ∷ gap d (members ms rest)))) e)))))
+
+ends_behind : (bytes : List ℕ) (ms : Members) (rest : List ℕ) → Ends bytes (members ms rest)
+    → Ends bytes (behind_last ms rest)
+ends_behind bytes no_members rest e = e
+ends_behind bytes (last_member k a b v c) rest e =
+    ends_value bytes v _ (ends_pair bytes k a b (value v (gap c rest)) e)
+ends_behind bytes (member k a b v c d no_members) rest e =
+    ends_value bytes v _ (ends_pair bytes k a b (value v (gap c (comma ∷ gap d rest))) e)
+ends_behind bytes (member k a b v c d (last_member l x y w g)) rest e =
+    ends_behind bytes (last_member l x y w g) rest
+    (ends_gap bytes d _ (ends_one bytes comma _ (ends_gap bytes c _ (ends_value bytes v _
+    (ends_pair bytes k a b (value v (gap c (comma ∷ gap d (members (last_member l x y w g) rest)))) e)))))
+ends_behind bytes (member k a b v c d (member l x y w g h ms)) rest e =
+    ends_behind bytes (member l x y w g h ms) rest
+    (ends_gap bytes d _ (ends_one bytes comma _ (ends_gap bytes c _ (ends_value bytes v _
+    (ends_pair bytes k a b (value v (gap c (comma ∷ gap d (members (member l x y w g h ms) rest)))) e)))))
+
+behind_starts : (ms : Members) (rest : List ℕ) → AreMembers ms → Starts rest → Starts (behind_last ms rest)
+behind_starts no_members rest h st = st
+behind_starts (last_member k a b v c) rest h st = gap_starts c rest h.4 st
+behind_starts (member k a b v c d no_members) rest h st = gap_starts c _ h.4 (omega arith)
+behind_starts (member k a b v c d (last_member l x y w g)) rest h st =
+    behind_starts (last_member l x y w g) rest h.6 st
+behind_starts (member k a b v c d (member l x y w g f ms)) rest h st =
+    behind_starts (member l x y w g f ms) rest h.6 st
+
+-- behind a character of ASCII
+spot_behind : (bytes s : List ℕ) (b : ℕ) → b < 128 → IsUtf8 bytes → Ends bytes (b ∷ s) → IsSpot bytes s
+spot_behind bytes s b low u ends =
+    let whole = ap length ends.1 ∙ length-append ends.0 (b ∷ s) in
+    let at : length bytes - length s ≡ length ends.0 + 1 = omega arith in
+    let here : get_or bytes (length ends.0) 0 ≡ b =
+    ap (λ (l : List ℕ). get_or l (length ends.0) 0) ends.1 ∙ get_seam ends.0 s b in
+    let past = ends_one bytes b s ends in
+    record {
+      front = past.0;
+      seam = past.1;
+      fits = rw at (IsCharBoundary-after_ascii bytes (length ends.0) u (omega arith) (omega arith));
+    }
+
+-- where an inline table begins, what follows its opening brace, its last member, its members, and it
+pub record InlineSpots (bytes : List ℕ) (g : List Between) (ms : Members) (after : List ℕ) : Type 0 where
+  pub from : IsSpot bytes (value (inline g ms) after)
+  pub opened : IsSpot bytes (gap g (members ms (right_brace ∷ after)))
+  pub last : IsSpot bytes (behind_last ms (right_brace ∷ after))
+  pub close : IsSpot bytes (right_brace ∷ after)
+  pub behind : IsSpot bytes after
+
+pub inline_spots : (bytes : List ℕ) (g : List Between) (ms : Members) (after : List ℕ) → IsUtf8 bytes
+    → IsValue (inline g ms) → Ends bytes (value (inline g ms) after) → InlineSpots bytes g ms after
+inline_spots bytes g ms after u valid ends =
+    let gapped = ends_one bytes left_brace _ ends in
+    let inner = ends_gap bytes g (members ms (right_brace ∷ after)) gapped in
+    let close = ends_members bytes ms (right_brace ∷ after) inner in
+    record {
+      from = spot_of bytes _ ends (omega arith);
+      opened = spot_behind bytes _ left_brace (omega arith) u ends;
+      last = spot_of bytes _ (ends_behind bytes ms (right_brace ∷ after) inner)
+          (behind_starts ms (right_brace ∷ after) valid.1 (omega arith));
+      close = spot_of bytes (right_brace ∷ after) close (omega arith);
+      behind = spot_behind bytes after right_brace (omega arith) u close;
+    }
+
+-- ---- the row of inline tables
+
+only_one : {A : Type 0} (o : Option A) → first_of (o ∷ []) ≡ o
+only_one None = refl
+only_one (Some x) = refl
+
+same_twice : {A : Type 0} (o : Option A) → first_of (o ∷ o ∷ []) ≡ o
+same_twice None = refl
+same_twice (Some x) = refl
+
+-- what is made of one, where nothing else is made of any other
+first_same : {A B : Type 0} (f : A → Option B) (c : Option B) (xs : List A)
+    → ((x : A) → Among x xs → (f x ≡ None) ⊎ (f x ≡ c)) → (first_made f xs ≡ None) ⊎ (first_made f xs ≡ c)
+first_same f c [] all = inl refl
+first_same {A} {B} f c (x ∷ xs) all = go (all x (inl refl)) (first_same f c xs (λ y m. all y (inr m)))
+  where
+    go : (f x ≡ None) ⊎ (f x ≡ c) → (first_made f xs ≡ None) ⊎ (first_made f xs ≡ c)
+        → (first_made f (x ∷ xs) ≡ None) ⊎ (first_made f (x ∷ xs) ≡ c)
+    go (inl e) (inl h) = inl (ap₂ (λ (a b : Option B). first_of (a ∷ b ∷ [])) e h)
+    go (inl e) (inr h) =
+        inr (ap (λ (a : Option B). first_of (a ∷ first_made f xs ∷ [])) e ∙ only_one (first_made f xs) ∙ h)
+    go (inr e) (inl h) = inr (ap₂ (λ (a b : Option B). first_of (a ∷ b ∷ [])) e h ∙ none_behind c)
+      where
+        none_behind : (o : Option B) → first_of (o ∷ None ∷ []) ≡ o
+        none_behind None = refl
+        none_behind (Some y) = refl
+    go (inr e) (inr h) = inr (ap₂ (λ (a b : Option B). first_of (a ∷ b ∷ [])) e h ∙ same_twice c)
+
+first_found : {A B : Type 0} (f : A → Option B) (xs : List A) (x : A) (y : B) → Among x xs → f x ≡ Some y
+    → first_made f xs ≡ None → ⊥
+first_found f [] x y m e none = m
+first_found {A} {B} f (z ∷ zs) x y (inl h) e none =
+    let some : f z ≡ Some y = ap f (sym h) ∙ e in
+    let clash : Some y ≡ None = sym (ap (λ (o : Option B). first_of (o ∷ first_made f zs ∷ [])) some) ∙ none in
+    absurd cc
+first_found {A} {B} f (z ∷ zs) x y (inr m) e none =
+    first_found f zs x y m e (rest (f z) none)
+  where
+    rest : (o : Option B) → first_of (o ∷ first_made f zs ∷ []) ≡ None → first_made f zs ≡ None
+    rest None h = sym (only_one (first_made f zs)) ∙ h
+    rest (Some b) h = absurd cc
+
+-- into the inline table at the place
+pub inline_row : (form : Text) (place : Place) (m : List ℕ) (w : Valued) (s : Splice) → NoClash (assertions form)
+    → Among w (values form) → w.place ≡ place → inline_grown m w.value w.after ≡ Some s
+    → in_inline place m form ≡ Some s
+inline_row form place m w s clash among there grown = pick (first_same grow (Some s) (values form) each)
+  where
+    grow : Valued → Option Splice
+    grow v = cond (same_place v.place place) (inline_grown m v.value v.after) None
+
+    at_w : grow w ≡ Some s
+    at_w =
+        ap (λ (b : Bool). cond b (inline_grown m w.value w.after) None)
+        (ap (λ (p : Place). same_place p place) there ∙ same_place_self place) ∙ grown
+
+    each : (v : Valued) → Among v (values form) → (grow v ≡ None) ⊎ (grow v ≡ Some s)
+    each v listed = go (same_place v.place place) refl
+      where
+        go : (b : Bool) → same_place v.place place ≡ b → (grow v ≡ None) ⊎ (grow v ≡ Some s)
+        go true e =
+            let same : v ≡ w = values_unique form v w clash listed among
+            (same_place_is v.place place e ∙ sym there) in
+            inr (ap grow same ∙ at_w)
+        go false e = inl (ap (λ (b : Bool). cond b (inline_grown m v.value v.after) None) e)
+
+    pick : (first_made grow (values form) ≡ None) ⊎ (first_made grow (values form) ≡ Some s)
+        → in_inline place m form ≡ Some s
+    pick (inl none) = absurd (first_found grow (values form) w s among at_w none)
+    pick (inr e) = e
