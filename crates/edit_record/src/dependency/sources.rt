@@ -190,7 +190,9 @@ pub struct WorkspaceSource;
 
 impl WorkspaceSource {
     /// The workspace's entry.
-    pub fn new() -> WorkspaceSource {
+    pub fn new() -> WorkspaceSource
+        ensures only { (other : WorkspaceSource) → result ≡ other }
+    {
         WorkspaceSource
     }
 
