@@ -1,13 +1,13 @@
-//! Rows of inline tables over several lines (TOML 1.1.0, "Inline Table"), accepted and refused; a row ends at
-//! `~`.
+//! Rows of inline tables over several lines (TOML 1.1.0, "Inline Table"), accepted and refused; a row
+//! ends at `~`.
 use super::answers::{answer, deep};
 use std::alloc::Global;
 use std::test::Fail;
 use test_rows::{LINES, TILDES, rows_hold};
 
-/// Line ends, LF and CR LF, and comments between the pairs, a comma after the last one, in one another and beside
-/// arrays; then texts that no standard allows: a comma without a pair before it, two commas, no comma, a newline
-/// inside a pair.
+/// Line ends, LF and CR LF, and comments between the pairs, a comma after the last one, in one another
+/// and beside arrays; then texts that no standard allows: a comma without a pair before it, two commas,
+/// no comma, a newline inside a pair.
 const READ: &str = "\
 yes|read a line end behind the brace|x = {\na = 1 }~\
 yes|read a line end before the closing brace|x = { a = 1\n}~\
@@ -124,8 +124,8 @@ fn shows_and_sets_inline_tables_over_lines(rt: HostRuntime) -> Result<(), Fail> 
     rows_hold(rt.alloc(), SHOWN, TILDES, answer)
 }
 
-/// In one another, over several lines, with a comma after the last pair: 79 around an empty one are read, 80 are
-/// not.
+/// In one another, over several lines, with a comma after the last pair: 79 around an empty one are
+/// read, 80 are not.
 const DEEP: &str = "\
 yes|79|a = ^{\na = ^{\n}^,\n}^~\
 no|80|a = ^{\na = ^{\n}^,\n}^";

@@ -1,5 +1,5 @@
-//! Rows of values that are set and of new entries: what the text is afterwards, what is written where, and the
-//! text before; a row ends at `~`.
+//! Rows of values that are set and of new entries: what the text is afterwards, what is written where,
+//! and the text before; a row ends at `~`.
 use super::shown::place_of;
 use edit_document::{CargoResult, Document, NewItem, NewValue, Step};
 use std::alloc::{AllocError, Global};

@@ -3,7 +3,8 @@ use super::upgrade::{index_of, outcome};
 use std::test::Fail;
 use test_rows::same;
 
-/// A manifest whose entry is an inline table over several lines, with a comment and a comma after its last pair.
+/// A manifest whose entry is an inline table over several lines, with a comment and a comma after its
+/// last pair.
 const BEFORE: &str = "\
 [dependencies]
 x = { # c
