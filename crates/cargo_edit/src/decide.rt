@@ -25,7 +25,7 @@ pub(crate) struct Decided {
     pub(crate) reason: Option<Reason>,
 }
 
-// The text `old` raised to a version, or `other` where a comparator cannot be raised.
+/// The text `old` raised to a version, or `other` where a comparator cannot be raised.
 fn candidate(
     alloc: Global,
     old: &Requirement<'_>,
@@ -44,7 +44,7 @@ fn candidate(
     }
 }
 
-// The text for the latest version, where that is newer than the compatible one.
+/// The text for the latest version, where that is newer than the compatible one.
 fn latest_candidate(
     alloc: Global,
     old: &Requirement<'_>,
@@ -68,7 +68,7 @@ fn latest_candidate(
     candidate(alloc, old, latest.version, text)
 }
 
-// The text for the compatible version.
+/// The text for the compatible version.
 fn compatible_candidate(
     alloc: Global,
     old: &Requirement<'_>,
@@ -85,7 +85,7 @@ fn compatible_candidate(
     }
 }
 
-// An entry whose text stays.
+/// An entry whose text stays.
 fn keep(alloc: Global, old: &str, why: Reason) -> Result<Decided, AllocError>
     ensures { IfOk result (λ d. choice_view d ≡ record { new = old.now; change = None; reason = Some why }) }
 {
@@ -96,7 +96,7 @@ fn keep(alloc: Global, old: &str, why: Reason) -> Result<Decided, AllocError>
     })
 }
 
-// The first reason, or that the text stays.
+/// The first reason, or that the text stays.
 fn why_same(why: Option<Reason>) -> Reason
     ensures { Some result ≡ or_else why (Some reason.Latest) }
 {
@@ -106,7 +106,7 @@ fn why_same(why: Option<Reason>) -> Reason
     }
 }
 
-// An entry that gets a text.
+/// An entry that gets a text.
 fn take(old: &str, text: String, kind: Change, why: Option<Reason>) -> Decided
     ensures { choice_view result ≡ record {
       new = string_bytes text;
@@ -129,7 +129,7 @@ fn take(old: &str, text: String, kind: Change, why: Option<Reason>) -> Decided
     }
 }
 
-// Whether an entry may get the latest version.
+/// Whether an entry may get the latest version.
 fn may_jump(options: &Options, pinned: bool) -> bool
     ensures { result ≡ jumps_by options.now pinned }
 {
@@ -140,7 +140,7 @@ fn may_jump(options: &Options, pinned: bool) -> bool
     }
 }
 
-// Why a latest version is not taken: the first reason, or that the entry may not get it.
+/// Why a latest version is not taken: the first reason, or that the entry may not get it.
 fn why_held(pinned: bool, why: Option<Reason>) -> Reason
     ensures { Some result ≡ or_else why (Some (if pinned then reason.Pinned else reason.Incompatible)) }
 {
@@ -156,7 +156,7 @@ fn why_held(pinned: bool, why: Option<Reason>) -> Reason
     }
 }
 
-// The decision for a readable text, where no given text is taken; `aside` says that one was set aside.
+/// The decision for a readable text, where no given text is taken; `aside` says that one was set aside.
 fn decide_raised(
     alloc: Global,
     options: &Options,
@@ -190,7 +190,7 @@ fn decide_raised(
     }
 }
 
-// The decision, from the texts that could be written.
+/// The decision, from the texts that could be written.
 fn decide_by(
     alloc: Global,
     options: &Options,

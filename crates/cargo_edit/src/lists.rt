@@ -41,7 +41,7 @@ pub(crate) fn has_incompatible(rows: &[Row]) -> bool
     rows.iter().any(|row| is_held_incompatible(row.reason))
 }
 
-// The set of the names of the rows with a change.
+/// The set of the names of the rows with a change.
 fn name_set(alloc: Global, rows: &[Row]) -> CargoResult<Names>
     ensures names { IfOk result (λ s. (name : List ℕ) → contains_text s name
         ≡ list_any (bytes_eq name) (changed_names (map line_of rows.now))) }
@@ -68,14 +68,14 @@ pub(crate) fn modified_names(alloc: Global, rows: &[Row]) -> CargoResult<Vec<Str
     Ok(names)
 }
 
-// What is told of a requirement that is not read.
+/// What is told of a requirement that is not read.
 fn unreadable_text(alloc: Global, name: &str, old: &str) -> Result<String, AllocError>
     ensures { IfOk result (λ s. string_bytes s ≡ unreadable_text name.now old.now) }
 {
     format!(in alloc; "keeping {name}, unreadable requirement `{old}`")
 }
 
-// The warning on a row, where its requirement is not read.
+/// The warning on a row, where its requirement is not read.
 fn row_warning(alloc: Global, row: &Row) -> CargoResult<Option<Warning>>
     ensures ok { IfOk result (λ o. option_map warning_view o ≡ warning_of (line_of row.now)) }
     ensures refused { IfErr result IsMemory }

@@ -18,7 +18,7 @@ use edit_sources::index::{Index, IndexKrate};
 use std::alloc::Global;
 use url::Url;
 
-// The same answer, on memory of its own.
+/// The same answer, on memory of its own.
 fn copied_answer(alloc: Global, answer: Option<&IndexKrate>) -> CargoResult<Option<IndexKrate>>
     ensures ok { IfOk result (λ o. answer_of o ≡ answer_of (option_copied answer.entry)) }
     ensures refused { IfErr result IsMemory }
@@ -32,7 +32,7 @@ fn copied_answer(alloc: Global, answer: Option<&IndexKrate>) -> CargoResult<Opti
     }
 }
 
-// Sees to it that an answer is kept.
+/// Sees to it that an answer is kept.
 fn fetch_one<I: Index>(
     alloc: Global,
     registry: &Url,
@@ -57,7 +57,7 @@ fn fetch_one<I: Index>(
     index.fetch(alloc, registry, name)
 }
 
-// A look with the answer that is kept.
+/// A look with the answer that is kept.
 fn look_of<I: Index>(
     alloc: Global,
     registry: &Url,
@@ -80,7 +80,7 @@ fn look_of<I: Index>(
     })
 }
 
-// Looks a name up, and records the answer.
+/// Looks a name up, and records the answer.
 fn one_look<I: Index>(
     alloc: Global,
     registry: &Url,

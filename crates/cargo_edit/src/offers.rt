@@ -17,7 +17,7 @@ pub(crate) struct Offer<'a> {
     pub(crate) ghost plain: { string_bytes text ≡ plain_text (parts_of version.now) },
 }
 
-// The text of a version, without its build metadata.
+/// The text of a version, without its build metadata.
 fn plain_version(alloc: Global, version: &Version) -> Result<String, AllocError>
     ensures { IfOk result (λ s. string_bytes s ≡ plain_text (parts_of version.now)) }
 {

@@ -23,7 +23,7 @@ use edit_document::Document;
 use edit_sources::{Config, Index, IndexCache};
 use std::alloc::Global;
 
-// The output at a path, where there is a new text.
+/// The output at a path, where there is a new text.
 fn outputs_of(alloc: Global, path: &str, text: Option<String>) -> CargoResult<Vec<Output>>
     ensures ok { IfOk result (λ v. MatchOption text (v.items ≡ [])
         (λ s. IsOnlyOutput path.now (string_bytes s) v.items)) }
@@ -43,7 +43,7 @@ fn outputs_of(alloc: Global, path: &str, text: Option<String>) -> CargoResult<Ve
     }
 }
 
-// The plan of one manifest, from its rows.
+/// The plan of one manifest, from its rows.
 fn plan_of(
     alloc: Global,
     input: &Input,
@@ -76,7 +76,7 @@ fn plan_of(
     })
 }
 
-// The plan of one manifest that was read, over the answers of an index.
+/// The plan of one manifest that was read, over the answers of an index.
 fn plan_document<I: Index>(
     alloc: Global,
     options: &Options,
@@ -107,7 +107,7 @@ fn plan_document<I: Index>(
     plan_of(alloc, input, document, planned)
 }
 
-// The plan of one manifest, which is read first.
+/// The plan of one manifest, which is read first.
 fn plan_manifest<I: Index>(
     alloc: Global,
     options: &Options,

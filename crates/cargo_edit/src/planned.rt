@@ -49,7 +49,7 @@ pub(crate) fn read_manifest(alloc: Global, bytes: &[u8]) -> CargoResult<Document
     }
 }
 
-// Plans the rows of the entries of a manifest, of which there are some, and makes the looks that they need.
+/// Plans the rows of the entries of a manifest, of which there are some, and makes the looks that they need.
 fn plan_entries<I: Index>(
     alloc: Global,
     number: usize,

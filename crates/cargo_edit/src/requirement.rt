@@ -11,14 +11,14 @@ use edit_record::Requirement;
 use semver::{Comparator, Op};
 use std::alloc::Global;
 
-// `=`, `<`, `<=` and wildcards.
+/// `=`, `<`, `<=` and wildcards.
 fn is_pin(op: Op) -> bool
     ensures { result ≡ is_pin op }
 {
     matches!(op, Op::Exact | Op::Less | Op::LessEq | Op::Wildcard)
 }
 
-// Whether one of them pins its entry.
+/// Whether one of them pins its entry.
 fn has_pin(comparators: &[Comparator]) -> bool
     ensures { result ≡ list_any (λ c. is_pin c.op) comparators.now }
 {

@@ -29,7 +29,7 @@ use semver::Version;
 use std::alloc::Global;
 use url::Url;
 
-// The greatest version that a requirement admits; none where it is not read or no version is told.
+/// The greatest version that a requirement admits; none where it is not read or no version is told.
 fn compatible_for<'a>(
     ranked: Option<&'a Ranked>,
     old: &Requirement<'_>,
@@ -47,7 +47,7 @@ fn compatible_for<'a>(
     }
 }
 
-// The greatest version, pre-releases among them where the requirement has a `-`.
+/// The greatest version, pre-releases among them where the requirement has a `-`.
 fn latest_for<'a>(
     ranked: Option<&'a Ranked>,
     old: &str,
@@ -62,7 +62,7 @@ fn latest_for<'a>(
     }
 }
 
-// The text of a version that is offered.
+/// The text of a version that is offered.
 fn offered_text(offer: Option<Offer<'_>>) -> Option<String>
     ensures { option_map string_bytes result ≡ option_map plain_text (offered offer.entry) }
 {
@@ -72,7 +72,7 @@ fn offered_text(offer: Option<Offer<'_>>) -> Option<String>
     }
 }
 
-// The text of the latest version, of the compatible one where there is no latest.
+/// The text of the latest version, of the compatible one where there is no latest.
 fn latest_text(
     alloc: Global,
     compatible: Option<&Offer<'_>>,
@@ -90,7 +90,7 @@ fn latest_text(
     }
 }
 
-// The row of an entry, over its versions.
+/// The row of an entry, over its versions.
 fn row_over(
     alloc: Global,
     input: usize,
@@ -127,7 +127,7 @@ fn row_over(
     })
 }
 
-// The row of an entry, over the ranking of what the index told of its name.
+/// The row of an entry, over the ranking of what the index told of its name.
 fn row_for(
     alloc: Global,
     input: usize,
@@ -148,7 +148,7 @@ fn row_for(
     Ok(row)
 }
 
-// The row of an entry, over the answer that is kept for its name, which is ranked where it was not.
+/// The row of an entry, over the answer that is kept for its name, which is ranked where it was not.
 fn kept_row<I: Index>(
     alloc: Global,
     input: usize,

@@ -28,7 +28,7 @@ pub(crate) struct Entry {
     pub(crate) old: String,
 }
 
-// The place of one more step.
+/// The place of one more step.
 fn push_key(alloc: Global, place: &mut Place, name: &str) -> CargoResult<()>
     ensures ok { IfOk result
         (λ _. place_seen place.new.items ≡ at (place_seen place.old.items) (key name.now)) }
@@ -39,7 +39,7 @@ fn push_key(alloc: Global, place: &mut Place, name: &str) -> CargoResult<()>
     Ok(())
 }
 
-// The place of the table of dependencies.
+/// The place of the table of dependencies.
 fn dependencies_place(alloc: Global) -> CargoResult<Place>
     ensures ok { IfOk result (λ p. place_seen p.items ≡ dependencies) }
     ensures refused { IfErr result IsMemory }
@@ -49,7 +49,7 @@ fn dependencies_place(alloc: Global) -> CargoResult<Place>
     Ok(place)
 }
 
-// The place of an entry.
+/// The place of an entry.
 fn entry_place(alloc: Global, name: &str) -> CargoResult<Place>
     ensures ok { IfOk result (λ p. place_seen p.items ≡ entry_place name.now) }
     ensures refused { IfErr result IsMemory }
@@ -59,14 +59,14 @@ fn entry_place(alloc: Global, name: &str) -> CargoResult<Place>
     Ok(place)
 }
 
-// Whether a member keeps its entry seen.
+/// Whether a member keeps its entry seen.
 fn is_known(name: &str) -> bool
     ensures { result ≡ is_known name.now }
 {
     name == "version" || name == "optional" || name == "default-features"
 }
 
-// Whether each member of an item keeps its entry seen.
+/// Whether each member of an item keeps its entry seen.
 fn has_known_members(item: Item<'_>) -> bool
     ensures { result ≡ list_all is_known (names_in (view_of item.entry)) }
 {
@@ -77,7 +77,7 @@ fn has_known_members(item: Item<'_>) -> bool
     known
 }
 
-// Whether an item is a table whose members are all known.
+/// Whether an item is a table whose members are all known.
 fn is_plain_table(item: Item<'_>) -> bool
     ensures { result
         ≡ (is_tabular (view_of item.entry) && list_all is_known (names_in (view_of item.entry))) }
@@ -85,7 +85,7 @@ fn is_plain_table(item: Item<'_>) -> bool
     item.is_table_like() && has_known_members(item)
 }
 
-// An entry with a requirement.
+/// An entry with a requirement.
 fn entry_with(alloc: Global, name: &str, tabled: bool, text: &str) -> CargoResult<Entry>
     ensures ok { IfOk result (λ e. Some (seen_of e) ≡ seen_with name.now (entry_place name.now)
         (literal_place tabled (entry_place name.now)) (Some (string text.now))) }
@@ -99,7 +99,7 @@ fn entry_with(alloc: Global, name: &str, tabled: bool, text: &str) -> CargoResul
     })
 }
 
-// The entry of this name that is a string.
+/// The entry of this name that is a string.
 fn string_entry(alloc: Global, name: &str, text: &str) -> CargoResult<Entry>
     ensures ok { IfOk result (λ e. Some (seen_of e)
         ≡ seen_with name.now (entry_place name.now) (entry_place name.now) (Some (string text.now))) }
@@ -108,7 +108,7 @@ fn string_entry(alloc: Global, name: &str, text: &str) -> CargoResult<Entry>
     entry_with(alloc, name, false, text)
 }
 
-// The entry of this name that is a table with this version.
+/// The entry of this name that is a table with this version.
 fn table_entry(alloc: Global, name: &str, version: Item<'_>) -> CargoResult<Option<Entry>>
     ensures ok { IfOk result (λ o. option_map seen_of o
         ≡ seen_with name.now (entry_place name.now) (version_place (entry_place name.now))
@@ -122,7 +122,7 @@ fn table_entry(alloc: Global, name: &str, version: Item<'_>) -> CargoResult<Opti
     Ok(Some(entry))
 }
 
-// The entry of this name, where it is seen.
+/// The entry of this name, where it is seen.
 fn seen_item(alloc: Global, item: Item<'_>, name: &str) -> CargoResult<Option<Entry>>
     requires place { place_of item ≡ entry_place name.now }
     requires shown { tree_of (document_of item) (entry_place name.now) ≡ Some (view_of item) }
@@ -147,7 +147,7 @@ fn seen_item(alloc: Global, item: Item<'_>, name: &str) -> CargoResult<Option<En
     }
 }
 
-// The member of the table of dependencies, where it is seen.
+/// The member of the table of dependencies, where it is seen.
 fn seen_member(alloc: Global, table: Item<'_>, name: &str) -> CargoResult<Option<Entry>>
     requires { place_of table ≡ dependencies }
     ensures ok { IfOk result
@@ -193,7 +193,7 @@ pub(crate) fn literal_of(alloc: Global, entry: &Entry) -> CargoResult<Place>
     Ok(place)
 }
 
-// The same step, on memory of its own.
+/// The same step, on memory of its own.
 fn copied_step(alloc: Global, step: &Step) -> CargoResult<Step>
     ensures ok { IfOk result (λ s. step_seen s ≡ step_seen step.now) }
     ensures refused { IfErr result IsMemory }

@@ -17,7 +17,7 @@ use edit_base::CargoResult;
 use edit_document::{Document, Place};
 use std::alloc::Global;
 
-// What a row writes at the version literal of its entry, where it has a change.
+/// What a row writes at the version literal of its entry, where it has a change.
 fn edit_for(alloc: Global, entry: &Entry, row: &Row) -> CargoResult<Option<(Place, String)>>
     ensures ok { IfOk result (λ o. edits_seen (option_to_list o)
         ≡ with_write (write_at (seen_of entry.now).literal (line_of row.now)) []) }
@@ -36,7 +36,7 @@ fn edit_for(alloc: Global, entry: &Entry, row: &Row) -> CargoResult<Option<(Plac
     }
 }
 
-// Adds what a row writes.
+/// Adds what a row writes.
 fn push_edit(
     alloc: Global,
     edits: &mut Vec<(Place, String)>,

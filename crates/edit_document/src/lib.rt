@@ -8,6 +8,7 @@ mod compare;
 pub mod document;
 mod edited;
 mod grown;
+mod heads;
 mod inline;
 mod insert;
 mod inside;

@@ -19,8 +19,8 @@ use std::alloc::Global;
 /// innermost last; and the parts of the key that waits for its value: the last one, and those before it.
 #[derive(Drop)]
 pub(crate) struct Walk {
-    nodes: Vec<Node>,
-    tables: Vec<usize>,
+    pub(crate) nodes: Vec<Node>,
+    pub(crate) tables: Vec<usize>,
     fronts: Vec<Words>,
     name: Option<Words>,
 }
@@ -87,7 +87,7 @@ impl Walk {
     }
 
     /// The waiting key takes a place below a table. Answers the number of its node.
-    fn settle(
+    pub(crate) fn settle(
         &mut self,
         alloc: Global,
         text: &str,
@@ -208,72 +208,6 @@ impl Walk {
             to,
         });
         true
-    }
-
-    /// This table and no other is open.
-    fn turn_to(&mut self, number: usize) -> CargoResult<()>
-        ensures turned { IfOk result (λ _. (text : List ℕ) (st : State) → Walks text self.old st
-            → Walks text self.new (record st { tables = number ∷ [] })) }
-        ensures refused { IfErr result IsMemory }
-    {
-        self.tables.clear();
-        self.tables.push(number)?;
-        Ok(())
-    }
-
-    /// The waiting key becomes a header.
-    fn head(&mut self, alloc: Global, text: &str) -> CargoResult<bool>
-        ensures goes { (st : State) → Walks text.now self.old st
-            → IfOk result (Goes text.now self.new (headed st)) }
-        ensures refused { IfErr result IsMemory }
-    {
-        let Some(number) = self.settle(
-            alloc,
-            text,
-            0,
-            Taken::Super,
-            Content::Table,
-            Taken::Header,
-            None,
-        )?
-        else {
-            return Ok(false);
-        };
-        self.turn_to(number)?;
-        Ok(true)
-    }
-
-    /// The waiting key becomes the header of an element.
-    fn head_element(&mut self, alloc: Global, text: &str) -> CargoResult<bool>
-        ensures goes { (st : State) → Walks text.now self.old st
-            → IfOk result (Goes text.now self.new (element_headed st)) }
-        ensures refused { IfErr result IsMemory }
-    {
-        let Some(number) = self.settle(
-            alloc,
-            text,
-            0,
-            Taken::Super,
-            Content::Tables,
-            Taken::Array,
-            None,
-        )?
-        else {
-            return Ok(false);
-        };
-        let Some(element) = add_element(
-            alloc,
-            &mut self.nodes,
-            number,
-            Content::Table,
-            Taken::Element,
-            None,
-        )?
-        else {
-            return Ok(false);
-        };
-        self.turn_to(element)?;
-        Ok(true)
     }
 
     /// Takes the next mark. Answers whether the document may go on so.

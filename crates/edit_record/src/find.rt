@@ -52,7 +52,7 @@ pub fn is_for(asked: Option<RustVersion>, given: Option<RustVersion>) -> bool
     }
 }
 
-// Reads a version, none where the text is none.
+/// Reads a version, none where the text is none.
 fn read_version(alloc: Global, text: &str) -> CargoResult<Option<Version>>
     ensures ok { IfOk result (λ o. option_map parts_of o ≡ version_read text.now) }
     ensures refused { IfErr result IsMemory }
@@ -68,7 +68,7 @@ fn read_version(alloc: Global, text: &str) -> CargoResult<Option<Version>>
     }
 }
 
-// Reads a Rust version, none where the text is none.
+/// Reads a Rust version, none where the text is none.
 fn read_rust_version(alloc: Global, text: &str) -> CargoResult<Option<RustVersion>>
     ensures ok { IfOk result (λ o. option_map numbers_of o ≡ rust_of text.now) }
     ensures refused { IfErr result IsMemory }
@@ -79,7 +79,7 @@ fn read_rust_version(alloc: Global, text: &str) -> CargoResult<Option<RustVersio
     }
 }
 
-// The Rust version that an entry asks for, none where it asks for none or for what is no Rust version.
+/// The Rust version that an entry asks for, none where it asks for none or for what is no Rust version.
 fn asked_rust_version(alloc: Global, told: &IndexVersion) -> CargoResult<Option<RustVersion>>
     ensures ok { IfOk result (λ o. option_map numbers_of o ≡ asked_rust (entry_of told.now)) }
     ensures refused { IfErr result IsMemory }
@@ -129,7 +129,7 @@ pub fn is_wanted(version: &Version, allow_prerelease: bool, req: Option<&Version
     }
 }
 
-// The version of an entry that is admissible and wanted.
+/// The version of an entry that is admissible and wanted.
 fn kept_version(
     alloc: Global,
     told: &IndexVersion,
@@ -150,7 +150,7 @@ fn kept_version(
     Ok(Some(candidate.version))
 }
 
-// The greatest of the entries that are admissible and wanted, the last of equal ones.
+/// The greatest of the entries that are admissible and wanted, the last of equal ones.
 fn greatest_entry<'a>(
     alloc: Global,
     versions: &'a [IndexVersion],
@@ -174,7 +174,7 @@ fn greatest_entry<'a>(
     }
 }
 
-// The greatest of the entries that are admissible and wanted, as a dependency.
+/// The greatest of the entries that are admissible and wanted, as a dependency.
 fn find_version(
     alloc: Global,
     versions: &[IndexVersion],
@@ -231,7 +231,7 @@ pub fn find_compatible_version(
     find_version(alloc, versions, false, Some(version_req), rust_version)
 }
 
-// An entry that is kept, with its version.
+/// An entry that is kept, with its version.
 #[derive(Drop)]
 struct Found<'a> {
     told: &'a IndexVersion,
@@ -239,14 +239,14 @@ struct Found<'a> {
     ghost read: { version_in (entry_of told.now) ≡ Some (parts_of version) },
 }
 
-// Whether a version comes before another in the full order.
+/// Whether a version comes before another in the full order.
 fn is_below(version: &Version, other: &Version) -> bool
     ensures { result ≡ is_lt (full_order (parts_of version.now) (parts_of other.now)) }
 {
     version < other
 }
 
-// The later of two entries that is not below the other.
+/// The later of two entries that is not below the other.
 fn later<'a>(best: Option<Found<'a>>, found: Found<'a>) -> Found<'a>
     ensures { entry_of result.told.now
         ≡ pick entry_order (option_map (λ f. entry_of f.told.now) best.entry)
@@ -264,7 +264,7 @@ fn later<'a>(best: Option<Found<'a>>, found: Found<'a>) -> Found<'a>
     }
 }
 
-// The greatest entry so far, after one more.
+/// The greatest entry so far, after one more.
 fn advanced<'a>(
     alloc: Global,
     best: Option<Found<'a>>,

@@ -15,6 +15,7 @@ use Rattle.semver.specs.Order.{build_cmp, pre_cmp}
 use Rattle.std.proofs.lemmas.List.Sorted.{All-permutation, IsPermutation-map, list_any-IsPermutation, sorted_far, sum_by-IsPermutation}
 use Rattle.std.specs.FinMap.{nat_cmp-IsAntisymmetric}
 use Rattle.std.proofs.lemmas.Bool.Decides.{nat_tests}
+use Rattle.std.proofs.lemmas.Bool.{or_left, or_right}
 use Rattle.std.proofs.lemmas.List.MinMax.{ranks_by}
 use Rattle.std.proofs.lemmas.List.Sums.{sum_by-append, sum_by-cons}
 use Rattle.edit_version.specs.VersionOrder.{full_order}
@@ -56,14 +57,6 @@ tells_from pre (e ∷ rest) =
     (tells_one (pre ++ e ∷ rest) (length pre) e (at_front pre e rest) (candidate_in e) refl)
     (subst (λ n. All (Tells (pre ++ e ∷ rest)) (ranks_from n rest)) place later)
 
-or-left : (a b : Bool) → a ≡ true → (a || b) ≡ true
-or-left true b h = refl
-or-left false b h = cc
-
-or-right : (a b : Bool) → b ≡ true → (a || b) ≡ true
-or-right true b h = refl
-or-right false b h = h
-
 or-more : (a b c : Bool) → (b ≡ true → c ≡ true) → (a || b) ≡ true → (a || c) ≡ true
 or-more true b c f h = refl
 or-more false b c f h = f h
@@ -75,11 +68,11 @@ any-left p (x ∷ xs) ys h = or-more (p x) (list_any p xs) (list_any p (xs ++ ys
 
 any-right : {X : Type 0} (p : X → Bool) (xs ys : List X) → list_any p ys ≡ true → list_any p (xs ++ ys) ≡ true
 any-right p [] ys h = h
-any-right p (x ∷ xs) ys h = or-right (p x) (list_any p (xs ++ ys)) (any-right p xs ys h)
+any-right p (x ∷ xs) ys h = or_right (p x) (list_any p (xs ++ ys)) (any-right p xs ys h)
 
 one_passes : (n m : ℕ) (e : IndexEntry) (o : Option (Parts × Option Numbers)) → IsSome o → n ≡ m → list_any (λ r. r.place == m) (option_to_list (option_map (ranking n e) o)) ≡ true
 one_passes n m e None h is = cc
-one_passes n m e (Some c) h is = or-left (n == m) false (eq-eqb n m is)
+one_passes n m e (Some c) h is = or_left (n == m) false (eq-eqb n m is)
 
 -- each entry that is read has a rank
 pub each_from : (n : ℕ) (xs : List IndexEntry) (j : ℕ) → IsSome (option_and_then candidate_in (slice_get xs j)) → (m : ℕ) → n + j ≡ m → list_any (λ r. r.place == m) (ranks_from n xs) ≡ true

@@ -1,7 +1,7 @@
 -- Which versions are offered beside those that a requirement admits.
 use Rattle.std.proofs.Common.{◌≡◌, ◌<◌, List, ℕ, Bool, true, false, length, refl, ◌∙◌, sym, arith, inl, inr, eqb-true}
 use Rattle.std.specs.Prelude.{◌⊎◌, ◌==◌, ◌||◌, IsTrue}
-use Rattle.std.proofs.lemmas.Bool.{cases_Bool}
+use Rattle.std.proofs.lemmas.Bool.{cases_Bool, or_right}
 use Rattle.semver.specs.Parse.{Parts}
 use Rattle.semver.proofs.Segments.{not_zero}
 use Rattle.edit_version.specs.Laws.{holds_dash}
@@ -19,10 +19,6 @@ release-or v = elim (cases_Bool (length v.3 == 0)) [
     filled : (n : ℕ) → (n == 0) ≡ false → 0 < n
     filled n h = grind arith
 
-or-right : (x y : Bool) → y ≡ true → (x || y) ≡ true
-or-right true y h = refl
-or-right false y h = h
-
 or-only : (x y : Bool) → (x || y) ≡ true → y ≡ false → x ≡ true
 or-only true y h n = refl
 or-only false y h n = cc (sym n ∙ h)
@@ -37,7 +33,7 @@ allowed-plain pre v h = rw h refl
 
 -- each version is, where pre-releases are
 pub allowed-pre : (pre : Bool) (v : Parts) → pre ≡ true → is_allowed pre v ≡ true
-allowed-pre pre v h = or-right _ _ h
+allowed-pre pre v h = or_right _ _ h
 
 pub offered-plain : (req : List ℕ) (v : Parts) → length v.3 ≡ 0 → is_offered req v ≡ true
 offered-plain req v h = allowed-plain (holds_dash req) v h

@@ -27,14 +27,14 @@ fn is_name_char(c: char) -> bool
         || GeneralCategoryGroup::Number.contains(GeneralCategory::for_char(c))
 }
 
-// The characters of a name that no name may have.
+/// The characters of a name that no name may have.
 fn unfit(alloc: Global, name: &str) -> Result<Vec<char>, AllocError>
     ensures { IfOk result (λ v. v.items ≡ unfit name.now) }
 {
     name.chars().filter(|c| !is_name_char(*c)).collect(alloc)
 }
 
-// Characters joined by a comma and a space.
+/// Characters joined by a comma and a space.
 fn listed(alloc: Global, characters: &[char]) -> Result<String, AllocError>
     ensures { IfOk result (λ s. string_bytes s ≡ listed characters.now) }
 {
@@ -50,7 +50,7 @@ fn listed(alloc: Global, characters: &[char]) -> Result<String, AllocError>
     Ok(out)
 }
 
-// Refuses a name with a character that no name may have.
+/// Refuses a name with a character that no name may have.
 fn check_name(alloc: Global, name: &str) -> CargoResult<()>
     ensures ok { OnOk result (unfit name.now ≡ []) }
     ensures refused { IfErr result (λ e. IsRefusedName name.now e) }
@@ -65,7 +65,7 @@ fn check_name(alloc: Global, name: &str) -> CargoResult<()>
     })
 }
 
-// The requirement of a word, where it is one.
+/// The requirement of a word, where it is one.
 fn check_requirement(alloc: Global, req: Option<&str>) -> CargoResult<Option<String>>
     ensures ok { IfOk result (λ o. (option_map string_bytes o ≡ option_map (λ s. s.now) req.entry)
         × IsReadOrAbsent (option_map (λ s. s.now) req.entry)) }
@@ -78,7 +78,7 @@ fn check_requirement(alloc: Global, req: Option<&str>) -> CargoResult<Option<Str
     Ok(Some(String::from_str(alloc, req)?))
 }
 
-// A word before and after its first `@`.
+/// A word before and after its first `@`.
 fn split_word(word: &str) -> (&str, Option<&str>)
     ensures name { result.0.now ≡ word_name word.now }
     ensures requirement { option_map (λ s. s.now) result.1 ≡ word_requirement word.now }

@@ -29,7 +29,7 @@ pub fn read_requirement(alloc: Global, text: &str) -> CargoResult<Option<Version
     }
 }
 
-// That a text is no requirement.
+/// That a text is no requirement.
 fn unread(alloc: Global, text: &str) -> Error
     requires { requirement_read text.now ≡ None }
     ensures { IsUnread text.now result }
@@ -96,7 +96,7 @@ impl<'a> Requirement<'a> {
     }
 }
 
-// The requirement `req`, of which `parsed` was read, raised to `version`, where that is another text.
+/// The requirement `req`, of which `parsed` was read, raised to `version`, where that is another text.
 fn raised_from(
     alloc: Global,
     req: &str,
@@ -122,7 +122,7 @@ fn raised_from(
     Ok(Some(String::from_str(alloc, text)?))
 }
 
-// The requirement `req` raised to `version`, where that is another text.
+/// The requirement `req` raised to `version`, where that is another text.
 fn raised_requirement(alloc: Global, req: &str, version: &Version) -> CargoResult<Option<String>>
     ensures { IsAnswer (raise req.now (parts_of version.now)) req.now result }
 {
@@ -130,7 +130,7 @@ fn raised_requirement(alloc: Global, req: &str, version: &Version) -> CargoResul
     read.raised(alloc, version)
 }
 
-// A number of 64 bits, for proofs over the numbers of a version.
+/// A number of 64 bits, for proofs over the numbers of a version.
 fn bounded(number: u64)
     ensures { number < 2 ^ 64 }
 {}
@@ -178,7 +178,7 @@ pub fn upgrade_requirement(
     raised_requirement(alloc, req, version)
 }
 
-// The text before the first `+`, or all of it.
+/// The text before the first `+`, or all of it.
 pub fn before_plus(text: &str) -> &str
     ensures { result.now ≡ cut text.now }
 {

@@ -70,7 +70,7 @@ impl From<&Version> for RustVersion {
     }
 }
 
-// The Rust version that comparators name, none where they are not one caret without pre-release.
+/// The Rust version that comparators name, none where they are not one caret without pre-release.
 pub fn rust_version_of(comparators: &[Comparator]) -> Option<RustVersion>
     ensures { option_map numbers_of result ≡ rust_numbers (map comparator_view comparators.now) }
 {

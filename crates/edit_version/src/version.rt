@@ -46,7 +46,7 @@ pub trait VersionExt {
     fn is_prerelease(&self) -> bool;
 }
 
-// The phases of a pre-release, in their order.
+/// The phases of a pre-release, in their order.
 #[derive(Clone, Copy)]
 enum Phase {
     Alpha,
@@ -65,7 +65,7 @@ impl Phase {
         }
     }
 
-    // Whether a word is that of a phase behind this one.
+    /// Whether a word is that of a phase behind this one.
     fn is_before(self, word: &str) -> bool
         ensures { result ≡ is_behind self word.now }
     {
@@ -77,7 +77,7 @@ impl Phase {
     }
 }
 
-// The refusal at a number that can rise no further.
+/// The refusal at a number that can rise no further.
 fn at_end(version: &Version) -> Error
     ensures { result ≡ error.NumberAtEnd version.now.major version.now.minor version.now.patch }
 {
@@ -160,7 +160,7 @@ impl VersionExt for Version {
     }
 }
 
-// Reads build metadata.
+/// Reads build metadata.
 fn read_build(alloc: Global, text: &str) -> CargoResult<BuildMetadata>
     ensures ok { IfOk result (λ b. (build_text b ≡ text.now) × IsTrue (is_build text.now)) }
     ensures err { IfErr result (λ e. IsUnreadBuild text.now e) }
@@ -178,7 +178,7 @@ fn read_build(alloc: Global, text: &str) -> CargoResult<BuildMetadata>
     }
 }
 
-// A pre-release of a phase.
+/// A pre-release of a phase.
 fn numbered(alloc: Global, phase: Phase, number: u64) -> CargoResult<Prerelease>
     ensures ok { IfOk result (λ p. (pre_text p ≡ numbered phase number)
         × IsTrue (is_pre_release (pre_text p))) }
@@ -198,7 +198,7 @@ fn is_numeric(text: &str) -> bool
     text.as_bytes().iter().all(|byte| byte.is_ascii_digit())
 }
 
-// The decimal number of 64 bits that a text is.
+/// The decimal number of 64 bits that a text is.
 fn read_number(text: &str) -> Option<u64>
     ensures { result ≡ number_of text.now }
 {
@@ -211,7 +211,7 @@ fn read_number(text: &str) -> Option<u64>
     }
 }
 
-// The word of a pre-release, and the number after its first dot, 0 where there is no dot.
+/// The word of a pre-release, and the number after its first dot, 0 where there is no dot.
 fn word_and_number(pre: &str) -> Option<(&str, u64)>
     ensures { MatchOption result (number_after pre.now ≡ None)
         (λ x. (x.0.now ≡ word_of pre.now) × (number_after pre.now ≡ Some x.1)) }
@@ -223,7 +223,7 @@ fn word_and_number(pre: &str) -> Option<(&str, u64)>
     Some((word, number))
 }
 
-// The number of the next pre-release of a phase.
+/// The number of the next pre-release of a phase.
 fn next_number(alloc: Global, version: &Version, phase: Phase) -> CargoResult<u64>
     requires { 0 < length (pre_text version.now.pre) }
     ensures ok { IfOk result (λ n. next_phase phase (parts_of version.now)
@@ -255,7 +255,7 @@ fn next_number(alloc: Global, version: &Version, phase: Phase) -> CargoResult<u6
     }
 }
 
-// Raises a version to the next one of a phase.
+/// Raises a version to the next one of a phase.
 fn increment_phase(alloc: Global, version: &mut Version, phase: Phase) -> CargoResult<()>
     ensures changed { IsChanged (next_phase phase (parts_of version.old)) version.old version.new result }
     ensures readable { OnOk result (IsReadable (parts_of version.new)) }

@@ -4,8 +4,8 @@ use std::alloc::Global;
 use std::test::Fail;
 use test_rows::same;
 
-// A manifest, `>>>`, and the manifest afterwards; between two rows stands `===`. The first line of a row says
-// what it shows. Of each name that is looked up there are 1.0.0 and 1.2.3.
+/// A manifest, `>>>`, and the manifest afterwards; between two rows stands `===`. The first line of a row
+/// says what it shows. Of each name that is looked up there are 1.0.0 and 1.2.3.
 const ROWS: &str =
     r#"# below a header: a pair, dotted keys and an inline table; and headers of their own
 [package]
@@ -171,7 +171,7 @@ e = "1.2"
 version = 1.0
 "#;
 
-// What is told of each of the five entries, and of the looks.
+/// What is told of each of the five entries, and of the looks.
 const TOLD: &str = "
 1.0 1.2.3 1.2.3 1.2 None Some(Compatible)
 1.0 1.2.3 1.2.3 1.2 None Some(Compatible)

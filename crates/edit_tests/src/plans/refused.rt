@@ -4,7 +4,7 @@ use std::alloc::Global;
 use std::test::Fail;
 use test_rows::{field, same, unfolded};
 
-// A name, the refusal, and the manifest.
+/// A name, the refusal, and the manifest.
 const ROWS: &str = "\
 no document|1 Unable to parse Cargo.toml|[dependencies]@x = \"1@
 a name of 65 characters|29 Invalid crate name `aaaaaaaaaaaaaaaaaaaaaaaaaaaaaaaaaaaaaaaaaaaaaaaaaaaaaaaaaaaaaaaaa`|[dependencies]@aaaaaaaaaaaaaaaaaaaaaaaaaaaaaaaaaaaaaaaaaaaaaaaaaaaaaaaaaaaaaaaaa = \"1\"@";

@@ -4,9 +4,9 @@ use std::alloc::Global;
 use std::test::Fail;
 use test_rows::{field, same, text};
 
-// An entry, the options (`i` incompatible, `p` pinned), the versions of its name (`!` is yanked), and
-// the entry afterwards, `-` where nothing is written; then its row: the requirement, the compatible
-// version, the latest one, the new requirement, the reason and the change; then the warnings.
+/// An entry, the options (`i` incompatible, `p` pinned), the versions of its name (`!` is yanked), and
+/// the entry afterwards, `-` where nothing is written; then its row: the requirement, the compatible
+/// version, the latest one, the new requirement, the reason and the change; then the warnings.
 const ROWS: &str = "\
 serde = { version = '1.0', optional = true } # keep||1.2.3|serde = { version = \"1.2\", optional = true } # keep|1.0 1.2.3 1.2.3 1.2 None Some(Compatible)
 x = '1.0.0-rc.1'||1.2.0 2.0.0-beta.1|x = \"1.2.0\"|1.0.0-rc.1 1.2.0 2.0.0-beta.1 1.2.0 Some(Incompatible) Some(Compatible)

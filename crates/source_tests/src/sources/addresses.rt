@@ -7,7 +7,7 @@ use std::alloc::Global;
 use std::test::Fail;
 use test_rows::{field, same, text, told, unfolded, word};
 
-// A name, a registry, its address or a refusal, and up to two files, each a path and its lines.
+/// A name, a registry, its address or a refusal, and up to two files, each a path and its lines.
 const FILES_THAT_COUNT: &str = "\
 no configuration||sparse+https://index.crates.io/
 near before far|r|file:///near|/w/.cargo/config.toml|registries.r.index = 'file:///near'@|/.cargo/config.toml|registries.r.index = 'file:///far'@
@@ -17,7 +17,7 @@ the home of cargo|r|file:///near|/home/config.toml|registries.r.index = 'file://
 only files count|r|file:///near|/w/.cargo/config/x|registries.r.index = 'file:///far'@|/w/.cargo/config.toml|registries.r.index = 'file:///near'@
 no TOML||31 invalid cargo config at /w/.cargo/config.toml|/w/.cargo/config.toml|a = ";
 
-// The same, where a chain of sources leads to the address.
+/// The same, where a chain of sources leads to the address.
 const CHAINS: &str = "\
 the default address|sparse+https://index.crates.io/|sparse+https://index.crates.io/
 no such registry|r|32 The registry 'r' could not be found
@@ -78,7 +78,7 @@ fn chains(rt: HostRuntime) -> Result<(), Fail> {
     Ok(())
 }
 
-// A name, whether the lines are a configuration, and the lines.
+/// A name, whether the lines are a configuration, and the lines.
 const CONFIGURATIONS: &str = "\
 nothing|read|
 all else is ignored|read|[build]@jobs = 1@[registries.r]@token = 3@[source.s]@git = 'x'@
@@ -112,7 +112,7 @@ fn configurations(rt: HostRuntime) -> Result<(), Fail> {
     same("no UTF-8", seen.as_str(), "31 invalid cargo config at /c")
 }
 
-// The lines of the one file that counts.
+/// The lines of the one file that counts.
 const LOCAL: &str =
     "source.crates-io.replace-with = 'local'@source.local.registry = 'file:///idx'@";
 

@@ -150,16 +150,16 @@ fn calls<I: Index>(alloc: Global, cache: &mut IndexCache<I>, rows: &str) -> Resu
     Ok(())
 }
 
-// A path, and lines of which the last is cut short.
+/// A path, and lines of which the last is cut short.
 const BROKEN: &str = "/idx/1/a|{\"name\":\"a\",\"vers\":\"1.0.0\"}@{\"na";
 
-// A name, a call, the name that is looked for, a version or a requirement, and what is wanted.
+/// A name, a call, the name that is looked for, a version or a requirement, and what is wanted.
 const OVER_BROKEN: &str = "a line cut short|krate|a||30 Invalid index line 2";
 
-// The same path, and lines that are read.
+/// The same path, and lines that are read.
 const REPAIRED: &str = "/idx/1/a|{\"name\":\"a\",\"vers\":\"1.0.0\"}@";
 
-// The calls over them, where the first read fails.
+/// The calls over them, where the first read fails.
 const OVER_REPAIRED: &str = "\
 the device fails|has|a||3 Failed to read a file
 nothing is kept|shown|a||none
@@ -183,12 +183,12 @@ fn no_refusal_is_kept(rt: HostRuntime) -> Result<(), Fail> {
     calls(rt.alloc(), &mut cache, OVER_REPAIRED)
 }
 
-// Paths with lines: those of one are read, of the other the last is cut short.
+/// Paths with lines: those of one are read, of the other the last is cut short.
 const HALF_BROKEN: &str = "\
 /idx/1/a|{\"name\":\"a\",\"vers\":\"1.0.0\"}@{\"na
 /idx/1/b|{\"name\":\"b\",\"vers\":\"2.0.0\"}@";
 
-// The calls over them.
+/// The calls over them.
 const OVER_HALF_BROKEN: &str = "\
 an answer|ranked|b||2.0.0;
 a line cut short|ranked|a||30 Invalid index line 2
@@ -197,7 +197,7 @@ nor ranked|shown ranking|a||none
 the other answer|shown|b||b 2.0.0.
 the other ranking|shown ranking|b||2.0.0;";
 
-// The calls where the first read fails, after them.
+/// The calls where the first read fails, after them.
 const AFTER_HALF_BROKEN: &str = "\
 the device fails|ranked|a||3 Failed to read a file
 nothing is kept|shown|a||none
@@ -215,10 +215,10 @@ fn a_refused_ranking_is_not_kept(rt: HostRuntime) -> Result<(), Fail> {
     calls(rt.alloc(), &mut cache, AFTER_HALF_BROKEN)
 }
 
-// The call whose answer is kept.
+/// The call whose answer is kept.
 const OVER_TWO: &str = "an answer|fetch|b||done";
 
-// The calls when the index has no line any more.
+/// The calls when the index has no line any more.
 const OVER_NONE: &str = "\
 again|fetch|b||done
 the answer stays|shown|b||b 2.0.0.
@@ -242,11 +242,11 @@ fn an_answer_stays(rt: HostRuntime) -> Result<(), Fail> {
     calls(rt.alloc(), &mut cache, OVER_NONE)
 }
 
-// Lines with equal versions, one that is no version, and a yanked one.
+/// Lines with equal versions, one that is no version, and a yanked one.
 const FIVE: &[u8] =
     b"{\"name\":\"a\",\"vers\":\"1.0.0+a\"}\n{\"name\":\"a\",\"vers\":\"1.2.0\",\"rust_version\":\"1.70\"}\n{\"name\":\"a\",\"vers\":\"1.0.0+b\"}\n{\"name\":\"a\",\"vers\":\"bad\"}\n{\"name\":\"a\",\"vers\":\"1.3.0\",\"yanked\":true}\n";
 
-// The calls over them.
+/// The calls over them.
 const OVER_FIVE: &str = "\
 greatest first, the later one of equals|ranked|a||1.2.0;1.0.0+b;1.0.0+a;
 the latest|choice|a||a 1.2.0 -
@@ -254,10 +254,10 @@ below the greatest|choice|a|<1.2|a 1.0.0 -
 the greatest|choice|a|1|a 1.2.0 -
 none|choice|a|2|-";
 
-// The line of the next index.
+/// The line of the next index.
 const NEXT: &[u8] = b"{\"name\":\"a\",\"vers\":\"2.0.0\"}";
 
-// The calls over it.
+/// The calls over it.
 const OVER_NEXT: &str = "\
 again|rank|a||done
 the ranking stays|shown ranking|a||1.2.0;1.0.0+b;1.0.0+a;

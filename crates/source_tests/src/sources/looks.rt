@@ -7,7 +7,7 @@ use std::test::Fail;
 use test_rows::{field, same, text, told, unfolded, word};
 use url::Url;
 
-// A name, the refusal, and the lines.
+/// A name, the refusal, and the lines.
 const BAD_LINES: &str = "\
 no version|30 Invalid index line 1|{\"name\":\"a\"}
 no object|30 Invalid index line 1|[]
@@ -84,7 +84,7 @@ fn looks<I: Index>(alloc: Global, index: &mut I, rows: &str) -> Result<(), Fail>
 pub(crate) const TWO: &[u8] =
     b"{\"name\":\"a\",\"vers\":\"1.0.0\"}\r\n \t\n{\"name\":\"b\",\"vers\":\"2.0.0\"}\n{\"name\":\"a\",\"vers\":\"1.1.0\",\"yanked\":true,\"rust_version\":null}\n";
 
-// A name, an address, the name that is looked for, and what is wanted.
+/// A name, an address, the name that is looked for, and what is wanted.
 const IN_ONE_FILE: &str = "\
 both lines, in order|file:///x|a|a 1.0.0.a 1.1.0!
 another address|https://x/y|b|b 2.0.0.
@@ -98,7 +98,7 @@ fn looks_in_one_file(rt: HostRuntime) -> Result<(), Fail> {
     looks(rt.alloc(), &mut index, IN_ONE_FILE)
 }
 
-// A path, and the lines of its file.
+/// A path, and the lines of its file.
 const FILES: &str = "\
 /my idx/3/a/abc|{\"name\":\"abc\",\"vers\":\"1.0.0\"}
 /my idx/se/rd/serde|{\"name\":\"serde\",\"vers\":\"1.2.3\"}@
@@ -106,7 +106,7 @@ const FILES: &str = "\
 /idx/1/x|
 /idx/2/xy|{\"name\":\"xy\",\"vers\":\"0.1.0\"}";
 
-// The same, over these files.
+/// The same, over these files.
 const IN_FILES: &str = "\
 three letters|file:///my%20idx|abc|abc 1.0.0.
 capital letters|file:///my%20idx|Serde|serde 1.2.3.
@@ -148,7 +148,7 @@ fn looks_in_files(rt: HostRuntime) -> Result<(), Fail> {
     looks(rt.alloc(), &mut index, IN_FILES)
 }
 
-// A name, and what a look for it below a folder of the machine gives.
+/// A name, and what a look for it below a folder of the machine gives.
 const IN_A_FOLDER: &str = "\
 serde|serde 1.2.3.
 se|none";

@@ -11,8 +11,8 @@ use std::test::Fail;
 use std::{fs, process};
 use test_rows::{field, same, text};
 
-// A name, a call of the store or of the machine, a path below the folder, an argument, and what is
-// wanted.
+/// A name, a call of the store or of the machine, a path below the folder, an argument, and what is
+/// wanted.
 const STEPS: &str = "\
 no file yet|kind|/a||absent
 no text yet|read|/a||none
@@ -207,7 +207,7 @@ fn real_files(rt: HostRuntime) -> Result<(), Fail> {
     steps_in_a_folder(&rt, &mut store, "files", STEPS)
 }
 
-// What stands where the file beside cannot be moved over the old one.
+/// What stands where the file beside cannot be moved over the old one.
 const UNMOVED: &str = "\
 an old file|put|/a|old|done
 the new one is not moved|write|/a|new|3 Failed to write updated Cargo.toml

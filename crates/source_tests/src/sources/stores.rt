@@ -3,7 +3,7 @@ use super::steps::steps;
 use edit_sources::{FaultStore, MemoryStore};
 use std::test::Fail;
 
-// A name, a call, a path, the text that is written, and what is wanted.
+/// A name, a call, a path, the text that is written, and what is wanted.
 const MEMORY: &str = "\
 a file|write|/w/Cargo.toml|a|written
 a file below|write|/w/a/lib.rs|b|written
@@ -25,24 +25,24 @@ fn folders_in_memory(rt: HostRuntime) -> Result<(), Fail> {
     steps(rt.alloc(), &mut store, MEMORY)
 }
 
-// What stands before the calls are counted.
+/// What stands before the calls are counted.
 const BEFORE: &str = "\
 a file|write|/b|old bytes|written
 another file|write|/c|old|written";
 
-// The call number 1 fails, and a write leaves 4 bytes.
+/// The call number 1 fails, and a write leaves 4 bytes.
 const FAILS: &str = "\
 call 0|write|/a|new a|written
 call 1|write|/b|new b|3 Failed to write updated Cargo.toml
 counted|faults|||1";
 
-// What stands below the store then.
+/// What stands below the store then.
 const BELOW: &str = "\
 written|read|/a||new a
 cut short|read|/b||new |
 as it was|read|/c||old";
 
-// Nothing fails any more.
+/// Nothing fails any more.
 const AFTER: &str = "\
 written again|write|/b|new b|written
 the new text|read|/b||new b
@@ -59,7 +59,7 @@ fn one_call_fails(rt: HostRuntime) -> Result<(), Fail> {
     steps(rt.alloc(), &mut store, AFTER)
 }
 
-// Each call, where it is the first one and fails.
+/// Each call, where it is the first one and fails.
 const FIRST: &str = "\
 a kind|kind|/||3 Failed to look at a path
 a read|read|/||3 Failed to read a file";
