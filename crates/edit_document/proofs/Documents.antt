@@ -18,6 +18,7 @@ use Rattle.edit_document.specs.Nodes.{Spot, Holds}
 use Rattle.edit_syntax.specs.FormOf.{form_of}
 use Rattle.edit_document.specs.Written.{values}
 use Rattle.edit_document.specs.DocumentLayout.{placed, spots_of, nodes_by, shown_by, IsRead}
+use Rattle.edit_document.specs.Pieces.{IsRange}
 use Rattle.edit_syntax.specs.Reading.{◌>>=◌}
 use Rattle.edit_document.specs.Walk.{State, start, walked, settled_state}
 use Rattle.edit_document.specs.WalkState.{IsToken, KeepsState}
@@ -91,13 +92,14 @@ refused_is bytes form m u none = go (walk_of bytes form (read_of bytes form m u)
 pub text_full : (form : Text) → AreFull (assertions form)
 text_full form p g es i kind lt none = any_stands (at p (index i)) (assertions form) (text_whole form p g es i (has_kind p (array g es) (assertions form) kind) lt) none
 
-pub shows_form : (bytes : List ℕ) (form : Text) (nodes : List Node) → Walked bytes form nodes → ShowsTree (shown_by bytes) form
+pub shows_form : (bytes : List ℕ) (r : ℕ × ℕ) (form : Text) (nodes : List Node) → Walked bytes form nodes → ShowsTree (shown_by bytes r) form
 unfolding shown_by
-shows_form bytes form nodes w place =
+shows_form bytes r form nodes w place =
     ap (λ (o : Option (List Spot)). node_at (nodes_by o) place) w.found ∙ tree_shown (assertions form) (map placed (values form)) w.spots place w.stands (text_even form) (text_full form)
 
-pub read_is : (inside : Inside) (form : Text) → Walked (string_bytes inside.text) form inside.nodes.items → IsRead inside
-read_is inside form w = record {
+pub read_is : (inside : Inside) (form : Text) → IsRange (string_bytes inside.text) inside.written → Walked (string_bytes inside.text) form inside.nodes.items → IsRead inside
+read_is inside form range w = record {
+  written = range;
   spots = w.spots;
   found = w.found;
   form = form;
@@ -124,8 +126,9 @@ read_done bytes seen marks slice nodes u same f whole keeps =
     subst (λ (ms : List Mark). AllByRecursion (IsToken bytes) ms → KeepsState bytes nodes (walked bytes ms start)) all keeps in
     (f.0, walked_is bytes f.0 nodes r (k (tokens_of bytes f.0 r)))
 
-pub shows_any : (bytes : List ℕ) (form f : Text) (nodes : List Node) → Walked bytes form nodes → IsManifest bytes f → ShowsTree (shown_by bytes) f
-shows_any bytes form f nodes w m = subst (ShowsTree (shown_by bytes)) (one_form bytes form f w.manifest m) (shows_form bytes form nodes w)
+pub shows_any : (bytes : List ℕ) (r : ℕ × ℕ) (form f : Text) (nodes : List Node) → Walked bytes form nodes → IsManifest bytes f → ShowsTree (shown_by bytes r) f
+shows_any bytes r form f nodes w m =
+    subst (ShowsTree (shown_by bytes r)) (one_form bytes form f w.manifest m) (shows_form bytes r form nodes w)
 
 abbrev pub NotMemory : Error → Type 0
 NotMemory e = IsMemory e → ⊥

@@ -39,6 +39,7 @@ pub mod ShownTrees
 pub mod Shallow
 pub mod ShownForms
 pub mod Documents
+pub mod PieceLaws
 -- Values replaced by literals
 pub mod LiteralLaws
 pub mod LiteralBytes

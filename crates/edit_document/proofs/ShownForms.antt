@@ -9,6 +9,7 @@ use Rattle.edit_document.specs.Supported.{IsManifest}
 use Rattle.edit_document.specs.Shown.{Shown, node_at, ShowsTree}
 use Rattle.edit_document.specs.Nodes.{shown_spot}
 use Rattle.edit_document.specs.DocumentLayout.{nodes_by, shown_of, shown_by, IsRead}
+use Rattle.edit_document.specs.Pieces.{pieces_of, IsRange}
 use Rattle.edit_document.proofs.Shallow.{one_form}
 
 -- ---- the form that was read is the only one
@@ -29,3 +30,42 @@ open_spots inside shown read view = ap (λ (s : Shown). s.nodes) (sym view) ∙ 
 pub shows_tree : (inside : Inside) (shown : Shown) (form : Text) → IsRead inside → shown_of inside ≡ shown → IsManifest shown.bytes form → ShowsTree shown form
 shows_tree inside shown form read view manifest place =
     ap (λ (ns : List (Place × View)). node_at ns place) (open_spots inside shown read view) ∙ read.views place ∙ ap (λ (t : Text). view_at t place) (sym (form_same inside shown form read view manifest))
+
+-- ---- the pieces
+
+-- the text is kept in what was written last and what stands around it
+pub pieces_kept : (inside : Inside) (shown : Shown) → shown_of inside ≡ shown
+    → shown.pieces ≡ pieces_of shown.bytes inside.written
+unfolding shown_by
+pieces_kept inside shown view =
+    ap (λ (s : Shown). s.pieces) (sym view)
+    ∙ ap (λ (b : List ℕ). pieces_of b inside.written) (shown_bytes inside shown view)
+
+-- and the text may be cut there
+pub range_kept : (inside : Inside) (shown : Shown) → IsRead inside → shown_of inside ≡ shown
+    → IsRange shown.bytes inside.written
+range_kept inside shown read view =
+    subst (λ (b : List ℕ). IsRange b inside.written) (shown_bytes inside shown view) read.written
+
+-- another range of the text may be kept
+pub read_again : (inside : Inside) (shown : Shown) (w : ℕ × ℕ) → IsRead inside → shown_of inside ≡ shown
+    → IsRange shown.bytes w → IsRead (record { text = inside.text; nodes = inside.nodes; written = w })
+read_again inside shown w read view range = record {
+  spots = read.spots;
+  found = read.found;
+  form = read.form;
+  manifest = read.manifest;
+  holds = read.holds;
+  written = subst (λ (b : List ℕ). IsRange b w) (sym (shown_bytes inside shown view)) range;
+  tree = read.tree;
+  views = read.views;
+  spans = read.spans;
+}
+
+-- what is shown then
+pub shown_again : (inside : Inside) (shown : Shown) (w : ℕ × ℕ) → shown_of inside ≡ shown
+    → shown_of (record { text = inside.text; nodes = inside.nodes; written = w })
+    ≡ record { bytes = shown.bytes; nodes = shown.nodes; pieces = pieces_of shown.bytes w }
+unfolding shown_by
+shown_again inside shown w view =
+    ap (λ (s : Shown). record { bytes = s.bytes; nodes = s.nodes; pieces = pieces_of s.bytes w }) view

@@ -11,6 +11,7 @@ use Rattle.edit_document.specs.Tree.{View, string, truth, whole, fractional, mom
 use Rattle.edit_document.specs.Supported.{IsManifest}
 use Rattle.edit_syntax.specs.Reading.{◌>>=◌}
 use Rattle.edit_syntax.specs.Marks.{text_marks}
+use Rattle.edit_document.specs.Pieces.{pieces_of, IsRange}
 use Rattle.edit_document.specs.Shown.{Shown, node_at}
 use Rattle.edit_document.specs.Nodes.{Shape, scalar, Spot, shown_spot, Holds, IsTree}
 use Rattle.edit_document.specs.Nodes as shapes
@@ -61,13 +62,14 @@ abbrev pub nodes_by : Option (List Spot) → List (Place × View)
 nodes_by None = []
 nodes_by (Some spots) = map shown_spot spots
 
--- what a text shows
-unfoldable pub shown_by : List ℕ → Shown
-shown_by bytes = record { bytes = bytes; nodes = nodes_by (spots_of bytes) }
+-- what a text shows, of which a range was written last
+unfoldable pub shown_by : List ℕ → ℕ × ℕ → Shown
+shown_by bytes written =
+    record { bytes = bytes; nodes = nodes_by (spots_of bytes); pieces = pieces_of bytes written }
 
 -- what the text of a document shows
 abbrev pub shown_of : Inside → Shown
-shown_of d = shown_by (string_bytes d.text)
+shown_of d = shown_by (string_bytes d.text) d.written
 
 -- the text was read, and the nodes keep the spots of its
 -- form, which show its tree and where its values are written
@@ -77,6 +79,7 @@ pub record IsRead (d : Inside) : Type 0 where
   pub form : Text
   pub manifest : IsManifest (string_bytes d.text) form
   pub holds : Holds (string_bytes d.text) d.nodes.items spots
+  pub written : IsRange (string_bytes d.text) d.written
   pub tree : IsTree spots
   pub views : (place : Place) → node_at (map shown_spot spots) place ≡ view_at form place
   pub spans : (n : ℕ) (s : Spot) → slice_get spots n ≡ Some s

@@ -4,10 +4,12 @@ use Rattle.edit_document.specs.Assertions.{Place, same_place}
 use Rattle.edit_syntax.specs.Grammar.{Text}
 use Rattle.edit_document.specs.Tree.{View, view_at}
 
--- the bytes, and each place with its view, the root first and then in the order of first assertions
+-- the bytes, each place with its view, the root first and then in the order of first assertions, and the
+-- pieces that the bytes are kept in
 pub record Shown : Type 0 where
   pub bytes : List ℕ
   pub nodes : List (Place × View)
+  pub pieces : List (List ℕ)
 
 -- what stands at a place of a list of places
 abbrev pub node_at : List (Place × View) → Place → Option View

@@ -1,8 +1,8 @@
 //! A document: its text, and what stands at each place that a statement asserts.
-ghost use Rattle.std.specs.Prelude.{◌≡◌, Some, None, ◌<◌, [], ◌++◌, IfOk, IfErr, MatchResult, string_bytes, length, map, slice_get, option_map};
+ghost use Rattle.std.specs.Prelude.{◌≡◌, Some, None, ◌<◌, ◌≤◌, [], ◌++◌, IfOk, IfErr, MatchResult, string_bytes, length, map, slice_get, option_map};
 ghost use Rattle.edit_document.specs.Assertions.{Place, at, key as key_step, index as index_step};
 ghost use Rattle.edit_base.specs.Errors.{IsMemory};
-ghost use Rattle.edit_document.specs.DocumentLayout.{shown_by};
+ghost use Rattle.edit_document.specs.DocumentLayout.{nodes_by, spots_of};
 ghost use Rattle.edit_document.specs.ItemViews.{Finds};
 ghost use Rattle.edit_syntax.specs.Grammar.{Text};
 ghost use Rattle.edit_document.specs.Shown.{tree_of, ShowsTree};
@@ -21,11 +21,13 @@ use std::alloc::Global;
 use std::fmt;
 use std::marker::Model;
 
-/// A document as it was written. A contract sees its bytes, and the places with what they show.
+/// A document as it was written, and the range of its text that was written last. A contract sees its bytes,
+/// the places with what they show, and the pieces of the text.
 #[derive(Drop)]
 pub struct Document {
     pub(crate) text: String,
     pub(crate) nodes: Vec<Node>,
+    pub(crate) written: (usize, usize),
 }
 
 impl Model for Document {
@@ -63,13 +65,19 @@ impl Document {
         // Whatever is a document is read, in whichever way the text was split, unless memory runs out.
         ensures only { (form : Text) → IsManifest text.now form
             → MatchResult result (λ d. ShowsTree d form) IsMemory }
+        ensures pieces { IfOk result (λ d. length d.pieces ≤ 1) }
         ensures refused { IfErr result (IsReadRefusal (length text.now)) }
     {
         let marks = read_marks(alloc, text.as_bytes())?;
         let nodes = nodes_of(alloc, text, marks.as_slice())?;
         drop(marks);
+        let written = (0, text.len());
         let text = String::from_str(alloc, text)?;
-        Ok(Document { text, nodes })
+        Ok(Document {
+            text,
+            nodes,
+            written,
+        })
     }
 
     /// The text, as it was read.
@@ -238,12 +246,12 @@ impl Document {
 
     /// What a document shows follows from its text.
     fn shows_text(&self)
-        ensures { self.now ≡ shown_by self.now.bytes }
+        ensures { self.now.nodes ≡ nodes_by (spots_of self.now.bytes) }
     {
         let _nodes = &self.nodes;
     }
 
-    /// A document of the same text, which shows the same.
+    /// A document of the same text, which shows the same and is kept in the same pieces.
     pub fn try_clone(&self, alloc: Global) -> CargoResult<Document>
         ensures same { IfOk result (λ d. d ≡ self.now) }
         ensures refused { IfErr result IsMemory }
@@ -252,7 +260,7 @@ impl Document {
         self.shows_text();
         let copy = Document::read(alloc, self.as_str())?;
         copy.shows_text();
-        Ok(copy)
+        Ok(copy.with_pieces_of(self))
     }
 
     /// The text, as it was read.

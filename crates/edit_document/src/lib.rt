@@ -19,6 +19,7 @@ pub mod new_item;
 mod new_shown;
 mod nodes;
 mod one_statement;
+mod pieces;
 pub mod place;
 mod replace;
 mod set_value;

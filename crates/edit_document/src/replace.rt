@@ -1,8 +1,10 @@
 //! Literals written in the place of values.
-ghost use Rattle.std.specs.Prelude.{◌≡◌, IfOk, IfErr, true, map, string_bytes};
+ghost use Rattle.std.specs.Prelude.{◌≡◌, ◌≤◌, ◌+◌, IfOk, IfErr, length, true, map, string_bytes};
 ghost use Rattle.edit_base.specs.Errors.{IsMemory};
 ghost use Rattle.edit_syntax.specs.Grammar.{Text, text as text_of};
 ghost use Rattle.edit_document.specs.Items.{place_seen};
+ghost use Rattle.edit_document.specs.Literals.{literal_bytes};
+ghost use Rattle.edit_document.specs.Pieces.{IsAmong, IsSwapped};
 ghost use Rattle.edit_document.specs.Ranges.{one_edit, edits_seen};
 ghost use Rattle.edit_document.specs.Replaces.{Edits, replaced, written, emptied, AreValues, AreDistinct, AreOutside, Replaces};
 ghost use Rattle.edit_document.specs.Assertions.{Place as PlaceSeen};
@@ -81,24 +83,30 @@ impl Document {
         }
     }
 
-    /// The document's text with the literal of another text in the place of a value.
-    pub(crate) fn with_literal(
+    /// The document's text with the literal of another text in the place of a value, and the range of that
+    /// literal.
+    fn with_literal(
         &self,
         alloc: Global,
         place: &[Step],
         text: &str,
-    ) -> CargoResult<String>
+    ) -> CargoResult<(String, (usize, usize))>
         requires is_value { (form : Text) → IsManifest self.now.bytes form
             → is_value_at form (place_seen place.now) ≡ true }
-        ensures bytes { IfOk result (λ s. (form : Text) → IsManifest self.now.bytes form
-            → string_bytes s ≡ text_of (replaced (one_edit (place_seen place.now) text.now) form)) }
-        ensures replaces { IfOk result (λ s.
-            Replaces (one_edit (place_seen place.now) text.now) self.now.bytes (string_bytes s)) }
+        ensures replaces { IfOk result (λ r.
+            Replaces (one_edit (place_seen place.now) text.now) self.now.bytes (string_bytes r.0)) }
+        ensures swapped { IfOk result (λ r.
+            IsSwapped self.now.bytes (literal_bytes text.now) (string_bytes r.0) r.1) }
         ensures refused { IfErr result IsMemory }
     {
         self.has_form();
         match self.value_range(place) {
-            Some((start, end)) => splice(alloc, self.as_str(), &[Rewrite { start, end, text }]),
+            Some((start, end)) => {
+                let new = splice(alloc, self.as_str(), &[Rewrite { start, end, text }])?;
+                let behind = self.as_str().len() - end;
+                let written = (start, new.as_str().len() - behind);
+                Ok((new, written))
+            }
             None => unreachable!(),
         }
     }
@@ -127,7 +135,8 @@ impl Document {
         splice_unordered(alloc, self.as_str(), &mut rewrites)
     }
 
-    /// Writes the literal of a text in the place of a value. After a refusal the document is as it was.
+    /// Writes the literal of a text in the place of a value; it is one of the pieces then. After a refusal
+    /// the document is as it was.
     pub fn set_literal(&mut self, alloc: Global, place: &[Step], text: &str) -> CargoResult<()>
         requires is_value { (form : Text) → IsManifest self.old.bytes form
             → is_value_at form (place_seen place.now) ≡ true }
@@ -136,12 +145,16 @@ impl Document {
         ensures tree { IfOk result (λ _. (at : PlaceSeen)
             → let edit = one_edit (place_seen place.now) text.now in
             tree_of self.new at ≡ written edit (emptied edit (tree_of self.old)) at) }
+        ensures piece { IfOk result (λ _. IsAmong (literal_bytes text.now) self.new.pieces) }
+        ensures pieces { IfOk result (λ _. length self.new.pieces ≤ length self.old.pieces + 2) }
         ensures err { IfErr result (λ _. self.new ≡ self.old) }
         ensures refused { IfErr result IsMemory }
     {
         self.has_form();
-        let new_text = self.with_literal(alloc, place, text)?;
-        *self = Document::read(alloc, new_text.as_str())?;
+        self.has_pieces();
+        let (new_text, written) = self.with_literal(alloc, place, text)?;
+        let new = Document::read(alloc, new_text.as_str())?;
+        *self = new.with_written(written);
         Ok(())
     }
 }

@@ -1,20 +1,26 @@
-use Rattle.std.proofs.Common.{ℕ, List, None, cond, ap, sym, subst, ◌∙◌, rules}
+use Rattle.std.proofs.Common.{◌≡◌, ℕ, List, None, cond, ap, sym, subst, ◌∙◌, rules}
 use Rattle.edit_base.specs.Errors.{IsMemory}
 use Rattle.edit_document.specs.Items.{place_seen}
 use Rattle.edit_document.specs.Ranges.{one_edit}
 use Rattle.edit_document.specs.Replaces.{replaced, emptied, is_below_any}
 use Rattle.edit_document.specs.Shown.{tree_of}
 use Rattle.edit_document.specs.Supported.{IsManifest}
-use Rattle.edit_document.specs.Tree.{view_at}
+use Rattle.edit_document.specs.Tree.{View, view_at}
+use Rattle.std.specs.Prelude.{string_bytes}
+use Rattle.edit_document.specs.Assertions.{Place}
+use Rattle.edit_document.specs.Shown.{node_at}
+use Rattle.edit_document.specs.Literals.{literal_bytes}
+use Rattle.edit_document.specs.Pieces.{pieces_of, IsAmong}
+use Rattle.edit_document.proofs.PieceLaws.{literal_among, literal_some, most_pieces}
 use Rattle.edit_document.proofs.ReplacedStrings.{written_same}
 use Rattle.edit_document.proofs.document.Document.set_literal.Goals as goal
 
-pub returns-in_err-self-clause-refused : goal.returns-in_err-self-clause-refused
-returns-in_err-self-clause-refused c =
+pub returns-in_err-new-clause-refused : goal.returns-in_err-new-clause-refused
+returns-in_err-new-clause-refused c =
     let edit = one_edit (place_seen c.args.place.now) c.args.text.now in
     let r = (c.in_ok-new_text.ensures {u = tt}).replaces in
     let manifest = subst (λ (b : List ℕ). IsManifest b (replaced edit r.form)) (sym c.as_str.ensures.value) r.is in
-    let memory : IsMemory c.in_err-self.field-0.0 = (c.in_err-self.ensures {u = tt}).only (replaced edit r.form) manifest in
+    let memory : IsMemory c.in_err-new.field-0.0 = (c.in_err-new.ensures {u = tt}).only (replaced edit r.form) manifest in
     search rules
 
 pub returns-clause-tree : goal.returns-clause-tree
@@ -22,6 +28,28 @@ returns-clause-tree c at =
     let edit = one_edit (place_seen c.args.place.now) c.args.text.now in
     let r = (c.in_ok-new_text.ensures {u = tt}).replaces in
     let manifest = subst (λ (b : List ℕ). IsManifest b (replaced edit r.form)) (sym c.as_str.ensures.value) r.is in
-    (c.in_ok-self.ensures {u = tt}).only (replaced edit r.form) manifest at ∙ r.tree at
+    ap (λ (ns : List (Place × View)). node_at ns at) c.with_written.ensures.nodes
+    ∙ (c.in_ok-new.ensures {u = tt}).only (replaced edit r.form) manifest at ∙ r.tree at
     ∙ written_same edit (emptied edit (view_at r.form)) (emptied edit (tree_of c.args.self.now)) at
     (ap (λ v. cond (is_below_any edit at) None v) (sym (c.has_form.ensures.shows r.form r.was at)))
+
+pub returns-clause-piece : goal.returns-clause-piece
+returns-clause-piece c =
+    let new = string_bytes c.in_ok-new_text.new_text in
+    let told : c.with_written.result.pieces ≡ pieces_of new c.in_ok-new_text.written =
+        c.with_written.ensures.pieces
+        ∙ ap (λ (b : List ℕ). pieces_of b c.in_ok-new_text.written) ((c.in_ok-new.ensures {u = tt}).bytes ∙ c.as_str.ensures.value) in
+    subst (IsAmong (literal_bytes c.args.text.now)) (sym told)
+    (literal_among c.args.self.now.bytes (literal_bytes c.args.text.now) new c.in_ok-new_text.written
+    (c.in_ok-new_text.ensures {u = tt}).swapped (literal_some c.args.text.now))
+
+pub returns-clause-pieces : goal.returns-clause-pieces
+returns-clause-pieces c =
+    let new = string_bytes c.in_ok-new_text.new_text in
+    let kept = c.has_pieces.ensures in
+    let told : c.with_written.result.pieces ≡ pieces_of new c.in_ok-new_text.written =
+        c.with_written.ensures.pieces
+        ∙ ap (λ (b : List ℕ). pieces_of b c.in_ok-new_text.written) ((c.in_ok-new.ensures {u = tt}).bytes ∙ c.as_str.ensures.value) in
+    let most = most_pieces c.args.self.now.bytes (literal_bytes c.args.text.now) new c.in_ok-new_text.written kept.0
+        (c.in_ok-new_text.ensures {u = tt}).swapped kept.1 in
+    rw (told, kept.2) most

@@ -4,7 +4,7 @@ use Rattle.edit_document.specs.Nodes.{section, sections}
 use Rattle.edit_document.specs.Walk.{settled, element_added}
 use Rattle.edit_document.specs.WalkState.{Puts, Settles}
 use Rattle.edit_document.proofs.WalkSteps.{goes_element, element_unheaded, element_refused}
-use Rattle.edit_document.proofs.heads.Walk.head_element.Goals as goal
+use Rattle.edit_document.proofs.walk.Walk.head_element.Goals as goal
 
 pub returns-clause-goes : goal.returns-clause-goes
 returns-clause-goes c st w =

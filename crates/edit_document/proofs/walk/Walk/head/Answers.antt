@@ -4,7 +4,7 @@ use Rattle.edit_document.specs.Nodes.{section}
 use Rattle.edit_document.specs.Walk.{settled}
 use Rattle.edit_document.specs.WalkState.{Settles}
 use Rattle.edit_document.proofs.WalkSteps.{goes_headed, headed_refused}
-use Rattle.edit_document.proofs.heads.Walk.head.Goals as goal
+use Rattle.edit_document.proofs.walk.Walk.head.Goals as goal
 
 pub returns-in_default-clause-goes : goal.returns-in_default-clause-goes
 returns-in_default-clause-goes c st w =
