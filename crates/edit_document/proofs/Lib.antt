@@ -109,6 +109,15 @@ pub mod StatementSpots
 pub mod InsertedLines
 pub mod EntryChoices
 pub mod OutsideValues
+-- An entry replaced
+pub mod EntryParts
+pub mod LonePairs
+pub mod ValuesStand
+pub mod EntryCuts
+pub mod ToldPairs
+pub mod NamedMembers
+pub mod LineEntries
+pub mod InnerPairs
 -- Inside an array or an inline table
 pub mod SlotLaws
 pub mod SlotTurns

@@ -36,7 +36,7 @@ part_none place table (n ∷ ns) other =
     go false e ih =
         ap (λ (b : Bool). cond b (Some n.1) (behind_part as_it_is place (at table (key n.0)) ns)) e ∙ ih
 
-among_flat : {X Y : Type 0} (f : X → List Y) (y : Y) (xs : List X) → Among y (flat_map f xs)
+pub among_flat : {X Y : Type 0} (f : X → List Y) (y : Y) (xs : List X) → Among y (flat_map f xs)
     → (x : X) × Among x xs × Among y (f x)
 among_flat f y [] m = absurd m
 among_flat f y (x ∷ xs) m =
@@ -51,7 +51,7 @@ members_table p table (last_member k a b v c) rest (inr m) = absurd m
 members_table p table (member k a b v c d ms) rest (inl e) = ap (λ (q : Paired). q.table) e
 members_table p table (member k a b v c d ms) rest (inr m) = members_table p table ms rest m
 
-value_table : (p : Paired) (w : Valued) → Among p (paired_value w) → p.table ≡ w.place
+pub value_table : (p : Paired) (w : Valued) → Among p (paired_value w) → p.table ≡ w.place
 value_table p w = go w.value
   where
     go : (v : Value) → Among p (paired_value (record w { value = v })) → p.table ≡ w.place

@@ -36,7 +36,7 @@ head_key : (k : Key) (rest : List ℕ) (others : List Mark) → head_of (key_mar
 head_key k rest others =
     ap (λ b. cond b (head_of (dotted_marks k.others rest ++ others)) (Some (part_kind k.first))) (kind_part k.first) ∙ dotted_head k.others rest others
 
-value_first : (v : Value) (rest : List ℕ) → begins_part (value_marks v rest) ≡ false
+pub value_first : (v : Value) (rest : List ℕ) → begins_part (value_marks v rest) ≡ false
 value_first (basic ps) rest = refl
 value_first (literal text) rest = refl
 value_first (multi_basic ps) rest = refl

@@ -38,10 +38,10 @@ spot_of bytes (b ∷ bs) ends st =
       fits = rw at (IsCharBoundary-before_ascii bytes (length ends.0) (omega arith) (omega arith));
     }
 
-blank_small : (b : ℕ) → is_blank b ≡ true → b < 128
+pub blank_small : (b : ℕ) → is_blank b ≡ true → b < 128
 blank_small b e = grind (arith, nat_tests)
 
-blanks_start : (a rest : List ℕ) → All is_blank a → Starts rest → Starts (a ++ rest)
+pub blanks_start : (a rest : List ℕ) → All is_blank a → Starts rest → Starts (a ++ rest)
 blanks_start [] rest h st = st
 blanks_start (b ∷ bs) rest h st = blank_small b h.0
 
@@ -54,7 +54,7 @@ part_start k rest h = go k.first h.0
     go (basic_part ps) i = omega arith
     go (literal_part t) i = omega arith
 
-dotted_start : (d : Dotted) (ds : List Dotted) (rest : List ℕ) → All is_blank d.before
+pub dotted_start : (d : Dotted) (ds : List Dotted) (rest : List ℕ) → All is_blank d.before
     → Starts (dotted (d ∷ ds) rest)
 dotted_start d ds rest h = blanks_start d.before _ h (omega arith)
 
@@ -63,7 +63,7 @@ statement_start (pair k a b v) rest h = part_start k _ h.0
 statement_start (header a k b) rest h = omega arith
 statement_start (element_header a k b) rest h = omega arith
 
-line_end_start : (e : LineEnd) (rest : List ℕ) → Starts (line_end e rest)
+pub line_end_start : (e : LineEnd) (rest : List ℕ) → Starts (line_end e rest)
 line_end_start lf rest = omega arith
 line_end_start crlf rest = omega arith
 
@@ -81,7 +81,7 @@ lines_start (more_lines l e ls) h = line_start l (line_end e (lines ls)) h.0 (li
 ends_trans : (a b c : List ℕ) → Ends a b → Ends b c → Ends a c
 ends_trans a b c h g = (h.0 ++ g.0, h.1 ∙ ap (λ (l : List ℕ). h.0 ++ l) g.1 ∙ sym (append_assoc h.0 g.0 c))
 
-abbrev IsDotted : Dotted → Type 0
+abbrev pub IsDotted : Dotted → Type 0
 IsDotted d = All is_blank d.before × All is_blank d.behind × IsPart d.part
 
 behind_starts : (resolve : Place → Place) (place table : Place) (n : List ℕ) (ds : List Dotted)

@@ -35,3 +35,4 @@ pub mod SlotTexts
 pub mod Remainders
 pub mod OneStatement
 pub mod Pieces
+pub mod EntrySpots

@@ -6,6 +6,7 @@ ghost use Rattle.edit_document.specs.Items.{place_seen};
 ghost use Rattle.edit_document.specs.Statements.{Named};
 ghost use Rattle.edit_document.specs.Standings as standings;
 ghost use Rattle.edit_document.specs.Entries as entries_seen;
+ghost use Rattle.edit_document.specs.EntrySpots as spots_seen;
 
 use crate::nodes::words_in;
 use crate::place::Step;
@@ -211,4 +212,18 @@ pub(crate) fn heads_element(marks: &[Mark]) -> bool
         Some(MarkKind::ElementHeader) => true,
         _ => false,
     }
+}
+
+/// Where the last part of the key at the front ends, told by how many bytes follow.
+pub(crate) fn key_end(marks: &[Mark]) -> usize
+    ensures { result ≡ spots_seen.key_end 0 marks.now }
+{
+    let mut end = 0;
+    'marks: for mark in marks {
+        if !is_part(mark.kind) {
+            return end;
+        }
+        end = mark.to as usize;
+    }
+    end
 }
