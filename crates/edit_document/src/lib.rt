@@ -19,6 +19,7 @@ mod new_shown;
 mod nodes;
 mod one_statement;
 pub mod place;
+mod remove_text;
 mod replace;
 mod set_value;
 mod spots;
