@@ -43,15 +43,16 @@ use Rattle.edit_document.proofs.ValueSpots.{values_stand}
 -- ---- where a value stands
 
 -- a text may be cut behind a value
-behind_value : (bytes : List ℕ) (v : Value) (after : List ℕ) → IsUtf8 bytes → IsValue v → Ends bytes (value v after)
-    → IsSpot bytes after
+behind_value : (bytes : List ℕ) (v : Value) (after : List ℕ) → IsUtf8 bytes → IsValue v
+    → Ends bytes (value v after) → IsSpot bytes after
 behind_value bytes v after u valid ends =
     let e = value_enclosed v valid in
     let front = ends.0 ++ e.before in
     let seam : bytes ≡ front ++ (e.last ∷ after) =
     ends.1 ∙ ap (λ (l : List ℕ). ends.0 ++ l) (value_rest v after ∙ ap (λ (l : List ℕ). l ++ after) e.ends
     ∙ append_assoc e.before (e.last ∷ []) after) ∙ sym (append_assoc ends.0 e.before (e.last ∷ after)) in
-    let whole : bytes ≡ (front ++ (e.last ∷ [])) ++ after = seam ∙ sym (append_assoc front (e.last ∷ []) after) in
+    let whole : bytes ≡ (front ++ (e.last ∷ [])) ++ after =
+    seam ∙ sym (append_assoc front (e.last ∷ []) after) in
     let text = text_behind front after e.last e.last_ascii (subst IsUtf8 seam u) in
     let size = ap length whole ∙ length-append (front ++ (e.last ∷ [])) after in
     let at : length bytes - length after ≡ length (front ++ (e.last ∷ [])) = omega arith in
@@ -61,11 +62,12 @@ behind_value bytes v after u valid ends =
       fits = rw at (IsCharBoundary-at_seam bytes (front ++ (e.last ∷ [])) after whole text);
     }
 
-pub stands_between : (bytes : List ℕ) (form : Text) (w : Valued) (a : Around) → IsManifest bytes form → IsUtf8 bytes
-    → IsFoundAt form w a → StandsBetween bytes w a.from a.to
+pub stands_between : (bytes : List ℕ) (form : Text) (w : Valued) (a : Around) → IsManifest bytes form
+    → IsUtf8 bytes → IsFoundAt form w a → StandsBetween bytes w a.from a.to
 stands_between bytes form w a m u f =
     let among = contained_among w (values form) f.told in
-    let valid = among_all (λ w. IsValue w.value) w (values form) (values_fine [] [] form.lines m.document.grammar.well_formed) among in
+    let valid = among_all (λ w. IsValue w.value) w (values form)
+    (values_fine [] [] form.lines m.document.grammar.well_formed) among in
     let s = values_stand bytes form m u w among in
     record {
       valid = valid;
@@ -101,13 +103,14 @@ found_at bytes form p start end a m u r steps from to =
 pub value_between : (bytes : List ℕ) (w : Valued) (from to : ℕ) → StandsBetween bytes w from to
     → cut_from bytes (length bytes - from) (length bytes - to) ≡ value w.value []
 value_between bytes w from to s =
-    cut_spots bytes (value w.value w.after) w.after from to s.start s.end (value w.value [], value_rest w.value w.after)
-    s.from_is s.to_is
+    cut_spots bytes (value w.value w.after) w.after from to s.start s.end
+    (value w.value [], value_rest w.value w.after) s.from_is s.to_is
     ∙ before_is (value w.value w.after) (value w.value []) w.after (value_rest w.value w.after)
 
 -- the text around it, with other bytes between
 pub part_put : (bytes now one two three front back : List ℕ) (w : Valued) (from to : ℕ) → IsUtf8 bytes
-    → StandsBetween bytes w from to → front ≡ cut_from bytes (length bytes - length bytes) (length bytes - from)
+    → StandsBetween bytes w from to
+    → front ≡ cut_from bytes (length bytes - length bytes) (length bytes - from)
     → back ≡ cut_from bytes (length bytes - to) (length bytes - 0) → one ≡ front → two ≡ one ++ now
     → three ≡ two ++ back
     → three ≡ with_splice bytes (record { from = value w.value w.after; to = w.after; now = now })
@@ -149,7 +152,8 @@ first_tells (datetime d) h =
     ((λ e. never _ (not_number (first (datetime_text d [])) (datetime_start d [] h)) e), (λ e. absurd e))
 
 -- nothing goes from another value
-pub plain_left : (gone place : Place) (v : Value) → (IsContainer v → ⊥) → value_left gone place v [] ≡ value v []
+pub plain_left : (gone place : Place) (v : Value) → (IsContainer v → ⊥)
+    → value_left gone place v [] ≡ value v []
 plain_left gone place (array g es) plain = absurd (plain tt)
 plain_left gone place (inline g ms) plain = absurd (plain tt)
 plain_left gone place (basic ps) plain = refl
@@ -203,15 +207,16 @@ none_around_root form (x ∷ xs) none = absurd (omega arith)
 pub some_around : (bytes : List ℕ) (form : Text) (steps : List WrittenStep) (start end : ℕ) (a : Around)
     → IsManifest bytes form → IsUtf8 bytes → 1 ≤ length steps
     → IsWrittenAt form (place_seen (take (length steps - 1) steps)) start end
-    → a.steps ≡ length (take (length steps - 1) steps) → a.from ≡ length bytes - start → a.to ≡ length bytes - end
-    → IsAround form (place_seen steps) a
+    → a.steps ≡ length (take (length steps - 1) steps) → a.from ≡ length bytes - start
+    → a.to ≡ length bytes - end → IsAround form (place_seen steps) a
 some_around bytes form steps start end a m u some r count from to =
     let above = take (length steps - 1) steps in
     let last = last_step steps some in
     let among = contained_among r.valued (values form) r.told in
     record {
       valued = r.valued;
-      found = found_at bytes form (place_seen above) start end a m u r (count ∙ sym (length-map above step_seen)) from to;
+      found = found_at bytes form (place_seen above) start end a m u r
+          (count ∙ sym (length-map above step_seen)) from to;
       innermost_is = ap (λ (p : Place). innermost p form) last.1
           ∙ value_around form (place_seen above) last.0 r.valued m.document.no_clash among r.there;
       below = last.0 ∷ [];
@@ -240,7 +245,8 @@ around_above form steps r some none h = go r h
       found = i.found;
       innermost_is = same ∙ i.innermost_is;
       below = at i.below last.0;
-      parted = last.1 ∙ ap (λ (q : Place). at q last.0) i.parted ∙ append_assoc i.valued.place i.below (last.0 ∷ []);
+      parted = last.1 ∙ ap (λ (q : Place). at q last.0) i.parted
+          ∙ append_assoc i.valued.place i.below (last.0 ∷ []);
     }
 
 -- the steps behind those of the value lead to the place
@@ -248,7 +254,8 @@ pub steps_below : (steps : List WrittenStep) (n : ℕ) (place below : Place) →
     → n ≡ length place → place ++ place_seen (take (length steps - n) (drop n steps)) ≡ place_seen steps
 steps_below steps n place below e is =
     ap (λ (l : List WrittenStep). place ++ place_seen l) (take_rest steps n)
-    ∙ ap (λ (p : Place). place ++ p) (sym (drop-map step_seen n steps) ∙ ap₂ (λ (k : ℕ) (p : Place). drop k p) is e ∙ drop-append_seam place below)
+    ∙ ap (λ (p : Place). place ++ p) (sym (drop-map step_seen n steps)
+    ∙ ap₂ (λ (k : ℕ) (p : Place). drop k p) is e ∙ drop-append_seam place below)
     ∙ sym e
 
 -- what holds of a result for each form

@@ -76,12 +76,14 @@ pub same_around : (form : Text) (p : Place) (s : Step) → is_value_at form p �
 same_around form p s none =
     last_alike (around (at p s)) (around p) (values form)
     (λ w m. ap (λ (b : Bool). if b then Some w else None)
-    (above_at w.place p s ∙ sym (ap (λ (b : Bool). is_within w.place p && not b) (other w m) ∙ yes (is_within w.place p))))
+    (above_at w.place p s
+    ∙ sym (ap (λ (b : Bool). is_within w.place p && not b) (other w m) ∙ yes (is_within w.place p))))
   where
     other : (w : Valued) → Among w (values form) → same_place w.place p ≡ false
     other w m =
         by_test (same_place w.place p)
-        (λ h. absurd (true≢false (sym (listed_value form w m) ∙ ap (is_value_at form) (same_place_is w.place p h) ∙ none)))
+        (λ h. absurd (true≢false
+        (sym (listed_value form w m) ∙ ap (is_value_at form) (same_place_is w.place p h) ∙ none)))
         (λ h. h)
 
     yes : (b : Bool) → (b && true) ≡ b
@@ -98,8 +100,10 @@ found_last p s (x ∷ ws) w up (inl same) e =
     let none : last_made (around (at p s)) ws ≡ None =
     last_nothing (around (at p s)) ws (λ u m. around_not (at p s) u
     (above_at u.place p s ∙ ap (is_within u.place) (sym there) ∙ within_under u.place x.place
-    ∙ among_all (λ q. is_under q x.place ≡ false) u.place (places ws) up.0 (among_map (λ (v : Valued). v.place) u ws m))) in
-    let here : is_around (at p s) x ≡ true = above_at x.place p s ∙ ap (λ (q : Place). is_within q p) there ∙ within_self p in
+    ∙ among_all (λ q. is_under q x.place ≡ false) u.place (places ws) up.0
+    (among_map (λ (v : Valued). v.place) u ws m))) in
+    let here : is_around (at p s) x ≡ true =
+    above_at x.place p s ∙ ap (λ (q : Place). is_within q p) there ∙ within_self p in
     ap (λ (o : Option Valued). first_of (o ∷ around (at p s) x ∷ [])) none
     ∙ ap (λ (b : Bool). first_of ((if b then Some x else None) ∷ [])) here ∙ ap Some (sym same)
 

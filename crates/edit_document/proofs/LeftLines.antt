@@ -35,11 +35,12 @@ lines_chain bytes from earlier prefix (more_lines (empty_line a c) n ls) valid e
     (ends_line_end bytes n (lines ls) (ends_line bytes (empty_line a c) (line_end n (lines ls)) e))
     (ends_line_end from n (lines ls) (ends_line from (empty_line a c) (line_end n (lines ls)) f))
 lines_chain bytes from earlier prefix (more_lines (full_line a s b c) n ls) valid e f =
-    let next = ends_line_end bytes n (lines ls) (ends_line bytes (full_line a s b c) (line_end n (lines ls)) e) in (
+    let next = ends_line_end bytes n (lines ls)
+    (ends_line bytes (full_line a s b c) (line_end n (lines ls)) e) in (
       spot_of bytes (lines ls) next (lines_start ls valid.1),
       ends_line_end from n (lines ls) (ends_line from (full_line a s b c) (line_end n (lines ls)) f),
-      lines_chain bytes (lines ls) (earlier ++ of_statement earlier prefix s) (prefix_after earlier prefix s) ls
-          valid.1 next ([], refl),
+      lines_chain bytes (lines ls) (earlier ++ of_statement earlier prefix s)
+          (prefix_after earlier prefix s) ls valid.1 next ([], refl),
     )
 
 -- ---- the turns of the loop

@@ -54,7 +54,8 @@ cut xs [] st u = (subst IsUtf8 (append-nil xs) u, IsUtf8-nil)
 cut xs (b ∷ ys) st u =
     (text_before xs ys b st u, IsUtf8-append (b ∷ []) ys (one_text b st) (text_behind xs ys b st u))
 
-cut_gap : (g : List Between) (rest : List ℕ) → Starts rest → IsUtf8 (gap g rest) → IsUtf8 (gap g []) × IsUtf8 rest
+cut_gap : (g : List Between) (rest : List ℕ) → Starts rest → IsUtf8 (gap g rest)
+    → IsUtf8 (gap g []) × IsUtf8 rest
 cut_gap g rest st u = cut (gap g []) rest st (subst IsUtf8 (gap_rest g rest) u)
 
 cut_slot : (s : Slot) (rest : List ℕ) → Starts rest → IsUtf8 (slot s rest) → IsUtf8 (slot s []) × IsUtf8 rest
@@ -104,7 +105,8 @@ slots_text : (below : Place) (i : ℕ) (ss : Slots) (rest : List ℕ) → ArePie
 slots_text below i no_slots rest h u = u
 slots_text below i (last_slot s c) rest h u = go (goes below i s)
   where
-    go : (b : Bool) → let l = if b then without_it (gap c rest) else with_it (slot s (gap c rest)) in IsUtf8 l.rest
+    go : (b : Bool) → let l = if b then without_it (gap c rest) else with_it (slot s (gap c rest)) in
+        IsUtf8 l.rest
     go true = put_gap c rest h.1 u
     go false = put_slot s (gap c rest) h.0 (put_gap c rest h.1 u)
 slots_text below i (more_slots s c d ss) rest h u =
@@ -120,18 +122,20 @@ slots_text below i (more_slots s c d ss) rest h u =
     gone false x w = put_gap c x h.1 w
 
     go : (b : Bool) (l : Left) → IsUtf8 l.rest
-        → let m = if b then without_member (gap c) (gap d) l else with_it (slot s (gap c (behind_comma (gap d) l))) in
+        → let m = if b then without_member (gap c) (gap d) l
+        else with_it (slot s (gap c (behind_comma (gap d) l))) in
         IsUtf8 m.rest
     go true l w = gone l.comma_stays l.rest w
     go false l w = put_slot s _ h.0 (put_gap c _ h.1 (kept l.comma_stays l.rest w))
 
-enclosed_text : (t : Bool) (below : Place) (g : List Between) (ss : Slots) (text : List ℕ) → IsEnclosed t g ss text
-    → IsUtf8 text → IsUtf8 (enclosed_left t below g ss)
+enclosed_text : (t : Bool) (below : Place) (g : List Between) (ss : Slots) (text : List ℕ)
+    → IsEnclosed t g ss text → IsUtf8 text → IsUtf8 (enclosed_left t below g ss)
 enclosed_text t below g ss text h u =
     let low = closing_low t in
     let inner = slots ss (closing t ∷ []) in
     let all : IsUtf8 (opening t ∷ gap g inner) = subst IsUtf8 h.spelled u in
-    let one = cut_gap g inner (slots_start t ss h.slots_valid) (text_behind [] (gap g inner) (opening t) (opening_low t) all) in
+    let one = cut_gap g inner (slots_start t ss h.slots_valid)
+    (text_behind [] (gap g inner) (opening t) (opening_low t) all) in
     put_one (opening t) _ (opening_low t)
     (put_gap g _ one.0
     (slots_text below 0 ss (closing t ∷ []) (pieces t ss h.slots_valid one.1) (one_text (closing t) low)))
@@ -141,10 +145,12 @@ pub left_text : (place below : Place) (v : Value) → IsContainer v → IsValue 
     → IsUtf8 (value v []) → IsUtf8 (value_left (place ++ below) place v [])
 left_text place below (array g es) is valid shallow u =
     subst IsUtf8 (array_left place below g es)
-    (enclosed_text false below g (of_elements es) _ (array_enclosed g es (value (array g es) []) valid shallow refl) u)
+    (enclosed_text false below g (of_elements es) _
+    (array_enclosed g es (value (array g es) []) valid shallow refl) u)
 left_text place below (inline g ms) is valid shallow u =
     subst IsUtf8 (inline_left place below g ms)
-    (enclosed_text true below g (of_members ms) _ (inline_enclosed g ms (value (inline g ms) []) valid shallow refl) u)
+    (enclosed_text true below g (of_members ms) _
+    (inline_enclosed g ms (value (inline g ms) []) valid shallow refl) u)
 left_text place below (basic ps) is valid shallow u = absurd is
 left_text place below (literal t) is valid shallow u = absurd is
 left_text place below (multi_basic ps) is valid shallow u = absurd is

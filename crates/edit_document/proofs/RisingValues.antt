@@ -69,7 +69,8 @@ module _ (base : List Assertion) (x : Assertion) (xs : List Assertion) (rest : R
   not_there z m is same =
       true≢false (sym is ∙ among_all (λ z. x.place ≡ z.place → is_leaf z.kind ≡ false) z xs here m same)
 
-  not_opened : (z : Assertion) (q : Place) → Among z xs → is_leaf z.kind ≡ true → q ≡ z.place → Opened base q → ⊥
+  not_opened : (z : Assertion) (q : Place) → Among z xs → is_leaf z.kind ≡ true → q ≡ z.place
+      → Opened base q → ⊥
   not_opened z q m is same o =
       true≢false (sym is ∙ among_all (λ z. q ≡ z.place → is_leaf z.kind ≡ false) z xs (apart q o) m same)
 

@@ -102,4 +102,5 @@ pub values_stand : (bytes : List ℕ) (form : Text) → IsManifest bytes form �
     → Among w (values form) → StandsIn bytes w
 values_stand bytes form m u w among =
     among_all (StandsIn bytes) w (values form)
-    (stand_lines bytes [] [] form.lines (shallow bytes form m) (ends_all bytes form (read_of bytes form m u))) among
+    (stand_lines bytes [] [] form.lines (shallow bytes form m)
+    (ends_all bytes form (read_of bytes form m u))) among

@@ -18,7 +18,8 @@ pub entries-init : goal.entries-init
 entries-init c form m =
     let text = c.args.text.now in
     at_first text form (place_seen c.args.place.now) _ _ _ m c.utf8.text
-    (ap length (c.past_mark-from.ensures ∙ ap past_mark c.as_bytes.ensures.value ∙ lines_only text form m.document.grammar))
+    (ap length (c.past_mark-from.ensures ∙ ap past_mark c.as_bytes.ensures.value
+    ∙ lines_only text form m.document.grammar))
     ((c.in_ok-out.ensures {u = tt}).ok ∙ c.between.ensures)
     (c.as_slice-found.ensures.value ∙ (c.in_ok-all.ensures {u = tt}).found form m)
 
@@ -31,17 +32,19 @@ entries-preserved c form m =
     let e = get_or xs i no_entry in
     let whole = byte_order_mark form.marked (lines_left gone (lines form.lines) (stated form)) in
     let done = string_bytes c.entries.out in
-    let at = subst (AtStatement text gone whole done c.entries.from) (drop_more xs i no_entry c.entries-test.true)
+    let at = subst (AtStatement text gone whole done c.entries.from)
+    (drop_more xs i no_entry c.entries-test.true)
     (c.entries.invariant form m) in
     elim c.if-not-entry.branch [
       | then-not-entry+in_ok-push_str w ↦
-          past_kept text gone whole done c.entries.from e (drop (i + 1) xs) at (string_bytes c.if-not-entry.out)
-          w.if-not-entry.true
+          past_kept text gone whole done c.entries.from e (drop (i + 1) xs) at
+          (string_bytes c.if-not-entry.out) w.if-not-entry.true
           (ap (λ (s : String Global). string_bytes s) w.out-is ∙ (w.in_ok-push_str.ensures {u = tt}).bytes
           ∙ ap (λ (l : List ℕ). done ++ l) w.between-then-not-entry.ensures)
       | else-not-entry w ↦
           subst (λ (s : String Global). AtStatement text gone whole (string_bytes s) e.next (drop (i + 1) xs))
-          (sym w.out-is) (past_gone text gone whole done c.entries.from e (drop (i + 1) xs) at w.if-not-entry.false)
+          (sym w.out-is)
+          (past_gone text gone whole done c.entries.from e (drop (i + 1) xs) at w.if-not-entry.false)
     ]
 
 pub returns-clause-text : goal.returns-clause-text
@@ -52,6 +55,7 @@ returns-clause-text c form m =
     let whole = byte_order_mark form.marked (lines_left gone (lines form.lines) (stated form)) in
     let done = string_bytes c.entries.out in
     past_last text gone whole done _ c.entries.from
-    (subst (AtStatement text gone whole done c.entries.from) (drop_all c.entries.entry-index xs c.entries-test.false)
+    (subst (AtStatement text gone whole done c.entries.from)
+    (drop_all c.entries.entry-index xs c.entries-test.false)
     (c.entries.invariant form m))
     ((c.in_ok-push_str-2.ensures {u = tt}).bytes ∙ ap (λ (l : List ℕ). done ++ l) c.between-2.ensures)

@@ -15,12 +15,14 @@ without_members-requires c =
     let f = c.has_form.ensures.some in
     let m = subst (λ (b : List ℕ). IsManifest b f.0) (sym c.as_str.ensures) f.1 in
     let h = c.in-Some.ensures {u = tt} f.0 f.1 in
-    record { stands = (h.valued, stands_between c.as_str.result.now f.0 h.valued c.in-Some.around m c.as_str.utf8 h.found) }
+    let stands = stands_between c.as_str.result.now f.0 h.valued c.in-Some.around m c.as_str.utf8 h.found in
+    record { stands = (h.valued, stands) }
 
 pub returns-in-Some-clause-text : goal.returns-in-Some-clause-text
 returns-in-Some-clause-text c =
     let gone = place_seen c.args.place.now in
-    each_form c.args.self.now.bytes c.without_members.result (λ form t. string_bytes t ≡ removed_text gone form)
+    each_form c.args.self.now.bytes c.without_members.result
+    (λ form t. string_bytes t ≡ removed_text gone form)
     (λ form manifest.
     let m = subst (λ (b : List ℕ). IsManifest b form) (sym c.as_str.ensures) manifest in
     let h = c.in-Some.ensures {u = tt} form manifest in
