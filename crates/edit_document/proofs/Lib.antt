@@ -123,6 +123,13 @@ pub mod SlotLaws
 pub mod SlotTurns
 pub mod SlotKeys
 pub mod SlotSteps
+-- An item removed
+pub mod ValueSpots
+pub mod LeftLines
+pub mod RisingValues
+pub mod Innermost
+pub mod LeftTexts
+pub mod AroundValues
 -- Worked examples
 pub mod ReplaceFacts
 pub mod FromReader

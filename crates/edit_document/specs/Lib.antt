@@ -36,3 +36,4 @@ pub mod Remainders
 pub mod OneStatement
 pub mod Pieces
 pub mod EntrySpots
+pub mod RemoveText

@@ -22,6 +22,7 @@ mod nodes;
 mod one_statement;
 mod pieces;
 pub mod place;
+mod remove_text;
 mod replace;
 mod replace_entry;
 mod set_value;
