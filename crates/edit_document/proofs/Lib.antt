@@ -89,7 +89,6 @@ pub mod OnceLists
 pub mod GrownInline
 pub mod GrownNames
 pub mod GrownTrees
-pub mod GrownWhole
 pub mod ShownItems
 pub mod ApartViews
 pub mod ReplacedEntries
@@ -108,6 +107,9 @@ pub mod StatementSpots
 pub mod InsertedLines
 pub mod EntryChoices
 pub mod OutsideValues
+pub mod ValueAssertions
+pub mod ValueSpots
+pub mod InlineRows
 -- Inside an array or an inline table
 pub mod SlotLaws
 pub mod SlotTurns
