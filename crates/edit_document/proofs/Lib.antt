@@ -90,7 +90,6 @@ pub mod OnceLists
 pub mod GrownInline
 pub mod GrownNames
 pub mod GrownTrees
-pub mod GrownWhole
 pub mod ShownItems
 pub mod ApartViews
 pub mod ReplacedEntries
@@ -118,13 +117,15 @@ pub mod ToldPairs
 pub mod NamedMembers
 pub mod LineEntries
 pub mod InnerPairs
+pub mod ValueAssertions
+pub mod ValueSpots
+pub mod InlineRows
 -- Inside an array or an inline table
 pub mod SlotLaws
 pub mod SlotTurns
 pub mod SlotKeys
 pub mod SlotSteps
 -- An item removed
-pub mod ValueSpots
 pub mod LeftLines
 pub mod RisingValues
 pub mod Innermost

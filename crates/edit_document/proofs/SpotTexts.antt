@@ -4,7 +4,7 @@ use Rattle.std.specs.Prelude.{IsUtf8}
 use Rattle.std.proofs.lemmas.Str.{IsCharBoundary-start, IsCharBoundary-end}
 use Rattle.edit_syntax.specs.Spans.{cut_from}
 use Rattle.edit_syntax.proofs.Kept.{cut_is}
-use Rattle.edit_document.specs.EditBytes.{before, put_before, with_splice}
+use Rattle.edit_document.specs.EditBytes.{before, with_splice}
 use Rattle.edit_document.specs.Spots.{IsSpot}
 use Rattle.edit_document.proofs.Ends.{Ends, suffix_is}
 
@@ -64,13 +64,14 @@ cut_rest bytes s m from is =
 
 -- ---- other bytes at a spot
 
-pub text_put : (bytes rest now one two three front back : List ℕ) (spot : ℕ) → IsUtf8 bytes → IsSpot bytes rest
-    → spot ≡ length rest → front ≡ cut_from bytes (length bytes - length bytes) (length bytes - spot)
-    → back ≡ cut_from bytes (length bytes - spot) (length bytes - 0) → one ≡ front → two ≡ one ++ now
-    → three ≡ two ++ back → three ≡ with_splice bytes (put_before rest now)
-text_put bytes rest now one two three front back spot u at is f b e1 e2 e3 =
-    let head : front ≡ before bytes rest =
-    f ∙ cut_spots bytes bytes rest (length bytes) spot (whole_spot bytes u) at (at.front, at.seam) refl is in
-    let tail : back ≡ rest = b ∙ cut_rest bytes rest spot at is in
+pub text_swapped : (bytes s t now one two three front back : List ℕ) (from to : ℕ) → IsUtf8 bytes
+    → IsSpot bytes s → IsSpot bytes t → from ≡ length s → to ≡ length t
+    → front ≡ cut_from bytes (length bytes - length bytes) (length bytes - from)
+    → back ≡ cut_from bytes (length bytes - to) (length bytes - 0) → one ≡ front → two ≡ one ++ now
+    → three ≡ two ++ back → three ≡ with_splice bytes (record { from = s; to = t; now = now })
+text_swapped bytes s t now one two three front back from to u at_s at_t is_s is_t f b e1 e2 e3 =
+    let head : front ≡ before bytes s =
+    f ∙ cut_spots bytes bytes s (length bytes) from (whole_spot bytes u) at_s (at_s.front, at_s.seam) refl is_s in
+    let tail : back ≡ t = b ∙ cut_rest bytes t to at_t is_t in
     e3 ∙ ap₂ (λ (x y : List ℕ). x ++ y) (e2 ∙ ap (λ (x : List ℕ). x ++ now) (e1 ∙ head)) tail
-    ∙ append_assoc (before bytes rest) now rest
+    ∙ append_assoc (before bytes s) now t

@@ -1,19 +1,41 @@
 -- Where a document tells that the value of a place is written.
-use Rattle.std.specs.Prelude.{◌≡◌, ℕ, false, List, [], ◌∷◌, map, Option, MatchOption, string_bytes}
+use Rattle.std.specs.Prelude.{◌≡◌, ℕ, Bool, true, false, List, [], ◌∷◌, length, map, Option, MatchOption, string_bytes}
 use Rattle.std.specs.Global.{Vec}
+use Rattle.std.specs.List.{Contains}
 use Rattle.std.specs.declared.string.String.{String}
 use Rattle.std.specs.declared.alloc.Global.{Global}
 use Rattle.edit_document.specs.declared.place.Step.{Step as WrittenStep}
-use Rattle.edit_syntax.specs.Grammar.{Text}
+use Rattle.edit_syntax.specs.Grammar.{Between, Value, inline, Members, Text, text}
 use Rattle.edit_document.specs.Assertions.{Place}
 use Rattle.edit_document.specs.Tree.{is_value_at}
 use Rattle.edit_document.specs.Items.{place_seen}
 use Rattle.edit_document.specs.Replaces.{Edits}
-use Rattle.edit_document.specs.Written.{IsWrittenAt}
+use Rattle.edit_document.specs.Written.{Valued, values, start_of, IsWrittenAt}
 
 -- from where to where the value of the place is written, or nothing where no value is
 abbrev pub HasRange : Text → Place → Option (ℕ × ℕ) → Type 0
 HasRange form place r = MatchOption r (is_value_at form place ≡ false) (λ p. IsWrittenAt form place p.0 p.1)
+
+-- it is an inline table
+abbrev pub is_table_value : Value → Bool
+is_table_value (inline g ms) = true
+is_table_value _ = false
+
+-- the inline table of the place is written from a position on
+pub record StartsTable (form : Text) (place : Place) (start : ℕ) : Type 0 where
+  pub valued : Valued
+  pub told : Contains (values form) valued
+  pub there : valued.place ≡ place
+  pub between : List Between
+  pub all : Members
+  pub is : valued.value ≡ inline between all
+  pub starts : start ≡ start_of (length (text form)) valued
+
+-- from where on the inline table of the place is written, or nothing where none is
+abbrev pub HasTable : Text → Place → Option ℕ → Type 0
+HasTable form place r =
+    MatchOption r ((w : Valued) → Contains (values form) w → w.place ≡ place → is_table_value w.value ≡ false)
+    (StartsTable form place)
 
 -- places, each with the text to be written there
 abbrev pub edits_seen : List (Vec WrittenStep × String Global) → Edits

@@ -1,7 +1,8 @@
 -- An element or a member where it stands in a text, and what the parts of its key say.
-use Rattle.std.specs.Prelude.{◌≡◌, ℕ, true, List, [], ◌∷◌, ◌++◌, Bool, ⊤}
+use Rattle.std.specs.Prelude.{◌≡◌, ◌≤◌, ℕ, true, List, [], ◌∷◌, ◌++◌, Bool, ⊤}
 use Rattle.edit_syntax.specs.declared.read.marks.Mark.{Mark}
-use Rattle.edit_syntax.specs.Grammar.{Between, gap, IsGap}
+use Rattle.edit_syntax.specs.Depth.{depth}
+use Rattle.edit_syntax.specs.Grammar.{Between, gap, IsGap, inline, value, IsValue, Members}
 use Rattle.edit_syntax.specs.ReadingSteps.{first}
 use Rattle.edit_syntax.specs.Steps.{ends_item}
 use Rattle.edit_document.specs.WalkState.{SaysAt}
@@ -26,3 +27,10 @@ pub record StandsAt (text s : List ℕ) (is_table : Bool) (it : Slot) (c : List 
   pub ends : ends_item (first rest) ≡ true
   pub within : Ends text s
   pub spelled : s ≡ slot it (gap c rest)
+
+-- an inline table at the front of the end of a text, with this text behind it
+pub record TableAt (text table : List ℕ) (g : List Between) (ms : Members) (after : List ℕ) : Type 0 where
+  pub valid : IsValue (inline g ms)
+  pub shallow : depth (inline g ms) ≤ 80
+  pub within : Ends text table
+  pub spelled : table ≡ value (inline g ms) after

@@ -1,28 +1,28 @@
-//! Edits inside an inline table: its bytes with a member more.
-ghost use Rattle.std.specs.Prelude.{◌≡◌, ℕ, List, ◌≤◌, ◌++◌, ◌∷◌, [], MatchResult, IfOk, Some};
+//! A member more in an inline table.
+ghost use Rattle.std.specs.Prelude.{◌≡◌, ℕ, List, ◌++◌, ◌∷◌, MatchResult, IfOk, IfErr, Some, codes, length, string_bytes};
 ghost use Rattle.edit_base.specs.Errors.{IsMemory};
 ghost use Rattle.edit_syntax.specs.Characters.{right_brace};
-ghost use Rattle.edit_syntax.specs.Grammar.{Between, IsGap, Value, inline, Members, no_members, value as value_text, IsValue};
-ghost use Rattle.edit_syntax.specs.Depth.{depth};
-ghost use Rattle.edit_document.specs.EditBytes.{Splice, with_splice, behind_last, inline_grown};
+ghost use Rattle.edit_syntax.specs.Grammar.{Between, inline, Members, no_members};
+ghost use Rattle.edit_document.specs.EditBytes.{Splice, put_before, with_splice, behind_last, inline_grown};
+ghost use Rattle.edit_document.specs.SlotTexts.{TableAt};
+ghost use Rattle.edit_document.specs.Spots.{IsSpot};
 
-use crate::inside::{before, begins, behind_one, past_slot};
+use crate::inside::{begins, behind_one, past_slot};
+use crate::spots::{with_swap, with_text};
 use edit_base::errors::CargoResult;
 use edit_syntax::read::gaps::past_gap;
 use edit_syntax::read::steps::past_blanks;
-use std::alloc::{AllocError, Global};
+use std::alloc::Global;
 
-/// What follows the value of the last member of the inline table that is written as `text`, or its closing
-/// brace where it has none.
-fn past_last(alloc: Global, text: &str) -> CargoResult<&[u8]>
-    ensures { (g : List Between) (ms : Members) → IsValue (inline g ms) → depth (inline g ms) ≤ 80
-        → text.now ≡ value_text (inline g ms) []
-        → MatchResult result (λ r. r.now ≡ behind_last ms (right_brace ∷ [])) IsMemory }
+/// What follows the value of the last member of the inline table at the front of `table`, an end of `text`,
+/// or its closing brace where it has none.
+fn past_last<'a>(alloc: Global, text: &str, table: &'a [u8]) -> CargoResult<&'a [u8]>
+    ensures { (g : List Between) (ms : Members) (after : List ℕ) → TableAt text.now table.now g ms after
+        → MatchResult result (λ r. r.now ≡ behind_last ms (right_brace ∷ after)) IsMemory }
 {
-    let bytes = text.as_bytes();
-    let mut rest = past_gap(behind_one(bytes));
+    let mut rest = past_gap(behind_one(table));
     let mut last = rest;
-    'members: for index in 0..bytes.len() {
+    'members: for index in 0..text.len() {
         if begins(rest, b'}') {
             return Ok(last);
         }
@@ -37,50 +37,76 @@ fn past_last(alloc: Global, text: &str) -> CargoResult<&[u8]>
     Ok(last)
 }
 
-/// Four texts, one behind the other.
-fn joined(
+/// The text with a member before a spot, behind `lead`.
+pub(crate) fn with_lead(
     alloc: Global,
-    start: &[u8],
-    lead: &[u8],
-    member: &[u8],
-    end: &[u8],
-) -> Result<Vec<u8>, AllocError>
-    ensures { IfOk result (λ v. v.items ≡ ((start.now ++ lead.now) ++ member.now) ++ end.now) }
+    text: &str,
+    spot: usize,
+    lead: &str,
+    member: &str,
+) -> CargoResult<String>
+    ensures text { (rest : List ℕ) → IsSpot text.now rest → spot ≡ length rest
+        → IfOk result (λ s. string_bytes s
+        ≡ with_splice text.now (put_before rest (lead.now ++ member.now))) }
+    ensures refused { IfErr result IsMemory }
 {
-    let mut out = Vec::new(alloc);
-    out.extend_from_slice(start)?;
-    out.extend_from_slice(lead)?;
-    out.extend_from_slice(member)?;
-    out.extend_from_slice(end)?;
-    Ok(out)
+    let mut now = String::from_str(alloc, lead)?;
+    now.push_str(member)?;
+    with_text(alloc, text, spot, now.as_str())
 }
 
-/// The bytes of an inline table without members, with this one.
-fn empty_with(alloc: Global, bytes: &[u8], member: &[u8]) -> Result<Vec<u8>, AllocError>
-    ensures { (g : List Between) (s : Splice) → IsGap g → bytes.now ≡ value_text (inline g no_members) []
-        → inline_grown member.now (inline g no_members) [] ≡ Some s
-        → IfOk result (λ w. w.items ≡ with_splice bytes.now s) }
+/// The text with a member between two spots, and a space on each side.
+fn with_alone(
+    alloc: Global,
+    text: &str,
+    from: usize,
+    to: usize,
+    member: &str,
+) -> CargoResult<String>
+    ensures text { (s t : List ℕ) → IsSpot text.now s → IsSpot text.now t → from ≡ length s → to ≡ length t
+        → IfOk result (λ r. string_bytes r ≡ with_splice text.now
+        (record { from = s; to = t; now = codes " " ++ (member.now ++ codes " ") })) }
+    ensures refused { IfErr result IsMemory }
 {
-    let inner = behind_one(bytes);
-    if begins(past_blanks(inner), b'}') {
-        joined(alloc, b"{", b" ", member, b" }")
+    let mut now = String::from_str(alloc, " ")?;
+    now.push_str(member)?;
+    now.push_str(" ")?;
+    with_swap(alloc, text, from, to, now.as_str())
+}
+
+/// The text with a member in the inline table at the front of `table`, which has none: only white space
+/// between the braces gives way to it.
+fn with_first_member(alloc: Global, text: &str, table: &[u8], member: &str) -> CargoResult<String>
+    ensures text { (g : List Between) (after : List ℕ) (s : Splice)
+        → TableAt text.now table.now g no_members after
+        → inline_grown member.now (inline g no_members) after ≡ Some s
+        → IfOk result (λ t. string_bytes t ≡ with_splice text.now s) }
+    ensures refused { IfErr result IsMemory }
+{
+    let inner = behind_one(table);
+    let close = past_blanks(inner);
+    if begins(close, b'}') {
+        with_alone(alloc, text, inner.len(), close.len(), member)
     } else {
-        joined(alloc, b"{", b" ", member, inner)
+        with_lead(alloc, text, inner.len(), " ", member)
     }
 }
 
-/// The bytes of the inline table that is written as `text`, with a member more: behind the last one's value
-/// and a comma, or between the braces, where only white space gives way to it.
-pub(crate) fn inline_with(alloc: Global, text: &str, member: &str) -> CargoResult<Vec<u8>>
-    ensures { (v : Value) (s : Splice) → IsValue v → depth v ≤ 80 → text.now ≡ value_text v []
-        → inline_grown member.now v [] ≡ Some s
-        → MatchResult result (λ w. w.items ≡ with_splice text.now s) IsMemory }
+/// The text with a member more in the inline table at the front of `table`, an end of the text: behind the
+/// last one's value and a comma, or between the braces.
+pub(crate) fn with_member_in(
+    alloc: Global,
+    text: &str,
+    table: &[u8],
+    member: &str,
+) -> CargoResult<String>
+    ensures { (g : List Between) (ms : Members) (after : List ℕ) (s : Splice)
+        → TableAt text.now table.now g ms after → inline_grown member.now (inline g ms) after ≡ Some s
+        → MatchResult result (λ t. string_bytes t ≡ with_splice text.now s) IsMemory }
 {
-    let bytes = text.as_bytes();
-    if begins(past_gap(behind_one(bytes)), b'}') {
-        return Ok(empty_with(alloc, bytes, member.as_bytes())?);
+    if begins(past_gap(behind_one(table)), b'}') {
+        return with_first_member(alloc, text, table, member);
     }
-    let after = past_last(alloc, text)?;
-    let grown = joined(alloc, before(bytes, after), b", ", member.as_bytes(), after)?;
-    Ok(grown)
+    let last = past_last(alloc, text, table)?;
+    with_lead(alloc, text, last.len(), ", ", member)
 }

@@ -1,22 +1,24 @@
 //! A member more in a table that stands in lines.
-ghost use Rattle.std.specs.Prelude.{◌≡◌, ◌&&◌, not, is_some, ◌⊎◌, ◌++◌, [], ℕ, List, None, Some, IfOk, IfErr, IsTrue, codes, string_bytes};
+ghost use Rattle.std.specs.Prelude.{◌≡◌, ◌≤◌, ◌&&◌, not, is_some, ◌⊎◌, ◌++◌, [], ℕ, List, None, Some, MatchOption, IfOk, IfErr, IsTrue, codes, drop, length, string_bytes};
 ghost use Rattle.edit_base.specs.Errors.{IsMemory};
 ghost use Rattle.edit_base.specs.declared.errors.Error.TheVariants.{EditRefused};
 ghost use Rattle.edit_syntax.specs.Grammar.{Text};
 ghost use Rattle.edit_syntax.specs.Strings.{◌·◌};
 ghost use Rattle.edit_document.specs.Assertions.{Place, at, key as key_step};
-ghost use Rattle.edit_document.specs.EditBytes.{first_made, last_made, put_before, new_line, at_start, with_splice, inserted_text};
+ghost use Rattle.edit_document.specs.EditBytes.{first_made, last_made, put_before, new_line, at_start, with_splice, in_inline, inserted_text};
 ghost use Rattle.edit_document.specs.Entries.{entry_of, front_of};
 ghost use Rattle.edit_document.specs.Items.{place_seen};
 ghost use Rattle.edit_document.specs.Meant.{Inserted, InsertFails};
 ghost use Rattle.edit_document.specs.NewItems.{NewValue as Meant, new_pair};
 ghost use Rattle.edit_document.specs.NewItemViews.{value_seen};
+ghost use Rattle.edit_document.specs.Ranges.{HasTable};
 ghost use Rattle.edit_document.specs.Shown.{tree_of};
 ghost use Rattle.edit_document.specs.Spots.{HasSpots, IsOutside, key_to, section_text, own_entry, dotted_entry, through_entry};
 ghost use Rattle.edit_document.specs.Statements.{Stated};
 ghost use Rattle.edit_document.specs.Supported.{IsManifest};
 
 use crate::document::Document;
+use crate::inline::with_member_in;
 use crate::locate::{Entry, entries};
 use crate::new_item::{NewValue, push_member};
 use crate::place::Step;
@@ -152,7 +154,54 @@ fn pair_text(alloc: Global, name: &str, value: &NewValue) -> CargoResult<String>
     Ok(out)
 }
 
+/// What stands from a position on.
+fn from_start(s: &[u8], start: usize) -> &[u8]
+    requires { start ≤ length s.now }
+    ensures { result.now ≡ drop start s.now }
+{
+    &s[start..]
+}
+
 impl Document {
+    /// Where the inline table of a place begins, or `None` where none is written there.
+    fn table_start(&self, place: &[Step]) -> Option<usize>
+        ensures { (form : Text) → IsManifest self.now.bytes form
+            → HasTable form (place_seen place.now) result }
+    {
+        self.has_form();
+        let (start, _) = self.value_range(place)?;
+        let item = self.item(place)?;
+        if item.is_inline_table() {
+            Some(start)
+        } else {
+            None
+        }
+    }
+
+    /// The document's text with a member more in the inline table at a place, or `None` where none is written
+    /// there.
+    fn with_inline_member(
+        &self,
+        alloc: Global,
+        place: &[Step],
+        pair: &str,
+    ) -> CargoResult<Option<String>>
+        ensures text { (form : Text) (name : List ℕ) (v : Meant) → IsManifest self.now.bytes form
+            → pair.now ≡ new_pair name v [] → IfOk result (λ o. MatchOption o
+            (in_inline (place_seen place.now) pair.now form ≡ None)
+            (λ t. string_bytes t ≡ inserted_text (place_seen place.now) name v form)) }
+        ensures refused { IfErr result IsMemory }
+    {
+        self.has_form();
+        let Some(start) = self.table_start(place) else {
+            return Ok(None);
+        };
+        let text = self.as_str();
+        let table = from_start(text.as_bytes(), start);
+        let grown = with_member_in(alloc, text, table, pair)?;
+        Ok(Some(grown))
+    }
+
     /// The document's text with a member more in a table that stands in no value.
     pub(crate) fn with_line_member(
         &self,

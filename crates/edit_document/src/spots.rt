@@ -33,17 +33,33 @@ fn newline_like(rest: &str) -> &'static str
     }
 }
 
+/// The text with other bytes in the place of what stands from one spot to another.
+pub(crate) fn with_swap(
+    alloc: Global,
+    text: &str,
+    from: usize,
+    to: usize,
+    now: &str,
+) -> CargoResult<String>
+    ensures text { (s t : List ℕ) → IsSpot text.now s → IsSpot text.now t → from ≡ length s → to ≡ length t
+        → IfOk result (λ r. string_bytes r
+        ≡ with_splice text.now (record { from = s; to = t; now = now.now })) }
+    ensures refused { IfErr result IsMemory }
+{
+    let mut out = String::new(alloc);
+    out.push_str(between(text, text.len(), from))?;
+    out.push_str(now)?;
+    out.push_str(between(text, to, 0))?;
+    Ok(out)
+}
+
 /// The text with other bytes before a spot.
 pub(crate) fn with_text(alloc: Global, text: &str, spot: usize, now: &str) -> CargoResult<String>
     ensures text { (rest : List ℕ) → IsSpot text.now rest → spot ≡ length rest
         → IfOk result (λ s. string_bytes s ≡ with_splice text.now (put_before rest now.now)) }
     ensures refused { IfErr result IsMemory }
 {
-    let mut out = String::new(alloc);
-    out.push_str(between(text, text.len(), spot))?;
-    out.push_str(now)?;
-    out.push_str(between(text, spot, 0))?;
-    Ok(out)
+    with_swap(alloc, text, spot, spot, now)
 }
 
 /// The text with a line more behind the one that ends at a spot.

@@ -1,11 +1,12 @@
-use Rattle.std.proofs.Common.{◌≡◌, ◌≤◌, List, [], ◌∷◌}
+use Rattle.std.proofs.Common.{ℕ, List, ◌∷◌}
 use Rattle.edit_syntax.specs.Characters.{right_brace}
-use Rattle.edit_syntax.specs.Grammar.{Between, Members, inline, value, IsValue}
-use Rattle.edit_syntax.specs.Depth.{depth}
+use Rattle.edit_syntax.specs.Grammar.{Between, Members}
 use Rattle.edit_document.specs.EditBytes.{behind_last}
+use Rattle.edit_document.specs.SlotTexts.{TableAt}
+use Rattle.edit_document.proofs.InlineSpots.{past_value}
 use Rattle.edit_document.proofs.MemberTurns.{AtMembers}
 use Rattle.edit_document.proofs.inline.past_last.Given as goal
 
 abbrev pub invariant-members : goal.invariant-members
-invariant-members l = (g : List Between) (ms : Members) → IsValue (inline g ms) → depth (inline g ms) ≤ 80 → l.text ≡ value (inline g ms) []
-    → AtMembers l.text l.index l.rest l.last (behind_last ms (right_brace ∷ []))
+invariant-members l = (g : List Between) (ms : Members) (after : List ℕ) → TableAt l.text l.table g ms after
+    → AtMembers past_value l.text after l.index l.rest l.last (behind_last ms (right_brace ∷ after))
