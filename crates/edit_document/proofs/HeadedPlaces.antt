@@ -42,7 +42,7 @@ inside_more (s ∷ t) [] r e = absurd (true≢false (sym e))
 inside_more (s ∷ t) (u ∷ q) r e = let h = and_parts (same_step s u) (is_inside t q) e in and_from (same_step s u) (is_inside t (q ++ r)) h.0 (inside_more t q r h.1)
 
 -- a place that is first reached by a step is that place
-inside_step : (t q : Place) (s : Step) → is_inside t q ≡ false → is_inside t (at q s) ≡ true → t ≡ at q s
+pub inside_step : (t q : Place) (s : Step) → is_inside t q ≡ false → is_inside t (at q s) ≡ true → t ≡ at q s
 inside_step [] q s far near = absurd (true≢false far)
 inside_step (u ∷ []) [] s far near = ap (λ x. x ∷ []) (same_step_is u s (and_parts (same_step u s) true near).0)
 inside_step (u ∷ v ∷ t) [] s far near = absurd (true≢false (sym (and_parts (same_step u s) false near).1))
@@ -164,14 +164,14 @@ inside_trans (s ∷ p) (u ∷ q) (w ∷ r) e f =
     let b = and_parts (same_step u w) (is_inside q r) f in
     and_from (same_step s w) (is_inside p r) (ap (λ z. same_step z w) (same_step_is s u a.0) ∙ b.0) (inside_trans p q r a.1 b.1)
 
-inside_resolved : (earlier : List Assertion) (q : Place) (n : List ℕ) → is_inside q (resolved earlier (at q (key n))) ≡ true
+pub inside_resolved : (earlier : List Assertion) (q : Place) (n : List ℕ) → is_inside q (resolved earlier (at q (key n))) ≡ true
 inside_resolved earlier q n = go (nat_lt 0 (elements_at earlier (at q (key n))))
   where
     go : (b : Bool) → is_inside q (if b then at (at q (key n)) (index (elements_at earlier (at q (key n)) - 1)) else at q (key n)) ≡ true
     go true = inside_more q (at q (key n)) _ (inside_more q q (key n ∷ []) (inside_self q))
     go false = inside_more q q (key n ∷ []) (inside_self q)
 
-inside_header : (earlier : List Assertion) (q : Place) (n : List ℕ) (ns : List (List ℕ)) → is_inside q (header_place earlier q (n ∷ ns)) ≡ true
+pub inside_header : (earlier : List Assertion) (q : Place) (n : List ℕ) (ns : List (List ℕ)) → is_inside q (header_place earlier q (n ∷ ns)) ≡ true
 inside_header earlier q n [] = inside_more q q (key n ∷ []) (inside_self q)
 inside_header earlier q n (m ∷ ns) =
     inside_trans q (resolved earlier (at q (key n))) _ (inside_resolved earlier q n) (inside_header earlier (resolved earlier (at q (key n))) m ns)

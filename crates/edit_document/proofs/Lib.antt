@@ -146,3 +146,9 @@ pub mod InsertFacts
 pub mod RemoveFacts
 pub mod OverLinesFacts
 pub mod LeftFacts
+-- What is left when an item is removed
+pub mod Asserters
+pub mod AssertedWays
+pub mod StayingWays
+pub mod StayingElements
+pub mod OnceSizes

@@ -23,7 +23,7 @@ lacks_filter x test (y ∷ ys) e = go (test y) (lacks_filter x test ys (or_false
     go true ih = ap (λ (b : Bool). b || has x (filter test ys)) (or_false (same_step y x) (has x ys) e).0 ∙ ih
     go false ih = ih
 
-apart_filter : (test : Step → Bool) (xs : List Step) → Apart xs → Apart (filter test xs)
+pub apart_filter : (test : Step → Bool) (xs : List Step) → Apart xs → Apart (filter test xs)
 apart_filter test [] h = tt
 apart_filter test (x ∷ xs) h = go (test x) (apart_filter test xs h.1)
   where
