@@ -21,6 +21,8 @@ mod one_statement;
 #[cfg(test)]
 mod paths;
 #[cfg(test)]
+mod pieces;
+#[cfg(test)]
 mod refusals;
 #[cfg(test)]
 mod shown;

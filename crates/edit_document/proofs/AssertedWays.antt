@@ -1,14 +1,13 @@
 -- What each assertion of a document tells of the place that its statement names.
-use Rattle.std.proofs.Common.{◌≡◌, ℕ, suc, ◌+◌, ◌-◌, ◌<◌, Bool, true, false, ◌&&◌, nat_lt, cond, List, [], ◌∷◌, ◌++◌, refl, sym, ap, subst, ◌∙◌, ◌⊎◌, inl, inr, true≢false, append_assoc, arith}
-use Rattle.std.specs.List.{AllByRecursion}
+use Rattle.std.proofs.Common.{◌≡◌, ℕ, suc, ◌+◌, ◌-◌, ◌<◌, Bool, true, false, ◌&&◌, nat_lt, cond, List, [], ◌∷◌, ◌++◌, refl, sym, ap, subst, ◌∙◌, inl, inr, true≢false, arith}
 use Rattle.std.proofs.lemmas.Bool.{cases_lt, ltb-true}
 use Rattle.edit_syntax.specs.Grammar.{Statement, pair, header, element_header, empty_line, full_line, Lines, one_line, more_lines, Text}
 use Rattle.edit_syntax.proofs.Cases.{by_test}
 use Rattle.edit_syntax.proofs.Members.{Among}
-use Rattle.edit_document.specs.Assertions.{Place, Step, key, index, at, same_place, Kind, dotted, super, header_kind, array_kind, element_kind, Assertion, asserts, names, named, of_key, of_value, of_pair, is_array, is_array_at, elements_at, resolved, fronts, header_place, of_statement, prefix_after, of_lines, assertions}
+use Rattle.edit_document.specs.Assertions.{Place, key, index, at, same_place, Kind, dotted, super, header_kind, array_kind, element_kind, Assertion, asserts, names, named, of_key, of_value, is_array, is_array_at, elements_at, resolved, fronts, header_place, of_statement, prefix_after, of_lines, assertions}
 use Rattle.edit_document.specs.EditBytes.{is_within}
 use Rattle.edit_document.proofs.ArrayCounts.{ArePlain, plain_array, plain_both, plain_key, plain_value, plain_fronts}
-use Rattle.edit_document.proofs.Asserters.{Ground, Paved, Made, AreMade, Part, among_left, among_right, left_part, right_part, both_made, paved_root, paved_at, paved_any, key_ground, index_ground, value_made, pair_made}
+use Rattle.edit_document.proofs.Asserters.{Paved, Made, AreMade, Part, among_left, among_right, left_part, right_part, both_made, paved_root, paved_at, paved_any, key_ground, index_ground, value_made, pair_made}
 use Rattle.edit_document.proofs.HeadedPlaces.{inside_self, inside_more, inside_trans, inside_header}
 use Rattle.edit_document.proofs.PairedPlaces.{owns}
 use Rattle.edit_document.proofs.SamePlace.{place_or, same_place_self, other_place}

@@ -1,11 +1,11 @@
 -- By whom places are asserted: each place on the way to the place that a statement names is asserted on that way.
-use Rattle.std.proofs.Common.{◌≡◌, ℕ, suc, ◌+◌, ◌-◌, ◌<◌, Bool, true, false, not, nat_lt, cond, List, [], ◌∷◌, ◌++◌, map, refl, sym, ap, subst, ◌∙◌, inl, inr, true≢false, append_assoc}
+use Rattle.std.proofs.Common.{◌≡◌, ℕ, suc, Bool, true, false, not, List, [], ◌∷◌, ◌++◌, map, refl, sym, ap, subst, ◌∙◌, inl, inr, true≢false, append_assoc}
 use Rattle.std.specs.List.{AllByRecursion}
 use Rattle.edit_syntax.specs.Strings.{Key}
 use Rattle.edit_syntax.specs.Grammar.{Value, basic, literal, multi_basic, multi_literal, boolean, integer, float, datetime, array, inline, Elements, no_elements, last_element, element, Members, no_members, last_member, member}
 use Rattle.edit_syntax.proofs.Cases.{by_test}
 use Rattle.edit_syntax.proofs.Members.{Among}
-use Rattle.edit_document.specs.Assertions.{Place, Step, key, index, at, Kind, dotted, leaf, super, header_kind, array_kind, element_kind, Assertion, asserts, names, named, of_key, of_value, of_elements, of_members, is_array}
+use Rattle.edit_document.specs.Assertions.{Place, Step, key, index, at, Kind, dotted, leaf, Assertion, asserts, names, named, of_key, of_value, of_elements, of_members, is_array}
 use Rattle.edit_document.specs.EditBytes.{is_within}
 use Rattle.edit_document.proofs.HeadedPlaces.{inside_self, inside_more, inside_trans, inside_step}
 use Rattle.edit_document.proofs.PairedPlaces.{owns}

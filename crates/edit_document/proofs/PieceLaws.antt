@@ -1,12 +1,12 @@
 -- The pieces of a text.
-use Rattle.std.proofs.Common.{◌≡◌, ℕ, zero, suc, ◌+◌, ◌-◌, ◌<◌, ◌≤◌, List, [], ◌∷◌, ◌++◌, length, take, drop, take_all, Option, Some, None, refl, sym, ap, ap₂, subst, ◌∙◌, append_assoc, length-append, arith}
+use Rattle.std.proofs.Common.{◌≡◌, ℕ, zero, suc, ◌+◌, ◌-◌, ◌<◌, ◌≤◌, List, [], ◌∷◌, ◌++◌, length, take, drop, Some, refl, sym, ap, ap₂, subst, ◌∙◌, append_assoc, length-append, arith}
 use Rattle.std.specs.Prelude.{slice_get}
 use Rattle.std.specs.List.{concat, slice_range}
 use Rattle.std.specs.Str.{IsUtf8, IsCharBoundary}
 use Rattle.std.proofs.lemmas.List.{take-append-drop, length-take-le, length-drop}
 use Rattle.std.proofs.lemmas.List.Folds.{concat-append, drop_split}
 use Rattle.std.proofs.lemmas.Str.{IsCharBoundary-start, IsCharBoundary-end, IsCharBoundary-from_take, IsCharBoundary-from_drop, IsUtf8-take, IsUtf8-drop}
-use Rattle.std.proofs.Math.Seq.{drop-append_seam, take-append_seam, drop-append-add}
+use Rattle.std.proofs.Math.Seq.{drop-append_seam, take-append_seam}
 use Rattle.edit_document.specs.Literals.{literal_bytes}
 use Rattle.edit_document.specs.Pieces.{some_text, pieces_of, IsRange, IsAmong, IsSwapped}
 
@@ -106,9 +106,9 @@ joined bytes r le =
     let back = some_text (drop r.1 bytes) in
     concat-append front (middle ++ back)
     ∙ ap₂ (λ (a b : List ℕ). a ++ b) (some_joined (take r.0 bytes))
-        (concat-append middle back
-        ∙ ap₂ (λ (a b : List ℕ). a ++ b) (some_joined (slice_range bytes r.0 r.1)) (some_joined (drop r.1 bytes))
-        ∙ sym (drop_split bytes r.0 r.1 le))
+    (concat-append middle back
+    ∙ ap₂ (λ (a b : List ℕ). a ++ b) (some_joined (slice_range bytes r.0 r.1)) (some_joined (drop r.1 bytes))
+    ∙ sym (drop_split bytes r.0 r.1 le))
     ∙ take-append-drop r.0 bytes
 
 -- ---- a text that was read
@@ -166,7 +166,7 @@ pub swapped_back : (old literal new : List ℕ) (r : ℕ × ℕ) → (s : IsSwap
 swapped_back old literal new r s =
     let last : r.1 ≡ s.start + length literal = ap (λ (p : ℕ × ℕ). p.1) s.there in
     let size : r.1 ≡ length (take s.start old ++ literal) =
-        last ∙ sym (length-append (take s.start old) literal ∙ ap (λ (n : ℕ). n + length literal) (length-take-le s.start old s.within)) in
+    last ∙ sym (length-append (take s.start old) literal ∙ ap (λ (n : ℕ). n + length literal) (length-take-le s.start old s.within)) in
     ap₂ (λ (n : ℕ) (l : List ℕ). drop n l) size (s.bytes ∙ sym (append_assoc (take s.start old) literal (drop s.end old)))
     ∙ drop-append_seam (take s.start old ++ literal) (drop s.end old)
 
@@ -196,9 +196,9 @@ most_pieces old literal new r q is range = by_count (length (pieces_of old q)) r
     by_count zero e =
         let empty = none_joined (pieces_of old q) old (joined old q range.ordered) (sym e) in
         let front : length (some_text (take r.0 new)) ≡ 0 =
-            ap (λ (l : List ℕ). length (some_text l)) (swapped_front old literal new r is) ∙ (none_of old is.start empty).0 in
+        ap (λ (l : List ℕ). length (some_text l)) (swapped_front old literal new r is) ∙ (none_of old is.start empty).0 in
         let back : length (some_text (drop r.1 new)) ≡ 0 =
-            ap (λ (l : List ℕ). length (some_text l)) (swapped_back old literal new r is) ∙ (none_of old is.end empty).1 in
+        ap (λ (l : List ℕ). length (some_text l)) (swapped_back old literal new r is) ∙ (none_of old is.end empty).1 in
         omega (three, a, b, c, front, back, arith)
     by_count (suc n) e = omega (three, a, b, c, arith)
 
@@ -208,11 +208,12 @@ pub literal_among : (old literal new : List ℕ) (r : ℕ × ℕ) → IsSwapped 
 literal_among old literal new r is some =
     let front = some_text (take r.0 new) in
     let back = some_text (drop r.1 new) in
-    let there = swapped_literal old literal new r is in
-    (length front,
-    later_piece (take r.0 new) (some_text (slice_range new r.0 r.1) ++ back) (length front) (omega arith)
-    ∙ ap₂ (λ (n : ℕ) (l : List ℕ). slice_get (some_text l ++ back) n) (none (length front)) there
-    ∙ first_piece literal back 0 (filled literal some))
+    let there = swapped_literal old literal new r is in (
+      length front,
+      later_piece (take r.0 new) (some_text (slice_range new r.0 r.1) ++ back) (length front) (omega arith)
+          ∙ ap₂ (λ (n : ℕ) (l : List ℕ). slice_get (some_text l ++ back) n) (none (length front)) there
+          ∙ first_piece literal back 0 (filled literal some),
+    )
   where
     none : (n : ℕ) → n - n ≡ 0
     none n = omega arith

@@ -1,11 +1,10 @@
 -- When an element of an array of tables is removed, one assertion of the array goes.
 use Rattle.std.proofs.Common.{◌≡◌, ℕ, suc, ◌+◌, ◌<◌, ◌≤◌, Bool, true, false, not, cond, ◌&&◌, List, [], ◌∷◌, ◌++◌, refl, sym, ap, subst, ◌∙◌, ◌⊎◌, inl, inr, true≢false, arith, eq-eqb}
-use Rattle.std.specs.List.{filter}
 use Rattle.std.proofs.lemmas.Bool.{and_parts, cases_lt}
 use Rattle.std.proofs.lemmas.List.Elements.{filter-append}
 use Rattle.edit_syntax.proofs.Cases.{by_test}
 use Rattle.edit_syntax.specs.Grammar.{Statement, pair, header, element_header, empty_line, full_line, Lines, one_line, more_lines, Text}
-use Rattle.edit_document.specs.Assertions.{Place, key, index, at, same_step, same_place, header_kind, array_kind, element_kind, Assertion, asserts, names, named, of_key, of_value, is_array_at, elements_at, fronts, header_place, of_statement, prefix_after, of_lines, assertions}
+use Rattle.edit_document.specs.Assertions.{Place, index, at, same_step, header_kind, array_kind, element_kind, Assertion, asserts, names, named, of_key, of_value, is_array_at, elements_at, fronts, header_place, of_statement, prefix_after, of_lines, assertions}
 use Rattle.edit_document.specs.EditBytes.{is_within}
 use Rattle.edit_document.specs.Meant.{staying}
 use Rattle.edit_document.proofs.ArrayCounts.{ArePlain, plain_both, plain_key, plain_value, plain_fronts}

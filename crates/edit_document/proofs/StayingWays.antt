@@ -1,15 +1,15 @@
 -- Which assertions stay when an item is removed: what stays at a place stays at each place on the way to it.
-use Rattle.std.proofs.Common.{◌≡◌, ℕ, suc, ◌+◌, Bool, true, false, not, cond, ◌&&◌, List, [], ◌∷◌, ◌++◌, length, Option, Some, None, refl, sym, ap, subst, ◌∙◌, ◌⊎◌, inl, inr, true≢false, arith, option_map}
-use Rattle.std.specs.List.{AllByRecursion, filter, filter_map, cons_option}
+use Rattle.std.proofs.Common.{◌≡◌, ℕ, suc, Bool, true, false, not, cond, ◌&&◌, List, [], ◌∷◌, Option, Some, None, refl, sym, ap, subst, ◌∙◌, ◌⊎◌, inl, inr, true≢false, option_map}
+use Rattle.std.specs.List.{cons_option}
 use Rattle.std.proofs.lemmas.Bool.{and_parts, and_from}
 use Rattle.std.proofs.lemmas.Option.{same_Some}
 use Rattle.edit_syntax.proofs.Cases.{by_test}
 use Rattle.edit_syntax.proofs.Members.{Among, among_all}
-use Rattle.edit_document.specs.Assertions.{Place, Step, key, index, at, same_step, same_place, Kind, Assertion, is_array, is_array_at, elements_at}
+use Rattle.edit_document.specs.Assertions.{Place, Step, index, at, same_step, same_place, Kind, Assertion, is_array, is_array_at, elements_at}
 use Rattle.edit_document.specs.EditBytes.{is_within}
 use Rattle.edit_document.specs.Meant.{staying}
-use Rattle.edit_document.specs.Tree.{View, table, once, step_from, kind_at, view_of_kind, view_in}
-use Rattle.edit_document.proofs.Asserters.{Ground, Made, AreMade}
+use Rattle.edit_document.specs.Tree.{table, once, step_from, kind_at, view_of_kind, view_in}
+use Rattle.edit_document.proofs.Asserters.{Made, AreMade}
 use Rattle.edit_document.proofs.Below.{step_from_is}
 use Rattle.edit_document.proofs.HeadedPlaces.{inside_self, inside_more, inside_trans}
 use Rattle.edit_document.proofs.MoreMembers.{steps}

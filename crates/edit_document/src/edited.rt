@@ -1,5 +1,5 @@
 //! The document of an edit's text: it is taken where it reads as the edit means it.
-ghost use Rattle.std.specs.Prelude.{◌≡◌, ◌⊎◌, None, IfOk, IfErr};
+ghost use Rattle.std.specs.Prelude.{◌≡◌, ◌⊎◌, None, IfOk, IfErr, length, ◌≤◌, ◌+◌};
 ghost use Rattle.edit_base.specs.Errors.{IsMemory};
 ghost use Rattle.edit_base.specs.declared.errors.Error.TheVariants.{EditRefused};
 ghost use Rattle.edit_syntax.specs.Grammar.{Text};
@@ -21,6 +21,7 @@ use std::alloc::Global;
 pub(crate) fn read_edited(alloc: Global, text: &str) -> CargoResult<Document>
     ensures bytes { IfOk result (λ d. d.bytes ≡ text.now) }
     ensures shows { IfOk result (λ d. (form : Text) → IsManifest text.now form → ShowsTree d form) }
+    ensures pieces { IfOk result (λ d. length d.pieces ≤ 1) }
     ensures refused { IfErr result (λ e. IsMemory e
         ⊎ ((e ≡ EditRefused) × ((form : Text) → IsManifest text.now form → ⊥))) }
 {
@@ -52,6 +53,7 @@ impl Document {
             → self.new.bytes ≡ inserted_text (place_seen place.now) key.now (value_seen value.now) form) }
         ensures tree { IfOk result (λ _. Inserted (place_seen place.now) key.now (value_seen value.now)
             (tree_of self.old) (tree_of self.new)) }
+        ensures pieces { IfOk result (λ _. length self.new.pieces ≤ length self.old.pieces + 2) }
         ensures err { IfErr result (λ _. self.new ≡ self.old) }
         ensures refused { IfErr result (λ e. IsMemory e ⊎ ((e ≡ EditRefused)
             × InsertFails (place_seen place.now) key.now (value_seen value.now) self.old.bytes)) }
@@ -80,6 +82,7 @@ impl Document {
             → self.new.bytes ≡ replaced_text (place_seen place.now) (item_seen item.now) form) }
         ensures tree { IfOk result (λ _. HasReplaced (place_seen place.now) (item_seen item.now)
             (tree_of self.old) (tree_of self.new)) }
+        ensures pieces { IfOk result (λ _. length self.new.pieces ≤ length self.old.pieces + 2) }
         ensures err { IfErr result (λ _. self.new ≡ self.old) }
         ensures refused { IfErr result (λ e. IsMemory e ⊎ ((e ≡ EditRefused)
             × ReplaceFails (place_seen place.now) (item_seen item.now) self.old.bytes)) }

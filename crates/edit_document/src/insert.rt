@@ -1,5 +1,5 @@
 //! A member more in a table that stands in lines.
-ghost use Rattle.std.specs.Prelude.{◌≡◌, ◌≤◌, ◌&&◌, not, is_some, ◌⊎◌, ◌++◌, [], ℕ, List, None, Some, MatchOption, IfOk, IfErr, IsTrue, codes, drop, length, string_bytes};
+ghost use Rattle.std.specs.Prelude.{◌≡◌, ◌≤◌, ◌&&◌, not, is_some, ◌⊎◌, ◌++◌, [], ℕ, List, None, Some, MatchOption, IfOk, IfErr, IsTrue, codes, drop, length, string_bytes, ◌+◌};
 ghost use Rattle.edit_base.specs.Errors.{IsMemory};
 ghost use Rattle.edit_base.specs.declared.errors.Error.TheVariants.{EditRefused};
 ghost use Rattle.edit_syntax.specs.Grammar.{Text};
@@ -249,6 +249,7 @@ impl Document {
             → self.new.bytes ≡ inserted_text (place_seen place.now) key.now (value_seen value.now) form) }
         ensures tree { IfOk result (λ _. Inserted (place_seen place.now) key.now (value_seen value.now)
             (tree_of self.old) (tree_of self.new)) }
+        ensures pieces { IfOk result (λ _. length self.new.pieces ≤ length self.old.pieces + 2) }
         ensures err { IfErr result (λ _. self.new ≡ self.old) }
         ensures refused { IfErr result (λ e. IsMemory e ⊎ ((e ≡ EditRefused)
             × InsertFails (place_seen place.now) key.now (value_seen value.now) self.old.bytes)) }

@@ -1,5 +1,5 @@
 //! The entry at a place gives way to another one.
-ghost use Rattle.std.specs.Prelude.{◌≡◌, ◌&&◌, not, true, ◌⊎◌, ◌++◌, ◌≤◌, length, IfOk, IfErr, string_bytes};
+ghost use Rattle.std.specs.Prelude.{◌≡◌, ◌&&◌, not, true, ◌⊎◌, ◌++◌, ◌≤◌, length, IfOk, IfErr, string_bytes, ◌+◌};
 ghost use Rattle.std.specs.List.{Contains};
 ghost use Rattle.edit_base.specs.Errors.{IsMemory};
 ghost use Rattle.edit_base.specs.declared.errors.Error.TheVariants.{EditRefused};
@@ -189,6 +189,7 @@ impl Document {
             → self.new.bytes ≡ replaced_text (place_seen place.now) (item_seen item.now) form) }
         ensures tree { IfOk result (λ _. HasReplaced (place_seen place.now) (item_seen item.now)
             (tree_of self.old) (tree_of self.new)) }
+        ensures pieces { IfOk result (λ _. length self.new.pieces ≤ length self.old.pieces + 2) }
         ensures err { IfErr result (λ _. self.new ≡ self.old) }
         ensures refused { IfErr result (λ e. IsMemory e ⊎ ((e ≡ EditRefused)
             × ReplaceFails (place_seen place.now) (item_seen item.now) self.old.bytes)) }

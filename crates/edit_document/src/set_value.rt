@@ -1,5 +1,5 @@
 //! Other values in the place of values.
-ghost use Rattle.std.specs.Prelude.{◌≡◌, [], ◌∷◌, ◌++◌, IfOk, IfErr, true, drop, string_bytes, take};
+ghost use Rattle.std.specs.Prelude.{◌≡◌, [], ◌∷◌, ◌++◌, IfOk, IfErr, true, drop, string_bytes, take, length, ◌≤◌, ◌+◌};
 ghost use Rattle.edit_base.specs.Errors.{IsMemory};
 ghost use Rattle.edit_syntax.specs.Grammar.{Text, value as value_text};
 ghost use Rattle.edit_document.specs.EditBytes.{set_text};
@@ -64,6 +64,7 @@ impl Document {
             → self.new.bytes ≡ set_text (place_seen place.now) (value_seen value.now) form) }
         ensures tree { IfOk result (λ _.
             HasSet (place_seen place.now) (value_seen value.now) (tree_of self.old) (tree_of self.new)) }
+        ensures pieces { IfOk result (λ _. length self.new.pieces ≤ length self.old.pieces + 2) }
         ensures err { IfErr result (λ _. self.new ≡ self.old) }
         ensures refused { IfErr result IsMemory }
     {

@@ -37,8 +37,8 @@ pub returns-clause-piece : goal.returns-clause-piece
 returns-clause-piece c =
     let new = string_bytes c.in_ok-new_text.new_text in
     let told : c.with_written.result.pieces ≡ pieces_of new c.in_ok-new_text.written =
-        c.with_written.ensures.pieces
-        ∙ ap (λ (b : List ℕ). pieces_of b c.in_ok-new_text.written) ((c.in_ok-new.ensures {u = tt}).bytes ∙ c.as_str.ensures.value) in
+    c.with_written.ensures.pieces
+    ∙ ap (λ (b : List ℕ). pieces_of b c.in_ok-new_text.written) ((c.in_ok-new.ensures {u = tt}).bytes ∙ c.as_str.ensures.value) in
     subst (IsAmong (literal_bytes c.args.text.now)) (sym told)
     (literal_among c.args.self.now.bytes (literal_bytes c.args.text.now) new c.in_ok-new_text.written
     (c.in_ok-new_text.ensures {u = tt}).swapped (literal_some c.args.text.now))
@@ -48,8 +48,8 @@ returns-clause-pieces c =
     let new = string_bytes c.in_ok-new_text.new_text in
     let kept = c.has_pieces.ensures in
     let told : c.with_written.result.pieces ≡ pieces_of new c.in_ok-new_text.written =
-        c.with_written.ensures.pieces
-        ∙ ap (λ (b : List ℕ). pieces_of b c.in_ok-new_text.written) ((c.in_ok-new.ensures {u = tt}).bytes ∙ c.as_str.ensures.value) in
+    c.with_written.ensures.pieces
+    ∙ ap (λ (b : List ℕ). pieces_of b c.in_ok-new_text.written) ((c.in_ok-new.ensures {u = tt}).bytes ∙ c.as_str.ensures.value) in
     let most = most_pieces c.args.self.now.bytes (literal_bytes c.args.text.now) new c.in_ok-new_text.written kept.0
-        (c.in_ok-new_text.ensures {u = tt}).swapped kept.1 in
+    (c.in_ok-new_text.ensures {u = tt}).swapped kept.1 in
     rw (told, kept.2) most
