@@ -93,6 +93,8 @@ pub mod GrownTrees
 pub mod ShownItems
 pub mod ApartViews
 pub mod ReplacedEntries
+pub mod EntryTrees
+pub mod EntryPartViews
 pub mod EditedDocuments
 pub mod UnorderedViews
 -- Where statements stand

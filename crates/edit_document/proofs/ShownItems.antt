@@ -15,12 +15,14 @@ use Rattle.edit_document.proofs.SameParts.{one_down, NothingElse, NoneBelow}
 use Rattle.edit_document.proofs.Views.{names_keys}
 use Rattle.edit_document.proofs.ShownValues.{new_some, shown_at, unshown_at}
 
-abbrev Pair : Type 0
+-- a name and a new value
+abbrev pub Pair : Type 0
 Pair = List ℕ × NewValue
 
 -- ---- the first pair of a name
 
-found : (ms : List Pair) (n : List ℕ) (m : Pair) → find (λ x. same_bytes x.0 n) ms ≡ Some m
+-- where a name is found
+pub found : (ms : List Pair) (n : List ℕ) (m : Pair) → find (λ x. same_bytes x.0 n) ms ≡ Some m
     → (i : ℕ) × (slice_get ms i ≡ Some m) × (m.0 ≡ n)
 found [] n m e = absurd cc
 found (x ∷ ms) n m e = go (same_bytes x.0 n) refl e (found ms n m)

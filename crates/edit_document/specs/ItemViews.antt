@@ -2,18 +2,50 @@
 use Rattle.std.specs.Prelude.{◌≡◌, ℕ, List, drop, Option, Some, None, MatchOption}
 use Rattle.edit_document.specs.declared.item.Item.{Item}
 use Rattle.edit_document.specs.declared.item.Keys.{Keys}
+use Rattle.edit_document.specs.declared.item.Source.{Source}
+use Rattle.edit_document.specs.declared.item.Source.TheVariants.{Node, Part}
+use Rattle.edit_document.specs.declared.entry_part.EntryPart.{EntryPart}
+use Rattle.edit_document.specs.EntryParts.{entry_shown, part_place}
+use Rattle.edit_document.specs.NewItemViews.{item_seen}
 use Rattle.edit_document.specs.Assertions.{Place}
 use Rattle.edit_document.specs.Tree.{View}
 use Rattle.edit_document.specs.Shown.{Shown, tree_of}
-use Rattle.edit_document.specs.Items.{viewed, place_numbered, view_numbered, names_in}
+use Rattle.edit_document.specs.Items.{viewed, place_numbered, names_in}
 
--- the document of an item
+-- ---- parts of new entries
+
+-- the document that the entry of a part makes by itself
+abbrev pub entry_of : EntryPart → Shown
+entry_of p = entry_shown (item_seen p.item.now)
+
+-- what stands at a part
+abbrev pub part_shown : EntryPart → View
+part_shown p = viewed (tree_of (entry_of p) (part_place p.part))
+
+-- the part of a place, or nothing where nothing stands
+abbrev pub FindsPart : Shown → Place → Option EntryPart → Type 0
+FindsPart d place r =
+    MatchOption r (tree_of d place ≡ None) (λ p. (entry_of p ≡ d) × (part_place p.part ≡ place))
+
+-- ---- items
+
+-- the document that a source is of
+abbrev pub source_document : Source → Shown
+source_document (Node n) = n.document.now
+source_document (Part p) = entry_of p
+
+-- the place of a source
+abbrev pub source_place : Source → Place
+source_place (Node n) = place_numbered n.document.now n.number
+source_place (Part p) = part_place p.part
+
+-- the document of an item, or the one that its new entry makes by itself
 abbrev pub document_of : Item → Shown
-document_of i = i.document.now
+document_of i = source_document i.source
 
 -- the place of an item
 abbrev pub place_of : Item → Place
-place_of i = place_numbered i.document.now i.node
+place_of i = source_place i.source
 
 -- what stands at the item's place
 abbrev pub view_of : Item → View
@@ -27,4 +59,4 @@ Finds d place r =
 
 -- the names that are left
 abbrev pub keys_left : Keys → List (List ℕ)
-keys_left k = drop k.next (names_in (view_numbered k.document.now k.node))
+keys_left k = drop k.next (names_in (view_of k.item))

@@ -21,6 +21,7 @@ pub mod EditBytes
 pub mod RemovedBytes
 pub mod Meant
 pub mod Compared
+pub mod EntryParts
 pub mod Entries
 pub mod Standings
 pub mod Spots

@@ -2,43 +2,120 @@
 ghost use Rattle.std.specs.Prelude.{◌<◌, length};
 
 use crate::document::{Document, Seen};
+use crate::entry_part::EntryPart;
 
-/// A view of what stands at a place of a document.
+/// A node of a document, by its number.
+#[derive(Clone, Copy)]
+struct NodeOf<'a> {
+    document: &'a Document,
+    number: usize,
+    ghost numbered: { number < length document.now.nodes },
+}
+
+/// Where an item stands: at a node of a document, or at a part of a new entry.
+#[derive(Clone, Copy)]
+enum Source<'a> {
+    Node(NodeOf<'a>),
+    Part(EntryPart<'a>),
+}
+
+/// A view of what stands at a place of a document, or of a new entry.
 #[derive(Clone, Copy)]
 pub struct Item<'a> {
-    document: &'a Document,
-    node: usize,
-    ghost numbered: { node < length document.now.nodes },
+    source: Source<'a>,
+}
+
+impl<'a> NodeOf<'a> {
+    ghost use Rattle.edit_document.specs.Assertions.{at as below, key as key_step, index as index_step};
+    ghost use Rattle.edit_document.specs.Items.{place_numbered};
+    ghost use Rattle.edit_document.specs.ItemViews.{Finds};
+
+    /// The member of a table.
+    fn member(self, key: &str) -> Option<Item<'a>>
+        ensures { Finds self.entry.document.now
+            (below (place_numbered self.entry.document.now self.entry.number) (key_step key.now)) result }
+    {
+        let document = self.document;
+        match document.member(self.number, key) {
+            Some(number) => Some(Item::new(document, number)),
+            None => None,
+        }
+    }
+
+    /// The element of an array.
+    fn element(self, index: usize) -> Option<Item<'a>>
+        ensures { Finds self.entry.document.now
+            (below (place_numbered self.entry.document.now self.entry.number) (index_step index)) result }
+    {
+        let document = self.document;
+        match document.element(self.number, index) {
+            Some(number) => Some(Item::new(document, number)),
+            None => None,
+        }
+    }
 }
 
 impl<'a> Item<'a> {
-    ghost use Rattle.std.specs.Prelude.{◌≡◌, ◌↔◌, ◌<◌, Some, true, false, IsTrue, MatchOption, length, option_map};
-    ghost use Rattle.edit_document.specs.Assertions.{at as below, key as key_step, index as index_step};
-    ghost use Rattle.edit_document.specs.Shown.{tree_of};
+    ghost use Rattle.std.specs.Prelude.{◌≡◌, ◌<◌, Some, true, false, MatchOption, length, option_map, slice_get};
+    ghost use Rattle.edit_document.specs.Assertions.{Place, at as below, key as key_step, index as index_step};
+    ghost use Rattle.edit_document.specs.Shown.{Shown, tree_of};
     ghost use Rattle.edit_document.specs.Items.{place_numbered, string_in, truth_in, names_in, count_in, is_string, is_inline, is_tabular, is_static_array, type_name_of, Shows};
-    ghost use Rattle.edit_document.specs.ItemViews.{document_of, place_of, view_of, keys_left, Finds};
+    ghost use Rattle.edit_document.specs.EntryParts.{part_place};
+    ghost use Rattle.edit_document.specs.ItemViews.{document_of, place_of, view_of, entry_of, keys_left, Finds, FindsPart};
 
     /// The item of a node.
-    pub(crate) fn new(document: &'a Document, node: usize) -> Item<'a>
-        requires { node < length document.now.nodes }
+    pub(crate) fn new(document: &'a Document, number: usize) -> Item<'a>
+        requires { number < length document.now.nodes }
         ensures document { document_of result ≡ document.now }
-        ensures place { place_of result ≡ place_numbered document.now node }
+        ensures place { place_of result ≡ place_numbered document.now number }
     {
-        Item { document, node }
+        let node = NodeOf { document, number };
+        Item {
+            source: Source::Node(node),
+        }
+    }
+
+    /// The item of a part of a new entry.
+    pub(crate) fn of_part(part: EntryPart<'a>) -> Item<'a>
+        ensures document { document_of result ≡ entry_of part.entry }
+        ensures place { place_of result ≡ part_place part.entry.part }
+    {
+        Item {
+            source: Source::Part(part),
+        }
+    }
+
+    /// The item of the part of a new entry that was found, if there is one.
+    fn of_found(part: Option<EntryPart<'a>>) -> Option<Item<'a>>
+        ensures { (d : Shown) → (place : Place) → FindsPart d place part.entry → Finds d place result }
+    {
+        match part {
+            Some(part) => {
+                part.stands();
+                Some(Item::of_part(part))
+            }
+            None => None,
+        }
     }
 
     /// Something stands at the place of an item.
     pub fn stands(self)
         ensures { tree_of (document_of self.entry) (place_of self.entry) ≡ Some (view_of self.entry) }
     {
-        self.document.stands(self.node)
+        match self.source {
+            Source::Node(node) => node.document.stands(node.number),
+            Source::Part(part) => part.stands(),
+        }
     }
 
     /// What stands at the item's place, but for its members.
     fn seen(self) -> Seen<'a>
         ensures { Shows (view_of self.entry) result }
     {
-        self.document.seen(self.node)
+        match self.source {
+            Source::Node(node) => node.document.seen(node.number),
+            Source::Part(part) => part.seen(),
+        }
     }
 
     /// A string, after escapes.
@@ -80,10 +157,9 @@ impl<'a> Item<'a> {
     pub fn get(self, key: &str) -> Option<Item<'a>>
         ensures { Finds (document_of self.entry) (below (place_of self.entry) (key_step key.now)) result }
     {
-        let document = self.document;
-        match document.member(self.node, key) {
-            Some(node) => Some(Item { document, node }),
-            None => None,
+        match self.source {
+            Source::Node(node) => node.member(key),
+            Source::Part(part) => Item::of_found(part.member(key)),
         }
     }
 
@@ -91,10 +167,9 @@ impl<'a> Item<'a> {
     pub fn at(self, index: usize) -> Option<Item<'a>>
         ensures { Finds (document_of self.entry) (below (place_of self.entry) (index_step index)) result }
     {
-        let document = self.document;
-        match document.element(self.node, index) {
-            Some(node) => Some(Item { document, node }),
-            None => None,
+        match self.source {
+            Source::Node(node) => node.element(index),
+            Source::Part(part) => Item::of_found(part.element(index)),
         }
     }
 
@@ -102,7 +177,10 @@ impl<'a> Item<'a> {
     pub fn len(self) -> usize
         ensures { result ≡ count_in (view_of self.entry) }
     {
-        self.document.member_count(self.node)
+        match self.source {
+            Source::Node(node) => node.document.member_count(node.number),
+            Source::Part(part) => part.count(),
+        }
     }
 
     /// The keys of a table, in the order of their first statements.
@@ -110,9 +188,28 @@ impl<'a> Item<'a> {
         ensures { keys_left result ≡ names_in (view_of self.entry) }
     {
         Keys {
-            document: self.document,
-            node: self.node,
+            item: self,
             next: 0,
+        }
+    }
+
+    /// How many keys there are.
+    fn name_count(self) -> usize
+        ensures { result ≡ length (names_in (view_of self.entry)) }
+    {
+        match self.source {
+            Source::Node(node) => node.document.name_count(node.number),
+            Source::Part(part) => part.name_count(),
+        }
+    }
+
+    /// The key that comes behind so many others.
+    fn name(self, index: usize) -> Option<&'a str>
+        ensures { option_map (λ s. s.now) result ≡ slice_get (names_in (view_of self.entry)) index }
+    {
+        match self.source {
+            Source::Node(node) => node.document.member_name(node.number, index),
+            Source::Part(part) => part.name(index),
         }
     }
 
@@ -171,10 +268,8 @@ impl<'a> Item<'a> {
 /// The keys of a table that are left.
 #[derive(Drop)]
 pub struct Keys<'a> {
-    document: &'a Document,
-    node: usize,
+    item: Item<'a>,
     next: usize,
-    ghost numbered: { node < length document.now.nodes },
 }
 
 impl<'a> Iterator for Keys<'a> {
@@ -188,10 +283,10 @@ impl<'a> Iterator for Keys<'a> {
     ghost remaining = { item_count keys_left };
 
     fn next(&mut self) -> Option<&'a str> {
-        if self.next >= self.document.name_count(self.node) {
+        if self.next >= self.item.name_count() {
             return None;
         }
-        let name = self.document.member_name(self.node, self.next)?;
+        let name = self.item.name(self.next)?;
         self.next += 1;
         Some(name)
     }

@@ -7,6 +7,7 @@ mod changed;
 mod compare;
 pub mod document;
 mod edited;
+mod entry_part;
 mod grown;
 mod heads;
 mod inline;

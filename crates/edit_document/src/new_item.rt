@@ -1,13 +1,19 @@
 //! New values and entries, and how they are written.
-ghost use Rattle.std.specs.Prelude.{◌≡◌, [], ◌++◌, IfOk, IfErr, OnOk, map, string_bytes};
+ghost use Rattle.std.specs.Prelude.{◌≡◌, [], ◌++◌, false, IfOk, IfErr, OnOk, map, string_bytes};
 ghost use Rattle.std.specs.List.{list_all};
 ghost use Rattle.edit_base.specs.Errors.{IsMemory};
 ghost use Rattle.edit_syntax.specs.Characters as characters;
 ghost use Rattle.edit_syntax.specs.Grammar.{value as value_text};
 ghost use Rattle.edit_syntax.specs.Strings.{key as key_text};
+ghost use Rattle.edit_document.specs.Assertions.{Place};
+ghost use Rattle.edit_document.specs.ItemViews.{document_of, place_of};
+ghost use Rattle.edit_document.specs.Meant.{item_view};
+ghost use Rattle.edit_document.specs.Shown.{tree_of};
 ghost use Rattle.edit_document.specs.NewItems.{a_list, new_value, new_key, new_pair, new_entry, new_table};
 ghost use Rattle.edit_document.specs.NewItemViews.{value_seen, pair_seen, pairs_seen, item_seen, item_text, is_dotted};
 
+use crate::entry_part::EntryPart;
+use crate::item::Item;
 use crate::literal::push_literal;
 use edit_base::errors::CargoResult;
 use std::alloc::{AllocError, Global};
@@ -32,6 +38,15 @@ pub enum NewItem {
 }
 
 impl NewItem {
+    /// The entry as an item, which can be read before it is written: one by a dotted key is a table.
+    pub fn view(&self) -> Item<'_>
+        ensures document { (q : Place) →
+            tree_of (document_of result) q ≡ item_view false (item_seen self.now) q }
+        ensures place { place_of result ≡ [] }
+    {
+        Item::of_part(EntryPart::whole(self))
+    }
+
     /// The entry as a value: a literal, `{ k = v, k = v }`, or `{}` (TOML 1.0.0, "Keys" to "Inline Table").
     pub fn text(&self, alloc: Global) -> CargoResult<String>
         ensures text { IfOk result (λ s. string_bytes s ≡ item_text (item_seen self.now)) }

@@ -8,7 +8,7 @@ use Rattle.edit_document.specs.declared.item.Item.{Item}
 use Rattle.edit_document.specs.Shown.{Shown, tree_of}
 use Rattle.edit_document.specs.Tree.{View, string, truth, static_array, inline_table, table}
 use Rattle.edit_record.specs.EntryRecords.{Refusal, wrong_type, workspace_false, unknown_entry}
-use Rattle.edit_record.specs.ReadEntries.{Tree, below, and_then, entry_record, feature_texts, first_texts, text_of, true_workspace}
+use Rattle.edit_record.specs.ReadEntries.{Tree, below, and_then, entry_record, feature_texts, first_texts, table_record, text_of, true_workspace}
 use Rattle.edit_record.specs.RecordViews.{IsRefused, Tells, shown_at}
 
 -- a refusal that is told
@@ -106,6 +106,13 @@ no_entry t root dep (string s) e none flat tells = absurd (cc)
 no_entry t root dep (table members) e none flat tells = absurd (cc)
 no_entry t root dep (inline_table members) e none flat tells = absurd (cc)
 no_entry t root dep v e none flat tells = inr (unknown_entry dep, refl, tells)
+
+-- a table
+pub table_entry : (t : Tree) (root dep : List ℕ) (v : View) → is_tabular v ≡ true →
+    entry_record t root dep (Some v) ≡ table_record t root dep
+table_entry t root dep (table members) is = refl
+table_entry t root dep (inline_table members) is = refl
+table_entry t root dep v is = absurd cc
 
 -- ---- trees
 

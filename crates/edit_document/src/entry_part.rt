@@ -1,0 +1,243 @@
+//! The parts of a new entry, and what stands at them. None of these calls takes memory.
+ghost use Rattle.std.specs.Prelude.{◌≡◌, find, map, option_map, slice_get, string_bytes};
+ghost use Rattle.edit_document.specs.Assertions.{same_bytes};
+ghost use Rattle.edit_document.specs.EntryParts.{IsPart, IsPart-prop};
+ghost use Rattle.edit_document.specs.NewItemViews.{item_seen, pair_seen, pairs_seen};
+
+use crate::document::Seen;
+use crate::new_item::{NewItem, NewValue};
+
+/// A part of a new entry.
+#[derive(Clone, Copy)]
+pub(crate) enum Part<'a> {
+    /// The entry itself.
+    Whole,
+    /// A member of a table.
+    Member(&'a (String, NewValue)),
+    /// An element of the entry, which is this list.
+    Element(&'a NewValue, usize),
+    /// An element of a member, which is a list.
+    MemberElement(&'a (String, NewValue), usize),
+}
+
+/// What a new entry or a part of it says.
+#[derive(Clone, Copy)]
+pub(crate) enum Said<'a> {
+    Text(&'a str),
+    Truth(bool),
+    List(&'a [String]),
+    /// Members, and whether they are written by a dotted key.
+    Members(&'a [(String, NewValue)], bool),
+}
+
+/// A part of a new entry, in which something stands. Of members of the same name the first alone is one.
+#[derive(Clone, Copy)]
+pub(crate) struct EntryPart<'a> {
+    item: &'a NewItem,
+    part: Part<'a>,
+    ghost stands: { IsPart (item_seen item.now) part } by { IsPart-prop (item_seen item.now) part },
+}
+
+impl<'a> Said<'a> {
+    ghost use Rattle.std.specs.Prelude.{◌≡◌, ◌∷◌, [], Some, false, option_map};
+    ghost use Rattle.edit_document.specs.Assertions.{index as index_step};
+    ghost use Rattle.edit_document.specs.EntryParts.{said_view};
+    ghost use Rattle.edit_document.specs.Meant.{new_view, item_view};
+    ghost use Rattle.edit_document.specs.NewItemViews.{value_seen};
+    ghost use Rattle.edit_document.specs.Tree.{string};
+
+    /// What a new value says.
+    fn value(value: &'a NewValue) -> Said<'a>
+        ensures { new_view (value_seen value.now) [] ≡ Some (said_view result) }
+    {
+        match value {
+            NewValue::Str(text) => Said::Text(text.as_str()),
+            NewValue::Bool(truth) => Said::Truth(*truth),
+            NewValue::Strings(list) => Said::List(list.as_slice()),
+        }
+    }
+
+    /// What a new entry says.
+    fn entry(item: &'a NewItem) -> Said<'a>
+        ensures { item_view false (item_seen item.now) [] ≡ Some (said_view result) }
+    {
+        match item {
+            NewItem::Value(value) => Said::value(value),
+            NewItem::Inline { members, dotted } => Said::Members(members.as_slice(), *dotted),
+        }
+    }
+
+    /// The text of an element of a value, where it is a list with so many.
+    fn text(value: &'a NewValue, index: usize) -> Option<&'a str>
+        ensures { option_map (λ s. string s.now) result
+            ≡ new_view (value_seen value.now) (index_step index ∷ []) }
+    {
+        match value {
+            NewValue::Str(_) | NewValue::Bool(_) => None,
+            NewValue::Strings(list) => {
+                let text = list.get(index)?;
+                Some(text.as_str())
+            }
+        }
+    }
+}
+
+/// The first member of a name.
+fn named<'a>(members: &'a [(String, NewValue)], name: &str) -> Option<&'a (String, NewValue)>
+    ensures { option_map (λ m. pair_seen m.now) result
+        ≡ find (λ m. same_bytes m.0 name.now) (pairs_seen members.now) }
+{
+    'members: for member in members {
+        if is_named(member, name) {
+            return Some(member);
+        }
+    }
+    None
+}
+
+/// The name of the member that comes behind so many others.
+fn nth_name<'a>(members: &'a [(String, NewValue)], index: usize) -> Option<&'a str>
+    ensures { option_map (λ s. s.now) result ≡ slice_get (map (λ m. m.0) (pairs_seen members.now)) index }
+{
+    let member = members.get(index)?;
+    Some(member.0.as_str())
+}
+
+/// Whether a member has this name.
+fn is_named(member: &(String, NewValue), name: &str) -> bool
+    ensures { result ≡ same_bytes (string_bytes member.now.0) name.now }
+{
+    member.0.as_str() == name
+}
+
+impl<'a> EntryPart<'a> {
+    ghost use Rattle.std.specs.Prelude.{◌≡◌, [], Some, length, option_map, slice_get};
+    ghost use Rattle.edit_document.specs.Assertions.{at, key as key_step, index as index_step};
+    ghost use Rattle.edit_document.specs.EntryParts.{part_place, said_view};
+    ghost use Rattle.edit_document.specs.ItemViews.{entry_of, part_shown, FindsPart};
+    ghost use Rattle.edit_document.specs.Items.{Shows, count_in, names_in};
+    ghost use Rattle.edit_document.specs.Shown.{tree_of};
+
+    /// The entry itself.
+    pub(crate) fn whole(item: &'a NewItem) -> EntryPart<'a>
+        ensures { (result.item.now ≡ item.now) × (part_place result.part ≡ []) }
+    {
+        EntryPart {
+            item,
+            part: Part::Whole,
+        }
+    }
+
+    /// What is said at the part.
+    fn said(self) -> Said<'a>
+        ensures { part_shown self.entry ≡ said_view result }
+    {
+        match self.part {
+            Part::Whole => Said::entry(self.item),
+            Part::Member(member) => Said::value(&member.1),
+            Part::Element(value, index) => Said::Text(Said::text(value, index).unwrap()),
+            Part::MemberElement(member, index) => Said::Text(Said::text(&member.1, index).unwrap()),
+        }
+    }
+
+    /// Something stands at the place of a part.
+    pub(crate) fn stands(self)
+        ensures { tree_of (entry_of self.entry) (part_place self.entry.part) ≡ Some (part_shown self.entry) }
+    {
+        let _part = self.part;
+    }
+
+    /// What stands at the part, but for its members.
+    pub(crate) fn seen(self) -> Seen<'a>
+        ensures { Shows (part_shown self.entry) result }
+    {
+        match self.said() {
+            Said::Text(text) => Seen::Text(text),
+            Said::Truth(truth) => Seen::Truth(truth),
+            Said::List(_) => Seen::Array,
+            Said::Members(_, dotted) => if dotted { Seen::Table } else { Seen::Inline },
+        }
+    }
+
+    /// How many members or elements there are.
+    pub(crate) fn count(self) -> usize
+        ensures { result ≡ count_in (part_shown self.entry) }
+    {
+        match self.said() {
+            Said::Text(_) | Said::Truth(_) => 0,
+            Said::List(list) => list.len(),
+            Said::Members(members, _) => members.len(),
+        }
+    }
+
+    /// How many names of members there are.
+    pub(crate) fn name_count(self) -> usize
+        ensures { result ≡ length (names_in (part_shown self.entry)) }
+    {
+        match self.said() {
+            Said::Text(_) | Said::Truth(_) | Said::List(_) => 0,
+            Said::Members(members, _) => members.len(),
+        }
+    }
+
+    /// The name of a member.
+    pub(crate) fn name(self, index: usize) -> Option<&'a str>
+        ensures { option_map (λ s. s.now) result ≡ slice_get (names_in (part_shown self.entry)) index }
+    {
+        match self.said() {
+            Said::Text(_) | Said::Truth(_) | Said::List(_) => None,
+            Said::Members(members, _) => nth_name(members, index),
+        }
+    }
+
+    /// The member of a name. The few members of an entry are looked through one by one.
+    pub(crate) fn member(self, name: &str) -> Option<EntryPart<'a>>
+        ensures { FindsPart (entry_of self.entry)
+            (at (part_place self.entry.part) (key_step name.now)) result }
+    {
+        let item = self.item;
+        match self.part {
+            Part::Whole => match item {
+                NewItem::Value(_) => None,
+                NewItem::Inline { members, .. } => {
+                    match named(members.as_slice(), name) {
+                        Some(member) => Some(EntryPart {
+                            item,
+                            part: Part::Member(member),
+                        }),
+                        None => None,
+                    }
+                }
+            },
+            Part::Member(_) | Part::Element(_, _) | Part::MemberElement(_, _) => None,
+        }
+    }
+
+    /// An element of a list.
+    pub(crate) fn element(self, index: usize) -> Option<EntryPart<'a>>
+        ensures { FindsPart (entry_of self.entry)
+            (at (part_place self.entry.part) (index_step index)) result }
+    {
+        let item = self.item;
+        match self.part {
+            Part::Whole => match item {
+                NewItem::Value(value) => match Said::text(value, index) {
+                    Some(_) => Some(EntryPart {
+                        item,
+                        part: Part::Element(value, index),
+                    }),
+                    None => None,
+                },
+                NewItem::Inline { .. } => None,
+            },
+            Part::Member(member) => match Said::text(&member.1, index) {
+                Some(_) => Some(EntryPart {
+                    item,
+                    part: Part::MemberElement(member, index),
+                }),
+                None => None,
+            },
+            Part::Element(_, _) | Part::MemberElement(_, _) => None,
+        }
+    }
+}
