@@ -1,0 +1,4 @@
+pub mod DepTables
+pub mod Kinds
+pub mod Places
+pub mod Tables
