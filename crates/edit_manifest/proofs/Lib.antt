@@ -1,1 +1,2 @@
 pub mod NothingThere
+pub mod SetLemmas

@@ -4,6 +4,7 @@
 pub mod dep_table;
 pub mod manifest;
 pub mod tables;
+pub mod versions;
 mod ways;
 
 pub use dep_table::{DepKind, DepTable};
@@ -12,3 +13,4 @@ pub use edit_base::{
 };
 pub use manifest::Manifest;
 pub use tables::dependency_tables;
+pub use versions::{get_dep_version, set_dep_version};

@@ -1,10 +1,11 @@
 //! Places of members, one below the other.
-ghost use Rattle.std.specs.Prelude.{◌≡◌, IfErr, IfOk};
+ghost use Rattle.std.specs.Prelude.{◌≡◌, [], ◌∷◌, IfErr, IfOk, option_and_then, option_map};
 ghost use Rattle.edit_base.specs.Errors.{IsMemory};
 ghost use Rattle.edit_base.specs.Paths.{texts};
 ghost use Rattle.edit_document.specs.Assertions.{Place as PlaceSeen, at, key};
 ghost use Rattle.edit_document.specs.ItemViews.{Finds};
-ghost use Rattle.edit_document.specs.Items.{place_seen, step_seen};
+ghost use Rattle.edit_document.specs.Items.{place_seen, step_seen, string_in, truth_in};
+ghost use Rattle.edit_document.specs.Shown.{tree_of};
 ghost use Rattle.edit_manifest.specs.Tables.{keyed};
 
 use edit_base::errors::CargoResult;
@@ -76,4 +77,37 @@ pub(crate) fn item_below<'a>(
         Some(item) => item.get(name),
         None => None,
     }
+}
+
+/// What stands at the place of three names. It takes no memory.
+fn item_at<'a>(document: &'a Document, first: &str, second: &str, third: &str) -> Option<Item<'a>>
+    ensures { Finds document.now (keyed (first.now ∷ second.now ∷ third.now ∷ [])) result }
+{
+    let root = document.item(&[]);
+    let upper = item_below(document, root, first);
+    let table = item_below(document, upper, second);
+    item_below(document, table, third)
+}
+
+/// The boolean at the place of three names.
+pub(crate) fn truth_at(document: &Document, first: &str, second: &str, third: &str) -> Option<bool>
+    ensures { result ≡ option_and_then truth_in
+        (tree_of document.now (keyed (first.now ∷ second.now ∷ third.now ∷ []))) }
+{
+    let item = item_at(document, first, second, third)?;
+    item.as_bool()
+}
+
+/// The string at the place of three names.
+pub(crate) fn string_at<'a>(
+    document: &'a Document,
+    first: &str,
+    second: &str,
+    third: &str,
+) -> Option<&'a str>
+    ensures { option_map (λ s. s.now) result ≡ option_and_then string_in
+        (tree_of document.now (keyed (first.now ∷ second.now ∷ third.now ∷ []))) }
+{
+    let item = item_at(document, first, second, third)?;
+    item.as_str()
 }

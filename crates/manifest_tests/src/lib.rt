@@ -7,3 +7,5 @@
 mod kinds;
 #[cfg(test)]
 mod tables;
+#[cfg(test)]
+mod versions;
