@@ -1,0 +1,2 @@
+pub mod NothingThere
+pub mod SetLemmas

@@ -1,0 +1,5 @@
+pub mod DepTables
+pub mod Kinds
+pub mod Places
+pub mod Tables
+pub mod Versions

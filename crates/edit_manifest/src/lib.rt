@@ -1,0 +1,16 @@
+//! Manifests: their dependency tables and versions, and where they stand.
+#![tactic(auto)]
+
+pub mod dep_table;
+pub mod manifest;
+pub mod tables;
+pub mod versions;
+mod ways;
+
+pub use dep_table::{DepKind, DepTable};
+pub use edit_base::{
+    CargoResult, DeviceCall, Error, MergedCommand, MissingKind, MissingNames, errors, paths,
+};
+pub use manifest::Manifest;
+pub use tables::dependency_tables;
+pub use versions::{get_dep_version, set_dep_version};

@@ -1,0 +1,56 @@
+//! A manifest as a document.
+ghost use Rattle.std.specs.Prelude.{◌≡◌, Some, IfErr, IfOk, MatchResult, length};
+ghost use Rattle.edit_base.specs.Errors.{IsMemory};
+ghost use Rattle.edit_syntax.specs.Grammar.{Text};
+ghost use Rattle.edit_syntax.specs.Marks.{IsReadRefusal};
+ghost use Rattle.edit_document.specs.Shown.{ShowsTree};
+ghost use Rattle.edit_document.specs.Supported.{IsManifest};
+
+use edit_base::errors::CargoResult;
+use edit_document::Document;
+use std::alloc::Global;
+use std::fmt;
+
+/// A manifest.
+#[derive(Drop)]
+pub struct Manifest {
+    pub document: Document,
+}
+
+impl Manifest {
+    /// Reads a text. What is no TOML document is refused, with a byte near which it goes wrong.
+    pub fn read(alloc: Global, text: &str) -> CargoResult<Manifest>
+        ensures bytes { IfOk result (λ m. m.document.bytes ≡ text.now) }
+        ensures found { IfOk result
+            (λ m. (form : Text) × IsManifest text.now form × ShowsTree m.document form) }
+        ensures only { (form : Text) → IsManifest text.now form
+            → MatchResult result (λ m. ShowsTree m.document form) IsMemory }
+        ensures refused { IfErr result (IsReadRefusal (length text.now)) }
+    {
+        let document = Document::read(alloc, text)?;
+        Ok(Manifest { document })
+    }
+
+    /// A manifest of the same text, which shows the same.
+    pub fn try_clone(&self, alloc: Global) -> CargoResult<Manifest>
+        ensures same { IfOk result (λ m. m ≡ self.now) }
+        ensures refused { IfErr result IsMemory }
+    {
+        let document = self.document.try_clone(alloc)?;
+        Ok(Manifest { document })
+    }
+}
+
+impl fmt::Display for Manifest {
+    ghost output = { λ m. Some m.document.bytes };
+
+    fn fmt<W: fmt::Write>(&self, f: &mut fmt::Formatter<W>) -> fmt::Result {
+        f.write_str(self.document.as_str())
+    }
+}
+
+impl fmt::Debug for Manifest {
+    fn fmt<W: fmt::Write>(&self, f: &mut fmt::Formatter<W>) -> fmt::Result {
+        write!(f, "Manifest({:?})", self.document.as_str())
+    }
+}

@@ -1,0 +1,163 @@
+//! The dependency tables of a manifest, found in a walk down its tree.
+ghost use Rattle.std.specs.Prelude.{◌≡◌, ◌++◌, IfErr, IfOk, OnOk, map, option_map};
+ghost use Rattle.edit_base.specs.Errors.{IsMemory};
+ghost use Rattle.edit_base.specs.Paths.{texts};
+ghost use Rattle.edit_document.specs.Items.{place_seen};
+ghost use Rattle.edit_document.specs.Shown.{tree_of};
+ghost use Rattle.edit_manifest.specs.Places.{places_seen};
+ghost use Rattle.edit_manifest.specs.Tables.{dependency_tables, shared, table_at, tables_at, tables_of_target, tables_under, target_tables};
+
+use crate::dep_table::{NORMAL, is_kind};
+use crate::manifest::Manifest;
+use crate::ways::place_of;
+use edit_base::errors::CargoResult;
+use edit_document::{Document, Place};
+use std::alloc::Global;
+
+/// The place of these names, where a table or an inline table stands there.
+fn table_at(alloc: Global, document: &Document, names: &[&str]) -> CargoResult<Option<Place>>
+    ensures ok { IfOk result (λ o. option_map (λ p. place_seen p.items) o
+        ≡ table_at (tree_of document.now) (texts names.now)) }
+    ensures refused { IfErr result IsMemory }
+{
+    let place = place_of(alloc, names)?;
+    let Some(item) = document.item(&place) else {
+        return Ok(None);
+    };
+    if item.is_table_like() {
+        return Ok(Some(place));
+    }
+    Ok(None)
+}
+
+/// Adds the place of these names, where a table or an inline table stands there.
+fn push_table(
+    alloc: Global,
+    document: &Document,
+    names: &[&str],
+    tables: &mut Vec<Place>,
+) -> CargoResult<()>
+    ensures ok { OnOk result (places_seen tables.new.items
+        ≡ places_seen tables.old.items ++ tables_at (tree_of document.now) (texts names.now)) }
+    ensures refused { IfErr result IsMemory }
+{
+    let table = table_at(alloc, document, names)?;
+    match table {
+        Some(place) => {
+            tables.push(place)?;
+            Ok(())
+        }
+        None => Ok(()),
+    }
+}
+
+/// Adds the tables of a target, in the order of its members.
+fn push_target(
+    alloc: Global,
+    document: &Document,
+    target: &str,
+    tables: &mut Vec<Place>,
+) -> CargoResult<()>
+    ensures ok { OnOk result (places_seen tables.new.items
+        ≡ places_seen tables.old.items ++ tables_of_target (tree_of document.now) target.now) }
+    ensures refused { IfErr result IsMemory }
+{
+    let place = place_of(alloc, &["target", target])?;
+    let Some(item) = document.item(&place) else {
+        return Ok(());
+    };
+    'names: for name in item.keys() {
+        if is_kind(name) {
+            push_table(alloc, document, &["target", target, name], tables)?;
+        }
+    }
+    Ok(())
+}
+
+/// Adds the tables of all targets, target by target.
+fn push_targets(alloc: Global, document: &Document, tables: &mut Vec<Place>) -> CargoResult<()>
+    ensures ok { OnOk result (places_seen tables.new.items
+        ≡ places_seen tables.old.items ++ target_tables (tree_of document.now)) }
+    ensures refused { IfErr result IsMemory }
+{
+    let place = place_of(alloc, &["target"])?;
+    let Some(item) = document.item(&place) else {
+        return Ok(());
+    };
+    'targets: for target in item.keys() {
+        push_target(alloc, document, target, tables)?;
+    }
+    Ok(())
+}
+
+/// Adds the table of the dependencies that the members of a workspace share.
+fn push_shared(alloc: Global, document: &Document, tables: &mut Vec<Place>) -> CargoResult<()>
+    ensures ok { OnOk result (places_seen tables.new.items
+        ≡ places_seen tables.old.items ++ tables_at (tree_of document.now) shared) }
+    ensures refused { IfErr result IsMemory }
+{
+    let names = ["workspace", NORMAL];
+    push_table(alloc, document, &names, tables)
+}
+
+/// Adds the dependency tables that a member of the root is or has.
+fn push_under(
+    alloc: Global,
+    document: &Document,
+    name: &str,
+    tables: &mut Vec<Place>,
+) -> CargoResult<()>
+    ensures ok { OnOk result (places_seen tables.new.items
+        ≡ places_seen tables.old.items ++ tables_under (tree_of document.now) name.now) }
+    ensures refused { IfErr result IsMemory }
+{
+    if is_kind(name) {
+        return push_table(alloc, document, &[name], tables);
+    }
+    if name == "workspace" {
+        return push_shared(alloc, document, tables);
+    }
+    if name == "target" {
+        return push_targets(alloc, document, tables);
+    }
+    Ok(())
+}
+
+/// The places of the dependency tables of a document, in the order of a walk down its tree, member by member:
+/// at the root those of the three kinds, `workspace.dependencies`, and those of the three kinds of each target.
+pub fn dependency_tables(alloc: Global, document: &Document) -> CargoResult<Vec<Place>>
+    ensures ok { IfOk result (λ ps. places_seen ps.items ≡ dependency_tables (tree_of document.now)) }
+    ensures refused { IfErr result IsMemory }
+{
+    let mut tables = Vec::new(alloc);
+    let Some(root) = document.item(&[]) else {
+        return Ok(tables);
+    };
+    'names: for name in root.keys() {
+        push_under(alloc, document, name, &mut tables)?;
+    }
+    Ok(tables)
+}
+
+impl Manifest {
+    ghost use Rattle.edit_manifest.specs.Tables.{shared};
+
+    /// The places of the dependency tables, in the order of a walk down the manifest, member by member.
+    pub fn get_dependency_tables_mut(&self, alloc: Global) -> CargoResult<Vec<Place>>
+        ensures ok { IfOk result
+            (λ ps. places_seen ps.items ≡ dependency_tables (tree_of self.now.document)) }
+        ensures refused { IfErr result IsMemory }
+    {
+        dependency_tables(alloc, &self.document)
+    }
+
+    /// The place of `workspace.dependencies`, where a table or an inline table stands there.
+    pub fn get_workspace_dependency_table_mut(&self, alloc: Global) -> CargoResult<Option<Place>>
+        ensures ok { IfOk result (λ o. option_map (λ p. place_seen p.items) o
+            ≡ table_at (tree_of self.now.document) shared) }
+        ensures refused { IfErr result IsMemory }
+    {
+        let names = ["workspace", NORMAL];
+        table_at(alloc, &self.document, &names)
+    }
+}

@@ -1,0 +1,165 @@
+//! The versions of a package, of a workspace and of an entry.
+ghost use Rattle.std.specs.Prelude.{◌≡◌, ◌⊎◌, Err, Ok, IfErr, IfOk, OnOk, option_map};
+ghost use Rattle.edit_base.specs.Errors.{IsMemory};
+ghost use Rattle.edit_base.specs.Paths.{texts};
+ghost use Rattle.edit_document.specs.ItemViews.{document_of, place_of as item_place};
+ghost use Rattle.edit_document.specs.Items.{place_seen};
+ghost use Rattle.edit_document.specs.Shown.{tree_of};
+ghost use Rattle.edit_manifest.specs.Tables.{keyed};
+ghost use Rattle.edit_manifest.specs.Versions.{IsUnset, IsUnsetDependency, SetsDependency, SetsVersion, dep_version, is_inherited, package_version, shared_version, version_place, version_read, workspace_version};
+ghost use Rattle.semver.specs.Identifiers.{parts_of, version_text};
+
+use crate::manifest::Manifest;
+use crate::ways::{copied_place, member_place, place_of, string_at, truth_at};
+use edit_base::errors::{CargoResult, Error};
+use edit_document::{Document, Item, Place, Step};
+use semver::Version;
+use std::alloc::{AllocError, Global};
+
+/// The version that a text is, none where it is none.
+fn read_version(alloc: Global, text: &str) -> CargoResult<Option<Version>>
+    ensures ok { IfOk result (λ o. option_map parts_of o ≡ version_read text.now) }
+    ensures refused { IfErr result IsMemory }
+{
+    match Version::parse(alloc, text) {
+        Ok(version) => Ok(Some(version)),
+        Err(error) => {
+            if error == semver::Error::from(AllocError) {
+                return Err(Error::Memory);
+            }
+            Ok(None)
+        }
+    }
+}
+
+/// Writes a version in the place of the value at the place of these names.
+fn set_version_at(
+    alloc: Global,
+    document: &mut Document,
+    names: &[&str],
+    version: &Version,
+) -> CargoResult<()>
+    ensures set { OnOk result (SetsVersion (keyed (texts names.now)) (version_text version.now)
+        document.old document.new) }
+    ensures err { IfErr result (λ _. document.new ≡ document.old) }
+    ensures refused { IfErr result (IsUnset document.old (keyed (texts names.now))) }
+{
+    let place = place_of(alloc, names)?;
+    let text = format!(in alloc; "{version}")?;
+    if !document.is_value(&place) {
+        return Err(Error::NoVersionPlace);
+    }
+    document.set_literal(alloc, &place, text.as_str())
+}
+
+impl Manifest {
+    /// Whether the package takes its version from the workspace: `package.version.workspace` is true.
+    pub fn version_is_inherited(&self) -> bool
+        ensures { result ≡ is_inherited (tree_of self.now.document) }
+    {
+        truth_at(&self.document, "package", "version", "workspace").unwrap_or(false)
+    }
+
+    /// The version at `workspace.package.version`, where a string stands there that is a version.
+    pub fn get_workspace_version(&self, alloc: Global) -> CargoResult<Option<Version>>
+        ensures ok { IfOk result (λ o. option_map parts_of o
+            ≡ workspace_version (tree_of self.now.document)) }
+        ensures refused { IfErr result IsMemory }
+    {
+        match string_at(&self.document, "workspace", "package", "version") {
+            Some(text) => read_version(alloc, text),
+            None => Ok(None),
+        }
+    }
+
+    /// Writes a version in the place of the value at `package.version`, and nothing else. Where no value is
+    /// written there it is refused with 13.
+    pub fn set_package_version(&mut self, alloc: Global, version: &Version) -> CargoResult<()>
+        ensures set { OnOk result (SetsVersion package_version (version_text version.now)
+            self.old.document self.new.document) }
+        ensures err { IfErr result (λ _. self.new ≡ self.old) }
+        ensures refused { IfErr result (IsUnset self.old.document package_version) }
+    {
+        set_version_at(alloc, &mut self.document, &["package", "version"], version)
+    }
+
+    /// The same at `workspace.package.version`.
+    pub fn set_workspace_version(&mut self, alloc: Global, version: &Version) -> CargoResult<()>
+        ensures set { OnOk result (SetsVersion shared_version (version_text version.now)
+            self.old.document self.new.document) }
+        ensures err { IfErr result (λ _. self.new ≡ self.old) }
+        ensures refused { IfErr result (IsUnset self.old.document shared_version) }
+    {
+        let names = ["workspace", "package", "version"];
+        set_version_at(alloc, &mut self.document, &names, version)
+    }
+}
+
+/// The requirement of an entry: the string that it is, or the string at its member `version`. It is refused
+/// where a table has no such member (10), where that is no string (11), and where the entry is neither a
+/// string nor a table (12).
+pub fn get_dep_version<'a>(item: Item<'a>) -> CargoResult<&'a str>
+    ensures ok { IfOk result
+        (λ s. dep_version (tree_of (document_of item.entry)) (item_place item.entry) ≡ Ok s.now) }
+    ensures refused { IfErr result
+        (λ e. dep_version (tree_of (document_of item.entry)) (item_place item.entry) ≡ Err e) }
+{
+    item.stands();
+    if let Some(text) = item.as_str() {
+        return Ok(text);
+    }
+    if !item.is_table_like() {
+        return Err(Error::InvalidDependency);
+    }
+    let Some(version) = item.get("version") else {
+        return Err(Error::MissingVersion);
+    };
+    match version.as_str() {
+        Some(text) => Ok(text),
+        None => Err(Error::VersionNotString),
+    }
+}
+
+/// Where the version of the entry at a place stands.
+fn version_place(alloc: Global, document: &Document, place: &[Step]) -> CargoResult<Place>
+    ensures ok { IfOk result (λ p. version_place (tree_of document.now) (place_seen place.now)
+        ≡ Ok (place_seen p.items)) }
+    ensures refused { IfErr result (λ e. IsMemory e
+        ⊎ (version_place (tree_of document.now) (place_seen place.now) ≡ Err e)) }
+{
+    let Some(item) = document.item(place) else {
+        return Err(Error::InvalidDependency);
+    };
+    if item.is_str() {
+        return copied_place(alloc, place);
+    }
+    if !item.is_table_like() {
+        return Err(Error::InvalidDependency);
+    }
+    if item.get("version").is_none() {
+        return Err(Error::MissingVersion);
+    }
+    member_place(alloc, place, "version")
+}
+
+/// Writes another requirement in the place of that of the entry at a place, and nothing else: then
+/// `get_dep_version` answers it. It is refused where the entry has no member `version` (10), where it is
+/// neither a string nor a table (12), and where its `version` is no value (13).
+pub fn set_dep_version(
+    alloc: Global,
+    document: &mut Document,
+    place: &[Step],
+    text: &str,
+) -> CargoResult<()>
+    ensures set { OnOk result (SetsDependency (place_seen place.now) text.now document.old document.new) }
+    ensures answered { OnOk result
+        (dep_version (tree_of document.new) (place_seen place.now) ≡ Ok text.now) }
+    ensures err { IfErr result (λ _. document.new ≡ document.old) }
+    ensures refused { IfErr result (IsUnsetDependency document.old (place_seen place.now)) }
+{
+    let literal = version_place(alloc, document, place)?;
+    if !document.is_value(&literal) {
+        return Err(Error::NoVersionPlace);
+    }
+    document.set_literal(alloc, &literal, text)
+}

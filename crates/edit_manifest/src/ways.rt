@@ -1,0 +1,113 @@
+//! Places of members, one below the other.
+ghost use Rattle.std.specs.Prelude.{◌≡◌, [], ◌∷◌, IfErr, IfOk, option_and_then, option_map};
+ghost use Rattle.edit_base.specs.Errors.{IsMemory};
+ghost use Rattle.edit_base.specs.Paths.{texts};
+ghost use Rattle.edit_document.specs.Assertions.{Place as PlaceSeen, at, key};
+ghost use Rattle.edit_document.specs.ItemViews.{Finds};
+ghost use Rattle.edit_document.specs.Items.{place_seen, step_seen, string_in, truth_in};
+ghost use Rattle.edit_document.specs.Shown.{tree_of};
+ghost use Rattle.edit_manifest.specs.Tables.{keyed};
+
+use edit_base::errors::CargoResult;
+use edit_document::{Document, Item, Place, Step};
+use std::alloc::Global;
+
+/// The place of the members of these names, one below the other, from the root.
+pub(crate) fn place_of(alloc: Global, names: &[&str]) -> CargoResult<Place>
+    ensures ok { IfOk result (λ p. place_seen p.items ≡ keyed (texts names.now)) }
+    ensures refused { IfErr result IsMemory }
+{
+    let mut place = Vec::with_capacity(alloc, names.len())?;
+    'names: for name in names {
+        let name = String::from_str(alloc, name)?;
+        place.push(Step::Key(name))?;
+    }
+    Ok(place)
+}
+
+/// The same step, on memory of its own.
+fn copied_step(alloc: Global, step: &Step) -> CargoResult<Step>
+    ensures ok { IfOk result (λ s. step_seen s ≡ step_seen step.now) }
+    ensures refused { IfErr result IsMemory }
+{
+    match step {
+        Step::Key(name) => {
+            let name = String::from_str(alloc, name.as_str())?;
+            Ok(Step::Key(name))
+        }
+        Step::Index(index) => Ok(Step::Index(*index)),
+    }
+}
+
+/// The same place, on memory of its own.
+pub(crate) fn copied_place(alloc: Global, steps: &[Step]) -> CargoResult<Place>
+    ensures ok { IfOk result (λ p. place_seen p.items ≡ place_seen steps.now) }
+    ensures refused { IfErr result IsMemory }
+{
+    let mut place = Vec::with_capacity(alloc, steps.len())?;
+    'steps: for step in steps {
+        let copy = copied_step(alloc, step)?;
+        place.push(copy)?;
+    }
+    Ok(place)
+}
+
+/// The place of a member of what stands at a place.
+pub(crate) fn member_place(alloc: Global, steps: &[Step], name: &str) -> CargoResult<Place>
+    ensures ok { IfOk result (λ p. place_seen p.items ≡ at (place_seen steps.now) (key name.now)) }
+    ensures refused { IfErr result IsMemory }
+{
+    let mut place = copied_place(alloc, steps)?;
+    let name = String::from_str(alloc, name)?;
+    place.push(Step::Key(name))?;
+    Ok(place)
+}
+
+/// The member of an item, where there is one. It takes no memory.
+pub(crate) fn item_below<'a>(
+    document: &'a Document,
+    item: Option<Item<'a>>,
+    name: &str,
+) -> Option<Item<'a>>
+    ensures { (place : PlaceSeen) → Finds document.now place item.entry
+        → Finds document.now (at place (key name.now)) result }
+{
+    document.has_form();
+    match item {
+        Some(item) => item.get(name),
+        None => None,
+    }
+}
+
+/// What stands at the place of three names. It takes no memory.
+fn item_at<'a>(document: &'a Document, first: &str, second: &str, third: &str) -> Option<Item<'a>>
+    ensures { Finds document.now (keyed (first.now ∷ second.now ∷ third.now ∷ [])) result }
+{
+    let root = document.item(&[]);
+    let upper = item_below(document, root, first);
+    let table = item_below(document, upper, second);
+    item_below(document, table, third)
+}
+
+/// The boolean at the place of three names.
+pub(crate) fn truth_at(document: &Document, first: &str, second: &str, third: &str) -> Option<bool>
+    ensures { result ≡ option_and_then truth_in
+        (tree_of document.now (keyed (first.now ∷ second.now ∷ third.now ∷ []))) }
+{
+    let item = item_at(document, first, second, third)?;
+    item.as_bool()
+}
+
+/// The string at the place of three names.
+pub(crate) fn string_at<'a>(
+    document: &'a Document,
+    first: &str,
+    second: &str,
+    third: &str,
+) -> Option<&'a str>
+    ensures { option_map (λ s. s.now) result ≡ option_and_then string_in
+        (tree_of document.now (keyed (first.now ∷ second.now ∷ third.now ∷ []))) }
+{
+    let item = item_at(document, first, second, third)?;
+    item.as_str()
+}

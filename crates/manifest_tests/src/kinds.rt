@@ -1,0 +1,59 @@
+//! Kinds of dependencies and their tables.
+use edit_manifest::{DepKind, DepTable};
+use std::alloc::Global;
+use std::test::Fail;
+use test_rows::{LINES, rows_hold, text};
+
+/// The kind that a word names.
+fn kind_of(word: &str) -> DepKind {
+    match word {
+        "development" => DepKind::Development,
+        "build" => DepKind::Build,
+        _ => DepKind::Normal,
+    }
+}
+
+/// A table of a kind, for a target where one is named.
+fn table_of(alloc: Global, kind: &str, target: &str) -> Result<DepTable, Fail> {
+    let table = DepTable::new().set_kind(kind_of(kind));
+    if target.is_empty() {
+        return Ok(table);
+    }
+    Ok(table.set_target(alloc, target)?)
+}
+
+/// The name of a table, and its target.
+fn answer(alloc: Global, kind: &str, target: &str) -> Result<String, Fail> {
+    let table = table_of(alloc, kind, target)?;
+    let copy = table.try_clone(alloc)?;
+    if copy != table {
+        return text(alloc, "another copy");
+    }
+    let target = match &copy.target {
+        Some(target) => target.as_str(),
+        None => "all",
+    };
+    Ok(format!(in alloc; "{} {target}", table.kind_table())?)
+}
+
+/// The name of a kind's table, and the target; the kind and the target.
+const KINDS: &str = "\
+dependencies all|normal|
+dev-dependencies all|development|
+build-dependencies all|build|
+dev-dependencies cfg(unix)|development|cfg(unix)";
+
+#[test]
+fn names_the_tables_of_kinds(rt: HostRuntime) -> Result<(), Fail> {
+    rows_hold(rt.alloc(), KINDS, LINES, answer)
+}
+
+#[test]
+fn makes_tables_of_kinds(_rt: HostRuntime) -> Result<(), Fail> {
+    let is_new = DepTable::default() == DepTable::new();
+    let is_build = DepTable::from(DepKind::Build) == DepTable::new().set_kind(DepKind::Build);
+    if is_new && is_build && DepKind::Normal < DepKind::Development {
+        return Ok(());
+    }
+    Err(Fail::new(format_args!("new {is_new}, from a kind {is_build}")))
+}

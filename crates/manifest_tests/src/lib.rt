@@ -1,0 +1,11 @@
+//! Tests of manifests, by the public calls of `edit_manifest` alone.
+//!
+//! They stand in a crate of their own, since a crate with tests is proved once more with them.
+#![tactic(auto)]
+
+#[cfg(test)]
+mod kinds;
+#[cfg(test)]
+mod tables;
+#[cfg(test)]
+mod versions;
