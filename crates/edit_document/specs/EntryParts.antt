@@ -34,6 +34,7 @@ unfoldable pub entry_shown : NewItem → Shown
 entry_shown item = record {
   bytes = item_text item;
   nodes = filter_map (shown_place (item_view false item)) (entry_places item);
+  pieces = item_text item ∷ [];
 }
 
 -- ---- parts
