@@ -10,3 +10,4 @@ pub mod RelativeAgain
 mod NewMembers
 mod MembersRead
 pub mod RoundTrip
+mod UpdateFacts

@@ -10,3 +10,4 @@ pub mod Candidates
 pub mod RelativePaths
 pub mod NewEntries
 pub mod ReadsAgain
+pub mod EntryUpdates
