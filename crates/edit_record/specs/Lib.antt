@@ -7,3 +7,7 @@ pub mod RecordViews
 pub mod Admissible
 pub mod Finding
 pub mod Candidates
+pub mod RelativePaths
+pub mod NewEntries
+pub mod ReadsAgain
+pub mod EntryUpdates

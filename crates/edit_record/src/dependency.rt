@@ -11,6 +11,7 @@ mod members;
 mod read;
 mod sources;
 mod texts;
+mod write;
 
 use copies::{copied_lists, copied_pair, joined};
 use edit_base::errors::CargoResult;

@@ -6,3 +6,4 @@ mod entry_rows;
 pub(crate) mod parts;
 mod requirements;
 mod versions;
+mod written_rows;

@@ -1,0 +1,125 @@
+-- What becomes of an entry that is to say what a record says; the table of its members is this project's own,
+-- after that of cargo-edit.
+use Rattle.std.specs.Prelude.{ℕ, Bool, true, false, not, ◌&&◌, ◌==◌, if◌then◌else◌, List, [], ◌∷◌, ◌++◌, map, filter, filter_map, Option, Some, None, is_some, is_none, option_map, Result, Ok, codes}
+use Rattle.std.specs.List.{list_any}
+use Rattle.edit_document.specs.Assertions.{same_bytes}
+use Rattle.edit_document.specs.Items.{count_in, is_tabular}
+use Rattle.edit_document.specs.NewItems.{NewValue, a_string, a_truth, a_list, NewItem}
+use Rattle.edit_document.specs.Tree.{View, string}
+use Rattle.edit_record.specs.EntryRecords.{EntryRecord, Origin, from_registry, from_path, from_git, from_workspace, Refusal, origin_version}
+use Rattle.edit_record.specs.NewEntries.{item_of, written_name}
+use Rattle.edit_record.specs.ReadEntries.{Tree, member_in, features_at}
+use Rattle.edit_record.specs.RelativePaths.{path_field}
+
+-- ---- how the members end
+
+-- a member of an entry and how it ends: with a value, or not there (own)
+abbrev pub End : Type 0
+End = List ℕ × Option NewValue
+
+-- the members of entries that name a source (own)
+abbrev pub source_names : List (List ℕ)
+source_names =
+    codes "version" ∷ codes "path" ∷ codes "git" ∷ codes "branch" ∷ codes "tag" ∷ codes "rev"
+    ∷ codes "workspace" ∷ []
+
+-- the keys of a source of its own (own)
+abbrev pub own_ends : List ℕ → Origin → List End
+own_ends root (from_registry version) = (codes "version", Some (a_string version)) ∷ []
+own_ends root (from_path path version) =
+    (codes "path", Some (a_string (path_field root path))) ∷ (codes "version", option_map a_string version)
+    ∷ []
+own_ends root (from_git g) =
+    (codes "git", Some (a_string g.address)) ∷ (codes "branch", option_map a_string g.branch)
+    ∷ (codes "tag", option_map a_string g.tag) ∷ (codes "rev", option_map a_string g.rev)
+    ∷ (codes "version", option_map a_string g.version) ∷ []
+own_ends root from_workspace = (codes "workspace", Some (a_truth true)) ∷ []
+
+-- the keys of other sources go (own)
+abbrev pub other_ends : List End → List End
+other_ends own =
+    map (λ n. (n, None)) (filter (λ n. not (list_any (λ e. same_bytes e.0 n) own)) source_names)
+
+-- all keys of sources; they stay as they are where the record has no source (own)
+abbrev pub source_ends : List ℕ → Option Origin → List End
+source_ends root None = []
+source_ends root (Some origin) = own_ends root origin ++ other_ends (own_ends root origin)
+
+-- the record takes its source from the workspace (own)
+abbrev pub is_from_workspace : Option Origin → Bool
+is_from_workspace (Some from_workspace) = true
+is_from_workspace other = false
+
+-- this member goes with a source of the workspace, and else stays as it is (own)
+abbrev pub workspace_end : List ℕ → Option Origin → List End
+workspace_end name origin = if is_from_workspace origin then (name, None) ∷ [] else []
+
+-- the entry ends with a member `version` (own)
+abbrev pub ends_with_version : Tree → Option Origin → Bool
+ends_with_version t None = is_some (member_in t (codes "version"))
+ends_with_version t (Some origin) = is_some (origin_version origin)
+
+-- the crate's name is written under another key; else it goes with a source of the workspace (own)
+abbrev pub package_ends : Option (List ℕ) → Option Origin → List End
+package_ends (Some name) origin = (codes "package", Some (a_string name)) ∷ []
+package_ends None origin = workspace_end (codes "package") origin
+
+-- each text once, at its first place (own)
+abbrev pub each_once : List (List ℕ) → List (List ℕ)
+each_once [] = []
+each_once (s ∷ ss) = s ∷ filter (λ u. not (same_bytes s u)) (each_once ss)
+
+-- a list of texts that was read, and no text where it is not there or was refused (own)
+abbrev pub texts_or_none : Result (Option (List (List ℕ))) Refusal → List (List ℕ)
+texts_or_none (Ok (Some ss)) = ss
+texts_or_none other = []
+
+-- the features of the entry and then those of the record (own)
+abbrev pub joined_features : Tree → List (List ℕ) → NewValue
+joined_features t new = a_list (each_once (texts_or_none (features_at t []) ++ new))
+
+-- how the members of an entry end, in their order; a member that is not named here stays as it is (own)
+abbrev pub ends : Tree → List ℕ → EntryRecord → List End
+ends t root r =
+    source_ends root r.origin
+    ++ (workspace_end (codes "registry-index") r.origin
+    ++ ((codes "registry", if ends_with_version t r.origin then option_map a_string r.registry else None)
+    ∷ (package_ends (written_name r) r.origin
+    ++ ((codes "default-features", option_map a_truth r.default_features)
+    ∷ (codes "features", option_map (joined_features t) r.features)
+    ∷ (codes "optional", option_map a_truth r.optional) ∷ []))))
+
+-- ---- the edits
+
+-- one edit of a member: it is written or removed (own)
+pub data Change : Type 0 where
+  writes : List ℕ → NewValue → Change
+  removes : List ℕ → Change
+
+-- a member that ends with a value is written (own)
+abbrev pub write_of : End → Option Change
+write_of e = option_map (writes e.0) e.1
+
+-- a member that is there and does not end with a value is removed (own)
+abbrev pub removal_of : Tree → End → Option Change
+removal_of t e = if is_some (member_in t e.0) && is_none e.1 then Some (removes e.0) else None
+
+-- the edits of the members of an entry: all that is written, then all that is removed (own)
+abbrev pub changes : Tree → List ℕ → EntryRecord → List Change
+changes t root r = filter_map write_of (ends t root r) ++ filter_map (removal_of t) (ends t root r)
+
+-- what an entry becomes: another one, or its own with other members (own)
+pub data Update : Type 0 where
+  replaced_by : NewItem → Update
+  changed_by : List Change → Update
+
+-- a string, or a table of one member that one statement names, is replaced whole (own)
+abbrev pub is_replaced : Option View → Bool → Bool
+is_replaced None one = false
+is_replaced (Some (string s)) one = true
+is_replaced (Some v) one = one && (is_tabular v && (count_in v == 1))
+
+-- what the entry becomes that this tree shows, where `one` tells whether one statement alone names it (own)
+abbrev pub update_of : Tree → Bool → List ℕ → EntryRecord → Update
+update_of t one root r =
+    if is_replaced (t []) one then replaced_by (item_of root r) else changed_by (changes t root r)

@@ -1,0 +1,28 @@
+-- What is written of a record reads as a record of which the same is written; the law is this project's own.
+use Rattle.std.specs.Prelude.{◌≡◌, ◌≢◌, ◌≤◌, ℕ, false, List, [], ◌++◌, length, All, Option, None, option_to_list, option_and_then, IsSome, IfSome, IsOkAnd, ⊤}
+use Rattle.edit_document.specs.Meant.{item_view}
+use Rattle.edit_document.specs.NewItems.{NewItem}
+use Rattle.edit_record.specs.EntryRecords.{EntryRecord, Origin, from_registry, from_path, from_git, from_workspace, origin_version}
+use Rattle.edit_record.specs.NewEntries.{item_of}
+use Rattle.edit_record.specs.ReadEntries.{record_of}
+use Rattle.edit_version.specs.Laws.{holds_plus}
+
+-- a source that reads again: no backslash in a path; a branch, a tag or a revision at most; no name of a
+-- registry beside the workspace (own)
+abbrev pub IsPlainSource : Option (List ℕ) → Origin → Type 0
+IsPlainSource registry (from_registry version) = ⊤
+IsPlainSource registry (from_path path version) = All (λ b. b ≢ 92) path
+IsPlainSource registry (from_git g) =
+    length (option_to_list g.branch ++ (option_to_list g.tag ++ option_to_list g.rev)) ≤ 1
+IsPlainSource registry from_workspace = registry ≡ None
+
+-- a record that reads again: it has such a source, and no plus in its requirement (own)
+pub record IsPlain (r : EntryRecord) : Type 0 where
+  pub sourced : IsSome r.origin
+  pub plain : IfSome r.origin (IsPlainSource r.registry)
+  pub no_plus : IfSome (option_and_then origin_version r.origin) (λ version. holds_plus version ≡ false)
+
+-- a new entry, read under this key, is that of a record of which the same entry is written (own)
+abbrev pub ReadsAgain : List ℕ → List ℕ → NewItem → Type 0
+ReadsAgain root dep item =
+    IsOkAnd (record_of (item_view false item) [] root dep) (λ again. item_of root again ≡ item)

@@ -1,0 +1,35 @@
+-- The path of a dependency as its entry has it; the rules are this project's own, after those of cargo-edit.
+use Rattle.std.specs.Prelude.{ℕ, Bool, not, ◌||◌, ◌==◌, if◌then◌else◌, List, [], ◌∷◌, ◌++◌, map, length, filter, replicate, codes}
+use Rattle.std.specs.List.{join_by}
+use Rattle.edit_base.specs.Paths.{parts_of}
+use Rattle.edit_document.specs.Assertions.{same_bytes}
+
+-- a part that names something; `..` is a part like others (own)
+abbrev pub is_kept : List ℕ → Bool
+is_kept part = not (same_bytes part [] || same_bytes part (codes "."))
+
+-- the parts of a path that name something (own)
+abbrev pub names_of : List ℕ → List (List ℕ)
+names_of path = filter is_kept (parts_of path)
+
+-- the steps from some names to others: up past all but their longest front in common, and then down (own)
+abbrev pub steps_between : List (List ℕ) → List (List ℕ) → List (List ℕ)
+steps_between (d ∷ down) (u ∷ up) =
+    if same_bytes d u then steps_between down up else replicate (length (u ∷ up)) (codes "..") ++ d ∷ down
+steps_between down up = replicate (length up) (codes "..") ++ down
+
+-- a path as seen from a folder: the one text of which `IsRelative` holds (own)
+abbrev pub relative_of : List ℕ → List ℕ → List ℕ
+relative_of to from = join_by (λ step. step) (codes "/") (steps_between (names_of to) (names_of from))
+
+-- a backslash becomes a slash (own)
+abbrev pub slash_for : ℕ → ℕ
+slash_for b = if b == 92 then 47 else b
+
+-- a text with slashes alone (own)
+abbrev pub slashed : List ℕ → List ℕ
+slashed text = map slash_for text
+
+-- a path as it is written: as seen from the root, with slashes alone (own)
+abbrev pub path_field : List ℕ → List ℕ → List ℕ
+path_field root path = slashed (relative_of path root)

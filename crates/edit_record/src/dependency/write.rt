@@ -1,0 +1,259 @@
+//! The new entry of a record (Cargo reference, "Specifying Dependencies").
+ghost use Rattle.std.specs.Prelude.{◌≡◌, ◌++◌, ◌∷◌, [], true, IfOk, IfErr, OnOk, codes, option_copied, option_map, string_bytes};
+ghost use Rattle.edit_base.specs.Errors.{IsMemory};
+ghost use Rattle.edit_document.specs.NewItems.{a_string, a_truth};
+ghost use Rattle.edit_document.specs.NewItemViews.{item_seen, pairs_seen, value_seen};
+ghost use Rattle.edit_record.specs.EntryRecords.{key_of};
+ghost use Rattle.edit_record.specs.NewEntries.{is_short, item_of, list_member, option_members, origin_members, path_members, repository_members, text_member, truth_member, written_name, written_registry};
+ghost use Rattle.edit_record.specs.ReadsAgain.{IsPlain, ReadsAgain};
+ghost use Rattle.edit_record.specs.RecordViews.{record_view, repository_view, source_view, texts_view};
+ghost use Rattle.edit_record.specs.RelativePaths.{path_field, slashed};
+
+use super::Dependency;
+use super::sources::{GitSource, PathSource, Source};
+use edit_base::errors::CargoResult;
+use edit_base::paths::relative;
+use edit_document::{NewItem, NewValue};
+use std::alloc::{AllocError, Global};
+
+/// A text with a slash in the place of each backslash.
+fn slashed(alloc: Global, text: &str) -> Result<String, AllocError>
+    ensures { IfOk result (λ s. string_bytes s ≡ slashed text.now) }
+{
+    text.replace(alloc, '\\', "/")
+}
+
+/// A path as it is written: as seen from the root, with slashes alone.
+fn path_field(alloc: Global, root: &str, path: &str) -> CargoResult<String>
+    ensures text { IfOk result (λ s. string_bytes s ≡ path_field root.now path.now) }
+    ensures refused { IfErr result IsMemory }
+{
+    let way = relative(alloc, path, root)?;
+    Ok(slashed(alloc, way.as_str())?)
+}
+
+/// Appends a member.
+fn push_value(
+    alloc: Global,
+    members: &mut Vec<(String, NewValue)>,
+    name: &str,
+    value: NewValue,
+) -> Result<(), AllocError>
+    ensures { OnOk result (pairs_seen members.new.items
+        ≡ pairs_seen members.old.items ++ (name.now, value_seen value) ∷ []) }
+{
+    let name = String::from_str(alloc, name)?;
+    members.push((name, value))?;
+    Ok(())
+}
+
+/// Appends a member with a text, where there is one.
+fn push_text(
+    alloc: Global,
+    members: &mut Vec<(String, NewValue)>,
+    name: &str,
+    text: Option<&String>,
+) -> Result<(), AllocError>
+    ensures { OnOk result (pairs_seen members.new.items ≡ pairs_seen members.old.items
+        ++ text_member name.now (option_map string_bytes (option_copied text.entry))) }
+{
+    match text {
+        Some(text) => push_value(alloc, members, name, NewValue::Str(text.clone()?)),
+        None => Ok(()),
+    }
+}
+
+/// Appends a member that is true or false, where that is said.
+fn push_truth(
+    alloc: Global,
+    members: &mut Vec<(String, NewValue)>,
+    name: &str,
+    truth: Option<bool>,
+) -> Result<(), AllocError>
+    ensures { OnOk result (pairs_seen members.new.items
+        ≡ pairs_seen members.old.items ++ truth_member name.now truth) }
+{
+    match truth {
+        Some(truth) => push_value(alloc, members, name, NewValue::Bool(truth)),
+        None => Ok(()),
+    }
+}
+
+/// Appends a member with a list of texts, where there is one.
+fn push_list(
+    alloc: Global,
+    members: &mut Vec<(String, NewValue)>,
+    name: &str,
+    texts: Option<&Vec<String>>,
+) -> Result<(), AllocError>
+    ensures { OnOk result (pairs_seen members.new.items ≡ pairs_seen members.old.items
+        ++ list_member name.now (option_map texts_view (option_copied texts.entry))) }
+{
+    match texts {
+        Some(texts) => push_value(alloc, members, name, NewValue::Strings(texts.clone()?)),
+        None => Ok(()),
+    }
+}
+
+/// Appends the members of a repository.
+fn push_repository(
+    alloc: Global,
+    members: &mut Vec<(String, NewValue)>,
+    source: &GitSource,
+) -> Result<(), AllocError>
+    ensures { OnOk result (pairs_seen members.new.items
+        ≡ pairs_seen members.old.items ++ repository_members (repository_view source.now)) }
+{
+    push_text(alloc, members, "git", Some(&source.git))?;
+    push_text(alloc, members, "branch", source.branch.as_ref())?;
+    push_text(alloc, members, "tag", source.tag.as_ref())?;
+    push_text(alloc, members, "rev", source.rev.as_ref())?;
+    push_text(alloc, members, "version", source.version.as_ref())
+}
+
+/// Appends the members of a folder.
+fn push_path(
+    alloc: Global,
+    root: &str,
+    members: &mut Vec<(String, NewValue)>,
+    source: &PathSource,
+) -> CargoResult<()>
+    ensures ok { OnOk result (pairs_seen members.new.items
+        ≡ pairs_seen members.old.items ++ path_members root.now (string_bytes source.now.path)
+        (option_map string_bytes source.now.version)) }
+    ensures refused { IfErr result IsMemory }
+{
+    push_text(alloc, members, "version", source.version.as_ref())?;
+    let path = path_field(alloc, root, source.path.as_str())?;
+    push_value(alloc, members, "path", NewValue::Str(path))?;
+    Ok(())
+}
+
+/// Appends the members that name a source.
+fn push_source(
+    alloc: Global,
+    root: &str,
+    members: &mut Vec<(String, NewValue)>,
+    source: &Source,
+) -> CargoResult<()>
+    ensures ok { OnOk result (pairs_seen members.new.items
+        ≡ pairs_seen members.old.items ++ origin_members root.now (Some (source_view source.now))) }
+    ensures refused { IfErr result IsMemory }
+{
+    match source {
+        Source::Registry(source) => push_text(alloc, members, "version", Some(&source.version))?,
+        Source::Path(source) => push_path(alloc, root, members, source)?,
+        Source::Git(source) => push_repository(alloc, members, source)?,
+        Source::Workspace(_) => push_truth(alloc, members, "workspace", Some(true))?,
+    }
+    Ok(())
+}
+
+/// The one member of the entry that takes all from the workspace.
+fn workspace_members(alloc: Global) -> Result<Vec<(String, NewValue)>, AllocError>
+    ensures { IfOk result (λ v. pairs_seen v.items ≡ (codes "workspace", a_truth true) ∷ []) }
+{
+    let mut members = Vec::new(alloc);
+    push_truth(alloc, &mut members, "workspace", Some(true))?;
+    Ok(members)
+}
+
+impl Dependency {
+    /// Whether no more than the source needs to be written.
+    fn is_short(&self) -> bool
+        ensures { result ≡ is_short (record_view self.now) }
+    {
+        self.features.is_none()
+            && self.registry.is_none()
+            && self.rename.is_none()
+            && !self.optional.unwrap_or(false)
+            && self.default_features.unwrap_or(true)
+    }
+
+    /// The registry that is written: only beside a version.
+    fn written_registry(&self) -> Option<&String>
+        ensures { option_map string_bytes (option_copied result) ≡ written_registry (record_view self.now) }
+    {
+        match self.version() {
+            Some(_) => self.registry.as_ref(),
+            None => None,
+        }
+    }
+
+    /// The crate's name, where the entry has another.
+    fn written_name(&self) -> Option<&String>
+        ensures { option_map string_bytes (option_copied result) ≡ written_name (record_view self.now) }
+    {
+        match &self.rename {
+            Some(_) => Some(&self.name),
+            None => None,
+        }
+    }
+
+    /// Appends the members behind the source.
+    fn push_options(
+        &self,
+        alloc: Global,
+        members: &mut Vec<(String, NewValue)>,
+    ) -> Result<(), AllocError>
+        ensures { OnOk result (pairs_seen members.new.items
+            ≡ pairs_seen members.old.items ++ option_members (record_view self.now)) }
+    {
+        push_text(alloc, members, "registry", self.written_registry())?;
+        push_text(alloc, members, "package", self.written_name())?;
+        push_truth(alloc, members, "default-features", self.default_features)?;
+        push_list(alloc, members, "features", self.features.as_ref())?;
+        push_truth(alloc, members, "optional", self.optional)
+    }
+
+    /// The members of an inline table that says all.
+    fn members(&self, alloc: Global, root: &str) -> CargoResult<Vec<(String, NewValue)>>
+        ensures ok { IfOk result (λ v. pairs_seen v.items
+            ≡ origin_members root.now (record_view self.now).origin
+            ++ option_members (record_view self.now)) }
+        ensures refused { IfErr result IsMemory }
+    {
+        let mut members = Vec::new(alloc);
+        if let Some(source) = &self.source {
+            push_source(alloc, root, &mut members, source)?;
+        }
+        self.push_options(alloc, &mut members)?;
+        Ok(members)
+    }
+
+    /// The record as a new entry, its path as seen from the root.
+    fn new_item(&self, alloc: Global, root: &str) -> CargoResult<NewItem>
+        ensures item { IfOk result (λ i. item_seen i ≡ item_of root.now (record_view self.now)) }
+        ensures refused { IfErr result IsMemory }
+    {
+        match &self.source {
+            Some(Source::Registry(source)) if self.is_short() => {
+                Ok(NewItem::Value(NewValue::Str(source.version.clone()?)))
+            }
+            Some(Source::Workspace(_)) if self.is_short() => Ok(NewItem::Inline {
+                members: workspace_members(alloc)?,
+                dotted: true,
+            }),
+            _ => Ok(NewItem::Inline {
+                members: self.members(alloc, root)?,
+                dotted: false,
+            }),
+        }
+    }
+
+    /// The record as a new entry of a manifest in this folder. The folder and a source's path are meant to
+    /// be absolute, the folder without a part `..`.
+    ///
+    /// A version in a registry alone is its string, and the workspace's entry alone the dotted
+    /// `workspace = true`. All else is an inline table: the source, its path as seen from the folder, and
+    /// then `registry` beside a version, `package` under another key, `default-features`, `features` and
+    /// `optional`, each where the record has it.
+    pub fn to_toml(&self, alloc: Global, crate_root: &str) -> CargoResult<NewItem>
+        ensures item { IfOk result (λ i. item_seen i ≡ item_of crate_root.now (record_view self.now)) }
+        ensures round_trip { IfOk result (λ i. IsPlain (record_view self.now)
+            → ReadsAgain crate_root.now (key_of (record_view self.now)) (item_seen i)) }
+        ensures refused { IfErr result IsMemory }
+    {
+        self.new_item(alloc, crate_root)
+    }
+}

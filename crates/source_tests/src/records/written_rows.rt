@@ -1,0 +1,146 @@
+//! Rows of records and their new entries: what is written, the folder of the manifest, and what the record
+//! says, its parts between semicolons.
+use edit_base::CargoResult;
+use edit_document::{Document, NewItem, Step};
+use edit_record::{Dependency, GitSource, PathSource, RegistrySource, Source, WorkspaceSource};
+use std::alloc::{AllocError, Global};
+use std::test::Fail;
+use test_rows::{LINES, rows_hold};
+
+/// Each source alone and with each part that an entry can have; where another entry is written of what is
+/// read, that one comes second.
+const WRITTEN: &str = "\
+\"1.0\"|/|registry=1.0
+\"1.0\"|/|registry=1.0;optional=false;default features=true;inherited features=a
+{ version = \"1.0\", optional = true }|/|registry=1.0;optional=true
+{ version = \"1.0\", default-features = false }|/|registry=1.0;default features=false
+{ version = \"1.0\", package = \"dep\" }|/|registry=1.0;rename=d
+{ version = \"1.0\", registry = \"alternative\" }|/|registry=1.0;registry name=alternative
+{ version = \"1.0\", package = \"dep\", default-features = false }|/|\
+registry=1.0;rename=d;default features=false
+{ version = \"1.0\", features = [] }|/|registry=1.0;features=
+{ version = \"2\", features = [\"b\", \"a\", \"b\"], optional = false }|/|\
+registry=2;features=b a b;optional=false
+{ git = \"https://foor/bar.git\" }|/|git=https://foor/bar.git
+{ git = \"u\", branch = \"b\", version = \"0.1\" }|/|branch=b
+{ git = \"u\", tag = \"t\", version = \"0.1\" }|/|tag=t
+{ git = \"u\", rev = \"r\", version = \"0.1\", registry = \"n\" }|/|rev=r;registry name=n
+{ path = \"sibling/crate\" }|/|path=/sibling/crate
+{ path = \"../bar\" }|/foo|path=/bar
+{ path = \"\" }|/foo|path=/foo/
+{ path = \"bar\" }|/foo/|path=/foo/./bar
+{ path = \"../../b/c\" }|/a/d|path=/a/../b//./c
+{ path = \"a/b\" }|/foo|path=/foo/a\\b
+{ path = \"/y\" }, then { path = \"../y\" }|/foo|path=/foo/\\y
+{ version = \"3\", path = \"../p\", registry = \"n\" }|/foo|versioned path=/p;registry name=n
+{ path = \"../p\", package = \"dep\" }|/foo|path=/p;registry name=n;rename=d
+.workspace = true|/|workspace=
+{ workspace = true, package = \"dep\", features = [\"a\"] }|/|workspace=;rename=d;features=a
+{ workspace = true }, then .workspace = true|/|workspace=;registry name=n
+{ version = \"1\", registry = \"n\", package = \"dep\", default-features = true, \
+features = [\"a\"], optional = true }|/|\
+registry=1;registry name=n;rename=d;default features=true;features=a;optional=true";
+
+/// The words of a text; the empty text has none.
+fn words(alloc: Global, text: &str) -> Result<Vec<String>, AllocError> {
+    let mut words = Vec::new(alloc);
+    if text.is_empty() {
+        return Ok(words);
+    }
+    for word in text.split(' ') {
+        words.push(String::from_str(alloc, word)?)?;
+    }
+    Ok(words)
+}
+
+/// A repository at a branch, a tag or a revision, with a version.
+fn repository(alloc: Global, part: &str, text: &str) -> CargoResult<GitSource> {
+    let git = GitSource::new(alloc, "u")?.set_version(alloc, "0.1")?;
+    match part {
+        "branch" => git.set_branch(alloc, text),
+        "tag" => git.set_tag(alloc, text),
+        _ => git.set_rev(alloc, text),
+    }
+}
+
+/// The source that a part names.
+fn source(alloc: Global, part: &str, text: &str) -> CargoResult<Source> {
+    Ok(match part {
+        "registry" => Source::from(RegistrySource::new(alloc, text)?),
+        "path" => Source::from(PathSource::new(alloc, text)?),
+        "versioned path" => Source::from(PathSource::new(alloc, text)?.set_version(alloc, "3")?),
+        "git" => Source::from(GitSource::new(alloc, text)?),
+        "workspace" => Source::from(WorkspaceSource::new()),
+        _ => Source::from(repository(alloc, part, text)?),
+    })
+}
+
+/// The record with one part more.
+fn with_part(alloc: Global, record: Dependency, part: &str, text: &str) -> CargoResult<Dependency> {
+    match part {
+        "rename" => record.set_rename(alloc, text),
+        "registry name" => record.set_registry(alloc, text),
+        "features" => Ok(record.set_features(words(alloc, text)?)),
+        "inherited features" => Ok(record.set_inherited_features(words(alloc, text)?)),
+        "default features" => Ok(record.set_default_features(text == "true")),
+        "optional" => Ok(record.set_optional(text == "true")),
+        _ => Ok(record.set_source(source(alloc, part, text)?)),
+    }
+}
+
+/// The record of the crate `dep` that has these parts.
+fn record(alloc: Global, parts: &str) -> CargoResult<Dependency> {
+    let mut record = Dependency::new(alloc, "dep")?;
+    for part in parts.split(';') {
+        let (part, text) = part.split_once('=').unwrap_or((part, ""));
+        record = with_part(alloc, record, part, text)?;
+    }
+    Ok(record)
+}
+
+/// How an entry is written: as a value, or by a dotted key.
+fn told(alloc: Global, item: &NewItem) -> CargoResult<String> {
+    match item {
+        NewItem::Inline { dotted: true, .. } => Ok(String::from_str(alloc, ".workspace = true")?),
+        _ => item.text(alloc),
+    }
+}
+
+/// The record that is read of an entry.
+fn read(alloc: Global, root: &str, key: &str, entry: &str) -> Result<Dependency, Fail> {
+    let equals = if entry.starts_with('.') { "" } else { " = " };
+    let text = format!(in alloc; "[dependencies]\n{key}{equals}{entry}")?;
+    let document = Document::read(alloc, text.as_str());
+    let document = document.ok().ok_or("a document")?;
+    let place = vec![in alloc; Step::Key(String::from_str(alloc, "dependencies")?)]?;
+    let item = document.item(&place).ok_or("a table")?;
+    let item = item.get(key).ok_or("an entry")?;
+    Ok(
+        Dependency::from_toml(alloc, root, key, item)
+            .ok()
+            .ok_or("a record")?,
+    )
+}
+
+/// The entry of a record.
+fn entry(alloc: Global, root: &str, record: &Dependency) -> Result<String, Fail> {
+    let item = record.to_toml(alloc, root).ok().ok_or("an entry")?;
+    Ok(told(alloc, &item).ok().ok_or("a text")?)
+}
+
+/// The entry of a row, and where it is another one the entry of what is read of it.
+fn written(alloc: Global, root: &str, parts: &str) -> Result<String, Fail> {
+    let record = record(alloc, parts).ok().ok_or("a record")?;
+    let first = entry(alloc, root, &record)?;
+    let again = read(alloc, root, record.toml_key(), first.as_str())?;
+    let again = entry(alloc, root, &again)?;
+    if again == first {
+        return Ok(first);
+    }
+    Ok(format!(in alloc; "{first}, then {again}")?)
+}
+
+#[test]
+fn entries_are_written(rt: HostRuntime) -> Result<(), Fail> {
+    rows_hold(rt.alloc(), WRITTEN, LINES, written)
+}
