@@ -1,7 +1,7 @@
 //! Tables of rows, in which the tests of the other crates are written: each table is one text.
 #![tactic(auto)]
 
-ghost use Rattle.std.specs.Prelude.{◌≡◌, ◌↔◌, IsOk};
+ghost use Rattle.std.specs.Prelude.{◌≡◌, ◌↔◌, IsOk, IfOk, IsOkAnd, string_bytes};
 
 use edit_base::{CargoResult, Error};
 use std::alloc::Global;
@@ -72,7 +72,9 @@ pub fn field(row: &str, n: usize) -> &str {
 }
 
 /// A text of its own.
-pub fn text(alloc: Global, text: &str) -> Result<String, Fail> {
+pub fn text(alloc: Global, text: &str) -> Result<String, Fail>
+    ensures { IfOk result (λ s. string_bytes s ≡ text.now) }
+{
     Ok(String::from_str(alloc, text)?)
 }
 
@@ -87,7 +89,9 @@ pub fn told(alloc: Global, error: Error) -> Result<String, Fail> {
 }
 
 /// A word where a call succeeded, or what its refusal says.
-pub fn word<T: Drop>(alloc: Global, answer: CargoResult<T>, success: &str) -> Result<String, Fail> {
+pub fn word<T: Drop>(alloc: Global, answer: CargoResult<T>, success: &str) -> Result<String, Fail>
+    ensures { IsOk answer → IfOk result (λ s. string_bytes s ≡ success.now) }
+{
     match answer {
         Ok(_) => text(alloc, success),
         Err(error) => told(alloc, error),
@@ -95,7 +99,9 @@ pub fn word<T: Drop>(alloc: Global, answer: CargoResult<T>, success: &str) -> Re
 }
 
 /// A text that a call made, or what its refusal says.
-pub fn made(alloc: Global, answer: CargoResult<String>) -> Result<String, Fail> {
+pub fn made(alloc: Global, answer: CargoResult<String>) -> Result<String, Fail>
+    ensures { IfOk answer (λ t. IsOkAnd result (λ s. s ≡ t)) }
+{
     match answer {
         Ok(text) => Ok(text),
         Err(error) => told(alloc, error),

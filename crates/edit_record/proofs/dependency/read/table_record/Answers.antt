@@ -3,6 +3,12 @@ use Rattle.std.proofs.lemmas.Result.{err_from_is_err_and}
 use Rattle.edit_record.proofs.EntryLemmas.{refusal_stays}
 use Rattle.edit_record.proofs.dependency.read.table_record.Goals as goal
 
+pub returns-in_err-crate_name-clause-refused : goal.returns-in_err-crate_name-clause-refused
+returns-in_err-crate_name-clause-refused c =
+    let stop = c.from_residual in
+    let p = err_from_is_err_and stop.result stop.ensures.1 in
+    rw (p.1, p.2) (refusal_stays _ _ _ c.in_err-crate_name.ensures.refused)
+
 pub returns-in_err-source-clause-refused : goal.returns-in_err-source-clause-refused
 returns-in_err-source-clause-refused c =
     let stop = c.from_residual-in_err-source in
