@@ -124,7 +124,8 @@ fn push_under(
 }
 
 /// The places of the dependency tables of a document, in the order of a walk down its tree, member by member:
-/// at the root those of the three kinds, `workspace.dependencies`, and those of the three kinds of each target.
+/// at the root those of the three kinds, `workspace.dependencies`, and those of the three kinds of each
+/// target.
 pub fn dependency_tables(alloc: Global, document: &Document) -> CargoResult<Vec<Place>>
     ensures ok { IfOk result (λ ps. places_seen ps.items ≡ dependency_tables (tree_of document.now)) }
     ensures refused { IfErr result IsMemory }
