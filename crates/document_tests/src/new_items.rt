@@ -27,7 +27,7 @@ true|flag true~\
 { workspace = true }|dotted";
 
 /// The parts of a text between commas; the empty text has none.
-fn listed(alloc: Global, text: &str) -> Result<Vec<String>, AllocError> {
+pub(crate) fn listed(alloc: Global, text: &str) -> Result<Vec<String>, AllocError> {
     let mut parts = Vec::new(alloc);
     if text.is_empty() {
         return Ok(parts);

@@ -29,9 +29,9 @@ fn stepped<'a>(item: Item<'a>, step: &str) -> Option<Item<'a>> {
     }
 }
 
-/// The item of a place, reached from the root step by step.
-fn walked<'a>(document: &'a Document, place: &str) -> Option<Item<'a>> {
-    let mut item = document.item(&[])?;
+/// The item of a place below another, reached step by step.
+fn walked<'a>(root: Item<'a>, place: &str) -> Option<Item<'a>> {
+    let mut item = root;
     for step in place.split_terminator('/') {
         item = stepped(item, step)?;
     }
@@ -85,6 +85,19 @@ fn is_one_statement(alloc: Global, document: &Document, place: &str) -> Result<S
     text(alloc, word(document.one_statement(&place)))
 }
 
+/// What is answered to a question about a place below an item; `-` where nothing stands.
+pub(crate) fn shown_below(
+    alloc: Global,
+    root: Item<'_>,
+    question: &str,
+    place: &str,
+) -> Result<String, Fail> {
+    match walked(root, place) {
+        Some(item) => answer_of(alloc, item, question),
+        None => text(alloc, "-"),
+    }
+}
+
 /// What a document answers to a question about a place; `-` where nothing stands.
 pub(crate) fn shown(
     alloc: Global,
@@ -98,8 +111,8 @@ pub(crate) fn shown(
     if question == "one_statement" {
         return is_one_statement(alloc, document, place);
     }
-    match walked(document, place) {
-        Some(item) => answer_of(alloc, item, question),
+    match document.item(&[]) {
+        Some(root) => shown_below(alloc, root, question, place),
         None => text(alloc, "-"),
     }
 }
