@@ -17,7 +17,11 @@ mod writes;
 pub use edit_base::{
     CargoResult, DeviceCall, Error, MergedCommand, MissingKind, MissingNames, errors, paths,
 };
-pub use edit_document::{Document, Item, Keys, Place, Step};
+pub use edit_document::{Document, Item, Keys, NewItem, NewValue, Place, Step};
+pub use edit_manifest::{
+    DepKind, DepTable, LocalManifest, Manifest, dependency_tables, find, get_dep_version,
+    set_dep_version,
+};
 pub use edit_record::{
     Candidate, CrateSpec, Dependency, GitSource, IndexVersion, PathSource, RegistrySource,
     RustVersion, Source, VersionExt, WorkspaceSource, admits, allows_prerelease, cut,
