@@ -88,60 +88,54 @@ at_first bytes form gone done from left m u is cut all =
     behind_mark true rest = refl
     behind_mark false rest = refl
 
--- behind one more
-module _ (bytes : List ℕ) (gone : Place) (whole done : List ℕ) (from : ℕ) (e : Entry) (left : List Entry)
-    (at : AtStatement bytes gone whole done from (e ∷ left)) where
-  -- that goes
-  pub past_gone : e.is_within ≡ true → AtStatement bytes gone whole done e.next left
-  past_gone goes = go at.coming at.left_is at.chain at.made
-    where
-      go : (ss : List Stated) → e ∷ left ≡ map (entry_of gone) ss → Chain bytes at.rest ss
-          → done ++ lines_left gone at.rest ss ≡ whole → AtStatement bytes gone whole done e.next left
-      go [] is c m = absurd cc
-      go (s ∷ ss) is c m =
-          let same : e ≡ entry_of gone s = cc in
-          let others : left ≡ map (entry_of gone) ss = cc in
-          let here : is_gone gone s ≡ true = ap (λ (x : Entry). x.is_within) (sym same) ∙ goes in
-          record {
-            rest = s.next;
-            coming = ss;
-            spot = c.0;
-            from_is = ap (λ (x : Entry). x.next) same;
-            left_is = others;
-            chain = c.2;
-            made = ap (λ (b : Bool). done ++ (if b then lines_left gone s.next ss
-                else before at.rest s.next ++ lines_left gone s.next ss)) (sym here) ∙ m;
-          }
+-- behind one more: what stands before it and its lines stay, or nothing
+pub past_one : (bytes : List ℕ) (gone : Place) (whole done now : List ℕ) (from to : ℕ) (e : Entry)
+    (left : List Entry) → AtStatement bytes gone whole done from (e ∷ left)
+    → to ≡ (if e.is_within then from else e.next)
+    → now ≡ done ++ cut_from bytes (length bytes - from) (length bytes - to)
+    → AtStatement bytes gone whole now e.next left
+past_one bytes gone whole done now from to e left at to_is is = go at.coming at.left_is at.chain at.made
+  where
+    written : List ℕ → Bool → List Stated → List ℕ → List ℕ
+    written next within ss done =
+        done ++ (if within then lines_left gone next ss else before at.rest next ++ lines_left gone next ss)
 
-  -- that stays
-  pub past_kept : (now : List ℕ) → e.is_within ≡ false
-      → now ≡ done ++ cut_from bytes (length bytes - from) (length bytes - e.next)
-      → AtStatement bytes gone whole now e.next left
-  past_kept now stays is_now = go at.coming at.left_is at.chain at.made
-    where
-      go : (ss : List Stated) → e ∷ left ≡ map (entry_of gone) ss → Chain bytes at.rest ss
-          → done ++ lines_left gone at.rest ss ≡ whole → AtStatement bytes gone whole now e.next left
-      go [] is c m = absurd cc
-      go (s ∷ ss) is c m =
-          let same : e ≡ entry_of gone s = cc in
-          let others : left ≡ map (entry_of gone) ss = cc in
-          let here : is_gone gone s ≡ false = ap (λ (x : Entry). x.is_within) (sym same) ∙ stays in
-          let next : e.next ≡ length s.next = ap (λ (x : Entry). x.next) same in
-          let kept : now ≡ done ++ before at.rest s.next =
-          is_now ∙ ap (λ (l : List ℕ). done ++ l)
-          (cut_spots bytes at.rest s.next from e.next at.spot c.0 c.1 at.from_is next) in
-          record {
-            rest = s.next;
-            coming = ss;
-            spot = c.0;
-            from_is = next;
-            left_is = others;
-            chain = c.2;
-            made = ap (λ (l : List ℕ). l ++ lines_left gone s.next ss) kept
-                ∙ append_assoc done (before at.rest s.next) (lines_left gone s.next ss)
-                ∙ ap (λ (b : Bool). done ++ (if b then lines_left gone s.next ss
-                else before at.rest s.next ++ lines_left gone s.next ss)) (sym here) ∙ m;
-          }
+    step : (s : Stated) (ss : List Stated) (within : Bool) → IsSpot bytes s.next → Ends at.rest s.next
+        → e.next ≡ length s.next → to ≡ (if within then from else e.next)
+        → now ++ lines_left gone s.next ss ≡ written s.next within ss done
+    step s ss true spot ends next_is to_from =
+        let nothing : now ≡ done ++ [] =
+        is ∙ ap (λ (n : ℕ). done ++ cut_from bytes (length bytes - from) (length bytes - n)) to_from
+        ∙ ap (λ (l : List ℕ). done ++ l)
+        (cut_spots bytes at.rest at.rest from from at.spot at.spot ([], refl) at.from_is at.from_is
+        ∙ before_is at.rest [] at.rest refl) in
+        ap (λ (l : List ℕ). l ++ lines_left gone s.next ss) (nothing ∙ append-nil done)
+    step s ss false spot ends next_is to_next =
+        let kept : now ≡ done ++ before at.rest s.next =
+        is ∙ ap (λ (n : ℕ). done ++ cut_from bytes (length bytes - from) (length bytes - n)) to_next
+        ∙ ap (λ (l : List ℕ). done ++ l)
+        (cut_spots bytes at.rest s.next from e.next at.spot spot ends at.from_is next_is) in
+        ap (λ (l : List ℕ). l ++ lines_left gone s.next ss) kept
+        ∙ append_assoc done (before at.rest s.next) (lines_left gone s.next ss)
+
+    go : (ss : List Stated) → e ∷ left ≡ map (entry_of gone) ss → Chain bytes at.rest ss
+        → done ++ lines_left gone at.rest ss ≡ whole → AtStatement bytes gone whole now e.next left
+    go [] all c m = absurd cc
+    go (s ∷ ss) all c m =
+        let same : e ≡ entry_of gone s = cc in
+        let others : left ≡ map (entry_of gone) ss = cc in
+        let here : e.is_within ≡ is_gone gone s = ap (λ (x : Entry). x.is_within) same in
+        let next : e.next ≡ length s.next = ap (λ (x : Entry). x.next) same in
+        record {
+          rest = s.next;
+          coming = ss;
+          spot = c.0;
+          from_is = next;
+          left_is = others;
+          chain = c.2;
+          made = step s ss (is_gone gone s) c.0 c.1 next
+              (to_is ∙ ap (λ (b : Bool). if b then from else e.next) here) ∙ m;
+        }
 
 -- behind the last one
 pub past_last : (bytes : List ℕ) (gone : Place) (whole done now : List ℕ) (from : ℕ)

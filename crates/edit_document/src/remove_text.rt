@@ -34,9 +34,8 @@ fn without_lines(alloc: Global, text: &str, place: &[Step]) -> CargoResult<Strin
     let mut from = past_mark(text.as_bytes()).len();
     let mut out = String::from_str(alloc, between(text, text.len(), from))?;
     'entries: for entry in found {
-        if !entry.is_within {
-            out.push_str(between(text, from, entry.next))?;
-        }
+        let to = if entry.is_within { from } else { entry.next };
+        out.push_str(between(text, from, to))?;
         from = entry.next;
     }
     out.push_str(between(text, from, 0))?;

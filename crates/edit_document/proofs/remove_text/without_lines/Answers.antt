@@ -1,4 +1,4 @@
-use Rattle.std.proofs.Common.{List, ℕ, ◌+◌, ◌++◌, drop, get_or, length, sym, ap, subst, ◌∙◌}
+use Rattle.std.proofs.Common.{◌≡◌, Bool, if◌then◌else◌, List, ℕ, ◌+◌, ◌++◌, drop, get_or, length, sym, ap, subst, ◌∙◌}
 use Rattle.std.specs.Prelude.{string_bytes}
 use Rattle.std.proofs.lemmas.List.{drop_more, drop_all}
 use Rattle.std.specs.declared.string.String.{String}
@@ -10,8 +10,8 @@ use Rattle.edit_document.specs.Items.{place_seen}
 use Rattle.edit_document.specs.RemovedBytes.{lines_left}
 use Rattle.edit_document.specs.Statements.{stated}
 use Rattle.edit_document.proofs.EntryChoices.{no_entry}
-use Rattle.edit_document.proofs.LeftLines.{AtStatement, at_first, past_gone, past_kept, past_last}
-use Rattle.edit_document.proofs.remove_text.without_lines.Goals.{then-not-entry+in_ok-push_str, else-not-entry}
+use Rattle.edit_document.proofs.LeftLines.{AtStatement, at_first, past_one, past_last}
+use Rattle.edit_document.proofs.remove_text.without_lines.Goals.{then-entry, else-entry}
 use Rattle.edit_document.proofs.remove_text.without_lines.Goals as goal
 
 pub entries-init : goal.entries-init
@@ -35,17 +35,15 @@ entries-preserved c form m =
     let at = subst (AtStatement text gone whole done c.entries.from)
     (drop_more xs i no_entry c.entries-test.true)
     (c.entries.invariant form m) in
-    elim c.if-not-entry.branch [
-      | then-not-entry+in_ok-push_str w ↦
-          past_kept text gone whole done c.entries.from e (drop (i + 1) xs) at
-          (string_bytes c.if-not-entry.out) w.if-not-entry.true
-          (ap (λ (s : String Global). string_bytes s) w.out-is ∙ (w.in_ok-push_str.ensures {u = tt}).bytes
-          ∙ ap (λ (l : List ℕ). done ++ l) w.between-then-not-entry.ensures)
-      | else-not-entry w ↦
-          subst (λ (s : String Global). AtStatement text gone whole (string_bytes s) e.next (drop (i + 1) xs))
-          (sym w.out-is)
-          (past_gone text gone whole done c.entries.from e (drop (i + 1) xs) at w.if-not-entry.false)
-    ]
+    let to : c.if-entry.to ≡ (if e.is_within then c.entries.from else e.next) =
+    elim c.if-entry.branch [
+      | then-entry w ↦
+          w.to-is ∙ ap (λ (b : Bool). if b then c.entries.from else e.next) (sym w.if-entry.true)
+      | else-entry w ↦
+          w.to-is ∙ ap (λ (b : Bool). if b then c.entries.from else e.next) (sym w.if-entry.false)
+    ] in
+    past_one text gone whole done _ c.entries.from c.if-entry.to e (drop (i + 1) xs) at to
+    ((c.in_ok-push_str.ensures {u = tt}).bytes ∙ ap (λ (l : List ℕ). done ++ l) c.between-in-entries.ensures)
 
 pub returns-clause-text : goal.returns-clause-text
 returns-clause-text c form m =

@@ -19,7 +19,8 @@ returns-then-not-is_container-clause-text c w s =
     let tells = c.is_container.ensures w.value s.valid (c.as_bytes.ensures.value ∙ old) in
     IfOk-weaker c.with_part.result _ _
     (λ t e. e ∙ ap (λ (l : List ℕ). with_splice text
-    (record { from = value w.value w.after; to = w.after; now = l })) (old ∙ sym (plain_left gone w.place w.value
+    (record { from = value w.value w.after; to = w.after; now = l }))
+    (old ∙ sym (plain_left gone w.place w.value
     (λ is. true≢false (sym (tells.1 is) ∙ c.if-not-is_container.true)))))
     (c.with_part.ensures.text w s)
 
