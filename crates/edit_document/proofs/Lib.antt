@@ -113,6 +113,13 @@ pub mod SlotLaws
 pub mod SlotTurns
 pub mod SlotKeys
 pub mod SlotSteps
+-- An item removed
+pub mod ValueSpots
+pub mod LeftLines
+pub mod RisingValues
+pub mod Innermost
+pub mod LeftTexts
+pub mod AroundValues
 -- Worked examples
 pub mod ReplaceFacts
 pub mod FromReader
@@ -134,3 +141,12 @@ pub mod AssertedWays
 pub mod StayingWays
 pub mod StayingElements
 pub mod OnceSizes
+pub mod LeftViews
+pub mod KeptNodes
+pub mod LostSteps
+pub mod KeptSteps
+pub mod LostParts
+pub mod UnorderedWalk
+pub mod RemovedTrees
+pub mod LosesParts
+pub mod HasLost

@@ -193,7 +193,7 @@ below_root : (t : Step) (ts : Place) (s : Step) → is_below (t ∷ ts) (s ∷ [
 below_root t [] s e = true≢false (sym (and_parts (same_step t s) false e).1)
 below_root t (u ∷ us) s e = true≢false (sym (and_parts (same_step t s) false e).1)
 
-opened_below : (t : Step) (ts : Place) (base xs : List Assertion) → Rooted base xs → (AnyBelow (t ∷ ts) base → Opened base (t ∷ ts)) → AnyBelow (t ∷ ts) (onto xs base) → Opened (onto xs base) (t ∷ ts)
+pub opened_below : (t : Step) (ts : Place) (base xs : List Assertion) → Rooted base xs → (AnyBelow (t ∷ ts) base → Opened base (t ∷ ts)) → AnyBelow (t ∷ ts) (onto xs base) → Opened (onto xs base) (t ∷ ts)
 opened_below t ts base xs (done b) so any = so any
 opened_below t ts base xs (next b x zs p s e st r) so any = opened_below t ts (x ∷ b) zs r here any
   where

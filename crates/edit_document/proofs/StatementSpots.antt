@@ -38,14 +38,14 @@ spot_of bytes (b ∷ bs) ends st =
       fits = rw at (IsCharBoundary-before_ascii bytes (length ends.0) (omega arith) (omega arith));
     }
 
-blank_small : (b : ℕ) → is_blank b ≡ true → b < 128
+pub blank_small : (b : ℕ) → is_blank b ≡ true → b < 128
 blank_small b e = grind (arith, nat_tests)
 
 blanks_start : (a rest : List ℕ) → All is_blank a → Starts rest → Starts (a ++ rest)
 blanks_start [] rest h st = st
 blanks_start (b ∷ bs) rest h st = blank_small b h.0
 
-part_start : (k : Key) (rest : List ℕ) → IsKey k → Starts (key k rest)
+pub part_start : (k : Key) (rest : List ℕ) → IsKey k → Starts (key k rest)
 part_start k rest h = go k.first h.0
   where
     go : (p : _) → IsPart p → Starts (part p (dotted k.others rest))
@@ -72,7 +72,7 @@ line_start (empty_line a None) rest h st = blanks_start a rest h.0 st
 line_start (empty_line a (Some c)) rest h st = blanks_start a _ h.0 (omega arith)
 line_start (full_line a s b c) rest h st = blanks_start a _ h.0 (statement_start s _ h.1)
 
-lines_start : (ls : Lines) → AreLines ls → Starts (lines ls)
+pub lines_start : (ls : Lines) → AreLines ls → Starts (lines ls)
 lines_start (one_line l) h = line_start l [] h tt
 lines_start (more_lines l e ls) h = line_start l (line_end e (lines ls)) h.0 (line_end_start e (lines ls))
 

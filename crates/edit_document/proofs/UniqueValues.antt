@@ -14,13 +14,13 @@ use Rattle.edit_document.proofs.ThinnedForms.{is_leaf}
 use Rattle.edit_syntax.proofs.Cases.{by_test}
 use Rattle.edit_document.proofs.SamePlace.{same_place_is, same_place_self}
 
-abbrev leaf_place : Assertion → Option Place
+abbrev pub leaf_place : Assertion → Option Place
 leaf_place a = if is_leaf a.kind then Some a.place else None
 
-abbrev leaves : List Assertion → List Place
+abbrev pub leaves : List Assertion → List Place
 leaves made = filter_map leaf_place made
 
-abbrev places : List Valued → List Place
+abbrev pub places : List Valued → List Place
 places ws = map (λ w. w.place) ws
 
 leaves_append : (xs ys : List Assertion) → leaves (xs ++ ys) ≡ leaves xs ++ leaves ys
@@ -85,7 +85,7 @@ statement_leaves earlier prefix (header a k b) after =
 statement_leaves earlier prefix (element_header a k b) after =
     leaves_append (fronts earlier _ [] (names k)) _ ∙ ap (λ (l : List Place). l ++ []) (front_leaves earlier _ [] (names k))
 
-lines_leaves : (earlier : List Assertion) (prefix : Place) (ls : Lines) → leaves (of_lines earlier prefix ls) ≡ leaves earlier ++ places (in_lines earlier prefix ls)
+pub lines_leaves : (earlier : List Assertion) (prefix : Place) (ls : Lines) → leaves (of_lines earlier prefix ls) ≡ leaves earlier ++ places (in_lines earlier prefix ls)
 lines_leaves earlier prefix (one_line (empty_line a c)) = sym (append-nil (leaves earlier))
 lines_leaves earlier prefix (one_line (full_line a s b c)) =
     leaves_append earlier (of_statement earlier prefix s) ∙ ap (λ (l : List Place). leaves earlier ++ l) (statement_leaves earlier prefix s (b ++ comment c []))

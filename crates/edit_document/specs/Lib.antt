@@ -34,3 +34,5 @@ pub mod Slots
 pub mod SlotTexts
 pub mod Remainders
 pub mod OneStatement
+pub mod Lost
+pub mod RemoveText

@@ -3,6 +3,7 @@
 
 mod assertions;
 mod beside;
+mod beside_unordered;
 mod changed;
 mod compare;
 pub mod document;
@@ -12,6 +13,7 @@ mod inline;
 mod insert;
 mod inside;
 pub mod item;
+mod kept;
 mod literal;
 mod locate;
 pub mod new_item;
@@ -19,6 +21,9 @@ mod new_shown;
 mod nodes;
 mod one_statement;
 pub mod place;
+mod remove;
+mod remove_text;
+mod removed;
 mod replace;
 mod set_value;
 mod spots;

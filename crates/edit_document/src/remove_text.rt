@@ -1,0 +1,138 @@
+//! The text of a document without an item.
+ghost use Rattle.std.specs.Prelude.{◌≡◌, ◌++◌, [], Some, None, IfOk, IfErr, string_bytes};
+ghost use Rattle.std.specs.Bool.{Decides};
+ghost use Rattle.edit_base.specs.Errors.{IsMemory};
+ghost use Rattle.edit_syntax.specs.Grammar.{Text, Value, value, IsValue, lines, byte_order_mark};
+ghost use Rattle.edit_document.specs.EditBytes.{with_splice};
+ghost use Rattle.edit_document.specs.Items.{place_seen};
+ghost use Rattle.edit_document.specs.RemovedBytes.{lines_left, value_left, removed_text};
+ghost use Rattle.edit_document.specs.RemoveText.{HasAround, StandsBetween};
+ghost use Rattle.edit_document.specs.Slots.{IsContainer};
+ghost use Rattle.edit_document.specs.Statements.{stated};
+ghost use Rattle.edit_document.specs.Supported.{IsManifest};
+ghost use Rattle.edit_document.specs.Written.{Valued};
+
+use crate::document::Document;
+use crate::inside::{begins, value_without};
+use crate::locate::entries;
+use crate::place::Step;
+use crate::spots::between;
+use edit_base::errors::CargoResult;
+use edit_syntax::past_mark;
+use std::alloc::Global;
+
+/// The text without the statements that name the place or one below it, and without the blank and comment
+/// lines before each of them.
+fn without_lines(alloc: Global, text: &str, place: &[Step]) -> CargoResult<String>
+    ensures text { (form : Text) → IsManifest text.now form → IfOk result (λ t. string_bytes t
+        ≡ byte_order_mark form.marked
+        (lines_left (place_seen place.now) (lines form.lines) (stated form))) }
+    ensures refused { IfErr result IsMemory }
+{
+    let all = entries(alloc, text, place)?;
+    let found = all.as_slice();
+    let mut from = past_mark(text.as_bytes()).len();
+    let mut out = String::from_str(alloc, between(text, text.len(), from))?;
+    'entries: for entry in found {
+        if !entry.is_within {
+            out.push_str(between(text, from, entry.next))?;
+        }
+        from = entry.next;
+    }
+    out.push_str(between(text, from, 0))?;
+    Ok(out)
+}
+
+/// A value that a place lies below: how many steps lead to it, and where it begins and ends in the text, told
+/// by how many bytes follow.
+#[derive(Clone, Copy)]
+pub(crate) struct Around {
+    pub(crate) steps: usize,
+    pub(crate) from: usize,
+    pub(crate) to: usize,
+}
+
+/// The text with other bytes in the place of what stands from one spot to another.
+fn with_part(alloc: Global, text: &str, from: usize, to: usize, now: &str) -> CargoResult<String>
+    ensures text { (w : Valued) → StandsBetween text.now w from to
+        → IfOk result (λ t. string_bytes t ≡ with_splice text.now
+        (record { from = value w.value w.after; to = w.after; now = now.now })) }
+    ensures refused { IfErr result IsMemory }
+{
+    let mut out = String::new(alloc);
+    out.push_str(between(text, text.len(), from))?;
+    out.push_str(now)?;
+    out.push_str(between(text, to, 0))?;
+    Ok(out)
+}
+
+/// Whether the text of a value is that of an array or an inline table.
+fn is_container(written: &[u8]) -> bool
+    ensures { (v : Value) → IsValue v → written.now ≡ value v [] → Decides result (IsContainer v) }
+{
+    begins(written, b'[') || begins(written, b'{')
+}
+
+/// The text without the element at a place below an array that stands in it, or without the members that name
+/// a place below an inline table, or one below that place.
+fn without_members(
+    alloc: Global,
+    text: &str,
+    from: usize,
+    to: usize,
+    below: &[Step],
+) -> CargoResult<String>
+    requires stands { (w : Valued) × StandsBetween text.now w from to }
+    ensures text { (w : Valued) → StandsBetween text.now w from to
+        → IfOk result (λ t. string_bytes t ≡ with_splice text.now (record {
+          from = value w.value w.after;
+          to = w.after;
+          now = value_left (w.place ++ place_seen below.now) w.place w.value [];
+        })) }
+    ensures refused { IfErr result IsMemory }
+{
+    let old = between(text, from, to);
+    if !is_container(old.as_bytes()) {
+        return with_part(alloc, text, from, to, old);
+    }
+    match String::from_utf8(value_without(alloc, old, below)?) {
+        Ok(new) => with_part(alloc, text, from, to, new.as_str()),
+        Err(_) => unreachable!(),
+    }
+}
+
+impl Document {
+    /// The innermost value around a place.
+    fn around(&self, place: &[Step]) -> Option<Around>
+        ensures { (form : Text) → IsManifest self.now.bytes form
+            → HasAround form (place_seen place.now) result }
+    {
+        let [above @ .., _] = place else {
+            return None;
+        };
+        match self.value_range(above) {
+            Some((start, end)) => Some(Around {
+                steps: above.len(),
+                from: self.as_str().len().saturating_sub(start),
+                to: self.as_str().len().saturating_sub(end),
+            }),
+            None => self.around(above),
+        }
+    }
+
+    /// The document's text without the item at a place. Where nothing stands there, nothing goes.
+    pub(crate) fn without(&self, alloc: Global, place: &[Step]) -> CargoResult<String>
+        ensures text { IfOk result (λ t. (form : Text) → IsManifest self.now.bytes form
+            → string_bytes t ≡ removed_text (place_seen place.now) form) }
+        ensures refused { IfErr result IsMemory }
+    {
+        self.has_form();
+        match self.around(place) {
+            Some(around) => {
+                let below = &place[around.steps..];
+                without_members(alloc, self.as_str(), around.from, around.to, below)
+            }
+            None => without_lines(alloc, self.as_str(), place),
+        }
+    }
+}
