@@ -27,6 +27,8 @@ mod pieces;
 #[cfg(test)]
 mod refusals;
 #[cfg(test)]
+mod removes;
+#[cfg(test)]
 mod shown;
 #[cfg(test)]
 mod texts;

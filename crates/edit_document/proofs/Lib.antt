@@ -154,3 +154,12 @@ pub mod AssertedWays
 pub mod StayingWays
 pub mod StayingElements
 pub mod OnceSizes
+pub mod LeftViews
+pub mod KeptNodes
+pub mod LostSteps
+pub mod KeptSteps
+pub mod LostParts
+pub mod UnorderedWalk
+pub mod RemovedTrees
+pub mod LosesParts
+pub mod HasLost

@@ -44,7 +44,7 @@ goes_through header_kind array_kind e f = absurd (true≢false (sym f))
 goes_through array_kind array_kind e f = absurd (true≢false (sym e))
 goes_through element_kind array_kind e f = absurd (true≢false (sym f))
 
-array_through : (l : Kind) → together array_kind l ≡ true → together l array_kind ≡ true
+pub array_through : (l : Kind) → together array_kind l ≡ true → together l array_kind ≡ true
 array_through array_kind f = refl
 array_through (dotted b) f = absurd (true≢false (sym f))
 array_through (leaf v) f = absurd (true≢false (sym f))

@@ -16,7 +16,7 @@ use Rattle.edit_document.proofs.GrownNames.{tabled}
 
 -- ---- lists
 
-any_at : (s : Step) (xs : List Step) (i : ℕ) → slice_get xs i ≡ Some s → list_any (same_step s) xs ≡ true
+pub any_at : (s : Step) (xs : List Step) (i : ℕ) → slice_get xs i ≡ Some s → list_any (same_step s) xs ≡ true
 any_at s [] i e = absurd cc
 any_at s (x ∷ xs) zero e =
     ap (λ (b : Bool). b || list_any (same_step s) xs) (ap (same_step s) (same_Some x s e) ∙ same_step_self s)
@@ -26,7 +26,7 @@ any_at s (x ∷ xs) (suc i) e = later (same_step s x) (any_at s xs i e)
     later true h = refl
     later false h = h
 
-at_any : (s : Step) (xs : List Step) → list_any (same_step s) xs ≡ true → (i : ℕ) × (slice_get xs i ≡ Some s)
+pub at_any : (s : Step) (xs : List Step) → list_any (same_step s) xs ≡ true → (i : ℕ) × (slice_get xs i ≡ Some s)
 at_any s [] e = absurd cc
 at_any s (x ∷ xs) e = go (same_step s x) refl e (at_any s xs)
   where
@@ -36,7 +36,7 @@ at_any s (x ∷ xs) e = go (same_step s x) refl e (at_any s xs)
     go true t h ih = (0, ap Some (sym (same_step_is s x t)))
     go false t h ih = let r = ih h in (suc r.0, r.1)
 
-same_bools : (a b : Bool) → (a ≡ true → b ≡ true) → (b ≡ true → a ≡ true) → a ≡ b
+pub same_bools : (a b : Bool) → (a ≡ true → b ≡ true) → (b ≡ true → a ≡ true) → a ≡ b
 same_bools true true f g = refl
 same_bools false false f g = refl
 same_bools true false f g = sym (f refl)

@@ -37,4 +37,5 @@ pub mod Remainders
 pub mod OneStatement
 pub mod Pieces
 pub mod EntrySpots
+pub mod Lost
 pub mod RemoveText

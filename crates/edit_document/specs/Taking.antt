@@ -31,3 +31,10 @@ joins _ _ = false
 abbrev pub stronger : Taken → Taken → Taken
 stronger Super t = t
 stronger s t = s
+
+-- by a value, or by a header of its own
+abbrev pub is_own : Taken → Bool
+is_own Value = true
+is_own Header = true
+is_own Element = true
+is_own _ = false

@@ -1,13 +1,14 @@
 //! The document of an edit's text: it is taken where it reads as the edit means it.
-ghost use Rattle.std.specs.Prelude.{◌≡◌, ◌⊎◌, None, IfOk, IfErr, length, ◌≤◌, ◌+◌};
+ghost use Rattle.std.specs.Prelude.{◌≡◌, ◌⊎◌, [], None, IfOk, IfErr, length, ◌≤◌, ◌+◌};
 ghost use Rattle.edit_base.specs.Errors.{IsMemory};
 ghost use Rattle.edit_base.specs.declared.errors.Error.TheVariants.{EditRefused};
 ghost use Rattle.edit_syntax.specs.Grammar.{Text};
-ghost use Rattle.edit_document.specs.Assertions.{at, key as key_step};
+ghost use Rattle.edit_document.specs.Assertions.{at, key as key_step, assertions};
 ghost use Rattle.edit_document.specs.EditBytes.{inserted_text, replaced_text};
 ghost use Rattle.edit_document.specs.Items.{place_seen};
-ghost use Rattle.edit_document.specs.Meant.{Inserted, InsertFails, HasReplaced, ReplaceFails};
+ghost use Rattle.edit_document.specs.Meant.{Inserted, InsertFails, HasReplaced, ReplaceFails, Removed, RemoveFails};
 ghost use Rattle.edit_document.specs.NewItemViews.{value_seen, item_seen};
+ghost use Rattle.edit_document.specs.RemovedBytes.{removed_text};
 ghost use Rattle.edit_document.specs.Shown.{tree_of, ShowsTree};
 ghost use Rattle.edit_document.specs.Supported.{IsManifest};
 
@@ -90,6 +91,34 @@ impl Document {
         self.has_form();
         let new = read_edited(alloc, text)?;
         if !self.has_replaced(&new, place, item) {
+            return Err(Error::EditRefused);
+        }
+        *self = new;
+        Ok(())
+    }
+
+    /// Takes the text of this document without the item at a place, where it reads as that is meant. After a
+    /// refusal the document is as it was.
+    pub(crate) fn take_removed(
+        &mut self,
+        alloc: Global,
+        text: &str,
+        place: &[Step],
+    ) -> CargoResult<()>
+        requires written { (form : Text) → IsManifest self.old.bytes form
+            → text.now ≡ removed_text (place_seen place.now) form }
+        requires inner { place_seen place.now ≡ [] → ⊥ }
+        requires stands { tree_of self.old (place_seen place.now) ≡ None → ⊥ }
+        ensures bytes { IfOk result (λ _. (form : Text) → IsManifest self.old.bytes form
+            → self.new.bytes ≡ removed_text (place_seen place.now) form) }
+        ensures tree { IfOk result (λ _. (form : Text) → IsManifest self.old.bytes form
+            → Removed (place_seen place.now) (assertions form) (tree_of self.new)) }
+        ensures err { IfErr result (λ _. self.new ≡ self.old) }
+        ensures refused { IfErr result (λ e. IsMemory e ⊎ ((e ≡ EditRefused)
+            × RemoveFails (place_seen place.now) self.old.bytes)) }
+    {
+        let new = read_edited(alloc, text)?;
+        if !self.has_lost(&new, place) {
             return Err(Error::EditRefused);
         }
         *self = new;

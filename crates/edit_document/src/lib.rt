@@ -3,6 +3,7 @@
 
 mod assertions;
 mod beside;
+mod beside_unordered;
 mod changed;
 mod compare;
 pub mod document;
@@ -14,6 +15,7 @@ mod inline;
 mod insert;
 mod inside;
 pub mod item;
+mod kept;
 mod literal;
 mod locate;
 mod members;
@@ -23,7 +25,9 @@ mod nodes;
 mod one_statement;
 mod pieces;
 pub mod place;
+mod remove;
 mod remove_text;
+mod removed;
 mod replace;
 mod replace_entry;
 mod set_value;

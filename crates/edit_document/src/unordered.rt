@@ -9,7 +9,7 @@ use crate::document::Document;
 
 impl Document {
     /// Whether each name of a member of a node is one of another node's members too.
-    fn has_names_of(&self, number: usize, other: &Document, there: usize) -> bool
+    pub(crate) fn has_names_of(&self, number: usize, other: &Document, there: usize) -> bool
         requires here { number < length self.now.nodes }
         requires there { there < length other.now.nodes }
         ensures { Decides result (HasNamesOf self.now number other.now there) }
@@ -27,7 +27,7 @@ impl Document {
     }
 
     /// Whether two nodes show the same, but for the order of members.
-    fn same_but_order(&self, number: usize, other: &Document, there: usize) -> bool
+    pub(crate) fn same_but_order(&self, number: usize, other: &Document, there: usize) -> bool
         requires here { number < length self.now.nodes }
         requires there { there < length other.now.nodes }
         ensures { Decides result (SameButOrder (Some (view_numbered self.now number))

@@ -1,0 +1,210 @@
+//! Whether a document shows another without an item.
+ghost use Rattle.std.specs.Prelude.{◌≡◌, ◌<◌, ◌≤◌, [], None, Some, length, take};
+ghost use Rattle.std.specs.Bool.{Decides};
+ghost use Rattle.edit_syntax.specs.Grammar.{Text};
+ghost use Rattle.edit_document.specs.Assertions.{Step as StepSeen, at, key as key_step, assertions};
+ghost use Rattle.edit_document.specs.Compared.{nth_part, tree_below};
+ghost use Rattle.edit_document.specs.Items.{place_numbered, view_numbered, place_seen, step_seen, Numbers};
+ghost use Rattle.edit_document.specs.Lost.{HasNamesBut, Loses, MovedPart, MovedParts, LosesPart, moved_place};
+ghost use Rattle.edit_document.specs.Lost as lost;
+ghost use Rattle.edit_document.specs.Meant.{Removed};
+ghost use Rattle.edit_document.specs.Shown.{tree_of};
+ghost use Rattle.edit_document.specs.Supported.{IsManifest};
+
+use crate::document::Document;
+use crate::place::Step;
+
+/// The number of an element where a part is lost: those behind a lost element move up.
+fn moved_index(step: &Step, index: usize) -> usize
+    ensures { result ≡ lost.moved_index (step_seen step.now) index }
+{
+    match step {
+        Step::Key(_) => index,
+        Step::Index(gone) => { if *gone < index { index - 1 } else { index } }
+    }
+}
+
+/// The first steps of a place.
+fn front(place: &[Step], count: usize) -> &[Step]
+    requires { count ≤ length place.now }
+    ensures { result.now ≡ take count place.now }
+{
+    &place[..count]
+}
+
+/// Whether a step leads to the member of a name.
+fn is_key(step: &Step, name: &str) -> bool
+    ensures { Decides result (key_step name.now ≡ step_seen step.now) }
+{
+    match step {
+        Step::Key(key) => name == key.as_str(),
+        Step::Index(_) => false,
+    }
+}
+
+impl Document {
+    /// The number of what stands in another document, which has lost a part, where a part of this one moved.
+    fn moved_counterpart(
+        &self,
+        number: usize,
+        index: usize,
+        other: &Document,
+        there: usize,
+        step: &Step,
+    ) -> Option<usize>
+        requires here { number < length self.now.nodes }
+        requires there { there < length other.now.nodes }
+        ensures { (s : StepSeen) → nth_part (view_numbered self.now number) index ≡ Some s
+            → Numbers other.now (moved_place (step_seen step.now) (place_numbered other.now there) s) result }
+    {
+        self.is_whole(number);
+        match self.member_name(number, index) {
+            Some(name) => other.member(there, name),
+            None => other.element(there, moved_index(step, index)),
+        }
+    }
+
+    /// Whether the same stands at a part as where it moved to in another document, but for the order of
+    /// members.
+    fn moved_part(
+        &self,
+        number: usize,
+        index: usize,
+        other: &Document,
+        there: usize,
+        step: &Step,
+    ) -> bool
+        requires here { number < length self.now.nodes }
+        requires there { there < length other.now.nodes }
+        ensures { Decides result (MovedPart (step_seen step.now) self.now number other.now there index) }
+    {
+        self.is_whole(number);
+        let Some(part) = self.part(number, index) else {
+            return true;
+        };
+        let Some(other_part) = self.moved_counterpart(number, index, other, there, step) else {
+            return false;
+        };
+        self.same_unordered(part, other, other_part, 81)
+    }
+
+    /// Whether the same stands at each part of a node but one as where it moved to in another document, but
+    /// for the order of members.
+    fn moved_parts(&self, number: usize, other: &Document, there: usize, step: &Step) -> bool
+        requires here { number < length self.now.nodes }
+        requires there { there < length other.now.nodes }
+        ensures { Decides result (MovedParts (step_seen step.now) self.now number other.now there) }
+    {
+        let count = self.member_count(number);
+        'parts: for index in 0..count {
+            if !self.leads(number, index, step)
+                && !self.moved_part(number, index, other, there, step)
+            {
+                return false;
+            }
+        }
+        true
+    }
+
+    /// Whether each name of a member of a node but one is one of another node's members too.
+    fn has_names_but(&self, number: usize, other: &Document, there: usize, step: &Step) -> bool
+        requires here { number < length self.now.nodes }
+        requires there { there < length other.now.nodes }
+        ensures { Decides result (HasNamesBut (step_seen step.now) self.now number other.now there) }
+    {
+        let count = self.name_count(number);
+        'names: for index in 0..count {
+            let Some(name) = self.member_name(number, index) else {
+                return true;
+            };
+            if !is_key(step, name) && other.member(there, name).is_none() {
+                return false;
+            }
+        }
+        true
+    }
+
+    /// Whether nothing stands one step below a node.
+    fn lacks(&self, number: usize, step: &Step) -> bool
+        requires { number < length self.now.nodes }
+        ensures { Decides result
+            (tree_of self.now (at (place_numbered self.now number) (step_seen step.now)) ≡ None) }
+    {
+        match self.step_down(number, step) {
+            Some(_) => false,
+            None => true,
+        }
+    }
+
+    /// Whether a node of another document shows what this one shows without a part.
+    fn loses_view(&self, number: usize, other: &Document, there: usize, step: &Step) -> bool
+        requires here { number < length self.now.nodes }
+        requires there { there < length other.now.nodes }
+        requires part { tree_of self.now (at (place_numbered self.now number) (step_seen step.now)) ≡ None
+            → ⊥ }
+        ensures { Decides result (Loses (step_seen step.now) (Some (view_numbered self.now number))
+            (Some (view_numbered other.now there))) }
+    {
+        self.is_whole(number);
+        other.is_whole(there);
+        let kind = self.kind(number);
+        if kind != other.kind(there) {
+            return false;
+        }
+        let rest = other.member_count(there);
+        if self.member_count(number).saturating_sub(1) != rest {
+            return false;
+        }
+        if kind < 8 {
+            return true;
+        }
+        if !self.has_names_but(number, other, there, step) {
+            return false;
+        }
+        if !other.has_names_of(there, self, number) {
+            return false;
+        }
+        other.lacks(there, step)
+    }
+
+    /// Whether a node of another document and what stands below it show this node without a part.
+    fn loses_part(&self, number: usize, other: &Document, there: usize, step: &Step) -> bool
+        requires here { number < length self.now.nodes }
+        requires there { there < length other.now.nodes }
+        requires part { tree_of self.now (at (place_numbered self.now number) (step_seen step.now)) ≡ None
+            → ⊥ }
+        ensures { Decides result (LosesPart (step_seen step.now)
+            (tree_below self.now (place_numbered self.now number))
+            (tree_below other.now (place_numbered other.now there))) }
+    {
+        self.is_tree();
+        other.is_tree();
+        self.is_whole(number);
+        other.is_whole(there);
+        self.stands(number);
+        other.stands(there);
+        if !self.loses_view(number, other, there, step) {
+            return false;
+        }
+        self.moved_parts(number, other, there, step)
+    }
+
+    /// Whether another document shows this one without the item at a place.
+    pub(crate) fn has_lost(&self, other: &Document, place: &[Step]) -> bool
+        requires inner { place_seen place.now ≡ [] → ⊥ }
+        requires stands { tree_of self.now (place_seen place.now) ≡ None → ⊥ }
+        ensures { (form : Text) → IsManifest self.now.bytes form
+            → Decides result (Removed (place_seen place.now) (assertions form) (tree_of other.now)) }
+    {
+        self.has_form();
+        self.is_tree();
+        other.is_tree();
+        let kept = self.kept_steps(place);
+        let Some((number, there)) = self.beside_unordered(other, front(place, kept)) else {
+            return false;
+        };
+        self.is_whole(number);
+        self.stands(number);
+        self.loses_part(number, other, there, &place[kept])
+    }
+}
