@@ -23,6 +23,8 @@ mod paths;
 #[cfg(test)]
 mod refusals;
 #[cfg(test)]
+mod replaces;
+#[cfg(test)]
 mod shown;
 #[cfg(test)]
 mod texts;
