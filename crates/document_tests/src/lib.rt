@@ -28,6 +28,7 @@ mod pieces;
 mod refusals;
 #[cfg(test)]
 mod removes;
+#[cfg(test)]
 mod replaces;
 #[cfg(test)]
 mod shown;
