@@ -1,15 +1,14 @@
 -- A document has lost an item where all beside the innermost table that is left is the same, and that table has lost a part.
-use Rattle.std.proofs.Common.{◌≡◌, ℕ, zero, suc, ◌+◌, ◌<◌, Bool, true, false, cond, List, [], ◌∷◌, ◌++◌, length, get_or, take, drop, Option, Some, None, option_map, refl, sym, ap, subst, ◌∙◌, ◌⊎◌, inl, inr, append_assoc, true≢false, arith}
+use Rattle.std.proofs.Common.{◌≡◌, ℕ, zero, suc, ◌+◌, ◌<◌, Bool, true, false, cond, List, [], ◌∷◌, ◌++◌, length, get_or, take, drop, Option, Some, None, option_map, refl, sym, ap, subst, ◌∙◌, append_assoc, true≢false, arith}
 use Rattle.std.specs.Bool.{Decides}
-use Rattle.std.proofs.lemmas.Option.{same_Some}
 use Rattle.edit_syntax.specs.Grammar.{Text}
 use Rattle.edit_document.specs.declared.place.Step.{Step as WrittenStep}
-use Rattle.edit_document.specs.Assertions.{Place, Step, at, same_place, Assertion, NoClash, assertions}
-use Rattle.edit_document.specs.Compared.{nth_part, tree_below, IsNumber}
+use Rattle.edit_document.specs.Assertions.{Place, at, Assertion, NoClash, assertions}
+use Rattle.edit_document.specs.Compared.{nth_part, tree_below}
 use Rattle.edit_document.specs.EditBytes.{is_within}
 use Rattle.edit_document.specs.Items.{place_seen, step_seen, place_numbered, view_numbered}
 use Rattle.edit_document.specs.Lost.{SameButOrderBeside, LosesPart, IsLeft, IsLost, IsInnermost}
-use Rattle.edit_document.specs.Meant.{Tree, staying, moved, tree_left, SameButOrder, Removed, shrunk}
+use Rattle.edit_document.specs.Meant.{staying, tree_left, SameButOrder, Removed, shrunk}
 use Rattle.edit_document.specs.Shown.{Shown, tree_of, ShowsTree}
 use Rattle.edit_document.specs.Tree.{View, kind_at, view_in}
 use Rattle.edit_document.proofs.KeptNodes.{none_view, not_longer}

@@ -1,7 +1,7 @@
 -- Which tables and arrays around an item that is removed are left, told by their nodes.
-use Rattle.std.proofs.Common.{◌≡◌, ℕ, suc, ◌<◌, ◌≤◌, Bool, true, false, cond, ◌&&◌, ◌||◌, List, [], ◌∷◌, ◌++◌, length, map, Option, Some, None, option_map, refl, sym, ap, subst, ◌∙◌, ◌⊎◌, inl, inr, true≢false, arith}
+use Rattle.std.proofs.Common.{◌≡◌, ℕ, suc, ◌<◌, ◌≤◌, Bool, true, false, cond, ◌&&◌, ◌||◌, List, [], ◌∷◌, ◌++◌, map, Option, Some, None, option_map, refl, sym, ap, subst, ◌∙◌, ◌⊎◌, inl, inr, true≢false, arith}
 use Rattle.std.specs.Prelude.{slice_get}
-use Rattle.std.specs.List.{AllByRecursion, list_any}
+use Rattle.std.specs.List.{list_any}
 use Rattle.std.proofs.lemmas.Bool.{and_parts, and_from, or_left, or_right}
 use Rattle.std.proofs.lemmas.Option.{same_Some}
 use Rattle.edit_syntax.specs.Grammar.{Text}
@@ -9,21 +9,20 @@ use Rattle.edit_syntax.proofs.Cases.{by_test}
 use Rattle.edit_syntax.proofs.Members.{Among, among_all}
 use Rattle.edit_document.specs.declared.nodes.Taken.{Taken}
 use Rattle.edit_document.specs.declared.nodes.Taken.TheVariants.{Dotted, Value, Super, Header, Array, Element}
-use Rattle.edit_document.specs.Assertions.{Place, Step, key, index, at, same_step, same_place, Kind, dotted, leaf, super, header_kind, array_kind, element_kind, Assertion, together, NoClash, is_array, is_array_at, elements_at, assertions}
+use Rattle.edit_document.specs.Assertions.{Place, Step, key, index, at, same_step, same_place, Kind, dotted, leaf, super, header_kind, array_kind, element_kind, Assertion, together, is_array, is_array_at, elements_at, assertions}
 use Rattle.edit_document.specs.Compared.{nth_part, AreSteps, AreApart}
 use Rattle.edit_document.specs.DocumentLayout.{placed}
 use Rattle.edit_document.specs.EditBytes.{is_within}
 use Rattle.edit_document.specs.Items.{count_in}
-use Rattle.edit_document.specs.Lost.{is_named, IsLost, IsKept}
+use Rattle.edit_document.specs.Lost.{is_named, IsKept}
 use Rattle.edit_document.specs.Meant.{staying}
 use Rattle.edit_document.specs.Nodes.{Spot}
-use Rattle.edit_document.specs.Shown.{Shown, tree_of, ShowsTree}
 use Rattle.edit_document.specs.Taking.{taken_of, joins, is_own}
 use Rattle.edit_document.specs.Tree.{View, kind_at, view_of_kind, view_in}
 use Rattle.edit_document.specs.Written.{values}
 use Rattle.edit_document.proofs.AlonePlaces.{dotted_open, first_allows}
 use Rattle.edit_document.proofs.ArrayCounts.{arrays_alone}
-use Rattle.edit_document.proofs.AssertedSpots.{Stands, was_asserted}
+use Rattle.edit_document.proofs.AssertedSpots.{Stands}
 use Rattle.edit_document.proofs.AssertedWays.{are_made}
 use Rattle.edit_document.proofs.Asserters.{Made, AreMade}
 use Rattle.edit_document.proofs.Besides.{within_back}
@@ -33,7 +32,7 @@ use Rattle.edit_document.proofs.NodeStatements.{array_through}
 use Rattle.edit_document.proofs.PairedPlaces.{owns, IsOpen}
 use Rattle.edit_document.proofs.SamePlace.{same_place_is, same_place_self, same_step_is, same_step_self, not_root}
 use Rattle.edit_document.proofs.SameParts.{part_less, part_some}
-use Rattle.edit_document.proofs.StayingWays.{kind_among, among_kind, Stays, stays_kind, kind_stays, off_way, up_stays, own_stays, part_stays}
+use Rattle.edit_document.proofs.StayingWays.{kind_among, among_kind, Stays, stays_kind, kind_stays, off_way, up_stays, part_stays}
 
 -- ---- what nothing has for itself
 

@@ -1,25 +1,25 @@
 -- What is left of the tables and arrays around an item that is removed.
-use Rattle.std.proofs.Common.{◌≡◌, ℕ, suc, ◌-◌, ◌<◌, Bool, true, false, not, cond, ◌&&◌, List, [], ◌∷◌, ◌++◌, length, Option, Some, None, is_some, if◌then◌else◌, refl, sym, ap, subst, ◌∙◌, ◌⊎◌, inl, inr, true≢false, arith}
-use Rattle.std.specs.Prelude.{slice_get, option_map}
-use Rattle.std.specs.List.{AllByRecursion, list_any}
+use Rattle.std.proofs.Common.{◌≡◌, ℕ, suc, ◌-◌, ◌<◌, Bool, true, false, not, cond, ◌&&◌, List, [], ◌∷◌, ◌++◌, Option, Some, None, is_some, if◌then◌else◌, refl, sym, ap, subst, ◌∙◌, ◌⊎◌, inl, inr, true≢false, arith}
+use Rattle.std.specs.Prelude.{option_map}
+use Rattle.std.specs.List.{list_any}
 use Rattle.std.proofs.lemmas.Bool.{and_parts}
 use Rattle.std.proofs.lemmas.Option.{same_Some}
 use Rattle.edit_syntax.specs.Grammar.{Value, basic, literal, multi_basic, multi_literal, boolean, integer, float, datetime, array, inline}
 use Rattle.edit_syntax.proofs.Cases.{by_test}
 use Rattle.edit_syntax.proofs.Members.{Among, among_all}
-use Rattle.edit_document.specs.Assertions.{Place, Step, key, index, at, same_step, same_place, Kind, dotted, leaf, super, header_kind, array_kind, element_kind, Assertion, together, NoClash, is_array, is_array_at, elements_at}
+use Rattle.edit_document.specs.Assertions.{Place, Step, key, index, at, same_step, same_place, Kind, dotted, leaf, super, header_kind, array_kind, element_kind, Assertion, together, NoClash, is_array, elements_at}
 use Rattle.edit_document.specs.Compared.{nth_part, element_step}
 use Rattle.edit_document.specs.EditBytes.{is_within}
 use Rattle.edit_document.specs.Lost.{LosesStep, Loses, from_table, from_inline_table, from_array, from_table_array}
 use Rattle.edit_document.specs.Meant.{staying, shrunk, tree_left, SameMembers, SameButOrder, same, tables, inline_tables}
-use Rattle.edit_document.specs.Tree.{View, static_array, table_array, inline_table, table, step_from, count_elements, kind_at, members_of, view_of_kind, view_of_value, view_in}
+use Rattle.edit_document.specs.Tree.{View, static_array, table_array, table, step_from, count_elements, kind_at, members_of, view_of_kind, view_of_value, view_in}
 use Rattle.edit_document.proofs.Asserters.{is_outer, is_value, Made, AreMade}
 use Rattle.edit_document.proofs.Below.{step_from_at}
 use Rattle.edit_document.proofs.Besides.{within_back}
 use Rattle.edit_document.proofs.MoreAssertions.{first_kind}
 use Rattle.edit_document.proofs.MoreMembers.{steps, has, has_step}
 use Rattle.edit_document.proofs.OnceLists.{apart_once, apart_filter}
-use Rattle.edit_document.proofs.OnceSizes.{without, same_step_turn, any_has, has_without, without_size, apart_size, has_once}
+use Rattle.edit_document.proofs.OnceSizes.{without, any_has, has_without, without_size, apart_size, has_once}
 use Rattle.edit_document.proofs.SamePlace.{same_step_self, same_step_is, same_place_is}
 use Rattle.edit_document.proofs.Wholes.{element_was}
 use Rattle.edit_document.proofs.StayingWays.{kind_among, among_kind, stays_among, same_kind, same_elements, off_way}

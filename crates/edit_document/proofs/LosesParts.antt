@@ -1,12 +1,12 @@
 -- What two nodes show, and their parts, where the second has lost a part.
-use Rattle.std.proofs.Common.{◌≡◌, ℕ, zero, suc, ◌-◌, ◌+◌, ◌<◌, ◌≤◌, Bool, true, false, not, ◌&&◌, nat_lt, cond, if◌then◌else◌, List, [], ◌∷◌, ◌++◌, length, map, Option, Some, None, refl, sym, ap, subst, ◌∙◌, ◌⊎◌, inl, inr, true≢false, arith, append_assoc, append-nil}
+use Rattle.std.proofs.Common.{◌≡◌, ℕ, suc, ◌-◌, ◌<◌, ◌≤◌, Bool, true, false, not, ◌&&◌, nat_lt, cond, if◌then◌else◌, List, [], ◌∷◌, ◌++◌, length, Option, Some, None, refl, sym, ap, subst, ◌∙◌, inl, inr, true≢false, arith, append_assoc, append-nil}
 use Rattle.std.specs.Prelude.{slice_get}
 use Rattle.std.specs.List.{list_any}
-use Rattle.std.proofs.lemmas.Bool.{and_parts, and_from, cases_lt, ltb-false, lt-ltb}
+use Rattle.std.proofs.lemmas.Bool.{and_parts, and_from, cases_lt, lt-ltb}
 use Rattle.std.proofs.lemmas.Option.{same_Some}
 use Rattle.edit_syntax.proofs.Cases.{by_test}
 use Rattle.edit_document.specs.Assertions.{Step, key, index, Place, at, same_step}
-use Rattle.edit_document.specs.Compared.{SameButOrderBelow, nth_part, element_step, kind_of, tree_below, AreSteps, AreNames, AreKeys, HasNamesOf}
+use Rattle.edit_document.specs.Compared.{nth_part, element_step, kind_of, tree_below, AreSteps, AreNames, AreKeys, HasNamesOf}
 use Rattle.edit_document.specs.Items.{place_numbered, view_numbered, names_in, count_in, Numbers}
 use Rattle.edit_document.specs.Lost.{LosesStep, Loses, from_table, from_inline_table, from_array, from_table_array, LosesPart, moved_index, moved_place, MovedParts, HasNamesBut}
 use Rattle.edit_document.specs.Meant.{SameButOrder, same, moved, is_member}
@@ -15,7 +15,7 @@ use Rattle.edit_document.specs.Tree.{View, string, truth, whole, fractional, mom
 use Rattle.edit_document.proofs.GrownNames.{tabled}
 use Rattle.edit_document.proofs.SamePlace.{same_step_self, same_step_is}
 use Rattle.edit_document.proofs.SameParts.{part_or, part_less, one_down, NothingElse, NoneBelow}
-use Rattle.edit_document.proofs.UnorderedViews.{any_at, at_any, same_bools, HasParts, parts_by_names, names_by_parts, named_parts}
+use Rattle.edit_document.proofs.UnorderedViews.{any_at, at_any, same_bools, HasParts, parts_by_names, named_parts}
 use Rattle.edit_document.proofs.Wholes.{element_was}
 
 -- ---- where parts move

@@ -1,14 +1,11 @@
 -- The parts of two nodes that are compared where an item is removed in one of them.
-use Rattle.std.proofs.Common.{◌≡◌, ℕ, suc, ◌-◌, ◌+◌, ◌<◌, ◌≤◌, Bool, true, false, not, ◌&&◌, nat_lt, cond, if◌then◌else◌, List, [], ◌∷◌, ◌++◌, length, Option, Some, None, refl, sym, ap, subst, ◌∙◌, ◌⊎◌, inl, inr, true≢false, arith, append_assoc, append-nil}
+use Rattle.std.proofs.Common.{◌≡◌, ℕ, Bool, [], ◌∷◌, ◌++◌, Option, Some, None, refl, sym, ap, subst, ◌∙◌, inl, inr, append-nil}
 use Rattle.std.specs.Bool.{Decides}
-use Rattle.std.specs.Prelude.{slice_get}
 use Rattle.std.proofs.lemmas.Option.{same_Some}
-use Rattle.edit_syntax.proofs.Cases.{by_test}
-use Rattle.edit_document.specs.Assertions.{Step, key, index, Place, at, same_step}
-use Rattle.edit_document.specs.Compared.{SameButOrderBelow, NumbersPart, tree_below, nth_part, kind_of}
-use Rattle.edit_document.specs.EditBytes.{is_within}
+use Rattle.edit_document.specs.Assertions.{Step, Place, at}
+use Rattle.edit_document.specs.Compared.{SameButOrderBelow, NumbersPart, tree_below, nth_part}
 use Rattle.edit_document.specs.Items.{place_numbered, view_numbered, count_in, Numbers}
-use Rattle.edit_document.specs.Lost.{SameButOrderBeside, UnorderedPartsBut, moved_place}
+use Rattle.edit_document.specs.Lost.{SameButOrderBeside, UnorderedPartsBut}
 use Rattle.edit_document.specs.Meant.{Tree, SameButOrder, same}
 use Rattle.edit_document.specs.Shown.{Shown, tree_of}
 use Rattle.edit_document.specs.Tree.{View}

@@ -1,9 +1,6 @@
 -- Views that lose a part, and views that are the same but for the order of members.
-use Rattle.std.proofs.Common.{◌≡◌, ℕ, suc, ◌-◌, ◌+◌, ◌<◌, ◌≤◌, Bool, true, false, not, ◌&&◌, List, [], ◌∷◌, length, Option, Some, None, refl, sym, ap, subst, ◌∙◌, ◌⊎◌, inl, inr, true≢false, arith}
-use Rattle.std.specs.Prelude.{slice_get}
-use Rattle.std.specs.List.{list_any}
-use Rattle.std.proofs.lemmas.Option.{same_Some}
-use Rattle.edit_document.specs.Assertions.{Step, same_step}
+use Rattle.std.proofs.Common.{◌≡◌, ℕ, suc, List, Option, Some, None, refl, sym, ap, subst, ◌∙◌, arith}
+use Rattle.edit_document.specs.Assertions.{Step}
 use Rattle.edit_document.specs.Lost.{LosesStep, Loses, from_table, from_inline_table, from_array, from_table_array}
 use Rattle.edit_document.specs.Meant.{SameMembers, SameButOrder, same, tables, inline_tables}
 use Rattle.edit_document.specs.Tree.{View, static_array, table_array, inline_table, table}

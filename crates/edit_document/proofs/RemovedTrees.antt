@@ -1,7 +1,6 @@
 -- A tree has lost an item where all beside the innermost table that is left is the same, and that table has lost a part.
-use Rattle.std.proofs.Common.{◌≡◌, ℕ, suc, ◌-◌, ◌<◌, Bool, true, false, ◌&&◌, nat_lt, cond, if◌then◌else◌, List, [], ◌∷◌, ◌++◌, Option, Some, None, is_some, option_map, refl, sym, ap, subst, ◌∙◌, ◌⊎◌, inl, inr, true≢false, append_assoc, append-nil}
-use Rattle.std.proofs.lemmas.Bool.{and_parts, and_from}
-use Rattle.std.proofs.lemmas.Option.{same_Some}
+use Rattle.std.proofs.Common.{◌≡◌, ℕ, suc, ◌-◌, ◌<◌, Bool, true, false, ◌&&◌, if◌then◌else◌, List, [], ◌∷◌, ◌++◌, Option, Some, None, is_some, option_map, refl, sym, ap, subst, ◌∙◌, ◌⊎◌, inl, inr, true≢false, append_assoc, append-nil}
+use Rattle.std.proofs.lemmas.Bool.{and_parts}
 use Rattle.edit_syntax.specs.Grammar.{Text}
 use Rattle.edit_syntax.proofs.Cases.{by_test}
 use Rattle.edit_document.specs.Assertions.{Place, Step, key, index, at, same_step, Kind, Assertion, NoClash, assertions, elements_at}
@@ -19,7 +18,7 @@ use Rattle.edit_document.proofs.LeftViews.{kept_left, lost_left}
 use Rattle.edit_document.proofs.LostSteps.{order_turn, order_then, order_none, loses_then, loses_same}
 use Rattle.edit_document.proofs.SamePlace.{not_root, same_step_self, same_step_is}
 use Rattle.edit_document.proofs.StayingElements.{elements_left}
-use Rattle.edit_document.proofs.StayingWays.{on_one_way, among_kind, kind_among, stays_among, same_view, Stays, stays_kind, kind_stays, off_way, up_stays, own_stays, index_own}
+use Rattle.edit_document.proofs.StayingWays.{on_one_way, kind_among, same_view, stays_kind, kind_stays, off_way, up_stays, own_stays, index_own}
 
 -- ---- places
 

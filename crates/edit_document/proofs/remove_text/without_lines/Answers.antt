@@ -1,8 +1,6 @@
 use Rattle.std.proofs.Common.{◌≡◌, Bool, if◌then◌else◌, List, ℕ, ◌+◌, ◌++◌, drop, get_or, length, sym, ap, subst, ◌∙◌}
 use Rattle.std.specs.Prelude.{string_bytes}
 use Rattle.std.proofs.lemmas.List.{drop_more, drop_all}
-use Rattle.std.specs.declared.string.String.{String}
-use Rattle.std.specs.declared.alloc.Global.{Global}
 use Rattle.edit_syntax.specs.Grammar.{lines, byte_order_mark}
 use Rattle.edit_syntax.specs.Reading.{past_mark}
 use Rattle.edit_syntax.proofs.LineLaws.{lines_only}

@@ -1,5 +1,4 @@
-use Rattle.std.proofs.Common.{ap, ◌∙◌, sym, refl, arith}
-use Rattle.edit_document.specs.Items.{step_seen}
+use Rattle.std.proofs.Common.{arith}
 use Rattle.edit_document.proofs.HasLost.{first_stands, first_there, nowhere}
 use Rattle.edit_document.proofs.document.Document.has_lost.Goals as goal
 

@@ -1,10 +1,10 @@
-use Rattle.std.proofs.Common.{◌≡◌, ◌<◌, ◌+◌, ℕ, length, take, None, sym, ap, subst, ◌∙◌, arith}
+use Rattle.std.proofs.Common.{◌≡◌, ◌<◌, ◌+◌, length, take, None, sym, ap, subst, ◌∙◌, arith}
 use Rattle.edit_syntax.specs.Grammar.{Text}
 use Rattle.edit_document.specs.Assertions.{at}
 use Rattle.edit_document.specs.Items.{place_seen, step_seen, place_numbered}
 use Rattle.edit_document.specs.Shown.{tree_of}
 use Rattle.edit_document.specs.Supported.{IsManifest}
-use Rattle.edit_document.proofs.KeptSteps.{KeptSoFar, root_kept, kept_as, kept_here, kept_before, root_before, some_steps, innermost}
+use Rattle.edit_document.proofs.KeptSteps.{KeptSoFar, kept_as, kept_here, kept_before, root_before, some_steps, innermost}
 use Rattle.edit_document.proofs.Views.{place_more, walk_none}
 use Rattle.edit_document.proofs.document.Document.kept_steps.Goals as goal
 use Rattle.edit_document.proofs.document.Document.kept_steps.Goals.{then-index-gt0+then-is_kept, else-index-gt0, else-index-gt0-via-then-index-gt0+else-is_kept, else-index-gt0-via-else-index-gt0}

@@ -1,4 +1,4 @@
-use Rattle.std.proofs.Common.{ℕ, ◌+◌, ◌<◌, take}
+use Rattle.std.proofs.Common.{◌+◌, ◌<◌, take}
 use Rattle.edit_syntax.specs.Grammar.{Text}
 use Rattle.edit_document.specs.Compared.{IsNumber}
 use Rattle.edit_document.specs.Items.{place_seen}
