@@ -106,10 +106,14 @@ pub mod Choices
 pub mod StatementSpots
 pub mod InsertedLines
 pub mod EntryChoices
-pub mod OutsideValues
+pub mod TablePairs
 pub mod ValueAssertions
 pub mod ValueSpots
 pub mod InlineRows
+pub mod InnerTurns
+pub mod InnerPairs
+pub mod ClosestTables
+pub mod InnerRows
 -- Inside an array or an inline table
 pub mod SlotLaws
 pub mod SlotTurns

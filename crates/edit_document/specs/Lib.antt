@@ -34,3 +34,4 @@ pub mod Slots
 pub mod SlotTexts
 pub mod Remainders
 pub mod OneStatement
+pub mod Inner

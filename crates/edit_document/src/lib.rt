@@ -9,6 +9,7 @@ pub mod document;
 mod edited;
 mod grown;
 mod inline;
+mod inner;
 mod insert;
 mod inside;
 pub mod item;
