@@ -1,5 +1,5 @@
 -- The first and the last of a list of which something is made.
-use Rattle.std.proofs.Common.{◌≡◌, ℕ, ◌+◌, ◌<◌, length, take, drop, get_or, List, [], ◌∷◌, ◌++◌, map, Option, None, Some, refl, sym, ap, ap₂, ◌∙◌, inl, inr}
+use Rattle.std.proofs.Common.{◌≡◌, ℕ, ◌+◌, ◌<◌, length, take, drop, get_or, List, [], ◌∷◌, ◌++◌, map, Option, None, Some, refl, sym, ap, ap₂, ◌∙◌, ◌⊎◌, inl, inr}
 use Rattle.std.specs.List.{flat_map}
 use Rattle.std.proofs.lemmas.List.{take_more, take-append-drop}
 use Rattle.edit_syntax.proofs.Members.{Among}
@@ -194,3 +194,62 @@ pub first_nothing : {A B : Type 0} (f : A → Option B) (xs : List A) → ((x : 
 first_nothing f [] all = refl
 first_nothing {B = B} f (x ∷ xs) all =
     ap₂ (λ (a b : Option B). first_of (a ∷ b ∷ [])) (all x (inl refl)) (first_nothing f xs (λ y m. all y (inr m)))
+
+-- ---- where something is made of one alone
+
+pub last_both : {A B : Type 0} (f : A → Option B) (xs ys : List A)
+    → last_made f (xs ++ ys) ≡ first_of (last_made f ys ∷ last_made f xs ∷ [])
+last_both f [] ys = sym (before_none (last_made f ys))
+last_both {B = B} f (x ∷ xs) ys =
+    ap (λ (o : Option B). first_of (o ∷ f x ∷ [])) (last_both f xs ys) ∙ go (last_made f ys) (last_made f xs) (f x)
+  where
+    go : (o p q : Option B) → first_of (first_of (o ∷ p ∷ []) ∷ q ∷ [])
+        ≡ first_of (o ∷ first_of (p ∷ q ∷ []) ∷ [])
+    go None None None = refl
+    go None None (Some y) = refl
+    go None (Some x) q = refl
+    go (Some x) p q = refl
+
+-- of lists one behind the other
+pub last_flat : {S A B : Type 0} (f : A → Option B) (k : S → List A) (xs : List S)
+    → last_made f (flat_map k xs) ≡ last_made (λ x. last_made f (k x)) xs
+last_flat f k [] = refl
+last_flat {B = B} f k (x ∷ xs) =
+    last_both f (k x) (flat_map k xs) ∙ ap (λ (o : Option B). first_of (o ∷ last_made f (k x) ∷ [])) (last_flat f k xs)
+
+pub last_only : {A B : Type 0} (f : A → Option B) (w : A) (xs : List A) → Among w xs
+    → ((x : A) → Among x xs → (f x ≡ None) ⊎ (x ≡ w)) → last_made f xs ≡ f w
+last_only f w [] m each = absurd m
+last_only {A} {B} f w (x ∷ xs) m each =
+    go m (each x (inl refl)) (rest xs (λ y n. each y (inr n))) (λ n. last_only f w xs n (λ y o. each y (inr o)))
+  where
+    same_twice : (o : Option B) → first_of (o ∷ o ∷ []) ≡ o
+    same_twice None = refl
+    same_twice (Some y) = refl
+
+    rest : (ys : List A) → ((y : A) → Among y ys → (f y ≡ None) ⊎ (y ≡ w))
+        → (last_made f ys ≡ None) ⊎ (last_made f ys ≡ f w)
+    rest [] all = inl refl
+    rest (y ∷ ys) all = pick (all y (inl refl)) (rest ys (λ z n. all z (inr n)))
+      where
+        pick : (f y ≡ None) ⊎ (y ≡ w) → (last_made f ys ≡ None) ⊎ (last_made f ys ≡ f w)
+            → (last_made f (y ∷ ys) ≡ None) ⊎ (last_made f (y ∷ ys) ≡ f w)
+        pick (inl e) (inl h) = inl (ap₂ (λ (a b : Option B). first_of (a ∷ b ∷ [])) h e)
+        pick (inl e) (inr h) =
+            inr (ap₂ (λ (a b : Option B). first_of (a ∷ b ∷ [])) h e ∙ before_none (f w))
+        pick (inr e) (inl h) =
+            inr (ap₂ (λ (a b : Option B). first_of (a ∷ b ∷ [])) h (ap f e) ∙ only_one (f w))
+        pick (inr e) (inr h) =
+            inr (ap₂ (λ (a b : Option B). first_of (a ∷ b ∷ [])) h (ap f e) ∙ same_twice (f w))
+
+    go : Among w (x ∷ xs) → (f x ≡ None) ⊎ (x ≡ w) → (last_made f xs ≡ None) ⊎ (last_made f xs ≡ f w)
+        → (Among w xs → last_made f xs ≡ f w) → last_made f (x ∷ xs) ≡ f w
+    go n (inr e) (inl h) ih = ap₂ (λ (a b : Option B). first_of (a ∷ b ∷ [])) h (ap f e) ∙ only_one (f w)
+    go n (inr e) (inr h) ih = ap₂ (λ (a b : Option B). first_of (a ∷ b ∷ [])) h (ap f e) ∙ same_twice (f w)
+    go (inl p) (inl e) (inl h) ih =
+        ap₂ (λ (a b : Option B). first_of (a ∷ b ∷ [])) h e ∙ sym e ∙ ap f (sym p)
+    go (inl p) (inl e) (inr h) ih =
+        ap₂ (λ (a b : Option B). first_of (a ∷ b ∷ [])) h e ∙ before_none (f w)
+    go (inr n) (inl e) s ih =
+        ap₂ (λ (a b : Option B). first_of (a ∷ b ∷ [])) (ih n) e
+        ∙ before_none (f w)

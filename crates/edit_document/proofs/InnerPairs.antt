@@ -14,7 +14,7 @@ use Rattle.edit_document.specs.Tree.{is_value_at}
 use Rattle.edit_document.specs.Written.{Valued, values}
 use Rattle.edit_document.proofs.LineEntries.{flat_among}
 use Rattle.edit_document.proofs.ToldPairs.{one_told}
-use Rattle.edit_document.proofs.OutsideValues.{among_flat, value_table}
+use Rattle.edit_document.proofs.TablePairs.{among_flat, value_table}
 use Rattle.edit_document.proofs.SamePlace.{same_step_self, same_place_is}
 use Rattle.edit_document.proofs.UniqueValues.{values_unique, listed_value}
 

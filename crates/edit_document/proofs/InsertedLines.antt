@@ -1,17 +1,19 @@
--- What inserting a member writes where its table stands in no value.
+-- What inserting a member writes where its table is written as no value.
 use Rattle.std.proofs.Common.{◌≡◌, ℕ, Bool, true, false, cond, List, [], ◌∷◌, ◌++◌, map, length, Option, Some, None, option_map, refl, sym, ap, ap₂, ◌∙◌}
 use Rattle.std.specs.Prelude.{Result, Ok, Err, IfOk, not, ◌&&◌, is_some, unwrap_or, codes}
 use Rattle.edit_syntax.specs.Grammar.{Statement, pair, header, element_header, Text}
 use Rattle.edit_syntax.proofs.Members.{Among}
 use Rattle.edit_document.specs.declared.locate.Entry.{Entry}
+use Rattle.edit_document.specs.declared.inner.Inner.{Inner}
+use Rattle.edit_document.specs.Inner.{inner_of}
 use Rattle.edit_document.specs.Assertions.{Place, resolved}
-use Rattle.edit_document.specs.EditBytes.{Splice, put_before, before, first_of, first_made, last_made, new_line, is_pair, is_own, in_section, front_to, dotted_pair, in_dotted, in_super, at_start, inserted}
+use Rattle.edit_document.specs.EditBytes.{Splice, put_before, before, first_of, first_made, last_made, new_line, is_pair, is_own, in_inline, in_section, in_inner_dotted, front_to, dotted_pair, in_dotted, in_super, at_start, inserted}
 use Rattle.edit_document.specs.Entries.{front_of, entry_of}
 use Rattle.edit_document.specs.NewItems.{NewValue, new_pair}
-use Rattle.edit_document.specs.Spots.{key_to, section_text, own_entry, dotted_entry, through_entry, IsOutside}
-use Rattle.edit_document.specs.Statements.{Stated, stated, behind_part, front_parts, Paired, paired_statement, Headed, headed_statement}
+use Rattle.edit_document.specs.Spots.{key_to, section_text, own_entry, dotted_entry, through_entry}
+use Rattle.edit_document.specs.Statements.{Stated, stated, behind_part, front_parts, Paired, paired_statement, inner_pairs, Headed, headed_statement}
 use Rattle.edit_document.proofs.Choices.{Alike, before_none, first_flat, first_none, last_none, first_chosen, last_chosen}
-use Rattle.edit_document.proofs.OutsideValues.{no_inline, no_inner}
+use Rattle.edit_document.proofs.InnerRows.{InnerRow, inner_splice, inner_chosen, inner_nothing}
 
 -- ---- the rows, statement by statement
 
@@ -134,18 +136,23 @@ through_alike place m = record {
 
 -- ---- the rows of a text
 
-module _ (form : Text) (place : Place) (name : List ℕ) (v : NewValue) (out : IsOutside form place)
-    (es : List Entry) (all : es ≡ map (entry_of place) (stated form)) where
+-- of the pair that is written
+pub row_of : (form : Text) (place : Place) (name : List ℕ) (v : NewValue) (m : List ℕ) → in_inline place m form ≡ None
+    → m ≡ new_pair name v [] → in_inline place (new_pair name v []) form ≡ None
+row_of form place name v m none is = ap (λ (x : List ℕ). in_inline place x form) (sym is) ∙ none
+
+module _ (form : Text) (place : Place) (name : List ℕ) (v : NewValue) (no_table : in_inline place (new_pair name v []) form ≡ None)
+    (inner : Option Inner) (found : inner ≡ last_made (inner_of place) (inner_pairs form)) (es : List Entry) (all : es ≡ map (entry_of place) (stated form)) where
   abbrev rows : Option Splice → Option Splice → Option Splice → Option Splice → Option Splice → Splice
   rows a b c d e = unwrap_or (first_of (a ∷ b ∷ c ∷ d ∷ e ∷ [])) (at_start (new_pair name v []) form)
 
   outside : inserted place name v form
-      ≡ rows None (in_section place (new_pair name v []) form) (in_dotted place (new_pair name v []) form) None
-      (in_super place (new_pair name v []) form)
+      ≡ rows None (in_section place (new_pair name v []) form) (in_dotted place (new_pair name v []) form)
+      (in_inner_dotted place (new_pair name v []) form) (in_super place (new_pair name v []) form)
   outside =
-      ap₂ (λ (a d : Option Splice). rows a (in_section place (new_pair name v []) form)
-      (in_dotted place (new_pair name v []) form) d (in_super place (new_pair name v []) form))
-      (no_inline form place (new_pair name v []) out) (no_inner form place (new_pair name v []) out)
+      ap (λ (a : Option Splice). rows a (in_section place (new_pair name v []) form)
+      (in_dotted place (new_pair name v []) form) (in_inner_dotted place (new_pair name v []) form)
+      (in_super place (new_pair name v []) form)) no_table
 
   -- behind the last statement of the table's own
   pub own_row : (e : Entry) → last_made own_entry es ≡ Some e
@@ -162,7 +169,8 @@ module _ (form : Text) (place : Place) (name : List ℕ) (v : NewValue) (out : I
         ch.among,
         sym r.1,
         outside
-            ∙ ap (λ (b : Option Splice). rows None b (in_dotted place m form) None (in_super place m form)) made,
+            ∙ ap (λ (b : Option Splice). rows None b (in_dotted place m form)
+            (in_inner_dotted place m form) (in_super place m form)) made,
       )
 
   no_section : last_made own_entry es ≡ None → in_section place (new_pair name v []) form ≡ None
@@ -190,7 +198,8 @@ module _ (form : Text) (place : Place) (name : List ℕ) (v : NewValue) (out : I
         r.0,
         r.2,
         outside
-            ∙ ap₂ (λ (b c : Option Splice). rows None b c None (in_super place m form)) (no_section none) made,
+            ∙ ap₂ (λ (b c : Option Splice). rows None b c (in_inner_dotted place m form) (in_super place m form))
+            (no_section none) made,
       )
 
   no_dotted : last_made dotted_entry es ≡ None → in_dotted place (new_pair name v []) form ≡ None
@@ -199,16 +208,40 @@ module _ (form : Text) (place : Place) (name : List ℕ) (v : NewValue) (out : I
       last_none dotted_entry (dotted_splice place m) (entry_of place) (dotted_alike place m) (stated form)
       (ap (last_made dotted_entry) (sym all) ∙ h)
 
+  -- behind the last pair, of an inline table, whose key goes on behind the table
+  pub inner_row : (e : Inner) → last_made own_entry es ≡ None → last_made dotted_entry es ≡ None
+      → inner ≡ Some e → (r : InnerRow place form (new_pair name v []) e)
+      × (inserted place name v form ≡ inner_splice r.pair r.spot (new_pair name v []))
+  inner_row e none no_pair h =
+      let m = new_pair name v [] in
+      let r = inner_chosen form place m e (sym found ∙ h) in (
+        r,
+        outside
+            ∙ ap₂ (λ (b c : Option Splice). rows None b c (in_inner_dotted place m form) (in_super place m form))
+            (no_section none) (no_dotted no_pair)
+            ∙ ap (λ (d : Option Splice). rows None None None d (in_super place m form)) r.row,
+      )
+
+  no_lines : last_made own_entry es ≡ None → last_made dotted_entry es ≡ None → inner ≡ None
+      → inserted place name v form ≡ rows None None None None (in_super place (new_pair name v []) form)
+  no_lines none no_pair no_inner =
+      let m = new_pair name v [] in
+      outside
+      ∙ ap₂ (λ (b c : Option Splice). rows None b c (in_inner_dotted place m form) (in_super place m form))
+      (no_section none) (no_dotted no_pair)
+      ∙ ap (λ (d : Option Splice). rows None None None d (in_super place m form))
+      (inner_nothing form place m (sym found ∙ no_inner))
+
   flat : (m : List ℕ) → in_super place m form ≡ first_made (through_splice place m) (stated form)
   flat m = first_flat _ headed_statement (stated form)
 
   -- before the first header whose key goes on behind the table
   pub through_row : (e : Entry) → last_made own_entry es ≡ None → last_made dotted_entry es ≡ None
-      → first_made through_entry es ≡ Some e
+      → inner ≡ None → first_made through_entry es ≡ Some e
       → (s : Stated) × Among s (stated form) × (e ≡ entry_of place s)
       × (spot : List ℕ) × (front_of place s ≡ Some spot)
       × (inserted place name v form ≡ through_section s (new_pair name v []) spot)
-  through_row e none no_pair h =
+  through_row e none no_pair no_inner h =
       let m = new_pair name v [] in
       let ch = first_chosen through_entry (through_splice place m) (entry_of place) (through_alike place m)
       (stated form) e (ap (first_made through_entry) (sym all) ∙ h) in
@@ -221,24 +254,20 @@ module _ (form : Text) (place : Place) (name : List ℕ) (v : NewValue) (out : I
         sym r.3,
         r.0,
         r.2,
-        outside
-            ∙ ap₂ (λ (b c : Option Splice). rows None b c None (in_super place m form)) (no_section none) (no_dotted no_pair)
-            ∙ ap (λ (d : Option Splice). rows None None None None d) made,
+        no_lines none no_pair no_inner ∙ ap (λ (d : Option Splice). rows None None None None d) made,
       )
 
   -- at the start of the text
-  pub start_row : last_made own_entry es ≡ None → last_made dotted_entry es ≡ None
+  pub start_row : last_made own_entry es ≡ None → last_made dotted_entry es ≡ None → inner ≡ None
       → first_made through_entry es ≡ None
       → inserted place name v form ≡ at_start (new_pair name v []) form
-  start_row none no_pair h =
+  start_row none no_pair no_inner h =
       let m = new_pair name v [] in
       let made : in_super place m form ≡ None =
       flat m
       ∙ first_none through_entry (through_splice place m) (entry_of place) (through_alike place m) (stated form)
       (ap (first_made through_entry) (sym all) ∙ h) in
-      outside
-      ∙ ap₂ (λ (b c : Option Splice). rows None b c None (in_super place m form)) (no_section none) (no_dotted no_pair)
-      ∙ ap (λ (d : Option Splice). rows None None None None d) made
+      no_lines none no_pair no_inner ∙ ap (λ (d : Option Splice). rows None None None None d) made
 
 -- ---- what the code promises
 

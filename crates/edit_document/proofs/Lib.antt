@@ -109,7 +109,6 @@ pub mod Choices
 pub mod StatementSpots
 pub mod InsertedLines
 pub mod EntryChoices
-pub mod OutsideValues
 -- An entry replaced
 pub mod EntryParts
 pub mod LonePairs
@@ -119,9 +118,14 @@ pub mod ToldPairs
 pub mod NamedMembers
 pub mod LineEntries
 pub mod InnerPairs
+pub mod ClosestPairs
+pub mod ClosestTables
+pub mod TablePairs
 pub mod ValueAssertions
 pub mod ValueSpots
 pub mod InlineRows
+pub mod InnerTurns
+pub mod InnerRows
 -- Inside an array or an inline table
 pub mod SlotLaws
 pub mod SlotTurns

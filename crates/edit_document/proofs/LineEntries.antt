@@ -23,7 +23,7 @@ use Rattle.edit_document.proofs.EntryParts.{last_part, key_ends, within_part, wi
 use Rattle.edit_document.proofs.KeyWays.{key_are, pair_led}
 use Rattle.edit_document.proofs.LonePairs.{stands_out}
 use Rattle.edit_document.proofs.ToldPairs.{nothing_told, one_told}
-use Rattle.edit_document.proofs.OutsideValues.{among_flat}
+use Rattle.edit_document.proofs.TablePairs.{among_flat}
 use Rattle.edit_document.proofs.StatedLines.{value_first}
 
 -- ---- the entry

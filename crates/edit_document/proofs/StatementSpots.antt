@@ -109,7 +109,7 @@ behind_starts resolve place table n (d ∷ ds) rest whole spot h ends e =
         subst (λ (s : List ℕ). Ends whole s × Starts s) is (ends, dotted_start d ds rest h.0.0)
     go false k ih = ih k
 
-key_fronts : (bytes : List ℕ) (k : Key) (rest : List ℕ) (resolve : Place → Place) (place table : Place)
+pub key_fronts : (bytes : List ℕ) (k : Key) (rest : List ℕ) (resolve : Place → Place) (place table : Place)
     (spot : List ℕ) → IsKey k → Ends bytes (key k rest)
     → behind_part resolve place table (front_parts (parts k rest)) ≡ Some spot
     → IsFront bytes (key k rest) spot

@@ -39,3 +39,4 @@ pub mod Pieces
 pub mod EntrySpots
 pub mod Lost
 pub mod RemoveText
+pub mod Inner

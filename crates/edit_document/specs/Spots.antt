@@ -1,15 +1,13 @@
 -- Spots of a text at which other bytes may be written.
-use Rattle.std.specs.Prelude.{◌≡◌, ℕ, ◌-◌, false, not, ◌&&◌, if◌then◌else◌, List, [], ◌∷◌, ◌++◌, length, Option, Some, None, is_some, codes}
+use Rattle.std.specs.Prelude.{◌≡◌, ℕ, ◌-◌, not, ◌&&◌, if◌then◌else◌, List, [], ◌∷◌, ◌++◌, length, Option, Some, None, is_some, codes}
 use Rattle.std.specs.Str.{IsCharBoundary}
 use Rattle.edit_syntax.specs.Characters.{line_feed}
 use Rattle.edit_syntax.specs.Strings.{◌·◌, key as key_text}
-use Rattle.edit_syntax.specs.Grammar.{Text}
 use Rattle.edit_document.specs.declared.locate.Entry.{Entry}
 use Rattle.edit_document.specs.Assertions.{Place}
 use Rattle.edit_document.specs.Statements.{Stated}
 use Rattle.edit_document.specs.EditBytes.{before}
 use Rattle.edit_document.specs.Entries.{key_of, front_of}
-use Rattle.edit_document.specs.Tree.{is_value_at}
 
 -- the text ends so, and may be cut before it
 pub record IsSpot (bytes spot : List ℕ) : Type 0 where
@@ -50,7 +48,3 @@ dotted_entry e = if not e.is_header && is_some e.front then Some e else None
 -- a header whose key goes on behind the table
 abbrev pub through_entry : Entry → Option Entry
 through_entry e = if e.is_header && is_some e.front then Some e else None
-
--- no value stands at the place, and none above it
-abbrev pub IsOutside : Text → Place → Type 0
-IsOutside form place = (above below : Place) → place ≡ above ++ below → is_value_at form above ≡ false

@@ -1,13 +1,19 @@
 //! A member more in an inline table.
-ghost use Rattle.std.specs.Prelude.{◌≡◌, ℕ, List, ◌++◌, ◌∷◌, MatchResult, IfOk, IfErr, Some, codes, length, string_bytes};
+ghost use Rattle.std.specs.Prelude.{◌≡◌, ◌≤◌, ℕ, List, [], ◌++◌, ◌∷◌, MatchResult, MatchOption, IfOk, IfErr, None, Some, codes, drop, length, string_bytes};
 ghost use Rattle.edit_base.specs.Errors.{IsMemory};
 ghost use Rattle.edit_syntax.specs.Characters.{right_brace};
-ghost use Rattle.edit_syntax.specs.Grammar.{Between, inline, Members, no_members};
-ghost use Rattle.edit_document.specs.EditBytes.{Splice, put_before, with_splice, behind_last, inline_grown};
+ghost use Rattle.edit_syntax.specs.Grammar.{Between, inline, Members, no_members, Text};
+ghost use Rattle.edit_document.specs.EditBytes.{Splice, put_before, with_splice, behind_last, inline_grown, in_inline, inserted_text};
+ghost use Rattle.edit_document.specs.Items.{place_seen};
+ghost use Rattle.edit_document.specs.NewItems.{NewValue as Meant, new_pair};
+ghost use Rattle.edit_document.specs.Ranges.{HasTable};
 ghost use Rattle.edit_document.specs.SlotTexts.{TableAt};
 ghost use Rattle.edit_document.specs.Spots.{IsSpot};
+ghost use Rattle.edit_document.specs.Supported.{IsManifest};
 
+use crate::document::Document;
 use crate::inside::{begins, behind_one, past_slot};
+use crate::place::Step;
 use crate::spots::{with_swap, with_text};
 use edit_base::errors::CargoResult;
 use edit_syntax::read::gaps::past_gap;
@@ -109,4 +115,53 @@ pub(crate) fn with_member_in(
     }
     let last = past_last(alloc, text, table)?;
     with_lead(alloc, text, last.len(), ", ", member)
+}
+
+/// What stands from a position on.
+pub(crate) fn from_start(s: &[u8], start: usize) -> &[u8]
+    requires { start ≤ length s.now }
+    ensures { result.now ≡ drop start s.now }
+{
+    &s[start..]
+}
+
+impl Document {
+    /// Where the inline table of a place begins, or `None` where none is written there.
+    pub(crate) fn table_start(&self, place: &[Step]) -> Option<usize>
+        ensures { (form : Text) → IsManifest self.now.bytes form
+            → HasTable form (place_seen place.now) result }
+    {
+        self.has_form();
+        let (start, _) = self.value_range(place)?;
+        let item = self.item(place)?;
+        if item.is_inline_table() {
+            Some(start)
+        } else {
+            None
+        }
+    }
+
+    /// The document's text with a member more in the inline table at a place, or `None` where none is written
+    /// there.
+    pub(crate) fn with_inline_member(
+        &self,
+        alloc: Global,
+        place: &[Step],
+        pair: &str,
+    ) -> CargoResult<Option<String>>
+        ensures text { (form : Text) (name : List ℕ) (v : Meant) → IsManifest self.now.bytes form
+            → pair.now ≡ new_pair name v [] → IfOk result (λ o. MatchOption o
+            (in_inline (place_seen place.now) pair.now form ≡ None)
+            (λ t. string_bytes t ≡ inserted_text (place_seen place.now) name v form)) }
+        ensures refused { IfErr result IsMemory }
+    {
+        self.has_form();
+        let Some(start) = self.table_start(place) else {
+            return Ok(None);
+        };
+        let text = self.as_str();
+        let table = from_start(text.as_bytes(), start);
+        let grown = with_member_in(alloc, text, table, pair)?;
+        Ok(Some(grown))
+    }
 }

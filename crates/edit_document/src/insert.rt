@@ -1,5 +1,5 @@
-//! A member more in a table that stands in lines.
-ghost use Rattle.std.specs.Prelude.{◌≡◌, ◌≤◌, ◌&&◌, not, is_some, ◌⊎◌, ◌++◌, [], ℕ, List, None, Some, MatchOption, IfOk, IfErr, IsTrue, codes, drop, length, string_bytes, ◌+◌};
+//! A member more in a table.
+ghost use Rattle.std.specs.Prelude.{◌≡◌, ◌&&◌, not, is_some, ◌⊎◌, ◌++◌, [], ℕ, List, None, Some, IfOk, IfErr, codes, string_bytes, length, ◌≤◌, ◌+◌};
 ghost use Rattle.edit_base.specs.Errors.{IsMemory};
 ghost use Rattle.edit_base.specs.declared.errors.Error.TheVariants.{EditRefused};
 ghost use Rattle.edit_syntax.specs.Grammar.{Text};
@@ -7,18 +7,18 @@ ghost use Rattle.edit_syntax.specs.Strings.{◌·◌};
 ghost use Rattle.edit_document.specs.Assertions.{Place, at, key as key_step};
 ghost use Rattle.edit_document.specs.EditBytes.{first_made, last_made, put_before, new_line, at_start, with_splice, in_inline, inserted_text};
 ghost use Rattle.edit_document.specs.Entries.{entry_of, front_of};
+ghost use Rattle.edit_document.specs.Inner.{inner_of};
 ghost use Rattle.edit_document.specs.Items.{place_seen};
 ghost use Rattle.edit_document.specs.Meant.{Inserted, InsertFails};
 ghost use Rattle.edit_document.specs.NewItems.{NewValue as Meant, new_pair};
 ghost use Rattle.edit_document.specs.NewItemViews.{value_seen};
-ghost use Rattle.edit_document.specs.Ranges.{HasTable};
 ghost use Rattle.edit_document.specs.Shown.{tree_of};
-ghost use Rattle.edit_document.specs.Spots.{HasSpots, IsOutside, key_to, section_text, own_entry, dotted_entry, through_entry};
-ghost use Rattle.edit_document.specs.Statements.{Stated};
+ghost use Rattle.edit_document.specs.Spots.{HasSpots, key_to, section_text, own_entry, dotted_entry, through_entry};
+ghost use Rattle.edit_document.specs.Statements.{Stated, inner_pairs};
 ghost use Rattle.edit_document.specs.Supported.{IsManifest};
 
 use crate::document::Document;
-use crate::inline::with_member_in;
+use crate::inner::{Inner, with_inner};
 use crate::locate::{Entry, entries};
 use crate::new_item::{NewValue, push_member};
 use crate::place::Step;
@@ -123,10 +123,19 @@ fn with_first(alloc: Global, text: &str, pair: &str) -> CargoResult<String>
     with_text(alloc, text, past_mark(text.as_bytes()).len(), line.as_str())
 }
 
-/// The text with a line more that says this pair, in a table that stands in no value.
-fn with_pair(alloc: Global, text: &str, place: &[Step], pair: &str) -> CargoResult<String>
+/// The text with this pair more, in a table that was written as no value: `inner` is the last pair of an
+/// inline table whose key goes on behind the place.
+fn with_pair(
+    alloc: Global,
+    text: &str,
+    place: &[Step],
+    inner: Option<Inner>,
+    pair: &str,
+) -> CargoResult<String>
     ensures text { (form : Text) (name : List ℕ) (v : Meant) → IsManifest text.now form
-        → IsOutside form (place_seen place.now) → pair.now ≡ new_pair name v []
+        → in_inline (place_seen place.now) pair.now form ≡ None
+        → inner ≡ last_made (inner_of (place_seen place.now)) (inner_pairs form)
+        → pair.now ≡ new_pair name v []
         → IfOk result (λ t. string_bytes t ≡ inserted_text (place_seen place.now) name v form) }
     ensures refused { IfErr result IsMemory }
 {
@@ -137,6 +146,9 @@ fn with_pair(alloc: Global, text: &str, place: &[Step], pair: &str) -> CargoResu
     }
     if let Some(entry) = last_dotted(found) {
         return with_dotted(alloc, text, entry, pair);
+    }
+    if let Some(inner) = inner {
+        return with_inner(alloc, text, inner, pair);
     }
     if let Some(entry) = first_through(found) {
         return with_header(alloc, text, entry, pair);
@@ -154,96 +166,39 @@ fn pair_text(alloc: Global, name: &str, value: &NewValue) -> CargoResult<String>
     Ok(out)
 }
 
-/// What stands from a position on.
-fn from_start(s: &[u8], start: usize) -> &[u8]
-    requires { start ≤ length s.now }
-    ensures { result.now ≡ drop start s.now }
-{
-    &s[start..]
-}
-
 impl Document {
-    /// Where the inline table of a place begins, or `None` where none is written there.
-    fn table_start(&self, place: &[Step]) -> Option<usize>
-        ensures { (form : Text) → IsManifest self.now.bytes form
-            → HasTable form (place_seen place.now) result }
-    {
-        self.has_form();
-        let (start, _) = self.value_range(place)?;
-        let item = self.item(place)?;
-        if item.is_inline_table() {
-            Some(start)
-        } else {
-            None
-        }
-    }
-
-    /// The document's text with a member more in the inline table at a place, or `None` where none is written
-    /// there.
-    fn with_inline_member(
-        &self,
-        alloc: Global,
-        place: &[Step],
-        pair: &str,
-    ) -> CargoResult<Option<String>>
-        ensures text { (form : Text) (name : List ℕ) (v : Meant) → IsManifest self.now.bytes form
-            → pair.now ≡ new_pair name v [] → IfOk result (λ o. MatchOption o
-            (in_inline (place_seen place.now) pair.now form ≡ None)
-            (λ t. string_bytes t ≡ inserted_text (place_seen place.now) name v form)) }
-        ensures refused { IfErr result IsMemory }
-    {
-        self.has_form();
-        let Some(start) = self.table_start(place) else {
-            return Ok(None);
-        };
-        let text = self.as_str();
-        let table = from_start(text.as_bytes(), start);
-        let grown = with_member_in(alloc, text, table, pair)?;
-        Ok(Some(grown))
-    }
-
-    /// The document's text with a member more in a table that stands in no value.
-    pub(crate) fn with_line_member(
+    /// The document's text with a member more in the table at a place.
+    fn with_member(
         &self,
         alloc: Global,
         place: &[Step],
         key: &str,
         value: &NewValue,
     ) -> CargoResult<String>
-        requires outside { (form : Text) → IsManifest self.now.bytes form
-            → IsOutside form (place_seen place.now) }
         ensures text { IfOk result (λ t. (form : Text) → IsManifest self.now.bytes form → string_bytes t
             ≡ inserted_text (place_seen place.now) key.now (value_seen value.now) form) }
         ensures refused { IfErr result IsMemory }
     {
-        let pair = pair_text(alloc, key, value)?;
-        with_pair(alloc, self.as_str(), place, pair.as_str())
-    }
-
-    /// Whether no value stands at a place, and none above it.
-    pub(crate) fn is_outside(&self, place: &[Step]) -> bool
-        ensures outside { IsTrue result → (form : Text) → IsManifest self.now.bytes form
-            → IsOutside form (place_seen place.now) }
-    {
-        'ends: for end in 0..place.len() + 1 {
-            if self.value_range(&place[..end]).is_some() {
-                return false;
-            }
+        let written = pair_text(alloc, key, value)?;
+        let pair = written.as_str();
+        let inline = self.with_inline_member(alloc, place, pair)?;
+        if let Some(text) = inline {
+            return Ok(text);
         }
-        true
+        let inner = self.last_inner(alloc, place)?;
+        with_pair(alloc, self.as_str(), place, inner, pair)
     }
 
-    /// Adds a member to a table that stands in no value and has none of this name. After a refusal the
+    /// Adds a member to the table at a place, which has none of this name; every other byte stays. It is
+    /// refused, but for want of memory, only where the new text would not read as meant. After a refusal the
     /// document is as it was.
-    pub(crate) fn insert_line(
+    pub fn insert(
         &mut self,
         alloc: Global,
         place: &[Step],
         key: &str,
         value: &NewValue,
     ) -> CargoResult<()>
-        requires outside { (form : Text) → IsManifest self.old.bytes form
-            → IsOutside form (place_seen place.now) }
         requires absent { tree_of self.old (at (place_seen place.now) (key_step key.now)) ≡ None }
         ensures bytes { IfOk result (λ _. (form : Text) → IsManifest self.old.bytes form
             → self.new.bytes ≡ inserted_text (place_seen place.now) key.now (value_seen value.now) form) }
@@ -254,7 +209,7 @@ impl Document {
         ensures refused { IfErr result (λ e. IsMemory e ⊎ ((e ≡ EditRefused)
             × InsertFails (place_seen place.now) key.now (value_seen value.now) self.old.bytes)) }
     {
-        let text = self.with_line_member(alloc, place, key, value)?;
+        let text = self.with_member(alloc, place, key, value)?;
         self.take_inserted(alloc, text.as_str(), place, key, value)
     }
 }

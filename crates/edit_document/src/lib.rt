@@ -12,6 +12,7 @@ mod entry_part;
 mod grown;
 mod heads;
 mod inline;
+mod inner;
 mod insert;
 mod inside;
 pub mod item;
