@@ -13,6 +13,8 @@ mod entry_views;
 #[cfg(test)]
 mod inline_lines;
 #[cfg(test)]
+mod inserts;
+#[cfg(test)]
 mod keys;
 #[cfg(test)]
 mod literals;
