@@ -1,0 +1,111 @@
+//! The words of a call: steps, values and entries.
+ghost use Rattle.std.specs.Prelude.{IfOk};
+ghost use Rattle.edit_document.specs.NewItems.{IsEntry};
+ghost use Rattle.edit_document.specs.NewItemViews.{item_seen};
+
+use edit_document::{NewItem, NewValue, Step};
+use std::alloc::{AllocError, Global};
+
+/// Words that are taken one by one.
+#[derive(Drop)]
+pub struct Words<'a> {
+    words: &'a [String],
+    next: usize,
+}
+
+impl<'a> Words<'a> {
+    /// All of these words.
+    pub fn new(words: &'a [String]) -> Words<'a> {
+        Words { words, next: 0 }
+    }
+
+    /// The next word, empty behind the last one.
+    pub fn take(&mut self) -> &'a str {
+        match self.words.get(self.next) {
+            Some(word) => {
+                self.next += 1;
+                word.as_str()
+            }
+            None => "",
+        }
+    }
+
+    /// The number that the next word is, 0 where it is none.
+    fn take_number(&mut self) -> usize {
+        self.take().parse().unwrap_or(0)
+    }
+
+    /// The steps up to a word `=`: `.NAME` leads to a member, `#INDEX` to an element.
+    pub fn take_place(&mut self, alloc: Global) -> Result<Vec<Step>, AllocError> {
+        let mut place = Vec::new(alloc);
+        for _ in 0..self.words.len() {
+            let word = self.take();
+            match word.strip_prefix(".") {
+                Some(name) => place.push(Step::Key(String::from_str(alloc, name)?))?,
+                None => match word.strip_prefix("#") {
+                    Some(index) => place.push(Step::Index(index.parse().unwrap_or(usize::MAX)))?,
+                    None => return Ok(place),
+                },
+            }
+        }
+        Ok(place)
+    }
+
+    /// A value of a kind: `text` and a text, `truth` and `true` or `false`, `list`, a number and so many texts.
+    fn take_value_of(&mut self, alloc: Global, kind: &str) -> Result<NewValue, AllocError> {
+        match kind {
+            "truth" => Ok(NewValue::Bool(self.take() == "true")),
+            "list" => {
+                let mut texts = Vec::new(alloc);
+                for _ in 0..self.take_number() {
+                    texts.push(String::from_str(alloc, self.take())?)?;
+                }
+                Ok(NewValue::Strings(texts))
+            }
+            _ => Ok(NewValue::Str(String::from_str(alloc, self.take())?)),
+        }
+    }
+
+    /// A value, behind its kind.
+    pub fn take_value(&mut self, alloc: Global) -> Result<NewValue, AllocError> {
+        let kind = self.take();
+        self.take_value_of(alloc, kind)
+    }
+
+    /// A number and so many names, each with a value behind it.
+    fn take_members(&mut self, alloc: Global) -> Result<Vec<(String, NewValue)>, AllocError> {
+        let mut members = Vec::new(alloc);
+        for _ in 0..self.take_number() {
+            let name = String::from_str(alloc, self.take())?;
+            members.push((name, self.take_value(alloc)?))?;
+        }
+        Ok(members)
+    }
+
+    /// An entry: `table` and its members, `dotted`, or a value.
+    pub fn take_item(&mut self, alloc: Global) -> Result<NewItem, AllocError>
+        ensures { IfOk result (λ item. IsEntry (item_seen item)) }
+    {
+        let kind = self.take();
+        match kind {
+            "table" => Ok(NewItem::Inline {
+                members: self.take_members(alloc)?,
+                dotted: false,
+            }),
+            "dotted" => dotted_item(alloc),
+            _ => Ok(NewItem::Value(self.take_value_of(alloc, kind)?)),
+        }
+    }
+}
+
+/// The entry of the one member `workspace`, true.
+fn dotted_item(alloc: Global) -> Result<NewItem, AllocError>
+    ensures { IfOk result (λ item. IsEntry (item_seen item)) }
+{
+    let mut members = Vec::new(alloc);
+    members.push((String::from_str(alloc, "workspace")?, NewValue::Bool(true)))?;
+    Ok(NewItem::Inline {
+        members,
+        dotted: true,
+    })
+}
