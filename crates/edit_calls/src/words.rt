@@ -51,7 +51,8 @@ impl<'a> Words<'a> {
         Ok(place)
     }
 
-    /// A value of a kind: `text` and a text, `truth` and `true` or `false`, `list`, a number and so many texts.
+    /// A value of a kind: `text` and a text, `truth` and `true` or `false`, `list`, a number and so many
+    /// texts.
     fn take_value_of(&mut self, alloc: Global, kind: &str) -> Result<NewValue, AllocError> {
         match kind {
             "truth" => Ok(NewValue::Bool(self.take() == "true")),
