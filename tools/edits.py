@@ -91,14 +91,24 @@ class Said:
     def __init__(self, text, crate):
         self.text, self.lines = text, text.rstrip("\n").split("\n")
         self.proved, self.own, self.taken, self.other, self.waits = set(), {}, {}, {}, {}
-        for line in self.lines:
+        for at, line in enumerate(self.lines):
             function = re.match(r"fn %s::(\S+): (.*)" % crate, line)
             proof = re.match(r"(?:\./)?proofs/(\S+)/(?:Answers|Invariants|Proof)\.antt:\d+:\d+: error: (.*)", line)
             if function:
                 self.of_function(plain(function[1]), function[2], crate)
             elif proof and not FOLLOWS.search(proof[2]):
-                kind = self.taken if TAKEN_AWAY.search(proof[2]) else self.own
-                kind.setdefault(plain(proof[1].replace("/", "::")), proof[2])
+                whole = " ".join([proof[2], *self.behind(at)])
+                kind = self.taken if TAKEN_AWAY.search(whole) else self.own
+                kind.setdefault(plain(proof[1].replace("/", "::")), whole)
+
+    def behind(self, at):
+        """The lines that go on with what is told at a line, which begin with two spaces."""
+        more = []
+        for line in self.lines[at + 1:]:
+            if not line.startswith("  "):
+                break
+            more.append(line.strip())
+        return more
 
     def of_function(self, name, said, crate):
         if said == "no holes" or said.startswith("depends on a hole in"):
