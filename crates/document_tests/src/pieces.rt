@@ -20,13 +20,14 @@ a = \"y\" # keep\n|value a y|a = 'x' # keep\n";
 /// The pieces of a document.
 fn pieces_of(alloc: Global, document: &Document) -> Result<String, Fail> {
     let mut out = String::new(alloc);
-    for number in 0..document.pieces() + 1 {
-        if let Some(piece) = document.piece(number) {
-            if number > 0 {
-                out.push_str("^")?;
-            }
-            out.push_str(piece)?;
+    for number in 0..document.pieces() {
+        if number > 0 {
+            out.push_str("^")?;
         }
+        out.push_str(document.piece(number).unwrap_or("none"))?;
+    }
+    if document.piece(document.pieces()).is_some() {
+        out.push_str("^one more")?;
     }
     Ok(out)
 }
