@@ -1,7 +1,10 @@
 //! Tables of rows, in which the tests of the other crates are written: each table is one text.
 #![tactic(auto)]
 
-ghost use Rattle.std.specs.Prelude.{◌≡◌, ◌↔◌, IsOk, IfOk, IsOkAnd, string_bytes};
+ghost use Rattle.std.specs.Prelude.{◌≡◌, ◌↔◌, ◌<◌, [], IsOk, IfOk, IfErr, IsOkAnd, string_bytes, get_or};
+ghost use Rattle.std.specs.List.{AllByRecursion};
+ghost use Rattle.edit_base.specs.Errors.{number_of};
+ghost use Rattle.test_rows.specs.Rows.{before, behind, Holds, IsTold, rows, fields, lines_in};
 
 use edit_base::{CargoResult, Error};
 use std::alloc::Global;
@@ -32,8 +35,11 @@ pub const SEMICOLONS: Ends = Ends {
     field: '@',
 };
 
-/// The text before the first end of a field, and the text behind it.
-fn cut(text: &str, end: char) -> (&str, &str) {
+/// The text before the first end of a field, and the text behind it: twice the whole text where it has none.
+fn cut(text: &str, end: char) -> (&str, &str)
+    ensures before { end < 128 → result.0.now ≡ before end text.now }
+    ensures behind { end < 128 → result.1.now ≡ behind end text.now }
+{
     text.split_once(end).unwrap_or((text, text))
 }
 
@@ -56,8 +62,10 @@ pub fn rows_hold<F: Fn(Global, &str, &str) -> Result<String, Fail> + Drop>(
     answer: F,
 ) -> Result<(), Fail>
     requires { F.IsAlwaysCallable answer }
+    ensures { ends.row < 128 → ends.field < 128 → IsOk result
+        → AllByRecursion (Holds (F.post answer alloc) ends.field) (rows ends.row table.now) }
 {
-    for row in table.split(ends.row) {
+    'rows: for row in table.split(ends.row) {
         let (want, rest) = cut(row, ends.field);
         let (call, argument) = cut(rest, ends.field);
         let seen = answer(alloc, call, argument)?;
@@ -67,7 +75,9 @@ pub fn rows_hold<F: Fn(Global, &str, &str) -> Result<String, Fail> + Drop>(
 }
 
 /// A field of a row, from 0; empty where there is none.
-pub fn field(row: &str, n: usize) -> &str {
+pub fn field(row: &str, n: usize) -> &str
+    ensures { result.now ≡ get_or (fields row.now) n [] }
+{
     row.split('|').nth(n).unwrap_or("")
 }
 
@@ -79,18 +89,34 @@ pub fn text(alloc: Global, text: &str) -> Result<String, Fail>
 }
 
 /// The lines of a field, which stand with `@` for a line's end.
-pub fn unfolded(alloc: Global, field: &str) -> Result<String, Fail> {
-    Ok(field.replace(alloc, "@", "\n")?)
+pub fn unfolded(alloc: Global, field: &str) -> Result<String, Fail>
+    ensures { IfOk result (λ s. string_bytes s ≡ lines_in field.now) }
+{
+    let lines: Vec<&str> = field.split('@').collect(alloc)?;
+    Ok(lines.join(alloc, "\n")?)
 }
 
 /// A refusal's number and text, with a space between them.
-pub fn told(alloc: Global, error: Error) -> Result<String, Fail> {
-    Ok(format!(in alloc; "{} {error}", error.number())?)
+fn numbered(alloc: Global, error: &Error) -> Result<String, Fail>
+    ensures { IfOk result (λ s. IsTold (number_of error.now) (string_bytes s)) }
+{
+    let said = format!(in alloc; "{error}")?;
+    let mut told = format!(in alloc; "{} ", error.number())?;
+    told.push_str(said.as_str())?;
+    Ok(told)
+}
+
+/// A refusal's number and text, with a space between them.
+pub fn told(alloc: Global, error: Error) -> Result<String, Fail>
+    ensures { IfOk result (λ s. IsTold (number_of error) (string_bytes s)) }
+{
+    numbered(alloc, &error)
 }
 
 /// A word where a call succeeded, or what its refusal says.
 pub fn word<T: Drop>(alloc: Global, answer: CargoResult<T>, success: &str) -> Result<String, Fail>
-    ensures { IsOk answer → IfOk result (λ s. string_bytes s ≡ success.now) }
+    ensures success { IsOk answer → IfOk result (λ s. string_bytes s ≡ success.now) }
+    ensures refused { IfErr answer (λ e. IfOk result (λ s. IsTold (number_of e) (string_bytes s))) }
 {
     match answer {
         Ok(_) => text(alloc, success),
@@ -100,7 +126,8 @@ pub fn word<T: Drop>(alloc: Global, answer: CargoResult<T>, success: &str) -> Re
 
 /// A text that a call made, or what its refusal says.
 pub fn made(alloc: Global, answer: CargoResult<String>) -> Result<String, Fail>
-    ensures { IfOk answer (λ t. IsOkAnd result (λ s. s ≡ t)) }
+    ensures text { IfOk answer (λ t. IsOkAnd result (λ s. s ≡ t)) }
+    ensures refused { IfErr answer (λ e. IfOk result (λ s. IsTold (number_of e) (string_bytes s))) }
 {
     match answer {
         Ok(text) => Ok(text),
