@@ -11,8 +11,8 @@ use test_rows::{LINES, rows_hold};
 const FULL: &str = "{version=1.2;optional=true;features=[x,y,z";
 
 /// Values, a member of each kind, what is missing, and tables that are empty or written by a dotted key.
-/// An entry is a string, `true`, `false`, a list behind `[`, or members behind `{` or, where it is written by a
-/// dotted key, behind its dot.
+/// An entry is a string, `true`, `false`, a list behind `[`, or members behind `{` or, where it is written by
+/// a dotted key, behind its dot.
 const SEEN: &str = "\
 string|type|1.2
 1.2|string|1.2

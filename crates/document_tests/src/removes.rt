@@ -42,7 +42,8 @@ const TABLES_GONE: &str = "\
 [b]\n|a|[[a]]\nx = 1\n[b]\n[[a]]\n[a.b]\n~\
 [[a]]\n[a.b]\nx = 1\n[[a]]\n|a/#1/b|[[a]]\n[a.b]\nx = 1\n[[a]]\n[a.b]\ny = 2\n~\
 [[a]]\ny = 1\n|a/#0/x|[[a]]\n# c\nx = { z = 1 }\ny = 1\n~\
-[target.'cfg(unix)'.dependencies]\n|target/cfg(windows)|[target.'cfg(unix)'.dependencies]\n[target.'cfg(windows)'.dependencies]\na = '1'\n";
+[target.'cfg(unix)'.dependencies]\n|target/cfg(windows)|[target.'cfg(unix)'.dependencies]\n\
+[target.'cfg(windows)'.dependencies]\na = '1'\n";
 
 /// Elements of arrays: with the comma behind one and the blanks there, else with the comma before it.
 const ELEMENTS_GONE: &str = "\

@@ -16,7 +16,8 @@ fn place_of(alloc: Global, names: &str) -> Result<Place, Fail> {
     Ok(place)
 }
 
-/// The text of a manifest after a call, or what its refusal says behind the text, where that is not as it was.
+/// The text of a manifest after a call, or what its refusal says, behind the text where that is not as it
+/// was.
 fn after(
     alloc: Global,
     manifest: &Manifest,
