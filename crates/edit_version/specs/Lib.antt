@@ -7,6 +7,7 @@ pub mod Selection
 pub mod RustVersions
 pub mod Refusals
 pub mod Increments
+pub mod Phases
 pub mod Changed
 pub mod CrateWords
 pub mod ReadRequirement
