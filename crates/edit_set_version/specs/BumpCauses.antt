@@ -1,0 +1,29 @@
+-- Why a version is not bumped (own, after cargo-edit).
+use Rattle.std.specs.Prelude.{◌≡◌, Result, Ok, Err, string_bytes}
+use Rattle.semver.specs.Identifiers.{parts_of, parts_text}
+use Rattle.semver.specs.Parse.{Parts}
+use Rattle.semver.specs.declared.Version.{Version}
+use Rattle.edit_base.specs.declared.errors.Error.{Error}
+use Rattle.edit_base.specs.declared.errors.Error.TheVariants as error
+use Rattle.edit_version.specs.Changed.{IsCause}
+use Rattle.edit_version.specs.Increments.{Change, Refused, To}
+use Rattle.edit_set_version.specs.Bumps.{Bumped, becomes, lower, refused}
+
+-- what an increment or build metadata made of the current version, or why it was refused
+abbrev pub change_of : Parts → Bumped → Change
+change_of current (refused r) = Refused r
+change_of current (becomes v) = To v
+change_of current _ = To current
+
+-- a lower version is asked for, and both versions are told; or an increment or build metadata is refused for
+-- its cause, or memory ran out
+abbrev pub IsUnbumped : Bumped → Parts → Error → Type 0
+IsUnbumped b current (error.Downgrade from to) =
+    (asked : Parts) × (b ≡ lower asked)
+    × (string_bytes from ≡ parts_text current) × (string_bytes to ≡ parts_text asked)
+IsUnbumped b current e = IsCause (change_of current b) current e
+
+-- the version that a change gives, or a refusal for its cause
+abbrev pub IsMade : Change → Parts → Result Version Error → Type 0
+IsMade c current (Ok v) = c ≡ To (parts_of v)
+IsMade c current (Err e) = IsCause c current e
