@@ -1,5 +1,6 @@
 #!/usr/bin/env python3
-"""edits.py CALLS: what an edit costs on manifests of 100 kB and 1 MB, by the program edit_calls (CALLS).
+"""edits.py CALLS [PEER]: what an edit costs on manifests of 100 kB and 1 MB, by the program edit_calls (CALLS) and, where
+it is named, by its peer over `toml_edit` (bench/edits_peer.sh builds it), in one run.
 
 Each edit is one run of the program, which reads the manifest, makes the edit (which reads what it leaves and compares the
 trees) and prints the text. `set_literal` at a place where no value stands reads alone: the other rows say how many
@@ -12,6 +13,7 @@ import sys
 import tempfile
 
 ROUNDS = 7
+SIZES = (100_000, 1_000_000)
 WANTED = 12.0
 
 
@@ -50,24 +52,44 @@ def edits(entry):
     }
 
 
+def told(command):
+    """What a run prints."""
+    return subprocess.run(command, check=True, stdout=subprocess.PIPE).stdout
+
+
 def main():
-    calls = sys.argv[1]
+    programs = sys.argv[1:3]
     with tempfile.TemporaryDirectory() as room:
         least, sizes = {}, {}
-        for size in (100_000, 1_000_000):
+        for size in SIZES:
             text, entry = manifest(size)
             sizes[size] = (pathlib.Path(room) / str(size), edits(entry))
             sizes[size][0].write_text(text)
         for _ in range(ROUNDS):
             for size, (path, rows) in sizes.items():
                 for row, words in rows.items():
-                    time = spent([calls, str(path), *words])
-                    least[row, size] = min(time, least.get((row, size), time))
-    print("| Edit | 100 kB, s | 1 MB, s | ten times the text | readings |\n|---|---|---|---|---|")
+                    for program in programs:
+                        time = spent([program, str(path), *words])
+                        least[program, row, size] = min(time, least.get((program, row, size), time))
+        path, rows = sizes[SIZES[0]]
+        other = [row for row, words in rows.items() if len({told([program, str(path), *words]) for program in programs}) > 1]
+    show(programs, least)
+    if other:
+        print("\nThe two leave other texts: " + ", ".join(other) + ".")
+
+
+def show(programs, least):
+    """Prints the table of the least times of each program, row and size."""
+    small_size, large_size = SIZES
+    peer = programs[1:]
+    print("| Edit | 100 kB, s | 1 MB, s | ten times the text | readings |" + " times the peer |" * len(peer))
+    print("|---|---|---|---|---|" + "---|" * len(peer))
     for row in edits(0):
-        small, large = least[row, 100_000], least[row, 1_000_000]
+        small, large = least[programs[0], row, small_size], least[programs[0], row, large_size]
         kept = "" if large <= WANTED * small else " (missed)"
-        print(f"| {row} | {small:.4f} | {large:.4f} | {large / small:.1f}{kept} | {large / least['read alone', 1_000_000]:.1f} |")
+        readings = large / least[programs[0], "read alone", large_size]
+        ratio = "".join(f" {large / least[other, row, large_size]:.2f} |" for other in peer)
+        print(f"| {row} | {small:.4f} | {large:.4f} | {large / small:.1f}{kept} | {readings:.1f} |{ratio}")
 
 
 if __name__ == "__main__":
