@@ -5,9 +5,9 @@ use Rattle.std.specs.Fmt.{digits}
 use Rattle.semver.specs.Parse.{Parts}
 use Rattle.semver.proofs.OnLiterals.{semver_on_literals}
 use Rattle.cargo_edit.specs.Decision.{Case, decision}
-use Rattle.cargo_edit.specs.declared.upgrade.Change.TheVariants as change
+use Rattle.edit_report.specs.declared.row.Change.TheVariants as change
 use Rattle.cargo_edit.specs.declared.upgrade.Options.{Options}
-use Rattle.cargo_edit.specs.declared.upgrade.Reason.TheVariants as reason
+use Rattle.edit_report.specs.declared.row.Reason.TheVariants as reason
 
 -- a version of three numbers
 abbrev version : ℕ → ℕ → ℕ → Parts

@@ -28,7 +28,7 @@ use Rattle.cargo_edit.specs.Looks.{told}
 use Rattle.cargo_edit.specs.Records.{Seen}
 use Rattle.cargo_edit.specs.Rows.{IsDecided, Line, case_for, line_for, write_at}
 use Rattle.cargo_edit.specs.Upgraded.{AreVersionsFor, IsRow}
-use Rattle.cargo_edit.specs.declared.upgrade.Change.{Change}
+use Rattle.edit_report.specs.declared.row.Change.{Change}
 use Rattle.cargo_edit.specs.declared.upgrade.Options.{Options}
 use Rattle.cargo_edit.proofs.DecidedAgain.{again}
 use Rattle.cargo_edit.proofs.HeadlineRows.{offered-valid}

@@ -13,8 +13,8 @@ use Rattle.cargo_edit.proofs.Bytes.{same-swap}
 use Rattle.cargo_edit.proofs.Steps.{names-more}
 use Rattle.cargo_edit.specs.Lines.{line_of}
 use Rattle.cargo_edit.specs.Lists.{changed_name, changed_names}
-use Rattle.cargo_edit.specs.declared.upgrade.Change.{Change}
-use Rattle.cargo_edit.specs.declared.upgrade.Row.{Row}
+use Rattle.edit_report.specs.declared.row.Change.{Change}
+use Rattle.edit_report.specs.declared.row.Row.{Row}
 
 changed-more : (rows : List Row) (i : ℕ) (row : Row) → i < length rows → row ≡ get_or rows i row
     → changed_names (map line_of (take (i + 1) rows)) ≡ changed_names (map line_of (take i rows)) ++ cons_option (changed_name (line_of row)) []

@@ -10,7 +10,7 @@ use Rattle.edit_document.specs.Replaces.{AreDistinct, AreStrings, is_string}
 use Rattle.edit_document.specs.Shown.{Shown, ShowsTree, tree_of}
 use Rattle.edit_document.specs.Tree.{View, fractional, inline_table, kind_at, members_of, moment, once, static_array, string, table, table_array, truth, view_at, view_of_kind, whole}
 use Rattle.edit_syntax.specs.Grammar as grammar
-use Rattle.cargo_edit.specs.declared.upgrade.Change.{Change}
+use Rattle.edit_report.specs.declared.row.Change.{Change}
 use Rattle.cargo_edit.specs.Entries.{Tree, dependencies, entry_names, entry_place, member_names}
 use Rattle.cargo_edit.specs.Records.{Seen, is_known, seen, seen_at, seen_view, seen_with, version_place}
 use Rattle.cargo_edit.specs.Rows.{Line, with_write, write_at, writes}

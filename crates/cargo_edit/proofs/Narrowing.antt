@@ -15,7 +15,7 @@ use Rattle.edit_version.proofs.Offers.{admitted-offered}
 use Rattle.edit_version.proofs.Orders.{full_total, greatest-has}
 use Rattle.edit_version.proofs.Outcomes.{admitted, narrower-of, text-outcome, valid-version}
 use Rattle.cargo_edit.specs.Decision.{Case, compatible_text, decision, is_set_aside, latest_text, may_jump, newer, text_or, unless, when}
-use Rattle.cargo_edit.specs.declared.upgrade.Change.TheVariants as change
+use Rattle.edit_report.specs.declared.row.Change.TheVariants as change
 use Rattle.cargo_edit.specs.declared.upgrade.Options.{Options}
 use Rattle.cargo_edit.proofs.TakenVersions.{compatible-taken, far-some, latest-taken, near-some, newer-latest, when-some}
 

@@ -11,8 +11,8 @@ use Rattle.cargo_edit.specs.Records.{Seen}
 use Rattle.cargo_edit.specs.Rows.{writes}
 use Rattle.cargo_edit.specs.declared.planned.Planned.{Planned}
 use Rattle.cargo_edit.specs.declared.seen.Entry.{Entry}
-use Rattle.cargo_edit.specs.declared.upgrade.Output.{Output}
-use Rattle.cargo_edit.specs.declared.upgrade.Row.{Row}
+use Rattle.edit_report.specs.declared.apply.Output.{Output}
+use Rattle.edit_report.specs.declared.row.Row.{Row}
 
 -- the one output that was added to none
 pub only-output : {Y : Type 0} (path : List ℕ) (text : Option (String Y)) (s : String Y) (old outputs : List Output) (o : Output) → text ≡ Some s

@@ -6,8 +6,8 @@ use Rattle.std.proofs.lemmas.Bool.{cases_Bool}
 use Rattle.semver.specs.Parse.{Parts}
 use Rattle.edit_version.specs.Requirement.{plain_text, raise}
 use Rattle.cargo_edit.specs.Decision.{first_row, newer, row_change, row_text, text_or, unless_old, when}
-use Rattle.cargo_edit.specs.declared.upgrade.Change.{Change}
-use Rattle.cargo_edit.specs.declared.upgrade.Change.TheVariants as change
+use Rattle.edit_report.specs.declared.row.Change.{Change}
+use Rattle.edit_report.specs.declared.row.Change.TheVariants as change
 use Rattle.cargo_edit.specs.declared.upgrade.Options.{Options}
 
 -- the texts that could be written, for a requirement and its two versions

@@ -2,8 +2,8 @@
 use Rattle.std.specs.Prelude.{List, ℕ, Bool, true, false, not, ◌&&◌, if◌then◌else◌, is_some, Option, string_bytes, Some, None}
 use Rattle.cargo_edit.specs.Decision.{Case, Choice, Outcome, first_reason, first_row, kept, given, left_out, or_else, row_change, row_text, same_text, to_compatible, to_latest, unless, unread, when}
 use Rattle.cargo_edit.specs.declared.upgrade.Options.{Options}
-use Rattle.cargo_edit.specs.declared.upgrade.Reason.{Reason}
-use Rattle.cargo_edit.specs.declared.upgrade.Reason.TheVariants as reason
+use Rattle.edit_report.specs.declared.row.Reason.{Reason}
+use Rattle.edit_report.specs.declared.row.Reason.TheVariants as reason
 use Rattle.cargo_edit.specs.Offers.{offered}
 use Rattle.cargo_edit.specs.declared.decide.Decided.{Decided}
 use Rattle.cargo_edit.specs.declared.offers.Offer.{Offer}

@@ -9,11 +9,11 @@ use Rattle.semver.specs.declared.Op.{Op}
 use Rattle.semver.specs.declared.Op.TheVariants as op
 use Rattle.edit_version.specs.Requirement.{Raised, Unread, Nothing, Unsupported, Text, raise}
 use Rattle.edit_version.specs.Requirement.{plain_text}
-use Rattle.cargo_edit.specs.declared.upgrade.Change.{Change}
-use Rattle.cargo_edit.specs.declared.upgrade.Change.TheVariants as change
+use Rattle.edit_report.specs.declared.row.Change.{Change}
+use Rattle.edit_report.specs.declared.row.Change.TheVariants as change
 use Rattle.cargo_edit.specs.declared.upgrade.Options.{Options}
-use Rattle.cargo_edit.specs.declared.upgrade.Reason.{Reason}
-use Rattle.cargo_edit.specs.declared.upgrade.Reason.TheVariants as reason
+use Rattle.edit_report.specs.declared.row.Reason.{Reason}
+use Rattle.edit_report.specs.declared.row.Reason.TheVariants as reason
 
 -- what the decision rests on
 pub record Case : Type 0 where

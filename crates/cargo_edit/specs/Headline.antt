@@ -9,9 +9,9 @@ use Rattle.cargo_edit.specs.Inputs.{Setting, outputs_at, path_of}
 use Rattle.cargo_edit.specs.Outputs.{HasOutputs}
 use Rattle.cargo_edit.specs.Rows.{Line}
 use Rattle.cargo_edit.specs.Upgraded.{HasRows, IsNeededBy}
-use Rattle.cargo_edit.specs.declared.upgrade.Change.TheVariants as change
+use Rattle.edit_report.specs.declared.row.Change.TheVariants as change
 use Rattle.cargo_edit.specs.declared.upgrade.Input.{Input}
-use Rattle.cargo_edit.specs.declared.upgrade.Output.{Output}
+use Rattle.edit_report.specs.declared.apply.Output.{Output}
 use Rattle.cargo_edit.specs.declared.upgrade.UpgradePlan.{UpgradePlan}
 
 -- a requirement that `semver` reads is told

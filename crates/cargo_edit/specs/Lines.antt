@@ -2,7 +2,7 @@
 use Rattle.std.specs.Prelude.{option_map, string_bytes}
 use Rattle.edit_document.specs.Items.{place_seen}
 use Rattle.cargo_edit.specs.Rows.{Line}
-use Rattle.cargo_edit.specs.declared.upgrade.Row.{Row}
+use Rattle.edit_report.specs.declared.row.Row.{Row}
 
 -- what a row tells, by its texts (own)
 abbrev pub line_of : Row → Line

@@ -5,8 +5,8 @@ use Rattle.std.specs.List.Sorted.{IsStrictlySortedBy}
 use Rattle.std.specs.Str.{bytes_eq}
 use Rattle.semver.specs.Parse.{req_of}
 use Rattle.cargo_edit.specs.Rows.{Line}
-use Rattle.cargo_edit.specs.declared.upgrade.Reason.{Reason}
-use Rattle.cargo_edit.specs.declared.upgrade.Reason.TheVariants as reason
+use Rattle.edit_report.specs.declared.row.Reason.{Reason}
+use Rattle.edit_report.specs.declared.row.Reason.TheVariants as reason
 use Rattle.cargo_edit.specs.declared.upgrade.Warning.{Warning}
 use Rattle.cargo_edit.specs.declared.upgrade.UpgradePlan.{UpgradePlan}
 use Rattle.cargo_edit.specs.Lines.{line_of}

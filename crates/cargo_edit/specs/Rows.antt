@@ -7,9 +7,9 @@ use Rattle.edit_version.specs.Requirement.{plain_text}
 use Rattle.edit_version.specs.Selection.{IsCompatible, IsLatest}
 use Rattle.cargo_edit.specs.Decision.{Case, Choice, decision, newer, or_else}
 use Rattle.cargo_edit.specs.Records.{Seen}
-use Rattle.cargo_edit.specs.declared.upgrade.Change.{Change}
+use Rattle.edit_report.specs.declared.row.Change.{Change}
 use Rattle.cargo_edit.specs.declared.upgrade.Options.{Options}
-use Rattle.cargo_edit.specs.declared.upgrade.Reason.{Reason}
+use Rattle.edit_report.specs.declared.row.Reason.{Reason}
 
 -- what rows are decided by: which input they are of, the options, and the versions that may be taken, by the
 -- crate's name (own)

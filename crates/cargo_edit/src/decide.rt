@@ -1,6 +1,6 @@
 //! The decision for one entry.
 ghost use Rattle.edit_base.specs.Errors.{IsMemory};
-ghost use Rattle.cargo_edit.specs.declared.upgrade.Reason.TheVariants as reason;
+ghost use Rattle.edit_report.specs.declared.row.Reason.TheVariants as reason;
 ghost use Rattle.std.specs.Prelude.{◌≡◌, if◌then◌else◌, Some, None, false, IfErr, IfOk, option_and_then, option_copied, option_map, string_bytes};
 ghost use Rattle.cargo_edit.specs.Decision.{decision, newer, or_else, same_text, text_or, unless_old};
 ghost use Rattle.cargo_edit.specs.Decided.{case_view, choice_view, decision_by, jumps_by, raised_choice};
@@ -11,9 +11,10 @@ ghost use Rattle.semver.specs.Identifiers.{parts_of};
 
 use crate::offers::Offer;
 use crate::requirement::{Pin, pin_of};
-use crate::upgrade::{Change, Options, Reason};
+use crate::upgrade::Options;
 use edit_base::{CargoResult, Error};
 use edit_record::Requirement;
+use edit_report::{Change, Reason};
 use semver::Version;
 use std::alloc::{AllocError, Global};
 

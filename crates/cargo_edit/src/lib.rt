@@ -28,6 +28,7 @@ pub use edit_record::{
     dependency_on, find_compatible_version, find_latest_version, is_for, is_wanted, read_candidate,
     read_requirement, upgrade_requirement,
 };
+pub use edit_report::{Change, Output, Reason, Row};
 pub use edit_sources::config::read_configs;
 pub use edit_sources::registry::{registry_url, resolve};
 pub use edit_sources::{
@@ -35,4 +36,4 @@ pub use edit_sources::{
     LocalIndex, MemoryStore, Ranked, Store,
 };
 pub use plan::{plan_documents, plan_upgrade};
-pub use upgrade::{Change, Input, Look, Options, Output, Reason, Row, UpgradePlan, Warning};
+pub use upgrade::{Input, Look, Options, UpgradePlan, Warning};

@@ -10,8 +10,9 @@ ghost use Rattle.cargo_edit.specs.Lists.{changed_names, is_held_incompatible, is
 
 use crate::names::{Names, add_name};
 use crate::requirement::read_pin;
-use crate::upgrade::{Reason, Row, Warning};
+use crate::upgrade::Warning;
 use edit_base::CargoResult;
+use edit_report::{Reason, Row};
 use std::alloc::{AllocError, Global};
 use std::collections::BTreeSet;
 

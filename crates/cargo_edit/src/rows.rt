@@ -18,9 +18,10 @@ ghost use Rattle.cargo_edit.specs.Rows.{AreDecided, IsDecided, case_for, line_fo
 use crate::decide::decide;
 use crate::offers::{Offer, offer_of};
 use crate::seen::{Entry, copied_place};
-use crate::upgrade::{Options, Row};
+use crate::upgrade::Options;
 use edit_base::CargoResult;
 use edit_record::Requirement;
+use edit_report::Row;
 use edit_sources::cache::IndexCache;
 use edit_sources::index::Index;
 use edit_sources::ranking::Ranked;

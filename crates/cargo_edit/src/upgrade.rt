@@ -1,6 +1,6 @@
 //! What is planned for the entries of manifests.
 
-use edit_document::Place;
+use edit_report::{Output, Row};
 use edit_sources::index::IndexKrate;
 use edit_version::RustVersion;
 use url::Url;
@@ -22,26 +22,6 @@ pub struct Options {
     pub verbosity: i8,
 }
 
-/// What an entry's new requirement was taken from.
-#[derive(Debug, Clone, Copy, PartialEq, Eq)]
-pub enum Change {
-    Explicit,
-    Latest,
-    Compatible,
-}
-
-/// Why an entry did not get the newest requirement, or that it has it.
-#[derive(Debug, Clone, Copy, PartialEq, Eq)]
-pub enum Reason {
-    Latest,
-    Compatible,
-    Incompatible,
-    Pinned,
-    GitSource,
-    PathSource,
-    Excluded,
-}
-
 /// A manifest to plan for.
 #[derive(Debug, Drop)]
 pub struct Input {
@@ -51,29 +31,6 @@ pub struct Input {
     pub path: String,
     pub bytes: Vec<u8>,
     pub rust_version: Option<RustVersion>,
-}
-
-/// A manifest's new bytes.
-#[derive(Debug, Drop)]
-pub struct Output {
-    pub path: String,
-    pub bytes: Vec<u8>,
-}
-
-/// What became of an entry.
-#[derive(Debug, Drop)]
-pub struct Row {
-    /// The index of the input, from 0.
-    pub input: usize,
-    pub name: String,
-    pub place: Place,
-    pub rename: Option<String>,
-    pub old: Option<String>,
-    pub compatible: Option<String>,
-    pub latest: Option<String>,
-    pub new: Option<String>,
-    pub reason: Option<Reason>,
-    pub change: Option<Change>,
 }
 
 /// What an index answered for a name at a registry's address.

@@ -12,9 +12,9 @@ ghost use Rattle.cargo_edit.specs.Records.{seen};
 ghost use Rattle.cargo_edit.specs.Rows.{with_write, write_at, writes};
 
 use crate::seen::{Entry, literal_of};
-use crate::upgrade::Row;
 use edit_base::CargoResult;
 use edit_document::{Document, Place};
+use edit_report::Row;
 use std::alloc::Global;
 
 /// What a row writes at the version literal of its entry, where it has a change.

@@ -2,7 +2,7 @@ use Rattle.std.proofs.Common.{◌∙◌, List, ap, map, sym, take}
 use Rattle.std.specs.Prelude.{option_map}
 use Rattle.cargo_edit.specs.Lines.{line_of}
 use Rattle.cargo_edit.specs.Lists.{warning_of, warning_view, warnings_of}
-use Rattle.cargo_edit.specs.declared.upgrade.Row.{Row}
+use Rattle.edit_report.specs.declared.row.Row.{Row}
 use Rattle.cargo_edit.proofs.Steps.{kept-none, kept-some, taken-more}
 use Rattle.cargo_edit.proofs.lists.unreadable_warnings.Goals as goal
 use Rattle.cargo_edit.proofs.lists.unreadable_warnings.Goals.{in-Some+in_ok-push-in-Some, in-None}

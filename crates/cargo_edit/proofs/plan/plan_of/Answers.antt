@@ -4,7 +4,7 @@ use Rattle.std.specs.Prelude.{string_bytes}
 use Rattle.std.specs.Str.{bytes_eq}
 use Rattle.cargo_edit.specs.Lines.{line_of}
 use Rattle.cargo_edit.specs.Lists.{changed_names, is_held_incompatible, is_held_pinned, warnings_of}
-use Rattle.cargo_edit.specs.declared.upgrade.Row.{Row}
+use Rattle.edit_report.specs.declared.row.Row.{Row}
 use Rattle.cargo_edit.proofs.PlanLemmas.{outputs-of}
 use Rattle.cargo_edit.proofs.plan.plan_of.Goals as goal
 
