@@ -23,7 +23,7 @@ use Rattle.cargo_edit.specs.Headline.{IsFixedPoint, IsSettled, NeedSame, NeedsAs
 use Rattle.cargo_edit.specs.declared.upgrade.Input.{Input}
 use Rattle.cargo_edit.specs.declared.upgrade.Look.{Look}
 use Rattle.cargo_edit.specs.declared.upgrade.Options.{Options}
-use Rattle.edit_report.specs.declared.apply.Output.{Output}
+use Rattle.edit_report.specs.declared.output.Output.{Output}
 use Rattle.cargo_edit.specs.declared.upgrade.UpgradePlan.{UpgradePlan}
 use Rattle.cargo_edit.proofs.Bytes.{same-refl}
 use Rattle.cargo_edit.proofs.HeadlineRows.{rows-inputs}

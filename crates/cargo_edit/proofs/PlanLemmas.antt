@@ -11,7 +11,7 @@ use Rattle.cargo_edit.specs.Records.{Seen}
 use Rattle.cargo_edit.specs.Rows.{writes}
 use Rattle.cargo_edit.specs.declared.planned.Planned.{Planned}
 use Rattle.cargo_edit.specs.declared.seen.Entry.{Entry}
-use Rattle.edit_report.specs.declared.apply.Output.{Output}
+use Rattle.edit_report.specs.declared.output.Output.{Output}
 use Rattle.edit_report.specs.declared.row.Row.{Row}
 
 -- the one output that was added to none

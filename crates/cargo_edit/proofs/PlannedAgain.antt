@@ -19,7 +19,7 @@ use Rattle.cargo_edit.specs.Outputs.{AreOutputs, HasOutputs, changed, unchanged}
 use Rattle.cargo_edit.specs.Records.{Seen, seen, seen_at}
 use Rattle.cargo_edit.specs.Rows.{Line, with_write, writes}
 use Rattle.cargo_edit.specs.Upgraded.{HasRows, IsNeededBy, IsRow}
-use Rattle.edit_report.specs.declared.apply.Output.{Output}
+use Rattle.edit_report.specs.declared.output.Output.{Output}
 use Rattle.cargo_edit.proofs.FixedPoint.{all-again, cut-whole, none-written, some-again}
 use Rattle.cargo_edit.proofs.Literals.{any-all, entries-apart, kept-all, writes-strings}
 use Rattle.cargo_edit.proofs.NamedLemmas.{entry-named, name-among}

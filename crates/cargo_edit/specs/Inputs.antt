@@ -10,7 +10,7 @@ use Rattle.cargo_edit.specs.Rows.{Line}
 use Rattle.cargo_edit.specs.declared.upgrade.Input.{Input}
 use Rattle.cargo_edit.specs.declared.upgrade.Look.{Look}
 use Rattle.cargo_edit.specs.declared.upgrade.Options.{Options}
-use Rattle.edit_report.specs.declared.apply.Output.{Output}
+use Rattle.edit_report.specs.declared.output.Output.{Output}
 use Rattle.cargo_edit.specs.declared.upgrade.UpgradePlan.{UpgradePlan}
 
 -- what the rows of an input rest on besides its text: which input it is, the options, its Rust version, its

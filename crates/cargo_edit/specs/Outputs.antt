@@ -8,7 +8,7 @@ use Rattle.edit_document.specs.Supported.{IsManifest}
 use Rattle.edit_document.specs.Tree.{view_at}
 use Rattle.cargo_edit.specs.Records.{seen}
 use Rattle.cargo_edit.specs.Rows.{Line, writes}
-use Rattle.edit_report.specs.declared.apply.Output.{Output}
+use Rattle.edit_report.specs.declared.output.Output.{Output}
 
 -- something is written, and the new bytes are those of the document with these literals, and read back as
 -- its tree with these strings (own)

@@ -4,7 +4,7 @@ use Rattle.std.specs.Prelude.{slice_get}
 use Rattle.edit_version.specs.RustVersions.{Numbers}
 use Rattle.edit_sources.specs.Store.{Files, SameFiles}
 use Rattle.edit_sources.specs.declared.file_index.FileIndex.{FileIndex}
-use Rattle.edit_report.specs.declared.apply.Output.{Output}
+use Rattle.edit_report.specs.declared.output.Output.{Output}
 use Rattle.edit_program.specs.Upgrading.{IsCutShort, IsIndexRead, IsManifestRead, IsPlanned, IsTorn, IsUpgraded, IsWritten}
 use Rattle.edit_program.proofs.PassedWords.{as_before, same_twice}
 

@@ -18,7 +18,7 @@ use Rattle.cargo_edit.specs.Rows.{Line}
 use Rattle.cargo_edit.specs.Upgraded.{HasRows, IsNeededBy}
 use Rattle.cargo_edit.specs.declared.upgrade.Look.{Look}
 use Rattle.cargo_edit.specs.declared.upgrade.Options.{Options}
-use Rattle.edit_report.specs.declared.apply.Output.{Output}
+use Rattle.edit_report.specs.declared.output.Output.{Output}
 use Rattle.edit_program.specs.Located.{IsAbsoluteOf, IsManifestPath}
 
 -- what is read of something that stands, nothing where nothing does

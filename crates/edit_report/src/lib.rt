@@ -1,8 +1,8 @@
 //! What is reported of entries, and the writing of what is planned.
 #![tactic(auto)]
 
-pub mod apply;
+pub mod output;
 pub mod row;
 
-pub use apply::Output;
+pub use output::Output;
 pub use row::{Change, Reason, Row};

@@ -1,5 +1,5 @@
 use Rattle.std.proofs.Common.{ℕ, Global, Vec, ap}
-use Rattle.edit_report.specs.declared.apply.Output.{Output}
+use Rattle.edit_report.specs.declared.output.Output.{Output}
 use Rattle.cargo_edit.proofs.PlanLemmas.{only-output}
 use Rattle.cargo_edit.proofs.plan.outputs_of.Goals as goal
 

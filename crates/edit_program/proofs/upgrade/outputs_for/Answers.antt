@@ -8,7 +8,7 @@ use Rattle.cargo_edit.specs.Inputs.{path_of, rows_of, setting_of}
 use Rattle.cargo_edit.specs.Looks.{kept_by}
 use Rattle.cargo_edit.specs.Outputs.{HasOutputs}
 use Rattle.cargo_edit.specs.Upgraded.{HasItsOutputs, HasItsRows, HasRows}
-use Rattle.edit_report.specs.declared.apply.Output.{Output}
+use Rattle.edit_report.specs.declared.output.Output.{Output}
 use Rattle.cargo_edit.proofs.InputLemmas.{needed-first, of-each, of-entry_cause, only-outputs}
 use Rattle.edit_program.proofs.CauseLemmas.{refusal_same}
 use Rattle.edit_program.proofs.PlanLemmas.{no_plan, one_given}
