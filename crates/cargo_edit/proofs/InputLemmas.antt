@@ -20,7 +20,7 @@ use Rattle.cargo_edit.specs.Records.{seen}
 use Rattle.cargo_edit.specs.Rows.{Line, writes}
 use Rattle.cargo_edit.specs.Upgraded.{HasItsOutputs, HasItsRows, HasRows, IsNeeded, IsNeededBy}
 use Rattle.cargo_edit.specs.Headline.{IsFixedPoint, IsSettled, NeedSame, NeedsAsBefore, bytes_after}
-use Rattle.cargo_edit.specs.declared.upgrade.Input.{Input}
+use Rattle.edit_metadata.specs.declared.input.Input.{Input}
 use Rattle.cargo_edit.specs.declared.upgrade.Look.{Look}
 use Rattle.cargo_edit.specs.declared.upgrade.Options.{Options}
 use Rattle.edit_report.specs.declared.output.Output.{Output}

@@ -15,7 +15,7 @@ use Rattle.cargo_edit.specs.Looked.{IsRefusedAt}
 use Rattle.cargo_edit.specs.Looks.{Kept}
 use Rattle.cargo_edit.specs.Records.{Seen, seen}
 use Rattle.cargo_edit.specs.Upgraded.{Needs}
-use Rattle.cargo_edit.specs.declared.upgrade.Input.{Input}
+use Rattle.edit_metadata.specs.declared.input.Input.{Input}
 
 -- the bytes are not UTF-8, or they are and no form makes them a manifest; or memory ran out on bytes that
 -- are UTF-8

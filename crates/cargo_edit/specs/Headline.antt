@@ -10,7 +10,7 @@ use Rattle.cargo_edit.specs.Outputs.{HasOutputs}
 use Rattle.cargo_edit.specs.Rows.{Line}
 use Rattle.cargo_edit.specs.Upgraded.{HasRows, IsNeededBy}
 use Rattle.edit_report.specs.declared.row.Change.TheVariants as change
-use Rattle.cargo_edit.specs.declared.upgrade.Input.{Input}
+use Rattle.edit_metadata.specs.declared.input.Input.{Input}
 use Rattle.edit_report.specs.declared.output.Output.{Output}
 use Rattle.cargo_edit.specs.declared.upgrade.UpgradePlan.{UpgradePlan}
 

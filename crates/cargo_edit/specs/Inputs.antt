@@ -7,7 +7,7 @@ use Rattle.edit_version.specs.RustVersions.{Numbers, numbers_of}
 use Rattle.edit_sources.specs.declared.config.Config.{Config}
 use Rattle.cargo_edit.specs.Lines.{line_of}
 use Rattle.cargo_edit.specs.Rows.{Line}
-use Rattle.cargo_edit.specs.declared.upgrade.Input.{Input}
+use Rattle.edit_metadata.specs.declared.input.Input.{Input}
 use Rattle.cargo_edit.specs.declared.upgrade.Look.{Look}
 use Rattle.cargo_edit.specs.declared.upgrade.Options.{Options}
 use Rattle.edit_report.specs.declared.output.Output.{Output}

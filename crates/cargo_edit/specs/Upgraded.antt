@@ -15,7 +15,7 @@ use Rattle.cargo_edit.specs.Looks.{told}
 use Rattle.cargo_edit.specs.Outputs.{HasOutputs}
 use Rattle.cargo_edit.specs.Records.{Seen, seen}
 use Rattle.cargo_edit.specs.Rows.{IsDecided, Line}
-use Rattle.cargo_edit.specs.declared.upgrade.Input.{Input}
+use Rattle.edit_metadata.specs.declared.input.Input.{Input}
 use Rattle.cargo_edit.specs.declared.upgrade.UpgradePlan.{UpgradePlan}
 
 -- the look that an entry needs: at the address of its registry, for its name; the entries that are seen so

@@ -22,6 +22,7 @@ pub use edit_manifest::{
     DepKind, DepTable, LocalManifest, Manifest, dependency_tables, find, get_dep_version,
     set_dep_version,
 };
+pub use edit_metadata::Input;
 pub use edit_record::{
     Candidate, CrateSpec, Dependency, GitSource, IndexVersion, PathSource, RegistrySource,
     RustVersion, Source, VersionExt, WorkspaceSource, admits, allows_prerelease, cut,
@@ -36,4 +37,4 @@ pub use edit_sources::{
     LocalIndex, MemoryStore, Ranked, Store,
 };
 pub use plan::{plan_documents, plan_upgrade};
-pub use upgrade::{Input, Look, Options, UpgradePlan, Warning};
+pub use upgrade::{Look, Options, UpgradePlan, Warning};

@@ -16,10 +16,11 @@ ghost use Rattle.cargo_edit.specs.Upgraded.{HasItsOutputs, HasItsRows, HasRows, 
 
 use crate::lists::{has_incompatible, has_pinned, modified_names, unreadable_warnings};
 use crate::planned::{Planned, plan_input, read_manifest};
-use crate::upgrade::{Input, Options, UpgradePlan};
+use crate::upgrade::{Options, UpgradePlan};
 use crate::writes::written;
 use edit_base::CargoResult;
 use edit_document::Document;
+use edit_metadata::Input;
 use edit_report::Output;
 use edit_sources::{Config, Index, IndexCache};
 use std::alloc::Global;

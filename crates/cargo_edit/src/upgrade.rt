@@ -2,7 +2,6 @@
 
 use edit_report::{Output, Row};
 use edit_sources::index::IndexKrate;
-use edit_version::RustVersion;
 use url::Url;
 
 /// What an upgrade may do.
@@ -20,17 +19,6 @@ pub struct Options {
     pub locked: bool,
     pub recursive: Option<bool>,
     pub verbosity: i8,
-}
-
-/// A manifest to plan for.
-#[derive(Debug, Drop)]
-pub struct Input {
-    /// What reports call the manifest.
-    pub name: String,
-    /// An absolute path in normal form.
-    pub path: String,
-    pub bytes: Vec<u8>,
-    pub rust_version: Option<RustVersion>,
 }
 
 /// What an index answered for a name at a registry's address.
