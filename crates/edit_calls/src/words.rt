@@ -8,19 +8,19 @@ use std::alloc::{AllocError, Global};
 
 /// Words that are taken one by one.
 #[derive(Drop)]
-pub struct Words<'a> {
+pub(crate) struct Words<'a> {
     words: &'a [String],
     next: usize,
 }
 
 impl<'a> Words<'a> {
     /// All of these words.
-    pub fn new(words: &'a [String]) -> Words<'a> {
+    pub(crate) fn new(words: &'a [String]) -> Words<'a> {
         Words { words, next: 0 }
     }
 
     /// The next word, empty behind the last one.
-    pub fn take(&mut self) -> &'a str {
+    pub(crate) fn take(&mut self) -> &'a str {
         match self.words.get(self.next) {
             Some(word) => {
                 self.next += 1;
@@ -36,7 +36,7 @@ impl<'a> Words<'a> {
     }
 
     /// The steps up to a word `=`: `.NAME` leads to a member, `#INDEX` to an element.
-    pub fn take_place(&mut self, alloc: Global) -> Result<Vec<Step>, AllocError> {
+    pub(crate) fn take_place(&mut self, alloc: Global) -> Result<Vec<Step>, AllocError> {
         let mut place = Vec::new(alloc);
         for _ in 0..self.words.len() {
             let word = self.take();
@@ -68,7 +68,7 @@ impl<'a> Words<'a> {
     }
 
     /// A value, behind its kind.
-    pub fn take_value(&mut self, alloc: Global) -> Result<NewValue, AllocError> {
+    pub(crate) fn take_value(&mut self, alloc: Global) -> Result<NewValue, AllocError> {
         let kind = self.take();
         self.take_value_of(alloc, kind)
     }
@@ -84,7 +84,7 @@ impl<'a> Words<'a> {
     }
 
     /// An entry: `table` and its members, `dotted`, or a value.
-    pub fn take_item(&mut self, alloc: Global) -> Result<NewItem, AllocError>
+    pub(crate) fn take_item(&mut self, alloc: Global) -> Result<NewItem, AllocError>
         ensures { IfOk result (λ item. IsEntry (item_seen item)) }
     {
         let kind = self.take();
