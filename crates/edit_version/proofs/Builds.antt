@@ -24,12 +24,15 @@ without_build v = (v.0, v.1, v.2, v.3, [])
 raised-same : (u v : Parts) → SameVersion u v → (c : Held) → raised u c ≡ raised v c
 raised-same u v s c = rw (s.0, s.1, s.2, s.3) refl
 
-all-same : (text : List ℕ) (u v : Parts) → SameVersion u v → (cs : List Held) (o : Option Held) → raise_all text u cs o ≡ raise_all text v cs o
+all-same : (text : List ℕ) (u v : Parts) → SameVersion u v → (cs : List Held) (o : Option Held)
+    → raise_all text u cs o ≡ raise_all text v cs o
 all-same text u v s cs (Some d) = refl
 all-same text u v s cs None =
-    ap (λ (f : Held → Held). unless_same text (led_as text (requirement_text (map f cs)))) (λ i c. raised-same u v s c i)
+    ap (λ (f : Held → Held). unless_same text (led_as text (requirement_text (map f cs))))
+    (λ i c. raised-same u v s c i)
 
-read-same : (text : List ℕ) (u v : Parts) → SameVersion u v → (r : Result (List Held) semver_error.Error) → raise_read text u r ≡ raise_read text v r
+read-same : (text : List ℕ) (u v : Parts) → SameVersion u v → (r : Result (List Held) semver_error.Error)
+    → raise_read text u r ≡ raise_read text v r
 read-same text u v s (Err e) = refl
 read-same text u v s (Ok []) = refl
 read-same text u v s (Ok (c ∷ cs)) = all-same text u v s (c ∷ cs) _
@@ -41,16 +44,19 @@ raise-same text u v s = read-same text u v s (req_of text)
 pub raise-without_build : (text : List ℕ) (v : Parts) → raise text (without_build v) ≡ raise text v
 raise-without_build text v = raise-same text (without_build v) v (refl, refl, refl, refl)
 
-tilde-same : (p : Option ℕ) (pre : List ℕ) (u v : Parts) → SameVersion u v → tilde_patch p pre u ≡ tilde_patch p pre v
+tilde-same : (p : Option ℕ) (pre : List ℕ) (u v : Parts) → SameVersion u v
+    → tilde_patch p pre u ≡ tilde_patch p pre v
 tilde-same None pre u v s = rw s.3 refl
 tilde-same (Some p) pre u v s = rw (s.2, s.3) refl
 
-caret-same : (n : ℕ) (m p : Option ℕ) (pre : List ℕ) (u v : Parts) → SameVersion u v → caret_after n m p pre u ≡ caret_after n m p pre v
+caret-same : (n : ℕ) (m p : Option ℕ) (pre : List ℕ) (u v : Parts) → SameVersion u v
+    → caret_after n m p pre u ≡ caret_after n m p pre v
 caret-same n None p pre u v s = refl
 caret-same n (Some m) None pre u v s = rw s.1 refl
 caret-same n (Some m) (Some p) pre u v s = rw (s.1, s.2, s.3) refl
 
-beyond-same : (num : ℕ → ℕ → Bool) (test : List ℕ → List ℕ → Bool) (m p : Option ℕ) (pre : List ℕ) (u v : Parts) → SameVersion u v
+beyond-same : (num : ℕ → ℕ → Bool) (test : List ℕ → List ℕ → Bool) (m p : Option ℕ) (pre : List ℕ)
+    (u v : Parts) → SameVersion u v
     → minor_beyond num test m p pre u ≡ minor_beyond num test m p pre v
 beyond-same num test None p pre u v s = refl
 beyond-same num test (Some m) None pre u v s = rw s.1 refl
@@ -72,18 +78,24 @@ less-same c u v s =
 accepts-same : (o : Op) (c : Held) (u v : Parts) → SameVersion u v → accepts_by o c u ≡ accepts_by o c v
 accepts-same op.Exact c u v s = exact-same c u v s
 accepts-same op.Wildcard c u v s = exact-same c u v s
-accepts-same op.Tilde c u v s = let rest = tilde-same c.3 c.4 u v s in λ i. (s.0 i == c.1) && agrees c.2 (s.1 i) && rest i
+accepts-same op.Tilde c u v s = let rest = tilde-same c.3 c.4 u v s in
+    λ i. (s.0 i == c.1) && agrees c.2 (s.1 i) && rest i
 accepts-same op.Caret c u v s = let rest = caret-same c.1 c.2 c.3 c.4 u v s in λ i. (s.0 i == c.1) && rest i
 accepts-same op.Greater c u v s = greater-same c u v s
-accepts-same op.GreaterEq c u v s = let same = exact-same c u v s in let rest = greater-same c u v s in λ i. same i || rest i
+accepts-same op.GreaterEq c u v s = let same = exact-same c u v s in let rest = greater-same c u v s in
+    λ i. same i || rest i
 accepts-same op.Less c u v s = less-same c u v s
-accepts-same op.LessEq c u v s = let same = exact-same c u v s in let rest = less-same c u v s in λ i. same i || rest i
+accepts-same op.LessEq c u v s = let same = exact-same c u v s in let rest = less-same c u v s in
+    λ i. same i || rest i
 
-all-admits : (cs : List Held) (u v : Parts) → SameVersion u v → list_all (λ c. accepts c u) cs ≡ list_all (λ c. accepts c v) cs
+all-admits : (cs : List Held) (u v : Parts) → SameVersion u v
+    → list_all (λ c. accepts c u) cs ≡ list_all (λ c. accepts c v) cs
 all-admits [] u v s = refl
-all-admits (c ∷ cs) u v s = let first = accepts-same c.0 c u v s in let rest = all-admits cs u v s in λ i. first i && rest i
+all-admits (c ∷ cs) u v s = let first = accepts-same c.0 c u v s in let rest = all-admits cs u v s in
+    λ i. first i && rest i
 
-any-names : (cs : List Held) (u v : Parts) → SameVersion u v → list_any (λ c. names_pre c u) cs ≡ list_any (λ c. names_pre c v) cs
+any-names : (cs : List Held) (u v : Parts) → SameVersion u v
+    → list_any (λ c. names_pre c u) cs ≡ list_any (λ c. names_pre c v) cs
 any-names [] u v s = refl
 any-names (c ∷ cs) u v s =
     let rest = any-names cs u v s in
@@ -107,7 +119,8 @@ plain-same u v s = rw (s.0, s.1, s.2, s.3) refl
 pub cut-text : (text : List ℕ) (v : Parts) → version_parts text ≡ Ok v → cut text ≡ plain_text v
 cut-text text v h =
     let s = version_parts-sound text v h in
-    ap (λ (x : List ℕ). cut x) (sym s.0 ∙ plain_text-build v) ∙ cut-before (plain_text v) v.4 (plain_text-no_plus v s.1)
+    ap (λ (x : List ℕ). cut x) (sym s.0 ∙ plain_text-build v) ∙
+    cut-before (plain_text v) v.4 (plain_text-no_plus v s.1)
 
 valid-without : (v : Parts) → IsValid v → IsValid (without_build v)
 valid-without v w = (w.0, w.1, w.2, w.3, refl)
@@ -116,5 +129,7 @@ valid-without v w = (w.0, w.1, w.2, w.3, refl)
 pub plain_text-read : (v : Parts) → IsValid v → version_parts (plain_text v) ≡ Ok (without_build v)
 plain_text-read v w =
     let e : parts_text (without_build v) ≡ plain_text v =
-    ap (λ (l : List ℕ). decimal v.0 ++ (46 ∷ (decimal v.1 ++ (46 ∷ (decimal v.2 ++ l))))) (append-nil (marked 45 v.3)) in
-    ap (λ (x : List ℕ). version_parts x) (sym e) ∙ version_parts-complete (without_build v) (valid-without v w)
+    ap (λ (l : List ℕ). decimal v.0 ++ (46 ∷ (decimal v.1 ++ (46 ∷ (decimal v.2 ++ l)))))
+    (append-nil (marked 45 v.3)) in
+    ap (λ (x : List ℕ). version_parts x) (sym e) ∙ version_parts-complete (without_build v)
+    (valid-without v w)

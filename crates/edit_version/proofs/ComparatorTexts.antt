@@ -55,10 +55,18 @@ wildcard-number n rest fits =
     rw (f.2, digit-is_not f.0 42 f.3 refl, digit-is_not f.0 120 f.3 refl, digit-is_not f.0 88 f.3 refl) refl
 
 -- no operator leads a number
-pub op-number : (n : ℕ) (rest : List ℕ) → n < 2 ^ 64 → op_of (decimal n ++ rest) ≡ (op.Caret, decimal n ++ rest)
+pub op-number : (n : ℕ) (rest : List ℕ) → n < 2 ^ 64 → op_of (decimal n ++ rest)
+    ≡ (op.Caret, decimal n ++ rest)
 op-number n rest fits =
     let f = decimal-front n fits in
-    rw (f.2, digit-is_not f.0 61 f.3 refl, digit-is_not f.0 62 f.3 refl, digit-is_not f.0 60 f.3 refl, digit-is_not f.0 126 f.3 refl, digit-is_not f.0 94 f.3 refl) refl
+    rw (
+      f.2,
+      digit-is_not f.0 61 f.3 refl,
+      digit-is_not f.0 62 f.3 refl,
+      digit-is_not f.0 60 f.3 refl,
+      digit-is_not f.0 126 f.3 refl,
+      digit-is_not f.0 94 f.3 refl,
+    ) refl
 
 -- ---- what follows a comparator
 
@@ -117,19 +125,32 @@ after_minor default o m rest fits stop =
 pub reads-minor : (default : Bool) (o : Op) (n m : ℕ) (t : Option (List ℕ)) → n < 2 ^ 64 → m < 2 ^ 64
     → Gives (from_major default o (decimal n ++ (46 ∷ (decimal m ++ tail t)))) (o, n, Some m, None, []) t
 unfolding strip_spaces
-reads-minor default o n m None fits small =
-    (place.Minor, after_major default o n (46 ∷ (decimal m ++ [])) fits refl ∙ rw (after_minor default o m [] small refl) refl)
-reads-minor default o n m (Some r) fits small =
-    (place.Minor, after_major default o n (46 ∷ (decimal m ++ 44 ∷ r)) fits refl ∙ rw (after_minor default o m (44 ∷ r) small refl) refl)
+reads-minor default o n m None fits small = (
+  place.Minor,
+  after_major default o n (46 ∷ (decimal m ++ [])) fits refl ∙
+      rw (after_minor default o m [] small refl) refl,
+)
+reads-minor default o n m (Some r) fits small = (
+  place.Minor,
+  after_major default o n (46 ∷ (decimal m ++ 44 ∷ r)) fits refl ∙
+      rw (after_minor default o m (44 ∷ r) small refl) refl,
+)
 
 -- two numbers and a star
 pub reads-minor_star : (o : Op) (n m : ℕ) (t : Option (List ℕ)) → n < 2 ^ 64 → m < 2 ^ 64
-    → Gives (from_major true o (decimal n ++ (46 ∷ (decimal m ++ (46 ∷ 42 ∷ tail t))))) (op.Wildcard, n, Some m, None, []) t
+    → Gives (from_major true o (decimal n ++ (46 ∷ (decimal m ++ (46 ∷ 42 ∷ tail t)))))
+    (op.Wildcard, n, Some m, None, []) t
 unfolding strip_spaces
-reads-minor_star o n m None fits small =
-    (place.Patch, after_major true o n (46 ∷ (decimal m ++ (46 ∷ 42 ∷ []))) fits refl ∙ rw (after_minor true o m (46 ∷ 42 ∷ []) small refl) refl)
-reads-minor_star o n m (Some r) fits small =
-    (place.Patch, after_major true o n (46 ∷ (decimal m ++ (46 ∷ 42 ∷ 44 ∷ r))) fits refl ∙ rw (after_minor true o m (46 ∷ 42 ∷ 44 ∷ r) small refl) refl)
+reads-minor_star o n m None fits small = (
+  place.Patch,
+  after_major true o n (46 ∷ (decimal m ++ (46 ∷ 42 ∷ []))) fits refl ∙
+      rw (after_minor true o m (46 ∷ 42 ∷ []) small refl) refl,
+)
+reads-minor_star o n m (Some r) fits small = (
+  place.Patch,
+  after_major true o n (46 ∷ (decimal m ++ (46 ∷ 42 ∷ 44 ∷ r))) fits refl ∙
+      rw (after_minor true o m (46 ∷ 42 ∷ 44 ∷ r) small refl) refl,
+)
 
 -- one side of a test
 pick-false : {T : Type 0} (x : Bool) (a b : T) → x ≡ false → (if x then a else b) ≡ b
@@ -153,8 +174,10 @@ good-pre (b ∷ c ∷ rest) = grind (arith, nat_tests)
 all-good : (xs : List (List ℕ)) → list_all is_pre_identifier xs ≡ true → list_all (good place.Pre) xs ≡ true
 all-good [] h = refl
 all-good (x ∷ rest) h =
-    let first : good place.Pre x ≡ true = good-pre x ∙ both-left (is_pre_identifier x) (list_all is_pre_identifier rest) h in
-    let others : list_all (good place.Pre) rest ≡ true = all-good rest (both-right (is_pre_identifier x) (list_all is_pre_identifier rest) h) in
+    let first : good place.Pre x ≡ true = good-pre x ∙ both-left (is_pre_identifier x)
+    (list_all is_pre_identifier rest) h in
+    let others : list_all (good place.Pre) rest ≡ true =
+    all-good rest (both-right (is_pre_identifier x) (list_all is_pre_identifier rest) h) in
     rw (first, others) refl
 
 -- a pre-release is read whole
@@ -163,18 +186,25 @@ pub pre-whole : (b : ℕ) (r rest : List ℕ) → is_pre_release (b ∷ r) ≡ t
 pre-whole b r rest valid stop =
     let id = b ∷ r in
     let shape = parts-shape id in
-    let back : join_dots (shape.0 ∷ shape.1) ≡ id = subst (λ (ps : List (List ℕ)). join_dots ps ≡ id) shape.2 (join-parts id) in
-    let fine = subst (λ (ps : List (List ℕ)). list_all (good place.Pre) ps ≡ true) shape.2 (all-good (parts id) valid) in
+    let back : join_dots (shape.0 ∷ shape.1) ≡ id = subst (λ (ps : List (List ℕ)). join_dots ps ≡ id) shape.2
+    (join-parts id) in
+    let fine = subst (λ (ps : List (List ℕ)). list_all (good place.Pre) ps ≡ true) shape.2
+    (all-good (parts id) valid) in
     let read = scan-all place.Pre 0 shape.0 shape.1 rest stop fine in
     let z : 0 + length id ≡ length id = omega arith in
-    let whole = subst (λ (j : List ℕ). scan place.Pre 0 0 false false (j ++ rest) ≡ Ok (0 + length j)) back read in
-    let len : scan place.Pre 0 0 false false (id ++ rest) ≡ Ok (length id) = subst (λ (k : ℕ). scan place.Pre 0 0 false false (id ++ rest) ≡ Ok k) z whole in
+    let whole = subst (λ (j : List ℕ). scan place.Pre 0 0 false false (j ++ rest)
+    ≡ Ok (0 + length j)) back read in
+    let len : scan place.Pre 0 0 false false (id ++ rest) ≡ Ok (length id) =
+    subst (λ (k : ℕ). scan place.Pre 0 0 false false (id ++ rest) ≡ Ok k) z whole in
     let after = bind-on (identifier_len place.Pre (id ++ rest)) (length id) _ len in
-    after ∙ pick-false _ _ _ (not_zero (length id) (omega arith)) ∙ rw (take_at id rest (length id) refl, drop_at id rest (length id) refl) refl
+    after ∙ pick-false _ _ _ (not_zero (length id) (omega arith)) ∙
+    rw (take_at id rest (length id) refl, drop_at id rest (length id) refl) refl
 
 -- three numbers
-after_patch_number : (default : Bool) (o : Op) (m p : ℕ) (rest : List ℕ) → p < 2 ^ 64 → starts_digit rest ≡ false
-    → patch_part default (o, Some m, false, place.Minor, 46 ∷ (decimal p ++ rest)) ≡ Ok (o, Some p, place.Patch, rest)
+after_patch_number : (default : Bool) (o : Op) (m p : ℕ) (rest : List ℕ) → p < 2 ^ 64
+    → starts_digit rest ≡ false
+    → patch_part default (o, Some m, false, place.Minor, 46 ∷ (decimal p ++ rest))
+    ≡ Ok (o, Some p, place.Patch, rest)
 after_patch_number default o m p rest fits stop =
     rw (wildcard-number p rest fits, numeric-of_text place.Patch p rest fits stop) refl
 
@@ -185,16 +215,20 @@ marked-digit (b ∷ rest) t = refl
 
 -- a comparator from its pre-release on
 ends-pre : (o : Op) (n m p : ℕ) (pre : List ℕ) (t : Option (List ℕ)) → is_pre_release pre ≡ true
-    → Gives (pre_part true place.Patch (marked 45 pre ++ tail t) >>= λ e. build_part true e.1 e.2 >>= λ b. Ok (o, n, Some m, Some p, e.0, b.0, strip_spaces b.1)) (o, n, Some m, Some p, pre) t
+    → Gives (pre_part true place.Patch (marked 45 pre ++ tail t) >>= λ e. build_part true e.1 e.2 >>= λ b. Ok
+    (o, n, Some m, Some p, e.0, b.0, strip_spaces b.1)) (o, n, Some m, Some p, pre) t
 unfolding strip_spaces
 ends-pre o n m p [] None valid = (place.Patch, refl)
 ends-pre o n m p [] (Some r) valid = (place.Patch, refl)
 ends-pre o n m p (b ∷ rest) None valid = (place.Pre, rw (pre-whole b rest [] valid refl) refl)
 ends-pre o n m p (b ∷ rest) (Some r) valid = (place.Pre, rw (pre-whole b rest (44 ∷ r) valid refl) refl)
 
-pub reads-patch : (default : Bool) (o : Op) (n m p : ℕ) (pre : List ℕ) (t : Option (List ℕ)) → n < 2 ^ 64 → m < 2 ^ 64 → p < 2 ^ 64
+pub reads-patch : (default : Bool) (o : Op) (n m p : ℕ) (pre : List ℕ) (t : Option (List ℕ)) → n < 2 ^ 64
+    → m < 2 ^ 64 → p < 2 ^ 64
     → is_pre_release pre ≡ true
-    → Gives (from_major default o (decimal n ++ (46 ∷ (decimal m ++ (46 ∷ (decimal p ++ (marked 45 pre ++ tail t))))))) (o, n, Some m, Some p, pre) t
+    → Gives (from_major default o
+    (decimal n ++ (46 ∷ (decimal m ++ (46 ∷ (decimal p ++ (marked 45 pre ++ tail t)))))))
+    (o, n, Some m, Some p, pre) t
 reads-patch default o n m p pre t fits small tiny valid =
     let rest = marked 45 pre ++ tail t in
     let stop : starts_digit rest ≡ false = marked-digit pre t in

@@ -40,14 +40,16 @@ byte-no_plus b h = grind arith
 bytes-of : (p : List ℕ) → is_pre_identifier p ≡ true → list_all is_identifier_byte p ≡ true
 bytes-of p h = right_of _ _ (left_of _ _ h)
 
-all-weaker : (ps : List (List ℕ)) → list_all is_pre_identifier ps ≡ true → list_all (λ p. list_all is_identifier_byte p) ps ≡ true
+all-weaker : (ps : List (List ℕ)) → list_all is_pre_identifier ps ≡ true
+    → list_all (λ p. list_all is_identifier_byte p) ps ≡ true
 all-weaker [] h = refl
 all-weaker (p ∷ ps) h =
     let first : list_all is_identifier_byte p ≡ true = bytes-of p (left_of _ _ h) in
     let others : list_all (λ q. list_all is_identifier_byte q) ps ≡ true = all-weaker ps (right_of _ _ h) in
     rw (first, others) refl
 
-all-bytes : (t : List ℕ) → list_all (λ p. list_all is_identifier_byte p) (parts t) ≡ true → holds_plus t ≡ false
+all-bytes : (t : List ℕ) → list_all (λ p. list_all is_identifier_byte p) (parts t) ≡ true
+    → holds_plus t ≡ false
 all-bytes [] h = refl
 all-bytes (b ∷ rest) h = elim (cases_Bool (b == 46)) [
   | inl dot ↦
@@ -56,13 +58,17 @@ all-bytes (b ∷ rest) h = elim (cases_Bool (b == 46)) [
       rw (none, later) refl
   | inr other ↦
       let shape = parts-shape rest in
-      let whole : list_all (λ p. list_all is_identifier_byte p) ((b ∷ shape.0) ∷ shape.1) ≡ true = rw (other, shape.2) at h in
+      let whole : list_all (λ p. list_all is_identifier_byte p) ((b ∷ shape.0) ∷ shape.1) ≡ true =
+      rw (other, shape.2) at h in
       let first = left_of _ _ whole in
       let none : (b == 43) ≡ false = byte-no_plus b (left_of _ _ first) in
-      let bytes : list_all is_identifier_byte shape.0 ≡ true = right_of (is_identifier_byte b) (list_all is_identifier_byte shape.0) first in
+      let bytes : list_all is_identifier_byte shape.0 ≡ true =
+      right_of (is_identifier_byte b) (list_all is_identifier_byte shape.0) first in
       let others : list_all (λ p. list_all is_identifier_byte p) shape.1 ≡ true =
-      right_of (list_all is_identifier_byte (b ∷ shape.0)) (list_all (λ p. list_all is_identifier_byte p) shape.1) whole in
-      let joined : list_all (λ p. list_all is_identifier_byte p) (parts rest) ≡ true = rw shape.2 (rw (bytes, others) refl) in
+      right_of (list_all is_identifier_byte (b ∷ shape.0))
+      (list_all (λ p. list_all is_identifier_byte p) shape.1) whole in
+      let joined : list_all (λ p. list_all is_identifier_byte p) (parts rest) ≡ true =
+      rw shape.2 (rw (bytes, others) refl) in
       let later : holds_plus rest ≡ false = all-bytes rest joined in
       rw (none, later) refl
 ]
@@ -97,10 +103,13 @@ plain_text-build p =
 
 pub plain_text-no_plus : (p : Parts) → IsValid p → holds_plus (plain_text p) ≡ false
 plain_text-no_plus p v =
-    let third = plus-append (decimal p.2) (marked 45 p.3) ∙ rw (decimal-no_plus p.2 v.2, pre-no_plus p.3 v.3) refl in
+    let third = plus-append (decimal p.2) (marked 45 p.3) ∙
+    rw (decimal-no_plus p.2 v.2, pre-no_plus p.3 v.3) refl in
     let second : holds_plus (decimal p.1 ++ (46 ∷ (decimal p.2 ++ marked 45 p.3))) ≡ false =
-    plus-append (decimal p.1) (46 ∷ (decimal p.2 ++ marked 45 p.3)) ∙ rw (decimal-no_plus p.1 v.1, third) refl in
-    plus-append (decimal p.0) (46 ∷ (decimal p.1 ++ (46 ∷ (decimal p.2 ++ marked 45 p.3)))) ∙ rw (decimal-no_plus p.0 v.0, second) refl
+    plus-append (decimal p.1) (46 ∷ (decimal p.2 ++ marked 45 p.3)) ∙
+    rw (decimal-no_plus p.1 v.1, third) refl in
+    plus-append (decimal p.0) (46 ∷ (decimal p.1 ++ (46 ∷ (decimal p.2 ++ marked 45 p.3)))) ∙
+    rw (decimal-no_plus p.0 v.0, second) refl
 
 -- a version as one caret
 abbrev as_caret : Parts → Held
@@ -125,17 +134,23 @@ caret-writable p v = record {
 pub plain_text-plain : (p : Parts) → IsValid p → IsPlainRequirement (plain_text p) p
 plain_text-plain p v =
     let read : req_of (plain_text p) ≡ Ok (as_caret p ∷ []) =
-    ap (λ (x : List ℕ). req_of x) (sym (plain_text-caret p)) ∙ reads-unsigned-all (as_caret p) [] (caret-writable p v) refl tt (omega arith) in
+    ap (λ (x : List ℕ). req_of x) (sym (plain_text-caret p)) ∙
+    reads-unsigned-all (as_caret p) [] (caret-writable p v) refl tt (omega arith) in
     let digit : starts_with_caret (unsigned_text (as_caret p) ++ []) ≡ false =
-    caret-number p.0 (dotted (Some p.1) ++ (dotted (Some p.2) ++ (after_patch (Some p.2) p.3 ++ star op.Caret (Some p.2)))) [] v.0 in
-    let bare : starts_with_caret (plain_text p) ≡ false = ap (λ (x : List ℕ). starts_with_caret x) (sym (plain_text-caret p)) ∙ digit in
-    let led : led_as (plain_text p) (requirement_text (as_caret p ∷ [])) ≡ plain_text p = rw bare (plain_text-caret p) in
-    let self : pointwise nat_eq (plain_text p) (plain_text p) ≡ true = nat_list_eq_equiv.refl (plain_text p) in
+    caret-number p.0 (dotted (Some p.1) ++
+    (dotted (Some p.2) ++ (after_patch (Some p.2) p.3 ++ star op.Caret (Some p.2)))) [] v.0 in
+    let bare : starts_with_caret (plain_text p) ≡ false =
+    ap (λ (x : List ℕ). starts_with_caret x) (sym (plain_text-caret p)) ∙ digit in
+    let led : led_as (plain_text p) (requirement_text (as_caret p ∷ [])) ≡ plain_text p =
+    rw bare (plain_text-caret p) in
+    let self : pointwise nat_eq (plain_text p) (plain_text p) ≡ true =
+    nat_list_eq_equiv.refl (plain_text p) in
     (read, rw (read, led, self) refl)
 
 -- the text of a version that `semver` read, before its build metadata
 pub cut-plain : (text : List ℕ) (p : Parts) → version_parts text ≡ Ok p → IsPlainRequirement (cut text) p
 cut-plain text p h =
     let s = version_parts-sound text p h in
-    let e : cut text ≡ plain_text p = ap (λ (x : List ℕ). cut x) (sym s.0 ∙ plain_text-build p) ∙ cut-before (plain_text p) p.4 (plain_text-no_plus p s.1) in
+    let e : cut text ≡ plain_text p = ap (λ (x : List ℕ). cut x) (sym s.0 ∙ plain_text-build p) ∙
+    cut-before (plain_text p) p.4 (plain_text-no_plus p s.1) in
     subst (λ (x : List ℕ). IsPlainRequirement x p) (sym e) (plain_text-plain p s.1)

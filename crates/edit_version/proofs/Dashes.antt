@@ -33,7 +33,8 @@ decimal-no_dash n fits = decimal_by_steps NoDash
     n fits
 
 -- a dash after a byte that is none
-dash-rest : (b : ℕ) (rest : List ℕ) → (b == 45) ≡ false → holds_dash (b ∷ rest) ≡ true → holds_dash rest ≡ true
+dash-rest : (b : ℕ) (rest : List ℕ) → (b == 45) ≡ false → holds_dash (b ∷ rest) ≡ true
+    → holds_dash rest ≡ true
 dash-rest b rest n h = rw n at h
 
 byte-not : (b k : ℕ) → (b == k) ≡ true → (k == 45) ≡ false → (b == 45) ≡ false
@@ -47,7 +48,8 @@ dash-strip (b ∷ rest) h = elim (cases_Bool (b == 32)) [
   | inr other ↦ rw other h
 ]
 
-dash-first : (one two : Op) (xs : List ℕ) → holds_dash xs ≡ true → holds_dash (first_or_equal one two xs).1 ≡ true
+dash-first : (one two : Op) (xs : List ℕ) → holds_dash xs ≡ true
+    → holds_dash (first_or_equal one two xs).1 ≡ true
 dash-first one two [] h = h
 dash-first one two (b ∷ rest) h = elim (cases_Bool (b == 61)) [
   | inl same ↦ rw same (dash-rest b rest (byte-not b 61 same refl) h)
@@ -73,17 +75,21 @@ dash-op (a ∷ rest) h = elim (cases_Bool (a == 61)) [
   ]
 ]
 
-dash-numeric : (pos : Position) (xs : List ℕ) (r : ℕ × List ℕ) → numeric pos xs ≡ Ok r → holds_dash xs ≡ true → holds_dash r.1 ≡ true
+dash-numeric : (pos : Position) (xs : List ℕ) (r : ℕ × List ℕ) → numeric pos xs ≡ Ok r → holds_dash xs ≡ true
+    → holds_dash r.1 ≡ true
 dash-numeric pos xs r e h =
     let t = numeric-text pos xs r.0 r.1 e in
-    let split : holds_dash xs ≡ (holds_dash (decimal r.0) || holds_dash r.1) = ap holds_dash t.0 ∙ dash-append (decimal r.0) r.1 in
+    let split : holds_dash xs ≡ (holds_dash (decimal r.0) || holds_dash r.1) = ap holds_dash t.0 ∙
+    dash-append (decimal r.0) r.1 in
     let none = decimal-no_dash r.0 t.1 in
     sym (split ∙ rw none refl) ∙ h
 
-wild-rest : (b : ℕ) (rest : List ℕ) (w : ℕ × List ℕ) → ◌≡◌ {A = Option (ℕ × List ℕ)} (Some (b, rest)) (Some w) → rest ≡ w.1
+wild-rest : (b : ℕ) (rest : List ℕ) (w : ℕ × List ℕ) → ◌≡◌ {A = Option (ℕ × List ℕ)} (Some (b, rest)) (Some w)
+    → rest ≡ w.1
 wild-rest b rest w e = cc e
 
-wild-byte : (xs : List ℕ) (w : ℕ × List ℕ) → wildcard_of xs ≡ Some w → holds_dash xs ≡ true → holds_dash w.1 ≡ true
+wild-byte : (xs : List ℕ) (w : ℕ × List ℕ) → wildcard_of xs ≡ Some w → holds_dash xs ≡ true
+    → holds_dash w.1 ≡ true
 wild-byte [] w e h = cc e
 wild-byte (b ∷ rest) w e h = elim (cases_Bool (b == 42)) [
   | inl star ↦
@@ -102,7 +108,8 @@ wild-byte (b ∷ rest) w e h = elim (cases_Bool (b == 42)) [
   ]
 ]
 
-minor_of-dash : (default : Bool) (o : Op) (text : List ℕ) (w : Option (ℕ × List ℕ)) (m : Minor) → wildcard_of text ≡ w
+minor_of-dash : (default : Bool) (o : Op) (text : List ℕ) (w : Option (ℕ × List ℕ)) (m : Minor)
+    → wildcard_of text ≡ w
     → minor_of default o text w ≡ Ok m → holds_dash text ≡ true → holds_dash m.4 ≡ true
 minor_of-dash default o text (Some w) m e g h =
     subst (λ (q : Minor). holds_dash q.4 ≡ true) (ok-value _ _ g) (wild-byte text w e h)
@@ -110,14 +117,17 @@ minor_of-dash default o text None m e g h =
     let b = bind-ok (numeric place.Minor text) _ m g in
     subst (λ (q : Minor). holds_dash q.4 ≡ true) (ok-value _ _ b.2) (dash-numeric place.Minor text b.0 b.1 h)
 
-minor-dash : (default : Bool) (o : Op) (text : List ℕ) (m : Minor) → minor_part default o text ≡ Ok m → holds_dash text ≡ true → holds_dash m.4 ≡ true
+minor-dash : (default : Bool) (o : Op) (text : List ℕ) (m : Minor) → minor_part default o text ≡ Ok m
+    → holds_dash text ≡ true → holds_dash m.4 ≡ true
 minor-dash default o [] m g h = cc h
 minor-dash default o (b ∷ rest) m g h = elim (cases_Bool (b == 46)) [
-  | inl dot ↦ minor_of-dash default o rest (wildcard_of rest) m refl (rw dot at g) (dash-rest b rest (byte-not b 46 dot refl) h)
+  | inl dot ↦ minor_of-dash default o rest (wildcard_of rest) m refl (rw dot at g)
+      (dash-rest b rest (byte-not b 46 dot refl) h)
   | inr other ↦ subst (λ (q : Minor). holds_dash q.4 ≡ true) (ok-value _ _ (rw other at g)) h
 ]
 
-patch_number-dash : (o : Op) (wild : Bool) (text : List ℕ) (w : Option (ℕ × List ℕ)) (default : Bool) (p : Patch) → wildcard_of text ≡ w
+patch_number-dash : (o : Op) (wild : Bool) (text : List ℕ) (w : Option (ℕ × List ℕ)) (default : Bool)
+    (p : Patch) → wildcard_of text ≡ w
     → patch_number o wild text w default ≡ Ok p → p.1 ≡ None → holds_dash text ≡ true → holds_dash p.3 ≡ true
 patch_number-dash o wild text (Some w) default p e g n h =
     subst (λ (q : Patch). holds_dash q.3 ≡ true) (ok-value _ _ g) (wild-byte text w e h)
@@ -127,26 +137,32 @@ patch_number-dash o false text None default p e g n h =
     let some : Some b.0.0 ≡ p.1 = ap (λ (q : Patch). q.1) (ok-value _ _ b.2) in
     cc (some ∙ n)
 
-patch-dash : (default : Bool) (o : Op) (wild : Bool) (pos : Position) (text : List ℕ) (p : Patch) → patch_of default o wild pos text ≡ Ok p
+patch-dash : (default : Bool) (o : Op) (wild : Bool) (pos : Position) (text : List ℕ) (p : Patch)
+    → patch_of default o wild pos text ≡ Ok p
     → p.1 ≡ None → holds_dash text ≡ true → holds_dash p.3 ≡ true
 patch-dash default o wild pos [] p g n h = cc h
 patch-dash default o wild pos (b ∷ rest) p g n h = elim (cases_Bool (b == 46)) [
-  | inl dot ↦ patch_number-dash o wild rest (wildcard_of rest) default p refl (rw dot at g) n (dash-rest b rest (byte-not b 46 dot refl) h)
+  | inl dot ↦ patch_number-dash o wild rest (wildcard_of rest) default p refl (rw dot at g) n
+      (dash-rest b rest (byte-not b 46 dot refl) h)
   | inr other ↦ subst (λ (q : Patch). holds_dash q.3 ≡ true) (ok-value _ _ (rw other at g)) h
 ]
 
-pre-dash : (p : Option ℕ) (pos : Position) (text : List ℕ) (e : List ℕ × Position × List ℕ) → pre_part (has p) pos text ≡ Ok e → p ≡ None
+pre-dash : (p : Option ℕ) (pos : Position) (text : List ℕ) (e : List ℕ × Position × List ℕ)
+    → pre_part (has p) pos text ≡ Ok e → p ≡ None
     → holds_dash text ≡ true → holds_dash e.2 ≡ true
-pre-dash None pos text e g n h = subst (λ (q : List ℕ × Position × List ℕ). holds_dash q.2 ≡ true) (ok-value _ _ g) h
+pre-dash None pos text e g n h = subst (λ (q : List ℕ × Position × List ℕ). holds_dash q.2 ≡ true)
+    (ok-value _ _ g) h
 pre-dash (Some k) pos text e g n h = cc n
 
-build-dash : (p : Option ℕ) (pos : Position) (text : List ℕ) (e : Position × List ℕ) → build_part (has p) pos text ≡ Ok e → p ≡ None
+build-dash : (p : Option ℕ) (pos : Position) (text : List ℕ) (e : Position × List ℕ)
+    → build_part (has p) pos text ≡ Ok e → p ≡ None
     → holds_dash text ≡ true → holds_dash e.1 ≡ true
 build-dash None pos text e g n h = subst (λ (q : Position × List ℕ). holds_dash q.1 ≡ true) (ok-value _ _ g) h
 build-dash (Some k) pos text e g n h = cc n
 
 -- a comparator with no patch number leaves a dash to the rest
-comparator-dash : (input : List ℕ) (q : Parsed) → comparator_of input ≡ Ok q → q.3 ≡ None → holds_dash input ≡ true → holds_dash q.6 ≡ true
+comparator-dash : (input : List ℕ) (q : Parsed) → comparator_of input ≡ Ok q → q.3 ≡ None
+    → holds_dash input ≡ true → holds_dash q.6 ≡ true
 comparator-dash input q g n h =
     let a = bind-ok (numeric place.Major (strip_spaces (op_of input).1)) _ q g in
     let m = bind-ok (minor_part (length input == length (op_of input).1) (op_of input).0 a.0.1) _ q a.2 in
@@ -164,11 +180,16 @@ comparator-dash input q g n h =
     subst (λ (r : Parsed). holds_dash r.6 ≡ true) same (dash-strip b.0.1 h6)
 
 -- a text with a dash does not end, and the next comparators have it
-next-dash : (pos : Position) (rest : List ℕ) (next : Option (List ℕ)) → next_text pos rest ≡ Ok next → holds_dash rest ≡ true
+next-dash : (pos : Position) (rest : List ℕ) (next : Option (List ℕ)) → next_text pos rest ≡ Ok next
+    → holds_dash rest ≡ true
     → (t : List ℕ) × (next ≡ Some t) × (holds_dash t ≡ true)
 next-dash pos [] next g h = cc h
 next-dash pos (b ∷ rest) next g h = elim (cases_Bool (b == 44)) [
-  | inl comma ↦ (strip_spaces rest, sym (ok-value _ _ (rw comma at g)), dash-strip rest (dash-rest b rest (byte-not b 44 comma refl) h))
+  | inl comma ↦ (
+    strip_spaces rest,
+    sym (ok-value _ _ (rw comma at g)),
+    dash-strip rest (dash-rest b rest (byte-not b 44 comma refl) h),
+  )
   | inr other ↦ cc (rw other at g)
 ]
 
@@ -176,9 +197,12 @@ none-from : (p : Option ℕ) → is_some p ≡ false → p ≡ None
 none-from None h = refl
 none-from (Some k) h = cc h
 
-req_next-dash : (rest : List ℕ → Result (List Held) Error) (c : Held) (next : Option (List ℕ)) (cs : List Held)
-    → req_next rest c next ≡ Ok cs → (is_some c.3 ≡ false → (t : List ℕ) × (next ≡ Some t) × (holds_dash t ≡ true))
-    → ((t : List ℕ) (ds : List Held) → rest t ≡ Ok ds → holds_dash t ≡ true → list_any (λ d. is_some d.3) ds ≡ true)
+req_next-dash : (rest : List ℕ → Result (List Held) Error) (c : Held) (next : Option (List ℕ))
+    (cs : List Held)
+    → req_next rest c next ≡ Ok cs
+    → (is_some c.3 ≡ false → (t : List ℕ) × (next ≡ Some t) × (holds_dash t ≡ true))
+    → ((t : List ℕ) (ds : List Held) → rest t ≡ Ok ds → holds_dash t ≡ true
+    → list_any (λ d. is_some d.3) ds ≡ true)
     → list_any (λ d. is_some d.3) cs ≡ true
 req_next-dash rest c None cs g h f = elim (cases_Bool (is_some c.3)) [
   | inl here ↦ subst (λ (l : List Held). list_any (λ d. is_some d.3) l ≡ true) (ok-value _ _ g) (rw here refl)
@@ -186,7 +210,8 @@ req_next-dash rest c None cs g h f = elim (cases_Bool (is_some c.3)) [
 ]
 req_next-dash rest c (Some t) cs g h f =
     let b = bind-ok (rest t) _ cs g in
-    subst (λ (l : List Held). list_any (λ d. is_some d.3) l ≡ true) (ok-value _ _ b.2) (elim (cases_Bool (is_some c.3)) [
+    subst (λ (l : List Held). list_any (λ d. is_some d.3) l ≡ true) (ok-value _ _ b.2)
+    (elim (cases_Bool (is_some c.3)) [
       | inl here ↦ rw here refl
       | inr later ↦
           let s = h later in
@@ -194,7 +219,8 @@ req_next-dash rest c (Some t) cs g h f =
           rw later (f t b.0 b.1 (subst (λ (x : List ℕ). holds_dash x ≡ true) same s.2))
     ])
 
-from-dash : (n : ℕ) (text : List ℕ) (cs : List Held) → req_from n text ≡ Ok cs → holds_dash text ≡ true → list_any (λ d. is_some d.3) cs ≡ true
+from-dash : (n : ℕ) (text : List ℕ) (cs : List Held) → req_from n text ≡ Ok cs → holds_dash text ≡ true
+    → list_any (λ d. is_some d.3) cs ≡ true
 unfolding req_from
 from-dash zero text cs g h = cc g
 from-dash (suc n) text cs g h =
@@ -205,18 +231,23 @@ from-dash (suc n) text cs g h =
     (λ none. next-dash p.0.5 p.0.6 next.0 next.1 (comparator-dash text p.0 read (none-from p.0.3 none) h))
     (from-dash n)
 
-wild-dash : (ch : ℕ) (rest : List ℕ) (cs : List Held) → wild_req ch rest ≡ Ok cs → holds_dash rest ≡ true → list_any (λ d. is_some d.3) cs ≡ true
+wild-dash : (ch : ℕ) (rest : List ℕ) (cs : List Held) → wild_req ch rest ≡ Ok cs → holds_dash rest ≡ true
+    → list_any (λ d. is_some d.3) cs ≡ true
 wild-dash ch [] cs g h = cc h
 wild-dash ch (b ∷ rest) cs g h = elim (cases_Bool (b == 44)) [
   | inl comma ↦ cc (rw comma at g)
   | inr other ↦ cc (rw other at g)
 ]
 
-after-dash : (w : Option (ℕ × List ℕ)) (text : List ℕ) (cs : List Held) → wildcard_of text ≡ w → req_after w text ≡ Ok cs → holds_dash text ≡ true
+after-dash : (w : Option (ℕ × List ℕ)) (text : List ℕ) (cs : List Held) → wildcard_of text ≡ w
+    → req_after w text ≡ Ok cs → holds_dash text ≡ true
     → list_any (λ d. is_some d.3) cs ≡ true
 after-dash None text cs e g h = from-dash 32 text cs g h
-after-dash (Some w) text cs e g h = wild-dash w.0 (strip_spaces w.1) cs g (dash-strip w.1 (wild-byte text w e h))
+after-dash (Some w) text cs e g h = wild-dash w.0 (strip_spaces w.1) cs g
+    (dash-strip w.1 (wild-byte text w e h))
 
 -- a requirement with a dash has a comparator with a patch number
-pub req-dash : (text : List ℕ) (cs : List Held) → req_of text ≡ Ok cs → holds_dash text ≡ true → list_any (λ d. is_some d.3) cs ≡ true
-req-dash text cs g h = after-dash (wildcard_of (strip_spaces text)) (strip_spaces text) cs refl g (dash-strip text h)
+pub req-dash : (text : List ℕ) (cs : List Held) → req_of text ≡ Ok cs → holds_dash text ≡ true
+    → list_any (λ d. is_some d.3) cs ≡ true
+req-dash text cs g h = after-dash (wildcard_of (strip_spaces text)) (strip_spaces text) cs refl g
+    (dash-strip text h)

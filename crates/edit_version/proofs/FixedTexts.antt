@@ -22,12 +22,14 @@ small-renumbered : (m : Option ℕ) (n : ℕ) → n < 2 ^ 64 → IsSmall (renumb
 small-renumbered None n fits = tt
 small-renumbered (Some m) n fits = fits
 
-nested-renumbered : (m p : Option ℕ) (a b : ℕ) → (m ≡ None → p ≡ None) → renumbered m a ≡ None → renumbered p b ≡ None
+nested-renumbered : (m p : Option ℕ) (a b : ℕ) → (m ≡ None → p ≡ None) → renumbered m a ≡ None
+    → renumbered p b ≡ None
 nested-renumbered None None a b h e = refl
 nested-renumbered None (Some p) a b h e = cc (h refl)
 nested-renumbered (Some m) p a b h e = cc e
 
-valid-raised : (o : Op) (p : Option ℕ) (own pre : List ℕ) (n k : ℕ) → (o ≡ op.Wildcard → p ≡ None) → is_pre_release pre ≡ true
+valid-raised : (o : Op) (p : Option ℕ) (own pre : List ℕ) (n k : ℕ) → (o ≡ op.Wildcard → p ≡ None)
+    → is_pre_release pre ≡ true
     → renumbered p n ≡ Some k → is_pre_release (raised_pre o own pre) ≡ true
 valid-raised op.Exact p own pre n k h valid e = valid
 valid-raised op.Greater p own pre n k h valid e = valid
@@ -39,7 +41,8 @@ valid-raised op.Caret p own pre n k h valid e = valid
 valid-raised op.Wildcard None own pre n k h valid e = cc e
 valid-raised op.Wildcard (Some p) own pre n k h valid e = cc (h refl)
 
-raised-writable : (v : Parts) (c : Held) → IsVersion v → IsShaped c → is_inequality c.0 ≡ false → IsWritable (raised v c)
+raised-writable : (v : Parts) (c : Held) → IsVersion v → IsShaped c → is_inequality c.0 ≡ false
+    → IsWritable (raised v c)
 raised-writable v c w s e = record {
   major = w.major;
   minor = small-renumbered c.2 v.1 w.minor;
@@ -58,7 +61,8 @@ none-first c cs h = elim (cases_Bool (is_inequality c.0)) [
   | inr fine ↦ (fine, rw fine at h)
 ]
 
-all-writable : (v : Parts) (cs : List Held) → IsVersion v → AllByRecursion IsShaped cs → find (λ d. is_inequality d.0) cs ≡ None
+all-writable : (v : Parts) (cs : List Held) → IsVersion v → AllByRecursion IsShaped cs
+    → find (λ d. is_inequality d.0) cs ≡ None
     → AllByRecursion IsWritable (map (raised v) cs)
 all-writable v [] w all h = tt
 all-writable v (c ∷ cs) w all h =
@@ -76,7 +80,8 @@ own-again None pre = refl
 own-again (Some p) pre = refl
 
 text-again : (v : Parts) (o : Op) (n : ℕ) (m p : Option ℕ) (pre : List ℕ)
-    → comparator_text (raised v (tidy (raised v (o, n, m, p, pre)))) ≡ comparator_text (raised v (o, n, m, p, pre))
+    → comparator_text (raised v (tidy (raised v (o, n, m, p, pre))))
+    ≡ comparator_text (raised v (o, n, m, p, pre))
 text-again v op.Exact n m p pre = rw (renumbered-again m v.1, renumbered-again p v.2) refl
 text-again v op.Greater n m p pre = rw (renumbered-again m v.1, renumbered-again p v.2) refl
 text-again v op.GreaterEq n m p pre = rw (renumbered-again m v.1, renumbered-again p v.2) refl
@@ -84,16 +89,21 @@ text-again v op.Less n m p pre = rw (renumbered-again m v.1, renumbered-again p 
 text-again v op.LessEq n m p pre = rw (renumbered-again m v.1, renumbered-again p v.2) refl
 text-again v op.Tilde n m p pre = rw (renumbered-again m v.1, renumbered-again p v.2) refl
 text-again v op.Caret n m p pre = rw (renumbered-again m v.1, renumbered-again p v.2) refl
-text-again v op.Wildcard n m p pre = rw (renumbered-again m v.1, renumbered-again p v.2, own-again (renumbered p v.2) pre) refl
+text-again v op.Wildcard n m p pre =
+    rw (renumbered-again m v.1, renumbered-again p v.2, own-again (renumbered p v.2) pre) refl
 
-more-again : (v : Parts) (cs : List Held) → more_text (map (raised v) (map tidy (map (raised v) cs))) ≡ more_text (map (raised v) cs)
+more-again : (v : Parts) (cs : List Held) → more_text (map (raised v) (map tidy (map (raised v) cs)))
+    ≡ more_text (map (raised v) cs)
 more-again v [] = refl
 more-again v (c ∷ cs) = rw (text-again v c.0 c.1 c.2 c.3 c.4, more-again v cs) refl
 
-req-again : (v : Parts) (c : Held) (cs : List Held) → requirement_text (map (raised v) (map tidy (map (raised v) (c ∷ cs)))) ≡ requirement_text (map (raised v) (c ∷ cs))
+req-again : (v : Parts) (c : Held) (cs : List Held)
+    → requirement_text (map (raised v) (map tidy (map (raised v) (c ∷ cs))))
+    ≡ requirement_text (map (raised v) (c ∷ cs))
 req-again v c cs = rw (text-again v c.0 c.1 c.2 c.3 c.4, more-again v cs) refl
 
-none-again : (cs : List Held) → AllByRecursion IsWritable cs → find (λ d. is_inequality d.0) (map tidy cs) ≡ None
+none-again : (cs : List Held) → AllByRecursion IsWritable cs
+    → find (λ d. is_inequality d.0) (map tidy cs) ≡ None
 none-again [] all = refl
 none-again (c ∷ cs) all = let fine = all.0.equality in rw fine (none-again cs all.1)
 
@@ -115,7 +125,8 @@ without-of op.Tilde n w rest fits = inl refl
 without-of op.Caret n w rest fits = inr (refl, refl)
 without-of op.Wildcard n w rest fits = inl (without-none _ (caret-number n w rest fits))
 
-once-of : (o : Op) (n : ℕ) (w rest : List ℕ) → n < 2 ^ 64 → starts_with_caret (without_caret ((sign o ++ (decimal n ++ w)) ++ rest)) ≡ false
+once-of : (o : Op) (n : ℕ) (w rest : List ℕ) → n < 2 ^ 64
+    → starts_with_caret (without_caret ((sign o ++ (decimal n ++ w)) ++ rest)) ≡ false
 once-of op.Exact n w rest fits = refl
 once-of op.Greater n w rest fits = refl
 once-of op.GreaterEq n w rest fits = refl
@@ -123,7 +134,8 @@ once-of op.Less n w rest fits = refl
 once-of op.LessEq n w rest fits = refl
 once-of op.Tilde n w rest fits = refl
 once-of op.Caret n w rest fits = caret-number n w rest fits
-once-of op.Wildcard n w rest fits = rw (without-none _ (caret-number n w rest fits)) (caret-number n w rest fits)
+once-of op.Wildcard n w rest fits = rw (without-none _ (caret-number n w rest fits))
+    (caret-number n w rest fits)
 
 led-self : (xs : List ℕ) → led_as xs xs ≡ xs
 led-self xs = elim (cases_Bool (starts_with_caret xs)) [
@@ -133,18 +145,21 @@ led-self xs = elim (cases_Bool (starts_with_caret xs)) [
 
 -- a text that leads as an old one did leads as itself
 led-again : (old : List ℕ) (c : Held) (cs : List Held) → c.1 < 2 ^ 64
-    → led_as (led_as old (requirement_text (c ∷ cs))) (requirement_text (c ∷ cs)) ≡ led_as old (requirement_text (c ∷ cs))
+    → led_as (led_as old (requirement_text (c ∷ cs))) (requirement_text (c ∷ cs))
+    ≡ led_as old (requirement_text (c ∷ cs))
 led-again old c cs fits =
     let rest = dotted c.2 ++ (dotted c.3 ++ (after_patch c.3 c.4 ++ star c.0 c.3)) in
     elim (cases_Bool (starts_with_caret old)) [
       | inl same ↦ rw same (led-self (requirement_text (c ∷ cs)))
       | inr other ↦
-          let once : starts_with_caret (without_caret (requirement_text (c ∷ cs))) ≡ false = once-of c.0 c.1 rest (more_text cs) fits in
+          let once : starts_with_caret (without_caret (requirement_text (c ∷ cs))) ≡ false =
+          once-of c.0 c.1 rest (more_text cs) fits in
           rw (other, once) refl
     ]
 
 -- the raised text reads as its comparators
-led-reads : (old : List ℕ) (c : Held) (cs : List Held) → IsWritable c → AllByRecursion IsWritable cs → length cs ≤ 31
+led-reads : (old : List ℕ) (c : Held) (cs : List Held) → IsWritable c → AllByRecursion IsWritable cs
+    → length cs ≤ 31
     → req_of (led_as old (requirement_text (c ∷ cs))) ≡ Ok (map tidy (c ∷ cs))
 led-reads old c cs w all le =
     let rest = dotted c.2 ++ (dotted c.3 ++ (after_patch c.3 c.4 ++ star c.0 c.3)) in
@@ -169,12 +184,14 @@ unless-read text new t h = elim (cases_Bool (pointwise nat_eq new text)) [
   | inr other ↦ cc (rw other at h)
 ]
 
-all-read : (text : List ℕ) (v : Parts) (t : List ℕ) (cs : List Held) (o : Option Held) → raise_all text v cs o ≡ Text t
+all-read : (text : List ℕ) (v : Parts) (t : List ℕ) (cs : List Held) (o : Option Held)
+    → raise_all text v cs o ≡ Text t
     → (o ≡ None) × (t ≡ led_as text (requirement_text (map (raised v) cs)))
 all-read text v t cs None h = (refl, unless-read text _ t h)
 all-read text v t cs (Some d) h = cc h
 
-read-raised : (text : List ℕ) (v : Parts) (t : List ℕ) (r : Result (List Held) Error) → req_of text ≡ r → raise_read text v r ≡ Text t
+read-raised : (text : List ℕ) (v : Parts) (t : List ℕ) (r : Result (List Held) Error) → req_of text ≡ r
+    → raise_read text v r ≡ Text t
     → (c : Held) × (cs : List Held) × IsRaised text v t c cs
 read-raised text v t (Err e) same h = cc h
 read-raised text v t (Ok []) same h = cc h
@@ -182,12 +199,15 @@ read-raised text v t (Ok (c ∷ cs)) same h =
     let a = all-read text v t (c ∷ cs) (find (λ d. is_inequality d.0) (c ∷ cs)) h in
     (c, cs, (same, a.0, a.1))
 
-pub raised-read : (text : List ℕ) (v : Parts) (t : List ℕ) → raise text v ≡ Text t → (c : Held) × (cs : List Held) × IsRaised text v t c cs
+pub raised-read : (text : List ℕ) (v : Parts) (t : List ℕ) → raise text v ≡ Text t → (c : Held)
+    × (cs : List Held) × IsRaised text v t c cs
 raised-read text v t h = read-raised text v t (req_of text) refl h
 
 -- what a raised text is read as
-pub raised-reads : (text : List ℕ) (v : Parts) (t : List ℕ) (c : Held) (cs : List Held) → IsVersion v → IsRaised text v t c cs
-    → (req_of t ≡ Ok (map tidy (map (raised v) (c ∷ cs)))) × AllByRecursion IsWritable (map (raised v) (c ∷ cs))
+pub raised-reads : (text : List ℕ) (v : Parts) (t : List ℕ) (c : Held) (cs : List Held) → IsVersion v
+    → IsRaised text v t c cs
+    → (req_of t ≡ Ok (map tidy (map (raised v) (c ∷ cs))))
+    × AllByRecursion IsWritable (map (raised v) (c ∷ cs))
 raised-reads text v t c cs w h =
     let shape = req-shape text (c ∷ cs) h.0 in
     let all = all-writable v (c ∷ cs) w shape.0 h.1 in
@@ -195,12 +215,14 @@ raised-reads text v t c cs w h =
     (ap (λ (x : List ℕ). req_of x) h.2 ∙ led-reads text (raised v c) (map (raised v) cs) all.0 all.1 few, all)
 
 -- raising a raised text gives no other
-pub raised-fixed : (text : List ℕ) (v : Parts) (t : List ℕ) (c : Held) (cs : List Held) → IsVersion v → IsRaised text v t c cs
+pub raised-fixed : (text : List ℕ) (v : Parts) (t : List ℕ) (c : Held) (cs : List Held) → IsVersion v
+    → IsRaised text v t c cs
     → raise t v ≡ Nothing
 raised-fixed text v t c cs w h =
     let r = raised-reads text v t c cs w h in
     let none = none-again (map (raised v) (c ∷ cs)) r.1 in
     let same : led_as t (requirement_text (map (raised v) (c ∷ cs))) ≡ t =
-    subst (λ (x : List ℕ). led_as x (requirement_text (map (raised v) (c ∷ cs))) ≡ x) (sym h.2) (led-again text (raised v c) (map (raised v) cs) r.1.0.major) in
+    subst (λ (x : List ℕ). led_as x (requirement_text (map (raised v) (c ∷ cs))) ≡ x) (sym h.2)
+    (led-again text (raised v c) (map (raised v) cs) r.1.0.major) in
     let self : pointwise nat_eq t t ≡ true = nat_list_eq_equiv.refl t in
     rw (r.0, none, req-again v c cs, same, self) refl

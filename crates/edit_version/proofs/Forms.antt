@@ -23,7 +23,8 @@ use Rattle.edit_version.proofs.Shapes.{IsShaped}
 
 -- ---- operators
 
-pub operators-same : (v : Parts) (cs : List Held) → map (λ c. c.0) (map tidy (map (raised v) cs)) ≡ map (λ c. c.0) cs
+pub operators-same : (v : Parts) (cs : List Held) → map (λ c. c.0) (map tidy (map (raised v) cs))
+    ≡ map (λ c. c.0) cs
 operators-same v [] = refl
 operators-same v (c ∷ cs) = ap (λ l. c.0 ∷ l) (operators-same v cs)
 
@@ -54,7 +55,8 @@ dotted-dash : (m : Option ℕ) → IsSmall m → holds_dash (dotted m) ≡ false
 dotted-dash None small = refl
 dotted-dash (Some n) small = decimal-no_dash n small
 
-pre-text-dash : (p : Option ℕ) (pre : List ℕ) → holds_dash (after_patch p pre) ≡ (is_some p && not (length pre == 0))
+pre-text-dash : (p : Option ℕ) (pre : List ℕ) → holds_dash (after_patch p pre)
+    ≡ (is_some p && not (length pre == 0))
 pre-text-dash None pre = refl
 pre-text-dash (Some p) [] = refl
 pre-text-dash (Some p) (b ∷ rest) = grind arith
@@ -68,8 +70,10 @@ comparator_text-dash : (c : Held) → c.1 < 2 ^ 64 → IsSmall c.2 → IsSmall c
 comparator_text-dash c major minor patch =
     let rest = after_patch c.3 c.4 ++ star c.0 c.3 in
     let last : holds_dash rest ≡ (is_some c.3 && not (length c.4 == 0)) =
-    dash-append (after_patch c.3 c.4) (star c.0 c.3) ∙ rw (star-dash c.0 c.3) (or-false _ ∙ pre-text-dash c.3 c.4) in
-    let third : holds_dash (dotted c.3 ++ rest) ≡ holds_dash rest = dash-append (dotted c.3) rest ∙ rw (dotted-dash c.3 patch) refl in
+    dash-append (after_patch c.3 c.4) (star c.0 c.3) ∙
+    rw (star-dash c.0 c.3) (or-false _ ∙ pre-text-dash c.3 c.4) in
+    let third : holds_dash (dotted c.3 ++ rest) ≡ holds_dash rest = dash-append (dotted c.3) rest ∙
+    rw (dotted-dash c.3 patch) refl in
     let second : holds_dash (dotted c.2 ++ (dotted c.3 ++ rest)) ≡ holds_dash (dotted c.3 ++ rest) =
     dash-append (dotted c.2) (dotted c.3 ++ rest) ∙ rw (dotted-dash c.2 minor) refl in
     let first : holds_dash (unsigned_text c) ≡ holds_dash (dotted c.2 ++ (dotted c.3 ++ rest)) =
@@ -79,7 +83,8 @@ comparator_text-dash c major minor patch =
     zeroth ∙ first ∙ second ∙ third ∙ last
 
 raised-dash : (o : Op) (p : Option ℕ) (own pre : List ℕ) (n : ℕ) → (o ≡ op.Wildcard → p ≡ None)
-    → (is_some (renumbered p n) && not (length (raised_pre o own pre) == 0)) ≡ (is_some p && not (length pre == 0))
+    → (is_some (renumbered p n) && not (length (raised_pre o own pre) == 0))
+    ≡ (is_some p && not (length pre == 0))
 raised-dash o None own pre n h = refl
 raised-dash op.Exact (Some p) own pre n h = refl
 raised-dash op.Greater (Some p) own pre n h = refl
@@ -92,7 +97,8 @@ raised-dash op.Wildcard (Some p) own pre n h = cc (h refl)
 
 one-dash : (v : Parts) (c : Held) → IsShaped c → IsWritable (raised v c)
     → holds_dash (comparator_text (raised v c)) ≡ (is_some c.3 && not (length v.3 == 0))
-one-dash v c s w = comparator_text-dash (raised v c) w.major w.minor w.patch ∙ raised-dash c.0 c.3 c.4 v.3 v.2 s.starred
+one-dash v c s w = comparator_text-dash (raised v c) w.major w.minor w.patch ∙
+    raised-dash c.0 c.3 c.4 v.3 v.2 s.starred
 
 spread : (x y d : Bool) → ((x && d) || (y && d)) ≡ ((x || y) && d)
 spread true true true = refl
@@ -104,7 +110,8 @@ spread false y d = refl
 comma-dash : (xs : List ℕ) → holds_dash (44 ∷ 32 ∷ xs) ≡ holds_dash xs
 comma-dash xs = refl
 
-more-dash : (v : Parts) (cs : List Held) → AllByRecursion IsShaped cs → AllByRecursion IsWritable (map (raised v) cs)
+more-dash : (v : Parts) (cs : List Held) → AllByRecursion IsShaped cs
+    → AllByRecursion IsWritable (map (raised v) cs)
     → holds_dash (more_text (map (raised v) cs)) ≡ (list_any (λ d. is_some d.3) cs && not (length v.3 == 0))
 more-dash v [] s w = refl
 more-dash v (c ∷ cs) s w =
@@ -128,9 +135,11 @@ led-dash old new = elim (cases_Bool (starts_with_caret old)) [
 ]
 
 -- a raised text has a dash where a comparator has a patch number and the version a pre-release
-pub raised_text-dash : (old : List ℕ) (v : Parts) (c : Held) (cs : List Held) → AllByRecursion IsShaped (c ∷ cs)
+pub raised_text-dash : (old : List ℕ) (v : Parts) (c : Held) (cs : List Held)
+    → AllByRecursion IsShaped (c ∷ cs)
     → AllByRecursion IsWritable (map (raised v) (c ∷ cs))
-    → holds_dash (led_as old (requirement_text (map (raised v) (c ∷ cs)))) ≡ (list_any (λ d. is_some d.3) (c ∷ cs) && not (length v.3 == 0))
+    → holds_dash (led_as old (requirement_text (map (raised v) (c ∷ cs))))
+    ≡ (list_any (λ d. is_some d.3) (c ∷ cs) && not (length v.3 == 0))
 raised_text-dash old v c cs s w =
     led-dash old (requirement_text (map (raised v) (c ∷ cs)))
     ∙ dash-append (comparator_text (raised v c)) (more_text (map (raised v) cs))
@@ -153,10 +162,12 @@ cmp-equal a b h =
     let one : nat_lt a b ≡ false = grind arith in
     rw (one, h) refl
 
-then-equal : (a b : ℕ) (r : Ordering) → (a == b) ≡ true → is_ge r ≡ true → is_ge (ordering_then (nat_cmp a b) r) ≡ true
+then-equal : (a b : ℕ) (r : Ordering) → (a == b) ≡ true → is_ge r ≡ true
+    → is_ge (ordering_then (nat_cmp a b) r) ≡ true
 then-equal a b r h g = rw (cmp-equal a b h) g
 
-then-lex : (a b : ℕ) (x : Bool) (r : Ordering) → (nat_lt b a || ((a == b) && x)) ≡ true → (x ≡ true → is_ge r ≡ true)
+then-lex : (a b : ℕ) (x : Bool) (r : Ordering) → (nat_lt b a || ((a == b) && x)) ≡ true
+    → (x ≡ true → is_ge r ≡ true)
     → is_ge (ordering_then (nat_cmp a b) r) ≡ true
 then-lex a b x r h f = elim (or-cases (nat_lt b a) ((a == b) && x) h) [
   | inl above ↦ rw (cmp-greater a b above) refl
@@ -169,7 +180,8 @@ least-of op.Exact n m p pre v w u i h =
     let h1 = left_of _ _ h in
     let h2 = left_of _ _ h1 in
     let same : w.3 ≡ v.3 = same_text w.3 v.3 (right_of _ _ h) in
-    then-equal w.0 v.0 _ (left_of _ _ h2) (then-equal w.1 v.1 _ (right_of _ _ h2) (then-equal w.2 v.2 _ (right_of _ _ h1)
+    then-equal w.0 v.0 _ (left_of _ _ h2)
+    (then-equal w.1 v.1 _ (right_of _ _ h2) (then-equal w.2 v.2 _ (right_of _ _ h1)
     (subst (λ (x : List ℕ). is_ge (pre_cmp w.3 x) ≡ true) same (pre-self w.3))))
 least-of op.Tilde n m p pre v w u i h =
     let h1 = left_of _ _ h in
@@ -188,15 +200,19 @@ least-of op.LessEq n m p pre v w u i h = cc i
 wild-none : (o : Op) (p : Option ℕ) (k : ℕ) → (o ≡ op.Wildcard → p ≡ None) → p ≡ Some k → o ≡ op.Wildcard → ⊥
 wild-none o p k h e x = cc (sym (h x) ∙ e)
 
-least-one : (o : Op) (n : ℕ) (m p : Option ℕ) (pre : List ℕ) (v w : Parts) → IsShaped (o, n, m, p, pre) → is_inequality o ≡ false
+least-one : (o : Op) (n : ℕ) (m p : Option ℕ) (pre : List ℕ) (v w : Parts) → IsShaped (o, n, m, p, pre)
+    → is_inequality o ≡ false
     → is_some p ≡ true → accepts (tidy (raised v (o, n, m, p, pre))) w ≡ true → is_ge (precedence w v) ≡ true
 least-one o n m None pre v w s i e h = cc e
 least-one o n None (Some p) pre v w s i e h = cc (s.nested refl)
-least-one o n (Some m) (Some p) pre v w s i e h = least-of o n m p pre v w (wild-none o (Some p) p s.starred refl) i h
+least-one o n (Some m) (Some p) pre v w s i e h = least-of o n m p pre v w
+    (wild-none o (Some p) p s.starred refl) i h
 
 -- where a comparator has a patch number, no version below the one that it was raised to is admitted
-pub least-all : (v w : Parts) (cs : List Held) → AllByRecursion IsShaped cs → find (λ d. is_inequality d.0) cs ≡ None
-    → list_any (λ d. is_some d.3) cs ≡ true → list_all (λ c. accepts c w) (map tidy (map (raised v) cs)) ≡ true
+pub least-all : (v w : Parts) (cs : List Held) → AllByRecursion IsShaped cs
+    → find (λ d. is_inequality d.0) cs ≡ None
+    → list_any (λ d. is_some d.3) cs ≡ true → list_all (λ c. accepts c w) (map tidy (map (raised v) cs))
+    ≡ true
     → is_ge (precedence w v) ≡ true
 least-all v w [] s n e h = cc e
 least-all v w (c ∷ cs) s n e h =

@@ -12,22 +12,26 @@ use Rattle.edit_version.specs.Greatest.{IsGreatest, IsGreatestKept, advance}
 
 module _ {X : Type 0} (keep : X → Bool) (cmp : X → X → Ordering) (o : IsTotalOrder cmp) where
   -- none was kept, and this one is not
-  pub none-more : (xs : List X) (x : X) → IsGreatest keep cmp xs None → keep x ≡ false → IsGreatest keep cmp (xs ++ x ∷ []) None
+  pub none-more : (xs : List X) (x : X) → IsGreatest keep cmp xs None → keep x ≡ false
+      → IsGreatest keep cmp (xs ++ x ∷ []) None
   none-more xs x h k = All-push (λ y. keep y ≡ false) xs x h k
 
   -- none was kept, and this one is
-  pub first-kept : (xs : List X) (x : X) → IsGreatest keep cmp xs None → keep x ≡ true → IsGreatest keep cmp (xs ++ x ∷ []) (Some x)
+  pub first-kept : (xs : List X) (x : X) → IsGreatest keep cmp xs None → keep x ≡ true
+      → IsGreatest keep cmp (xs ++ x ∷ []) (Some x)
   first-kept xs x h k = record {
     front = xs;
     rest = [];
     split = refl;
     kept = k;
-    before = All-weaker (λ y. keep y ≡ false) (λ y. keep y ≡ true → is_le (cmp y x) ≡ true) (λ y n p. cc (sym n ∙ p)) xs h;
+    before = All-weaker (λ y. keep y ≡ false) (λ y. keep y ≡ true → is_le (cmp y x) ≡ true)
+        (λ y n p. cc (sym n ∙ p)) xs h;
     after = All-nil (λ y. keep y ≡ true → cmp y x ≡ Less);
   }
 
   -- this one is not kept, or is below
-  pub stays : (xs : List X) (x e : X) → IsGreatest keep cmp xs (Some e) → (keep x ≡ true → cmp x e ≡ Less) → IsGreatest keep cmp (xs ++ x ∷ []) (Some e)
+  pub stays : (xs : List X) (x e : X) → IsGreatest keep cmp xs (Some e) → (keep x ≡ true → cmp x e ≡ Less)
+      → IsGreatest keep cmp (xs ++ x ∷ []) (Some e)
   stays xs x e h k = record {
     front = h.front;
     rest = h.rest ++ x ∷ [];
@@ -37,7 +41,8 @@ module _ {X : Type 0} (keep : X → Bool) (cmp : X → X → Ordering) (o : IsTo
     after = All-push (λ y. keep y ≡ true → cmp y e ≡ Less) h.rest x h.after k;
   }
 
-  le-less-of : (r : Ordering) (a b c : X) → cmp a b ≡ r → is_le r ≡ true → cmp b c ≡ Less → is_le (cmp a c) ≡ true
+  le-less-of : (r : Ordering) (a b c : X) → cmp a b ≡ r → is_le r ≡ true → cmp b c ≡ Less
+      → is_le (cmp a c) ≡ true
   le-less-of Less a b c e p g = let t : cmp a c ≡ Less = o.trans a b c e g in ap is_le t
   le-less-of Equal a b c e p g = let t : cmp a c ≡ Less = o.congr a b c e ∙ g in ap is_le t
   le-less-of Greater a b c e p g = cc p
@@ -52,7 +57,8 @@ module _ {X : Type 0} (keep : X → Bool) (cmp : X → X → Ordering) (o : IsTo
   reverse-le r Equal e n = rw e refl
   reverse-le r Greater e n = rw e refl
 
-  less-le-of : (r : Ordering) (a b c : X) → cmp b c ≡ r → cmp a b ≡ Less → is_le r ≡ true → is_le (cmp a c) ≡ true
+  less-le-of : (r : Ordering) (a b c : X) → cmp b c ≡ r → cmp a b ≡ Less → is_le r ≡ true
+      → is_le (cmp a c) ≡ true
   less-le-of Less a b c e p g = let t : cmp a c ≡ Less = o.trans a b c p e in ap is_le t
   less-le-of Equal a b c e p g =
       let back : cmp c b ≡ Equal = o.antisymm c b ∙ ap ordering_reverse e in
@@ -61,13 +67,15 @@ module _ {X : Type 0} (keep : X → Bool) (cmp : X → X → Ordering) (o : IsTo
       ap is_le over
   less-le-of Greater a b c e p g = cc g
 
-  le-trans-of : (r : Ordering) (a b c : X) → cmp a b ≡ r → is_le r ≡ true → is_le (cmp b c) ≡ true → is_le (cmp a c) ≡ true
+  le-trans-of : (r : Ordering) (a b c : X) → cmp a b ≡ r → is_le r ≡ true → is_le (cmp b c) ≡ true
+      → is_le (cmp a c) ≡ true
   le-trans-of Less a b c e p g = less-le-of (cmp b c) a b c refl e g
   le-trans-of Equal a b c e p g = ap is_le (o.congr a b c e) ∙ g
   le-trans-of Greater a b c e p g = cc p
 
   -- this one is kept, and not below
-  pub rises : (xs : List X) (x e : X) → IsGreatest keep cmp xs (Some e) → keep x ≡ true → (cmp x e ≡ Less → ⊥) → IsGreatest keep cmp (xs ++ x ∷ []) (Some x)
+  pub rises : (xs : List X) (x e : X) → IsGreatest keep cmp xs (Some e) → keep x ≡ true → (cmp x e ≡ Less → ⊥)
+      → IsGreatest keep cmp (xs ++ x ∷ []) (Some x)
   rises xs x e h k n =
       let above : is_le (cmp e x) ≡ true = reverse-le (cmp e x) (cmp x e) (o.antisymm e x) n in
       let front : All (λ y. keep y ≡ true → is_le (cmp y x) ≡ true) h.front =
@@ -93,7 +101,8 @@ less-from Equal h = cc h
 less-from Greater h = cc h
 
 -- one entry more
-pub advanced : {X : Type 0} (keep : X → Bool) (cmp : X → X → Ordering) → IsTotalOrder cmp → (xs : List X) (x : X) (best : Option X)
+pub advanced : {X : Type 0} (keep : X → Bool) (cmp : X → X → Ordering) → IsTotalOrder cmp
+    → (xs : List X) (x : X) (best : Option X)
     → IsGreatest keep cmp xs best → IsGreatest keep cmp (xs ++ x ∷ []) (advance keep cmp best x)
 advanced keep cmp o xs x None h = elim (cases_Bool (keep x)) [
   | inl kept ↦ rw kept (first-kept keep cmp o xs x h kept)
@@ -108,44 +117,59 @@ advanced keep cmp o xs x (Some e) h = elim (cases_Bool (keep x)) [
 ]
 
 -- one entry more of a list that is seen by a function
-pub advanced-more : {X Y : Type 0} (f : Y → X) (keep : X → Bool) (cmp : X → X → Ordering) → IsTotalOrder cmp → (ys : List Y) (i : ℕ) (y : Y)
-    (best next : Option X) → i < length ys → y ≡ get_or ys i y → IsGreatest keep cmp (map f (take i ys)) best → next ≡ advance keep cmp best (f y)
+pub advanced-more : {X Y : Type 0} (f : Y → X) (keep : X → Bool) (cmp : X → X → Ordering) → IsTotalOrder cmp
+    → (ys : List Y) (i : ℕ) (y : Y)
+    (best next : Option X) → i < length ys → y ≡ get_or ys i y → IsGreatest keep cmp (map f (take i ys)) best
+    → next ≡ advance keep cmp best (f y)
     → IsGreatest keep cmp (map f (take (i + 1) ys)) next
 advanced-more {X} {Y} f keep cmp o ys i y best next lt at h e =
-    let more : take (i + 1) ys ≡ take i ys ++ y ∷ [] = take_more ys i y lt ∙ ap (λ (z : Y). take i ys ++ z ∷ []) (sym at) in
-    let seen : map f (take (i + 1) ys) ≡ map f (take i ys) ++ f y ∷ [] = ap (λ (l : List Y). map f l) more ∙ map-append f (take i ys) (y ∷ []) in
+    let more : take (i + 1) ys ≡ take i ys ++ y ∷ [] = take_more ys i y lt ∙
+    ap (λ (z : Y). take i ys ++ z ∷ []) (sym at) in
+    let seen : map f (take (i + 1) ys) ≡ map f (take i ys) ++ f y ∷ [] = ap (λ (l : List Y). map f l) more ∙
+    map-append f (take i ys) (y ∷ []) in
     subst (λ (l : List X). IsGreatest keep cmp l next) (sym seen)
-    (subst (λ (o : Option X). IsGreatest keep cmp (map f (take i ys) ++ f y ∷ []) o) (sym e) (advanced keep cmp o (map f (take i ys)) (f y) best h))
+    (subst (λ (o : Option X). IsGreatest keep cmp (map f (take i ys) ++ f y ∷ []) o) (sym e)
+    (advanced keep cmp o (map f (take i ys)) (f y) best h))
 
 -- the whole list
-pub advanced-all : {X Y : Type 0} (f : Y → X) (keep : X → Bool) (cmp : X → X → Ordering) (ys : List Y) (i : ℕ) (best : Option X) → length ys ≤ i
+pub advanced-all : {X Y : Type 0} (f : Y → X) (keep : X → Bool) (cmp : X → X → Ordering) (ys : List Y) (i : ℕ)
+    (best : Option X) → length ys ≤ i
     → IsGreatest keep cmp (map f (take i ys)) best → IsGreatest keep cmp (map f ys) best
 advanced-all {X} {Y} f keep cmp ys i best le h =
     subst (λ (l : List Y). IsGreatest keep cmp (map f l) best) (take_all i ys le) h
 
 -- every kept entry is at most the greatest
-all-le : {X : Type 0} (keep : X → Bool) (cmp : X → X → Ordering) → IsTotalOrder cmp → (xs : List X) (e : X) → IsGreatestKept keep cmp xs e
+all-le : {X : Type 0} (keep : X → Bool) (cmp : X → X → Ordering) → IsTotalOrder cmp → (xs : List X) (e : X)
+    → IsGreatestKept keep cmp xs e
     → All (λ x. keep x ≡ true → is_le (cmp x e) ≡ true) xs
 all-le keep cmp o xs e h =
     let at : All (λ x. keep x ≡ true → is_le (cmp x e) ≡ true) h.rest =
-    All-weaker (λ x. keep x ≡ true → cmp x e ≡ Less) (λ x. keep x ≡ true → is_le (cmp x e) ≡ true) (λ x p q. ap is_le (p q)) h.rest h.after in
+    All-weaker (λ x. keep x ≡ true → cmp x e ≡ Less) (λ x. keep x ≡ true → is_le (cmp x e) ≡ true)
+    (λ x p q. ap is_le (p q)) h.rest h.after in
     All-same (λ x. keep x ≡ true → is_le (cmp x e) ≡ true) xs (h.front ++ e ∷ h.rest) h.split
     (All-append (λ x. keep x ≡ true → is_le (cmp x e) ≡ true) h.front (e ∷ h.rest) h.before
-    (All-cons (λ x. keep x ≡ true → is_le (cmp x e) ≡ true) e h.rest (λ q. self-of keep cmp o (cmp e e) (o.antisymm e e)) at))
+    (All-cons (λ x. keep x ≡ true → is_le (cmp x e) ≡ true) e h.rest
+    (λ q. self-of keep cmp o (cmp e e) (o.antisymm e e)) at))
 
 -- the greatest of more entries is not below
-pub wider : {X : Type 0} (keep wide : X → Bool) (cmp : X → X → Ordering) → IsTotalOrder cmp → ((x : X) → keep x ≡ true → wide x ≡ true)
-    → (xs : List X) (e f : X) → IsGreatestKept keep cmp xs e → IsGreatestKept wide cmp xs f → is_le (cmp e f) ≡ true
+pub wider : {X : Type 0} (keep wide : X → Bool) (cmp : X → X → Ordering) → IsTotalOrder cmp
+    → ((x : X) → keep x ≡ true → wide x ≡ true)
+    → (xs : List X) (e f : X) → IsGreatestKept keep cmp xs e → IsGreatestKept wide cmp xs f
+    → is_le (cmp e f) ≡ true
 wider keep wide cmp o more xs e f h g =
-    let all = All-same (λ x. wide x ≡ true → is_le (cmp x f) ≡ true) (h.front ++ e ∷ h.rest) xs (sym h.split) (all-le wide cmp o xs f g) in
-    let part = All-drop (λ x. wide x ≡ true → is_le (cmp x f) ≡ true) (length h.front) (h.front ++ e ∷ h.rest) all in
+    let all = All-same (λ x. wide x ≡ true → is_le (cmp x f) ≡ true) (h.front ++ e ∷ h.rest) xs (sym h.split)
+    (all-le wide cmp o xs f g) in
+    let part = All-drop (λ x. wide x ≡ true → is_le (cmp x f) ≡ true) (length h.front)
+    (h.front ++ e ∷ h.rest) all in
     let here : All (λ x. wide x ≡ true → is_le (cmp x f) ≡ true) (e ∷ h.rest) =
-    All-same (λ x. wide x ≡ true → is_le (cmp x f) ≡ true) (e ∷ h.rest) (drop (length h.front) (h.front ++ e ∷ h.rest))
+    All-same (λ x. wide x ≡ true → is_le (cmp x f) ≡ true) (e ∷ h.rest)
+    (drop (length h.front) (h.front ++ e ∷ h.rest))
     (sym (drop_at h.front (e ∷ h.rest) (length h.front) refl)) part in
     All-head (λ x. wide x ≡ true → is_le (cmp x f) ≡ true) e h.rest here (more e h.kept)
 
 -- where an entry is kept, there is a greatest of more
-pub wider-found : {X : Type 0} (keep wide : X → Bool) (cmp : X → X → Ordering) → ((x : X) → keep x ≡ true → wide x ≡ true)
+pub wider-found : {X : Type 0} (keep wide : X → Bool) (cmp : X → X → Ordering)
+    → ((x : X) → keep x ≡ true → wide x ≡ true)
     → (xs : List X) (e : X) → IsGreatestKept keep cmp xs e → IsGreatest wide cmp xs None → ⊥
 wider-found keep wide cmp more xs e h g =
     let all = All-same (λ x. wide x ≡ false) (h.front ++ e ∷ h.rest) xs (sym h.split) g in

@@ -13,10 +13,12 @@ pub listed-grown : (xs : List ℕ) (i x : ℕ) (start now mid next : List ℕ) �
     → now ≡ start ++ after_comma (take i xs) → mid ≡ now ++ codes ", " → next ≡ mid ++ encode_utf8 x
     → next ≡ start ++ after_comma (take (i + 1) xs)
 listed-grown xs i x start now mid next lt at h m n =
-    let one : take (i + 1) xs ≡ take i xs ++ x ∷ [] = take_more xs i x lt ∙ ap (λ (y : ℕ). take i xs ++ y ∷ []) (sym at) in
+    let one : take (i + 1) xs ≡ take i xs ++ x ∷ [] = take_more xs i x lt ∙
+    ap (λ (y : ℕ). take i xs ++ y ∷ []) (sym at) in
     let cs = take i xs in
     let three : after_comma (cs ++ x ∷ []) ≡ after_comma cs ++ (codes ", " ++ encode_utf8 x) =
-    after_comma-append cs (x ∷ []) ∙ ap (λ (t : List ℕ). after_comma cs ++ (codes ", " ++ t)) (append-nil (encode_utf8 x)) in
+    after_comma-append cs (x ∷ []) ∙ ap (λ (t : List ℕ). after_comma cs ++ (codes ", " ++ t))
+    (append-nil (encode_utf8 x)) in
     n ∙ ap (λ (t : List ℕ). t ++ encode_utf8 x) (m ∙ ap (λ (t : List ℕ). t ++ codes ", ") h)
     ∙ append_assoc (start ++ after_comma cs) (codes ", ") (encode_utf8 x)
     ∙ append_assoc start (after_comma cs) (codes ", " ++ encode_utf8 x)

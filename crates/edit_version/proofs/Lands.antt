@@ -30,7 +30,8 @@ pub record Lands (v : Parts) (t : List ℕ) : Type 0 where
   pub least : 0 < length v.3 → (w : Parts) → Admits t w → is_ge (precedence w v) ≡ true
 
 -- an outcome of raising, where the version was offered
-pub outcome-lands : (old : List ℕ) (v : Parts) (t : List ℕ) → IsValid v → is_offered old v ≡ true → IsOutcome old v t → Lands v t
+pub outcome-lands : (old : List ℕ) (v : Parts) (t : List ℕ) → IsValid v → is_offered old v ≡ true
+    → IsOutcome old v t → Lands v t
 outcome-lands old v t valid offered h =
     let w = valid-version v valid in
     record {
@@ -46,7 +47,8 @@ pub plain-admits : (v : Parts) → IsValid v → Admits (plain_text v) v
 plain-admits v valid =
     let p = plain_text-plain v valid in
     let three : All HasThreeNumbers ((op.Caret, v.0, Some v.1, Some v.2, v.3) ∷ []) =
-    All-cons HasThreeNumbers (op.Caret, v.0, Some v.1, Some v.2, v.3) [] (refl, refl) (All-nil HasThreeNumbers) in
+    All-cons HasThreeNumbers (op.Caret, v.0, Some v.1, Some v.2, v.3) [] (refl, refl)
+    (All-nil HasThreeNumbers) in
     reach-of (plain_text v) v (plain_text v) (valid-version v valid) (nothing-outcome (plain_text v) v p.1)
     (inr ((op.Caret, v.0, Some v.1, Some v.2, v.3) ∷ [], p.0, omega arith, three))
 
@@ -62,34 +64,41 @@ plain-lands v valid =
       plain = release-no_dash (plain_text v) v (plain_text v) w h;
       marked = λ some. admits-dash (plain_text v) v a some;
       reached = λ none. a;
-      least = λ some u b. no_lower-of (plain_text v) v (plain_text v) w h (admits-dash (plain_text v) v a some) some u b;
+      least = λ some u b. no_lower-of (plain_text v) v (plain_text v) w h
+          (admits-dash (plain_text v) v a some) some u b;
     }
 
 -- ---- the second time
 
 -- after the latest version was written, it is the latest again
-pub latest-again : (xs : List Parts) (old t : List ℕ) (v : Parts) → Lands v t → IsGreatestKept (is_offered old) full_order xs v
+pub latest-again : (xs : List Parts) (old t : List ℕ) (v : Parts) → Lands v t
+    → IsGreatestKept (is_offered old) full_order xs v
     → IsGreatestKept (is_offered t) full_order xs v
 latest-again xs old t v l h = elim (release-or v) [
   | inl plain ↦
       let none = l.plain plain in
-      fewer (is_offered t) (is_offered old) (λ x k. offered-plain old x (plain-offered t x k none)) xs v h (offered-plain t v plain)
+      fewer (is_offered t) (is_offered old) (λ x k. offered-plain old x (plain-offered t x k none)) xs v h
+      (offered-plain t v plain)
   | inr some ↦
       let dash = dash-offered old v h.kept some in
-      fewer (is_offered t) (is_offered old) (λ x k. offered-dash old x dash) xs v h (offered-dash t v (l.marked some))
+      fewer (is_offered t) (is_offered old) (λ x k. offered-dash old x dash) xs v h
+      (offered-dash t v (l.marked some))
 ]
 
 -- a version that the new text admits is the written one, but for build metadata
-pub near-is : (xs : List Parts) (t : List ℕ) (v u : Parts) → Lands v t → IsGreatestKept (is_offered t) full_order xs v
+pub near-is : (xs : List Parts) (t : List ℕ) (v u : Parts) → Lands v t
+    → IsGreatestKept (is_offered t) full_order xs v
     → IsGreatestKept (is_admitted t) full_order xs u → SameVersion u v
 near-is xs t v u l far near = elim (release-or v) [
   | inl plain ↦
-      let mine = fewer (is_admitted t) (is_offered t) (λ x k. admitted-offered t x k) xs v far (is_admitted-true t v (l.reached plain)) in
+      let mine = fewer (is_admitted t) (is_offered t) (λ x k. admitted-offered t x k) xs v far
+      (is_admitted-true t v (l.reached plain)) in
       let same : Some u ≡ Some v = greatest-same (is_admitted t) xs (Some u) (Some v) near mine in
       let e : u ≡ v = cc same in
       subst (λ (x : Parts). SameVersion u x) e (refl, refl, refl, refl)
   | inr some ↦
-      squeezed u v (wider (is_admitted t) (is_offered t) full_order full_total (λ x k. admitted-offered t x k) xs u v near far)
+      squeezed u v (wider (is_admitted t) (is_offered t) full_order full_total
+      (λ x k. admitted-offered t x k) xs u v near far)
       (l.least some u (admitted t u near.kept))
 ]
 
@@ -115,7 +124,9 @@ plain_text-parts u v a b e =
     held-parts u v (sym p ∙ ap (λ (x : List ℕ). req_of x) e ∙ q)
 
 -- after the compatible version was written, it is compatible again
-pub near-again : (xs : List Parts) (old t : List ℕ) (u : Parts) → IsNarrower old t u → IsGreatestKept (is_admitted old) full_order xs u
+pub near-again : (xs : List Parts) (old t : List ℕ) (u : Parts) → IsNarrower old t u
+    → IsGreatestKept (is_admitted old) full_order xs u
     → IsGreatestKept (is_admitted t) full_order xs u
 near-again xs old t u n h =
-    fewer (is_admitted t) (is_admitted old) (λ x k. is_admitted-true old x (n.1 x (admitted t x k))) xs u h (is_admitted-true t u n.0)
+    fewer (is_admitted t) (is_admitted old) (λ x k. is_admitted-true old x (n.1 x (admitted t x k))) xs u h
+    (is_admitted-true t u n.0)

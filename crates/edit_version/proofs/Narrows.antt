@@ -38,15 +38,18 @@ equal-trans a b c h g = grind arith
 
 -- list order is transitive
 lex-trans : (a b c : ℕ) (x y z : Bool) → (x ≡ true → y ≡ true → z ≡ true)
-    → (nat_lt a b || ((b == a) && x)) ≡ true → (nat_lt b c || ((c == b) && y)) ≡ true → (nat_lt a c || ((c == a) && z)) ≡ true
+    → (nat_lt a b || ((b == a) && x)) ≡ true → (nat_lt b c || ((c == b) && y)) ≡ true
+    → (nat_lt a c || ((c == a) && z)) ≡ true
 lex-trans a b c x y z t h g = grind arith
 
-fixed-trans : (n m v0 v1 w1 : ℕ) → (v0 == n) ≡ true → (not (n == 0) || (v1 == m)) ≡ true → (not (v0 == 0) || (w1 == v1)) ≡ true
+fixed-trans : (n m v0 v1 w1 : ℕ) → (v0 == n) ≡ true → (not (n == 0) || (v1 == m)) ≡ true
+    → (not (v0 == 0) || (w1 == v1)) ≡ true
     → (not (n == 0) || (w1 == m)) ≡ true
 fixed-trans n m v0 v1 w1 e h g = grind arith
 
 fixed-trans-2 : (n m p v0 v1 v2 w2 : ℕ) → (v0 == n) ≡ true → (not (n == 0) || (v1 == m)) ≡ true
-    → (not (n == 0) || not (m == 0) || (v2 == p)) ≡ true → (not (v0 == 0) || not (v1 == 0) || (w2 == v2)) ≡ true
+    → (not (n == 0) || not (m == 0) || (v2 == p)) ≡ true
+    → (not (v0 == 0) || not (v1 == 0) || (w2 == v2)) ≡ true
     → (not (n == 0) || not (m == 0) || (w2 == p)) ≡ true
 fixed-trans-2 n m p v0 v1 v2 w2 e f h g = grind arith
 
@@ -72,7 +75,8 @@ reverse-greater : (r s : Ordering) → r ≡ ordering_reverse s → s ≡ Less �
 reverse-greater r s e h = rw (e, h) refl
 
 -- an order that is not below is transitive
-ge-trans : {K : Type 0} (R : K → K → Ordering) → IsTotalOrder R → (a b c : K) → is_ge (R a b) ≡ true → is_ge (R b c) ≡ true → is_ge (R a c) ≡ true
+ge-trans : {K : Type 0} (R : K → K → Ordering) → IsTotalOrder R → (a b c : K) → is_ge (R a b) ≡ true
+    → is_ge (R b c) ≡ true → is_ge (R a c) ≡ true
 ge-trans R o a b c h g = elim (ge-cases (R a b) h) [
   | inl same ↦ rw (o.congr a b c same) g
   | inr above ↦ elim (ge-cases (R b c) g) [
@@ -90,7 +94,8 @@ ge-trans R o a b c h g = elim (ge-cases (R a b) h) [
   ]
 ]
 
-pub pre-trans : (a b c : List ℕ) → is_ge (pre_cmp a b) ≡ true → is_ge (pre_cmp b c) ≡ true → is_ge (pre_cmp a c) ≡ true
+pub pre-trans : (a b c : List ℕ) → is_ge (pre_cmp a b) ≡ true → is_ge (pre_cmp b c) ≡ true
+    → is_ge (pre_cmp a c) ≡ true
 pre-trans a b c h g = ge-trans pre_cmp pre_total a b c h g
 
 self-equal : (r : Ordering) → r ≡ ordering_reverse r → is_ge r ≡ true
@@ -103,7 +108,8 @@ pre-self a = self-equal _ (pre_total.antisymm a a)
 
 -- ---- one comparator
 
-agrees-trans : (m : Option ℕ) (a b : ℕ) → agrees m a ≡ true → agrees (renumbered m a) b ≡ true → agrees m b ≡ true
+agrees-trans : (m : Option ℕ) (a b : ℕ) → agrees m a ≡ true → agrees (renumbered m a) b ≡ true
+    → agrees m b ≡ true
 agrees-trans None a b h g = refl
 agrees-trans (Some m) a b h g = equal-trans m a b h g
 
@@ -122,38 +128,47 @@ tilde-trans : (p : Option ℕ) (pre : List ℕ) (v w : Parts) → (p ≡ None �
     → tilde_patch (renumbered p v.2) (read_pre (renumbered p v.2) v.3) w ≡ true → tilde_patch p pre w ≡ true
 tilde-trans None pre v w none h g = rw (none refl) g
 tilde-trans (Some p) pre v w none h g =
-    lex-trans p v.2 w.2 (pre_reaches v.3 pre) (pre_reaches w.3 v.3) (pre_reaches w.3 pre) (λ x y. pre-trans w.3 v.3 pre y x) h g
+    lex-trans p v.2 w.2 (pre_reaches v.3 pre) (pre_reaches w.3 v.3) (pre_reaches w.3 pre)
+    (λ x y. pre-trans w.3 v.3 pre y x) h g
 
-caret-full : (n m p : ℕ) (pre : List ℕ) (v w : Parts) → (v.0 == n) ≡ true → caret_minor n m (Some p) pre v ≡ true
+caret-full : (n m p : ℕ) (pre : List ℕ) (v w : Parts) → (v.0 == n) ≡ true
+    → caret_minor n m (Some p) pre v ≡ true
     → caret_minor v.0 v.1 (Some v.2) v.3 w ≡ true → caret_minor n m (Some p) pre w ≡ true
 caret-full n m p pre v w e h g =
     let h1 = left_of _ _ h in
     let g1 = left_of _ _ g in
-    let inner : (nat_lt p v.2 || ((v.2 == p) && pre_reaches v.3 pre)) ≡ true → (nat_lt v.2 w.2 || ((w.2 == v.2) && pre_reaches w.3 v.3)) ≡ true
+    let inner : (nat_lt p v.2 || ((v.2 == p) && pre_reaches v.3 pre)) ≡ true
+    → (nat_lt v.2 w.2 || ((w.2 == v.2) && pre_reaches w.3 v.3)) ≡ true
     → (nat_lt p w.2 || ((w.2 == p) && pre_reaches w.3 pre)) ≡ true =
-    lex-trans p v.2 w.2 (pre_reaches v.3 pre) (pre_reaches w.3 v.3) (pre_reaches w.3 pre) (λ x y. pre-trans w.3 v.3 pre y x) in
+    lex-trans p v.2 w.2 (pre_reaches v.3 pre) (pre_reaches w.3 v.3) (pre_reaches w.3 pre)
+    (λ x y. pre-trans w.3 v.3 pre y x) in
     let lex = lex-trans m v.1 w.1 _ _ _ inner (left_of _ _ h1) (left_of _ _ g1) in
     let minor = fixed-trans n m v.0 v.1 w.1 e (right_of _ _ h1) (right_of _ _ g1) in
     let patch = fixed-trans-2 n m p v.0 v.1 v.2 w.2 e (right_of _ _ h1) (right_of _ _ h) (right_of _ _ g) in
     both _ _ (both _ _ lex minor) patch
 
-caret-trans : (n : ℕ) (m p : Option ℕ) (pre : List ℕ) (v w : Parts) → (m ≡ None → p ≡ None) → (v.0 == n) ≡ true → (w.0 == v.0) ≡ true
-    → caret_after n m p pre v ≡ true → caret_after v.0 (renumbered m v.1) (renumbered p v.2) (read_pre (renumbered p v.2) v.3) w ≡ true
+caret-trans : (n : ℕ) (m p : Option ℕ) (pre : List ℕ) (v w : Parts) → (m ≡ None → p ≡ None)
+    → (v.0 == n) ≡ true → (w.0 == v.0) ≡ true
+    → caret_after n m p pre v ≡ true
+    → caret_after v.0 (renumbered m v.1) (renumbered p v.2) (read_pre (renumbered p v.2) v.3) w ≡ true
     → caret_after n m p pre w ≡ true
 caret-trans n None p pre v w nested e f h g = refl
 caret-trans n (Some m) None pre v w nested e f h g =
     right_of _ _ (caret-two n m v.0 v.1 w.0 w.1 (both _ _ e h) (both _ _ f g))
 caret-trans n (Some m) (Some p) pre v w nested e f h g = caret-full n m p pre v w e h g
 
-narrows-of : (o : Op) (n : ℕ) (m p : Option ℕ) (pre : List ℕ) (v w : Parts) → IsShaped (o, n, m, p, pre) → is_inequality o ≡ false
-    → accepts (o, n, m, p, pre) v ≡ true → accepts (tidy (raised v (o, n, m, p, pre))) w ≡ true → accepts (o, n, m, p, pre) w ≡ true
+narrows-of : (o : Op) (n : ℕ) (m p : Option ℕ) (pre : List ℕ) (v w : Parts) → IsShaped (o, n, m, p, pre)
+    → is_inequality o ≡ false
+    → accepts (o, n, m, p, pre) v ≡ true → accepts (tidy (raised v (o, n, m, p, pre))) w ≡ true
+    → accepts (o, n, m, p, pre) w ≡ true
 narrows-of op.Exact n m p pre v w s i h g =
     let h1 = left_of _ _ h in
     let g1 = left_of _ _ g in
     let h2 = left_of _ _ h1 in
     let g2 = left_of _ _ g1 in
     both _ _ (both _ _ (both _ _ (equal-trans n v.0 w.0 (left_of _ _ h2) (left_of _ _ g2))
-    (agrees-trans m v.1 w.1 (right_of _ _ h2) (right_of _ _ g2))) (agrees-trans p v.2 w.2 (right_of _ _ h1) (right_of _ _ g1)))
+    (agrees-trans m v.1 w.1 (right_of _ _ h2) (right_of _ _ g2)))
+    (agrees-trans p v.2 w.2 (right_of _ _ h1) (right_of _ _ g1)))
     (same-pre p v.2 pre v.3 w.3 s.plain (right_of _ _ h) (right_of _ _ g))
 narrows-of op.Wildcard n m p pre v w s i h g =
     let h1 = left_of _ _ h in
@@ -161,17 +176,20 @@ narrows-of op.Wildcard n m p pre v w s i h g =
     let h2 = left_of _ _ h1 in
     let g2 = left_of _ _ g1 in
     both _ _ (both _ _ (both _ _ (equal-trans n v.0 w.0 (left_of _ _ h2) (left_of _ _ g2))
-    (agrees-trans m v.1 w.1 (right_of _ _ h2) (right_of _ _ g2))) (agrees-trans p v.2 w.2 (right_of _ _ h1) (right_of _ _ g1)))
+    (agrees-trans m v.1 w.1 (right_of _ _ h2) (right_of _ _ g2)))
+    (agrees-trans p v.2 w.2 (right_of _ _ h1) (right_of _ _ g1)))
     (wild-pre p v.2 pre w.3 (s.starred refl) s.plain (right_of _ _ g))
 narrows-of op.Tilde n m p pre v w s i h g =
     let h1 = left_of _ _ h in
     let g1 = left_of _ _ g in
-    both _ _ (both _ _ (equal-trans n v.0 w.0 (left_of _ _ h1) (left_of _ _ g1)) (agrees-trans m v.1 w.1 (right_of _ _ h1) (right_of _ _ g1)))
+    both _ _ (both _ _ (equal-trans n v.0 w.0 (left_of _ _ h1) (left_of _ _ g1))
+    (agrees-trans m v.1 w.1 (right_of _ _ h1) (right_of _ _ g1)))
     (tilde-trans p pre v w s.plain (right_of _ _ h) (right_of _ _ g))
 narrows-of op.Caret n m p pre v w s i h g =
     let e = left_of _ _ h in
     let f = left_of _ _ g in
-    both _ _ (equal-trans n v.0 w.0 e f) (caret-trans n m p pre v w s.nested e f (right_of _ _ h) (right_of _ _ g))
+    both _ _ (equal-trans n v.0 w.0 e f)
+    (caret-trans n m p pre v w s.nested e f (right_of _ _ h) (right_of _ _ g))
 narrows-of op.Greater n m p pre v w s i h g = cc i
 narrows-of op.GreaterEq n m p pre v w s i h g = cc i
 narrows-of op.Less n m p pre v w s i h g = cc i
@@ -179,8 +197,10 @@ narrows-of op.LessEq n m p pre v w s i h g = cc i
 
 -- ---- lists of comparators
 
-narrows-all : (v w : Parts) (cs : List Held) → AllByRecursion IsShaped cs → find (λ d. is_inequality d.0) cs ≡ None
-    → list_all (λ c. accepts c v) cs ≡ true → list_all (λ c. accepts c w) (map tidy (map (raised v) cs)) ≡ true
+narrows-all : (v w : Parts) (cs : List Held) → AllByRecursion IsShaped cs
+    → find (λ d. is_inequality d.0) cs ≡ None
+    → list_all (λ c. accepts c v) cs ≡ true → list_all (λ c. accepts c w) (map tidy (map (raised v) cs))
+    ≡ true
     → list_all (λ c. accepts c w) cs ≡ true
 narrows-all v w [] s n h g = refl
 narrows-all v w (c ∷ cs) s n h g =
@@ -193,7 +213,8 @@ given-same None a b h = cc h
 given-same (Some m) a b h = eqb-true a b h
 
 -- a raised comparator that names a pre-release has the version's
-pub named-pre : (o : Op) (p : Option ℕ) (own pre : List ℕ) (a b : ℕ) → (o ≡ op.Wildcard → p ≡ None) → is_given (renumbered p a) b ≡ true
+pub named-pre : (o : Op) (p : Option ℕ) (own pre : List ℕ) (a b : ℕ) → (o ≡ op.Wildcard → p ≡ None)
+    → is_given (renumbered p a) b ≡ true
     → raised_pre o own pre ≡ pre
 named-pre op.Exact p own pre a b h g = refl
 named-pre op.Greater p own pre a b h g = refl
@@ -205,7 +226,8 @@ named-pre op.Caret p own pre a b h g = refl
 named-pre op.Wildcard None own pre a b h g = cc g
 named-pre op.Wildcard (Some p) own pre a b h g = cc (h refl)
 
-pub read-given : (p : Option ℕ) (a b : ℕ) (pre : List ℕ) → is_given (renumbered p a) b ≡ true → read_pre (renumbered p a) pre ≡ pre
+pub read-given : (p : Option ℕ) (a b : ℕ) (pre : List ℕ) → is_given (renumbered p a) b ≡ true
+    → read_pre (renumbered p a) pre ≡ pre
 read-given None a b pre h = cc h
 read-given (Some p) a b pre h = refl
 
@@ -223,7 +245,8 @@ names-one v w c s h =
     let h2 = left_of _ _ h1 in
     let patch : is_given (renumbered c.3 v.2) w.2 ≡ true = right_of _ _ h1 in
     let e : read_pre (renumbered c.3 v.2) (raised_pre c.0 c.4 v.3) ≡ v.3 =
-    read-given c.3 v.2 w.2 (raised_pre c.0 c.4 v.3) patch ∙ named-pre c.0 c.3 c.4 v.3 v.2 w.2 s.starred patch in
+    read-given c.3 v.2 w.2 (raised_pre c.0 c.4 v.3) patch ∙
+    named-pre c.0 c.3 c.4 v.3 v.2 w.2 s.starred patch in
     let filled = not-false _ (right_of _ _ h) in (
       eqb-true v.0 w.0 (left_of _ _ h2),
       given-same c.2 v.1 w.1 (right_of _ _ h2),
@@ -235,7 +258,8 @@ pub or-cases : (x y : Bool) → (x || y) ≡ true → (x ≡ true) ⊎ (y ≡ tr
 or-cases true y h = inl refl
 or-cases false y h = inr h
 
-names-any : (v w : Parts) (cs : List Held) → AllByRecursion IsShaped cs → list_any (λ c. names_pre c w) (map tidy (map (raised v) cs)) ≡ true
+names-any : (v w : Parts) (cs : List Held) → AllByRecursion IsShaped cs
+    → list_any (λ c. names_pre c w) (map tidy (map (raised v) cs)) ≡ true
     → HasNumbersOf v w
 names-any v w [] s h = cc h
 names-any v w (c ∷ cs) s h = elim (or-cases (names_pre (tidy (raised v c)) w) _ h) [
@@ -264,7 +288,9 @@ narrows-pre v w cs s h g = elim (cases_Bool (length w.3 == 0)) [
 ]
 
 -- what a raised requirement admits, the old one does, where that admits the version
-pub narrows : (v w : Parts) (cs : List Held) → AllByRecursion IsShaped cs → find (λ d. is_inequality d.0) cs ≡ None
+pub narrows : (v w : Parts) (cs : List Held) → AllByRecursion IsShaped cs
+    → find (λ d. is_inequality d.0) cs ≡ None
     → admits cs v ≡ true → admits (map tidy (map (raised v) cs)) w ≡ true → admits cs w ≡ true
 narrows v w cs s n h g =
-    both _ _ (narrows-all v w cs s n (left_of _ _ h) (left_of _ _ g)) (narrows-pre v w cs s (right_of _ _ h) (right_of _ _ g))
+    both _ _ (narrows-all v w cs s n (left_of _ _ h) (left_of _ _ g))
+    (narrows-pre v w cs s (right_of _ _ h) (right_of _ _ g))

@@ -42,21 +42,28 @@ dotted-none : (m : Option ℕ) → IsSmall m → holds_plus (dotted m) ≡ false
 dotted-none None small = refl
 dotted-none (Some n) small = decimal-no_plus n small
 
-after-none : (p : Option ℕ) (pre : List ℕ) → ((k : ℕ) → p ≡ Some k → is_pre_release pre ≡ true) → holds_plus (after_patch p pre) ≡ false
+after-none : (p : Option ℕ) (pre : List ℕ) → ((k : ℕ) → p ≡ Some k → is_pre_release pre ≡ true)
+    → holds_plus (after_patch p pre) ≡ false
 after-none None pre h = refl
 after-none (Some k) pre h = pre-no_plus pre (h k refl)
 
 comparator-none : (c : Held) → IsWritable c → holds_plus (comparator_text c) ≡ false
 comparator-none c w =
-    let last = none-append (after_patch c.3 c.4) (star c.0 c.3) (after-none c.3 c.4 w.valid) (star-none c.0 c.3) in
-    let third = none-append (dotted c.3) (after_patch c.3 c.4 ++ star c.0 c.3) (dotted-none c.3 w.patch) last in
-    let second = none-append (dotted c.2) (dotted c.3 ++ (after_patch c.3 c.4 ++ star c.0 c.3)) (dotted-none c.2 w.minor) third in
-    let first = none-append (decimal c.1) (dotted c.2 ++ (dotted c.3 ++ (after_patch c.3 c.4 ++ star c.0 c.3))) (decimal-no_plus c.1 w.major) second in
+    let last = none-append (after_patch c.3 c.4) (star c.0 c.3) (after-none c.3 c.4 w.valid)
+    (star-none c.0 c.3) in
+    let third = none-append (dotted c.3) (after_patch c.3 c.4 ++ star c.0 c.3)
+    (dotted-none c.3 w.patch) last in
+    let second = none-append (dotted c.2) (dotted c.3 ++ (after_patch c.3 c.4 ++ star c.0 c.3))
+    (dotted-none c.2 w.minor) third in
+    let first = none-append (decimal c.1)
+    (dotted c.2 ++ (dotted c.3 ++ (after_patch c.3 c.4 ++ star c.0 c.3)))
+    (decimal-no_plus c.1 w.major) second in
     none-append (sign c.0) (unsigned_text c) (sign-none c.0) first
 
 more-none : (cs : List Held) → AllByRecursion IsWritable cs → holds_plus (more_text cs) ≡ false
 more-none [] w = refl
-more-none (c ∷ cs) w = none-append (comparator_text c) (more_text cs) (comparator-none c w.0) (more-none cs w.1)
+more-none (c ∷ cs) w = none-append (comparator_text c) (more_text cs) (comparator-none c w.0)
+    (more-none cs w.1)
 
 without-none : (xs : List ℕ) → holds_plus xs ≡ false → holds_plus (without_caret xs) ≡ false
 without-none [] h = refl
@@ -78,12 +85,14 @@ pub cut-none : (xs : List ℕ) → holds_plus xs ≡ false → cut xs ≡ xs
 cut-none xs h = ap (λ (l : List ℕ). cut l) (sym (append-nil xs)) ∙ cut-before xs [] h
 
 -- a text that raising writes has no `+`
-pub raised-no_plus : (old : List ℕ) (v : Parts) (t : List ℕ) → IsVersion v → raise old v ≡ Text t → holds_plus t ≡ false
+pub raised-no_plus : (old : List ℕ) (v : Parts) (t : List ℕ) → IsVersion v → raise old v ≡ Text t
+    → holds_plus t ≡ false
 raised-no_plus old v t w h =
     let r = raised-read old v t h in
     let all = (raised-reads old v t r.0 r.1 w r.2).1 in
     ap holds_plus r.2.2 ∙ led-none old (requirement_text (map (raised v) (r.0 ∷ r.1)))
-    (none-append (comparator_text (raised v r.0)) (more_text (map (raised v) r.1)) (comparator-none (raised v r.0) all.0) (more-none (map (raised v) r.1) all.1))
+    (none-append (comparator_text (raised v r.0)) (more_text (map (raised v) r.1))
+    (comparator-none (raised v r.0) all.0) (more-none (map (raised v) r.1) all.1))
 
 -- so cutting leaves it as it is
 pub raised-whole : (old : List ℕ) (v : Parts) (t : List ℕ) → IsVersion v → raise old v ≡ Text t → cut t ≡ t

@@ -42,14 +42,17 @@ pub offered-dash : (req : List ℕ) (v : Parts) → holds_dash req ≡ true → 
 offered-dash req v h = allowed-pre (holds_dash req) v h
 
 -- a pre-release is offered only where the requirement has a `-`
-pub dash-offered : (req : List ℕ) (v : Parts) → is_offered req v ≡ true → 0 < length v.3 → holds_dash req ≡ true
+pub dash-offered : (req : List ℕ) (v : Parts) → is_offered req v ≡ true → 0 < length v.3
+    → holds_dash req ≡ true
 dash-offered req v h some = or-other _ _ h (not_zero (length v.3) some)
 
-pub plain-offered : (req : List ℕ) (v : Parts) → is_offered req v ≡ true → holds_dash req ≡ false → length v.3 ≡ 0
+pub plain-offered : (req : List ℕ) (v : Parts) → is_offered req v ≡ true → holds_dash req ≡ false
+    → length v.3 ≡ 0
 plain-offered req v h none = eqb-true _ _ (or-only _ _ h none)
 
 -- what a requirement admits is allowed, if pre-releases are where it has a `-`
-pub admitted-allowed : (req : List ℕ) (pre : Bool) (v : Parts) → (IsTrue (holds_dash req) → IsTrue pre) → is_admitted req v ≡ true → is_allowed pre v ≡ true
+pub admitted-allowed : (req : List ℕ) (pre : Bool) (v : Parts) → (IsTrue (holds_dash req) → IsTrue pre)
+    → is_admitted req v ≡ true → is_allowed pre v ≡ true
 admitted-allowed req pre v dash h = elim (release-or v) [
   | inl plain ↦ allowed-plain pre v plain
   | inr some ↦ allowed-pre pre v (dash (admits-dash req v (admitted req v h) some))

@@ -17,7 +17,8 @@ use Rattle.edit_version.specs.VersionOrder.{full_order}
 
 -- precedence is a total order
 pub precedence_total : IsTotalOrder precedence
-precedence_total = then_total (on_total (λ (v : Parts). v.0) nat_cmp_total) (then_total (on_total (λ (v : Parts). v.1) nat_cmp_total)
+precedence_total = then_total (on_total (λ (v : Parts). v.0) nat_cmp_total)
+    (then_total (on_total (λ (v : Parts). v.1) nat_cmp_total)
     (then_total (on_total (λ (v : Parts). v.2) nat_cmp_total) (on_total (λ (v : Parts). v.3) pre_total)))
 
 -- so is the full order
@@ -81,24 +82,28 @@ greatest-same keep xs None None h g = refl
 greatest-same keep xs None (Some b) h g = absurd (wider-found keep keep full_order (λ x k. k) xs b g h)
 greatest-same keep xs (Some a) None h g = absurd (wider-found keep keep full_order (λ x k. k) xs a h g)
 greatest-same keep xs (Some a) (Some b) h g =
-    ap Some (le-same a b (wider keep keep full_order full_total (λ x k. k) xs a b h g) (wider keep keep full_order full_total (λ x k. k) xs b a g h))
+    ap Some (le-same a b (wider keep keep full_order full_total (λ x k. k) xs a b h g)
+    (wider keep keep full_order full_total (λ x k. k) xs b a g h))
 
 -- the greatest of more, where it is kept, is the greatest of fewer
-pub fewer : (keep wide : Parts → Bool) → ((x : Parts) → keep x ≡ true → wide x ≡ true) → (xs : List Parts) (e : Parts)
+pub fewer : (keep wide : Parts → Bool) → ((x : Parts) → keep x ≡ true → wide x ≡ true)
+    → (xs : List Parts) (e : Parts)
     → IsGreatestKept wide full_order xs e → keep e ≡ true → IsGreatestKept keep full_order xs e
 fewer keep wide more xs e h k = record {
   front = h.front;
   rest = h.rest;
   split = h.split;
   kept = k;
-  before = All-weaker (λ x. wide x ≡ true → is_le (full_order x e) ≡ true) (λ x. keep x ≡ true → is_le (full_order x e) ≡ true)
+  before = All-weaker (λ x. wide x ≡ true → is_le (full_order x e) ≡ true) (λ x. keep x ≡ true
+      → is_le (full_order x e) ≡ true)
       (λ x p q. p (more x q)) h.front h.before;
   after = All-weaker (λ x. wide x ≡ true → full_order x e ≡ Less) (λ x. keep x ≡ true → full_order x e ≡ Less)
       (λ x p q. p (more x q)) h.rest h.after;
 }
 
 -- what holds of all holds of the greatest
-pub greatest-has : (P : Parts → Type 0) (keep : Parts → Bool) (xs : List Parts) (e : Parts) → All P xs → IsGreatestKept keep full_order xs e → P e
+pub greatest-has : (P : Parts → Type 0) (keep : Parts → Bool) (xs : List Parts) (e : Parts) → All P xs
+    → IsGreatestKept keep full_order xs e → P e
 greatest-has P keep xs e all h =
     let whole = All-same P (h.front ++ e ∷ h.rest) xs (sym h.split) all in
     let part = All-drop P (length h.front) (h.front ++ e ∷ h.rest) whole in

@@ -43,7 +43,8 @@ readable-read text v h = (version_parts-sound text v h).1.3
 
 -- ---- admission as a test
 
-admitted-read : (req : List ℕ) (v : Parts) (r : Result (List Held) semver_error.Error) → req_of req ≡ r → admits_read r v ≡ true → Admits req v
+admitted-read : (req : List ℕ) (v : Parts) (r : Result (List Held) semver_error.Error) → req_of req ≡ r
+    → admits_read r v ≡ true → Admits req v
 admitted-read req v (Ok cs) e h = (cs, e, h)
 admitted-read req v (Err x) e h = cc h
 
@@ -69,9 +70,11 @@ all-nothing text v cs (Some d) h = cc h
 
 -- what is known of the text that stands after a call
 abbrev pub IsOutcome : List ℕ → Parts → List ℕ → Type 0
-IsOutcome text v t = ((req_of text ≡ Ok []) × (t ≡ text)) ⊎ ((c : Held) × (cs : List Held) × IsRaised text v t c cs)
+IsOutcome text v t = ((req_of text ≡ Ok []) × (t ≡ text))
+    ⊎ ((c : Held) × (cs : List Held) × IsRaised text v t c cs)
 
-pub read-nothing : (text : List ℕ) (v : Parts) (r : Result (List Held) semver_error.Error) → req_of text ≡ r → raise_read text v r ≡ Nothing
+pub read-nothing : (text : List ℕ) (v : Parts) (r : Result (List Held) semver_error.Error) → req_of text ≡ r
+    → raise_read text v r ≡ Nothing
     → IsOutcome text v text
 read-nothing text v (Err e) same h = cc h
 read-nothing text v (Ok []) same h = inl (same, refl)
@@ -105,7 +108,8 @@ reads-same text cs ds h g = ok-value _ _ (sym h ∙ g)
 plain-text : (x : List ℕ) → length x ≡ 0 → x ≡ []
 plain-text x h = nil_from_length x h
 
-pub reach-of : (text : List ℕ) (v : Parts) (t : List ℕ) → IsVersion v → IsOutcome text v t → CanReach text v → Admits t v
+pub reach-of : (text : List ℕ) (v : Parts) (t : List ℕ) → IsVersion v → IsOutcome text v t → CanReach text v
+    → Admits t v
 reach-of text v t w (inl none) (inl plain) =
     let e = plain-text v.3 plain in
     ([], ap (λ (x : List ℕ). req_of x) none.1 ∙ none.0, rw e refl)
@@ -114,15 +118,20 @@ reach-of text v t w (inl none) (inr three) =
     let big = subst (λ (x : List Held). 0 < length x) (sym e) three.2 in
     absurd (omega (arith, big))
 reach-of text v t w (inr r) (inl plain) =
-    let shape = req-shape text (r.0 ∷ r.1) r.2.0 in
-    (_, (raised-reads text v t r.0 r.1 w r.2).0, reaches-plain v (r.0 ∷ r.1) shape.0 r.2.1 (plain-text v.3 plain))
+    let shape = req-shape text (r.0 ∷ r.1) r.2.0 in (
+      _,
+      (raised-reads text v t r.0 r.1 w r.2).0,
+      reaches-plain v (r.0 ∷ r.1) shape.0 r.2.1
+          (plain-text v.3 plain),
+    )
 reach-of text v t w (inr r) (inr three) =
     let shape = req-shape text (r.0 ∷ r.1) r.2.0 in
     let e = reads-same text three.0 (r.0 ∷ r.1) three.1 r.2.0 in
     let all = subst (λ (x : List Held). All HasThreeNumbers x) e three.3 in
     (_, (raised-reads text v t r.0 r.1 w r.2).0, reaches-three v r.0 r.1 shape.0 r.2.1 all)
 
-pub narrower-of : (text : List ℕ) (v : Parts) (t : List ℕ) → IsVersion v → IsOutcome text v t → Admits text v → IsNarrower text t v
+pub narrower-of : (text : List ℕ) (v : Parts) (t : List ℕ) → IsVersion v → IsOutcome text v t → Admits text v
+    → IsNarrower text t v
 narrower-of text v t w (inl none) a =
     (subst (λ (x : List ℕ). Admits x v) (sym none.1) a, λ u b. subst (λ (x : List ℕ). Admits x u) none.1 b)
 narrower-of text v t w (inr r) a =
@@ -147,8 +156,10 @@ dash-iff : (t x : List ℕ) → holds_dash t ≡ not (length x == 0) → IsTrue 
 dash-iff t x e = (λ h. (filled x).0 (sym e ∙ h), λ h. e ∙ (filled x).1 h)
 
 pub form-of : (text : List ℕ) (v : Parts) (t : List ℕ) → IsVersion v → IsOutcome text v t → KeepsForm text t v
-form-of text v t w (inl none) =
-    (([], [], none.0, ap (λ (x : List ℕ). req_of x) none.1 ∙ none.0, refl), λ d. cc (req-dash text [] none.0 d))
+form-of text v t w (inl none) = (
+  ([], [], none.0, ap (λ (x : List ℕ). req_of x) none.1 ∙ none.0, refl),
+  λ d. cc (req-dash text [] none.0 d),
+)
 form-of text v t w (inr r) =
     let shape = req-shape text (r.0 ∷ r.1) r.2.0 in
     let read = raised-reads text v t r.0 r.1 w r.2 in (
@@ -156,11 +167,13 @@ form-of text v t w (inr r) =
       λ d.
           let three = req-dash text (r.0 ∷ r.1) r.2.0 d in
           let whole = raised_text-dash text v r.0 r.1 shape.0 read.1 in
-          let same : holds_dash t ≡ not (length v.3 == 0) = ap holds_dash r.2.2 ∙ whole ∙ ap (λ b. b && not (length v.3 == 0)) three in
+          let same : holds_dash t ≡ not (length v.3 == 0) = ap holds_dash r.2.2 ∙ whole ∙
+          ap (λ b. b && not (length v.3 == 0)) three in
           dash-iff t v.3 same,
     )
 
-pub no_lower-of : (text : List ℕ) (v : Parts) (t : List ℕ) → IsVersion v → IsOutcome text v t → AdmitsNoLower text t v
+pub no_lower-of : (text : List ℕ) (v : Parts) (t : List ℕ) → IsVersion v → IsOutcome text v t
+    → AdmitsNoLower text t v
 no_lower-of text v t w (inl none) d pre u a = cc (req-dash text [] none.0 d)
 no_lower-of text v t w (inr r) d pre u a =
     let shape = req-shape text (r.0 ∷ r.1) r.2.0 in
@@ -170,7 +183,8 @@ no_lower-of text v t w (inr r) d pre u a =
     least-all v u (r.0 ∷ r.1) shape.0 r.2.1 (req-dash text (r.0 ∷ r.1) r.2.0 d) (left_of _ _ new)
 
 -- a version without a pre-release leaves no `-`
-pub release-no_dash : (old : List ℕ) (v : Parts) (t : List ℕ) → IsVersion v → IsOutcome old v t → IsRelease t v
+pub release-no_dash : (old : List ℕ) (v : Parts) (t : List ℕ) → IsVersion v → IsOutcome old v t
+    → IsRelease t v
 release-no_dash old v t w (inl none) plain = elim (cases_Bool (holds_dash t)) [
   | inl some ↦ cc (req-dash old [] none.0 (ap holds_dash (sym none.1) ∙ some))
   | inr other ↦ other
@@ -180,7 +194,8 @@ release-no_dash old v t w (inr r) plain =
     let read = raised-reads old v t r.0 r.1 w r.2 in
     let whole = raised_text-dash old v r.0 r.1 shape.0 read.1 in
     let none : not (length v.3 == 0) ≡ false = rw plain refl in
-    let last : (list_any (λ d. is_some d.3) (r.0 ∷ r.1) && false) ≡ false = and-false (list_any (λ d. is_some d.3) (r.0 ∷ r.1)) in
+    let last : (list_any (λ d. is_some d.3) (r.0 ∷ r.1) && false) ≡ false =
+    and-false (list_any (λ d. is_some d.3) (r.0 ∷ r.1)) in
     ap holds_dash r.2.2 ∙ whole ∙ ap (λ b. list_any (λ d. is_some d.3) (r.0 ∷ r.1) && b) none ∙ last
   where
     and-false : (x : Bool) → (x && false) ≡ false

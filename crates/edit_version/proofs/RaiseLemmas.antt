@@ -24,33 +24,40 @@ find-view (c ∷ cs) = elim (cases_Bool (is_inequality c.op)) [
 ]
 
 -- a comparator that cannot be raised
-raise_bad : (text : List ℕ) (v : Parts) (cs : List Comparator) (x : Comparator) → req_of text ≡ Ok (map comparator_view cs)
+raise_bad : (text : List ℕ) (v : Parts) (cs : List Comparator) (x : Comparator)
+    → req_of text ≡ Ok (map comparator_view cs)
     → find (λ c. is_inequality c.op) cs ≡ Some x → raise text v ≡ Unsupported (comparator_view x)
 raise_bad text v [] x h f = cc f
 raise_bad text v (c ∷ cs) x h f = rw (h, find-view (c ∷ cs), f) refl
 
-pub raise_unsupported : (text : List ℕ) (v : Parts) (cs ds : List Comparator) (x : Comparator) → req_of text ≡ Ok (map comparator_view cs)
+pub raise_unsupported : (text : List ℕ) (v : Parts) (cs ds : List Comparator) (x : Comparator)
+    → req_of text ≡ Ok (map comparator_view cs)
     → ds ≡ cs → Some x ≡ find (λ c. is_inequality c.op) ds → raise text v ≡ Unsupported (comparator_view x)
-raise_unsupported text v cs ds x h e f = raise_bad text v cs x h (sym (f ∙ ap (λ l. find (λ c. is_inequality c.op) l) e))
+raise_unsupported text v cs ds x h e f = raise_bad text v cs x h
+    (sym (f ∙ ap (λ l. find (λ c. is_inequality c.op) l) e))
 
 raise_fine : (text : List ℕ) (v : Parts) (cs : List Comparator) → req_of text ≡ Ok (map comparator_view cs)
     → (length cs == 0) ≡ false → find (λ c. is_inequality c.op) cs ≡ None
-    → raise text v ≡ unless_same text (led_as text (requirement_text (map (raised v) (map comparator_view cs))))
+    → raise text v ≡ unless_same text
+    (led_as text (requirement_text (map (raised v) (map comparator_view cs))))
 raise_fine text v [] h e f = cc e
 raise_fine text v (c ∷ cs) h e f = rw (h, find-view (c ∷ cs), f) refl
 
 -- each comparator can be raised
-pub raise_text : (text : List ℕ) (v : Parts) (cs ds es : List Comparator) (out : List ℕ) → req_of text ≡ Ok (map comparator_view cs)
+pub raise_text : (text : List ℕ) (v : Parts) (cs ds es : List Comparator) (out : List ℕ)
+    → req_of text ≡ Ok (map comparator_view cs)
     → (length cs == 0) ≡ false → ds ≡ cs → None ≡ find (λ c. is_inequality c.op) ds
     → es ≡ cs → out ≡ requirement_text (map (raised v) (map comparator_view es))
     → raise text v ≡ unless_same text (led_as text out)
 raise_text text v cs ds es out h e d f g o =
     raise_fine text v cs h e (sym (f ∙ ap (λ l. find (λ c. is_inequality c.op) l) d))
-    ∙ ap (λ l. unless_same text (led_as text (requirement_text (map (raised v) (map comparator_view l))))) (sym g)
+    ∙ ap (λ l. unless_same text (led_as text (requirement_text (map (raised v) (map comparator_view l)))))
+    (sym g)
     ∙ ap (λ t. unless_same text (led_as text t)) (sym o)
 
 -- a reference that is not there
-pub copied_none : (r : Option (Bor Comparator)) → ((x : Bor Comparator) → r ≡ Some x → ⊥) → option_copied r ≡ None
+pub copied_none : (r : Option (Bor Comparator)) → ((x : Bor Comparator) → r ≡ Some x → ⊥)
+    → option_copied r ≡ None
 copied_none None h = refl
 copied_none (Some x) h = absurd (h x refl)
 

@@ -22,7 +22,8 @@ fits-not n v h = elim (cases_Bool (nat_lt n (2 ^ 64))) [
   | inr fails ↦ rw fails refl
 ]
 
-pub build-refused : (text : List ℕ) (e : semver_error.Error) → only_identifier place.Build text ≡ Err e → is_build text ≡ false
+pub build-refused : (text : List ℕ) (e : semver_error.Error) → only_identifier place.Build text ≡ Err e
+    → is_build text ≡ false
 build-refused text e h = elim (cases_Bool (is_build text)) [
   | inl holds ↦ let ok = is_build-only text holds in cc
   | inr fails ↦ fails
@@ -31,15 +32,19 @@ build-refused text e h = elim (cases_Bool (is_build text)) [
 digits : IsNumeralModel (λ (ds : List ℕ). is_numeric ds ≡ true) (digits_value 10)
 digits = numerals_by_value _ (search rules)
 
-pub number-ok : {E : Type 0} (bs : List ℕ) (r : Result ℕ E) (x : ℕ) → ParsesUnsigned 64 10 bs r → is_numeric bs ≡ true → r ≡ Ok x → ◌≡◌ {A = Option ℕ} (Some x) (number_of bs)
+pub number-ok : {E : Type 0} (bs : List ℕ) (r : Result ℕ E) (x : ℕ) → ParsesUnsigned 64 10 bs r
+    → is_numeric bs ≡ true → r ≡ Ok x → ◌≡◌ {A = Option ℕ} (Some x) (number_of bs)
 number-ok bs r x h all e =
-    let P : Result ℕ _ → Type 0 = λ z. OkIff z ((0 < length bs) × (digits_value 10 bs < 2 ^ 64)) (digits_value 10 bs) in
+    let P : Result ℕ _ → Type 0 = λ z. OkIff z ((0 < length bs) × (digits_value 10 bs < 2 ^ 64))
+    (digits_value 10 bs) in
     let k = subst P e (parse_digits digits 64 bs r h all) in
     rw (all, lt-ltb 0 (length bs) k.0.0, lt-ltb (digits_value 10 bs) (2 ^ 64) k.0.1, k.1) refl
 
-pub number-err : {E : Type 0} (bs : List ℕ) (r : Result ℕ E) (x : E) → ParsesUnsigned 64 10 bs r → is_numeric bs ≡ true → r ≡ Err x → ◌≡◌ {A = Option ℕ} None (number_of bs)
+pub number-err : {E : Type 0} (bs : List ℕ) (r : Result ℕ E) (x : E) → ParsesUnsigned 64 10 bs r
+    → is_numeric bs ≡ true → r ≡ Err x → ◌≡◌ {A = Option ℕ} None (number_of bs)
 number-err bs r x h all e =
-    let P : Result ℕ _ → Type 0 = λ z. OkIff z ((0 < length bs) × (digits_value 10 bs < 2 ^ 64)) (digits_value 10 bs) in
+    let P : Result ℕ _ → Type 0 = λ z. OkIff z ((0 < length bs) × (digits_value 10 bs < 2 ^ 64))
+    (digits_value 10 bs) in
     let k = subst P e (parse_digits digits 64 bs r h all) in
     elim (cases_Bool (nat_lt 0 (length bs))) [
       | inl some ↦ elim (cases_Bool (nat_lt (digits_value 10 bs) (2 ^ 64))) [

@@ -20,13 +20,15 @@ pub grown : (v : Parts) (xs : List Comparator) (i : ℕ) (x : Comparator) (start
     → mid ≡ now ++ codes ", " → next ≡ mid ++ comparator_text (raised v (comparator_view x))
     → next ≡ start ++ more_text (map (raised v) (map comparator_view (take (i + 1) xs)))
 grown v xs i x start now mid next lt at h m n =
-    let one : take (i + 1) xs ≡ take i xs ++ x ∷ [] = take_more xs i x lt ∙ ap (λ y. take i xs ++ y ∷ []) (sym at) in
+    let one : take (i + 1) xs ≡ take i xs ++ x ∷ [] = take_more xs i x lt ∙
+    ap (λ y. take i xs ++ y ∷ []) (sym at) in
     let cs = map (raised v) (map comparator_view (take i xs)) in
     let d = raised v (comparator_view x) in
     let two : map (raised v) (map comparator_view (take (i + 1) xs)) ≡ cs ++ d ∷ [] =
     rw (one, map-append, map-append) refl in
     let three : more_text (cs ++ d ∷ []) ≡ more_text cs ++ (codes ", " ++ comparator_text d) =
-    more_text-append cs (d ∷ []) ∙ ap (λ t. more_text cs ++ (codes ", " ++ t)) (append-nil (comparator_text d)) in
+    more_text-append cs (d ∷ []) ∙ ap (λ t. more_text cs ++ (codes ", " ++ t))
+    (append-nil (comparator_text d)) in
     n ∙ ap (λ t. t ++ comparator_text d) (m ∙ ap (λ t. t ++ codes ", ") h)
     ∙ append_assoc (start ++ more_text cs) (codes ", ") (comparator_text d)
     ∙ append_assoc start (more_text cs) (codes ", " ++ comparator_text d)

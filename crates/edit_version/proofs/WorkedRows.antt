@@ -1,4 +1,5 @@
--- Worked rows: requirements that cannot be raised, pre-releases and carets; what increments and build metadata make of a version.
+-- Worked rows: requirements that cannot be raised, pre-releases and carets; what increments and build
+-- metadata make of a version.
 use Rattle.std.proofs.Common.{◌≡◌, ◌-◌, ◌^◌, [], None, Some, refl}
 use Rattle.std.specs.Prelude.{codes}
 use Rattle.std.specs.Fmt.{digits}
@@ -91,7 +92,8 @@ unfolding digits
 alpha_after_beta = refl
 
 -- a word without a number counts as its number 0
-pub alpha_without_number : step (Pre phase.Alpha) (1, 2, 3, codes "alpha", []) ≡ To (1, 2, 3, codes "alpha.1", [])
+pub alpha_without_number : step (Pre phase.Alpha) (1, 2, 3, codes "alpha", [])
+    ≡ To (1, 2, 3, codes "alpha.1", [])
 unfolding digits
 alpha_without_number = refl
 

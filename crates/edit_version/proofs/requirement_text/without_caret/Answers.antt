@@ -6,7 +6,8 @@ use Rattle.std.specs.Prelude.{Some, None}
 
 pub returns-in-Some : goal.returns-in-Some
 returns-in-Some c =
-    caret_stripped _ _ (strip_prefix_char 94 c.args.text.now (Some c.in-Some.rest) c.in-Some.ensures.cases (lit< tt))
+    caret_stripped _ _ (strip_prefix_char 94 c.args.text.now (Some c.in-Some.rest) c.in-Some.ensures.cases
+    (lit< tt))
 
 pub returns-in-None : goal.returns-in-None
 returns-in-None c =

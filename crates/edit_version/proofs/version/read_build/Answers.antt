@@ -8,7 +8,8 @@ use Rattle.edit_version.proofs.version.read_build.Goals as goal
 
 pub returns-in-Ok-clause-ok : goal.returns-in-Ok-clause-ok
 returns-in-Ok-clause-ok c =
-    let s = only_identifier-build c.args.text.now (build_text c.in-Ok.build) c.in-Ok.ensures.ok in (sym s.0, s.1)
+    let s = only_identifier-build c.args.text.now (build_text c.in-Ok.build) c.in-Ok.ensures.ok in
+    (sym s.0, s.1)
 
 pub returns-in_ok-from_str-in-Err-clause-err : goal.returns-in_ok-from_str-in-Err-clause-err
 returns-in_ok-from_str-in-Err-clause-err c =

@@ -9,6 +9,12 @@ use Rattle.edit_version.proofs.version.VersionVersionExt.increment_patch.Goals a
 pub returns-in_default-clause-changed : goal.returns-in_default-clause-changed
 returns-in_default-clause-changed c =
     let v = parts_of c.args.self.now in
-    let P : Error → Type 0 = λ e. IsRaisedOrAtEnd (step Patch (parts_of c.args.self.now)) c.args.self.now c.args.self.now (Err e) in
-    subst P (sym c.at_end.ensures)
-    (refl, fits-not (c.args.self.now.patch + 1) (next_patch (parts_of c.args.self.now)) c.in_default.ensures, refl, refl, refl)
+    let P : Error → Type 0 =
+    λ e. IsRaisedOrAtEnd (step Patch (parts_of c.args.self.now)) c.args.self.now c.args.self.now (Err e) in
+    subst P (sym c.at_end.ensures) (
+      refl,
+      fits-not (c.args.self.now.patch + 1) (next_patch (parts_of c.args.self.now)) c.in_default.ensures,
+      refl,
+      refl,
+      refl,
+    )
