@@ -8,7 +8,7 @@ use Rattle.edit_document.specs.Assertions.{Step, key, index, Place, at, Kind, as
 use Rattle.edit_document.specs.EditBytes.{as_it_is, part_to, is_header_of, is_one_statement}
 use Rattle.edit_document.specs.Items.{place_numbered, place_seen, step_seen}
 use Rattle.edit_document.specs.declared.place.Step.{Step as WrittenStep}
-use Rattle.edit_document.proofs.Views.{place_more}
+use Rattle.edit_document.proofs.MemberViews.{place_more}
 use Rattle.edit_document.specs.Shown.{Shown}
 use Rattle.edit_document.specs.Statements.{behind_part, Paired, stated, line_pairs, inner_pairs}
 use Rattle.edit_document.specs.Supported.{IsManifest}
@@ -21,29 +21,39 @@ use Rattle.edit_document.proofs.SamePlace.{other_place, last_same}
 
 -- ---- places of no member
 
-unnamed_part : (t : Place) → ((q : Place) (n : List ℕ) → t ≡ at q (key n) → ⊥) → (q : Place) (ps : List (List ℕ × List ℕ)) → behind_part as_it_is t q ps ≡ None
+unnamed_part : (t : Place) → ((q : Place) (n : List ℕ) → t ≡ at q (key n) → ⊥)
+    → (q : Place) (ps : List (List ℕ × List ℕ)) → behind_part as_it_is t q ps ≡ None
 unnamed_part t none q [] = refl
 unnamed_part t none q (p ∷ ps) =
-    ap (λ b. cond b (Some p.1) (behind_part as_it_is t (at q (key p.0)) ps)) (other_place (at q (key p.0)) t (λ e. none q p.0 (sym e)))
+    ap (λ b. cond b (Some p.1) (behind_part as_it_is t (at q (key p.0)) ps))
+    (other_place (at q (key p.0)) t (λ e. none q p.0 (sym e)))
     ∙ unnamed_part t none (at q (key p.0)) ps
 
-pub unnamed_none : (form : Text) (t : Place) → ((q : Place) (n : List ℕ) → t ≡ at q (key n) → ⊥) → is_one_statement form t ≡ false
-unnamed_none form t none = ap (λ n. (n == 1) && not (list_any (is_header_of t) (stated form))) (count (line_pairs form ++ inner_pairs form))
+pub unnamed_none : (form : Text) (t : Place) → ((q : Place) (n : List ℕ) → t ≡ at q (key n) → ⊥)
+    → is_one_statement form t ≡ false
+unnamed_none form t none = ap (λ n. (n == 1) && not (list_any (is_header_of t) (stated form)))
+    (count (line_pairs form ++ inner_pairs form))
   where
     count : (ps : List Paired) → length (filter (λ p. is_some (part_to t p)) ps) ≡ 0
     count [] = refl
     count (p ∷ ps) =
-        ap (λ (o : Option (List ℕ)). length (cond (is_some o) (p ∷ filter (λ p. is_some (part_to t p)) ps) (filter (λ p. is_some (part_to t p)) ps))) (unnamed_part t none p.table p.parts)
+        ap (λ (o : Option (List ℕ)). length (cond (is_some o) (p ∷ filter (λ p. is_some (part_to t p)) ps)
+        (filter (λ p. is_some (part_to t p)) ps))) (unnamed_part t none p.table p.parts)
         ∙ count ps
 
 -- ---- places where nothing stands
 
-pub nothing_alone : (form : Text) (t upper : Place) (name : List ℕ) → t ≡ at upper (key name) → view_at form t ≡ None → is_one_statement form t ≡ false
+pub nothing_alone : (form : Text) (t upper : Place) (name : List ℕ) → t ≡ at upper (key name)
+    → view_at form t ≡ None → is_one_statement form t ≡ false
 nothing_alone form t upper name place e =
-    one_statement_is t (λ p i f. let clash : index i ≡ key name = (last_same p upper (index i) (key name) (f ∙ place)).1 in cc) form
-    ∙ none_alone (assertions form) t (unpaired (assertions form) t (asserted t (at_cons upper (key name)).0 (at_cons upper (key name)).1 (place ∙ (at_cons upper (key name)).2) e))
+    one_statement_is t (λ p i f. let clash : index i ≡ key name =
+    (last_same p upper (index i) (key name) (f ∙ place)).1 in cc) form
+    ∙ none_alone (assertions form) t
+    (unpaired (assertions form) t (asserted t (at_cons upper (key name)).0 (at_cons upper (key name)).1
+    (place ∙ (at_cons upper (key name)).2) e))
   where
-    asserted : (t : Place) (x : Step) (xs : Place) → t ≡ x ∷ xs → view_at form t ≡ None → kind_at (assertions form) t ≡ None
+    asserted : (t : Place) (x : Step) (xs : Place) → t ≡ x ∷ xs → view_at form t ≡ None
+        → kind_at (assertions form) t ≡ None
     asserted [] x xs e f = absurd cc
     asserted (y ∷ ys) x xs e f = go (kind_at (assertions form) (y ∷ ys)) f
       where
@@ -56,11 +66,14 @@ nothing_alone form t upper name place e =
 -- the same statements name the node of a member so many steps from the root or more
 abbrev pub Reaches : Shown → Place → ℕ → ℕ → Type 0
 Reaches d place i n =
-    (n < length d.nodes) × (i ≤ length (place_numbered d n)) × ((upper : Place) × (name : List ℕ) × (place_numbered d n ≡ at upper (key name)))
-    × ((form : Text) → IsManifest d.bytes form → is_one_statement form place ≡ is_one_statement form (place_numbered d n))
+    (n < length d.nodes) × (i ≤ length (place_numbered d n))
+    × ((upper : Place) × (name : List ℕ) × (place_numbered d n ≡ at upper (key name)))
+    × ((form : Text) → IsManifest d.bytes form → is_one_statement form place
+    ≡ is_one_statement form (place_numbered d n))
 
 pub reaches_next : (d : Shown) (place : Place) (i n m : ℕ) → Reaches d place i n
-    → ((form : Text) (upper : Place) (name : List ℕ) → IsManifest d.bytes form → place_numbered d n ≡ at upper (key name) → Answers form d n (AsMember m))
+    → ((form : Text) (upper : Place) (name : List ℕ) → IsManifest d.bytes form
+    → place_numbered d n ≡ at upper (key name) → Answers form d n (AsMember m))
     → (form : Text) → IsManifest d.bytes form → Reaches d place (i + 1) m
 reaches_next d place i n m r answers form manifest =
     let a = answers form r.2.0 r.2.1 manifest r.2.2 in
@@ -74,6 +87,8 @@ reaches_next d place i n m r answers form manifest =
 
 -- ---- the last step
 
-pub last_member : (steps : List WrittenStep) (step : WrittenStep) (i : ℕ) → i + 1 ≡ length steps → step ≡ get_or steps i step → place_seen steps ≡ at (place_seen (take i steps)) (step_seen step)
+pub last_member : (steps : List WrittenStep) (step : WrittenStep) (i : ℕ) → i + 1 ≡ length steps
+    → step ≡ get_or steps i step → place_seen steps ≡ at (place_seen (take i steps)) (step_seen step)
 last_member steps step i e is =
-    sym (ap place_seen (take_all (i + 1) steps (omega (arith, e)))) ∙ place_more steps i step (omega (arith, e)) is
+    sym (ap place_seen (take_all (i + 1) steps (omega (arith, e)))) ∙
+    place_more steps i step (omega (arith, e)) is

@@ -10,7 +10,8 @@ use Rattle.edit_document.specs.Compared.{AreApart}
 use Rattle.edit_document.proofs.OnceLists.{apart_once, names_apart}
 
 apart_scalar : (v : View) → names_in v ≡ [] → AreApart v
-apart_scalar v e i j n x y = absurd (let clash : None ≡ Some n = sym (ap (λ (ns : List (List ℕ)). slice_get ns i) e) ∙ x in cc)
+apart_scalar v e i j n x y =
+    absurd (let clash : None ≡ Some n = sym (ap (λ (ns : List (List ℕ)). slice_get ns i) e) ∙ x in cc)
 
 pub apart_value : (made : List Assertion) (p : Place) (v : Value) → AreApart (view_of_value made p v)
 apart_value made p (basic ps) = apart_scalar (view_of_value made p (basic ps)) refl
@@ -22,10 +23,12 @@ apart_value made p (integer n) = apart_scalar (view_of_value made p (integer n))
 apart_value made p (float f) = apart_scalar (view_of_value made p (float f)) refl
 apart_value made p (datetime d) = apart_scalar (view_of_value made p (datetime d)) refl
 apart_value made p (array g es) = apart_scalar (view_of_value made p (array g es)) refl
-apart_value made p (inline g ms) = names_apart (members_of made p) (apart_once (filter_map (λ a. step_from p a.place) made))
+apart_value made p (inline g ms) = names_apart (members_of made p)
+    (apart_once (filter_map (λ a. step_from p a.place) made))
 
 apart_members : (made : List Assertion) (p : Place) → AreApart (table (members_of made p))
-apart_members made p = names_apart (members_of made p) (apart_once (filter_map (λ a. step_from p a.place) made))
+apart_members made p =
+    names_apart (members_of made p) (apart_once (filter_map (λ a. step_from p a.place) made))
 
 apart_kind : (made : List Assertion) (p : Place) (k : Kind) → AreApart (view_of_kind made p k)
 apart_kind made p (leaf v) = apart_value made p v

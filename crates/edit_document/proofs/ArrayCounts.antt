@@ -13,18 +13,23 @@ IsEven made = (p : Place) → elements_at made p ≡ elements_below made p
 
 -- ---- one assertion more
 
-pub arrays_more : (made : List Assertion) (a : Assertion) (p : Place) (b : Bool) → is_array_at p a ≡ b → elements_at (made ++ a ∷ []) p ≡ cond b (suc (elements_at made p)) (elements_at made p)
+pub arrays_more : (made : List Assertion) (a : Assertion) (p : Place) (b : Bool) → is_array_at p a ≡ b
+    → elements_at (made ++ a ∷ []) p ≡ cond b (suc (elements_at made p)) (elements_at made p)
 arrays_more [] a p b e = ap (λ (x : Bool). cond x 1 0) e
 arrays_more (c ∷ made) a p b e = go (is_array_at p c) b (arrays_more made a p b e)
   where
-    go : (x y : Bool) → elements_at (made ++ a ∷ []) p ≡ cond y (suc (elements_at made p)) (elements_at made p)
-        → cond x (suc (elements_at (made ++ a ∷ []) p)) (elements_at (made ++ a ∷ []) p) ≡ cond y (suc (cond x (suc (elements_at made p)) (elements_at made p))) (cond x (suc (elements_at made p)) (elements_at made p))
+    go : (x y : Bool) → elements_at (made ++ a ∷ []) p ≡ cond y (suc (elements_at made p))
+        (elements_at made p)
+        → cond x (suc (elements_at (made ++ a ∷ []) p)) (elements_at (made ++ a ∷ []) p)
+        ≡ cond y (suc (cond x (suc (elements_at made p)) (elements_at made p)))
+        (cond x (suc (elements_at made p)) (elements_at made p))
     go true true ih = ap suc ih
     go true false ih = ap suc ih
     go false true ih = ih
     go false false ih = ih
 
-pub arrays_stay : (made : List Assertion) (a : Assertion) (p : Place) → is_array a.kind ≡ false → elements_at (made ++ a ∷ []) p ≡ elements_at made p
+pub arrays_stay : (made : List Assertion) (a : Assertion) (p : Place) → is_array a.kind ≡ false
+    → elements_at (made ++ a ∷ []) p ≡ elements_at made p
 arrays_stay made a p e = arrays_more made a p false (ap (λ (b : Bool). b && same_place a.place p) e)
 
 -- neither an array nor an element
@@ -59,7 +64,8 @@ even_plain made [] e h = subst IsEven (sym (nil made)) e
     nil [] = refl
     nil (x ∷ xs) = ap (λ (ys : List Assertion). x ∷ ys) (nil xs)
 even_plain made (a ∷ more) e h =
-    let one : IsEven (made ++ a ∷ []) = λ p. arrays_stay made a p (plain_array a.kind h.0) ∙ e p ∙ sym (elements_stay made a p (plain_element a.kind h.0)) in
+    let one : IsEven (made ++ a ∷ []) = λ p. arrays_stay made a p (plain_array a.kind h.0) ∙ e p ∙
+    sym (elements_stay made a p (plain_element a.kind h.0)) in
     subst IsEven (append_assoc made (a ∷ []) more) (even_plain (made ++ a ∷ []) more one h.1)
 
 pub plain_both : (xs ys : List Assertion) → ArePlain xs → ArePlain ys → ArePlain (xs ++ ys)
@@ -68,7 +74,9 @@ plain_both (x ∷ xs) ys h g = (h.0, plain_both xs ys h.1 g)
 
 -- ---- an array stands alone
 
-no_arrays : (p : Place) (k : Kind) (made : List Assertion) → AllByRecursion (λ b. p ≡ b.place → together k b.kind ≡ true) made → is_array k ≡ false → elements_at made p ≡ 0
+no_arrays : (p : Place) (k : Kind) (made : List Assertion)
+    → AllByRecursion (λ b. p ≡ b.place → together k b.kind ≡ true) made → is_array k ≡ false
+    → elements_at made p ≡ 0
 no_arrays p k [] h ne = refl
 no_arrays p k (b ∷ made) h ne = go (same_place b.place p) refl (no_arrays p k made h.1 ne)
   where
@@ -97,14 +105,19 @@ no_arrays p k (b ∷ made) h ne = go (same_place b.place p) refl (no_arrays p k 
         nothing false = refl
 
 -- where an array of tables is asserted, it is the first
-pub arrays_alone : (made : List Assertion) (p : Place) → NoClash made → (elements_at made p ≡ 0) ⊎ (kind_at made p ≡ Some array_kind)
+pub arrays_alone : (made : List Assertion) (p : Place) → NoClash made → (elements_at made p ≡ 0)
+    ⊎ (kind_at made p ≡ Some array_kind)
 arrays_alone [] p h = inl refl
 arrays_alone (a ∷ made) p h = go (same_place a.place p) refl (arrays_alone made p h.1)
   where
-    here : (k : Kind) → a.kind ≡ k → same_place a.place p ≡ true → AllByRecursion (λ b. p ≡ b.place → together k b.kind ≡ true) made
-    here k e t = subst (λ (x : Kind). AllByRecursion (λ b. p ≡ b.place → together x b.kind ≡ true) made) e (subst (λ (q : Place). AllByRecursion (λ b. q ≡ b.place → together a.kind b.kind ≡ true) made) (same_place_is a.place p t) h.0)
+    here : (k : Kind) → a.kind ≡ k → same_place a.place p ≡ true
+        → AllByRecursion (λ b. p ≡ b.place → together k b.kind ≡ true) made
+    here k e t = subst (λ (x : Kind). AllByRecursion (λ b. p ≡ b.place → together x b.kind ≡ true) made) e
+        (subst (λ (q : Place). AllByRecursion (λ b. q ≡ b.place → together a.kind b.kind ≡ true) made)
+        (same_place_is a.place p t) h.0)
 
-    first : (k : Kind) → a.kind ≡ k → same_place a.place p ≡ true → (elements_at (a ∷ made) p ≡ 0) ⊎ (kind_at (a ∷ made) p ≡ Some array_kind)
+    first : (k : Kind) → a.kind ≡ k → same_place a.place p ≡ true → (elements_at (a ∷ made) p ≡ 0)
+        ⊎ (kind_at (a ∷ made) p ≡ Some array_kind)
     first array_kind e t = inr (rw (t, e) refl)
     first (dotted w) e t = inl (rw e (no_arrays p (dotted w) made (here (dotted w) e t) refl))
     first (leaf v) e t = inl (rw e (no_arrays p (leaf v) made (here (leaf v) e t) refl))
@@ -112,7 +125,8 @@ arrays_alone (a ∷ made) p h = go (same_place a.place p) refl (arrays_alone mad
     first header_kind e t = inl (rw e (no_arrays p header_kind made (here header_kind e t) refl))
     first element_kind e t = inl (rw e (no_arrays p element_kind made (here element_kind e t) refl))
 
-    go : (t : Bool) → same_place a.place p ≡ t → (elements_at made p ≡ 0) ⊎ (kind_at made p ≡ Some array_kind) → (elements_at (a ∷ made) p ≡ 0) ⊎ (kind_at (a ∷ made) p ≡ Some array_kind)
+    go : (t : Bool) → same_place a.place p ≡ t → (elements_at made p ≡ 0) ⊎ (kind_at made p ≡ Some array_kind)
+        → (elements_at (a ∷ made) p ≡ 0) ⊎ (kind_at (a ∷ made) p ≡ Some array_kind)
     go true t ih = first a.kind refl t
     go false t (inl e) = inl (rw (t, nothing (is_array a.kind)) e)
       where
@@ -123,7 +137,8 @@ arrays_alone (a ∷ made) p h = go (same_place a.place p) refl (arrays_alone mad
 
 -- ---- what values and headers assert
 
-pub plain_key : (within : Bool) (by p : Place) (ns : List (List ℕ)) (v : Value) → ArePlain (of_key within by p ns v)
+pub plain_key : (within : Bool) (by p : Place) (ns : List (List ℕ)) (v : Value)
+    → ArePlain (of_key within by p ns v)
 plain_key within by p [] v = tt
 plain_key within by p (n ∷ []) v = (refl, tt)
 plain_key within by p (n ∷ m ∷ ns) v = (refl, plain_key within by (at p (key n)) (m ∷ ns) v)
@@ -144,47 +159,64 @@ mutual
   plain_elements : (p : Place) (i : ℕ) (es : Elements) → ArePlain (of_elements p i es)
   plain_elements p i no_elements = tt
   plain_elements p i (last_element v g) = (refl, plain_value (at p (index i)) v)
-  plain_elements p i (element v g h es) = (refl, plain_both (of_value (at p (index i)) v) (of_elements p (suc i) es) (plain_value (at p (index i)) v) (plain_elements p (suc i) es))
+  plain_elements p i (element v g h es) = (
+    refl,
+    plain_both (of_value (at p (index i)) v) (of_elements p (suc i) es)
+        (plain_value (at p (index i)) v) (plain_elements p (suc i) es),
+  )
 
   plain_members : (p : Place) (ms : Members) → ArePlain (of_members p ms)
   plain_members p no_members = tt
   plain_members p (last_member k a b v c) =
       let q = named p (names k) in
-      plain_both (of_key true q p (names k) v) (of_value q v) (plain_key true q p (names k) v) (plain_value q v)
+      plain_both (of_key true q p (names k) v) (of_value q v) (plain_key true q p (names k) v)
+      (plain_value q v)
   plain_members p (member k a b v c d ms) =
       let q = named p (names k) in
-      plain_both (of_key true q p (names k) v ++ of_value q v) (of_members p ms) (plain_both (of_key true q p (names k) v) (of_value q v) (plain_key true q p (names k) v) (plain_value q v)) (plain_members p ms)
+      plain_both (of_key true q p (names k) v ++ of_value q v) (of_members p ms)
+      (plain_both (of_key true q p (names k) v) (of_value q v) (plain_key true q p (names k) v)
+      (plain_value q v)) (plain_members p ms)
 
-pub plain_fronts : (earlier : List Assertion) (by p : Place) (ns : List (List ℕ)) → ArePlain (fronts earlier by p ns)
+pub plain_fronts : (earlier : List Assertion) (by p : Place) (ns : List (List ℕ))
+    → ArePlain (fronts earlier by p ns)
 plain_fronts earlier by p [] = tt
 plain_fronts earlier by p (n ∷ []) = tt
-plain_fronts earlier by p (n ∷ m ∷ ns) = (refl, plain_fronts earlier by (resolved earlier (at p (key n))) (m ∷ ns))
+plain_fronts earlier by p (n ∷ m ∷ ns) =
+    (refl, plain_fronts earlier by (resolved earlier (at p (key n))) (m ∷ ns))
 
 -- ---- statements
 
 -- an array and its element
-even_element : (made : List Assertion) (by q : Place) (i : ℕ) → IsEven made → IsEven ((made ++ asserts by q array_kind ∷ []) ++ asserts by (at q (index i)) element_kind ∷ [])
+even_element : (made : List Assertion) (by q : Place) (i : ℕ) → IsEven made
+    → IsEven ((made ++ asserts by q array_kind ∷ []) ++ asserts by (at q (index i)) element_kind ∷ [])
 even_element made by q i e p = elim (place_or q p) [
   | inl same ↦
       let a : Assertion = asserts by q array_kind in
       let b : Assertion = asserts by (at q (index i)) element_kind in
       let here : is_array_at p a ≡ true = ap (λ (r : Place). same_place r p) same ∙ same_place_self p in
       arrays_stay (made ++ a ∷ []) b p refl ∙ arrays_more made a p true here ∙ ap suc (e p)
-      ∙ sym (elements_grow (made ++ a ∷ []) b p i refl (ap (λ (r : Place). at r (index i)) same) ∙ ap suc (elements_stay made a p refl))
+      ∙ sym (elements_grow (made ++ a ∷ []) b p i refl (ap (λ (r : Place). at r (index i)) same) ∙
+      ap suc (elements_stay made a p refl))
   | inr ne ↦
       let a : Assertion = asserts by q array_kind in
       let b : Assertion = asserts by (at q (index i)) element_kind in
       arrays_stay (made ++ a ∷ []) b p refl ∙ arrays_more made a p false (other_place q p ne) ∙ e p
-      ∙ sym (elements_else (made ++ a ∷ []) b p (λ j place. ne (last_same q p (index i) (index j) place).0) ∙ elements_stay made a p refl)
+      ∙ sym (elements_else (made ++ a ∷ []) b p (λ j place. ne (last_same q p (index i) (index j) place).0) ∙
+      elements_stay made a p refl)
 ]
 
-pub even_statement : (earlier : List Assertion) (prefix : Place) (s : Statement) → IsEven earlier → IsEven (earlier ++ of_statement earlier prefix s)
+pub even_statement : (earlier : List Assertion) (prefix : Place) (s : Statement) → IsEven earlier
+    → IsEven (earlier ++ of_statement earlier prefix s)
 even_statement earlier prefix (pair k a b v) e =
     let q = named prefix (names k) in
-    even_plain earlier (of_key false q prefix (names k) v ++ of_value q v) e (plain_both (of_key false q prefix (names k) v) (of_value q v) (plain_key false q prefix (names k) v) (plain_value q v))
+    even_plain earlier (of_key false q prefix (names k) v ++ of_value q v) e
+    (plain_both (of_key false q prefix (names k) v) (of_value q v) (plain_key false q prefix (names k) v)
+    (plain_value q v))
 even_statement earlier prefix (header a k b) e =
     let q = header_place earlier [] (names k) in
-    even_plain earlier (fronts earlier q [] (names k) ++ asserts q q header_kind ∷ []) e (plain_both (fronts earlier q [] (names k)) (asserts q q header_kind ∷ []) (plain_fronts earlier q [] (names k)) (refl, tt))
+    even_plain earlier (fronts earlier q [] (names k) ++ asserts q q header_kind ∷ []) e
+    (plain_both (fronts earlier q [] (names k)) (asserts q q header_kind ∷ [])
+    (plain_fronts earlier q [] (names k)) (refl, tt))
 even_statement earlier prefix (element_header a k b) e =
     let q = header_place earlier [] (names k) in
     let i = elements_at earlier q in
@@ -192,4 +224,6 @@ even_statement earlier prefix (element_header a k b) e =
     let supers = fronts earlier by [] (names k) in
     let first = even_plain earlier supers e (plain_fronts earlier by [] (names k)) in
     let all = even_element (earlier ++ supers) by q i first in
-    subst IsEven (append_assoc (earlier ++ supers) (asserts by q array_kind ∷ []) (asserts by by element_kind ∷ []) ∙ append_assoc earlier supers (asserts by q array_kind ∷ asserts by by element_kind ∷ [])) all
+    subst IsEven (append_assoc (earlier ++ supers) (asserts by q array_kind ∷ [])
+    (asserts by by element_kind ∷ []) ∙
+    append_assoc earlier supers (asserts by q array_kind ∷ asserts by by element_kind ∷ [])) all

@@ -28,17 +28,22 @@ abbrev pub noted : Place → Option Span → List Placed
 noted p None = []
 noted p (Some s) = (p, s) ∷ []
 
-pub span_else : (ws : List Placed) (p q : Place) (span : Option Span) → (p ≡ q → ⊥) → span_at (ws ++ noted p span) q ≡ span_at ws q
+pub span_else : (ws : List Placed) (p q : Place) (span : Option Span) → (p ≡ q → ⊥)
+    → span_at (ws ++ noted p span) q ≡ span_at ws q
 span_else [] p q None ne = refl
 span_else [] p q (Some s) ne = ap (λ (b : Bool). cond b (Some s) None) (other_place p q ne)
-span_else (w ∷ ws) p q span ne = ap (λ (o : Option Span). cond (same_place w.0 q) (Some w.1) o) (span_else ws p q span ne)
+span_else (w ∷ ws) p q span ne = ap (λ (o : Option Span). cond (same_place w.0 q) (Some w.1) o)
+    (span_else ws p q span ne)
 
-pub span_here : (ws : List Placed) (p : Place) (span : Option Span) → span_at ws p ≡ None → span_at (ws ++ noted p span) p ≡ span
+pub span_here : (ws : List Placed) (p : Place) (span : Option Span) → span_at ws p ≡ None
+    → span_at (ws ++ noted p span) p ≡ span
 span_here [] p None e = refl
 span_here [] p (Some s) e = ap (λ (b : Bool). cond b (Some s) None) (same_place_self p)
 span_here (w ∷ ws) p span e = go (same_place w.0 p) e (span_here ws p span)
   where
-    go : (b : Bool) → cond b (Some w.1) (span_at ws p) ≡ None → (span_at ws p ≡ None → span_at (ws ++ noted p span) p ≡ span) → cond b (Some w.1) (span_at (ws ++ noted p span) p) ≡ span
+    go : (b : Bool) → cond b (Some w.1) (span_at ws p) ≡ None
+        → (span_at ws p ≡ None → span_at (ws ++ noted p span) p ≡ span)
+        → cond b (Some w.1) (span_at (ws ++ noted p span) p) ≡ span
     go true h ih = absurd cc
     go false h ih = ih h
 
@@ -55,8 +60,10 @@ pub record IsIndexed (made : List Assertion) (p : Place) (i : ℕ) : Type 0 wher
   pub first : first_kind made p ≡ Some kind
   pub lists : Lists kind i
 
-pub indexed_stays : (made : List Assertion) (a : Assertion) (p : Place) (i : ℕ) → IsIndexed made p i → IsIndexed (made ++ a ∷ []) p i
-indexed_stays made a p i h = record { kind = h.kind; first = first_stays made a p h.kind h.first; lists = h.lists }
+pub indexed_stays : (made : List Assertion) (a : Assertion) (p : Place) (i : ℕ) → IsIndexed made p i
+    → IsIndexed (made ++ a ∷ []) p i
+indexed_stays made a p i h =
+    record { kind = h.kind; first = first_stays made a p h.kind h.first; lists = h.lists }
 
 -- the shape that the first assertion of a place gives it
 abbrev pub shape_of_kind : Kind → Shape
@@ -95,7 +102,16 @@ stands_start = record {
     down = λ i j s x a b. absurd (bare i j s x a b);
     up = λ j t b. inl (root j t b);
   };
-  tells = λ n s e. subst (Tells [] []) (first n s e) (record { kind = header_kind; first = refl; shape = refl; joined = λ ne. absurd (ne refl); names = refl; count = λ e. refl; span = refl });
+  tells = λ n s e. subst (Tells [] []) (first n s e)
+      (record {
+        kind = header_kind;
+        first = refl;
+        shape = refl;
+        joined = λ ne. absurd (ne refl);
+        names = refl;
+        count = λ e. refl;
+        span = refl;
+      });
   covers = λ p k e. absurd cc;
   rooted = refl;
   indexed = λ p i k e. absurd cc;
@@ -103,11 +119,13 @@ stands_start = record {
   clear = record { apart = tt; short = tt };
 }
   where
-    first : (n : ℕ) (s : Spot) → slice_get (spot_at [] section Header None ∷ []) n ≡ Some s → spot_at [] section Header None ≡ s
+    first : (n : ℕ) (s : Spot) → slice_get (spot_at [] section Header None ∷ []) n ≡ Some s
+        → spot_at [] section Header None ≡ s
     first zero s e = same_Some (spot_at [] section Header None) s e
     first (suc n) s e = absurd cc
 
-    only : (i j : ℕ) (s t : Spot) → slice_get (spot_at [] section Header None ∷ []) i ≡ Some s → slice_get (spot_at [] section Header None ∷ []) j ≡ Some t → i ≡ j
+    only : (i j : ℕ) (s t : Spot) → slice_get (spot_at [] section Header None ∷ []) i ≡ Some s
+        → slice_get (spot_at [] section Header None ∷ []) j ≡ Some t → i ≡ j
     only zero zero s t a b = refl
     only zero (suc j) s t a b = absurd cc
     only (suc i) j s t a b = absurd cc
@@ -116,26 +134,31 @@ stands_start = record {
     nothing (key n) j e = cc
     nothing (index i) j e = cc
 
-    bare : (i j : ℕ) (s : Spot) (x : Step) → slice_get (spot_at [] section Header None ∷ []) i ≡ Some s → below s x ≡ Some j → ⊥
+    bare : (i j : ℕ) (s : Spot) (x : Step) → slice_get (spot_at [] section Header None ∷ []) i ≡ Some s
+        → below s x ≡ Some j → ⊥
     bare i j s x a b = nothing x j (ap (λ (u : Spot). below u x) (first i s a) ∙ b)
 
     root : (j : ℕ) (t : Spot) → slice_get (spot_at [] section Header None ∷ []) j ≡ Some t → t.place ≡ []
     root j t b = ap (λ (u : Spot). u.place) (sym (first j t b))
 
 -- a spot that is not the root was asserted
-pub was_asserted : {made : List Assertion} {written : List Placed} {s : Spot} → (t : Tells made written s) → (s.place ≡ [] → ⊥) → kind_at made s.place ≡ Some t.kind
+pub was_asserted : {made : List Assertion} {written : List Placed} {s : Spot} → (t : Tells made written s)
+    → (s.place ≡ [] → ⊥) → kind_at made s.place ≡ Some t.kind
 was_asserted {made} {written} {s} t ne = sym (first_is made s.place ne) ∙ t.first
 
-pub short_at : (made : List Assertion) (p : Place) (k : Kind) → AreShort made → kind_at made p ≡ Some k → length p ≤ 80
+pub short_at : (made : List Assertion) (p : Place) (k : Kind) → AreShort made → kind_at made p ≡ Some k
+    → length p ≤ 80
 short_at [] p k h e = absurd cc
 short_at (a ∷ made) p k h e = go (same_place a.place p) refl e (short_at made p k h.1)
   where
-    go : (b : Bool) → same_place a.place p ≡ b → cond b (Some a.kind) (kind_at made p) ≡ Some k → (kind_at made p ≡ Some k → length p ≤ 80) → length p ≤ 80
+    go : (b : Bool) → same_place a.place p ≡ b → cond b (Some a.kind) (kind_at made p) ≡ Some k
+        → (kind_at made p ≡ Some k → length p ≤ 80) → length p ≤ 80
     go true t g ih = subst (λ (q : Place). length q ≤ 80) (same_place_is a.place p t) h.0
     go false t g ih = ih g
 
 -- nothing stands where no spot does
-pub nothing_at : (made : List Assertion) (written : List Placed) (spots : List Spot) (p : Place) → Stands made written spots → ((n : ℕ) → StandsAt spots n p → ⊥) → kind_at made p ≡ None
+pub nothing_at : (made : List Assertion) (written : List Placed) (spots : List Spot) (p : Place)
+    → Stands made written spots → ((n : ℕ) → StandsAt spots n p → ⊥) → kind_at made p ≡ None
 nothing_at made written spots p st none = go (kind_at made p) refl
   where
     go : (o : Option Kind) → kind_at made p ≡ o → kind_at made p ≡ None
@@ -143,38 +166,52 @@ nothing_at made written spots p st none = go (kind_at made p) refl
     go (Some k) e = let c = st.covers p k e in absurd (none c.0 c.1)
 
 -- the spot one step below another
-pub step_below : (made : List Assertion) (written : List Placed) (spots : List Spot) (t : ℕ) (s : Spot) (x : Step) → Stands made written spots → slice_get spots t ≡ Some s → (n : ℕ) → StandsAt spots n (at s.place x) → below s x ≡ Some n
+pub step_below : (made : List Assertion) (written : List Placed) (spots : List Spot) (t : ℕ) (s : Spot)
+    (x : Step) → Stands made written spots → slice_get spots t ≡ Some s → (n : ℕ)
+    → StandsAt spots n (at s.place x) → below s x ≡ Some n
 step_below made written spots t s x st e n h = elim (st.tree.up n h.0 h.1) [
   | inl root ↦ absurd (not_root s.place x (sym h.2 ∙ root))
   | inr b ↦
       let same = last_same b.upper.place s.place b.step x (sym b.place_is ∙ h.2) in
       let number : b.above ≡ t = st.tree.unique b.above t b.upper s b.stands e same.0 in
-      let upper : b.upper ≡ s = slice_get_same spots t b.upper s (ap (slice_get spots) (sym number) ∙ b.stands) e in
+      let upper : b.upper ≡ s = slice_get_same spots t b.upper s (ap (slice_get spots) (sym number) ∙
+      b.stands) e in
       ap (λ (u : Spot). below u x) (sym upper) ∙ ap (below b.upper) (sym same.1) ∙ b.listed
 ]
 
-pub nothing_below_spot : (made : List Assertion) (written : List Placed) (spots : List Spot) (t : ℕ) (s : Spot) (x : Step) → Stands made written spots → slice_get spots t ≡ Some s → below s x ≡ None → kind_at made (at s.place x) ≡ None
+pub nothing_below_spot : (made : List Assertion) (written : List Placed) (spots : List Spot) (t : ℕ)
+    (s : Spot) (x : Step) → Stands made written spots → slice_get spots t ≡ Some s → below s x ≡ None
+    → kind_at made (at s.place x) ≡ None
 nothing_below_spot made written spots t s x st e none =
-    nothing_at made written spots (at s.place x) st (λ n h. let some = step_below made written spots t s x st e n h in let clash : None ≡ Some n = sym none ∙ some in cc)
+    nothing_at made written spots (at s.place x) st
+    (λ n h. let some = step_below made written spots t s x st e n h in
+    let clash : None ≡ Some n = sym none ∙ some in cc)
 
 -- nothing stands below a place where nothing stands
-pub nothing_under : (made : List Assertion) (written : List Placed) (spots : List Spot) (p : Place) (x : Step) → Stands made written spots → (p ≡ [] → ⊥) → kind_at made p ≡ None → kind_at made (at p x) ≡ None
-nothing_under made written spots p x st ne none = nothing_at made written spots (at p x) st (λ n h. elim (st.tree.up n h.0 h.1) [
-  | inl root ↦ not_root p x (sym h.2 ∙ root)
-  | inr b ↦
-      let same = (last_same b.upper.place p b.step x (sym b.place_is ∙ h.2)).0 in
-      let t = st.tells b.above b.upper b.stands in
-      let some = was_asserted t (λ root. ne (sym same ∙ root)) in
-      let clash : None ≡ Some t.kind = sym none ∙ ap (kind_at made) (sym same) ∙ some in
-      cc
-])
+pub nothing_under : (made : List Assertion) (written : List Placed) (spots : List Spot) (p : Place) (x : Step)
+    → Stands made written spots → (p ≡ [] → ⊥) → kind_at made p ≡ None → kind_at made (at p x) ≡ None
+nothing_under made written spots p x st ne none = nothing_at made written spots (at p x) st
+    (λ n h. elim (st.tree.up n h.0 h.1) [
+      | inl root ↦ not_root p x (sym h.2 ∙ root)
+      | inr b ↦
+          let same = (last_same b.upper.place p b.step x (sym b.place_is ∙ h.2)).0 in
+          let t = st.tells b.above b.upper b.stands in
+          let some = was_asserted t (λ root. ne (sym same ∙ root)) in
+          let clash : None ≡ Some t.kind = sym none ∙ ap (kind_at made) (sym same) ∙ some in
+          cc
+    ])
 
 -- ---- a place that is taken again
 
-and_joins : (made : List Assertion) (p : Place) (k l : Kind) (taken : Taken) → allowed made p l ≡ joins taken (taken_of l) → joins taken (taken_of k) ≡ true → (allowed made p l && together k l) ≡ joins (stronger taken (taken_of k)) (taken_of l)
-and_joins made p k l taken e fits = ap₂ (λ (x : Bool) (y : Bool). x && y) e (together_is k l) ∙ sym (stronger_is taken (taken_of k) (taken_of l) fits)
+and_joins : (made : List Assertion) (p : Place) (k l : Kind) (taken : Taken)
+    → allowed made p l ≡ joins taken (taken_of l) → joins taken (taken_of k) ≡ true
+    → (allowed made p l && together k l) ≡ joins (stronger taken (taken_of k)) (taken_of l)
+and_joins made p k l taken e fits = ap₂ (λ (x : Bool) (y : Bool). x && y) e (together_is k l) ∙
+    sym (stronger_is taken (taken_of k) (taken_of l) fits)
 
-module _ (made : List Assertion) (written : List Placed) (spots : List Spot) (j : ℕ) (s : Spot) (a : Assertion) (st : Stands made written spots) (here : slice_get spots j ≡ Some s) (place : a.place ≡ s.place) (inner : s.place ≡ [] → ⊥)
+module _ (made : List Assertion) (written : List Placed) (spots : List Spot) (j : ℕ) (s : Spot)
+    (a : Assertion) (st : Stands made written spots) (here : slice_get spots j ≡ Some s)
+    (place : a.place ≡ s.place) (inner : s.place ≡ [] → ⊥)
     (fits : joins s.taken (taken_of a.kind) ≡ true) (plain : is_element a.kind ≡ false) where
   told : Tells made written s
   told = st.tells j s here
@@ -200,7 +237,8 @@ module _ (made : List Assertion) (written : List Placed) (spots : List Spot) (j 
         kind = t.kind;
         first = first_stays made a s.place t.kind t.first;
         shape = t.shape;
-        joined = λ root k. allowed_here made a s.place k place ∙ and_joins made s.place a.kind k s.taken (t.joined root k) fits;
+        joined = λ root k. allowed_here made a s.place k place ∙
+            and_joins made s.place a.kind k s.taken (t.joined root k) fits;
         names = t.names ∙ ap key_names (sym (members_again made a s.place t.kind stood_kind));
         count = λ e. t.count e ∙ sym (elements_stay made a s.place plain);
         span = t.span;
@@ -209,20 +247,31 @@ module _ (made : List Assertion) (written : List Placed) (spots : List Spot) (j 
   pub stands_again : Stands (made ++ a ∷ []) written (slice_set spots j (with_taken s (taken_of a.kind)))
   stands_again = record {
     tree = tree_set spots j s (with_taken s (taken_of a.kind)) st.tree here refl refl refl;
-    tells = λ n u e. go n u (in_set spots j (with_taken s (taken_of a.kind)) n u (slice_get_within spots j s here) e);
+    tells = λ n u e. go n u
+        (in_set spots j (with_taken s (taken_of a.kind)) n u (slice_get_within spots j s here) e);
     covers = λ p k e. elim (kind_back made a p k e) [
-      | inl old_kind ↦ let c = st.covers p k old_kind in (c.0, grows_set spots j s (with_taken s (taken_of a.kind)) here refl c.0 p c.1)
-      | inr same ↦ (j, grows_set spots j s (with_taken s (taken_of a.kind)) here refl j p (s, here, sym place ∙ same))
+      | inl old_kind ↦ let c = st.covers p k old_kind in
+          (c.0, grows_set spots j s (with_taken s (taken_of a.kind)) here refl c.0 p c.1)
+      | inr same ↦ (
+        j,
+        grows_set spots j s (with_taken s (taken_of a.kind)) here refl j p
+            (s, here, sym place ∙ same),
+      )
     ];
     rooted = kind_else made a [] (λ e. inner (sym place ∙ e)) ∙ st.rooted;
     indexed = λ p i k e. elim (kind_back made a (at p (index i)) k e) [
       | inl old_kind ↦ indexed_stays made a p i (st.indexed p i k old_kind)
-      | inr same ↦ indexed_stays made a p i (st.indexed p i (st.tells j s here).kind (ap (kind_at made) (sym same) ∙ stood_kind))
+      | inr same ↦ indexed_stays made a p i
+          (st.indexed p i (st.tells j s here).kind (ap (kind_at made) (sym same) ∙ stood_kind))
     ];
     spans = λ p sp e. let w = st.spans p sp e in (w.0, kind_stays made a p w.0 w.1);
-    clear = clear_more made a st.clear (ap (λ (q : Place). allowed made q a.kind) place ∙ (st.tells j s here).joined inner a.kind ∙ fits) (short_at made a.place (st.tells j s here).kind st.clear.short stood_kind);
+    clear = clear_more made a st.clear (ap (λ (q : Place). allowed made q a.kind) place ∙
+        (st.tells j s here).joined inner a.kind ∙ fits)
+        (short_at made a.place (st.tells j s here).kind st.clear.short stood_kind);
   }
     where
-      go : (n : ℕ) (u : Spot) → OneSet spots j (with_taken s (taken_of a.kind)) n u → Tells (made ++ a ∷ []) written u
+      go : (n : ℕ) (u : Spot) → OneSet spots j (with_taken s (taken_of a.kind)) n u
+          → Tells (made ++ a ∷ []) written u
       go n u (changed same is) = subst (Tells (made ++ a ∷ []) written) (sym is) tells_here
-      go n u (other ne g) = tells_else u (st.tells n u g) (λ e. ne (st.tree.unique n j u s g here (sym e ∙ place)))
+      go n u (other ne g) = tells_else u (st.tells n u g)
+          (λ e. ne (st.tree.unique n j u s g here (sym e ∙ place)))

@@ -1,16 +1,16 @@
 -- What each assertion of a document tells of the place that its statement names.
 use Rattle.std.proofs.Common.{◌≡◌, ℕ, suc, ◌+◌, ◌-◌, ◌<◌, Bool, true, false, ◌&&◌, nat_lt, cond, List, [], ◌∷◌, ◌++◌, refl, sym, ap, subst, ◌∙◌, inl, inr, true≢false, arith}
-use Rattle.std.proofs.lemmas.Bool.{cases_lt, ltb-true}
-use Rattle.edit_syntax.specs.Grammar.{Statement, pair, header, element_header, empty_line, full_line, Lines, one_line, more_lines, Text}
+use Rattle.std.proofs.lemmas.Bool.{ltb-true}
+use Rattle.edit_syntax.specs.Grammar.{Statement, pair, header, element_header}
 use Rattle.edit_syntax.proofs.Cases.{by_test}
 use Rattle.edit_syntax.proofs.Members.{Among}
-use Rattle.edit_document.specs.Assertions.{Place, key, index, at, same_place, Kind, dotted, super, header_kind, array_kind, element_kind, Assertion, asserts, names, named, of_key, of_value, is_array, is_array_at, elements_at, resolved, fronts, header_place, of_statement, prefix_after, of_lines, assertions}
+use Rattle.edit_document.specs.Assertions.{Place, key, index, at, same_place, Kind, dotted, super, header_kind, array_kind, element_kind, Assertion, asserts, names, named, is_array, is_array_at, elements_at, resolved, fronts, header_place, of_statement, prefix_after}
 use Rattle.edit_document.specs.EditBytes.{is_within}
-use Rattle.edit_document.proofs.ArrayCounts.{ArePlain, plain_array, plain_both, plain_key, plain_value, plain_fronts}
-use Rattle.edit_document.proofs.Asserters.{Paved, Made, AreMade, Part, among_left, among_right, left_part, right_part, both_made, paved_root, paved_at, paved_any, key_ground, index_ground, value_made, pair_made}
+use Rattle.edit_document.proofs.ArrayCounts.{ArePlain, plain_array}
+use Rattle.edit_document.proofs.Asserters.{Paved, Made, AreMade, Part, left_part, right_part, both_made, paved_root, paved_at, paved_any, key_ground, index_ground}
+use Rattle.edit_document.proofs.ValueAsserters.{value_made, pair_made}
 use Rattle.edit_document.proofs.HeadedPlaces.{inside_self, inside_more, inside_trans, inside_header}
 use Rattle.edit_document.proofs.PairedPlaces.{owns}
-use Rattle.edit_document.proofs.SamePlace.{place_or, same_place_self, other_place}
 
 -- the array and the element of each element that was asserted so far
 abbrev pub Elemented : List Assertion → List Assertion → Type 0
@@ -21,7 +21,8 @@ Elemented made earlier =
 
 -- ---- counts of elements
 
-pub elements_append : (xs ys : List Assertion) (p : Place) → elements_at (xs ++ ys) p ≡ elements_at xs p + elements_at ys p
+pub elements_append : (xs ys : List Assertion) (p : Place)
+    → elements_at (xs ++ ys) p ≡ elements_at xs p + elements_at ys p
 elements_append [] ys p = omega arith
 elements_append (x ∷ xs) ys p = go (is_array_at p x) (elements_append xs ys p)
   where
@@ -34,9 +35,11 @@ elements_append (x ∷ xs) ys p = go (is_array_at p x) (elements_append xs ys p)
 pub elements_plain : (xs : List Assertion) (p : Place) → ArePlain xs → elements_at xs p ≡ 0
 elements_plain [] p h = refl
 elements_plain (x ∷ xs) p h =
-    ap (λ b. cond (b && same_place x.place p) (suc (elements_at xs p)) (elements_at xs p)) (plain_array x.kind h.0) ∙ elements_plain xs p h.1
+    ap (λ b. cond (b && same_place x.place p) (suc (elements_at xs p)) (elements_at xs p))
+    (plain_array x.kind h.0) ∙ elements_plain xs p h.1
 
-pub elementless : (made earlier more : List Assertion) → ArePlain more → Elemented made earlier → Elemented made (earlier ++ more)
+pub elementless : (made earlier more : List Assertion) → ArePlain more → Elemented made earlier
+    → Elemented made (earlier ++ more)
 elementless made earlier more h all p i lt =
     let sum = elements_append earlier more p in
     let none = elements_plain more p h in
@@ -45,8 +48,10 @@ elementless made earlier more h all p i lt =
 -- ---- headers
 
 module _ (made earlier : List Assertion) (by : Place) (all : Elemented made earlier) where
-  resolved_way : (p : Place) (n : List ℕ) → Paved made by true p → Among (asserts by (resolved earlier (at p (key n))) super) made
-      → is_within (resolved earlier (at p (key n))) by ≡ true → Paved made by true (resolved earlier (at p (key n)))
+  resolved_way : (p : Place) (n : List ℕ) → Paved made by true p
+      → Among (asserts by (resolved earlier (at p (key n))) super) made
+      → is_within (resolved earlier (at p (key n))) by ≡ true
+      → Paved made by true (resolved earlier (at p (key n)))
   resolved_way p n way m low = by_test (nat_lt 0 (elements_at earlier (at p (key n)))) some none
     where
       q : Place
@@ -56,20 +61,26 @@ module _ (made earlier : List Assertion) (by : Place) (all : Elemented made earl
       i = elements_at earlier (at p (key n)) - 1
 
       to : (b : Bool) → nat_lt 0 (elements_at earlier (at p (key n))) ≡ b
-          → resolved earlier (at p (key n)) ≡ cond b (at (at p (key n)) (index (elements_at earlier (at p (key n)) - 1))) (at p (key n))
-      to b e = ap (λ b. cond b (at (at p (key n)) (index (elements_at earlier (at p (key n)) - 1))) (at p (key n))) e
+          → resolved earlier (at p (key n))
+          ≡ cond b (at (at p (key n)) (index (elements_at earlier (at p (key n)) - 1))) (at p (key n))
+      to b e = ap (λ b. cond b (at (at p (key n)) (index (elements_at earlier (at p (key n)) - 1)))
+          (at p (key n))) e
 
-      none : nat_lt 0 (elements_at earlier (at p (key n))) ≡ false → Paved made by true (resolved earlier (at p (key n)))
+      none : nat_lt 0 (elements_at earlier (at p (key n))) ≡ false
+          → Paved made by true (resolved earlier (at p (key n)))
       none e =
           subst (Paved made by true) (sym (to false e))
           (paved_at made by true p (key n) way
-          (key_ground made by true p n (asserts by (resolved earlier (at p (key n))) super) m (to false e) (inside_self by) (λ f. refl)))
+          (key_ground made by true p n (asserts by (resolved earlier (at p (key n))) super) m (to false e)
+          (inside_self by) (λ f. refl)))
 
-      some : nat_lt 0 (elements_at earlier (at p (key n))) ≡ true → Paved made by true (resolved earlier (at p (key n)))
+      some : nat_lt 0 (elements_at earlier (at p (key n))) ≡ true
+          → Paved made by true (resolved earlier (at p (key n)))
       some e =
           let lt = ltb-true 0 (elements_at earlier q) e in
           let two = all q i (omega (arith, lt)) in
-          let near : is_within (at q (index i)) by ≡ true = ap (λ z. is_within z by) (sym (to true e)) ∙ low in
+          let near : is_within (at q (index i)) by ≡ true = ap (λ z. is_within z by) (sym (to true e)) ∙
+          low in
           subst (Paved made by true) (sym (to true e))
           (paved_at made by true q (index i)
           (paved_at made by true p (key n) way
@@ -77,7 +88,8 @@ module _ (made earlier : List Assertion) (by : Place) (all : Elemented made earl
           (index_ground made by true q i element_kind two.1 near (λ f. refl)))
 
   -- the place above the last part
-  pub fronts_way : (p : Place) (n : List ℕ) (ns : List (List ℕ)) → Paved made by true p → Part (fronts earlier by p (n ∷ ns)) made
+  pub fronts_way : (p : Place) (n : List ℕ) (ns : List (List ℕ)) → Paved made by true p
+      → Part (fronts earlier by p (n ∷ ns)) made
       → is_within (header_place earlier p (n ∷ ns)) by ≡ true
       → (u : Place) × (l : List ℕ) × (header_place earlier p (n ∷ ns) ≡ at u (key l)) × Paved made by true u
   fronts_way p n [] way h low = (p, n, refl, way)
@@ -87,18 +99,23 @@ module _ (made earlier : List Assertion) (by : Place) (all : Elemented made earl
       fronts_way r m ns (resolved_way p n way (h _ (inl refl)) near) (λ b x. h b (inr x)) low
 
   -- the next part of a header is on its way
-  next_part : (r : Place) (m : List ℕ) (ns : List (List ℕ)) → is_within (at r (key m)) (header_place earlier r (m ∷ ns)) ≡ true
+  next_part : (r : Place) (m : List ℕ) (ns : List (List ℕ))
+      → is_within (at r (key m)) (header_place earlier r (m ∷ ns)) ≡ true
   next_part r m [] = inside_self (at r (key m))
   next_part r m (l ∷ ns) =
-      inside_trans (at r (key m)) (resolved earlier (at r (key m))) _ (go (nat_lt 0 (elements_at earlier (at r (key m)))))
+      inside_trans (at r (key m)) (resolved earlier (at r (key m))) _
+      (go (nat_lt 0 (elements_at earlier (at r (key m)))))
       (inside_header earlier (resolved earlier (at r (key m))) l ns)
     where
-      go : (b : Bool) → is_within (at r (key m)) (cond b (at (at r (key m)) (index (elements_at earlier (at r (key m)) - 1))) (at r (key m))) ≡ true
+      go : (b : Bool) → is_within (at r (key m))
+          (cond b (at (at r (key m)) (index (elements_at earlier (at r (key m)) - 1))) (at r (key m))) ≡ true
       go true = inside_more (at r (key m)) (at r (key m)) _ (inside_self (at r (key m)))
       go false = inside_self (at r (key m))
 
-  pub fronts_made : (p : Place) (n : List ℕ) (ns : List (List ℕ)) → Paved made by true p → Part (fronts earlier by p (n ∷ ns)) made
-      → is_within (header_place earlier p (n ∷ ns)) by ≡ true → Paved made by false by → AreMade made (fronts earlier by p (n ∷ ns))
+  pub fronts_made : (p : Place) (n : List ℕ) (ns : List (List ℕ)) → Paved made by true p
+      → Part (fronts earlier by p (n ∷ ns)) made
+      → is_within (header_place earlier p (n ∷ ns)) by ≡ true → Paved made by false by
+      → AreMade made (fronts earlier by p (n ∷ ns))
   fronts_made p n [] way h low whole = tt
   fronts_made p n (m ∷ ns) way h low whole =
       let r = resolved earlier (at p (key n)) in
@@ -107,7 +124,11 @@ module _ (made earlier : List Assertion) (by : Place) (all : Elemented made earl
         record {
           upto = near;
           owner = λ f. absurd (true≢false (sym f));
-          goes = λ f. (key m, inside_trans (at r (key m)) (header_place earlier r (m ∷ ns)) by (next_part r m ns) low);
+          goes = λ f. (
+            key m,
+            inside_trans (at r (key m)) (header_place earlier r (m ∷ ns)) by
+                (next_part r m ns) low,
+          );
           array = λ f. absurd (true≢false (sym f));
           paved = whole;
           inner = λ f. absurd cc;
@@ -119,7 +140,8 @@ module _ (made earlier : List Assertion) (by : Place) (all : Elemented made earl
 -- ---- statements
 
 -- an assertion by a header or an element of its own place
-own_made : (made : List Assertion) (p : Place) (k : Kind) → owns k ≡ true → is_array k ≡ false → (k ≡ dotted true → ⊥)
+own_made : (made : List Assertion) (p : Place) (k : Kind) → owns k ≡ true → is_array k ≡ false
+    → (k ≡ dotted true → ⊥)
     → Paved made p true p → Made made (asserts p p k)
 own_made made p k own array plain way = record {
   upto = inside_self p;
@@ -132,11 +154,16 @@ own_made made p k own array plain way = record {
 }
 
 -- a statement under a header to which the way is asserted, and the way to the header that holds then
-pub statement_made : (made earlier : List Assertion) (prefix : Place) (s : Statement) → Elemented made earlier → Paved made prefix true prefix
+pub statement_made : (made earlier : List Assertion) (prefix : Place) (s : Statement) → Elemented made earlier
+    → Paved made prefix true prefix
     → Part (of_statement earlier prefix s) made
-    → AreMade made (of_statement earlier prefix s) × Paved made (prefix_after earlier prefix s) true (prefix_after earlier prefix s)
-statement_made made earlier prefix (pair k a b v) all way h =
-    (pair_made made false prefix k v (λ x y z. value_made made (named prefix (names k)) v x y z) way (λ e. absurd (true≢false (sym e))) h, way)
+    → AreMade made (of_statement earlier prefix s)
+    × Paved made (prefix_after earlier prefix s) true (prefix_after earlier prefix s)
+statement_made made earlier prefix (pair k a b v) all way h = (
+  pair_made made false prefix k v (λ x y z. value_made made (named prefix (names k)) v x y z) way
+      (λ e. absurd (true≢false (sym e))) h,
+  way,
+)
 statement_made made earlier prefix (header a k b) all way h =
     let place = header_place earlier [] (names k) in
     let supers = fronts earlier place [] (names k) in
@@ -147,9 +174,11 @@ statement_made made earlier prefix (header a k b) all way h =
     let whole : Paved made place true place =
     subst (Paved made place true) (sym u.2)
     (paved_at made place true u.0 (key u.1) u.3
-    (key_ground made place true u.0 u.1 (asserts place place header_kind) (last _ (inl refl)) u.2 (inside_self place) (λ f. refl))) in (
+    (key_ground made place true u.0 u.1 (asserts place place header_kind) (last _ (inl refl)) u.2
+    (inside_self place) (λ f. refl))) in (
       both_made made supers (asserts place place header_kind ∷ [])
-          (fronts_made made earlier place all [] _ _ root front (inside_self place) (paved_any made place true place whole))
+          (fronts_made made earlier place all [] _ _ root front (inside_self place)
+          (paved_any made place true place whole))
           (own_made made place header_kind refl refl (λ f. cc) whole, tt),
       whole,
     )
@@ -167,10 +196,12 @@ statement_made made earlier prefix (element_header a k b) all way h =
     let upper : Paved made own true place =
     subst (Paved made own true) (sym u.2)
     (paved_at made own true u.0 (key u.1) u.3
-    (key_ground made own true u.0 u.1 (asserts own place array_kind) (last _ (inl refl)) u.2 (inside_self own) (λ f. refl))) in
+    (key_ground made own true u.0 u.1 (asserts own place array_kind) (last _ (inl refl)) u.2 (inside_self own)
+    (λ f. refl))) in
     let whole : Paved made own true own =
     paved_at made own true place (index i) upper
-    (index_ground made own true place i element_kind (last _ (inr (inl refl))) (inside_self own) (λ f. refl)) in (
+    (index_ground made own true place i element_kind (last _ (inr (inl refl))) (inside_self own) (λ f. refl))
+    in (
       both_made made supers both
           (fronts_made made earlier own all [] _ _ root front low (paved_any made own true own whole)) (
             record {
@@ -186,80 +217,3 @@ statement_made made earlier prefix (element_header a k b) all way h =
           ),
       whole,
     )
-
--- ---- elements
-
-element_more : (made earlier supers : List Assertion) (q : Place) → ArePlain supers → Elemented made earlier
-    → Part (asserts (at q (index (elements_at earlier q))) q array_kind ∷ asserts (at q (index (elements_at earlier q))) (at q (index (elements_at earlier q))) element_kind ∷ []) made
-    → Elemented made (earlier ++ (supers ++ asserts (at q (index (elements_at earlier q))) q array_kind ∷ asserts (at q (index (elements_at earlier q))) (at q (index (elements_at earlier q))) element_kind ∷ []))
-element_more made earlier supers q plain all h p i lt = elim (place_or q p) [
-  | inl same ↦
-      let one : elements_at both p ≡ 1 = ap (λ b. cond b 1 0) (ap (λ z. same_place z p) same ∙ same_place_self p) in
-      elim (cases_lt i (elements_at earlier p)) [
-        | inl less ↦ all p i less
-        | inr ge ↦
-            let is : i ≡ elements_at earlier p = omega (arith, lt, ge, sum, inner, none, one) in
-            let here : i ≡ elements_at earlier q = is ∙ ap (elements_at earlier) (sym same) in
-            subst (λ z. Among (asserts (at z (index i)) z array_kind) made × Among (asserts (at z (index i)) (at z (index i)) element_kind) made) same
-            (subst (λ j. Among (asserts (at q (index j)) q array_kind) made × Among (asserts (at q (index j)) (at q (index j)) element_kind) made) (sym here)
-            (h _ (inl refl), h _ (inr (inl refl))))
-      ]
-  | inr ne ↦
-      let zero : elements_at both p ≡ 0 = ap (λ b. cond b 1 0) (other_place q p ne) in
-      all p i (omega (arith, lt, sum, inner, none, zero))
-]
-  where
-    both : List Assertion
-    both = asserts (at q (index (elements_at earlier q))) q array_kind ∷ asserts (at q (index (elements_at earlier q))) (at q (index (elements_at earlier q))) element_kind ∷ []
-
-    sum : elements_at (earlier ++ (supers ++ both)) p ≡ elements_at earlier p + elements_at (supers ++ both) p
-    sum = elements_append earlier (supers ++ both) p
-
-    inner : elements_at (supers ++ both) p ≡ elements_at supers p + elements_at both p
-    inner = elements_append supers both p
-
-    none : elements_at supers p ≡ 0
-    none = elements_plain supers p plain
-
-pub statement_elements : (made earlier : List Assertion) (prefix : Place) (s : Statement) → Elemented made earlier
-    → Part (of_statement earlier prefix s) made → Elemented made (earlier ++ of_statement earlier prefix s)
-statement_elements made earlier prefix (pair k a b v) all h =
-    let q = named prefix (names k) in
-    elementless made earlier (of_key false q prefix (names k) v ++ of_value q v)
-    (plain_both (of_key false q prefix (names k) v) (of_value q v) (plain_key false q prefix (names k) v) (plain_value q v)) all
-statement_elements made earlier prefix (header a k b) all h =
-    let q = header_place earlier [] (names k) in
-    elementless made earlier (fronts earlier q [] (names k) ++ asserts q q header_kind ∷ [])
-    (plain_both (fronts earlier q [] (names k)) (asserts q q header_kind ∷ []) (plain_fronts earlier q [] (names k)) (refl, tt)) all
-statement_elements made earlier prefix (element_header a k b) all h =
-    let q = header_place earlier [] (names k) in
-    let own = at q (index (elements_at earlier q)) in
-    element_more made earlier (fronts earlier own [] (names k)) q (plain_fronts earlier own [] (names k)) all
-    (right_part (fronts earlier own [] (names k)) _ made h)
-
--- ---- lines
-
-earlier_part : (earlier : List Assertion) (prefix : Place) (ls : Lines) → Part earlier (of_lines earlier prefix ls)
-earlier_part earlier prefix (one_line (empty_line a c)) b m = m
-earlier_part earlier prefix (one_line (full_line a s x c)) b m = among_left earlier (of_statement earlier prefix s) b m
-earlier_part earlier prefix (more_lines (empty_line a c) e ls) b m = earlier_part earlier prefix ls b m
-earlier_part earlier prefix (more_lines (full_line a s x c) e ls) b m =
-    earlier_part (earlier ++ of_statement earlier prefix s) (prefix_after earlier prefix s) ls b (among_left earlier (of_statement earlier prefix s) b m)
-
-lines_made : (made earlier : List Assertion) (prefix : Place) (ls : Lines) → Elemented made earlier → Paved made prefix true prefix
-    → AreMade made earlier → Part (of_lines earlier prefix ls) made → AreMade made (of_lines earlier prefix ls)
-lines_made made earlier prefix (one_line (empty_line a c)) all way so h = so
-lines_made made earlier prefix (one_line (full_line a s b c)) all way so h =
-    both_made made earlier (of_statement earlier prefix s) so
-    (statement_made made earlier prefix s all way (right_part earlier (of_statement earlier prefix s) made h)).0
-lines_made made earlier prefix (more_lines (empty_line a c) e ls) all way so h = lines_made made earlier prefix ls all way so h
-lines_made made earlier prefix (more_lines (full_line a s b c) e ls) all way so h =
-    let us = of_statement earlier prefix s in
-    let here : Part us made =
-    λ x m. h x (earlier_part (earlier ++ us) (prefix_after earlier prefix s) ls x (among_right earlier us x m)) in
-    let r = statement_made made earlier prefix s all way here in
-    lines_made made (earlier ++ us) (prefix_after earlier prefix s) ls (statement_elements made earlier prefix s all here) r.1
-    (both_made made earlier us so r.0) h
-
-pub are_made : (form : Text) → AreMade (assertions form) (assertions form)
-are_made form = lines_made (assertions form) [] [] form.lines (λ p i lt. absurd (omega (arith, lt))) (paved_root (assertions form) [] true) tt (λ b m. m)

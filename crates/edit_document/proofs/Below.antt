@@ -21,26 +21,32 @@ step_from_is [] (x ∷ y ∷ r) s e = absurd cc
 step_from_is (x ∷ q) [] s e = absurd cc
 step_from_is (x ∷ q) (y ∷ r) s e = go (same_step x y) refl e (step_from_is q r s)
   where
-    go : (b : Bool) → same_step x y ≡ b → (step_from (x ∷ q) (y ∷ r)) ≡ Some s → (step_from q r ≡ Some s → r ≡ at q s) → y ∷ r ≡ x ∷ at q s
-    go true t h ih = let same : x ≡ y = same_step_is x y t in let k : step_from q r ≡ Some s = rw t at h in ap (λ (z : Step). z ∷ r) (sym same) ∙ ap (λ (p : Place). x ∷ p) (ih k)
+    go : (b : Bool) → same_step x y ≡ b → (step_from (x ∷ q) (y ∷ r)) ≡ Some s
+        → (step_from q r ≡ Some s → r ≡ at q s) → y ∷ r ≡ x ∷ at q s
+    go true t h ih = let same : x ≡ y = same_step_is x y t in let k : step_from q r ≡ Some s = rw t at h in
+        ap (λ (z : Step). z ∷ r) (sym same) ∙ ap (λ (p : Place). x ∷ p) (ih k)
     go false t h ih = absurd (let k : None ≡ Some s = rw t at h in cc)
 
 -- ---- each element
 
-pub all_at : {X : Type 0} (P : X → Type 0) (xs : List X) (i : ℕ) (x : X) → AllByRecursion P xs → slice_get xs i ≡ Some x → P x
+pub all_at : {X : Type 0} (P : X → Type 0) (xs : List X) (i : ℕ) (x : X) → AllByRecursion P xs
+    → slice_get xs i ≡ Some x → P x
 all_at P [] i x h e = absurd cc
 all_at P (y ∷ ys) zero x h e = subst P (same_Some y x e) h.0
 all_at P (y ∷ ys) (suc i) x h e = all_at P ys i x h.1 e
 
-pub all_from : {X : Type 0} (P : X → Type 0) (xs : List X) → ((i : ℕ) (x : X) → slice_get xs i ≡ Some x → P x) → AllByRecursion P xs
+pub all_from : {X : Type 0} (P : X → Type 0) (xs : List X) → ((i : ℕ) (x : X) → slice_get xs i ≡ Some x → P x)
+    → AllByRecursion P xs
 all_from P [] h = tt
 all_from P (y ∷ ys) h = (h 0 y refl, all_from P ys (λ i x e. h (suc i) x e))
 
-pub all_front : {X : Type 0} (P : X → Type 0) (xs ys : List X) → AllByRecursion P (xs ++ ys) → AllByRecursion P xs
+pub all_front : {X : Type 0} (P : X → Type 0) (xs ys : List X) → AllByRecursion P (xs ++ ys)
+    → AllByRecursion P xs
 all_front P [] ys h = tt
 all_front P (x ∷ xs) ys h = (h.0, all_front P xs ys h.1)
 
-pub all_push : {X : Type 0} (P : X → Type 0) (xs : List X) (y : X) → AllByRecursion P xs → P y → AllByRecursion P (xs ++ y ∷ [])
+pub all_push : {X : Type 0} (P : X → Type 0) (xs : List X) (y : X) → AllByRecursion P xs → P y
+    → AllByRecursion P (xs ++ y ∷ [])
 all_push P [] y h p = (p, tt)
 all_push P (x ∷ xs) y h p = (h.0, all_push P xs y h.1 p)
 

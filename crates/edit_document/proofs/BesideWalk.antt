@@ -1,4 +1,5 @@
--- The walk along a place through two documents that show the same but there and below.
+-- The walk along a place through two documents that show the same, or the same but for the order of members,
+-- but there and below.
 use Rattle.std.proofs.Common.{◌≡◌, ℕ, ◌+◌, ◌<◌, List, [], ◌∷◌, ◌++◌, length, get_or, take, drop, Some, None, sym, ap, subst, ◌∙◌}
 use Rattle.std.specs.Prelude.{map}
 use Rattle.std.proofs.lemmas.List.{map-append, take-append-drop}
@@ -6,22 +7,26 @@ use Rattle.edit_document.specs.declared.place.Step.{Step as WrittenStep}
 use Rattle.edit_document.specs.Assertions.{Place, at}
 use Rattle.edit_document.specs.Shown.{Shown, tree_of}
 use Rattle.edit_document.specs.Items.{place_seen, step_seen, place_numbered, Numbers}
-use Rattle.edit_document.specs.Compared.{tree_below, SameBeside, IsNumber}
-use Rattle.edit_document.proofs.Views.{place_more, walk_none}
+use Rattle.edit_document.specs.Compared.{tree_below, IsNumber}
+use Rattle.edit_document.specs.Meant.{Tree}
+use Rattle.edit_document.proofs.MemberViews.{place_more, walk_none}
 use Rattle.edit_document.proofs.SameParts.{NoneBelow}
-use Rattle.edit_document.proofs.Besides.{beside_more, beside_front, beside_back}
+use Rattle.edit_document.proofs.Besides.{GoesAlong}
 
 -- a step of the walk
-module _ (d e : Shown) (steps : List WrittenStep) (i : ℕ) (step : WrittenStep) (lt : i < length steps)
+module _ (Beside : Place → Tree → Tree → Type 0) (goes : GoesAlong Beside) (d e : Shown)
+    (steps : List WrittenStep) (i : ℕ) (step : WrittenStep) (lt : i < length steps)
     (is : step ≡ get_or steps i step) (n m : ℕ)
-    (left : place_numbered d n ≡ place_seen (take i steps)) (right : place_numbered e m ≡ place_seen (take i steps)) where
+    (left : place_numbered d n ≡ place_seen (take i steps))
+    (right : place_numbered e m ≡ place_seen (take i steps)) where
   so_far : Place
   so_far = place_seen (take i steps)
 
   next : place_seen (take (i + 1) steps) ≡ at (place_seen (take i steps)) (step_seen step)
   next = place_more steps i step lt is
 
-  whole : place_seen steps ≡ at (place_seen (take i steps)) (step_seen step) ++ place_seen (drop (i + 1) steps)
+  whole : place_seen steps ≡ at (place_seen (take i steps)) (step_seen step) ++ place_seen
+      (drop (i + 1) steps)
   whole =
       ap (map step_seen) (sym (take-append-drop (i + 1) steps))
       ∙ map-append step_seen (take (i + 1) steps) (drop (i + 1) steps)
@@ -30,41 +35,49 @@ module _ (d e : Shown) (steps : List WrittenStep) (i : ℕ) (step : WrittenStep)
   -- the same from these nodes on
   abbrev AroundNodes : Type 0
   AroundNodes =
-      SameBeside (step_seen step ∷ []) (tree_below d (place_numbered d n)) (tree_below e (place_numbered e m))
+      Beside (step_seen step ∷ []) (tree_below d (place_numbered d n)) (tree_below e (place_numbered e m))
 
   abbrev AroundPlace : Type 0
   AroundPlace =
-      SameBeside (step_seen step ∷ []) (tree_below d (place_seen (take i steps))) (tree_below e (place_seen (take i steps)))
+      Beside (step_seen step ∷ []) (tree_below d (place_seen (take i steps)))
+      (tree_below e (place_seen (take i steps)))
 
-  pub beside_here : SameBeside (place_seen steps) (tree_of d) (tree_of e) → AroundNodes
-  beside_here same =
-      let front : SameBeside (at (place_seen (take i steps)) (step_seen step)) (tree_of d) (tree_of e) =
-      beside_front (at (place_seen (take i steps)) (step_seen step)) (place_seen (drop (i + 1) steps)) (tree_of d) (tree_of e)
-      (subst (λ (p : Place). SameBeside p (tree_of d) (tree_of e)) whole same) in
+  pub walk_here : Beside (place_seen steps) (tree_of d) (tree_of e) → AroundNodes
+  walk_here same =
+      let front : Beside (at (place_seen (take i steps)) (step_seen step)) (tree_of d) (tree_of e) =
+      goes.front (at (place_seen (take i steps)) (step_seen step)) (place_seen (drop (i + 1) steps))
+      (tree_of d) (tree_of e)
+      (subst (λ (p : Place). Beside p (tree_of d) (tree_of e)) whole same) in
       let here : AroundPlace =
-      beside_back (place_seen (take i steps)) (step_seen step ∷ []) (tree_of d) (tree_of e) front in
-      let one : SameBeside (step_seen step ∷ []) (tree_below d (place_numbered d n)) (tree_below e (place_seen (take i steps))) =
-      subst (λ (p : Place). SameBeside (step_seen step ∷ []) (tree_below d p) (tree_below e (place_seen (take i steps)))) (sym left) here in
-      subst (λ (p : Place). SameBeside (step_seen step ∷ []) (tree_below d (place_numbered d n)) (tree_below e p)) (sym right) one
+      goes.back (place_seen (take i steps)) (step_seen step ∷ []) (tree_of d) (tree_of e) front in
+      let one : Beside (step_seen step ∷ []) (tree_below d (place_numbered d n))
+      (tree_below e (place_seen (take i steps))) =
+      subst (λ (p : Place). Beside (step_seen step ∷ []) (tree_below d p)
+      (tree_below e (place_seen (take i steps)))) (sym left) here in
+      subst (λ (p : Place). Beside (step_seen step ∷ []) (tree_below d (place_numbered d n)) (tree_below e p))
+      (sym right) one
 
   -- nothing stands there in the second, where the walk ends early
-  pub beside_ends : NoneBelow e → tree_of e (at (place_numbered e m) (step_seen step)) ≡ None
+  pub walk_ends : NoneBelow e → tree_of e (at (place_numbered e m) (step_seen step)) ≡ None
       → tree_of e (place_seen steps) ≡ None
-  beside_ends below none = walk_none e below steps i step lt is (place_numbered e m) right none
+  walk_ends below none = walk_none e below steps i step lt is (place_numbered e m) right none
 
   -- the nodes one step on
-  pub beside_next : SameBeside (place_seen (take i steps)) (tree_of d) (tree_of e) → AroundNodes → (a b : ℕ)
+  pub walk_next : Beside (place_seen (take i steps)) (tree_of d) (tree_of e) → AroundNodes → (a b : ℕ)
       → Numbers d (at (place_numbered d n) (step_seen step)) (Some a)
       → Numbers e (at (place_numbered e m) (step_seen step)) (Some b)
-      → SameBeside (place_seen (take (i + 1) steps)) (tree_of d) (tree_of e)
+      → Beside (place_seen (take (i + 1) steps)) (tree_of d) (tree_of e)
       × IsNumber d (place_seen (take (i + 1) steps)) a × IsNumber e (place_seen (take (i + 1) steps)) b
-  beside_next front around a b na nb =
-      let one : SameBeside (step_seen step ∷ []) (tree_below d (place_seen (take i steps))) (tree_below e (place_numbered e m)) =
-      subst (λ (p : Place). SameBeside (step_seen step ∷ []) (tree_below d p) (tree_below e (place_numbered e m))) left around in
+  walk_next front around a b na nb =
+      let one : Beside (step_seen step ∷ []) (tree_below d (place_seen (take i steps)))
+      (tree_below e (place_numbered e m)) =
+      subst (λ (p : Place). Beside (step_seen step ∷ []) (tree_below d p) (tree_below e (place_numbered e m)))
+      left around in
       let here : AroundPlace =
-      subst (λ (p : Place). SameBeside (step_seen step ∷ []) (tree_below d (place_seen (take i steps))) (tree_below e p)) right one in (
-        subst (λ (p : Place). SameBeside p (tree_of d) (tree_of e)) (sym next)
-            (beside_more (place_seen (take i steps)) (step_seen step ∷ []) (tree_of d) (tree_of e) front here),
+      subst (λ (p : Place). Beside (step_seen step ∷ []) (tree_below d (place_seen (take i steps)))
+      (tree_below e p)) right one in (
+        subst (λ (p : Place). Beside p (tree_of d) (tree_of e)) (sym next)
+            (goes.more (place_seen (take i steps)) (step_seen step ∷ []) (tree_of d) (tree_of e) front here),
         (na.2, na.1 ∙ ap (λ (p : Place). at p (step_seen step)) left ∙ sym next),
         (nb.2, nb.1 ∙ ap (λ (p : Place). at p (step_seen step)) right ∙ sym next),
       )

@@ -59,7 +59,8 @@ other_within s t q ne = go (same_step s t) refl
 pub within_other : (s t : Step) (q : Place) → is_within (s ∷ []) (t ∷ q) ≡ false → t ≡ s → ⊥
 within_other s t q e same =
     let clash : true ≡ false =
-    sym (ap (λ (b : Bool). b && true) (same_step_self s)) ∙ ap (λ (x : Step). same_step s x && true) (sym same) ∙ e in
+    sym (ap (λ (b : Bool). b && true) (same_step_self s)) ∙
+    ap (λ (x : Step). same_step s x && true) (sym same) ∙ e in
     cc
 
 -- ---- trees
@@ -77,6 +78,17 @@ beside_front p r old new same q out = same q (within_front p r q out)
 pub beside_back : (p r : Place) (old new : Tree) → SameBeside (p ++ r) old new
     → SameBeside r (λ q. old (p ++ q)) (λ q. new (p ++ q))
 beside_back p r old new same q out = same (p ++ q) (within_back p r q ∙ out)
+
+-- a relation of two trees but at one place and below it, which can be cut and joined along that place
+pub record GoesAlong (Beside : Place → Tree → Tree → Type 0) : Type 0 where
+  pub more : (p r : Place) (old new : Tree) → Beside p old new
+      → Beside r (λ q. old (p ++ q)) (λ q. new (p ++ q)) → Beside (p ++ r) old new
+  pub front : (p r : Place) (old new : Tree) → Beside (p ++ r) old new → Beside p old new
+  pub back : (p r : Place) (old new : Tree) → Beside (p ++ r) old new
+      → Beside r (λ q. old (p ++ q)) (λ q. new (p ++ q))
+
+pub beside_goes : GoesAlong SameBeside
+beside_goes = record { more = beside_more; front = beside_front; back = beside_back }
 
 -- ---- nodes
 
@@ -100,18 +112,22 @@ module _ (d : Shown) (n : ℕ) (e : Shown) (m : ℕ) (s : Step) (here : At d n) 
             let absent : (i : ℕ) → nth_part (view_numbered d n) i ≡ Some t → ⊥ =
             λ i h. none i (part_less (view_numbered d n) i t h) h in
             sym (one_down e (place_numbered e m) t q)
-            ∙ below_e (at (place_numbered e m) t) q (else_e t (λ i h. absent i (ap (λ (w : View). nth_part w i) same ∙ h)))
-            ∙ sym (below_d (at (place_numbered d n) t) q (else_d t absent)) ∙ one_down d (place_numbered d n) t q
+            ∙ below_e (at (place_numbered e m) t) q
+            (else_e t (λ i h. absent i (ap (λ (w : View). nth_part w i) same ∙ h)))
+            ∙ sym (below_d (at (place_numbered d n) t) q (else_d t absent)) ∙
+            one_down d (place_numbered d n) t q
       ]
 
-  pub around_view : SameBeside (s ∷ []) (tree_below d (place_numbered d n)) (tree_below e (place_numbered e m))
+  pub around_view : SameBeside (s ∷ []) (tree_below d (place_numbered d n))
+      (tree_below e (place_numbered e m))
       → view_numbered d n ≡ view_numbered e m
   around_view same =
       same_Some (view_numbered d n) (view_numbered e m)
       (sym here ∙ ap (tree_of d) (sym (append-nil (place_numbered d n))) ∙ sym (same [] refl)
       ∙ ap (tree_of e) (append-nil (place_numbered e m)) ∙ there)
 
-  pub around_parts : SameBeside (s ∷ []) (tree_below d (place_numbered d n)) (tree_below e (place_numbered e m))
+  pub around_parts : SameBeside (s ∷ []) (tree_below d (place_numbered d n))
+      (tree_below e (place_numbered e m))
       → SamePartsBut s d n e m
   around_parts same i t part ne q =
       one_down d (place_numbered d n) t q ∙ sym (same (t ∷ q) (other_within s t q ne))

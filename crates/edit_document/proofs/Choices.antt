@@ -49,7 +49,8 @@ pub first_both : {A B : Type 0} (f : A → Option B) (xs ys : List A)
     → first_made f (xs ++ ys) ≡ first_of (first_made f xs ∷ first_made f ys ∷ [])
 first_both f [] ys = sym (only_one (first_made f ys))
 first_both {B = B} f (x ∷ xs) ys =
-    ap (λ (o : Option B). first_of (f x ∷ o ∷ [])) (first_both f xs ys) ∙ go (f x) (first_made f xs) (first_made f ys)
+    ap (λ (o : Option B). first_of (f x ∷ o ∷ [])) (first_both f xs ys) ∙
+    go (f x) (first_made f xs) (first_made f ys)
   where
     go : (o p q : Option B) → first_of (o ∷ first_of (p ∷ q ∷ []) ∷ [])
         ≡ first_of (first_of (o ∷ p ∷ []) ∷ q ∷ [])
@@ -70,7 +71,8 @@ pub last_left : {A B : Type 0} (f : A → Option B) (xs : List A) (i : ℕ) (d :
     → f (get_or xs i d) ≡ None → last_made f (take (i + 1) xs) ≡ last_made f (take i xs)
 last_left {B = B} f xs i d lt e =
     ap (last_made f) (take_more xs i d lt) ∙ last_more f (take i xs) (get_or xs i d)
-    ∙ ap (λ (o : Option B). first_of (o ∷ last_made f (take i xs) ∷ [])) e ∙ only_one (last_made f (take i xs))
+    ∙ ap (λ (o : Option B). first_of (o ∷ last_made f (take i xs) ∷ [])) e ∙
+    only_one (last_made f (take i xs))
 
 first_step : {A B : Type 0} (f : A → Option B) (xs : List A) (i : ℕ) (d : A) → i < length xs
     → first_made f (take i xs) ≡ None → first_made f (take (i + 1) xs) ≡ f (get_or xs i d)
@@ -86,14 +88,16 @@ pub first_taken : {A B : Type 0} (f : A → Option B) (xs : List A) (i : ℕ) (d
     → first_made f (take i xs) ≡ None → f (get_or xs i d) ≡ Some y → first_made f xs ≡ Some y
 first_taken {B = B} f xs i d y lt none e =
     ap (first_made f) (sym (take-append-drop (i + 1) xs)) ∙ first_both f (take (i + 1) xs) (drop (i + 1) xs)
-    ∙ ap (λ (o : Option B). first_of (o ∷ first_made f (drop (i + 1) xs) ∷ [])) (first_step f xs i d lt none ∙ e)
+    ∙ ap (λ (o : Option B). first_of (o ∷ first_made f (drop (i + 1) xs) ∷ [])) (first_step f xs i d lt none ∙
+    e)
 
 -- of lists one behind the other
 pub first_flat : {S A B : Type 0} (f : A → Option B) (k : S → List A) (xs : List S)
     → first_made f (flat_map k xs) ≡ first_made (λ x. first_made f (k x)) xs
 first_flat f k [] = refl
 first_flat {B = B} f k (x ∷ xs) =
-    first_both f (k x) (flat_map k xs) ∙ ap (λ (o : Option B). first_of (first_made f (k x) ∷ o ∷ [])) (first_flat f k xs)
+    first_both f (k x) (flat_map k xs) ∙ ap (λ (o : Option B). first_of (first_made f (k x) ∷ o ∷ []))
+    (first_flat f k xs)
 
 -- something is made of one exactly where something is made of its image
 pub record Alike {S A B C : Type 0} (f : A → Option B) (g : S → Option C) (h : S → A) : Type 0 where
@@ -187,13 +191,15 @@ pub last_nothing : {A B : Type 0} (f : A → Option B) (xs : List A) → ((x : A
     → last_made f xs ≡ None
 last_nothing f [] all = refl
 last_nothing {B = B} f (x ∷ xs) all =
-    ap₂ (λ (a b : Option B). first_of (a ∷ b ∷ [])) (last_nothing f xs (λ y m. all y (inr m))) (all x (inl refl))
+    ap₂ (λ (a b : Option B). first_of (a ∷ b ∷ [])) (last_nothing f xs (λ y m. all y (inr m)))
+    (all x (inl refl))
 
 pub first_nothing : {A B : Type 0} (f : A → Option B) (xs : List A) → ((x : A) → Among x xs → f x ≡ None)
     → first_made f xs ≡ None
 first_nothing f [] all = refl
 first_nothing {B = B} f (x ∷ xs) all =
-    ap₂ (λ (a b : Option B). first_of (a ∷ b ∷ [])) (all x (inl refl)) (first_nothing f xs (λ y m. all y (inr m)))
+    ap₂ (λ (a b : Option B). first_of (a ∷ b ∷ [])) (all x (inl refl))
+    (first_nothing f xs (λ y m. all y (inr m)))
 
 -- ---- where something is made of one alone
 
@@ -201,7 +207,8 @@ pub last_both : {A B : Type 0} (f : A → Option B) (xs ys : List A)
     → last_made f (xs ++ ys) ≡ first_of (last_made f ys ∷ last_made f xs ∷ [])
 last_both f [] ys = sym (before_none (last_made f ys))
 last_both {B = B} f (x ∷ xs) ys =
-    ap (λ (o : Option B). first_of (o ∷ f x ∷ [])) (last_both f xs ys) ∙ go (last_made f ys) (last_made f xs) (f x)
+    ap (λ (o : Option B). first_of (o ∷ f x ∷ [])) (last_both f xs ys) ∙
+    go (last_made f ys) (last_made f xs) (f x)
   where
     go : (o p q : Option B) → first_of (first_of (o ∷ p ∷ []) ∷ q ∷ [])
         ≡ first_of (o ∷ first_of (p ∷ q ∷ []) ∷ [])
@@ -215,13 +222,15 @@ pub last_flat : {S A B : Type 0} (f : A → Option B) (k : S → List A) (xs : L
     → last_made f (flat_map k xs) ≡ last_made (λ x. last_made f (k x)) xs
 last_flat f k [] = refl
 last_flat {B = B} f k (x ∷ xs) =
-    last_both f (k x) (flat_map k xs) ∙ ap (λ (o : Option B). first_of (o ∷ last_made f (k x) ∷ [])) (last_flat f k xs)
+    last_both f (k x) (flat_map k xs) ∙ ap (λ (o : Option B). first_of (o ∷ last_made f (k x) ∷ []))
+    (last_flat f k xs)
 
 pub last_only : {A B : Type 0} (f : A → Option B) (w : A) (xs : List A) → Among w xs
     → ((x : A) → Among x xs → (f x ≡ None) ⊎ (x ≡ w)) → last_made f xs ≡ f w
 last_only f w [] m each = absurd m
 last_only {A} {B} f w (x ∷ xs) m each =
-    go m (each x (inl refl)) (rest xs (λ y n. each y (inr n))) (λ n. last_only f w xs n (λ y o. each y (inr o)))
+    go m (each x (inl refl)) (rest xs (λ y n. each y (inr n)))
+    (λ n. last_only f w xs n (λ y o. each y (inr o)))
   where
     same_twice : (o : Option B) → first_of (o ∷ o ∷ []) ≡ o
     same_twice None = refl

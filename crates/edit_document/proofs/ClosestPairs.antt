@@ -24,7 +24,8 @@ use Rattle.edit_document.proofs.ValueAssertions.{among_left, among_right, value_
 
 -- it begins above the place
 pub part_within : (place table : Place) (ns : List Named) (spot : List ℕ)
-    → behind_part as_it_is place table ns ≡ Some spot → (s : Step) × (below : Place) × (place ≡ table ++ (s ∷ below))
+    → behind_part as_it_is place table ns ≡ Some spot → (s : Step) × (below : Place)
+    × (place ≡ table ++ (s ∷ below))
 part_within place table [] spot e = absurd cc
 part_within place table (n ∷ ns) spot e =
     go (same_place (at table (key n.0)) place) refl e (part_within place (at table (key n.0)) ns spot)
@@ -40,17 +41,20 @@ part_within place table (n ∷ ns) spot e =
         (key n.0, r.0 ∷ r.1, r.2 ∙ append_assoc table (key n.0 ∷ []) (r.0 ∷ r.1))
 
 pub part_above : (place table : Place) (ns : List Named) (spot : List ℕ)
-    → behind_part as_it_is place table ns ≡ Some spot → (length table < length place) × (take (length table) place ≡ table)
+    → behind_part as_it_is place table ns ≡ Some spot → (length table < length place)
+    × (take (length table) place ≡ table)
 part_above place table ns spot e =
     let r = part_within place table ns spot e in
     let size = ap length r.2 ∙ length-append table (r.0 ∷ r.1) in
     (omega arith, ap (take (length table)) r.2 ∙ take-append_seam table (r.0 ∷ r.1))
 
 -- and asserts each place on the way
-key_dotted : (place : Place) (j : ℕ) (by q : Place) (n x : List ℕ) (ds : List Dotted) (rest : List ℕ) (v : Value)
+key_dotted : (place : Place) (j : ℕ) (by q : Place) (n x : List ℕ) (ds : List Dotted) (rest : List ℕ)
+    (v : Value)
     (spot : List ℕ) → behind_part as_it_is place q (front_parts ((n, x) ∷ dotted_parts ds rest)) ≡ Some spot
     → length q + suc j < length place
-    → Among (asserts by (take (length q + suc j) place) (dotted true)) (of_key true by q (n ∷ map (λ d. name d.part) ds) v)
+    → Among (asserts by (take (length q + suc j) place) (dotted true))
+    (of_key true by q (n ∷ map (λ d. name d.part) ds) v)
 key_dotted place j by q n x [] rest v spot e lt = absurd cc
 key_dotted place j by q n x (d ∷ ds) rest v spot e lt =
     go (same_place here place) refl e (λ i. key_dotted place i by here (name d.part) _ ds rest v spot)
@@ -71,7 +75,8 @@ key_dotted place j by q n x (d ∷ ds) rest v spot e lt =
         → ((m : ℕ) → behind_part as_it_is place here others ≡ Some spot → length here + suc m < length place
         → Among (asserts by (take (length here + suc m) place) (dotted true)) made)
         → length q + suc i < length place
-        → Among (asserts by (take (length q + suc i) place) (dotted true)) (asserts by here (dotted true) ∷ made)
+        → Among (asserts by (take (length q + suc i) place) (dotted true))
+        (asserts by here (dotted true) ∷ made)
     deeper zero k ih le =
         let r = part_above place here others spot k in
         let at_here : length q + 1 ≡ length here = sym size in
@@ -85,7 +90,8 @@ key_dotted place j by q n x (d ∷ ds) rest v spot e lt =
         → cond b (Some x) (behind_part as_it_is place here others) ≡ Some spot
         → ((m : ℕ) → behind_part as_it_is place here others ≡ Some spot → length here + suc m < length place
         → Among (asserts by (take (length here + suc m) place) (dotted true)) made)
-        → Among (asserts by (take (length q + suc j) place) (dotted true)) (asserts by here (dotted true) ∷ made)
+        → Among (asserts by (take (length q + suc j) place) (dotted true))
+        (asserts by here (dotted true) ∷ made)
     go true h k ih =
         let full = ap length (same_place_is here place h) in
         absurd (omega (arith, size, full, lt))
@@ -117,7 +123,8 @@ wider xs ys zs there r = record {
 }
 
 members_dotted : (place table : Place) (j : ℕ) (p : Paired) (ms : Members) (rest spot : List ℕ)
-    → Among p (paired_members table ms rest) → front_to place p ≡ Some spot → length table + suc j < length place
+    → Among p (paired_members table ms rest) → front_to place p ≡ Some spot
+    → length table + suc j < length place
     → OnTheWay (of_members table ms) (take (length table + suc j) place)
 members_dotted place table j p no_members rest spot m e lt = absurd m
 members_dotted place table j p (last_member k a b v c) rest spot (inl is) e lt =
@@ -165,7 +172,8 @@ value_dotted : (place : Place) (j : ℕ) (p : Paired) (w : Valued) (spot : List 
 value_dotted place j p w spot = go w.value
   where
     go : (v : Value) → Among p (paired_value (record w { value = v })) → front_to place p ≡ Some spot
-        → length w.place + suc j < length place → OnTheWay (of_value w.place v) (take (length w.place + suc j) place)
+        → length w.place + suc j < length place
+        → OnTheWay (of_value w.place v) (take (length w.place + suc j) place)
     go (basic ps) m e lt = absurd m
     go (literal t) m e lt = absurd m
     go (multi_basic ps) m e lt = absurd m
@@ -197,7 +205,8 @@ no_front place p never = go (front_to place p) refl
 
 module _ (form : Text) (place : Place) (clash : NoClash (assertions form)) where
   -- none stands so far from the root, or further
-  too_far : (from : ℕ) → NoneAbove form place from → (w : Valued) → Among w (values form) → from ≤ length w.place
+  too_far : (from : ℕ) → NoneAbove form place from → (w : Valued) → Among w (values form)
+      → from ≤ length w.place
       → (p : Paired) → Among p (paired_value w) → (spot : List ℕ) → front_to place p ≡ Some spot → ⊥
   too_far from none w among le p m spot e =
       let r = stands_above place p w spot m e in
@@ -233,7 +242,8 @@ module _ (form : Text) (place : Place) (clash : NoClash (assertions form)) where
   closest_inner k start lt t none =
       last_flat (inner_of place) paired_value (values form)
       ∙ last_only made t.valued (values form) (contained_among t.valued (values form) t.told) each
-      ∙ ap₂ (λ (v : Value) (q : Place). last_made (inner_of place) (paired_value (record t.valued { value = v; place = q })))
+      ∙ ap₂ (λ (v : Value) (q : Place). last_made (inner_of place)
+      (paired_value (record t.valued { value = v; place = q })))
       t.is t.there
     where
       made : Valued → Option Inner
@@ -246,9 +256,12 @@ module _ (form : Text) (place : Place) (clash : NoClash (assertions form)) where
           by_test (ltb (length w.place) k)
           (λ h. too_near k start lt t w among (ltb-true (length w.place) k h) p m spot e)
           (λ h. by_test (ltb k (length w.place))
-          (λ g. too_far (suc k) none w among (let x = ltb-true k (length w.place) g in omega arith) p m spot e)
-          (λ g. let same : length w.place ≡ k = omega (arith, ltb-false (length w.place) k h, ltb-false k (length w.place) g) in
-          true≢false (sym (ap (λ (q : Place). same_place w.place q) (t.there ∙ ap (λ (n : ℕ). take n place) (sym same) ∙ r.1)
+          (λ g. too_far (suc k) none w among (let x = ltb-true k (length w.place) g in
+          omega arith) p m spot e)
+          (λ g. let same : length w.place
+          ≡ k = omega (arith, ltb-false (length w.place) k h, ltb-false k (length w.place) g) in
+          true≢false (sym (ap (λ (q : Place). same_place w.place q)
+          (t.there ∙ ap (λ (n : ℕ). take n place) (sym same) ∙ r.1)
           ∙ same_place_self w.place) ∙ apart)))
 
       each : (w : Valued) → Among w (values form) → (made w ≡ None) ⊎ (w ≡ t.valued)
@@ -256,4 +269,5 @@ module _ (form : Text) (place : Place) (clash : NoClash (assertions form)) where
           by_test (same_place w.place t.valued.place)
           (λ h. inr (values_unique form w t.valued clash among (contained_among t.valued (values form) t.told)
           (same_place_is w.place t.valued.place h)))
-          (λ h. inl (last_nothing (inner_of place) (paired_value w) (λ p m. no_front place p (other w among h p m))))
+          (λ h. inl (last_nothing (inner_of place) (paired_value w)
+          (λ p m. no_front place p (other w among h p m))))

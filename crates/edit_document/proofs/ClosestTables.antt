@@ -35,9 +35,11 @@ above_all form place from end whole none n le lt =
     (none n le (omega (arith, length-map place step_seen)))
 
 -- where the loop ends
-pub closest_is : (form : Text) (place : List WrittenStep) (end : ℕ) (found : Option (ℕ × ℕ)) → length place ≤ end
+pub closest_is : (form : Text) (place : List WrittenStep) (end : ℕ) (found : Option (ℕ × ℕ))
+    → length place ≤ end
     → end ≤ length place → MatchOption found (NoneFrom form place 0 end)
-    (λ p. (p.0 < end) × StartsTable form (place_seen (take p.0 place)) p.1 × NoneFrom form place (suc p.0) end)
+    (λ p. (p.0 < end) × StartsTable form (place_seen (take p.0 place)) p.1
+    × NoneFrom form place (suc p.0) end)
     → IsClosest form (place_seen place) found
 closest_is form place end None whole within h = above_all form place 0 end whole h
 closest_is form place end (Some p) whole within h = (
@@ -46,7 +48,8 @@ closest_is form place end (Some p) whole within h = (
   above_all form place (suc p.0) end whole h.2,
 )
 
-way_taken : (done : ℕ) (place : Place) (k : ℕ) → k ≤ length place → way_on done place (take k place) ≡ On (done + k)
+way_taken : (done : ℕ) (place : Place) (k : ℕ) → k ≤ length place
+    → way_on done place (take k place) ≡ On (done + k)
 way_taken done [] zero le = let same : done ≡ done + 0 = omega arith in ap (λ (n : ℕ). On n) same
 way_taken done [] (suc k) le = absurd (omega arith)
 way_taken done (s ∷ ss) zero le = let same : done ≡ done + 0 = omega arith in ap (λ (n : ℕ). On n) same

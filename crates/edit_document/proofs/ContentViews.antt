@@ -16,12 +16,14 @@ content_view d node x =
 
 -- and of which kind that is
 pub kind_shown : (d : Shown) (nodes : List Node) (spots : List Spot) (n : ℕ) (node : Node) (x : Content)
-    → Found d nodes spots n node → node.content ≡ x → kind_of (content_view d node x) ≡ kind_of (view_numbered d n)
+    → Found d nodes spots n node → node.content ≡ x → kind_of (content_view d node x)
+    ≡ kind_of (view_numbered d n)
 kind_shown d nodes spots n node x f is =
     sym (ap kind_of f.view ∙ ap (λ (y : Content). kind_of (content_view d node y)) is)
 
 -- and in which words
 pub word_shown : (d : Shown) (nodes : List Node) (spots : List Spot) (n : ℕ) (node : Node) (x : Content)
-    → Found d nodes spots n node → node.content ≡ x → word_of (content_view d node x) ≡ word_of (view_numbered d n)
+    → Found d nodes spots n node → node.content ≡ x → word_of (content_view d node x)
+    ≡ word_of (view_numbered d n)
 word_shown d nodes spots n node x f is =
     sym (ap word_of f.view ∙ ap (λ (y : Content). word_of (content_view d node y)) is)

@@ -22,7 +22,7 @@ use Rattle.edit_document.specs.Pieces.{IsRange}
 use Rattle.edit_syntax.specs.Reading.{◌>>=◌}
 use Rattle.edit_document.specs.Walk.{State, start, walked, settled_state}
 use Rattle.edit_document.specs.WalkState.{IsToken, KeepsState}
-use Rattle.edit_syntax.proofs.LineLaws.{read_again}
+use Rattle.edit_syntax.proofs.TextLaws.{read_again}
 use Rattle.edit_document.proofs.Ends.{Ends}
 use Rattle.edit_document.proofs.Shallow.{shallow as shallow_form, manifest_form, one_form}
 use Rattle.edit_document.proofs.AssertedSpots.{Stands}
@@ -46,10 +46,12 @@ ends_all bytes form r = behind form.marked (lines form.lines) r.spells.spelled
     behind true rest e = (0xEF ∷ (0xBB ∷ (0xBF ∷ [])), e)
     behind false rest e = ([], e)
 
-pub tokens_of : (bytes : List ℕ) (form : Text) → Read bytes form → AllByRecursion (IsToken bytes) (text_marks form)
+pub tokens_of : (bytes : List ℕ) (form : Text) → Read bytes form
+    → AllByRecursion (IsToken bytes) (text_marks form)
 tokens_of bytes form r = text_tokens bytes form r.spells.well_formed r.utf8 (ends_all bytes form r)
 
-pub walk_of : (bytes : List ℕ) (form : Text) → Read bytes form → Walks (assertions form) (map placed (values form)) (walked bytes (text_marks form) start)
+pub walk_of : (bytes : List ℕ) (form : Text) → Read bytes form
+    → Walks (assertions form) (map placed (values form)) (walked bytes (text_marks form) start)
 walk_of bytes form r = text_walked bytes form r.spells.well_formed r.utf8 (ends_all bytes form r)
 
 -- ---- the form of a text, and what it shows
@@ -65,15 +67,20 @@ pub record Walked (bytes : List ℕ) (form : Text) (nodes : List Node) : Type 0 
   pub holds : Holds bytes nodes spots
   pub manifest : IsManifest bytes form
 
-pub walked_is : (bytes : List ℕ) (form : Text) (nodes : List Node) → Read bytes form → KeepsState bytes nodes (walked bytes (text_marks form) start) → Walked bytes form nodes
+pub walked_is : (bytes : List ℕ) (form : Text) (nodes : List Node) → Read bytes form
+    → KeepsState bytes nodes (walked bytes (text_marks form) start) → Walked bytes form nodes
 walked_is bytes form nodes r keeps = go (walk_of bytes form r)
   where
-    go : Walks (assertions form) (map placed (values form)) (walked bytes (text_marks form) start) → Walked bytes form nodes
+    go : Walks (assertions form) (map placed (values form)) (walked bytes (text_marks form) start)
+        → Walked bytes form nodes
     go (ended now tables e st) =
-        let manifest : IsManifest bytes form = record { document = record { grammar = r.spells; short = st.clear.short; no_clash = st.clear.apart } } in
+        let manifest : IsManifest bytes form =
+        record { document = record { grammar = r.spells; short = st.clear.short; no_clash = st.clear.apart } }
+        in
         record {
           spots = now;
-          found = ap (λ (o : Option Text). o >>= λ f. walked bytes (text_marks f) start >>= λ s. Some s.spots) (manifest_form bytes form manifest) ∙ ap (λ (o : Option State). o >>= λ s. Some s.spots) e;
+          found = ap (λ (o : Option Text). o >>= λ f. walked bytes (text_marks f) start >>= λ s. Some s.spots)
+              (manifest_form bytes form manifest) ∙ ap (λ (o : Option State). o >>= λ s. Some s.spots) e;
           stands = st;
           holds = subst (KeepsState bytes nodes) e keeps;
           manifest = manifest;
@@ -81,7 +88,8 @@ walked_is bytes form nodes r keeps = go (walk_of bytes form r)
     go (stuck e clash) = absurd (subst (KeepsState bytes nodes) e keeps)
 
 -- what is no document is not walked over
-pub refused_is : (bytes : List ℕ) (form : Text) → IsManifest bytes form → IsUtf8 bytes → walked bytes (text_marks form) start ≡ None → ⊥
+pub refused_is : (bytes : List ℕ) (form : Text) → IsManifest bytes form → IsUtf8 bytes
+    → walked bytes (text_marks form) start ≡ None → ⊥
 refused_is bytes form m u none = go (walk_of bytes form (read_of bytes form m u))
   where
     go : Walks (assertions form) (map placed (values form)) (walked bytes (text_marks form) start) → ⊥
@@ -90,14 +98,19 @@ refused_is bytes form m u none = go (walk_of bytes form (read_of bytes form m u)
 
 -- and each of its arrays has all of its elements
 pub text_full : (form : Text) → AreFull (assertions form)
-text_full form p g es i kind lt none = any_stands (at p (index i)) (assertions form) (text_whole form p g es i (has_kind p (array g es) (assertions form) kind) lt) none
+text_full form p g es i kind lt none = any_stands (at p (index i)) (assertions form)
+    (text_whole form p g es i (has_kind p (array g es) (assertions form) kind) lt) none
 
-pub shows_form : (bytes : List ℕ) (r : ℕ × ℕ) (form : Text) (nodes : List Node) → Walked bytes form nodes → ShowsTree (shown_by bytes r) form
+pub shows_form : (bytes : List ℕ) (r : ℕ × ℕ) (form : Text) (nodes : List Node) → Walked bytes form nodes
+    → ShowsTree (shown_by bytes r) form
 unfolding shown_by
 shows_form bytes r form nodes w place =
-    ap (λ (o : Option (List Spot)). node_at (nodes_by o) place) w.found ∙ tree_shown (assertions form) (map placed (values form)) w.spots place w.stands (text_even form) (text_full form)
+    ap (λ (o : Option (List Spot)). node_at (nodes_by o) place) w.found ∙
+    tree_shown (assertions form) (map placed (values form)) w.spots place w.stands (text_even form)
+    (text_full form)
 
-pub read_is : (inside : Inside) (form : Text) → IsRange (string_bytes inside.text) inside.written → Walked (string_bytes inside.text) form inside.nodes.items → IsRead inside
+pub read_is : (inside : Inside) (form : Text) → IsRange (string_bytes inside.text) inside.written
+    → Walked (string_bytes inside.text) form inside.nodes.items → IsRead inside
 read_is inside form range w = record {
   written = range;
   spots = w.spots;
@@ -106,7 +119,8 @@ read_is inside form range w = record {
   manifest = w.manifest;
   holds = w.holds;
   tree = w.stands.tree;
-  views = λ place. tree_shown (assertions form) (map placed (values form)) w.spots place w.stands (text_even form) (text_full form);
+  views = λ place. tree_shown (assertions form) (map placed (values form)) w.spots place w.stands
+      (text_even form) (text_full form);
   spans = λ n s e. (w.stands.tells n s e).span;
 }
 
@@ -115,20 +129,29 @@ read_is inside form range w = record {
 abbrev pub Found : List ℕ → List Mark → Type 0
 Found bytes marks = (form : Text) × Spells bytes form × (text_depth form ≤ 80) × (marks ≡ text_marks form)
 
-read_form : (bytes seen : List ℕ) (marks : List Mark) → IsUtf8 bytes → seen ≡ bytes → (f : Found seen marks) → Read bytes f.0
-read_form bytes seen marks u same f = record { spells = subst (λ (b : List ℕ). Spells b f.0) same f.1; utf8 = u }
+read_form : (bytes seen : List ℕ) (marks : List Mark) → IsUtf8 bytes → seen ≡ bytes → (f : Found seen marks)
+    → Read bytes f.0
+read_form bytes seen marks u same f =
+    record { spells = subst (λ (b : List ℕ). Spells b f.0) same f.1; utf8 = u }
 
-pub read_done : (bytes seen : List ℕ) (marks slice : List Mark) (nodes : List Node) → IsUtf8 bytes → seen ≡ bytes → Found seen marks → slice ≡ marks → (AllByRecursion (IsToken bytes) slice → KeepsState bytes nodes (walked bytes slice start)) → (form : Text) × Walked bytes form nodes
+pub read_done : (bytes seen : List ℕ) (marks slice : List Mark) (nodes : List Node) → IsUtf8 bytes
+    → seen ≡ bytes → Found seen marks → slice ≡ marks
+    → (AllByRecursion (IsToken bytes) slice → KeepsState bytes nodes (walked bytes slice start))
+    → (form : Text) × Walked bytes form nodes
 read_done bytes seen marks slice nodes u same f whole keeps =
     let r = read_form bytes seen marks u same f in
     let all : slice ≡ text_marks f.0 = whole ∙ f.3 in
-    let k : AllByRecursion (IsToken bytes) (text_marks f.0) → KeepsState bytes nodes (walked bytes (text_marks f.0) start) =
-    subst (λ (ms : List Mark). AllByRecursion (IsToken bytes) ms → KeepsState bytes nodes (walked bytes ms start)) all keeps in
+    let k : AllByRecursion (IsToken bytes) (text_marks f.0)
+    → KeepsState bytes nodes (walked bytes (text_marks f.0) start) =
+    subst (λ (ms : List Mark). AllByRecursion (IsToken bytes) ms
+    → KeepsState bytes nodes (walked bytes ms start)) all keeps in
     (f.0, walked_is bytes f.0 nodes r (k (tokens_of bytes f.0 r)))
 
-pub shows_any : (bytes : List ℕ) (r : ℕ × ℕ) (form f : Text) (nodes : List Node) → Walked bytes form nodes → IsManifest bytes f → ShowsTree (shown_by bytes r) f
+pub shows_any : (bytes : List ℕ) (r : ℕ × ℕ) (form f : Text) (nodes : List Node) → Walked bytes form nodes
+    → IsManifest bytes f → ShowsTree (shown_by bytes r) f
 shows_any bytes r form f nodes w m =
-    subst (ShowsTree (shown_by bytes r)) (one_form bytes form f w.manifest m) (shows_form bytes r form nodes w)
+    subst (ShowsTree (shown_by bytes r)) (one_form bytes form f w.manifest m)
+    (shows_form bytes r form nodes w)
 
 abbrev pub NotMemory : Error → Type 0
 NotMemory e = IsMemory e → ⊥
@@ -139,30 +162,42 @@ memory_or n Memory h = inl refl
 memory_or n _ h = absurd h
 
 -- a document is refused for want of memory alone
-pub refused_memory : (bytes seen : List ℕ) (marks slice : List Mark) (form : Text) (e : Error) (n : ℕ) → IsUtf8 bytes → seen ≡ bytes → Found seen marks → slice ≡ marks → IsReadRefusal n e
-    → (AllByRecursion (IsToken bytes) slice → NotMemory e → walked bytes slice start ≡ None) → IsManifest bytes form → IsMemory e
+pub refused_memory : (bytes seen : List ℕ) (marks slice : List Mark) (form : Text) (e : Error) (n : ℕ)
+    → IsUtf8 bytes → seen ≡ bytes → Found seen marks → slice ≡ marks → IsReadRefusal n e
+    → (AllByRecursion (IsToken bytes) slice → NotMemory e → walked bytes slice start ≡ None)
+    → IsManifest bytes form → IsMemory e
 refused_memory bytes seen marks slice form e n u same f whole refusal stop m =
     elim (memory_or n e refusal) [
       | inl y ↦ y
       | inr other ↦
           let r = read_form bytes seen marks u same f in
           let all : slice ≡ text_marks f.0 = whole ∙ f.3 in
-          let s : AllByRecursion (IsToken bytes) (text_marks f.0) → NotMemory e → walked bytes (text_marks f.0) start ≡ None =
-          subst (λ (ms : List Mark). AllByRecursion (IsToken bytes) ms → NotMemory e → walked bytes ms start ≡ None) all stop in
+          let s : AllByRecursion (IsToken bytes) (text_marks f.0) → NotMemory e
+          → walked bytes (text_marks f.0) start ≡ None =
+          subst (λ (ms : List Mark). AllByRecursion (IsToken bytes) ms → NotMemory e
+          → walked bytes ms start ≡ None) all stop in
           let none = s (tokens_of bytes f.0 r) other in
-          let here : form_of bytes ≡ Some f.0 = read_again 80 bytes f.0 (record { spells = r.spells; shallow = f.2 }) in
+          let here : form_of bytes ≡ Some f.0 = read_again 80 bytes f.0
+          (record { spells = r.spells; shallow = f.2 }) in
           let one : Some f.0 ≡ Some form = sym here ∙ manifest_form bytes form m in
           let same_form : f.0 ≡ form = cc in
-          absurd (refused_is bytes form m u (subst (λ (g : Text). walked bytes (text_marks g) start ≡ None) same_form none))
+          absurd (refused_is bytes form m u
+          (subst (λ (g : Text). walked bytes (text_marks g) start ≡ None) same_form none))
     ]
 
-pub answer_memory : (r : Result Shown Error) (e e2 : Error) (P : Shown → Type 0) → r ≡ Err e2 → e2 ≡ e → IsMemory e → MatchResult r P IsMemory
-answer_memory r e e2 P was same m = subst (λ (x : Result Shown Error). MatchResult x P IsMemory) (sym was) (subst IsMemory (sym same) m)
+pub answer_memory : (r : Result Shown Error) (e e2 : Error) (P : Shown → Type 0) → r ≡ Err e2 → e2 ≡ e
+    → IsMemory e → MatchResult r P IsMemory
+answer_memory r e e2 P was same m = subst (λ (x : Result Shown Error). MatchResult x P IsMemory) (sym was)
+    (subst IsMemory (sym same) m)
 
 -- a text over whose marks no walk ends is no document, whatever form it has
-pub no_document : (bytes : List ℕ) → IsUtf8 bytes → spots_of bytes ≡ None → (form : Text) → IsManifest bytes form → ⊥
+pub no_document : (bytes : List ℕ) → IsUtf8 bytes → spots_of bytes ≡ None → (form : Text)
+    → IsManifest bytes form → ⊥
 no_document bytes u none form m =
-    refused_is bytes form m u (stops (walked bytes (text_marks form) start) (ap (λ (o : Option Text). o >>= λ f. walked bytes (text_marks f) start >>= λ s. Some s.spots) (sym (manifest_form bytes form m)) ∙ none))
+    refused_is bytes form m u
+    (stops (walked bytes (text_marks form) start)
+    (ap (λ (o : Option Text). o >>= λ f. walked bytes (text_marks f) start >>= λ s. Some s.spots)
+    (sym (manifest_form bytes form m)) ∙ none))
   where
     stops : (o : Option State) → (o >>= λ s. Some s.spots) ≡ None → o ≡ None
     stops None e = refl

@@ -66,10 +66,12 @@ replace_other place item old text s u written shows shown other form was read is
 
 -- ---- without an item
 
-removed_along : (gone : Place) (form : Text) (u w : Tree) → Alike u w → Removed gone (assertions form) u → Removed gone (assertions form) w
+removed_along : (gone : Place) (form : Text) (u w : Tree) → Alike u w → Removed gone (assertions form) u
+    → Removed gone (assertions form) w
 removed_along gone form u w new h = record {
   nothing_there = λ member q low. sym (new q) ∙ h.nothing_there member q low;
-  elsewhere = λ q out. subst (λ o. SameButOrder (tree_left gone (assertions form) q) o) (new (moved gone q)) (h.elsewhere q out);
+  elsewhere = λ q out. subst (λ o. SameButOrder (tree_left gone (assertions form) q) o) (new (moved gone q))
+      (h.elsewhere q out);
 }
 
 pub remove_unread : (gone : Place) (old text : List ℕ)

@@ -8,7 +8,16 @@ use Rattle.edit_document.proofs.Choices.{last_taken, last_left, first_taken, fir
 
 -- what is read past the end
 abbrev pub no_entry : Entry
-no_entry = record { is_own = false; is_within = false; is_header = false; front = None; line = 0; key = 0; after = 0; next = 0 }
+no_entry = record {
+  is_own = false;
+  is_within = false;
+  is_header = false;
+  front = None;
+  line = 0;
+  key = 0;
+  after = 0;
+  next = 0;
+}
 
 yes : (b : Bool) (e : Entry) → b ≡ true → cond b (Some e) None ≡ Some e
 yes b e h = ap (λ (t : Bool). cond t (Some e) None) h
@@ -27,7 +36,8 @@ module _ (xs : List Entry) (i : ℕ) (lt : i < length xs) where
 
   pub dotted_taken : (not (get_or xs i no_entry).is_header && is_some (get_or xs i no_entry).front) ≡ true
       → last_made dotted_entry (take (i + 1) xs) ≡ Some (get_or xs i no_entry)
-  dotted_taken h = last_taken dotted_entry xs i no_entry (get_or xs i no_entry) lt (yes _ (get_or xs i no_entry) h)
+  dotted_taken h = last_taken dotted_entry xs i no_entry (get_or xs i no_entry) lt
+      (yes _ (get_or xs i no_entry) h)
 
   pub dotted_left : (not (get_or xs i no_entry).is_header && is_some (get_or xs i no_entry).front) ≡ false
       → last_made dotted_entry (take (i + 1) xs) ≡ last_made dotted_entry (take i xs)

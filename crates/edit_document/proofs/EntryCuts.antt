@@ -21,7 +21,7 @@ use Rattle.edit_document.proofs.Documents.{read_of, ends_all, shallow}
 use Rattle.edit_document.proofs.Ends.{Ends, ends_past, ends_one, ends_part, ends_pair, ends_gap, ends_value, ends_line, ends_line_end}
 use Rattle.edit_document.proofs.TablePairs.{among_flat}
 use Rattle.edit_document.proofs.StatementSpots.{Starts, spot_of, blank_small, blanks_start, dotted_start, line_end_start, IsDotted}
-use Rattle.edit_document.proofs.ValuesStand.{values_stand}
+use Rattle.edit_document.proofs.ValueSpots.{values_stand}
 
 -- ---- one pair
 

@@ -1,4 +1,5 @@
--- From what the reader and the walk answer to the definitions: a text over which the walk ends is a document and has its tree,
+-- From what the reader and the walk answer to the definitions: a text over which the walk ends is a document
+-- and has its tree,
 -- and one over which it stops is none.
 use Rattle.std.proofs.Common.{◌≡◌, ℕ, ◌+◌, length, Bool, true, false, ◌==◌, ◌&&◌, ◌||◌, List, Option, Some, None, refl, sym, ap, subst, ◌∙◌, true≢false}
 use Rattle.std.specs.Prelude.{map, not}
@@ -16,7 +17,7 @@ use Rattle.edit_syntax.specs.Reading.{◌>>=◌, read_text, lines_at, is_marked,
 use Rattle.edit_document.specs.Walk.{State, start, walked}
 use Rattle.edit_document.specs.Written.{values}
 use Rattle.edit_document.specs.DocumentLayout.{placed, spots_of, nodes_by}
-use Rattle.edit_syntax.proofs.LineLaws.{lines_found, lines_read}
+use Rattle.edit_syntax.proofs.TextLaws.{lines_found, lines_read}
 use Rattle.edit_document.proofs.WalkedLines.{Walked, ended, stuck, text_even}
 use Rattle.edit_document.proofs.SamePlace.{same_step_is, same_place_is}
 use Rattle.edit_document.proofs.ShownTrees.{tree_shown}
@@ -42,10 +43,15 @@ form_spells bytes form e = go (lines_at 80 (length (past_mark bytes) + 1) (past_
     never : (f : Text) → None ≡ Some f → ⊥
     never f h = cc
 
-    go : (o : Option Lines) → lines_at 80 (length (past_mark bytes) + 1) (past_mark bytes) ≡ o → Spells bytes form
-    go None h = let no : None ≡ Some form = sym (ap (λ (o : Option Lines). o >>= λ ls. Some (record { marked = is_marked bytes; lines = ls })) h) ∙ e in absurd (never form no)
+    go : (o : Option Lines) → lines_at 80 (length (past_mark bytes) + 1) (past_mark bytes) ≡ o
+        → Spells bytes form
+    go None h = let no : None ≡ Some form =
+        sym (ap (λ (o : Option Lines). o >>= λ ls. Some (record { marked = is_marked bytes; lines = ls }))
+        h) ∙ e in absurd (never form no)
     go (Some ls) h =
-        let is : Some (record { marked = is_marked bytes; lines = ls }) ≡ Some form = sym (ap (λ (o : Option Lines). o >>= λ ls. Some (record { marked = is_marked bytes; lines = ls })) h) ∙ e in
+        let is : Some (record { marked = is_marked bytes; lines = ls })
+        ≡ Some form = sym (ap
+        (λ (o : Option Lines). o >>= λ ls. Some (record { marked = is_marked bytes; lines = ls })) h) ∙ e in
         let r = lines_read 80 (past_mark bytes) ls h in
         subst (Spells bytes) (same_Some _ _ is) (lines_found 80 bytes ls r.0 r.1.valid r.1.shallow).spells
 
@@ -59,26 +65,33 @@ abbrev nodes_after : Option State → List (Place × View)
 nodes_after o = nodes_by (o >>= λ st. Some st.spots)
 
 -- what a node of the walk shows stands in the tree
-node_shows : (bytes : List ℕ) (place : Place) (view : View) → is_utf8 bytes ≡ true → node_at (nodes_by (spots_of bytes)) place ≡ Some view → Shows bytes place view
+node_shows : (bytes : List ℕ) (place : Place) (view : View) → is_utf8 bytes ≡ true
+    → node_at (nodes_by (spots_of bytes)) place ≡ Some view → Shows bytes place view
 node_shows bytes place view utf8 e = go (form_of bytes) refl
   where
     never : None ≡ Some view → ⊥
     never h = cc
 
-    walk : (form : Text) → form_of bytes ≡ Some form → (r : Read bytes form) → Walked (assertions form) (map placed (values form)) (walked bytes (text_marks form) start) → Shows bytes place view
+    walk : (form : Text) → form_of bytes ≡ Some form → (r : Read bytes form)
+        → Walked (assertions form) (map placed (values form)) (walked bytes (text_marks form) start)
+        → Shows bytes place view
     walk form h r (ended now tables w st) = record {
       form = form;
       document = record { grammar = r.spells; short = st.clear.short; no_clash = st.clear.apart };
-      stands = sym (tree_shown (assertions form) (map placed (values form)) now place st (text_even form) (text_full form))
-          ∙ sym (ap (λ (o : Option State). node_at (nodes_after o) place) w) ∙ sym (ap (λ (o : Option Text). node_at (nodes_along bytes o) place) h) ∙ e;
+      stands = sym (tree_shown (assertions form) (map placed (values form)) now place st (text_even form)
+          (text_full form))
+          ∙ sym (ap (λ (o : Option State). node_at (nodes_after o) place) w) ∙
+          sym (ap (λ (o : Option Text). node_at (nodes_along bytes o) place) h) ∙ e;
     }
     walk form h r (stuck w clash) =
-        absurd (never (sym (ap (λ (o : Option State). node_at (nodes_after o) place) w) ∙ sym (ap (λ (o : Option Text). node_at (nodes_along bytes o) place) h) ∙ e))
+        absurd (never (sym (ap (λ (o : Option State). node_at (nodes_after o) place) w) ∙
+        sym (ap (λ (o : Option Text). node_at (nodes_along bytes o) place) h) ∙ e))
 
     go : (o : Option Text) → form_of bytes ≡ o → Shows bytes place view
     go None h = absurd (never (sym (ap (λ (o : Option Text). node_at (nodes_along bytes o) place) h) ∙ e))
     go (Some form) h =
-        let r : Read bytes form = record { spells = form_spells bytes form h; utf8 = IsUtf8-from_is_utf8 bytes utf8 } in
+        let r : Read bytes form =
+        record { spells = form_spells bytes form h; utf8 = IsUtf8-from_is_utf8 bytes utf8 } in
         walk form h r (walk_of bytes form r)
 
 -- ---- tests, which compute where an equation of long texts does not
@@ -128,9 +141,12 @@ seen_is None v e = absurd (true≢false (sym e))
 seen_is (Some u) v e = ap Some (same_view_is u v e)
 
 -- what is seen at a node of the walk stands in the tree
-pub shows : (bytes : List ℕ) (place : Place) (view : View) → is_utf8 bytes ≡ true → is_seen (node_at (nodes_by (spots_of bytes)) place) view ≡ true → Shows bytes place view
-shows bytes place view utf8 e = node_shows bytes place view utf8 (seen_is (node_at (nodes_by (spots_of bytes)) place) view e)
+pub shows : (bytes : List ℕ) (place : Place) (view : View) → is_utf8 bytes ≡ true
+    → is_seen (node_at (nodes_by (spots_of bytes)) place) view ≡ true → Shows bytes place view
+shows bytes place view utf8 e = node_shows bytes place view utf8
+    (seen_is (node_at (nodes_by (spots_of bytes)) place) view e)
 
 -- where the walk stops, no document is
 pub is_none : (bytes : List ℕ) → is_utf8 bytes ≡ true → spots_of bytes ≡ None → IsNone bytes
-is_none bytes utf8 e form document = no_document bytes (IsUtf8-from_is_utf8 bytes utf8) e form (record { document = document })
+is_none bytes utf8 e form document = no_document bytes (IsUtf8-from_is_utf8 bytes utf8) e form
+    (record { document = document })

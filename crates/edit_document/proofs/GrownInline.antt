@@ -24,7 +24,8 @@ trimmed_closes (remark text e ∷ g) after = refl
 
 blanks_past : (g : List Between) (after : List ℕ) → IsGap g
     → past_blanks (gap g (right_brace ∷ after)) ≡ trimmed g ++ (right_brace ∷ after)
-blanks_past g after h = past_blanks_is (gap g (right_brace ∷ after)) ∙ trimmed_gap g (right_brace ∷ after) h refl
+blanks_past g after h = past_blanks_is (gap g (right_brace ∷ after)) ∙
+    trimmed_gap g (right_brace ∷ after) h refl
 
 -- behind tabs and spaces the closing brace comes, or a newline or a comment
 pub empty_closes : (g : List Between) (after close : List ℕ) → IsGap g
@@ -50,7 +51,11 @@ some_is a b e = ap (λ (o : Option _). unwrap_or o a) (sym e)
 -- white space alone gives way
 pub blank_row : (m : List ℕ) (g : List Between) (after : List ℕ) (s : Splice) → is_blank_gap g ≡ true
     → inline_grown m (inline g no_members) after ≡ Some s
-    → s ≡ record { from = gap g (right_brace ∷ after); to = right_brace ∷ after; now = codes " " ++ (m ++ codes " ") }
+    → s ≡ record {
+      from = gap g (right_brace ∷ after);
+      to = right_brace ∷ after;
+      now = codes " " ++ (m ++ codes " ");
+    }
 blank_row m g after s blanks is = some_is _ _ (rw blanks at is)
 
 -- a newline or a comment stays behind the member
@@ -80,7 +85,8 @@ closes_where text table g ms after h =
     ∙ closes_empty ms after (table_valid text table g ms after h)
 
 pub none_there : (text table : List ℕ) (g : List Between) (ms : Members) (after : List ℕ)
-    → TableAt text table g ms after → eqb (first (past_gap (drop 1 table))) right_brace ≡ true → ms ≡ no_members
+    → TableAt text table g ms after → eqb (first (past_gap (drop 1 table))) right_brace ≡ true
+    → ms ≡ no_members
 none_there text table g ms after h comes = go ms (sym (closes_where text table g ms after h) ∙ comes)
   where
     go : (l : Members) → has_none l ≡ true → l ≡ no_members

@@ -32,7 +32,8 @@ pub record OneMore {X : Type 0} (x : X) (k : ℕ) (xs ys : List X) : Type 0 wher
   pub less : xs ≡ front ++ back
   pub more : ys ≡ front ++ x ∷ back
 
-pub one_more : {X : Type 0} (x : X) (k : ℕ) (xs ys : List X) → slice_get ys k ≡ Some x → length ys ≡ suc (length xs)
+pub one_more : {X : Type 0} (x : X) (k : ℕ) (xs ys : List X) → slice_get ys k ≡ Some x
+    → length ys ≡ suc (length xs)
     → ((i : ℕ) → i < length xs → i < k → slice_get xs i ≡ slice_get ys i)
     → ((i : ℕ) → i < length xs → k ≤ i → slice_get xs i ≡ slice_get ys (suc i)) → OneMore x k xs ys
 one_more x k xs [] here size before behind = absurd cc
@@ -60,7 +61,8 @@ one_more x (suc k) (z ∷ xs) (y ∷ ys) here size before behind =
       more = ap (λ zs. y ∷ zs) rest.more;
     }
 
-pub at_seam : {X : Type 0} (front back : List X) (x : X) → slice_get (front ++ x ∷ back) (length front) ≡ Some x
+pub at_seam : {X : Type 0} (front back : List X) (x : X)
+    → slice_get (front ++ x ∷ back) (length front) ≡ Some x
 at_seam [] back x = refl
 at_seam (y ∷ front) back x = at_seam front back x
 
@@ -75,7 +77,8 @@ pub before_seam : {X : Type 0} (front back : List X) (x : X) (i : ℕ) → i < l
 before_seam front back x i lt = get_front front back i lt ∙ sym (get_front front (x ∷ back) i lt)
 
 -- what the longer list has but the new one the shorter has too
-pub other_there : {X : Type 0} (front back : List X) (x y : X) (i : ℕ) → slice_get (front ++ x ∷ back) i ≡ Some y
+pub other_there : {X : Type 0} (front back : List X) (x y : X) (i : ℕ)
+    → slice_get (front ++ x ∷ back) i ≡ Some y
     → (y ≡ x → ⊥) → (j : ℕ) × (slice_get (front ++ back) j ≡ Some y)
 other_there [] back x y zero e ne = absurd (ne (sym (same_Some x y e)))
 other_there [] back x y (suc i) e ne = (i, e)
@@ -106,7 +109,8 @@ pub record GrownNames (n : List ℕ) (v w : View) : Type 0 where
   pub less : names_in v ≡ front ++ back
   pub more : names_in w ≡ front ++ n ∷ back
 
-grown_tables : (n : List ℕ) (fs bs : List Step) (v w : View) → table (fs ++ bs) ≡ v → table (fs ++ key n ∷ bs) ≡ w
+grown_tables : (n : List ℕ) (fs bs : List Step) (v w : View) → table (fs ++ bs) ≡ v
+    → table (fs ++ key n ∷ bs) ≡ w
     → GrownNames n v w
 grown_tables n fs bs v w e f = record {
   tabular = subst (λ (x : View). 8 ≤ kind_of x) e (omega arith);
@@ -128,7 +132,8 @@ grown_inline n fs bs v w e f = record {
   more = sym (ap names_in f) ∙ filter_map-append name_of_step fs (key n ∷ bs);
 }
 
-grown_any : (n : List ℕ) (s : Step) (o p : Option View) (v w : View) → Grown s o p → s ≡ key n → o ≡ Some v → p ≡ Some w
+grown_any : (n : List ℕ) (s : Step) (o p : Option View) (v w : View) → Grown s o p → s ≡ key n → o ≡ Some v
+    → p ≡ Some w
     → GrownNames n v w
 grown_any n s _ _ v w (in_table front back) k e f =
     grown_tables n front back v w (same_Some _ v e)
@@ -160,10 +165,14 @@ tabled (table_array m) k = absurd (omega (arith, k))
 seam : (n : List ℕ) (ms ns : List Step) (front back : List (List ℕ)) → ms ≡ map key (key_names ms)
     → ns ≡ map key (key_names ns) → key_names ms ≡ front ++ back → key_names ns ≡ front ++ n ∷ back
     → (ms ≡ map key front ++ map key back) × (ns ≡ map key front ++ key n ∷ map key back)
-seam n ms ns front back kv kw less more =
-    (kv ∙ ap (map key) less ∙ map-append key front back, kw ∙ ap (map key) more ∙ map-append key front (n ∷ back))
+seam n ms ns front back kv kw less more = (
+  kv ∙ ap (map key) less ∙ map-append key front back,
+  kw ∙ ap (map key) more ∙
+      map-append key front (n ∷ back),
+)
 
-pub grown_view : (n : List ℕ) (v w : View) → AreKeys v → AreKeys w → GrownNames n v w → Grown (key n) (Some v) (Some w)
+pub grown_view : (n : List ℕ) (v w : View) → AreKeys v → AreKeys w → GrownNames n v w
+    → Grown (key n) (Some v) (Some w)
 grown_view n v w kv kw g =
     let both : 8 ≤ kind_of w = subst (λ k. 8 ≤ k) g.kind g.tabular in
     elim (tabled v g.tabular) [
@@ -184,7 +193,8 @@ grown_view n v w kv kw g =
         let left : v ≡ table (map key g.front ++ map key g.back) = a ∙ ap table s.0 in
         let right : w ≡ table (map key g.front ++ key n ∷ map key g.back) = b ∙ ap table s.1 in
         subst (λ (x : View). Grown (key n) (Some v) (Some x)) (sym right)
-        (subst (λ (x : View). Grown (key n) (Some x) (Some (table (map key g.front ++ key n ∷ map key g.back)))) (sym left)
+        (subst (λ (x : View). Grown (key n) (Some x)
+        (Some (table (map key g.front ++ key n ∷ map key g.back)))) (sym left)
         (in_table (map key g.front) (map key g.back)))
 
     inline : (ms ns : List Step) → v ≡ inline_table ms → w ≡ inline_table ns → Grown (key n) (Some v) (Some w)
@@ -194,7 +204,8 @@ grown_view n v w kv kw g =
         let left : v ≡ inline_table (map key g.front ++ map key g.back) = a ∙ ap inline_table s.0 in
         let right : w ≡ inline_table (map key g.front ++ key n ∷ map key g.back) = b ∙ ap inline_table s.1 in
         subst (λ (x : View). Grown (key n) (Some v) (Some x)) (sym right)
-        (subst (λ (x : View). Grown (key n) (Some x) (Some (inline_table (map key g.front ++ key n ∷ map key g.back)))) (sym left)
+        (subst (λ (x : View). Grown (key n) (Some x)
+        (Some (inline_table (map key g.front ++ key n ∷ map key g.back)))) (sym left)
         (in_inline_table (map key g.front) (map key g.back)))
 
 -- ---- names that are compared one by one
@@ -210,7 +221,8 @@ module _ (n : List ℕ) (v w : View) (g : GrownNames n v w) where
   -- the new name is there
   pub grown_has : Lacks n w → ⊥
   grown_has lacks =
-      lacks (length g.front) (ap (λ (ns : List (List ℕ)). slice_get ns (length g.front)) g.more ∙ at_seam g.front g.back n)
+      lacks (length g.front) (ap (λ (ns : List (List ℕ)). slice_get ns (length g.front)) g.more ∙
+      at_seam g.front g.back n)
 
   pub grown_size : length (names_in w) ≡ suc (length (names_in v))
   grown_size =
@@ -257,7 +269,8 @@ names_grown n v w k tabular kind one = record {
 }
 
 -- what the larger table has but the new member the other has too
-grown_step : (s : Step) (o p : Option View) (v w : View) → Grown s o p → o ≡ Some v → p ≡ Some w → (t : Step) (i : ℕ)
+grown_step : (s : Step) (o p : Option View) (v w : View) → Grown s o p → o ≡ Some v → p ≡ Some w
+    → (t : Step) (i : ℕ)
     → nth_part w i ≡ Some t → (t ≡ s → ⊥) → (j : ℕ) × (nth_part v j ≡ Some t)
 grown_step s _ _ v w (in_table front back) e f t i h ne =
     let left : table (front ++ back) ≡ v = same_Some _ v e in
@@ -270,7 +283,8 @@ grown_step s _ _ v w (in_inline_table front back) e f t i h ne =
     let r = other_there front back s t i (ap (λ (x : View). nth_part x i) right ∙ h) ne in
     (r.0, ap (λ (x : View). nth_part x r.0) (sym left) ∙ r.1)
 
-pub grown_part : (s : Step) (v w : View) → Grown s (Some v) (Some w) → (t : Step) (i : ℕ) → nth_part w i ≡ Some t
+pub grown_part : (s : Step) (v w : View) → Grown s (Some v) (Some w) → (t : Step) (i : ℕ)
+    → nth_part w i ≡ Some t
     → (t ≡ s → ⊥) → (j : ℕ) × (nth_part v j ≡ Some t)
 grown_part s v w g = grown_step s (Some v) (Some w) v w g refl refl
 

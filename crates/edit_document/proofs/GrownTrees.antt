@@ -42,14 +42,17 @@ module _ (place : Place) (name : List ℕ) (v : NewValue) (old new : Tree) where
   pub inserted_beside : Inserted place name v old new → SameBeside place old new
   inserted_beside h q out = h.elsewhere q (within_front place (key name ∷ []) q out) (other_than place q out)
 
-  pub inserted_inner : Inserted place name v old new → Inserted [] name v (λ q. old (place ++ q)) (λ q. new (place ++ q))
+  pub inserted_inner : Inserted place name v old new
+      → Inserted [] name v (λ q. old (place ++ q)) (λ q. new (place ++ q))
   inserted_inner h = record {
     there = λ q. ap new (sym (append_assoc place (key name ∷ []) q)) ∙ h.there q;
     grown = subst (λ (p : Place). Grown (key name) (old p) (new p)) (sym (append-nil place)) h.grown;
-    elsewhere = λ q out other. h.elsewhere (place ++ q) (within_back place (key name ∷ []) q ∙ out) (longer place q other);
+    elsewhere = λ q out other. h.elsewhere (place ++ q) (within_back place (key name ∷ []) q ∙ out)
+        (longer place q other);
   }
 
-  pub inserted_outer : SameBeside place old new → Inserted [] name v (λ q. old (place ++ q)) (λ q. new (place ++ q))
+  pub inserted_outer : SameBeside place old new
+      → Inserted [] name v (λ q. old (place ++ q)) (λ q. new (place ++ q))
       → Inserted place name v old new
   inserted_outer beside h = record {
     there = λ q. ap new (append_assoc place (key name ∷ []) q) ∙ h.there q;
@@ -57,7 +60,8 @@ module _ (place : Place) (name : List ℕ) (v : NewValue) (old new : Tree) where
     elsewhere = λ q out other. elim (within_split place (key name ∷ []) q out) [
       | inl apart ↦ beside q apart
       | inr k ↦
-          let ne : same_place k.0 [] ≡ false = shorter place k.0 (ap (λ (p : Place). same_place p place) (sym k.1) ∙ other) in
+          let ne : same_place k.0 [] ≡ false = shorter place k.0
+          (ap (λ (p : Place). same_place p place) (sym k.1) ∙ other) in
           ap new k.1 ∙ h.elsewhere k.0 k.2 ne ∙ ap old (sym k.1)
     ];
   }
@@ -67,7 +71,8 @@ module _ (place : Place) (name : List ℕ) (v : NewValue) (old new : Tree) where
 abbrev At : Shown → ℕ → Type 0
 At d n = tree_of d (place_numbered d n) ≡ Some (view_numbered d n)
 
-module _ (d : Shown) (n : ℕ) (e : Shown) (m : ℕ) (name : List ℕ) (v : NewValue) (here : At d n) (there : At e m) where
+module _ (d : Shown) (n : ℕ) (e : Shown) (m : ℕ) (name : List ℕ) (v : NewValue) (here : At d n)
+    (there : At e m) where
   first : tree_below d (place_numbered d n) [] ≡ Some (view_numbered d n)
   first = ap (tree_of d) (append-nil (place_numbered d n)) ∙ here
 
@@ -92,15 +97,18 @@ module _ (d : Shown) (n : ℕ) (e : Shown) (m : ℕ) (name : List ℕ) (v : NewV
       none t q ne no_part =
           sym (one_down e (place_numbered e m) t q)
           ∙ below_e (at (place_numbered e m) t) q (else_e t (λ i h.
-          let r = grown_part (key name) (view_numbered d n) (view_numbered e m) grown t i h ne in no_part r.0 r.1))
-          ∙ sym (below_d (at (place_numbered d n) t) q (else_d t no_part)) ∙ one_down d (place_numbered d n) t q
+          let r = grown_part (key name) (view_numbered d n) (view_numbered e m) grown t i h ne in
+          no_part r.0 r.1))
+          ∙ sym (below_d (at (place_numbered d n) t) q (else_d t no_part)) ∙
+          one_down d (place_numbered d n) t q
 
       other : (q : Place) → is_within (key name ∷ []) q ≡ false → same_place q [] ≡ false
           → tree_below e (place_numbered e m) q ≡ tree_below d (place_numbered d n) q
       other [] out ne = absurd cc
       other (t ∷ q) out ne = elim (part_or (view_numbered d n) t (count_in (view_numbered d n))) [
         | inl k ↦
-            sym (one_down e (place_numbered e m) t q) ∙ sym (parts k.0 t k.2 q) ∙ one_down d (place_numbered d n) t q
+            sym (one_down e (place_numbered e m) t q) ∙ sym (parts k.0 t k.2 q) ∙
+            one_down d (place_numbered d n) t q
         | inr absent ↦ none t q (within_other (key name) t q out)
             (λ i h. absent i (part_less (view_numbered d n) i t h) h)
       ]
@@ -129,9 +137,11 @@ module _ (d e : Shown) (place : Place) (name : List ℕ) (v : NewValue) where
       → Decides r (HasGrown d e place name v)
   grown_there n m r (beside, left, right) decided =
       let at_left : Decides r (Inserted [] name v (tree_below d place) (tree_below e (place_numbered e m))) =
-      subst (λ (p : Place). Decides r (Inserted [] name v (tree_below d p) (tree_below e (place_numbered e m)))) left.1 decided in
+      subst (λ (p : Place). Decides r
+      (Inserted [] name v (tree_below d p) (tree_below e (place_numbered e m)))) left.1 decided in
       let both : Decides r (Inserted [] name v (tree_below d place) (tree_below e place)) =
-      subst (λ (p : Place). Decides r (Inserted [] name v (tree_below d place) (tree_below e p))) right.1 at_left in (
+      subst (λ (p : Place). Decides r (Inserted [] name v (tree_below d place) (tree_below e p))) right.1
+      at_left in (
         λ t. inserted_outer place name v (tree_of d) (tree_of e) beside (both.0 t),
         λ h. both.1 (inserted_inner place name v (tree_of d) (tree_of e) h),
       )

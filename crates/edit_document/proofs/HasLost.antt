@@ -1,4 +1,5 @@
--- A document has lost an item where all beside the innermost table that is left is the same, and that table has lost a part.
+-- A document has lost an item where all beside the innermost table that is left is the same, and that table
+-- has lost a part.
 use Rattle.std.proofs.Common.{◌≡◌, ℕ, zero, suc, ◌+◌, ◌<◌, Bool, true, false, cond, List, [], ◌∷◌, ◌++◌, length, get_or, take, drop, Option, Some, None, option_map, refl, sym, ap, subst, ◌∙◌, append_assoc, true≢false, arith}
 use Rattle.std.specs.Bool.{Decides}
 use Rattle.edit_syntax.specs.Grammar.{Text}
@@ -11,26 +12,29 @@ use Rattle.edit_document.specs.Lost.{SameButOrderBeside, LosesPart, IsLeft, IsLo
 use Rattle.edit_document.specs.Meant.{staying, tree_left, SameButOrder, Removed, shrunk}
 use Rattle.edit_document.specs.Shown.{Shown, tree_of, ShowsTree}
 use Rattle.edit_document.specs.Tree.{View, kind_at, view_in}
-use Rattle.edit_document.proofs.KeptNodes.{none_view, not_longer}
+use Rattle.edit_document.proofs.KeptParts.{none_view, not_longer}
 use Rattle.edit_document.proofs.KeptSteps.{whole_is}
 use Rattle.edit_document.proofs.LostSteps.{order_turn, order_none}
 use Rattle.edit_document.proofs.NothingBelow.{Rooted, done, next, rooted}
-use Rattle.edit_document.proofs.RemovedTrees.{within_rest, here_moved, removed_beside, removed_part, removed_tree}
+use Rattle.edit_document.proofs.RemovedTrees.{here_moved, removed_beside, removed_part, removed_tree}
+use Rattle.edit_document.proofs.LeftAround.{within_rest}
 use Rattle.edit_document.proofs.SamePlace.{not_root, other_place}
 use Rattle.edit_document.proofs.LosesParts.{part_is}
 use Rattle.edit_document.proofs.SameParts.{NoneBelow, NothingElse}
-use Rattle.edit_document.proofs.Views.{place_more}
+use Rattle.edit_document.proofs.MemberViews.{place_more}
 
 -- nothing asserts the root
 rootless : (base xs : List Assertion) → Rooted base xs → kind_at xs [] ≡ None
 rootless _ _ (done b) = refl
 rootless _ _ (next b x xs p s e st r) =
-    ap (λ c. cond c (Some x.kind) (kind_at xs [])) (other_place x.place [] (λ f. not_root p s (sym e ∙ f))) ∙ rootless (x ∷ b) xs r
+    ap (λ c. cond c (Some x.kind) (kind_at xs [])) (other_place x.place [] (λ f. not_root p s (sym e ∙ f))) ∙
+    rootless (x ∷ b) xs r
 
 pub no_root : (form : Text) → kind_at (assertions form) [] ≡ None
 no_root form = rootless [] (assertions form) (rooted form)
 
-module _ (d e : Shown) (form : Text) (shows : ShowsTree d form) (clash : NoClash (assertions form)) (below_d : NoneBelow d) (below_e : NoneBelow e)
+module _ (d e : Shown) (form : Text) (shows : ShowsTree d form) (clash : NoClash (assertions form))
+    (below_d : NoneBelow d) (below_e : NoneBelow e)
     (steps : List WrittenStep) (kept : ℕ) (step : WrittenStep) (is : step ≡ get_or steps kept step)
     (stands : tree_of d (place_seen steps) ≡ None → ⊥) (inn : IsInnermost form steps kept) where
   front : Place
@@ -39,47 +43,60 @@ module _ (d e : Shown) (form : Text) (shows : ShowsTree d form) (clash : NoClash
   rest : Place
   rest = place_seen (drop (kept + 1) steps)
 
-  split : place_seen steps ≡ place_seen (take kept steps) ++ step_seen step ∷ place_seen (drop (kept + 1) steps)
+  split : place_seen steps ≡ place_seen (take kept steps) ++ step_seen step ∷ place_seen
+      (drop (kept + 1) steps)
   split = whole_is form steps kept step inn.less is
 
-  left : IsLeft form (place_seen (take kept steps) ++ step_seen step ∷ place_seen (drop (kept + 1) steps)) (place_seen (take kept steps))
+  left : IsLeft form (place_seen (take kept steps) ++ step_seen step ∷ place_seen (drop (kept + 1) steps))
+      (place_seen (take kept steps))
   left = subst (λ g. IsLeft form g (place_seen (take kept steps))) split inn.left
 
-  lost : IsLost form (place_seen (take kept steps) ++ step_seen step ∷ place_seen (drop (kept + 1) steps)) (at (place_seen (take kept steps)) (step_seen step))
+  lost : IsLost form (place_seen (take kept steps) ++ step_seen step ∷ place_seen (drop (kept + 1) steps))
+      (at (place_seen (take kept steps)) (step_seen step))
   lost =
-      subst (λ p. IsLost form (place_seen (take kept steps) ++ step_seen step ∷ place_seen (drop (kept + 1) steps)) p) (place_more steps kept step inn.less is)
+      subst (λ p. IsLost form (place_seen (take kept steps) ++ step_seen step ∷ place_seen
+      (drop (kept + 1) steps)) p) (place_more steps kept step inn.less is)
       (subst (λ g. IsLost form g (place_seen (take (kept + 1) steps))) split inn.lost)
 
-  stood : (p : Place) → (p ≡ [] → ⊥) → is_within p (place_seen (take kept steps) ++ step_seen step ∷ place_seen (drop (kept + 1) steps)) ≡ true
+  stood : (p : Place) → (p ≡ [] → ⊥)
+      → is_within p (place_seen (take kept steps) ++ step_seen step ∷ place_seen (drop (kept + 1) steps))
+      ≡ true
       → kind_at (assertions form) p ≡ None → ⊥
   stood p ne low none =
-      let k = within_rest p (place_seen (take kept steps) ++ step_seen step ∷ place_seen (drop (kept + 1) steps)) low in
+      let k = within_rest p (place_seen (take kept steps) ++ step_seen step ∷ place_seen
+      (drop (kept + 1) steps)) low in
       let here : tree_of d p ≡ None = shows p ∙ none_view (assertions form) p ne none in
       stands (ap (tree_of d) (split ∙ k.1) ∙ below_d p k.0 here)
 
   -- the place is one step below its table
-  pub next_stands : (n : ℕ) → place_numbered d n ≡ place_seen (take kept steps) → tree_of d (at (place_numbered d n) (step_seen step)) ≡ None → ⊥
+  pub next_stands : (n : ℕ) → place_numbered d n ≡ place_seen (take kept steps)
+      → tree_of d (at (place_numbered d n) (step_seen step)) ≡ None → ⊥
   next_stands n place none =
       stands (ap (tree_of d) split
-      ∙ ap (tree_of d) (sym (append_assoc (place_seen (take kept steps)) (step_seen step ∷ []) (place_seen (drop (kept + 1) steps))))
+      ∙ ap (tree_of d) (sym (append_assoc (place_seen (take kept steps)) (step_seen step ∷ [])
+      (place_seen (drop (kept + 1) steps))))
       ∙ below_d (at (place_seen (take kept steps)) (step_seen step)) (place_seen (drop (kept + 1) steps))
       (ap (λ p. tree_of d (at p (step_seen step))) (sym place) ∙ none))
 
   -- where the walk ends early, the item was not removed alone
-  pub lost_nowhere : (SameButOrderBeside (place_seen (take kept steps)) (tree_of d) (tree_of e) → tree_of e (place_seen (take kept steps)) ≡ None)
+  pub lost_nowhere : (SameButOrderBeside (place_seen (take kept steps)) (tree_of d) (tree_of e)
+      → tree_of e (place_seen (take kept steps)) ≡ None)
       → Removed (place_seen steps) (assertions form) (tree_of e) → ⊥
   lost_nowhere none removed =
       let q = place_seen (take kept steps) in
       let t = step_seen step in
       let r = place_seen (drop (kept + 1) steps) in
-      let h : Removed (q ++ t ∷ r) (assertions form) (tree_of e) = subst (λ g. Removed g (assertions form) (tree_of e)) split removed in
-      let gone = none (removed_beside form clash (no_root form) q t r stood left lost (tree_of d) (tree_of e) shows h) in
+      let h : Removed (q ++ t ∷ r) (assertions form) (tree_of e) =
+      subst (λ g. Removed g (assertions form) (tree_of e)) split removed in
+      let gone = none (removed_beside form clash (no_root form) q t r stood left lost (tree_of d)
+      (tree_of e) shows h) in
       let same : SameButOrder (tree_left (q ++ t ∷ r) (assertions form) q) (tree_of e q) =
       subst (λ z. SameButOrder (tree_left (q ++ t ∷ r) (assertions form) q) (tree_of e z))
       (here_moved form clash (no_root form) q t r stood left lost (tree_of d) (tree_of e) shows)
       (h.elsewhere q (not_longer q t r)) in
       let empty : tree_left (q ++ t ∷ r) (assertions form) q ≡ None =
-      order_none (tree_of e q) (tree_left (q ++ t ∷ r) (assertions form) q) (order_turn (tree_left (q ++ t ∷ r) (assertions form) q) (tree_of e q) same) gone in
+      order_none (tree_of e q) (tree_left (q ++ t ∷ r) (assertions form) q)
+      (order_turn (tree_left (q ++ t ∷ r) (assertions form) q) (tree_of e q) same) gone in
       left (pick (q ++ t ∷ r) q (view_in (staying (q ++ t ∷ r) (assertions form)) q) empty)
     where
       pick : (g q : Place) (o : Option View) → option_map (shrunk g q) o ≡ None → o ≡ None
@@ -88,62 +105,84 @@ module _ (d e : Shown) (form : Text) (shows : ShowsTree d form) (clash : NoClash
 
   pub lost_there : (n m : ℕ) → SameButOrderBeside (place_seen (take kept steps)) (tree_of d) (tree_of e)
       → place_numbered d n ≡ place_seen (take kept steps) → place_numbered e m ≡ place_seen (take kept steps)
-      → tree_of d (place_numbered d n) ≡ Some (view_numbered d n) → (j : ℕ) → nth_part (view_numbered d n) j ≡ Some (step_seen step)
-      → (b : Bool) → Decides b (LosesPart (step_seen step) (tree_below d (place_numbered d n)) (tree_below e (place_numbered e m)))
+      → tree_of d (place_numbered d n) ≡ Some (view_numbered d n) → (j : ℕ)
+      → nth_part (view_numbered d n) j ≡ Some (step_seen step)
+      → (b : Bool) → Decides b (LosesPart (step_seen step) (tree_below d (place_numbered d n))
+      (tree_below e (place_numbered e m)))
       → Decides b (Removed (place_seen steps) (assertions form) (tree_of e))
   lost_there n m beside left_place right_place here j part b decided = (
     λ yes. subst (λ g. Removed g (assertions form) (tree_of e)) (sym split)
-        (removed_tree form clash (no_root form) (place_seen (take kept steps)) (step_seen step) (place_seen (drop (kept + 1) steps)) stood left lost
+        (removed_tree form clash (no_root form) (place_seen (take kept steps)) (step_seen step)
+        (place_seen (drop (kept + 1) steps)) stood left lost
         (tree_of d) (tree_of e) shows (view_numbered d n) j view part beside (to (decided.0 yes)) below_e),
-    λ h. decided.1 (from (removed_part form clash (no_root form) (place_seen (take kept steps)) (step_seen step) (place_seen (drop (kept + 1) steps)) stood left lost
-        (tree_of d) (tree_of e) shows (view_numbered d n) j view part (subst (λ g. Removed g (assertions form) (tree_of e)) split h))),
+    λ h. decided.1 (from (removed_part form clash (no_root form) (place_seen (take kept steps))
+        (step_seen step) (place_seen (drop (kept + 1) steps)) stood left lost
+        (tree_of d) (tree_of e) shows (view_numbered d n) j view part
+        (subst (λ g. Removed g (assertions form) (tree_of e)) split h))),
   )
     where
       view : tree_of d (place_seen (take kept steps)) ≡ Some (view_numbered d n)
       view = ap (tree_of d) (sym left_place) ∙ here
 
       to : LosesPart (step_seen step) (tree_below d (place_numbered d n)) (tree_below e (place_numbered e m))
-          → LosesPart (step_seen step) (λ k. tree_of d (place_seen (take kept steps) ++ k)) (λ k. tree_of e (place_seen (take kept steps) ++ k))
+          → LosesPart (step_seen step) (λ k. tree_of d (place_seen (take kept steps) ++ k))
+          (λ k. tree_of e (place_seen (take kept steps) ++ k))
       to h =
-          subst (λ p. LosesPart (step_seen step) (λ k. tree_of d (place_seen (take kept steps) ++ k)) (λ k. tree_of e (p ++ k))) right_place
-          (subst (λ p. LosesPart (step_seen step) (λ k. tree_of d (p ++ k)) (λ k. tree_of e (place_numbered e m ++ k))) left_place h)
+          subst (λ p. LosesPart (step_seen step) (λ k. tree_of d (place_seen (take kept steps) ++ k))
+          (λ k. tree_of e (p ++ k))) right_place
+          (subst (λ p. LosesPart (step_seen step) (λ k. tree_of d (p ++ k))
+          (λ k. tree_of e (place_numbered e m ++ k))) left_place h)
 
-      from : LosesPart (step_seen step) (λ k. tree_of d (place_seen (take kept steps) ++ k)) (λ k. tree_of e (place_seen (take kept steps) ++ k))
+      from : LosesPart (step_seen step) (λ k. tree_of d (place_seen (take kept steps) ++ k))
+          (λ k. tree_of e (place_seen (take kept steps) ++ k))
           → LosesPart (step_seen step) (tree_below d (place_numbered d n)) (tree_below e (place_numbered e m))
       from h =
-          subst (λ p. LosesPart (step_seen step) (tree_below d (place_numbered d n)) (λ k. tree_of e (p ++ k))) (sym right_place)
-          (subst (λ p. LosesPart (step_seen step) (λ k. tree_of d (p ++ k)) (λ k. tree_of e (place_seen (take kept steps) ++ k))) (sym left_place) h)
+          subst (λ p. LosesPart (step_seen step) (tree_below d (place_numbered d n))
+          (λ k. tree_of e (p ++ k))) (sym right_place)
+          (subst (λ p. LosesPart (step_seen step) (λ k. tree_of d (p ++ k))
+          (λ k. tree_of e (place_seen (take kept steps) ++ k))) (sym left_place) h)
 
   -- ---- the same of a list of the first steps
 
   module _ (first : List WrittenStep) (cut : first ≡ take kept steps) where
-    pub first_stands : (n : ℕ) → place_numbered d n ≡ place_seen first → tree_of d (at (place_numbered d n) (step_seen step)) ≡ None → ⊥
+    pub first_stands : (n : ℕ) → place_numbered d n ≡ place_seen first
+        → tree_of d (at (place_numbered d n) (step_seen step)) ≡ None → ⊥
     first_stands n place = next_stands n (place ∙ ap place_seen cut)
 
-    pub first_nowhere : (b : Bool) → b ≡ false → (SameButOrderBeside (place_seen first) (tree_of d) (tree_of e) → tree_of e (place_seen first) ≡ None)
+    pub first_nowhere : (b : Bool) → b ≡ false
+        → (SameButOrderBeside (place_seen first) (tree_of d) (tree_of e)
+        → tree_of e (place_seen first) ≡ None)
         → Decides b (Removed (place_seen steps) (assertions form) (tree_of e))
     first_nowhere b off none = (
       λ yes. absurd (true≢false (sym yes ∙ off)),
-      λ h. absurd (lost_nowhere (subst (λ f. SameButOrderBeside (place_seen f) (tree_of d) (tree_of e) → tree_of e (place_seen f) ≡ None) cut none) h),
+      λ h. absurd (lost_nowhere (subst (λ f. SameButOrderBeside (place_seen f) (tree_of d) (tree_of e)
+          → tree_of e (place_seen f) ≡ None) cut none) h),
     )
 
-    pub first_there : (n m : ℕ) → SameButOrderBeside (place_seen first) (tree_of d) (tree_of e) → place_numbered d n ≡ place_seen first
-        → place_numbered e m ≡ place_seen first → tree_of d (place_numbered d n) ≡ Some (view_numbered d n) → NothingElse d n
-        → (b : Bool) → Decides b (LosesPart (step_seen step) (tree_below d (place_numbered d n)) (tree_below e (place_numbered e m)))
+    pub first_there : (n m : ℕ) → SameButOrderBeside (place_seen first) (tree_of d) (tree_of e)
+        → place_numbered d n ≡ place_seen first
+        → place_numbered e m ≡ place_seen first → tree_of d (place_numbered d n) ≡ Some (view_numbered d n)
+        → NothingElse d n
+        → (b : Bool) → Decides b (LosesPart (step_seen step) (tree_below d (place_numbered d n))
+        (tree_below e (place_numbered e m)))
         → Decides b (Removed (place_seen steps) (assertions form) (tree_of e))
     first_there n m beside left_place right_place here nothing b decided =
         let p = part_is d n (step_seen step) nothing (first_stands n left_place) in
-        lost_there n m (subst (λ f. SameButOrderBeside (place_seen f) (tree_of d) (tree_of e)) cut beside) (left_place ∙ ap place_seen cut)
+        lost_there n m (subst (λ f. SameButOrderBeside (place_seen f) (tree_of d) (tree_of e)) cut beside)
+        (left_place ∙ ap place_seen cut)
         (right_place ∙ ap place_seen cut) here p.0 p.1 b decided
 
 -- some step comes next
-next_of : (steps : List WrittenStep) (k : ℕ) → k < length steps → (step : WrittenStep) × (step ≡ get_or steps k step)
+next_of : (steps : List WrittenStep) (k : ℕ) → k < length steps → (step : WrittenStep)
+    × (step ≡ get_or steps k step)
 next_of [] k lt = absurd (omega (arith, lt))
 next_of (s ∷ steps) zero lt = (s, refl)
 next_of (s ∷ steps) (suc k) lt = next_of steps k (omega (arith, lt))
 
-pub nowhere : (d e : Shown) (form : Text) → ShowsTree d form → NoClash (assertions form) → NoneBelow d → NoneBelow e
-    → (steps : List WrittenStep) (kept : ℕ) → (tree_of d (place_seen steps) ≡ None → ⊥) → IsInnermost form steps kept
+pub nowhere : (d e : Shown) (form : Text) → ShowsTree d form → NoClash (assertions form) → NoneBelow d
+    → NoneBelow e
+    → (steps : List WrittenStep) (kept : ℕ) → (tree_of d (place_seen steps) ≡ None → ⊥)
+    → IsInnermost form steps kept
     → (first : List WrittenStep) → first ≡ take kept steps
     → (SameButOrderBeside (place_seen first) (tree_of d) (tree_of e) → tree_of e (place_seen first) ≡ None)
     → Decides false (Removed (place_seen steps) (assertions form) (tree_of e))

@@ -4,6 +4,7 @@ use Rattle.std.specs.Prelude.{IsUtf8, unwrap_or, codes}
 use Rattle.edit_syntax.specs.Characters.{right_brace}
 use Rattle.edit_syntax.specs.Grammar.{Between, gap, Value, basic, literal, multi_basic, multi_literal, boolean, integer, float, datetime, array, inline, value, Members, no_members, last_member, member, Text, text}
 use Rattle.edit_syntax.proofs.Members.{Among, among_contained, contained_among}
+use Rattle.edit_document.specs.EntrySpots.{StandsIn}
 use Rattle.edit_document.specs.Assertions.{Place, same_place, NoClash, assertions}
 use Rattle.edit_document.specs.EditBytes.{Splice, put_before, first_of, behind_last, is_blank_gap, inline_grown, in_inline, in_section, in_dotted, in_inner_dotted, in_super, at_start, inserted}
 use Rattle.edit_document.specs.Items.{is_inline}
@@ -19,7 +20,7 @@ use Rattle.edit_document.proofs.SamePlace.{same_place_is}
 use Rattle.edit_document.proofs.SetBytes.{drop_front}
 use Rattle.edit_document.proofs.UniqueValues.{listed_value}
 use Rattle.edit_document.proofs.ValueAssertions.{value_shows}
-use Rattle.edit_document.proofs.ValueSpots.{StandsIn, values_stand}
+use Rattle.edit_document.proofs.ValueSpots.{values_stand}
 
 -- ---- where an inline table begins
 
@@ -113,9 +114,16 @@ pub grown_some : (m : List ℕ) (g : List Between) (ms : Members) (after : List 
     → (s : Splice) × (inline_grown m (inline g ms) after ≡ Some s)
 grown_some m g no_members after = go (is_blank_gap g) refl
   where
-    go : (b : Bool) → is_blank_gap g ≡ b → (s : Splice) × (inline_grown m (inline g no_members) after ≡ Some s)
-    go true e =
-        (record { from = gap g (right_brace ∷ after); to = right_brace ∷ after; now = codes " " ++ (m ++ codes " ") }, rw e refl)
+    go : (b : Bool) → is_blank_gap g ≡ b → (s : Splice)
+        × (inline_grown m (inline g no_members) after ≡ Some s)
+    go true e = (
+      record {
+        from = gap g (right_brace ∷ after);
+        to = right_brace ∷ after;
+        now = codes " " ++ (m ++ codes " ");
+      },
+      rw e refl,
+    )
     go false e = (put_before (gap g (right_brace ∷ after)) (codes " " ++ m), rw e refl)
 grown_some m g (last_member k a b v c) after =
     (put_before (behind_last (last_member k a b v c) (right_brace ∷ after)) (codes ", " ++ m), refl)

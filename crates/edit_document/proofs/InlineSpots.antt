@@ -61,7 +61,8 @@ gap_starts (break lf ∷ g) rest h st = omega arith
 gap_starts (break crlf ∷ g) rest h st = omega arith
 gap_starts (remark t e ∷ g) rest h st = omega arith
 
-ends_members : (bytes : List ℕ) (ms : Members) (rest : List ℕ) → Ends bytes (members ms rest) → Ends bytes rest
+ends_members : (bytes : List ℕ) (ms : Members) (rest : List ℕ) → Ends bytes (members ms rest)
+    → Ends bytes rest
 ends_members bytes no_members rest e = e
 ends_members bytes (last_member k a b v c) rest e =
     ends_gap bytes c rest (ends_value bytes v _ (ends_pair bytes k a b (value v (gap c rest)) e))
@@ -163,7 +164,8 @@ first_found : {A B : Type 0} (f : A → Option B) (xs : List A) (x : A) (y : B) 
 first_found f [] x y m e none = m
 first_found {A} {B} f (z ∷ zs) x y (inl h) e none =
     let some : f z ≡ Some y = ap f (sym h) ∙ e in
-    let clash : Some y ≡ None = sym (ap (λ (o : Option B). first_of (o ∷ first_made f zs ∷ [])) some) ∙ none in
+    let clash : Some y ≡ None = sym (ap (λ (o : Option B). first_of (o ∷ first_made f zs ∷ [])) some) ∙
+    none in
     absurd cc
 first_found {A} {B} f (z ∷ zs) x y (inr m) e none =
     first_found f zs x y m e (rest (f z) none)
@@ -173,7 +175,8 @@ first_found {A} {B} f (z ∷ zs) x y (inr m) e none =
     rest (Some b) h = absurd cc
 
 -- into the inline table at the place
-pub inline_row : (form : Text) (place : Place) (m : List ℕ) (w : Valued) (s : Splice) → NoClash (assertions form)
+pub inline_row : (form : Text) (place : Place) (m : List ℕ) (w : Valued) (s : Splice)
+    → NoClash (assertions form)
     → Among w (values form) → w.place ≡ place → inline_grown m w.value w.after ≡ Some s
     → in_inline place m form ≡ Some s
 inline_row form place m w s clash among there grown = pick (first_same grow (Some s) (values form) each)

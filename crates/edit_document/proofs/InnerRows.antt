@@ -28,11 +28,13 @@ inner_splice p spot m = put_before p.behind (codes ", " ++ dotted_pair p spot m)
 abbrev inner_grown : Place → List ℕ → Paired → Option Splice
 inner_grown place m p = option_map (λ spot. inner_splice p spot m) (front_to place p)
 
-map_none : {A B C : Type 0} (f : A → B) (g : A → C) (o : Option A) → option_map f o ≡ None → option_map g o ≡ None
+map_none : {A B C : Type 0} (f : A → B) (g : A → C) (o : Option A) → option_map f o ≡ None
+    → option_map g o ≡ None
 map_none f g None e = refl
 map_none f g (Some x) e = absurd cc
 
-map_some : {A B : Type 0} (f : A → B) (o : Option A) (y : B) → option_map f o ≡ Some y → (x : A) × (o ≡ Some x)
+map_some : {A B : Type 0} (f : A → B) (o : Option A) (y : B) → option_map f o ≡ Some y → (x : A)
+    × (o ≡ Some x)
 map_some f None y e = absurd cc
 map_some f (Some x) y e = (x, refl)
 
@@ -62,7 +64,8 @@ pub record InnerRow (place : Place) (form : Text) (m : List ℕ) (e : Inner) : T
 pub inner_chosen : (form : Text) (place : Place) (m : List ℕ) (e : Inner)
     → last_made (inner_of place) (inner_pairs form) ≡ Some e → InnerRow place form m e
 inner_chosen form place m e h =
-    let ch = last_chosen (inner_of place) (inner_grown place m) itself (inner_alike place m) (inner_pairs form) e
+    let ch = last_chosen (inner_of place) (inner_grown place m) itself (inner_alike place m)
+    (inner_pairs form) e
     (ap (last_made (inner_of place)) (all_themselves (inner_pairs form)) ∙ h) in
     let r = map_some _ (front_to place ch.one) e ch.made in
     record {
@@ -91,7 +94,8 @@ members_inner bytes place table p (last_member k a b v c) rest spot h ends st (i
     subst (λ (x : Paired). HasInner bytes x spot) (sym is) (record {
       from = spot_of bytes (key k more) ends (part_start k more h.0);
       front = key_fronts bytes k more as_it_is place table spot h.0 ends (ap (front_to place) (sym is) ∙ f);
-      behind = spot_of bytes (gap c rest) (ends_value bytes v _ (ends_pair bytes k a b (value v (gap c rest)) ends))
+      behind = spot_of bytes (gap c rest)
+          (ends_value bytes v _ (ends_pair bytes k a b (value v (gap c rest)) ends))
           (gap_starts c rest h.4 st);
     })
 members_inner bytes place table p (last_member k a b v c) rest spot h ends st (inr m) f = absurd m
@@ -115,7 +119,8 @@ value_inner : (bytes : List ℕ) (place : Place) (p : Paired) (w : Valued) (spot
     → HasInner bytes p spot
 value_inner bytes place p w spot = go w.value
   where
-    go : (v : Value) → IsValue v → Ends bytes (value v w.after) → Among p (paired_value (record w { value = v }))
+    go : (v : Value) → IsValue v → Ends bytes (value v w.after)
+        → Among p (paired_value (record w { value = v }))
         → front_to place p ≡ Some spot → HasInner bytes p spot
     go (basic ps) h ends m f = absurd m
     go (literal t) h ends m f = absurd m
@@ -141,7 +146,8 @@ inner_stands bytes form place p spot m u among f =
 
 -- by how many bytes follow
 pub inner_is : (place : Place) (p : Paired) (spot : List ℕ) (e : Inner) → front_to place p ≡ Some spot
-    → inner_of place p ≡ Some e → e ≡ record { from = length p.from; front = length spot; behind = length p.behind }
+    → inner_of place p ≡ Some e
+    → e ≡ record { from = length p.from; front = length spot; behind = length p.behind }
 inner_is place p spot e f h = some_same _ e (sym (ap (option_map made) f) ∙ h)
   where
     made : List ℕ → Inner

@@ -50,7 +50,8 @@ pub inner_made : (s behind from rest : List ℕ) (front : Option ℕ) (o : Optio
     → front ≡ option_map length o → s ≡ from → behind ≡ rest
     → r ≡ option_map (λ spot. record { from = length from; front = length spot; behind = length rest }) o
 inner_made s behind from rest front o r e f is_s is_b =
-    e ∙ ap (option_map (λ n. made s behind n)) f ∙ ap₂ (λ (x y : List ℕ). option_map (λ n. made x y n) (option_map length o)) is_s is_b
+    e ∙ ap (option_map (λ n. made s behind n)) f ∙
+    ap₂ (λ (x y : List ℕ). option_map (λ n. made x y n) (option_map length o)) is_s is_b
     ∙ go o
   where
     made : List ℕ → List ℕ → ℕ → Inner

@@ -10,20 +10,11 @@ use Rattle.edit_document.specs.Tree.{is_value_at}
 use Rattle.edit_document.specs.Written.{Valued, values}
 use Rattle.edit_document.proofs.Choices.{last_nothing}
 use Rattle.edit_document.proofs.RisingValues.{Rising, values_rise}
-use Rattle.edit_document.proofs.SamePlace.{same_step_self, same_place_is}
-use Rattle.edit_document.proofs.SamePlaces.{is_within as is_under}
+use Rattle.edit_document.proofs.SamePlace.{same_place_is}
+use Rattle.edit_document.proofs.SamePlaces.{within_same}
 use Rattle.edit_document.proofs.UniqueValues.{places, listed_value}
 
 -- ---- places
-
-within_under : (p q : Place) → is_within p q ≡ is_under p q
-within_under [] q = refl
-within_under (s ∷ ss) [] = refl
-within_under (s ∷ ss) (t ∷ ts) = ap (λ (b : Bool). same_step s t && b) (within_under ss ts)
-
-within_self : (p : Place) → is_within p p ≡ true
-within_self [] = refl
-within_self (s ∷ ss) = ap (λ (b : Bool). b && is_within ss ss) (same_step_self s) ∙ within_self ss
 
 -- above a place with a step more is what is above the place, and the place itself
 above_at : (q p : Place) (s : Step) → (is_within q (at p s) && not (same_place q (at p s))) ≡ is_within q p
@@ -99,11 +90,11 @@ found_last p s (x ∷ ws) w up (inl same) e =
     let there : x.place ≡ p = ap (λ (v : Valued). v.place) (sym same) ∙ e in
     let none : last_made (around (at p s)) ws ≡ None =
     last_nothing (around (at p s)) ws (λ u m. around_not (at p s) u
-    (above_at u.place p s ∙ ap (is_within u.place) (sym there) ∙ within_under u.place x.place
-    ∙ among_all (λ q. is_under q x.place ≡ false) u.place (places ws) up.0
+    (above_at u.place p s ∙ ap (is_within u.place) (sym there)
+    ∙ among_all (λ q. is_within q x.place ≡ false) u.place (places ws) up.0
     (among_map (λ (v : Valued). v.place) u ws m))) in
     let here : is_around (at p s) x ≡ true =
-    above_at x.place p s ∙ ap (λ (q : Place). is_within q p) there ∙ within_self p in
+    above_at x.place p s ∙ ap (λ (q : Place). is_within q p) there ∙ within_same p in
     ap (λ (o : Option Valued). first_of (o ∷ around (at p s) x ∷ [])) none
     ∙ ap (λ (b : Bool). first_of ((if b then Some x else None) ∷ [])) here ∙ ap Some (sym same)
 

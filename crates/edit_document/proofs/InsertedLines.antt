@@ -17,7 +17,8 @@ use Rattle.edit_document.proofs.InnerRows.{InnerRow, inner_splice, inner_chosen,
 
 -- ---- the rows, statement by statement
 
-cond_none : {A B : Type 0} (b : Bool) (x : A) (y : B) → cond b (Some x) None ≡ None → cond b (Some y) None ≡ None
+cond_none : {A B : Type 0} (b : Bool) (x : A) (y : B) → cond b (Some x) None ≡ None
+    → cond b (Some y) None ≡ None
 cond_none true x y e = absurd cc
 cond_none false x y e = refl
 
@@ -60,7 +61,8 @@ dotted_is place m s = go s.statement
     go (element_header a k b) = refl
 
 pair_none : (p : Bool) (o : Option (List ℕ)) (x : Entry) (f : List ℕ → Splice)
-    → cond (not (not p) && is_some (option_map length o)) (Some x) None ≡ None → cond p (option_map f o) None ≡ None
+    → cond (not (not p) && is_some (option_map length o)) (Some x) None ≡ None
+    → cond p (option_map f o) None ≡ None
 pair_none true None x f e = refl
 pair_none true (Some s) x f e = absurd cc
 pair_none false o x f e = refl
@@ -137,12 +139,15 @@ through_alike place m = record {
 -- ---- the rows of a text
 
 -- of the pair that is written
-pub row_of : (form : Text) (place : Place) (name : List ℕ) (v : NewValue) (m : List ℕ) → in_inline place m form ≡ None
+pub row_of : (form : Text) (place : Place) (name : List ℕ) (v : NewValue) (m : List ℕ)
+    → in_inline place m form ≡ None
     → m ≡ new_pair name v [] → in_inline place (new_pair name v []) form ≡ None
 row_of form place name v m none is = ap (λ (x : List ℕ). in_inline place x form) (sym is) ∙ none
 
-module _ (form : Text) (place : Place) (name : List ℕ) (v : NewValue) (no_table : in_inline place (new_pair name v []) form ≡ None)
-    (inner : Option Inner) (found : inner ≡ last_made (inner_of place) (inner_pairs form)) (es : List Entry) (all : es ≡ map (entry_of place) (stated form)) where
+module _ (form : Text) (place : Place) (name : List ℕ) (v : NewValue)
+    (no_table : in_inline place (new_pair name v []) form ≡ None)
+    (inner : Option Inner) (found : inner ≡ last_made (inner_of place) (inner_pairs form)) (es : List Entry)
+    (all : es ≡ map (entry_of place) (stated form)) where
   abbrev rows : Option Splice → Option Splice → Option Splice → Option Splice → Option Splice → Splice
   rows a b c d e = unwrap_or (first_of (a ∷ b ∷ c ∷ d ∷ e ∷ [])) (at_start (new_pair name v []) form)
 
@@ -186,9 +191,11 @@ module _ (form : Text) (place : Place) (name : List ℕ) (v : NewValue) (no_tabl
       × (inserted place name v form ≡ dotted_line s (new_pair name v []) spot)
   dotted_row e none h =
       let m = new_pair name v [] in
-      let ch = last_chosen dotted_entry (dotted_splice place m) (entry_of place) (dotted_alike place m) (stated form) e
+      let ch = last_chosen dotted_entry (dotted_splice place m) (entry_of place) (dotted_alike place m)
+      (stated form) e
       (ap (last_made dotted_entry) (sym all) ∙ h) in
-      let r = pair_some (is_pair ch.one.statement) (front_of place ch.one) (entry_of place ch.one) e ch.made in
+      let r = pair_some (is_pair ch.one.statement) (front_of place ch.one)
+      (entry_of place ch.one) e ch.made in
       let made : in_dotted place m form ≡ Some (dotted_line ch.one m r.0) =
       ch.is ∙ dotted_is place m ch.one
       ∙ ap₂ (λ (t : Bool) (o : Option (List ℕ)). cond t (option_map (dotted_line ch.one m) o) None) r.1 r.2 in (
@@ -198,7 +205,8 @@ module _ (form : Text) (place : Place) (name : List ℕ) (v : NewValue) (no_tabl
         r.0,
         r.2,
         outside
-            ∙ ap₂ (λ (b c : Option Splice). rows None b c (in_inner_dotted place m form) (in_super place m form))
+            ∙ ap₂ (λ (b c : Option Splice). rows None b c (in_inner_dotted place m form)
+            (in_super place m form))
             (no_section none) made,
       )
 
@@ -217,7 +225,8 @@ module _ (form : Text) (place : Place) (name : List ℕ) (v : NewValue) (no_tabl
       let r = inner_chosen form place m e (sym found ∙ h) in (
         r,
         outside
-            ∙ ap₂ (λ (b c : Option Splice). rows None b c (in_inner_dotted place m form) (in_super place m form))
+            ∙ ap₂ (λ (b c : Option Splice). rows None b c (in_inner_dotted place m form)
+            (in_super place m form))
             (no_section none) (no_dotted no_pair)
             ∙ ap (λ (d : Option Splice). rows None None None d (in_super place m form)) r.row,
       )
@@ -245,10 +254,12 @@ module _ (form : Text) (place : Place) (name : List ℕ) (v : NewValue) (no_tabl
       let m = new_pair name v [] in
       let ch = first_chosen through_entry (through_splice place m) (entry_of place) (through_alike place m)
       (stated form) e (ap (first_made through_entry) (sym all) ∙ h) in
-      let r = header_some (is_pair ch.one.statement) (front_of place ch.one) (entry_of place ch.one) e ch.made in
+      let r = header_some (is_pair ch.one.statement) (front_of place ch.one)
+      (entry_of place ch.one) e ch.made in
       let made : in_super place m form ≡ Some (through_section ch.one m r.0) =
       flat m ∙ ch.is ∙ through_is place m ch.one
-      ∙ ap₂ (λ (t : Bool) (o : Option (List ℕ)). cond t None (option_map (through_section ch.one m) o)) r.1 r.2 in (
+      ∙ ap₂ (λ (t : Bool) (o : Option (List ℕ)). cond t None (option_map (through_section ch.one m) o)) r.1
+      r.2 in (
         ch.one,
         ch.among,
         sym r.3,
@@ -265,7 +276,8 @@ module _ (form : Text) (place : Place) (name : List ℕ) (v : NewValue) (no_tabl
       let m = new_pair name v [] in
       let made : in_super place m form ≡ None =
       flat m
-      ∙ first_none through_entry (through_splice place m) (entry_of place) (through_alike place m) (stated form)
+      ∙ first_none through_entry (through_splice place m) (entry_of place) (through_alike place m)
+      (stated form)
       (ap (first_made through_entry) (sym all) ∙ h) in
       no_lines none no_pair no_inner ∙ ap (λ (d : Option Splice). rows None None None None d) made
 

@@ -1,4 +1,5 @@
--- Names stand below tables alone: each asserted place that ends with a name lies below the root or below a table.
+-- Names stand below tables alone: each asserted place that ends with a name lies below the root or below a
+-- table.
 use Rattle.std.proofs.Common.{◌≡◌, ℕ, suc, Bool, true, false, nat_lt, ◌-◌, cond, List, [], ◌∷◌, ◌++◌, Some, refl, sym, ap, ◌∙◌, subst, ◌⊎◌, inl, inr, append_assoc}
 use Rattle.std.specs.List.{AllByRecursion}
 use Rattle.std.specs.Prelude.{map}
@@ -62,28 +63,40 @@ name_under made p n t q m e = subst (Tabled made) (last_same p q (key n) (key m)
 index_under : (made : List Assertion) (p : Place) (i : ℕ) → Under made (at p (index i))
 index_under made p i q m e = let clash : index i ≡ key m = (last_same p q (index i) (key m) e).1 in absurd cc
 
-key_under : (made : List Assertion) (w : Bool) (by p : Place) (ns : List (List ℕ)) (v : Value) → Tabled made p → Part (of_key w by p ns v) made → AreUnder made (of_key w by p ns v)
+key_under : (made : List Assertion) (w : Bool) (by p : Place) (ns : List (List ℕ)) (v : Value) → Tabled made p
+    → Part (of_key w by p ns v) made → AreUnder made (of_key w by p ns v)
 key_under made w by p [] v t h = tt
 key_under made w by p (n ∷ []) v t h = (name_under made p n t, tt)
-key_under made w by p (n ∷ m ∷ ns) v t h =
-    (name_under made p n t, key_under made w by (at p (key n)) (m ∷ ns) v (inr (h (at p (key n)) (inl (refl, refl)))) (λ q x. h q (inr x)))
+key_under made w by p (n ∷ m ∷ ns) v t h = (
+  name_under made p n t,
+  key_under made w by (at p (key n)) (m ∷ ns) v
+      (inr (h (at p (key n)) (inl (refl, refl)))) (λ q x. h q (inr x)),
+)
 
 -- the last part of a key has its value
-key_table : (w : Bool) (by p : Place) (n : List ℕ) (ns : List (List ℕ)) (v : Value) → tabular (leaf v) ≡ true → HasTable (of_key w by p (n ∷ ns) v) (named p (n ∷ ns))
+key_table : (w : Bool) (by p : Place) (n : List ℕ) (ns : List (List ℕ)) (v : Value) → tabular (leaf v) ≡ true
+    → HasTable (of_key w by p (n ∷ ns) v) (named p (n ∷ ns))
 key_table w by p n [] v e = inl (refl, e)
 key_table w by p n (m ∷ ns) v e =
-    inr (subst (HasTable (of_key w by (at p (key n)) (m ∷ ns) v)) (append_assoc p (key n ∷ []) (map key (m ∷ ns))) (key_table w by (at p (key n)) m ns v e))
+    inr (subst (HasTable (of_key w by (at p (key n)) (m ∷ ns) v))
+    (append_assoc p (key n ∷ []) (map key (m ∷ ns))) (key_table w by (at p (key n)) m ns v e))
 
 -- a pair, with what stands below its value
-pair_under : (made : List Assertion) (w : Bool) (by p : Place) (k : Key) (v : Value) → ((tabular (leaf v) ≡ true → HasTable made (named p (names k))) → Part (of_value (named p (names k)) v) made → AreUnder made (of_value (named p (names k)) v))
-    → Tabled made p → Part (of_key w by p (names k) v ++ of_value (named p (names k)) v) made → AreUnder made (of_key w by p (names k) v ++ of_value (named p (names k)) v)
+pair_under : (made : List Assertion) (w : Bool) (by p : Place) (k : Key) (v : Value)
+    → ((tabular (leaf v) ≡ true → HasTable made (named p (names k)))
+    → Part (of_value (named p (names k)) v) made → AreUnder made (of_value (named p (names k)) v))
+    → Tabled made p → Part (of_key w by p (names k) v ++ of_value (named p (names k)) v) made
+    → AreUnder made (of_key w by p (names k) v ++ of_value (named p (names k)) v)
 pair_under made w by p k v inside t h =
     let q = named p (names k) in
-    both_under made (of_key w by p (names k) v) (of_value q v) (key_under made w by p (names k) v t (left_part (of_key w by p (names k) v) (of_value q v) made h))
-    (inside (λ e. h q (left_table (of_key w by p (names k) v) (of_value q v) q (key_table w by p _ _ v e))) (right_part (of_key w by p (names k) v) (of_value q v) made h))
+    both_under made (of_key w by p (names k) v) (of_value q v)
+    (key_under made w by p (names k) v t (left_part (of_key w by p (names k) v) (of_value q v) made h))
+    (inside (λ e. h q (left_table (of_key w by p (names k) v) (of_value q v) q (key_table w by p _ _ v e)))
+    (right_part (of_key w by p (names k) v) (of_value q v) made h))
 
 mutual
-  value_under : (made : List Assertion) (p : Place) (v : Value) → (tabular (leaf v) ≡ true → HasTable made p) → Part (of_value p v) made → AreUnder made (of_value p v)
+  value_under : (made : List Assertion) (p : Place) (v : Value) → (tabular (leaf v) ≡ true → HasTable made p)
+      → Part (of_value p v) made → AreUnder made (of_value p v)
   value_under made p (basic ps) t h = tt
   value_under made p (literal x) t h = tt
   value_under made p (multi_basic ps) t h = tt
@@ -95,29 +108,51 @@ mutual
   value_under made p (array g es) t h = elements_under made p 0 es h
   value_under made p (inline g ms) t h = members_under made p ms (inr (t refl)) h
 
-  elements_under : (made : List Assertion) (p : Place) (i : ℕ) (es : Elements) → Part (of_elements p i es) made → AreUnder made (of_elements p i es)
+  elements_under : (made : List Assertion) (p : Place) (i : ℕ) (es : Elements)
+      → Part (of_elements p i es) made → AreUnder made (of_elements p i es)
   elements_under made p i no_elements h = tt
-  elements_under made p i (last_element v g) h = (index_under made p i, value_under made (at p (index i)) v (λ e. h (at p (index i)) (inl (refl, e))) (λ q x. h q (inr x)))
+  elements_under made p i (last_element v g) h = (
+    index_under made p i,
+    value_under made (at p (index i)) v (λ e. h (at p (index i)) (inl (refl, e)))
+        (λ q x. h q (inr x)),
+  )
   elements_under made p i (element v g x es) h =
-      let rest : Part (of_value (at p (index i)) v ++ of_elements p (suc i) es) made = λ q y. h q (inr y) in
-      (index_under made p i, both_under made (of_value (at p (index i)) v) (of_elements p (suc i) es) (value_under made (at p (index i)) v (λ e. h (at p (index i)) (inl (refl, e))) (left_part (of_value (at p (index i)) v) (of_elements p (suc i) es) made rest)) (elements_under made p (suc i) es (right_part (of_value (at p (index i)) v) (of_elements p (suc i) es) made rest)))
+      let rest : Part (of_value (at p (index i)) v ++ of_elements p (suc i) es) made = λ q y. h q (inr y) in (
+        index_under made p i,
+        both_under made (of_value (at p (index i)) v) (of_elements p (suc i) es)
+            (value_under made (at p (index i)) v (λ e. h (at p (index i)) (inl (refl, e)))
+            (left_part (of_value (at p (index i)) v) (of_elements p (suc i) es) made rest))
+            (elements_under made p (suc i) es
+            (right_part (of_value (at p (index i)) v) (of_elements p (suc i) es) made rest)),
+      )
 
-  members_under : (made : List Assertion) (p : Place) (ms : Members) → Tabled made p → Part (of_members p ms) made → AreUnder made (of_members p ms)
+  members_under : (made : List Assertion) (p : Place) (ms : Members) → Tabled made p
+      → Part (of_members p ms) made → AreUnder made (of_members p ms)
   members_under made p no_members t h = tt
-  members_under made p (last_member k a b v c) t h = pair_under made true (named p (names k)) p k v (λ x y. value_under made (named p (names k)) v x y) t h
+  members_under made p (last_member k a b v c) t h = pair_under made true (named p (names k)) p k v
+      (λ x y. value_under made (named p (names k)) v x y) t h
   members_under made p (member k a b v c d ms) t h =
       let one = of_key true (named p (names k)) p (names k) v ++ of_value (named p (names k)) v in
-      both_under made one (of_members p ms) (pair_under made true (named p (names k)) p k v (λ x y. value_under made (named p (names k)) v x y) t (left_part one (of_members p ms) made h)) (members_under made p ms t (right_part one (of_members p ms) made h))
+      both_under made one (of_members p ms)
+      (pair_under made true (named p (names k)) p k v (λ x y. value_under made (named p (names k)) v x y) t
+      (left_part one (of_members p ms) made h))
+      (members_under made p ms t (right_part one (of_members p ms) made h))
 
 -- ---- headers
 
-resolved_under : (made earlier : List Assertion) (p : Place) (n : List ℕ) → Tabled made p → Under made (resolved earlier (at p (key n)))
+resolved_under : (made earlier : List Assertion) (p : Place) (n : List ℕ) → Tabled made p
+    → Under made (resolved earlier (at p (key n)))
 resolved_under made earlier p n t =
     by_test (nat_lt 0 (elements_at earlier (at p (key n))))
-    (λ e. subst (Under made) (sym (ap (λ b. cond b (at (at p (key n)) (index (elements_at earlier (at p (key n)) - 1))) (at p (key n))) e)) (index_under made (at p (key n)) (elements_at earlier (at p (key n)) - 1)))
-    (λ e. subst (Under made) (sym (ap (λ b. cond b (at (at p (key n)) (index (elements_at earlier (at p (key n)) - 1))) (at p (key n))) e)) (name_under made p n t))
+    (λ e. subst (Under made)
+    (sym (ap (λ b. cond b (at (at p (key n)) (index (elements_at earlier (at p (key n)) - 1))) (at p (key n)))
+    e)) (index_under made (at p (key n)) (elements_at earlier (at p (key n)) - 1)))
+    (λ e. subst (Under made)
+    (sym (ap (λ b. cond b (at (at p (key n)) (index (elements_at earlier (at p (key n)) - 1))) (at p (key n)))
+    e)) (name_under made p n t))
 
-fronts_under : (made earlier : List Assertion) (by p : Place) (n : List ℕ) (ns : List (List ℕ)) → Tabled made p → Part (fronts earlier by p (n ∷ ns)) made
+fronts_under : (made earlier : List Assertion) (by p : Place) (n : List ℕ) (ns : List (List ℕ))
+    → Tabled made p → Part (fronts earlier by p (n ∷ ns)) made
     → AreUnder made (fronts earlier by p (n ∷ ns)) × Under made (header_place earlier p (n ∷ ns))
 fronts_under made earlier by p n [] t h = (tt, name_under made p n t)
 fronts_under made earlier by p n (m ∷ ns) t h =
@@ -125,45 +160,68 @@ fronts_under made earlier by p n (m ∷ ns) t h =
     let r = fronts_under made earlier by q m ns (inr (h q (inl (refl, refl)))) (λ x y. h x (inr y)) in
     ((resolved_under made earlier p n t, r.0), r.1)
 
-statement_under : (made earlier : List Assertion) (prefix : Place) (s : Statement) → Tabled made prefix → Part (of_statement earlier prefix s) made → AreUnder made (of_statement earlier prefix s)
-statement_under made earlier prefix (pair k a b v) t h = pair_under made false (named prefix (names k)) prefix k v (λ x y. value_under made (named prefix (names k)) v x y) t h
+statement_under : (made earlier : List Assertion) (prefix : Place) (s : Statement) → Tabled made prefix
+    → Part (of_statement earlier prefix s) made → AreUnder made (of_statement earlier prefix s)
+statement_under made earlier prefix (pair k a b v) t h =
+    pair_under made false (named prefix (names k)) prefix k v
+    (λ x y. value_under made (named prefix (names k)) v x y) t h
 statement_under made earlier prefix (header a k b) t h =
     let place = header_place earlier [] (names k) in
-    let f = fronts_under made earlier place [] _ _ (inl refl) (left_part (fronts earlier place [] (names k)) (asserts place place header_kind ∷ []) made h) in
+    let f = fronts_under made earlier place [] _ _ (inl refl)
+    (left_part (fronts earlier place [] (names k)) (asserts place place header_kind ∷ []) made h) in
     both_under made (fronts earlier place [] (names k)) (asserts place place header_kind ∷ []) f.0 (f.1, tt)
 statement_under made earlier prefix (element_header a k b) t h =
     let place = header_place earlier [] (names k) in
     let own = at place (index (elements_at earlier place)) in
-    let f = fronts_under made earlier own [] _ _ (inl refl) (left_part (fronts earlier own [] (names k)) (asserts own place array_kind ∷ asserts own own element_kind ∷ []) made h) in
-    both_under made (fronts earlier own [] (names k)) (asserts own place array_kind ∷ asserts own own element_kind ∷ []) f.0 (f.1, (index_under made place (elements_at earlier place), tt))
+    let f = fronts_under made earlier own [] _ _ (inl refl)
+    (left_part (fronts earlier own [] (names k))
+    (asserts own place array_kind ∷ asserts own own element_kind ∷ []) made h) in
+    both_under made (fronts earlier own [] (names k))
+    (asserts own place array_kind ∷ asserts own own element_kind ∷ []) f.0
+    (f.1, (index_under made place (elements_at earlier place), tt))
 
-after_table : (made earlier : List Assertion) (prefix : Place) (s : Statement) → Tabled made prefix → Part (of_statement earlier prefix s) made → Tabled made (prefix_after earlier prefix s)
+after_table : (made earlier : List Assertion) (prefix : Place) (s : Statement) → Tabled made prefix
+    → Part (of_statement earlier prefix s) made → Tabled made (prefix_after earlier prefix s)
 after_table made earlier prefix (pair k a b v) t h = t
 after_table made earlier prefix (header a k b) t h =
     let place = header_place earlier [] (names k) in
-    inr (h place (right_table (fronts earlier place [] (names k)) (asserts place place header_kind ∷ []) place (inl (refl, refl))))
+    inr (h place (right_table (fronts earlier place [] (names k)) (asserts place place header_kind ∷ []) place
+    (inl (refl, refl))))
 after_table made earlier prefix (element_header a k b) t h =
     let place = header_place earlier [] (names k) in
     let own = at place (index (elements_at earlier place)) in
-    inr (h own (right_table (fronts earlier own [] (names k)) (asserts own place array_kind ∷ asserts own own element_kind ∷ []) own (inr (inl (refl, refl)))))
+    inr (h own (right_table (fronts earlier own [] (names k))
+    (asserts own place array_kind ∷ asserts own own element_kind ∷ []) own (inr (inl (refl, refl)))))
 
 -- ---- lines
 
-earlier_table : (earlier : List Assertion) (prefix : Place) (ls : Lines) (p : Place) → HasTable earlier p → HasTable (of_lines earlier prefix ls) p
+earlier_table : (earlier : List Assertion) (prefix : Place) (ls : Lines) (p : Place) → HasTable earlier p
+    → HasTable (of_lines earlier prefix ls) p
 earlier_table earlier prefix (one_line (empty_line a c)) p h = h
-earlier_table earlier prefix (one_line (full_line a s b c)) p h = left_table earlier (of_statement earlier prefix s) p h
+earlier_table earlier prefix (one_line (full_line a s b c)) p h =
+    left_table earlier (of_statement earlier prefix s) p h
 earlier_table earlier prefix (more_lines (empty_line a c) e ls) p h = earlier_table earlier prefix ls p h
-earlier_table earlier prefix (more_lines (full_line a s b c) e ls) p h = earlier_table (earlier ++ of_statement earlier prefix s) (prefix_after earlier prefix s) ls p (left_table earlier (of_statement earlier prefix s) p h)
+earlier_table earlier prefix (more_lines (full_line a s b c) e ls) p h =
+    earlier_table (earlier ++ of_statement earlier prefix s) (prefix_after earlier prefix s) ls p
+    (left_table earlier (of_statement earlier prefix s) p h)
 
-lines_under : (made earlier : List Assertion) (prefix : Place) (ls : Lines) → Tabled made prefix → AreUnder made earlier → Part (of_lines earlier prefix ls) made → AreUnder made (of_lines earlier prefix ls)
+lines_under : (made earlier : List Assertion) (prefix : Place) (ls : Lines) → Tabled made prefix
+    → AreUnder made earlier → Part (of_lines earlier prefix ls) made
+    → AreUnder made (of_lines earlier prefix ls)
 lines_under made earlier prefix (one_line (empty_line a c)) t u h = u
 lines_under made earlier prefix (one_line (full_line a s b c)) t u h =
-    both_under made earlier (of_statement earlier prefix s) u (statement_under made earlier prefix s t (right_part earlier (of_statement earlier prefix s) made h))
-lines_under made earlier prefix (more_lines (empty_line a c) e ls) t u h = lines_under made earlier prefix ls t u h
+    both_under made earlier (of_statement earlier prefix s) u
+    (statement_under made earlier prefix s t (right_part earlier (of_statement earlier prefix s) made h))
+lines_under made earlier prefix (more_lines (empty_line a c) e ls) t u h =
+    lines_under made earlier prefix ls t u h
 lines_under made earlier prefix (more_lines (full_line a s b c) e ls) t u h =
     let next = earlier ++ of_statement earlier prefix s in
-    let here : Part (of_statement earlier prefix s) made = λ p x. h p (earlier_table next (prefix_after earlier prefix s) ls p (right_table earlier (of_statement earlier prefix s) p x)) in
-    lines_under made next (prefix_after earlier prefix s) ls (after_table made earlier prefix s t here) (both_under made earlier (of_statement earlier prefix s) u (statement_under made earlier prefix s t here)) h
+    let here : Part (of_statement earlier prefix s) made =
+    λ p x. h p (earlier_table next (prefix_after earlier prefix s) ls p
+    (right_table earlier (of_statement earlier prefix s) p x)) in
+    lines_under made next (prefix_after earlier prefix s) ls (after_table made earlier prefix s t here)
+    (both_under made earlier (of_statement earlier prefix s) u (statement_under made earlier prefix s t here))
+    h
 
 pub under_tables : (t : Text) → AreUnder (assertions t) (assertions t)
 under_tables t = lines_under (assertions t) [] [] t.lines (inl refl) tt (λ p h. h)
@@ -183,25 +241,36 @@ joined_table array_kind header_kind e t = absurd cc
 joined_table array_kind element_kind e t = absurd cc
 joined_table array_kind (leaf v) e t = absurd cc
 
-later_table : (k : Kind) (p q : Place) (ys : List Assertion) → p ≡ q → AllByRecursion (λ (b : Assertion). p ≡ b.place → together k b.kind ≡ true) ys → HasTable ys q → tabular k ≡ true
+later_table : (k : Kind) (p q : Place) (ys : List Assertion) → p ≡ q
+    → AllByRecursion (λ (b : Assertion). p ≡ b.place → together k b.kind ≡ true) ys → HasTable ys q
+    → tabular k ≡ true
 later_table k p q [] same all h = absurd h
 later_table k p q (y ∷ ys) same all (inl h) = joined_table k y.kind (all.0 (same ∙ sym h.0)) h.1
 later_table k p q (y ∷ ys) same all (inr h) = later_table k p q ys same all.1 h
 
-pub first_table : (made : List Assertion) (p : Place) (k : Kind) → NoClash made → HasTable made p → kind_at made p ≡ Some k → tabular k ≡ true
+pub first_table : (made : List Assertion) (p : Place) (k : Kind) → NoClash made → HasTable made p
+    → kind_at made p ≡ Some k → tabular k ≡ true
 first_table [] p k clash h e = absurd h
 first_table (y ∷ ys) p k clash h e = go (same_place y.place p) refl h e (first_table ys p k clash.1)
   where
-    go : (b : Bool) → same_place y.place p ≡ b → HasTable (y ∷ ys) p → cond b (Some y.kind) (kind_at ys p) ≡ Some k → (HasTable ys p → kind_at ys p ≡ Some k → tabular k ≡ true) → tabular k ≡ true
+    go : (b : Bool) → same_place y.place p ≡ b → HasTable (y ∷ ys) p
+        → cond b (Some y.kind) (kind_at ys p) ≡ Some k
+        → (HasTable ys p → kind_at ys p ≡ Some k → tabular k ≡ true) → tabular k ≡ true
     go true s (inl x) f ih = let same : y.kind ≡ k = same_Some y.kind k f in ap tabular (sym same) ∙ x.1
-    go true s (inr x) f ih = let same : y.kind ≡ k = same_Some y.kind k f in ap tabular (sym same) ∙ later_table y.kind y.place p ys (same_place_is y.place p s) clash.0 x
-    go false s (inl x) f ih = let clash2 : true ≡ false = sym (same_place_self p) ∙ ap (λ (q : Place). same_place q p) (sym x.0) ∙ s in absurd cc
+    go true s (inr x) f ih = let same : y.kind ≡ k = same_Some y.kind k f in
+        ap tabular (sym same) ∙ later_table y.kind y.place p ys (same_place_is y.place p s) clash.0 x
+    go false s (inl x) f ih = let clash2 : true ≡ false = sym (same_place_self p) ∙
+        ap (λ (q : Place). same_place q p) (sym x.0) ∙ s in absurd cc
     go false s (inr x) f ih = ih x f
 
-pub found_under : (made xs : List Assertion) (p : Place) (n : List ℕ) (l : Kind) → AreUnder made xs → kind_at xs (at p (key n)) ≡ Some l → Tabled made p
+pub found_under : (made xs : List Assertion) (p : Place) (n : List ℕ) (l : Kind) → AreUnder made xs
+    → kind_at xs (at p (key n)) ≡ Some l → Tabled made p
 found_under made [] p n l all e = absurd cc
-found_under made (x ∷ xs) p n l all e = go (same_place x.place (at p (key n))) refl e (found_under made xs p n l all.1)
+found_under made (x ∷ xs) p n l all e = go (same_place x.place (at p (key n))) refl e
+    (found_under made xs p n l all.1)
   where
-    go : (b : Bool) → same_place x.place (at p (key n)) ≡ b → cond b (Some x.kind) (kind_at xs (at p (key n))) ≡ Some l → (kind_at xs (at p (key n)) ≡ Some l → Tabled made p) → Tabled made p
+    go : (b : Bool) → same_place x.place (at p (key n)) ≡ b
+        → cond b (Some x.kind) (kind_at xs (at p (key n))) ≡ Some l
+        → (kind_at xs (at p (key n)) ≡ Some l → Tabled made p) → Tabled made p
     go true s f ih = all.0 p n (same_place_is x.place (at p (key n)) s)
     go false s f ih = ih f

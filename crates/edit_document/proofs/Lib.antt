@@ -2,11 +2,13 @@
 pub mod NameLists
 pub mod ShapedStrings
 pub mod Views
+pub mod MemberViews
 -- What statements assert, and the spots that stand for it
 pub mod SamePlace
 pub mod SamePlaces
 pub mod Below
 pub mod SpotNodes
+pub mod SpotTargets
 pub mod KeyFronts
 pub mod MoreAssertions
 pub mod MoreMembers
@@ -26,11 +28,14 @@ pub mod Walks
 pub mod WalkSteps
 pub mod WalkEnds
 pub mod KeyWalks
+pub mod KeySpans
 pub mod WalkedTokens
 pub mod NumberTokens
 pub mod MultiTokens
+pub mod BeforeValues
 pub mod WalkedValues
 pub mod WalkedHolders
+pub mod WalkedHeaders
 pub mod WalkedLines
 pub mod TextTokens
 -- Trees and documents
@@ -48,6 +53,7 @@ pub mod ThinnedForms
 pub mod ThinnedLines
 pub mod ThinnedViews
 pub mod NothingBelow
+pub mod PlainValues
 pub mod ReplacedTree
 pub mod ReplacedStrings
 pub mod SwappedTexts
@@ -62,6 +68,7 @@ pub mod ReplacementLaws
 pub mod ReplacedDocuments
 -- A value set at a place
 pub mod WidenedForms
+pub mod WidenedLists
 pub mod WidenedViews
 pub mod NewValues
 pub mod SetBytes
@@ -81,6 +88,7 @@ pub mod AloneTurns
 pub mod ContentViews
 pub mod Keyed
 pub mod Wholes
+pub mod WholeDocuments
 pub mod PartNumbers
 pub mod SameParts
 pub mod Besides
@@ -97,6 +105,7 @@ pub mod EntryTrees
 pub mod EntryPartViews
 pub mod EditedDocuments
 pub mod UnorderedViews
+pub mod UnorderedNodes
 -- Where statements stand
 pub mod Ways
 pub mod KeyWays
@@ -112,7 +121,6 @@ pub mod EntryChoices
 -- An entry replaced
 pub mod EntryParts
 pub mod LonePairs
-pub mod ValuesStand
 pub mod EntryCuts
 pub mod ToldPairs
 pub mod NamedMembers
@@ -128,6 +136,7 @@ pub mod InnerTurns
 pub mod InnerRows
 -- Inside an array or an inline table
 pub mod SlotLaws
+pub mod SlotEnds
 pub mod SlotTurns
 pub mod SlotKeys
 pub mod SlotSteps
@@ -154,16 +163,21 @@ pub mod OverLinesFacts
 pub mod LeftFacts
 -- What is left when an item is removed
 pub mod Asserters
+pub mod ValueAsserters
 pub mod AssertedWays
+pub mod ElementWays
 pub mod StayingWays
 pub mod StayingElements
 pub mod OnceSizes
+pub mod AlikeKinds
 pub mod LeftViews
 pub mod KeptNodes
+pub mod KeptParts
 pub mod LostSteps
 pub mod KeptSteps
 pub mod LostParts
-pub mod UnorderedWalk
+pub mod LeftAround
 pub mod RemovedTrees
+pub mod LosesViews
 pub mod LosesParts
 pub mod HasLost

@@ -49,7 +49,8 @@ is_fine (feed l) e = absurd (true≢false (sym e))
 is_fine (fold ws l more) e = absurd (true≢false (sym e))
 is_fine delimiter e = absurd (true≢false (sym e))
 
-checked : all_below (λ b. fine (literal_piece b) && same_bytes (said quote (literal_piece b)) (b ∷ [])) 128 ≡ true
+checked : all_below (λ b. fine (literal_piece b) && same_bytes (said quote (literal_piece b)) (b ∷ [])) 128
+    ≡ true
 unfolding all_below fine lib.Utf8.encode
 checked = refl
 
@@ -59,13 +60,29 @@ other : (b n : ℕ) → n < 128 → 128 ≤ b → (b == n) ≡ false
 other b n h g = grind arith
 
 pub past_ascii : (b : ℕ) → 128 ≤ b → literal_piece b ≡ plain b
-past_ascii b g = rw (other b 34 (lit< tt) g, other b 92 (lit< tt) g, other b 8 (lit< tt) g, other b 9 (lit< tt) g, other b 10 (lit< tt) g, other b 12 (lit< tt) g, other b 13 (lit< tt) g, other b 127 (lit< tt) g, high b g) refl
+past_ascii b g = rw (
+  other b 34 (lit< tt) g,
+  other b 92 (lit< tt) g,
+  other b 8 (lit< tt) g,
+  other b 9 (lit< tt) g,
+  other b 10 (lit< tt) g,
+  other b 12 (lit< tt) g,
+  other b 13 (lit< tt) g,
+  other b 127 (lit< tt) g,
+  high b g,
+) refl
   where
     high : (b : ℕ) → 128 ≤ b → nat_lt b 32 ≡ false
     high b g = grind arith
 
 past_basic : (b : ℕ) → 128 ≤ b → is_basic_ch b ≡ true
-past_basic b g = rw (other b 34 (lit< tt) g, other b 92 (lit< tt) g, other b 9 (lit< tt) g, other b 127 (lit< tt) g, high b g) refl
+past_basic b g = rw (
+  other b 34 (lit< tt) g,
+  other b 92 (lit< tt) g,
+  other b 9 (lit< tt) g,
+  other b 127 (lit< tt) g,
+  high b g,
+) refl
   where
     high : (b : ℕ) → 128 ≤ b → nat_le 32 b ≡ true
     high b g = grind arith
@@ -75,11 +92,14 @@ piece_fine b = ⊎_elim (λ l. low l) (λ g. high g) (cases_lt b 128)
   where
     low : b < 128 → IsBasicPiece (literal_piece b) × (said quote (literal_piece b) ≡ b ∷ [])
     low h =
-        let c = and_parts (fine (literal_piece b)) (same_bytes (said quote (literal_piece b)) (b ∷ [])) (from_all (λ b. fine (literal_piece b) && same_bytes (said quote (literal_piece b)) (b ∷ [])) 128 b checked h) in
+        let c = and_parts (fine (literal_piece b)) (same_bytes (said quote (literal_piece b)) (b ∷ []))
+        (from_all (λ b. fine (literal_piece b) && same_bytes (said quote (literal_piece b)) (b ∷ [])) 128 b
+        checked h) in
         (is_fine (literal_piece b) c.0, same_bytes_is _ _ c.1)
 
     high : 128 ≤ b → IsBasicPiece (literal_piece b) × (said quote (literal_piece b) ≡ b ∷ [])
-    high g = subst (λ p. IsBasicPiece p × (said quote p ≡ b ∷ [])) (sym (past_ascii b g)) (past_basic b g, refl)
+    high g = subst (λ p. IsBasicPiece p × (said quote p ≡ b ∷ [])) (sym (past_ascii b g))
+        (past_basic b g, refl)
 
 -- ---- the literal of a text
 
@@ -92,4 +112,5 @@ literal_is_value text = go text
 
 pub literal_says : (text : List ℕ) → says quote (map literal_piece text) ≡ text
 literal_says [] = refl
-literal_says (b ∷ bs) = ap (λ l. l ++ says quote (map literal_piece bs)) (piece_fine b).1 ∙ ap (λ l. b ∷ l) (literal_says bs)
+literal_says (b ∷ bs) = ap (λ l. l ++ says quote (map literal_piece bs)) (piece_fine b).1 ∙
+    ap (λ l. b ∷ l) (literal_says bs)

@@ -18,7 +18,8 @@ use Rattle.edit_document.specs.Nodes.{Spot, StandsAt, below}
 use Rattle.edit_document.specs.Walk.{spot_at, target_of, with_taken, taken_again, with_member, with_element, added, element_added, numbered, asserted}
 use Rattle.edit_document.proofs.SamePlace.{not_root}
 use Rattle.edit_syntax.proofs.ListElements.{get_front, get_last, equal_or}
-use Rattle.edit_document.proofs.SpotNodes.{child_is, target_other, added_long, added_made, element_long, element_made}
+use Rattle.edit_document.proofs.SpotNodes.{child_is}
+use Rattle.edit_document.proofs.SpotTargets.{target_other, added_long, added_made, element_long, element_made}
 use Rattle.edit_document.proofs.KeyFronts.{asserted_new, asserted_old}
 use Rattle.edit_document.proofs.MoreAssertions.{first_kind, allowed, IsClear, clash_last, short_last}
 use Rattle.edit_document.proofs.MoreMembers.{is_element, is_headed}
@@ -27,52 +28,71 @@ use Rattle.edit_document.proofs.AssertedSpots.{IsIndexed, noted, shape_of_kind, 
 use Rattle.edit_document.proofs.NewAssertions.{Shows, stands_gained, gained_grows, gained_last}
 
 -- the spots stand for one assertion more, whose place has a number; or it clashes
-pub data Makes (made : List Assertion) (written : List Placed) (spots : List Spot) (a : Assertion) (more : List Placed) (r : Option (List Spot × ℕ)) : Type 0 where
-  makes : (now : List Spot) (j : ℕ) → r ≡ Some (now, j) → Stands (made ++ a ∷ []) (written ++ more) now → StandsAt now j a.place → Grows spots now → Makes made written spots a more r
+pub data Makes (made : List Assertion) (written : List Placed) (spots : List Spot) (a : Assertion)
+    (more : List Placed) (r : Option (List Spot × ℕ)) : Type 0 where
+  makes : (now : List Spot) (j : ℕ) → r ≡ Some (now, j) → Stands (made ++ a ∷ []) (written ++ more) now
+      → StandsAt now j a.place → Grows spots now → Makes made written spots a more r
   fails : r ≡ None → (IsClear (made ++ a ∷ []) → ⊥) → Makes made written spots a more r
 
-pub makes_along : {made : List Assertion} {written : List Placed} {spots : List Spot} {a : Assertion} {more : List Placed} {r q : Option (List Spot × ℕ)} → q ≡ r → Makes made written spots a more r → Makes made written spots a more q
+pub makes_along : {made : List Assertion} {written : List Placed} {spots : List Spot} {a : Assertion}
+    {more : List Placed} {r q : Option (List Spot × ℕ)} → q ≡ r → Makes made written spots a more r
+    → Makes made written spots a more q
 makes_along e (makes now j h s p g) = makes now j (e ∙ h) s p g
 makes_along e (fails h c) = fails (e ∙ h) c
 
 -- ---- a place that is taken again
 
-again_is : (spots : List Spot) (j : ℕ) (s : Spot) (taken : Taken) (b : Bool) → slice_get spots j ≡ Some s → joins s.taken taken ≡ b → taken_again spots j taken ≡ cond b (Some (slice_set spots j (with_taken s taken))) None
+again_is : (spots : List Spot) (j : ℕ) (s : Spot) (taken : Taken) (b : Bool) → slice_get spots j ≡ Some s
+    → joins s.taken taken ≡ b → taken_again spots j taken
+    ≡ cond b (Some (slice_set spots j (with_taken s taken))) None
 unfolding taken_again
 again_is spots j s taken b e h = rw (e, h) refl
 
-pub again_makes : (made : List Assertion) (written : List Placed) (spots : List Spot) (j : ℕ) (s : Spot) (a : Assertion) → Stands made written spots → slice_get spots j ≡ Some s → a.place ≡ s.place → (s.place ≡ [] → ⊥) → is_element a.kind ≡ false
+pub again_makes : (made : List Assertion) (written : List Placed) (spots : List Spot) (j : ℕ) (s : Spot)
+    (a : Assertion) → Stands made written spots → slice_get spots j ≡ Some s → a.place ≡ s.place
+    → (s.place ≡ [] → ⊥) → is_element a.kind ≡ false
     → Makes made written spots a [] (numbered j (taken_again spots j (taken_of a.kind)))
 again_makes made written spots j s a st here place inner plain = go (joins s.taken (taken_of a.kind)) refl
   where
-    go : (b : Bool) → joins s.taken (taken_of a.kind) ≡ b → Makes made written spots a [] (numbered j (taken_again spots j (taken_of a.kind)))
+    go : (b : Bool) → joins s.taken (taken_of a.kind) ≡ b
+        → Makes made written spots a [] (numbered j (taken_again spots j (taken_of a.kind)))
     go true fits =
         let now = slice_set spots j (with_taken s (taken_of a.kind)) in
         makes now j (ap (numbered j) (again_is spots j s (taken_of a.kind) true here fits))
-        (subst (λ (w : List Placed). Stands (made ++ a ∷ []) w now) (sym (append-nil written)) (stands_again made written spots j s a st here place inner fits plain))
-        (grows_set spots j s (with_taken s (taken_of a.kind)) here refl j a.place (s, here, sym place)) (grows_set spots j s (with_taken s (taken_of a.kind)) here refl)
+        (subst (λ (w : List Placed). Stands (made ++ a ∷ []) w now) (sym (append-nil written))
+        (stands_again made written spots j s a st here place inner fits plain))
+        (grows_set spots j s (with_taken s (taken_of a.kind)) here refl j a.place (s, here, sym place))
+        (grows_set spots j s (with_taken s (taken_of a.kind)) here refl)
     go false stops =
         fails (ap (numbered j) (again_is spots j s (taken_of a.kind) false here stops))
         (λ clear.
         let fits : allowed made a.place a.kind ≡ true = clash_last made a clear in
-        let says : allowed made a.place a.kind ≡ joins s.taken (taken_of a.kind) = ap (λ (q : Place). allowed made q a.kind) place ∙ (st.tells j s here).joined inner a.kind in
+        let says : allowed made a.place a.kind ≡ joins s.taken (taken_of a.kind) =
+        ap (λ (q : Place). allowed made q a.kind) place ∙ (st.tells j s here).joined inner a.kind in
         let clash : true ≡ false = sym fits ∙ says ∙ stops in
         cc)
 
 -- ---- a member more
 
-lookup_more : (ms : List (List ℕ × ℕ)) (name q : List ℕ) (number : ℕ) (o : Option ℕ) → lookup (λ n. bytes_eq q n) ms ≡ o → o ≡ None → bytes_eq q name ≡ true → lookup (λ n. bytes_eq q n) (ms ++ (name, number) ∷ []) ≡ Some number
+lookup_more : (ms : List (List ℕ × ℕ)) (name q : List ℕ) (number : ℕ) (o : Option ℕ)
+    → lookup (λ n. bytes_eq q n) ms ≡ o → o ≡ None → bytes_eq q name ≡ true
+    → lookup (λ n. bytes_eq q n) (ms ++ (name, number) ∷ []) ≡ Some number
 lookup_more [] name q number o e none same = rw same refl
-lookup_more (m ∷ ms) name q number o e none same = go (bytes_eq q m.0) (e ∙ none) (λ h. lookup_more ms name q number None h refl same)
+lookup_more (m ∷ ms) name q number o e none same = go (bytes_eq q m.0) (e ∙ none)
+    (λ h. lookup_more ms name q number None h refl same)
   where
-    go : (b : Bool) → cond b (Some m.1) (lookup (λ n. bytes_eq q n) ms) ≡ None → (lookup (λ n. bytes_eq q n) ms ≡ None → lookup (λ n. bytes_eq q n) (ms ++ (name, number) ∷ []) ≡ Some number)
+    go : (b : Bool) → cond b (Some m.1) (lookup (λ n. bytes_eq q n) ms) ≡ None
+        → (lookup (λ n. bytes_eq q n) ms ≡ None → lookup (λ n. bytes_eq q n) (ms ++ (name, number) ∷ [])
+        ≡ Some number)
         → cond b (Some m.1) (lookup (λ n. bytes_eq q n) (ms ++ (name, number) ∷ [])) ≡ Some number
     go true h ih = absurd cc
     go false h ih = ih h
 
-lookup_else : (ms : List (List ℕ × ℕ)) (name q : List ℕ) (number : ℕ) → bytes_eq q name ≡ false → lookup (λ n. bytes_eq q n) (ms ++ (name, number) ∷ []) ≡ lookup (λ n. bytes_eq q n) ms
+lookup_else : (ms : List (List ℕ × ℕ)) (name q : List ℕ) (number : ℕ) → bytes_eq q name ≡ false
+    → lookup (λ n. bytes_eq q n) (ms ++ (name, number) ∷ []) ≡ lookup (λ n. bytes_eq q n) ms
 lookup_else [] name q number e = rw e refl
-lookup_else (m ∷ ms) name q number e = ap (λ (o : Option ℕ). cond (bytes_eq q m.0) (Some m.1) o) (lookup_else ms name q number e)
+lookup_else (m ∷ ms) name q number e = ap (λ (o : Option ℕ). cond (bytes_eq q m.0) (Some m.1) o)
+    (lookup_else ms name q number e)
 
 not_same : (q name : List ℕ) → (q ≡ name → ⊥) → bytes_eq q name ≡ false
 not_same q name ne = go (bytes_eq q name) refl
@@ -81,7 +101,8 @@ not_same q name ne = go (bytes_eq q name) refl
     go true e = absurd (ne ((bytes_eq-Decides q name).0 e))
     go false e = e
 
-member_gains : (s : Spot) (name : List ℕ) (number : ℕ) → below s (key name) ≡ None → Gains s (with_member s name number) (key name) number
+member_gains : (s : Spot) (name : List ℕ) (number : ℕ) → below s (key name) ≡ None
+    → Gains s (with_member s name number) (key name) number
 member_gains s name number none = record {
   place = refl;
   gained = lookup_more s.members name name number None none refl ((bytes_eq-Decides name name).1 refl);
@@ -94,32 +115,57 @@ member_gains s name number none = record {
     elsewhere (index i) ne = refl
 
 member_shows : (s : Spot) (name : List ℕ) (number : ℕ) → Shows s (with_member s name number) (key name)
-member_shows s name number = record { shape = refl; taken = refl; span = refl; names = map-append (λ (e : List ℕ × ℕ). e.0) s.members ((name, number) ∷ []); count = refl }
+member_shows s name number =
+    record {
+      shape = refl;
+      taken = refl;
+      span = refl;
+      names = map-append (λ (e : List ℕ × ℕ). e.0) s.members ((name, number) ∷ []);
+      count = refl;
+    }
 
-too_long : (made : List Assertion) (a : Assertion) (p : Place) (x : Step) → a.place ≡ at p x → 80 ≤ length p → IsClear (made ++ a ∷ []) → ⊥
+too_long : (made : List Assertion) (a : Assertion) (p : Place) (x : Step) → a.place ≡ at p x → 80 ≤ length p
+    → IsClear (made ++ a ∷ []) → ⊥
 too_long made a p x place le clear =
     let short : length a.place ≤ 80 = short_last made a clear in
     let size : length a.place ≡ length (at p x) = ap length place in
     let more : length (at p x) ≡ length p + 1 = length_push p x in
     omega arith
 
-pub added_makes : (made : List Assertion) (written : List Placed) (spots : List Spot) (t : ℕ) (s : Spot) (name : List ℕ) (a : Assertion) (span : Option Span) → Stands made written spots → slice_get spots t ≡ Some s → below s (key name) ≡ None → a.place ≡ at s.place (key name)
-    → is_element a.kind ≡ false → Makes made written spots a (noted a.place span) (added spots t name (shape_of_kind a.kind) (taken_of a.kind) span)
-added_makes made written spots t s name a span st here none place plain = elim (cases_lt (length s.place) 80) [
-  | inl few ↦
-      let s2 = with_member s name (length spots) in
-      let gains = member_gains s name (length spots) none in
-      let shows = member_shows s name (length spots) in
-      let indexed : (i : ℕ) → key name ≡ index i → IsIndexed made s.place i = λ i e. absurd cc in
-      let unindexed : (k : Kind) → first_kind made s.place ≡ Some k → is_headed k ≡ true → is_element a.kind ≡ false = λ k f e. plain in
-      let last = spot_at a.place (shape_of_kind a.kind) (taken_of a.kind) span in
-      let is : added spots t name (shape_of_kind a.kind) (taken_of a.kind) span ≡ Some (slice_set spots t s2 ++ last ∷ [], length spots) =
-      added_made spots t name (shape_of_kind a.kind) (taken_of a.kind) span s here few
-      ∙ ap (λ (p : Place). Some (slice_set spots t (with_member s name (length spots)) ++ spot_at p (shape_of_kind a.kind) (taken_of a.kind) span ∷ [], length spots)) (sym place) in
-      makes (slice_set spots t s2 ++ last ∷ []) (length spots) is (stands_gained made written spots t s s2 (key name) a span st here gains shows place unindexed indexed few)
-      (gained_last made written spots t s s2 (key name) a span st here gains shows place unindexed indexed few) (gained_grows made written spots t s s2 (key name) a span st here gains shows place unindexed indexed few)
-  | inr many ↦ fails (added_long spots t name (shape_of_kind a.kind) (taken_of a.kind) span s here many) (too_long made a s.place (key name) place many)
-]
+pub added_makes : (made : List Assertion) (written : List Placed) (spots : List Spot) (t : ℕ) (s : Spot)
+    (name : List ℕ) (a : Assertion) (span : Option Span) → Stands made written spots
+    → slice_get spots t ≡ Some s → below s (key name) ≡ None → a.place ≡ at s.place (key name)
+    → is_element a.kind ≡ false
+    → Makes made written spots a (noted a.place span)
+    (added spots t name (shape_of_kind a.kind) (taken_of a.kind) span)
+added_makes made written spots t s name a span st here none place plain =
+    elim (cases_lt (length s.place) 80) [
+      | inl few ↦
+          let s2 = with_member s name (length spots) in
+          let gains = member_gains s name (length spots) none in
+          let shows = member_shows s name (length spots) in
+          let indexed : (i : ℕ) → key name ≡ index i → IsIndexed made s.place i = λ i e. absurd cc in
+          let unindexed : (k : Kind) → first_kind made s.place ≡ Some k → is_headed k ≡ true
+          → is_element a.kind ≡ false = λ k f e. plain in
+          let last = spot_at a.place (shape_of_kind a.kind) (taken_of a.kind) span in
+          let is : added spots t name (shape_of_kind a.kind) (taken_of a.kind) span
+          ≡ Some (slice_set spots t s2 ++ last ∷ [], length spots) =
+          added_made spots t name (shape_of_kind a.kind) (taken_of a.kind) span s here few
+          ∙ ap (λ (p : Place). Some (
+            slice_set spots t (with_member s name (length spots)) ++ spot_at p (shape_of_kind a.kind)
+                (taken_of a.kind) span ∷ [],
+            length spots,
+          )) (sym place) in
+          makes (slice_set spots t s2 ++ last ∷ []) (length spots) is
+          (stands_gained made written spots t s s2
+          (key name) a span st here gains shows place unindexed indexed
+          few)
+          (gained_last made written spots t s s2 (key name) a span st here gains shows place unindexed indexed
+          few) (gained_grows made written spots t s s2
+          (key name) a span st here gains shows place unindexed indexed few)
+      | inr many ↦ fails (added_long spots t name (shape_of_kind a.kind) (taken_of a.kind) span s here many)
+          (too_long made a s.place (key name) place many)
+    ]
 
 -- only a value has a span
 abbrev pub IsSpanFor : Kind → Option Span → Type 0
@@ -134,36 +180,58 @@ no_value_again Array e = cc
 no_value_again Element e = cc
 
 -- a span of a place that is taken again
-more_none : (made : List Assertion) (written : List Placed) (spots : List Spot) (a : Assertion) (span : Option Span) (r : Option (List Spot × ℕ)) (j : ℕ) (s : Spot) → Stands made written spots → slice_get spots j ≡ Some s → a.place ≡ s.place → (s.place ≡ [] → ⊥) → IsSpanFor a.kind span
+more_none : (made : List Assertion) (written : List Placed) (spots : List Spot) (a : Assertion)
+    (span : Option Span) (r : Option (List Spot × ℕ)) (j : ℕ) (s : Spot) → Stands made written spots
+    → slice_get spots j ≡ Some s → a.place ≡ s.place → (s.place ≡ [] → ⊥) → IsSpanFor a.kind span
     → Makes made written spots a [] r → Makes made written spots a (noted a.place span) r
-more_none made written spots a span r j s st here place inner (inl e) m = subst (λ (o : Option Span). Makes made written spots a (noted a.place o) r) (sym e) m
+more_none made written spots a span r j s st here place inner (inl e) m =
+    subst (λ (o : Option Span). Makes made written spots a (noted a.place o) r) (sym e) m
 more_none made written spots a span r j s st here place inner (inr e) (fails h c) = fails h c
 more_none made written spots a span r j s st here place inner (inr e) (makes now k h stands p g) =
     let fits : allowed made a.place a.kind ≡ true = clash_last made a stands.clear in
-    let says : allowed made a.place a.kind ≡ joins s.taken (taken_of a.kind) = ap (λ (q : Place). allowed made q a.kind) place ∙ (st.tells j s here).joined inner a.kind in
+    let says : allowed made a.place a.kind ≡ joins s.taken (taken_of a.kind) =
+    ap (λ (q : Place). allowed made q a.kind) place ∙ (st.tells j s here).joined inner a.kind in
     absurd (no_value_again s.taken (ap (joins s.taken) (sym e) ∙ sym says ∙ fits))
 
 -- a member is asserted, by any kind but that of a header that goes on below it
-pub member_makes : (made : List Assertion) (written : List Placed) (spots : List Spot) (t : ℕ) (s : Spot) (name : List ℕ) (a : Assertion) (span : Option Span) → Stands made written spots → slice_get spots t ≡ Some s → a.place ≡ at s.place (key name)
-    → is_element a.kind ≡ false → (taken_of a.kind ≡ Super → ⊥) → IsSpanFor a.kind span → Makes made written spots a (noted a.place span) (asserted spots t name (shape_of_kind a.kind) (taken_of a.kind) span)
-member_makes made written spots t s name a span st here place plain kind spanned = go (below s (key name)) refl
+pub member_makes : (made : List Assertion) (written : List Placed) (spots : List Spot) (t : ℕ) (s : Spot)
+    (name : List ℕ) (a : Assertion) (span : Option Span) → Stands made written spots
+    → slice_get spots t ≡ Some s → a.place ≡ at s.place (key name)
+    → is_element a.kind ≡ false → (taken_of a.kind ≡ Super → ⊥) → IsSpanFor a.kind span
+    → Makes made written spots a (noted a.place span)
+    (asserted spots t name (shape_of_kind a.kind) (taken_of a.kind) span)
+member_makes made written spots t s name a span st here place plain kind spanned =
+    go (below s (key name)) refl
   where
-    go : (o : Option ℕ) → below s (key name) ≡ o → Makes made written spots a (noted a.place span) (asserted spots t name (shape_of_kind a.kind) (taken_of a.kind) span)
+    go : (o : Option ℕ) → below s (key name) ≡ o
+        → Makes made written spots a (noted a.place span)
+        (asserted spots t name (shape_of_kind a.kind) (taken_of a.kind) span)
     go None e =
-        makes_along (asserted_new spots t name (shape_of_kind a.kind) (taken_of a.kind) span (child_is spots t s name here ∙ e)) (added_makes made written spots t s name a span st here e place plain)
+        makes_along (asserted_new spots t name (shape_of_kind a.kind) (taken_of a.kind) span
+        (child_is spots t s name here ∙ e))
+        (added_makes made written spots t s name a span st here e place plain)
     go (Some j) e =
         let d = st.tree.down t j s (key name) here e in
         let same : a.place ≡ d.0.place = place ∙ sym d.2 in
         let inner : d.0.place ≡ [] → ⊥ = λ root. not_root s.place (key name) (sym d.2 ∙ root) in
         let target : target_of spots j (taken_of a.kind) ≡ j = target_other spots j (taken_of a.kind) kind in
         makes_along
-        (asserted_old spots t j name (shape_of_kind a.kind) (taken_of a.kind) span (child_is spots t s name here ∙ e) ∙ ap (λ (n : ℕ). numbered n (taken_again spots n (taken_of a.kind))) target)
-        (more_none made written spots a span (numbered j (taken_again spots j (taken_of a.kind))) j d.0 st d.1 same inner spanned (again_makes made written spots j d.0 a st d.1 same inner plain))
+        (asserted_old spots t j name (shape_of_kind a.kind) (taken_of a.kind) span
+        (child_is spots t s name here ∙ e) ∙
+        ap (λ (n : ℕ). numbered n (taken_again spots n (taken_of a.kind))) target)
+        (more_none made written spots a span (numbered j (taken_again spots j (taken_of a.kind))) j d.0 st d.1
+        same inner spanned (again_makes made written spots j d.0 a st d.1 same inner plain))
 
 -- ---- an element more
 
 element_gains : (s : Spot) (number : ℕ) → Gains s (with_element s number) (index (length s.elements)) number
-element_gains s number = record { place = refl; gained = get_last s.elements number; others = elsewhere; absent = slice_get_past s.elements (length s.elements) (omega arith) }
+element_gains s number =
+    record {
+      place = refl;
+      gained = get_last s.elements number;
+      others = elsewhere;
+      absent = slice_get_past s.elements (length s.elements) (omega arith);
+    }
   where
     elsewhere : (y : Step) → (y ≡ index (length s.elements) → ⊥) → below (with_element s number) y ≡ below s y
     elsewhere (key q) ne = refl
@@ -172,28 +240,53 @@ element_gains s number = record { place = refl; gained = get_last s.elements num
       | inr le ↦ elim (equal_or i (length s.elements)) [
         | inl same ↦ absurd (ne (ap index same))
         | inr off ↦
-            let more : length (s.elements ++ number ∷ []) ≡ length s.elements + 1 = length_push s.elements number in
-            slice_get_past (s.elements ++ number ∷ []) i (let apart : i ≡ length s.elements → ⊥ = off in omega arith) ∙ sym (slice_get_past s.elements i le)
+            let more : length (s.elements ++ number ∷ []) ≡ length s.elements + 1 =
+            length_push s.elements number in
+            slice_get_past (s.elements ++ number ∷ []) i (let apart : i ≡ length s.elements → ⊥ = off in
+            omega arith) ∙ sym (slice_get_past s.elements i le)
       ]
     ]
 
 element_shows : (s : Spot) (number : ℕ) → Shows s (with_element s number) (index (length s.elements))
-element_shows s number = record { shape = refl; taken = refl; span = refl; names = sym (append-nil (map (λ (e : List ℕ × ℕ). e.0) s.members)); count = length_push s.elements number ∙ (let n : length s.elements + 1 ≡ suc (length s.elements) = omega arith in n) }
+element_shows s number =
+    record {
+      shape = refl;
+      taken = refl;
+      span = refl;
+      names = sym (append-nil (map (λ (e : List ℕ × ℕ). e.0) s.members));
+      count = length_push s.elements number ∙
+          (let n : length s.elements + 1 ≡ suc (length s.elements) = omega arith in n);
+    }
 
-pub element_makes : (made : List Assertion) (written : List Placed) (spots : List Spot) (t : ℕ) (s : Spot) (a : Assertion) (span : Option Span) → Stands made written spots → slice_get spots t ≡ Some s → a.place ≡ at s.place (index (length s.elements))
-    → ((k : Kind) → first_kind made s.place ≡ Some k → is_headed k ≡ true → is_element a.kind ≡ true) → IsIndexed made s.place (length s.elements) → Makes made written spots a (noted a.place span) (element_added spots t (shape_of_kind a.kind) (taken_of a.kind) span)
+pub element_makes : (made : List Assertion) (written : List Placed) (spots : List Spot) (t : ℕ) (s : Spot)
+    (a : Assertion) (span : Option Span) → Stands made written spots → slice_get spots t ≡ Some s
+    → a.place ≡ at s.place (index (length s.elements))
+    → ((k : Kind) → first_kind made s.place ≡ Some k → is_headed k ≡ true → is_element a.kind ≡ true)
+    → IsIndexed made s.place (length s.elements)
+    → Makes made written spots a (noted a.place span)
+    (element_added spots t (shape_of_kind a.kind) (taken_of a.kind) span)
 element_makes made written spots t s a span st here place plain lists = elim (cases_lt (length s.place) 80) [
   | inl few ↦
       let x = index (length s.elements) in
       let s2 = with_element s (length spots) in
       let gains = element_gains s (length spots) in
       let shows = element_shows s (length spots) in
-      let indexed : (i : ℕ) → index (length s.elements) ≡ index i → IsIndexed made s.place i = λ i e. subst (IsIndexed made s.place) (let same : length s.elements ≡ i = cc in same) lists in
+      let indexed : (i : ℕ) → index (length s.elements) ≡ index i
+      → IsIndexed made s.place i = λ i e. subst (IsIndexed made s.place)
+      (let same : length s.elements ≡ i = cc in same) lists in
       let last = spot_at a.place (shape_of_kind a.kind) (taken_of a.kind) span in
-      let is : element_added spots t (shape_of_kind a.kind) (taken_of a.kind) span ≡ Some (slice_set spots t s2 ++ last ∷ [], length spots) =
+      let is : element_added spots t (shape_of_kind a.kind) (taken_of a.kind) span
+      ≡ Some (slice_set spots t s2 ++ last ∷ [], length spots) =
       element_made spots t (shape_of_kind a.kind) (taken_of a.kind) span s here few
-      ∙ ap (λ (p : Place). Some (slice_set spots t (with_element s (length spots)) ++ spot_at p (shape_of_kind a.kind) (taken_of a.kind) span ∷ [], length spots)) (sym place) in
-      makes (slice_set spots t s2 ++ last ∷ []) (length spots) is (stands_gained made written spots t s s2 x a span st here gains shows place plain indexed few)
-      (gained_last made written spots t s s2 x a span st here gains shows place plain indexed few) (gained_grows made written spots t s s2 x a span st here gains shows place plain indexed few)
-  | inr many ↦ fails (element_long spots t (shape_of_kind a.kind) (taken_of a.kind) span s here many) (too_long made a s.place (index (length s.elements)) place many)
+      ∙ ap (λ (p : Place). Some (
+        slice_set spots t (with_element s (length spots)) ++ spot_at p (shape_of_kind a.kind)
+            (taken_of a.kind) span ∷ [],
+        length spots,
+      )) (sym place) in
+      makes (slice_set spots t s2 ++ last ∷ []) (length spots) is
+      (stands_gained made written spots t s s2 x a span st here gains shows place plain indexed few)
+      (gained_last made written spots t s s2 x a span st here gains shows place plain indexed few)
+      (gained_grows made written spots t s s2 x a span st here gains shows place plain indexed few)
+  | inr many ↦ fails (element_long spots t (shape_of_kind a.kind) (taken_of a.kind) span s here many)
+      (too_long made a s.place (index (length s.elements)) place many)
 ]

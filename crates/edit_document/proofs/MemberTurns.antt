@@ -1,4 +1,5 @@
--- The loop over the members of an inline table: where it stands, and what is made of one member after the other.
+-- The loop over the members of an inline table: where it stands, and what is made of one member after the
+-- other.
 use Rattle.std.proofs.Common.{◌≡◌, ℕ, ◌+◌, ◌≤◌, true, false, eqb, List, [], ◌∷◌, ◌++◌, length, drop, refl, sym, true≢false, ap, ◌∙◌, append_assoc, arith}
 use Rattle.std.proofs.lemmas.List.{length-append}
 use Rattle.edit_syntax.specs.Characters.{comma, left_brace, right_brace}
@@ -9,7 +10,7 @@ use Rattle.edit_document.specs.Slots.{Slot, slot, Slots, no_slots, last_slot, mo
 use Rattle.edit_document.specs.SlotTexts.{Ends, StandsAt, TableAt}
 use Rattle.edit_document.proofs.Ends.{ends_past, ends_one, ends_gap}
 use Rattle.edit_document.proofs.SlotLaws.{gap_rest, slot_rest, slot_begins, members_text, members_valid}
-use Rattle.edit_document.proofs.SlotTurns.{slot_longer}
+use Rattle.edit_document.proofs.SlotEnds.{slot_longer}
 
 -- what is made of members one after the other, each with the text behind its value
 abbrev pub folded : {S : Type 0} → (S → Slot → List ℕ → S) → S → Slots → List ℕ → S
@@ -69,7 +70,12 @@ members_start turn text table g ms after rest made h e =
       valid = table_valid text table g ms after h;
       spelled = refl;
       within = ends_gap text g inner (ends_one text left_brace (gap g inner) whole);
-      short = omega (arith, ap length whole.1, length-append whole.0 (left_brace ∷ gap g inner), gap_longer g inner);
+      short = omega (
+        arith,
+        ap length whole.1,
+        length-append whole.0 (left_brace ∷ gap g inner),
+        gap_longer g inner,
+      );
       total = refl;
     })
 
@@ -90,7 +96,8 @@ members_closed {S} turn text after i rest made target at shut = go at.ss at.vali
     go (last_slot s c) h e total =
         absurd (true≢false (sym (rw e at shut) ∙ (slot_begins true s (gap c close) h.0).unshut))
     go (more_slots s c d ss) h e total =
-        absurd (true≢false (sym (rw e at shut) ∙ (slot_begins true s (gap c (comma ∷ gap d (slots ss close))) h.0).unshut))
+        absurd (true≢false (sym (rw e at shut) ∙
+        (slot_begins true s (gap c (comma ∷ gap d (slots ss close))) h.0).unshut))
 
 some_slots : (ss : Slots) (after : List ℕ) → 1 ≤ length (slots ss (right_brace ∷ after))
 some_slots no_slots after = omega arith
@@ -119,7 +126,8 @@ pub record MemberFront {S : Type 0} (turn : S → Slot → List ℕ → S) (text
 
 more_member : {S : Type 0} (turn : S → Slot → List ℕ → S) (text after : List ℕ) (i : ℕ) (rest : List ℕ)
     (made target : S) (s : Slot) (c d : List Between) (ss : Slots) → AreSlots true (more_slots s c d ss)
-    → rest ≡ slots (more_slots s c d ss) (right_brace ∷ after) → Ends text rest → length rest + i ≤ length text
+    → rest ≡ slots (more_slots s c d ss) (right_brace ∷ after) → Ends text rest
+    → length rest + i ≤ length text
     → target ≡ folded turn made (more_slots s c d ss) (right_brace ∷ after)
     → MemberFront turn text after i rest made target
 more_member turn text after i rest made target s c d ss h e ends short total =
@@ -129,7 +137,8 @@ more_member turn text after i rest made target s c d ss h e ends short total =
       behind = behind;
       stands = record { valid = h.0; between = h.1; ends = refl; within = ends; spelled = e };
       last = λ k. absurd (true≢false k);
-      next = λ k next n. rw (comes next n) (record { ss = ss; valid = h.3; spelled = refl; within = reaches; short = nearer; total = total });
+      next = λ k next n. rw (comes next n)
+          (record { ss = ss; valid = h.3; spelled = refl; within = reaches; short = nearer; total = total });
     }
   where
     inner : List ℕ
@@ -149,7 +158,8 @@ more_member turn text after i rest made target s c d ss h e ends short total =
     reaches =
         let whole : Ends text ((slot s [] ++ gap c []) ++ behind) =
         (ends.0, ends.1 ∙ ap (λ (x : List ℕ). ends.0 ++ x) parted) in
-        ends_gap text d inner (ends_one text comma (gap d inner) (ends_past text (slot s [] ++ gap c []) behind whole))
+        ends_gap text d inner
+        (ends_one text comma (gap d inner) (ends_past text (slot s [] ++ gap c []) behind whole))
 
     nearer : length inner + (i + 1) ≤ length text
     nearer = omega (arith, ap length e, slot_longer s c behind, gap_longer d inner)

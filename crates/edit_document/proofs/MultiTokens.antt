@@ -62,104 +62,183 @@ past_end : (e : LineEnd) (rest : List ℕ) → IsUtf8 (line_end e rest) → IsUt
 past_end lf rest u = text_behind [] rest 10 (lit< tt) u
 past_end crlf rest u = text_behind [] rest 10 (lit< tt) (text_behind [] (10 ∷ rest) 13 (lit< tt) u)
 
-past_spaces : (more : List Space) (rest : List ℕ) → AllByRecursion IsSpace more → IsUtf8 (spaces more rest) → IsUtf8 rest
+past_spaces : (more : List Space) (rest : List ℕ) → AllByRecursion IsSpace more → IsUtf8 (spaces more rest)
+    → IsUtf8 rest
 past_spaces [] rest h u = u
-past_spaces (blank b ∷ more) rest h u = past_spaces more rest h.1 (text_behind [] (spaces more rest) b (blank_small b h.0) u)
+past_spaces (blank b ∷ more) rest h u = past_spaces more rest h.1
+    (text_behind [] (spaces more rest) b (blank_small b h.0) u)
 past_spaces (break e ∷ more) rest h u = past_spaces more rest h.1 (past_end e (spaces more rest) u)
 
 -- one byte more before what is said
-byte_text : (xs : List ℕ) (b : ℕ) (tail said_behind : List ℕ) → ((ys : List ℕ) → IsUtf8 (ys ++ tail) → IsUtf8 (ys ++ said_behind)) → IsUtf8 (xs ++ (b ∷ tail)) → IsUtf8 (xs ++ (b ∷ said_behind))
-byte_text xs b tail said_behind more u = subst IsUtf8 (append_assoc xs (b ∷ []) said_behind) (more (xs ++ b ∷ []) (subst IsUtf8 (sym (append_assoc xs (b ∷ []) tail)) u))
+byte_text : (xs : List ℕ) (b : ℕ) (tail said_behind : List ℕ)
+    → ((ys : List ℕ) → IsUtf8 (ys ++ tail) → IsUtf8 (ys ++ said_behind)) → IsUtf8 (xs ++ (b ∷ tail))
+    → IsUtf8 (xs ++ (b ∷ said_behind))
+byte_text xs b tail said_behind more u = subst IsUtf8 (append_assoc xs (b ∷ []) said_behind)
+    (more (xs ++ b ∷ []) (subst IsUtf8 (sym (append_assoc xs (b ∷ []) tail)) u))
 
-multi_text : (m : ℕ) (xs : List ℕ) (ps : List Piece) (rest : List ℕ) → m < 128 → AllByRecursion IsAny ps → IsUtf8 (xs ++ pieces m ps (m ∷ rest)) → IsUtf8 (xs ++ says m ps)
+multi_text : (m : ℕ) (xs : List ℕ) (ps : List Piece) (rest : List ℕ) → m < 128 → AllByRecursion IsAny ps
+    → IsUtf8 (xs ++ pieces m ps (m ∷ rest)) → IsUtf8 (xs ++ says m ps)
 multi_text m xs [] rest small h u = subst IsUtf8 (sym (append-nil xs)) (text_before xs rest m small u)
-multi_text m xs (plain b ∷ ps) rest small h u = byte_text xs b (pieces m ps (m ∷ rest)) (says m ps) (λ ys v. multi_text m ys ps rest small h.1 v) u
+multi_text m xs (plain b ∷ ps) rest small h u = byte_text xs b (pieces m ps (m ∷ rest)) (says m ps)
+    (λ ys v. multi_text m ys ps rest small h.1 v) u
 multi_text m xs (letter c ∷ ps) rest small h u =
     let low = escape_small c h.0 in
     let tail = pieces m ps (m ∷ rest) in
-    let more = multi_text m [] ps rest small h.1 (text_behind [] tail c low (text_behind xs (c ∷ tail) backslash (lit< tt) u)) in
-    IsUtf8-append xs (escaped c ∷ says m ps) (text_before xs (c ∷ tail) backslash (lit< tt) u) (IsUtf8-append (escaped c ∷ []) (says m ps) (one_text (escaped c) (escaped_small c low)) more)
+    let more = multi_text m [] ps rest small h.1
+    (text_behind [] tail c low (text_behind xs (c ∷ tail) backslash (lit< tt) u)) in
+    IsUtf8-append xs (escaped c ∷ says m ps) (text_before xs (c ∷ tail) backslash (lit< tt) u)
+    (IsUtf8-append (escaped c ∷ []) (says m ps) (one_text (escaped c) (escaped_small c low)) more)
 multi_text m xs (short ds ∷ ps) rest small h u =
     let tail = pieces m ps (m ∷ rest) in
-    let behind = text_behind [] (ds ++ tail) 117 (lit< tt) (text_behind xs (117 ∷ (ds ++ tail)) backslash (lit< tt) u) in
+    let behind = text_behind [] (ds ++ tail) 117 (lit< tt)
+    (text_behind xs (117 ∷ (ds ++ tail)) backslash (lit< tt) u) in
     let more = multi_text m [] ps rest small h.1 (past_ascii is_hex hex_small ds tail h.0.1 behind) in
-    IsUtf8-append xs (encode_utf8 (digits_value 16 ds) ++ says m ps) (text_before xs (117 ∷ (ds ++ tail)) backslash (lit< tt) u)
-    (IsUtf8-append (encode_utf8 (digits_value 16 ds)) (says m ps) (IsUtf8-encode (digits_value 16 ds) (scalar_is (digits_value 16 ds) h.0.2)) more)
+    IsUtf8-append xs (encode_utf8 (digits_value 16 ds) ++ says m ps)
+    (text_before xs (117 ∷ (ds ++ tail)) backslash (lit< tt) u)
+    (IsUtf8-append (encode_utf8 (digits_value 16 ds)) (says m ps)
+    (IsUtf8-encode (digits_value 16 ds) (scalar_is (digits_value 16 ds) h.0.2)) more)
 multi_text m xs (long ds ∷ ps) rest small h u =
     let tail = pieces m ps (m ∷ rest) in
-    let behind = text_behind [] (ds ++ tail) 85 (lit< tt) (text_behind xs (85 ∷ (ds ++ tail)) backslash (lit< tt) u) in
+    let behind = text_behind [] (ds ++ tail) 85 (lit< tt)
+    (text_behind xs (85 ∷ (ds ++ tail)) backslash (lit< tt) u) in
     let more = multi_text m [] ps rest small h.1 (past_ascii is_hex hex_small ds tail h.0.1 behind) in
-    IsUtf8-append xs (encode_utf8 (digits_value 16 ds) ++ says m ps) (text_before xs (85 ∷ (ds ++ tail)) backslash (lit< tt) u)
-    (IsUtf8-append (encode_utf8 (digits_value 16 ds)) (says m ps) (IsUtf8-encode (digits_value 16 ds) (scalar_is (digits_value 16 ds) h.0.2)) more)
-multi_text m xs (feed lf ∷ ps) rest small h u = byte_text xs 10 (pieces m ps (m ∷ rest)) (says m ps) (λ ys v. multi_text m ys ps rest small h.1 v) u
+    IsUtf8-append xs (encode_utf8 (digits_value 16 ds) ++ says m ps)
+    (text_before xs (85 ∷ (ds ++ tail)) backslash (lit< tt) u)
+    (IsUtf8-append (encode_utf8 (digits_value 16 ds)) (says m ps)
+    (IsUtf8-encode (digits_value 16 ds) (scalar_is (digits_value 16 ds) h.0.2)) more)
+multi_text m xs (feed lf ∷ ps) rest small h u = byte_text xs 10 (pieces m ps (m ∷ rest)) (says m ps)
+    (λ ys v. multi_text m ys ps rest small h.1 v) u
 multi_text m xs (feed crlf ∷ ps) rest small h u =
-    byte_text xs 13 (10 ∷ pieces m ps (m ∷ rest)) (10 ∷ says m ps) (λ ys v. byte_text ys 10 (pieces m ps (m ∷ rest)) (says m ps) (λ zs w. multi_text m zs ps rest small h.1 w) v) u
+    byte_text xs 13 (10 ∷ pieces m ps (m ∷ rest)) (10 ∷ says m ps)
+    (λ ys v. byte_text ys 10 (pieces m ps (m ∷ rest)) (says m ps)
+    (λ zs w. multi_text m zs ps rest small h.1 w) v) u
 multi_text m xs (fold ws e more ∷ ps) rest small h u =
     let tail = pieces m ps (m ∷ rest) in
     let behind = text_behind xs (ws ++ line_end e (spaces more tail)) backslash (lit< tt) u in
-    let past = past_spaces more tail h.0.1 (past_end e (spaces more tail) (past_ascii is_blank blank_small ws (line_end e (spaces more tail)) h.0.0 behind)) in
-    IsUtf8-append xs (says m ps) (text_before xs (ws ++ line_end e (spaces more tail)) backslash (lit< tt) u) (multi_text m [] ps rest small h.1 past)
-multi_text m xs (delimiter ∷ ps) rest small h u = byte_text xs m (pieces m ps (m ∷ rest)) (says m ps) (λ ys v. multi_text m ys ps rest small h.1 v) u
+    let past = past_spaces more tail h.0.1
+    (past_end e (spaces more tail)
+    (past_ascii is_blank blank_small ws (line_end e (spaces more tail)) h.0.0 behind)) in
+    IsUtf8-append xs (says m ps) (text_before xs (ws ++ line_end e (spaces more tail)) backslash (lit< tt) u)
+    (multi_text m [] ps rest small h.1 past)
+multi_text m xs (delimiter ∷ ps) rest small h u = byte_text xs m (pieces m ps (m ∷ rest)) (says m ps)
+    (λ ys v. multi_text m ys ps rest small h.1 v) u
 
 -- without the newline that comes first
-whole_text : (m : ℕ) (ps : List Piece) (rest : List ℕ) → m < 128 → AllByRecursion IsAny ps → IsUtf8 (pieces m ps (m ∷ rest)) → IsUtf8 (says_multi m ps)
+whole_text : (m : ℕ) (ps : List Piece) (rest : List ℕ) → m < 128 → AllByRecursion IsAny ps
+    → IsUtf8 (pieces m ps (m ∷ rest)) → IsUtf8 (says_multi m ps)
 whole_text m [] rest small h u = multi_text m [] [] rest small h u
 whole_text m (plain b ∷ ps) rest small h u = multi_text m [] (plain b ∷ ps) rest small h u
 whole_text m (letter c ∷ ps) rest small h u = multi_text m [] (letter c ∷ ps) rest small h u
 whole_text m (short ds ∷ ps) rest small h u = multi_text m [] (short ds ∷ ps) rest small h u
 whole_text m (long ds ∷ ps) rest small h u = multi_text m [] (long ds ∷ ps) rest small h u
-whole_text m (feed e ∷ ps) rest small h u = multi_text m [] ps rest small h.1 (past_end e (pieces m ps (m ∷ rest)) u)
+whole_text m (feed e ∷ ps) rest small h u = multi_text m [] ps rest small h.1
+    (past_end e (pieces m ps (m ∷ rest)) u)
 whole_text m (fold ws e more ∷ ps) rest small h u = multi_text m [] (fold ws e more ∷ ps) rest small h u
 whole_text m (delimiter ∷ ps) rest small h u = multi_text m [] (delimiter ∷ ps) rest small h u
 
 -- ---- tokens
 
-behind_three : (bytes : List ℕ) (m : ℕ) (s : List ℕ) → m < 128 → IsUtf8 bytes → Ends bytes (three m s) → IsUtf8 s
-behind_three bytes m s small u h = text_behind [] s m small (text_behind [] (m ∷ s) m small (text_behind h.0 (m ∷ (m ∷ s)) m small (subst IsUtf8 h.1 u)))
+behind_three : (bytes : List ℕ) (m : ℕ) (s : List ℕ) → m < 128 → IsUtf8 bytes → Ends bytes (three m s)
+    → IsUtf8 s
+behind_three bytes m s small u h = text_behind [] s m small
+    (text_behind [] (m ∷ s) m small (text_behind h.0 (m ∷ (m ∷ s)) m small (subst IsUtf8 h.1 u)))
 
-taken : (bytes text rest word : List ℕ) → text ≡ word ++ rest → Ends bytes text → take (length text - length rest) (suffix bytes (length text)) ≡ word
+taken : (bytes text rest word : List ℕ) → text ≡ word ++ rest → Ends bytes text
+    → take (length text - length rest) (suffix bytes (length text)) ≡ word
 taken bytes text rest word e ends =
     let size : length text ≡ length word + length rest = ap length e ∙ length-append word rest in
     let n : length text - length rest ≡ length word = omega arith in
-    ap (take (length text - length rest)) (suffix_is bytes text ends ∙ e) ∙ ap (λ (k : ℕ). take k (word ++ rest)) n ∙ take_length word rest
+    ap (take (length text - length rest)) (suffix_is bytes text ends ∙ e) ∙
+    ap (λ (k : ℕ). take k (word ++ rest)) n ∙ take_length word rest
 
-multi_says : (bytes : List ℕ) (m : ℕ) (ps : List Piece) (rest : List ℕ) → m < 128 → AllByRecursion IsAny ps → multi_said m (pieces m ps (three m [])) ≡ Some (says_multi m ps)
-    → three m (pieces m ps (three m rest)) ≡ three m (pieces m ps (three m [])) ++ rest → IsUtf8 bytes → Ends bytes (three m (pieces m ps (three m rest)))
-    → (multi_said m (drop 3 (take (length (three m (pieces m ps (three m rest))) - length rest) (suffix bytes (length (three m (pieces m ps (three m rest))))))) >>= as_text) ≡ Some (says_multi m ps)
+multi_says : (bytes : List ℕ) (m : ℕ) (ps : List Piece) (rest : List ℕ) → m < 128 → AllByRecursion IsAny ps
+    → multi_said m (pieces m ps (three m [])) ≡ Some (says_multi m ps)
+    → three m (pieces m ps (three m rest)) ≡ three m (pieces m ps (three m [])) ++ rest → IsUtf8 bytes
+    → Ends bytes (three m (pieces m ps (three m rest)))
+    → (multi_said m (drop 3 (take (length (three m (pieces m ps (three m rest))) - length rest)
+    (suffix bytes (length (three m (pieces m ps (three m rest))))))) >>= as_text) ≡ Some (says_multi m ps)
 multi_says bytes m ps rest small h again whole u ends =
     let text = three m (pieces m ps (three m rest)) in
-    let v = whole_text m ps (m ∷ (m ∷ rest)) small h (behind_three bytes m (pieces m ps (three m rest)) small u ends) in
-    ap (λ (s : List ℕ). multi_said m (drop 3 s) >>= as_text) (taken bytes text rest (three m (pieces m ps (three m []))) whole ends) ∙ ap (λ (o : Option (List ℕ)). o >>= as_text) again ∙ text_is (says_multi m ps) v
+    let v = whole_text m ps (m ∷ (m ∷ rest)) small h
+    (behind_three bytes m (pieces m ps (three m rest)) small u ends) in
+    ap (λ (s : List ℕ). multi_said m (drop 3 s) >>= as_text)
+    (taken bytes text rest (three m (pieces m ps (three m []))) whole ends) ∙
+    ap (λ (o : Option (List ℕ)). o >>= as_text) again ∙ text_is (says_multi m ps) v
 
-said_basic : (bytes : List ℕ) (ps : List Piece) (rest : List ℕ) → IsValue (multi_basic ps) → IsUtf8 bytes → Ends bytes (value (multi_basic ps) rest) → walk.said bytes (mark kinds.MultiBasicString (value (multi_basic ps) rest) rest) ≡ Some (says_multi quote ps)
+said_basic : (bytes : List ℕ) (ps : List Piece) (rest : List ℕ) → IsValue (multi_basic ps) → IsUtf8 bytes
+    → Ends bytes (value (multi_basic ps) rest)
+    → walk.said bytes (mark kinds.MultiBasicString (value (multi_basic ps) rest) rest)
+    ≡ Some (says_multi quote ps)
 unfolding walk.said
 said_basic bytes ps rest h u ends =
-    multi_says bytes quote ps rest (lit< tt) (basic_any ps h.0) (ap (option_map (λ (p : List Piece × List ℕ). says_multi quote p.0)) (multi_basic_again ps [] h.0 h.1 h.2 refl)) (value_rest (multi_basic ps) rest) u ends
+    multi_says bytes quote ps rest (lit< tt) (basic_any ps h.0)
+    (ap (option_map (λ (p : List Piece × List ℕ). says_multi quote p.0))
+    (multi_basic_again ps [] h.0 h.1 h.2 refl)) (value_rest (multi_basic ps) rest) u ends
 
-said_literal : (bytes : List ℕ) (ps : List Piece) (rest : List ℕ) → IsValue (multi_literal ps) → IsUtf8 bytes → Ends bytes (value (multi_literal ps) rest) → walk.said bytes (mark kinds.MultiLiteralString (value (multi_literal ps) rest) rest) ≡ Some (says_multi apostrophe ps)
+said_literal : (bytes : List ℕ) (ps : List Piece) (rest : List ℕ) → IsValue (multi_literal ps) → IsUtf8 bytes
+    → Ends bytes (value (multi_literal ps) rest)
+    → walk.said bytes (mark kinds.MultiLiteralString (value (multi_literal ps) rest) rest)
+    ≡ Some (says_multi apostrophe ps)
 unfolding walk.said
 said_literal bytes ps rest h u ends =
-    multi_says bytes apostrophe ps rest (lit< tt) (raw_any ps h.0) (ap (option_map (λ (p : List Piece × List ℕ). says_multi apostrophe p.0)) (multi_literal_again ps [] h.0 h.1 refl)) (value_rest (multi_literal ps) rest) u ends
+    multi_says bytes apostrophe ps rest (lit< tt) (raw_any ps h.0)
+    (ap (option_map (λ (p : List Piece × List ℕ). says_multi apostrophe p.0))
+    (multi_literal_again ps [] h.0 h.1 refl)) (value_rest (multi_literal ps) rest) u ends
 
-tripled : (m : ℕ) (ps : List Piece) (rest : List ℕ) → three m (pieces m ps (three m rest)) ≡ m ∷ (m ∷ (m ∷ (pieces m ps [] ++ (m ∷ (m ∷ (m ∷ rest))))))
+tripled : (m : ℕ) (ps : List Piece) (rest : List ℕ) → three m (pieces m ps (three m rest))
+    ≡ m ∷ (m ∷ (m ∷ (pieces m ps [] ++ (m ∷ (m ∷ (m ∷ rest))))))
 tripled m ps rest = ap (three m) (pieces_rest m ps (three m rest))
 
-pub multi_basic_token : (bytes : List ℕ) (ps : List Piece) (rest : List ℕ) → IsValue (multi_basic ps) → IsUtf8 bytes → Ends bytes (value (multi_basic ps) rest) → IsToken bytes (mark kinds.MultiBasicString (value (multi_basic ps) rest) rest)
+pub multi_basic_token : (bytes : List ℕ) (ps : List Piece) (rest : List ℕ) → IsValue (multi_basic ps)
+    → IsUtf8 bytes → Ends bytes (value (multi_basic ps) rest)
+    → IsToken bytes (mark kinds.MultiBasicString (value (multi_basic ps) rest) rest)
 multi_basic_token bytes ps rest h u ends e =
-    let w = tripled quote ps rest in
-    (says_multi quote ps, said_basic bytes ps rest h u ends, (ends.0, pieces quote ps [], rest, ends.1 ∙ ap (λ (t : List ℕ). ends.0 ++ t) w, ap length w, refl, (ps, h.0, h.2, refl, refl)))
+    let w = tripled quote ps rest in (
+      says_multi quote ps,
+      said_basic bytes ps rest h u ends,
+      (
+        ends.0,
+        pieces quote ps [],
+        rest,
+        ends.1 ∙ ap (λ (t : List ℕ). ends.0 ++ t) w,
+        ap length w,
+        refl,
+        (ps, h.0, h.2, refl, refl),
+      ),
+    )
 
-pub multi_literal_token : (bytes : List ℕ) (ps : List Piece) (rest : List ℕ) → IsValue (multi_literal ps) → IsUtf8 bytes → Ends bytes (value (multi_literal ps) rest) → IsToken bytes (mark kinds.MultiLiteralString (value (multi_literal ps) rest) rest)
+pub multi_literal_token : (bytes : List ℕ) (ps : List Piece) (rest : List ℕ) → IsValue (multi_literal ps)
+    → IsUtf8 bytes → Ends bytes (value (multi_literal ps) rest)
+    → IsToken bytes (mark kinds.MultiLiteralString (value (multi_literal ps) rest) rest)
 multi_literal_token bytes ps rest h u ends e =
-    let w = tripled apostrophe ps rest in
-    (says_multi apostrophe ps, said_literal bytes ps rest h u ends, (ends.0, pieces apostrophe ps [], rest, ends.1 ∙ ap (λ (t : List ℕ). ends.0 ++ t) w, ap length w, refl, (ps, h.0, refl, refl)))
+    let w = tripled apostrophe ps rest in (
+      says_multi apostrophe ps,
+      said_literal bytes ps rest h u ends,
+      (
+        ends.0,
+        pieces apostrophe ps [],
+        rest,
+        ends.1 ∙ ap (λ (t : List ℕ). ends.0 ++ t) w,
+        ap length w,
+        refl,
+        (ps, h.0, refl, refl),
+      ),
+    )
 
-pub multi_basic_step : (bytes : List ℕ) (ps : List Piece) (rest : List ℕ) → IsValue (multi_basic ps) → IsUtf8 bytes → Ends bytes (value (multi_basic ps) rest) → (st : State)
-    → step bytes (mark kinds.MultiBasicString (value (multi_basic ps) rest) rest) st ≡ entered st (scalar (string (says_multi quote ps))) (Some (span_of (multi_basic ps) rest))
+pub multi_basic_step : (bytes : List ℕ) (ps : List Piece) (rest : List ℕ) → IsValue (multi_basic ps)
+    → IsUtf8 bytes → Ends bytes (value (multi_basic ps) rest) → (st : State)
+    → step bytes (mark kinds.MultiBasicString (value (multi_basic ps) rest) rest) st
+    ≡ entered st (scalar (string (says_multi quote ps))) (Some (span_of (multi_basic ps) rest))
 unfolding step
-multi_basic_step bytes ps rest h u ends st = ap (λ (o : Option (List ℕ)). o >>= λ x. entered st (scalar (string x)) (Some (span_of (multi_basic ps) rest))) (said_basic bytes ps rest h u ends)
+multi_basic_step bytes ps rest h u ends st =
+    ap (λ (o : Option (List ℕ)). o >>= λ x. entered st (scalar (string x))
+    (Some (span_of (multi_basic ps) rest))) (said_basic bytes ps rest h u ends)
 
-pub multi_literal_step : (bytes : List ℕ) (ps : List Piece) (rest : List ℕ) → IsValue (multi_literal ps) → IsUtf8 bytes → Ends bytes (value (multi_literal ps) rest) → (st : State)
-    → step bytes (mark kinds.MultiLiteralString (value (multi_literal ps) rest) rest) st ≡ entered st (scalar (string (says_multi apostrophe ps))) (Some (span_of (multi_literal ps) rest))
+pub multi_literal_step : (bytes : List ℕ) (ps : List Piece) (rest : List ℕ) → IsValue (multi_literal ps)
+    → IsUtf8 bytes → Ends bytes (value (multi_literal ps) rest) → (st : State)
+    → step bytes (mark kinds.MultiLiteralString (value (multi_literal ps) rest) rest) st
+    ≡ entered st (scalar (string (says_multi apostrophe ps))) (Some (span_of (multi_literal ps) rest))
 unfolding step
-multi_literal_step bytes ps rest h u ends st = ap (λ (o : Option (List ℕ)). o >>= λ x. entered st (scalar (string x)) (Some (span_of (multi_literal ps) rest))) (said_literal bytes ps rest h u ends)
+multi_literal_step bytes ps rest h u ends st =
+    ap (λ (o : Option (List ℕ)). o >>= λ x. entered st (scalar (string x))
+    (Some (span_of (multi_literal ps) rest))) (said_literal bytes ps rest h u ends)

@@ -18,7 +18,8 @@ is_head _ = false
 abbrev pub has_head : List Assertion → Place → Bool
 has_head made t = list_any (λ a. is_head a.kind && is_inside t a.place) made
 
-pub head_append : (xs ys : List Assertion) (t : Place) → has_head (xs ++ ys) t ≡ (has_head xs t || has_head ys t)
+pub head_append : (xs ys : List Assertion) (t : Place) → has_head (xs ++ ys) t
+    ≡ (has_head xs t || has_head ys t)
 head_append [] ys t = refl
 head_append (x ∷ xs) ys t = go (is_head x.kind && is_inside t x.place) (head_append xs ys t)
   where
@@ -56,8 +57,11 @@ mutual
   elements_pairs : (q : Place) (i : ℕ) (es : Elements) → ArePaired (of_elements q i es)
   elements_pairs q i no_elements = tt
   elements_pairs q i (last_element v g) = (refl, value_pairs (at q (index i)) v)
-  elements_pairs q i (element v g h es) =
-      (refl, paired_append (of_value (at q (index i)) v) _ (value_pairs (at q (index i)) v) (elements_pairs q (suc i) es))
+  elements_pairs q i (element v g h es) = (
+    refl,
+    paired_append (of_value (at q (index i)) v) _ (value_pairs (at q (index i)) v)
+        (elements_pairs q (suc i) es),
+  )
 
   members_pairs : (q : Place) (ms : Members) → ArePaired (of_members q ms)
   members_pairs q no_members = tt
@@ -90,39 +94,49 @@ paired_no_head (x ∷ xs) t h =
     no_head header_kind e = absurd (true≢false (sym e))
     no_head element_kind e = absurd (true≢false (sym e))
 
-fronts_no_head : (earlier : List Assertion) (by q : Place) (ns : List (List ℕ)) (t : Place) → has_head (fronts earlier by q ns) t ≡ false
+fronts_no_head : (earlier : List Assertion) (by q : Place) (ns : List (List ℕ)) (t : Place)
+    → has_head (fronts earlier by q ns) t ≡ false
 fronts_no_head earlier by q [] t = refl
 fronts_no_head earlier by q (n ∷ []) t = refl
-fronts_no_head earlier by q (n ∷ m ∷ ns) t = fronts_no_head earlier by (resolved earlier (at q (key n))) (m ∷ ns) t
+fronts_no_head earlier by q (n ∷ m ∷ ns) t = fronts_no_head earlier by (resolved earlier (at q (key n)))
+    (m ∷ ns) t
 
 or_none : (b : Bool) → (b || false) ≡ b
 or_none true = refl
 or_none false = refl
 
-pub statement_heads : (t : Place) (s : Stated) → has_head (of_statement s.earlier s.prefix s.statement) t ≡ is_header_of t s
+pub statement_heads : (t : Place) (s : Stated) → has_head (of_statement s.earlier s.prefix s.statement) t
+    ≡ is_header_of t s
 statement_heads t s = go s.statement
   where
-    go : (x : Statement) → has_head (of_statement s.earlier s.prefix x) t ≡ is_header_of t (record s { statement = x })
+    go : (x : Statement) → has_head (of_statement s.earlier s.prefix x) t
+        ≡ is_header_of t (record s { statement = x })
     go (pair k a b v) = paired_no_head _ t (pair_pairs false s.prefix k v)
     go (header a k b) =
         let place = header_place s.earlier [] (names k) in
         head_append (fronts s.earlier place [] (names k)) (asserts place place header_kind ∷ []) t
-        ∙ ap (λ b. b || (is_inside t place || false)) (fronts_no_head s.earlier place [] (names k) t) ∙ or_none (is_inside t place)
+        ∙ ap (λ b. b || (is_inside t place || false)) (fronts_no_head s.earlier place [] (names k) t) ∙
+        or_none (is_inside t place)
     go (element_header a k b) =
         let place = header_place s.earlier [] (names k) in
         let last = at place (index (elements_at s.earlier place)) in
-        head_append (fronts s.earlier last [] (names k)) (asserts last place array_kind ∷ asserts last last element_kind ∷ []) t
-        ∙ ap (λ b. b || (is_inside t last || false)) (fronts_no_head s.earlier last [] (names k) t) ∙ or_none (is_inside t last)
+        head_append (fronts s.earlier last [] (names k))
+        (asserts last place array_kind ∷ asserts last last element_kind ∷ []) t
+        ∙ ap (λ b. b || (is_inside t last || false)) (fronts_no_head s.earlier last [] (names k) t) ∙
+        or_none (is_inside t last)
 
 or_assoc : (a b c : Bool) → ((a || b) || c) ≡ (a || (b || c))
 or_assoc true b c = refl
 or_assoc false b c = refl
 
-lines_heads : (t : Place) (earlier : List Assertion) (prefix : Place) (ls : Lines) → has_head (of_lines earlier prefix ls) t ≡ (has_head earlier t || list_any (is_header_of t) (stated_in earlier prefix ls))
+lines_heads : (t : Place) (earlier : List Assertion) (prefix : Place) (ls : Lines)
+    → has_head (of_lines earlier prefix ls) t
+    ≡ (has_head earlier t || list_any (is_header_of t) (stated_in earlier prefix ls))
 lines_heads t earlier prefix (one_line (empty_line a c)) = sym (or_none (has_head earlier t))
 lines_heads t earlier prefix (one_line (full_line a s b c)) =
     head_append earlier (of_statement earlier prefix s) t
-    ∙ ap (λ b. has_head earlier t || b) (statement_heads t (stated_line earlier prefix a s (b · comment c []) [] []) ∙ sym (or_none _))
+    ∙ ap (λ b. has_head earlier t || b)
+    (statement_heads t (stated_line earlier prefix a s (b · comment c []) [] []) ∙ sym (or_none _))
 lines_heads t earlier prefix (more_lines (empty_line a c) e ls) = lines_heads t earlier prefix ls
 lines_heads t earlier prefix (more_lines (full_line a s b c) e ls) =
     let us = earlier ++ of_statement earlier prefix s in
@@ -130,12 +144,16 @@ lines_heads t earlier prefix (more_lines (full_line a s b c) e ls) =
     let after = line_end e (lines ls) in
     let x = stated_line earlier prefix a s (b · comment c after) after (lines ls) in
     lines_heads t us q ls
-    ∙ ap (λ b. b || list_any (is_header_of t) (stated_in us q ls)) (head_append earlier (of_statement earlier prefix s) t ∙ ap (λ b. has_head earlier t || b) (statement_heads t x))
+    ∙ ap (λ b. b || list_any (is_header_of t) (stated_in us q ls))
+    (head_append earlier (of_statement earlier prefix s) t ∙
+    ap (λ b. has_head earlier t || b) (statement_heads t x))
     ∙ or_assoc (has_head earlier t) (is_header_of t x) (list_any (is_header_of t) (stated_in us q ls))
 
 -- one pair names the place and no header does, told by assertions
 abbrev pub is_alone : List Assertion → Place → Bool
 is_alone made t = (pairs_at made t == 1) && not (has_head made t)
 
-pub one_statement_is : (t : Place) → IsKeyed t → (form : Text) → is_one_statement form t ≡ is_alone (assertions form) t
-one_statement_is t keyed form = ap₂ (λ n b. (n == 1) && not b) (pairs_named t keyed form) (sym (lines_heads t [] [] form.lines))
+pub one_statement_is : (t : Place) → IsKeyed t → (form : Text)
+    → is_one_statement form t ≡ is_alone (assertions form) t
+one_statement_is t keyed form = ap₂ (λ n b. (n == 1) && not b) (pairs_named t keyed form)
+    (sym (lines_heads t [] [] form.lines))

@@ -181,7 +181,8 @@ pub record MemberFront (text : List ℕ) (place : Place) (w : Valued) (i size : 
     pub c : List Between
     pub behind : List ℕ
     pub stands : StandsAt text rest true (of_pair k a b v) c behind
-    pub found : (part : List ℕ) (r : ℕ × ℕ) → part_to place (paired w.place k a b v (gap c behind)) ≡ Some part
+    pub found : (part : List ℕ) (r : ℕ × ℕ) → part_to place (paired w.place k a b v (gap c behind))
+        ≡ Some part
         → r.0 ≡ length part → r.1 ≡ length (gap c behind) → Tells place (paired_value w) (Some r)
     pub last : part_to place (paired w.place k a b v (gap c behind)) ≡ None → eqb (first behind) comma ≡ false
         → Tells place (paired_value w) None

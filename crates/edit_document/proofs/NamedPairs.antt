@@ -6,12 +6,12 @@ use Rattle.edit_syntax.specs.Strings.{◌·◌, Dotted, Key, name, line_end}
 use Rattle.edit_syntax.specs.Grammar.{gap, Value, basic, literal, multi_basic, multi_literal, boolean, integer, float, datetime, array, inline, Elements, no_elements, last_element, element, elements, Members, no_members, last_member, member, members, Statement, pair, header, element_header, comment, empty_line, full_line, Lines, one_line, more_lines, lines, Text}
 use Rattle.edit_syntax.proofs.Cases.{by_test}
 use Rattle.edit_document.specs.Assertions.{Place, key, index, at, same_place, Kind, dotted, leaf, header_kind, array_kind, element_kind, Assertion, asserts, names, named, elements_at, of_key, of_value, of_elements, of_members, resolved, fronts, header_place, of_statement, prefix_after, of_lines, assertions}
-use Rattle.edit_document.specs.EditBytes.{as_it_is, part_to}
+use Rattle.edit_document.specs.EditBytes.{as_it_is, part_to, is_within}
 use Rattle.edit_document.specs.Statements.{dotted_parts, behind_part, Paired, paired, paired_members, paired_value, paired_statement, Stated, stated_line, stated_in, line_pairs, inner_pairs}
 use Rattle.edit_document.specs.Replaces.{is_below}
 use Rattle.edit_document.specs.Written.{valued, inside, in_elements, in_members, in_statement, in_lines}
 use Rattle.edit_document.proofs.SamePlace.{same_place_is, other_place}
-use Rattle.edit_document.proofs.SamePlaces.{is_within, within_same, within_at, below_at, not_below_itself}
+use Rattle.edit_document.proofs.SamePlaces.{within_same, within_at, below_at, not_below_itself}
 
 -- ---- counts
 
@@ -24,7 +24,8 @@ is_paired _ = false
 -- how often pairs assert a place
 abbrev pub pairs_at : List Assertion → Place → ℕ
 pairs_at [] t = 0
-pairs_at (a ∷ made) t = cond (is_paired a.kind && same_place a.place t) (suc (pairs_at made t)) (pairs_at made t)
+pairs_at (a ∷ made) t = cond (is_paired a.kind && same_place a.place t) (suc (pairs_at made t))
+    (pairs_at made t)
 
 -- how many of these pairs name a place by some part of their keys
 abbrev pub named_in : Place → List Paired → ℕ
@@ -39,14 +40,18 @@ pairs_append [] ys t = omega arith
 pairs_append (x ∷ xs) ys t = go (is_paired x.kind && same_place x.place t) (pairs_append xs ys t)
   where
     go : (b : Bool) → pairs_at (xs ++ ys) t ≡ pairs_at xs t + pairs_at ys t
-        → cond b (suc (pairs_at (xs ++ ys) t)) (pairs_at (xs ++ ys) t) ≡ cond b (suc (pairs_at xs t)) (pairs_at xs t) + pairs_at ys t
+        → cond b (suc (pairs_at (xs ++ ys) t)) (pairs_at (xs ++ ys) t)
+        ≡ cond b (suc (pairs_at xs t)) (pairs_at xs t) + pairs_at ys t
     go true e = omega (arith, e)
     go false e = e
 
-named_more : (t : Place) (p : Paired) (ps : List Paired) → named_in t (p ∷ ps) ≡ cond (is_some (part_to t p)) 1 0 + named_in t ps
+named_more : (t : Place) (p : Paired) (ps : List Paired)
+    → named_in t (p ∷ ps) ≡ cond (is_some (part_to t p)) 1 0 + named_in t ps
 named_more t p ps = go (is_some (part_to t p))
   where
-    go : (b : Bool) → length (cond b (p ∷ filter (λ p. is_some (part_to t p)) ps) (filter (λ p. is_some (part_to t p)) ps)) ≡ cond b 1 0 + named_in t ps
+    go : (b : Bool) → length
+        (cond b (p ∷ filter (λ p. is_some (part_to t p)) ps) (filter (λ p. is_some (part_to t p)) ps))
+        ≡ cond b 1 0 + named_in t ps
     go true = omega arith
     go false = omega arith
 
@@ -54,49 +59,67 @@ named_append : (t : Place) (xs ys : List Paired) → named_in t (xs ++ ys) ≡ n
 named_append t [] ys = omega arith
 named_append t (x ∷ xs) ys = omega (arith, named_more t x (xs ++ ys), named_more t x xs, named_append t xs ys)
 
-flat_append : {X : Type 0} (f : X → List Paired) (xs ys : List X) (t : Place) → named_in t (flat_map f (xs ++ ys)) ≡ named_in t (flat_map f xs) + named_in t (flat_map f ys)
+flat_append : {X : Type 0} (f : X → List Paired) (xs ys : List X) (t : Place)
+    → named_in t (flat_map f (xs ++ ys)) ≡ named_in t (flat_map f xs) + named_in t (flat_map f ys)
 flat_append f [] ys t = omega arith
-flat_append f (x ∷ xs) ys t = omega (arith, named_append t (f x) (flat_map f (xs ++ ys)), named_append t (f x) (flat_map f xs), flat_append f xs ys t)
+flat_append f (x ∷ xs) ys t =
+    omega (
+      arith,
+      named_append t (f x) (flat_map f (xs ++ ys)),
+      named_append t (f x) (flat_map f xs),
+      flat_append f xs ys t,
+    )
 
 -- ---- keys
 
 -- nothing of what is below the place is at it
-none_under : (t : Place) (xs : List Assertion) → AllByRecursion (λ x. is_below t x.place ≡ true) xs → pairs_at xs t ≡ 0
+none_under : (t : Place) (xs : List Assertion) → AllByRecursion (λ x. is_below t x.place ≡ true) xs
+    → pairs_at xs t ≡ 0
 none_under t [] h = refl
-none_under t (x ∷ xs) h = ap (λ b. cond b (suc (pairs_at xs t)) (pairs_at xs t)) (no_pair (is_paired x.kind) (same_place x.place t) other) ∙ none_under t xs h.1
+none_under t (x ∷ xs) h = ap (λ b. cond b (suc (pairs_at xs t)) (pairs_at xs t))
+    (no_pair (is_paired x.kind) (same_place x.place t) other) ∙ none_under t xs h.1
   where
     other : same_place x.place t ≡ false
-    other = by_test (same_place x.place t) (λ e. absurd (true≢false (sym h.0 ∙ ap (λ q. is_below t q) (same_place_is x.place t e) ∙ not_below_itself t))) (λ e. e)
+    other = by_test (same_place x.place t)
+        (λ e. absurd (true≢false (sym h.0 ∙ ap (λ q. is_below t q) (same_place_is x.place t e) ∙
+        not_below_itself t))) (λ e. e)
 
     no_pair : (a b : Bool) → b ≡ false → (a && b) ≡ false
     no_pair true b e = e
     no_pair false b e = refl
 
-key_under : (t : Place) (d : Bool) (by q : Place) (ns : List (List ℕ)) (v : Value) → is_within t q ≡ true → AllByRecursion (λ x. is_below t x.place ≡ true) (of_key d by q ns v)
+key_under : (t : Place) (d : Bool) (by q : Place) (ns : List (List ℕ)) (v : Value) → is_within t q ≡ true
+    → AllByRecursion (λ x. is_below t x.place ≡ true) (of_key d by q ns v)
 key_under t d by q [] v e = tt
 key_under t d by q (n ∷ []) v e = (below_at t q (key n) e, tt)
-key_under t d by q (n ∷ m ∷ ns) v e = (below_at t q (key n) e, key_under t d by (at q (key n)) (m ∷ ns) v (within_at t q (key n) e))
+key_under t d by q (n ∷ m ∷ ns) v e =
+    (below_at t q (key n) e, key_under t d by (at q (key n)) (m ∷ ns) v (within_at t q (key n) e))
 
 abbrev part_names : List Dotted → List (List ℕ)
 part_names ds = map (λ d. name d.part) ds
 
-key_named : (t : Place) (d : Bool) (by q : Place) (n x : List ℕ) (ds : List Dotted) (rest : List ℕ) (v : Value)
-    → pairs_at (of_key d by q (n ∷ part_names ds) v) t ≡ cond (is_some (behind_part as_it_is t q ((n, x) ∷ dotted_parts ds rest))) 1 0
+key_named : (t : Place) (d : Bool) (by q : Place) (n x : List ℕ) (ds : List Dotted) (rest : List ℕ)
+    (v : Value)
+    → pairs_at (of_key d by q (n ∷ part_names ds) v) t ≡ cond
+    (is_some (behind_part as_it_is t q ((n, x) ∷ dotted_parts ds rest))) 1 0
 key_named t d by q n x [] rest v = go (same_place (at q (key n)) t)
   where
     go : (b : Bool) → cond b (suc 0) 0 ≡ cond (is_some (cond b (Some x) None)) 1 0
     go true = refl
     go false = refl
-key_named t d by q n x (e ∷ ds) rest v = go (same_place (at q (key n)) t) refl (key_named t d by (at q (key n)) (name e.part) _ ds rest v)
+key_named t d by q n x (e ∷ ds) rest v = go (same_place (at q (key n)) t) refl
+    (key_named t d by (at q (key n)) (name e.part) _ ds rest v)
   where
     go : (b : Bool) → same_place (at q (key n)) t ≡ b
         → pairs_at (of_key d by (at q (key n)) (name e.part ∷ part_names ds) v) t
         ≡ cond (is_some (behind_part as_it_is t (at q (key n)) (dotted_parts (e ∷ ds) rest))) 1 0
         → cond b (suc (pairs_at (of_key d by (at q (key n)) (name e.part ∷ part_names ds) v) t))
         (pairs_at (of_key d by (at q (key n)) (name e.part ∷ part_names ds) v) t)
-        ≡ cond (is_some (cond b (Some x) (behind_part as_it_is t (at q (key n)) (dotted_parts (e ∷ ds) rest)))) 1 0
+        ≡ cond (is_some (cond b (Some x)
+        (behind_part as_it_is t (at q (key n)) (dotted_parts (e ∷ ds) rest)))) 1 0
     go true h ih =
-        let here : is_within t (at q (key n)) ≡ true = ap (λ r. is_within r (at q (key n))) (sym (same_place_is (at q (key n)) t h)) ∙ within_same (at q (key n)) in
+        let here : is_within t (at q (key n)) ≡ true = ap (λ r. is_within r (at q (key n)))
+        (sym (same_place_is (at q (key n)) t h)) ∙ within_same (at q (key n)) in
         ap suc (none_under t _ (key_under t d by (at q (key n)) (name e.part ∷ part_names ds) v here))
     go false h ih = ih
 
@@ -110,7 +133,8 @@ element_else : (t p : Place) (i : ℕ) → IsKeyed t → same_place (at p (index
 element_else t p i keyed = other_place (at p (index i)) t (keyed p i)
 
 mutual
-  value_named : (t : Place) → IsKeyed t → (p : Place) (v : Value) (after : List ℕ) → pairs_at (of_value p v) t ≡ named_in t (flat_map paired_value (valued p v after ∷ inside p v after))
+  value_named : (t : Place) → IsKeyed t → (p : Place) (v : Value) (after : List ℕ)
+      → pairs_at (of_value p v) t ≡ named_in t (flat_map paired_value (valued p v after ∷ inside p v after))
   value_named t keyed p (basic ps) after = refl
   value_named t keyed p (literal text) after = refl
   value_named t keyed p (multi_basic ps) after = refl
@@ -121,18 +145,23 @@ mutual
   value_named t keyed p (datetime d) after = refl
   value_named t keyed p (array g es) after = elements_named t keyed p 0 es (right_bracket ∷ after)
   value_named t keyed p (inline g ms) after =
-      members_named t keyed p ms (right_brace ∷ after) ∙ sym (named_append t (paired_members p ms (right_brace ∷ after)) (flat_map paired_value (in_members p ms (right_brace ∷ after))))
+      members_named t keyed p ms (right_brace ∷ after) ∙
+      sym (named_append t (paired_members p ms (right_brace ∷ after))
+      (flat_map paired_value (in_members p ms (right_brace ∷ after))))
 
-  elements_named : (t : Place) → IsKeyed t → (p : Place) (i : ℕ) (es : Elements) (rest : List ℕ) → pairs_at (of_elements p i es) t ≡ named_in t (flat_map paired_value (in_elements p i es rest))
+  elements_named : (t : Place) → IsKeyed t → (p : Place) (i : ℕ) (es : Elements) (rest : List ℕ)
+      → pairs_at (of_elements p i es) t ≡ named_in t (flat_map paired_value (in_elements p i es rest))
   elements_named t keyed p i no_elements rest = refl
   elements_named t keyed p i (last_element v g) rest =
       let q = at p (index i) in
-      ap (λ b. cond b (suc (pairs_at (of_value q v) t)) (pairs_at (of_value q v) t)) (element_else t p i keyed) ∙ value_named t keyed q v (gap g rest)
+      ap (λ b. cond b (suc (pairs_at (of_value q v) t)) (pairs_at (of_value q v) t))
+      (element_else t p i keyed) ∙ value_named t keyed q v (gap g rest)
   elements_named t keyed p i (element v g h es) rest =
       let q = at p (index i) in
       let more = of_value q v ++ of_elements p (suc i) es in
       let after = gap g (comma ∷ gap h (elements es rest)) in
-      let skip : cond (same_place q t) (suc (pairs_at more t)) (pairs_at more t) ≡ pairs_at more t = ap (λ b. cond b (suc (pairs_at more t)) (pairs_at more t)) (element_else t p i keyed) in
+      let skip : cond (same_place q t) (suc (pairs_at more t)) (pairs_at more t) ≡ pairs_at more t =
+      ap (λ b. cond b (suc (pairs_at more t)) (pairs_at more t)) (element_else t p i keyed) in
       omega (
         arith,
         skip,
@@ -143,7 +172,8 @@ mutual
       )
 
   members_named : (t : Place) → IsKeyed t → (p : Place) (ms : Members) (rest : List ℕ)
-      → pairs_at (of_members p ms) t ≡ named_in t (paired_members p ms rest) + named_in t (flat_map paired_value (in_members p ms rest))
+      → pairs_at (of_members p ms) t ≡ named_in t (paired_members p ms rest) + named_in t
+      (flat_map paired_value (in_members p ms rest))
   members_named t keyed p no_members rest = refl
   members_named t keyed p (last_member k a b v c) rest =
       let q = named p (names k) in
@@ -170,18 +200,22 @@ mutual
 
 -- ---- lines
 
-fronts_none : (earlier : List Assertion) (by q : Place) (ns : List (List ℕ)) (t : Place) → pairs_at (fronts earlier by q ns) t ≡ 0
+fronts_none : (earlier : List Assertion) (by q : Place) (ns : List (List ℕ)) (t : Place)
+    → pairs_at (fronts earlier by q ns) t ≡ 0
 fronts_none earlier by q [] t = refl
 fronts_none earlier by q (n ∷ []) t = refl
 fronts_none earlier by q (n ∷ m ∷ ns) t = fronts_none earlier by (resolved earlier (at q (key n))) (m ∷ ns) t
 
 -- what a statement asserts, with this text behind it
-statement_named : (t : Place) → IsKeyed t → (s : Stated) → pairs_at (of_statement s.earlier s.prefix s.statement) t
-    ≡ named_in t (paired_statement s) + named_in t (flat_map paired_value (in_statement s.prefix s.statement s.behind))
+statement_named : (t : Place) → IsKeyed t → (s : Stated)
+    → pairs_at (of_statement s.earlier s.prefix s.statement) t
+    ≡ named_in t (paired_statement s) + named_in t
+    (flat_map paired_value (in_statement s.prefix s.statement s.behind))
 statement_named t keyed s = go s.statement
   where
     go : (x : Statement) → pairs_at (of_statement s.earlier s.prefix x) t
-        ≡ named_in t (paired_statement (record s { statement = x })) + named_in t (flat_map paired_value (in_statement s.prefix x s.behind))
+        ≡ named_in t (paired_statement (record s { statement = x })) + named_in t
+        (flat_map paired_value (in_statement s.prefix x s.behind))
     go (pair k a b v) =
         let q = named s.prefix (names k) in
         omega (
@@ -193,18 +227,26 @@ statement_named t keyed s = go s.statement
         )
     go (header a k b) =
         let place = header_place s.earlier [] (names k) in
-        omega (arith, pairs_append (fronts s.earlier place [] (names k)) (asserts place place header_kind ∷ []) t, fronts_none s.earlier place [] (names k) t)
+        omega (
+          arith,
+          pairs_append (fronts s.earlier place [] (names k))
+              (asserts place place header_kind ∷ []) t,
+          fronts_none s.earlier place [] (names k) t,
+        )
     go (element_header a k b) =
         let place = header_place s.earlier [] (names k) in
         let last = at place (index (elements_at s.earlier place)) in
         omega (
           arith,
-          pairs_append (fronts s.earlier last [] (names k)) (asserts last place array_kind ∷ asserts last last element_kind ∷ []) t,
+          pairs_append (fronts s.earlier last [] (names k))
+              (asserts last place array_kind ∷ asserts last last element_kind ∷ []) t,
           fronts_none s.earlier last [] (names k) t,
         )
 
-lines_named : (t : Place) → IsKeyed t → (earlier : List Assertion) (prefix : Place) (ls : Lines) → pairs_at (of_lines earlier prefix ls) t
-    ≡ pairs_at earlier t + (named_in t (flat_map paired_statement (stated_in earlier prefix ls)) + named_in t (flat_map paired_value (in_lines earlier prefix ls)))
+lines_named : (t : Place) → IsKeyed t → (earlier : List Assertion) (prefix : Place) (ls : Lines)
+    → pairs_at (of_lines earlier prefix ls) t
+    ≡ pairs_at earlier t + (named_in t (flat_map paired_statement (stated_in earlier prefix ls)) + named_in t
+    (flat_map paired_value (in_lines earlier prefix ls)))
 lines_named t keyed earlier prefix (one_line (empty_line a c)) = omega arith
 lines_named t keyed earlier prefix (one_line (full_line a s b c)) =
     let x = stated_line earlier prefix a s (b · comment c []) [] [] in
@@ -230,5 +272,7 @@ lines_named t keyed earlier prefix (more_lines (full_line a s b c) e ls) =
     )
 
 -- the pairs that name a place, as the definition counts them
-pub pairs_named : (t : Place) → IsKeyed t → (form : Text) → named_in t (line_pairs form ++ inner_pairs form) ≡ pairs_at (assertions form) t
-pairs_named t keyed form = omega (arith, named_append t (line_pairs form) (inner_pairs form), lines_named t keyed [] [] form.lines)
+pub pairs_named : (t : Place) → IsKeyed t → (form : Text)
+    → named_in t (line_pairs form ++ inner_pairs form) ≡ pairs_at (assertions form) t
+pairs_named t keyed form =
+    omega (arith, named_append t (line_pairs form) (inner_pairs form), lines_named t keyed [] [] form.lines)

@@ -34,12 +34,18 @@ pub record Shows (s s2 : Spot) (x : Step) : Type 0 where
   pub names : names_of s2 ≡ names_of s ++ key_names (x ∷ [])
   pub count : length s2.elements ≡ more_elements x (length s.elements)
 
-counted : (made : List Assertion) (a : Assertion) (p : Place) (x : Step) → a.place ≡ at p x → is_element a.kind ≡ is_index x → elements_below (made ++ a ∷ []) p ≡ more_elements x (elements_below made p)
+counted : (made : List Assertion) (a : Assertion) (p : Place) (x : Step) → a.place ≡ at p x
+    → is_element a.kind ≡ is_index x → elements_below (made ++ a ∷ []) p
+    ≡ more_elements x (elements_below made p)
 counted made a p (key n) place e = elements_stay made a p e
 counted made a p (index i) place e = elements_grow made a p i e place
 
-module _ (made : List Assertion) (written : List Placed) (spots : List Spot) (t : ℕ) (s s2 : Spot) (x : Step) (a : Assertion) (span : Option Span) (st : Stands made written spots) (here : slice_get spots t ≡ Some s) (gains : Gains s s2 x (length spots)) (shows : Shows s s2 x)
-    (place : a.place ≡ at s.place x) (element : (k : Kind) → first_kind made s.place ≡ Some k → is_headed k ≡ true → is_element a.kind ≡ is_index x) (indexed : (i : ℕ) → x ≡ index i → IsIndexed made s.place i) (few : length s.place < 80) where
+module _ (made : List Assertion) (written : List Placed) (spots : List Spot) (t : ℕ) (s s2 : Spot) (x : Step)
+    (a : Assertion) (span : Option Span) (st : Stands made written spots) (here : slice_get spots t ≡ Some s)
+    (gains : Gains s s2 x (length spots)) (shows : Shows s s2 x)
+    (place : a.place ≡ at s.place x) (element : (k : Kind) → first_kind made s.place ≡ Some k
+    → is_headed k ≡ true → is_element a.kind ≡ is_index x)
+    (indexed : (i : ℕ) → x ≡ index i → IsIndexed made s.place i) (few : length s.place < 80) where
   nothing : kind_at made (at s.place x) ≡ None
   nothing = nothing_below_spot made written spots t s x st here gains.absent
 
@@ -69,41 +75,55 @@ module _ (made : List Assertion) (written : List Placed) (spots : List Spot) (t 
   tells_parent : Tells (made ++ a ∷ []) (written ++ noted a.place span) s2
   tells_parent =
       let k = st.tells t s here in
-      let tells : Tells (made ++ a ∷ []) (written ++ noted a.place span) (record s2 { place = s.place }) = record {
+      let tells : Tells (made ++ a ∷ []) (written ++ noted a.place span) (record s2 { place = s.place }) =
+      record {
         kind = k.kind;
         first = first_stays made a s.place k.kind k.first;
         shape = shows.shape ∙ k.shape;
-        joined = λ root l. allowed_else made a s.place l apart ∙ k.joined root l ∙ ap (λ w. joins w (taken_of l)) (sym shows.taken);
+        joined = λ root l. allowed_else made a s.place l apart ∙ k.joined root l ∙
+            ap (λ w. joins w (taken_of l)) (sym shows.taken);
         names =
-            shows.names ∙ ap (λ (ns : List (List ℕ)). ns ++ key_names (x ∷ [])) k.names ∙ sym (filter_map-append name_of_step (members_of made s.place) (x ∷ []))
+            shows.names ∙ ap (λ (ns : List (List ℕ)). ns ++ key_names (x ∷ [])) k.names ∙
+            sym (filter_map-append name_of_step (members_of made s.place) (x ∷ []))
             ∙ ap key_names (sym (members_new made a s.place x place nothing));
-        count = λ e. shows.count ∙ ap (more_elements x) (k.count e) ∙ sym (counted made a s.place x place (element k.kind k.first e));
+        count = λ e. shows.count ∙ ap (more_elements x) (k.count e) ∙
+            sym (counted made a s.place x place (element k.kind k.first e));
         span = shows.span ∙ k.span ∙ sym (span_else written a.place s.place span apart);
       } in
-      subst (λ (q : Place). Tells (made ++ a ∷ []) (written ++ noted a.place span) (record s2 { place = q })) (sym gains.place) tells
+      subst (λ (q : Place). Tells (made ++ a ∷ []) (written ++ noted a.place span) (record s2 { place = q }))
+      (sym gains.place) tells
 
-  tells_last : Tells (made ++ a ∷ []) (written ++ noted a.place span) (spot_at a.place (shape_of_kind a.kind) (taken_of a.kind) span)
+  tells_last : Tells (made ++ a ∷ []) (written ++ noted a.place span)
+      (spot_at a.place (shape_of_kind a.kind) (taken_of a.kind) span)
   tells_last =
       let under = λ (y : Step). nothing_under made written spots a.place y st inner none in
       record {
         kind = a.kind;
         first = first_is (made ++ a ∷ []) a.place inner ∙ kind_new made a a.place refl none;
         shape = refl;
-        joined = λ root l. allowed_here made a a.place l refl ∙ ap (λ (b : Bool). b && together a.kind l) (allowed_none made a.place l none) ∙ together_is a.kind l;
-        names = ap key_names (sym (members_else made a a.place (λ y e. not_below a.place y (sym e)) ∙ members_none made a.place under));
-        count = λ e. sym (elements_else made a a.place (λ i e. not_below a.place (index i) (sym e)) ∙ elements_none made a.place under);
+        joined = λ root l. allowed_here made a a.place l refl ∙
+            ap (λ (b : Bool). b && together a.kind l) (allowed_none made a.place l none) ∙
+            together_is a.kind l;
+        names = ap key_names
+            (sym (members_else made a a.place (λ y e. not_below a.place y (sym e)) ∙
+            members_none made a.place under));
+        count = λ e. sym (elements_else made a a.place (λ i e. not_below a.place (index i) (sym e)) ∙
+            elements_none made a.place under);
         span = sym (span_here written a.place span (unwritten (span_at written a.place) refl));
       }
     where
       unwritten : (o : Option Span) → span_at written a.place ≡ o → span_at written a.place ≡ None
       unwritten None e = e
-      unwritten (Some w) e = let k = st.spans a.place w e in absurd (let clash : None ≡ Some k.0 = sym none ∙ k.1 in cc)
+      unwritten (Some w) e = let k = st.spans a.place w e in
+          absurd (let clash : None ≡ Some k.0 = sym none ∙ k.1 in cc)
 
-  tells_kept : (i : ℕ) (u : Spot) → (i ≡ t → ⊥) → slice_get spots i ≡ Some u → Tells (made ++ a ∷ []) (written ++ noted a.place span) u
+  tells_kept : (i : ℕ) (u : Spot) → (i ≡ t → ⊥) → slice_get spots i ≡ Some u
+      → Tells (made ++ a ∷ []) (written ++ noted a.place span) u
   tells_kept i u ne g =
       let k = st.tells i u g in
       let off : a.place ≡ u.place → ⊥ = λ e. fresh i u g (sym e ∙ place) in
-      let under : (y : Step) → a.place ≡ at u.place y → ⊥ = λ y e. ne (st.tree.unique i t u s g here (sym (last_same s.place u.place x y (sym place ∙ e)).0)) in
+      let under : (y : Step) → a.place ≡ at u.place y → ⊥ =
+      λ y e. ne (st.tree.unique i t u s g here (sym (last_same s.place u.place x y (sym place ∙ e)).0)) in
       record {
         kind = k.kind;
         first = first_stays made a u.place k.kind k.first;
@@ -114,24 +134,36 @@ module _ (made : List Assertion) (written : List Placed) (spots : List Spot) (t 
         span = k.span ∙ sym (span_else written a.place u.place span off);
       }
 
-  pub gained_grows : Grows spots (slice_set spots t s2 ++ spot_at a.place (shape_of_kind a.kind) (taken_of a.kind) span ∷ [])
-  gained_grows = grown spots t s s2 (spot_at a.place (shape_of_kind a.kind) (taken_of a.kind) span) x st.tree here gains fresh place bare
+  pub gained_grows : Grows spots (slice_set spots t s2 ++ spot_at a.place (shape_of_kind a.kind)
+      (taken_of a.kind) span ∷ [])
+  gained_grows = grown spots t s s2 (spot_at a.place (shape_of_kind a.kind) (taken_of a.kind) span) x st.tree
+      here gains fresh place bare
 
-  pub gained_last : StandsAt (slice_set spots t s2 ++ spot_at a.place (shape_of_kind a.kind) (taken_of a.kind) span ∷ []) (length spots) a.place
+  pub gained_last : StandsAt (slice_set spots t s2 ++ spot_at a.place (shape_of_kind a.kind)
+      (taken_of a.kind) span ∷ []) (length spots) a.place
   gained_last = (
     spot_at a.place (shape_of_kind a.kind) (taken_of a.kind) span,
-    last_is spots t s s2 (spot_at a.place (shape_of_kind a.kind) (taken_of a.kind) span) x st.tree here gains fresh place bare,
+    last_is spots t s s2 (spot_at a.place (shape_of_kind a.kind) (taken_of a.kind) span) x st.tree here gains
+        fresh place bare,
     refl,
   )
 
-  pub stands_gained : Stands (made ++ a ∷ []) (written ++ noted a.place span) (slice_set spots t s2 ++ spot_at a.place (shape_of_kind a.kind) (taken_of a.kind) span ∷ [])
+  pub stands_gained : Stands (made ++ a ∷ []) (written ++ noted a.place span)
+      (slice_set spots t s2 ++ spot_at a.place (shape_of_kind a.kind) (taken_of a.kind) span ∷ [])
   stands_gained = record {
-    tree = tree_gain spots t s s2 (spot_at a.place (shape_of_kind a.kind) (taken_of a.kind) span) x st.tree here gains fresh place bare;
+    tree = tree_gain spots t s s2 (spot_at a.place (shape_of_kind a.kind) (taken_of a.kind) span) x st.tree
+        here gains fresh place bare;
     tells =
-        each_gain spots t s s2 (spot_at a.place (shape_of_kind a.kind) (taken_of a.kind) span) x st.tree here gains fresh place bare (Tells (made ++ a ∷ []) (written ++ noted a.place span)) tells_parent tells_last tells_kept;
+        each_gain spots t s s2 (spot_at a.place (shape_of_kind a.kind) (taken_of a.kind) span) x st.tree here
+        gains fresh place bare (Tells (made ++ a ∷ []) (written ++ noted a.place span)) tells_parent
+        tells_last tells_kept;
     covers = λ p k e. elim (kind_back made a p k e) [
       | inl earlier ↦ let c = st.covers p k earlier in (c.0, gained_grows c.0 p c.1)
-      | inr same ↦ (length spots, subst (λ (q : Place). StandsAt (slice_set spots t s2 ++ spot_at a.place (shape_of_kind a.kind) (taken_of a.kind) span ∷ []) (length spots) q) same gained_last)
+      | inr same ↦ (
+        length spots,
+        subst (λ (q : Place). StandsAt (slice_set spots t s2 ++ spot_at a.place (shape_of_kind a.kind)
+            (taken_of a.kind) span ∷ []) (length spots) q) same gained_last,
+      )
     ];
     rooted = kind_else made a [] inner ∙ st.rooted;
     indexed = λ p i k e. elim (kind_back made a (at p (index i)) k e) [
@@ -141,11 +173,15 @@ module _ (made : List Assertion) (written : List Placed) (spots : List Spot) (t 
           indexed_stays made a p i (subst (λ (q : Place). IsIndexed made q i) steps.0 (indexed i steps.1))
     ];
     spans = λ p w e. written_there p w e;
-    clear = clear_more made a st.clear (allowed_none made a.place a.kind none) (let l : length (at s.place x) ≡ length s.place + 1 = length_push s.place x in let m : length a.place ≡ length (at s.place x) = ap length place in omega arith);
+    clear = clear_more made a st.clear (allowed_none made a.place a.kind none)
+        (let l : length (at s.place x) ≡ length s.place + 1 = length_push s.place x in
+        let m : length a.place ≡ length (at s.place x) = ap length place in omega arith);
   }
     where
-      written_there : (p : Place) (w : Span) → span_at (written ++ noted a.place span) p ≡ Some w → (k : Kind) × (kind_at (made ++ a ∷ []) p ≡ Some k)
+      written_there : (p : Place) (w : Span) → span_at (written ++ noted a.place span) p ≡ Some w → (k : Kind)
+          × (kind_at (made ++ a ∷ []) p ≡ Some k)
       written_there p w e = elim (place_or a.place p) [
         | inl same ↦ (a.kind, kind_new made a p same (ap (kind_at made) (sym same) ∙ none))
-        | inr ne ↦ let k = st.spans p w (sym (span_else written a.place p span ne) ∙ e) in (k.0, kind_stays made a p k.0 k.1)
+        | inr ne ↦ let k = st.spans p w (sym (span_else written a.place p span ne) ∙ e) in
+            (k.0, kind_stays made a p k.0 k.1)
       ]

@@ -14,7 +14,7 @@ use Rattle.edit_document.proofs.LiteralLaws.{literal_is_value, literal_says}
 use Rattle.edit_document.proofs.SamePlace.{same_step_self, last_same}
 use Rattle.edit_document.proofs.SamePlaces.{within_same, below_at}
 use Rattle.edit_document.proofs.WidenedForms.{HasNoArray}
-use Rattle.edit_document.proofs.WidenedViews.{IsUnder}
+use Rattle.edit_document.proofs.WidenedLists.{IsUnder}
 
 -- ---- well formed
 

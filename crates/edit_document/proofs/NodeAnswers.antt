@@ -26,16 +26,21 @@ use Rattle.edit_document.proofs.Views.{Opened, opened, Found, view_spot}
 use Rattle.edit_document.proofs.Wholes.{stands_of}
 
 -- the spots of a document stand for the assertions of its form
-pub stood : (inside : Inside) (d : Shown) (read : IsRead inside) (view : shown_of inside ≡ d) → IsUtf8 (string_bytes inside.text) → (form : Text) → IsManifest d.bytes form
+pub stood : (inside : Inside) (d : Shown) (read : IsRead inside) (view : shown_of inside ≡ d)
+    → IsUtf8 (string_bytes inside.text) → (form : Text) → IsManifest d.bytes form
     → Stands (assertions form) (map placed (values form)) (opened inside d read view).spots
 unfolding opened
 stood inside d read view u form manifest =
     subst (λ g. Stands (assertions g) (map placed (values g)) read.spots)
-    (one_form d.bytes read.form form (subst (λ b. IsManifest b read.form) (shown_bytes inside d view) read.manifest) manifest) (stands_of inside read u)
+    (one_form d.bytes read.form form
+    (subst (λ b. IsManifest b read.form) (shown_bytes inside d view) read.manifest) manifest)
+    (stands_of inside read u)
 
 -- a node that is a member
-module _ (d : Shown) (nodes : List Node) (opens : Opened d nodes) (n : ℕ) (node : Node) (f : Found d nodes opens.spots n node) (form : Text)
-    (st : Stands (assertions form) (map placed (values form)) opens.spots) (upper : Place) (name : List ℕ) (place : place_numbered d n ≡ at upper (key name)) where
+module _ (d : Shown) (nodes : List Node) (opens : Opened d nodes) (n : ℕ) (node : Node)
+    (f : Found d nodes opens.spots n node) (form : Text)
+    (st : Stands (assertions form) (map placed (values form)) opens.spots) (upper : Place) (name : List ℕ)
+    (place : place_numbered d n ≡ at upper (key name)) where
   there : f.spot.place ≡ at upper (key name)
   there = sym f.place ∙ place
 
@@ -46,19 +51,24 @@ module _ (d : Shown) (nodes : List Node) (opens : Opened d nodes) (n : ℕ) (nod
   taken t e = sym f.keeps.taken ∙ e
 
   pub value_answer : node.taken ≡ Value → is_one_statement form (place_numbered d n) ≡ true
-  value_answer e = here_is ∙ value_states form opens.spots n f.spot st f.stands upper name there (taken Value e)
+  value_answer e = here_is ∙ value_states form opens.spots n f.spot st f.stands upper name there
+      (taken Value e)
 
   pub super_answer : node.taken ≡ Super → is_one_statement form (place_numbered d n) ≡ false
-  super_answer e = here_is ∙ super_states form opens.spots n f.spot st f.stands upper name there (taken Super e)
+  super_answer e = here_is ∙ super_states form opens.spots n f.spot st f.stands upper name there
+      (taken Super e)
 
   pub array_answer : node.taken ≡ Array → is_one_statement form (place_numbered d n) ≡ false
-  array_answer e = here_is ∙ array_states form opens.spots n f.spot st f.stands upper name there (taken Array e)
+  array_answer e = here_is ∙ array_states form opens.spots n f.spot st f.stands upper name there
+      (taken Array e)
 
   pub header_answer : node.taken ≡ Header → is_one_statement form (place_numbered d n) ≡ false
-  header_answer e = here_is ∙ headed_states form opens.spots n f.spot st f.stands upper name there Header (taken Header e) refl refl
+  header_answer e = here_is ∙ headed_states form opens.spots n f.spot st f.stands upper name there Header
+      (taken Header e) refl refl
 
   pub element_answer : node.taken ≡ Element → is_one_statement form (place_numbered d n) ≡ false
-  element_answer e = here_is ∙ headed_states form opens.spots n f.spot st f.stands upper name there Element (taken Element e) refl refl
+  element_answer e = here_is ∙ headed_states form opens.spots n f.spot st f.stands upper name there Element
+      (taken Element e) refl refl
 
   -- the names that are seen are the spot's
   names_are : node.taken ≡ Dotted → names_in (view_numbered d n) ≡ names_of f.spot
@@ -68,14 +78,18 @@ module _ (d : Shown) (nodes : List Node) (opens : Opened d nodes) (n : ℕ) (nod
 
   pub only_answer : node.taken ≡ Dotted → (m : ℕ) → HasMember d n (Some m) → Answers form d n (AsMember m)
   only_answer e m h = (
-    here_is ∙ only_states form opens.spots n f.spot st f.stands upper name there (taken Dotted e) h.0 (sym (names_are e) ∙ h.1)
-        ∙ ap (λ p. is_one_statement form (at p (key h.0))) (sym f.place) ∙ ap (λ p. is_one_statement form p) (sym h.2.1),
+    here_is ∙ only_states form opens.spots n f.spot st f.stands upper name there (taken Dotted e) h.0
+        (sym (names_are e) ∙ h.1)
+        ∙ ap (λ p. is_one_statement form (at p (key h.0))) (sym f.place) ∙
+        ap (λ p. is_one_statement form p) (sym h.2.1),
     (h.0, h.2),
   )
 
-  pub other_answer : node.taken ≡ Dotted → HasMember d n None → is_one_statement form (place_numbered d n) ≡ false
+  pub other_answer : node.taken ≡ Dotted → HasMember d n None
+      → is_one_statement form (place_numbered d n) ≡ false
   other_answer e h =
-      here_is ∙ other_states form opens.spots n f.spot st f.stands upper name there (taken Dotted e) (λ one. h (ap length (names_are e) ∙ one))
+      here_is ∙ other_states form opens.spots n f.spot st f.stands upper name there (taken Dotted e)
+      (λ one. h (ap length (names_are e) ∙ one))
 
 -- ---- the only member
 
@@ -88,8 +102,11 @@ pub first_none : (ns : List (List ℕ)) → slice_get ns 0 ≡ None → length n
 first_none [] e f = omega (arith, f)
 first_none (m ∷ ns) e f = cc
 
-pub only_found : (d : Shown) (n : ℕ) (name : List ℕ) (r : Option ℕ) → length (names_in (view_numbered d n)) ≡ 1 → slice_get (names_in (view_numbered d n)) 0 ≡ Some name
-    → ((step : Step) (i : ℕ) → nth_part (view_numbered d n) i ≡ Some step → tree_of d (at (place_numbered d n) step) ≡ None → ⊥) → AreNames (view_numbered d n)
+pub only_found : (d : Shown) (n : ℕ) (name : List ℕ) (r : Option ℕ)
+    → length (names_in (view_numbered d n)) ≡ 1 → slice_get (names_in (view_numbered d n)) 0 ≡ Some name
+    → ((step : Step) (i : ℕ) → nth_part (view_numbered d n) i ≡ Some step
+    → tree_of d (at (place_numbered d n) step) ≡ None → ⊥) → AreNames (view_numbered d n)
     → Numbers d (at (place_numbered d n) (key name)) r → HasMember d n r
 only_found d n name None one first stands names none = absurd (stands (key name) 0 (names 0 name first) none)
-only_found d n name (Some m) one first stands names h = (name, single (names_in (view_numbered d n)) name one first, (h.2, h.1))
+only_found d n name (Some m) one first stands names h =
+    (name, single (names_in (view_numbered d n)) name one first, (h.2, h.1))

@@ -22,7 +22,8 @@ use Rattle.edit_document.proofs.NamedPairs.{IsKeyed}
 use Rattle.edit_document.proofs.OnceLists.{apart_once, names_apart}
 use Rattle.edit_document.proofs.OneStatements.{first_fits, leaf_alone, none_alone, headed_alone, at_cons, only_alone, bare_alone, two_alone}
 use Rattle.edit_document.proofs.SamePlace.{last_same, not_root}
-use Rattle.edit_document.proofs.Views.{names_keys, view_of_spot}
+use Rattle.edit_document.proofs.Views.{view_of_spot}
+use Rattle.edit_document.proofs.MemberViews.{names_keys}
 use Rattle.edit_document.proofs.Wholes.{name_at, number_at}
 
 -- what goes with an assertion that goes with headers goes with headers too
@@ -53,7 +54,8 @@ array_through header_kind f = absurd (true≢false (sym f))
 array_through element_kind f = absurd (true≢false (sym f))
 
 -- a table has its members' names
-table_names : (s : Spot) (k : Kind) → together k (dotted false) ≡ true → names_in (view_of_shape (shape_of_kind k) (names_of s) (length s.elements)) ≡ names_of s
+table_names : (s : Spot) (k : Kind) → together k (dotted false) ≡ true
+    → names_in (view_of_shape (shape_of_kind k) (names_of s) (length s.elements)) ≡ names_of s
 table_names s (dotted true) e = names_keys (names_of s)
 table_names s (dotted false) e = names_keys (names_of s)
 table_names s super e = names_keys (names_of s)
@@ -75,7 +77,8 @@ first_apart : zero ≡ suc zero → ⊥
 first_apart e = cc
 
 -- a node whose place is that of a member
-module _ (form : Text) (spots : List Spot) (n : ℕ) (s : Spot) (st : Stands (assertions form) (map placed (values form)) spots) (here : slice_get spots n ≡ Some s)
+module _ (form : Text) (spots : List Spot) (n : ℕ) (s : Spot)
+    (st : Stands (assertions form) (map placed (values form)) spots) (here : slice_get spots n ≡ Some s)
     (q : Place) (name : List ℕ) (place : s.place ≡ at q (key name)) where
   made : List Assertion
   made = assertions form
@@ -102,12 +105,14 @@ module _ (form : Text) (spots : List Spot) (n : ℕ) (s : Spot) (st : Stands (as
   alone_is = one_statement_is s.place keyed form
 
   -- a value is one pair's
-  value_kind : s.taken ≡ ByValue → (k : Kind) → kind_at (assertions form) s.place ≡ Some k → (v : Value) × (k ≡ leaf v)
+  value_kind : s.taken ≡ ByValue → (k : Kind) → kind_at (assertions form) s.place ≡ Some k → (v : Value)
+      × (k ≡ leaf v)
   value_kind taken k e = go k e
     where
       through : (k : Kind) → kind_at (assertions form) s.place ≡ Some k → together k super ≡ true → ⊥
       through k e f =
-          true≢false (sym (first_allows (assertions form) s.place k super st.clear.apart e f (λ l g. goes_through k l f g))
+          true≢false (sym (first_allows (assertions form) s.place k super st.clear.apart e f
+          (λ l g. goes_through k l f g))
           ∙ joined super ∙ ap (λ t. joins t Super) taken)
 
       go : (k : Kind) → kind_at (assertions form) s.place ≡ Some k → (v : Value) × (k ≡ leaf v)
@@ -117,28 +122,35 @@ module _ (form : Text) (spots : List Spot) (n : ℕ) (s : Spot) (st : Stands (as
       go header_kind e = absurd (through header_kind e refl)
       go element_kind e = absurd (through element_kind e refl)
       go array_kind e =
-          absurd (true≢false (sym (first_allows (assertions form) s.place array_kind array_kind st.clear.apart e refl array_through)
+          absurd (true≢false (sym
+          (first_allows (assertions form) s.place array_kind array_kind st.clear.apart e refl array_through)
           ∙ joined array_kind ∙ ap (λ t. joins t Array) taken))
 
   pub value_states : s.taken ≡ ByValue → is_one_statement form s.place ≡ true
   value_states taken =
       let v = value_kind taken (st.tells n s here).kind asserted in
       let e = asserted ∙ ap Some v.1 in
-      alone_is ∙ subst (λ p. kind_at (assertions form) p ≡ Some (leaf v.0) → is_alone (assertions form) p ≡ true) (sym split.2) (leaf_alone form split.0 split.1 v.0 st.clear.apart) e
+      alone_is ∙ subst (λ p. kind_at (assertions form) p ≡ Some (leaf v.0)
+      → is_alone (assertions form) p ≡ true) (sym split.2)
+      (leaf_alone form split.0 split.1 v.0 st.clear.apart) e
 
   pub super_states : s.taken ≡ Super → is_one_statement form s.place ≡ false
   super_states taken =
-      alone_is ∙ none_alone (assertions form) s.place (header_none (assertions form) s.place (joined header_kind ∙ ap (λ t. joins t Header) taken))
+      alone_is ∙ none_alone (assertions form) s.place
+      (header_none (assertions form) s.place (joined header_kind ∙ ap (λ t. joins t Header) taken))
 
   pub array_states : s.taken ≡ Array → is_one_statement form s.place ≡ false
   array_states taken =
-      alone_is ∙ none_alone (assertions form) s.place (array_none (assertions form) s.place (joined array_kind ∙ ap (λ t. joins t Array) taken))
+      alone_is ∙ none_alone (assertions form) s.place
+      (array_none (assertions form) s.place (joined array_kind ∙ ap (λ t. joins t Array) taken))
 
   -- a header is none
-  pub headed_states : (t : Taken) → s.taken ≡ t → joins t Super ≡ true → joins t Dotted ≡ false → is_one_statement form s.place ≡ false
+  pub headed_states : (t : Taken) → s.taken ≡ t → joins t Super ≡ true → joins t Dotted ≡ false
+      → is_one_statement form s.place ≡ false
   headed_states t taken e f =
       alone_is ∙ headed_alone (assertions form) s.place (headed_up form s.place
-      (headed_here (assertions form) s.place (joined super ∙ ap (λ t. joins t Super) taken ∙ e) (joined (dotted false) ∙ ap (λ t. joins t Dotted) taken ∙ f)))
+      (headed_here (assertions form) s.place (joined super ∙ ap (λ t. joins t Super) taken ∙ e)
+      (joined (dotted false) ∙ ap (λ t. joins t Dotted) taken ∙ f)))
 
   -- ---- tables that dotted keys alone go through
 
@@ -154,14 +166,19 @@ module _ (form : Text) (spots : List Spot) (n : ℕ) (s : Spot) (st : Stands (as
         ap (λ x. names_in (view_of_shape x (names_of s) (length s.elements))) (st.tells n s here).shape
         ∙ table_names s (st.tells n s here).kind fits
 
-    member_stands : (i : ℕ) (m : List ℕ) → slice_get (names_of s) i ≡ Some m → (k : Kind) × (kind_at (assertions form) (at s.place (key m)) ≡ Some k)
+    member_stands : (i : ℕ) (m : List ℕ) → slice_get (names_of s) i ≡ Some m → (k : Kind)
+        × (kind_at (assertions form) (at s.place (key m)) ≡ Some k)
     member_stands i m e =
         let j = number_at s.members m i e in
         let u = st.tree.down n j.0 s (key m) here j.1 in
-        let t = st.tells j.0 u.0 u.1 in
-        (t.kind, ap (λ p. kind_at (assertions form) p) (sym u.2) ∙ was_asserted t (λ root. not_root s.place (key m) (sym u.2 ∙ root)))
+        let t = st.tells j.0 u.0 u.1 in (
+          t.kind,
+          ap (λ p. kind_at (assertions form) p) (sym u.2) ∙
+              was_asserted t (λ root. not_root s.place (key m) (sym u.2 ∙ root)),
+        )
 
-    member_named : (x : Step) (k : Kind) → kind_at (assertions form) (at s.place x) ≡ Some k → (i : ℕ) × (m : List ℕ) × (slice_get (names_of s) i ≡ Some m) × (x ≡ key m)
+    member_named : (x : Step) (k : Kind) → kind_at (assertions form) (at s.place x) ≡ Some k → (i : ℕ)
+        × (m : List ℕ) × (slice_get (names_of s) i ≡ Some m) × (x ≡ key m)
     member_named (key m) k e =
         let c = st.covers (at s.place (key m)) k e in
         let b = step_below (assertions form) (map placed (values form)) spots n s (key m) st here c.0 c.1 in
@@ -169,13 +186,17 @@ module _ (form : Text) (spots : List Spot) (n : ℕ) (s : Spot) (st : Stands (as
         (i.0, m, i.1, refl)
     member_named (index i) k e =
         let l = st.indexed s.place i k e in
-        let same : l.kind ≡ (st.tells n s here).kind = same_Some l.kind (st.tells n s here).kind (sym l.first ∙ (st.tells n s here).first) in
+        let same : l.kind ≡ (st.tells n s here).kind = same_Some l.kind (st.tells n s here).kind
+        (sym l.first ∙ (st.tells n s here).first) in
         absurd (lists_none (st.tells n s here).kind i fits (subst (λ x. Lists x i) same l.lists))
 
-    pub only_states : (m : List ℕ) → names_of s ≡ m ∷ [] → is_one_statement form s.place ≡ is_one_statement form (at s.place (key m))
+    pub only_states : (m : List ℕ) → names_of s ≡ m ∷ []
+        → is_one_statement form s.place ≡ is_one_statement form (at s.place (key m))
     only_states m names =
         alone_is
-        ∙ subst (λ p. allowed (assertions form) p (dotted false) ≡ true → ((x : Step) (k : Kind) → kind_at (assertions form) (at p x) ≡ Some k → x ≡ key m) → is_alone (assertions form) p ≡ is_alone (assertions form) (at p (key m)))
+        ∙ subst (λ p. allowed (assertions form) p (dotted false) ≡ true
+        → ((x : Step) (k : Kind) → kind_at (assertions form) (at p x) ≡ Some k → x ≡ key m)
+        → is_alone (assertions form) p ≡ is_alone (assertions form) (at p (key m)))
         (sym split.2) (only_alone form split.0 split.1 m) free only
         ∙ sym (one_statement_is (at s.place (key m)) below_keyed form)
       where
@@ -202,18 +223,24 @@ module _ (form : Text) (spots : List Spot) (n : ℕ) (s : Spot) (st : Stands (as
 
         go : (ns : List (List ℕ)) → names_of s ≡ ns → is_alone (assertions form) s.place ≡ false
         go [] e =
-            subst (λ p. allowed (assertions form) p (dotted false) ≡ true → ((x : Step) (k : Kind) → kind_at (assertions form) (at p x) ≡ Some k → ⊥) → is_alone (assertions form) p ≡ false)
+            subst (λ p. allowed (assertions form) p (dotted false) ≡ true
+            → ((x : Step) (k : Kind) → kind_at (assertions form) (at p x) ≡ Some k → ⊥)
+            → is_alone (assertions form) p ≡ false)
             (sym split.2) (bare_alone form split.0 split.1) free (none e)
         go (m ∷ []) e = absurd (ne (ap length e))
         go (l ∷ m ∷ ns) e =
             let a = member_stands 0 l (ap (λ ns. slice_get ns 0) e) in
             let b = member_stands 1 m (ap (λ ns. slice_get ns 1) e) in
-            subst (λ p. allowed (assertions form) p (dotted false) ≡ true → kind_at (assertions form) (at p (key l)) ≡ Some a.0 → kind_at (assertions form) (at p (key m)) ≡ Some b.0 → is_alone (assertions form) p ≡ false)
+            subst (λ p. allowed (assertions form) p (dotted false) ≡ true
+            → kind_at (assertions form) (at p (key l)) ≡ Some a.0
+            → kind_at (assertions form) (at p (key m)) ≡ Some b.0 → is_alone (assertions form) p ≡ false)
             (sym split.2) (λ f g h. two_alone form split.0 split.1 l m a.0 b.0 f apart g h) free a.1 b.1
           where
-            names : (i : ℕ) (x : List ℕ) → slice_get (l ∷ m ∷ ns) i ≡ Some x → slice_get (key_names (members_of (assertions form) s.place)) i ≡ Some x
+            names : (i : ℕ) (x : List ℕ) → slice_get (l ∷ m ∷ ns) i ≡ Some x
+                → slice_get (key_names (members_of (assertions form) s.place)) i ≡ Some x
             names i x f = ap (λ ns. slice_get ns i) (sym ((st.tells n s here).names) ∙ e) ∙ f
 
             apart : l ≡ m → ⊥
             apart same =
-                first_apart (names_apart (members_of (assertions form) s.place) (apart_once _) 0 1 l (names 0 l refl) (names 1 l (ap Some (sym same))))
+                first_apart (names_apart (members_of (assertions form) s.place) (apart_once _) 0 1 l
+                (names 0 l refl) (names 1 l (ap Some (sym same))))

@@ -1,16 +1,13 @@
--- Each asserted place lies directly below the root or below a place that an earlier assertion opens; so nothing is
+-- Each asserted place lies directly below the root or below a place that an earlier assertion opens; so
+-- nothing is
 -- asserted below a place that has a plain value.
-use Rattle.std.proofs.Common.{◌≡◌, ℕ, suc, Bool, true, false, ◌-◌, nat_lt, if◌then◌else◌, cond, List, [], ◌∷◌, ◌++◌, map, None, Some, refl, sym, ap, ap₂, ◌∙◌, subst, ◌⊎◌, inl, inr, ⊎_elim, true≢false, append_assoc}
-use Rattle.std.proofs.lemmas.Bool.{and_parts, and_from}
-use Rattle.std.specs.List.{AllByRecursion}
+use Rattle.std.proofs.Common.{◌≡◌, ℕ, suc, Bool, true, false, ◌-◌, nat_lt, if◌then◌else◌, cond, List, [], ◌∷◌, ◌++◌, map, refl, sym, ap, ◌∙◌, subst, ◌⊎◌, inl, inr, append_assoc}
+use Rattle.std.proofs.lemmas.Bool.{and_parts}
 use Rattle.edit_syntax.specs.Strings.{Key, name}
 use Rattle.edit_syntax.specs.Grammar.{Value, basic, literal, multi_basic, multi_literal, boolean, integer, float, datetime, array, inline, Elements, no_elements, last_element, element, Members, no_members, last_member, member, Statement, pair, header, element_header, empty_line, full_line, Lines, one_line, more_lines, Text}
-use Rattle.edit_document.specs.Assertions.{Place, Step, key, index, at, same_step, same_place, Kind, dotted, leaf, super, header_kind, array_kind, element_kind, Assertion, asserts, names, named, of_key, of_value, of_elements, of_members, of_pair, is_array, is_array_at, elements_at, resolved, fronts, header_place, of_statement, prefix_after, of_lines, assertions, together, NoClash}
-use Rattle.edit_document.specs.Tree.{kind_at}
-use Rattle.edit_document.specs.Replaces.{is_below}
-use Rattle.edit_document.proofs.ThinnedLines.{leaf_alone}
+use Rattle.edit_document.specs.Assertions.{Place, Step, key, index, at, same_place, Kind, dotted, leaf, super, header_kind, array_kind, element_kind, Assertion, asserts, names, named, of_key, of_value, of_elements, of_members, of_pair, is_array, is_array_at, elements_at, resolved, fronts, header_place, of_statement, prefix_after, of_lines, assertions}
 use Rattle.edit_syntax.proofs.Cases.{by_test}
-use Rattle.edit_document.proofs.SamePlace.{same_step_is, same_place_is, same_place_self}
+use Rattle.edit_document.proofs.SamePlace.{same_place_is}
 
 -- places may lie below one of this kind
 abbrev pub opens : Kind → Bool
@@ -34,11 +31,14 @@ onto (x ∷ xs) base = onto xs (x ∷ base)
 
 pub data Rooted : List Assertion → List Assertion → Type 0 where
   done : (base : List Assertion) → Rooted base []
-  next : (base : List Assertion) (x : Assertion) (xs : List Assertion) (p : Place) (s : Step) → x.place ≡ at p s → Stands base p → Rooted (x ∷ base) xs → Rooted base (x ∷ xs)
+  next : (base : List Assertion) (x : Assertion) (xs : List Assertion) (p : Place) (s : Step)
+      → x.place ≡ at p s → Stands base p → Rooted (x ∷ base) xs → Rooted base (x ∷ xs)
 
-rooted_append : (base xs ys : List Assertion) → Rooted base xs → Rooted (onto xs base) ys → Rooted base (xs ++ ys)
+rooted_append : (base xs ys : List Assertion) → Rooted base xs → Rooted (onto xs base) ys
+    → Rooted base (xs ++ ys)
 rooted_append base xs ys (done b) more = more
-rooted_append base xs ys (next b x zs p s e st r) more = next b x (zs ++ ys) p s e st (rooted_append (x ∷ b) zs ys r more)
+rooted_append base xs ys (next b x zs p s e st r) more =
+    next b x (zs ++ ys) p s e st (rooted_append (x ∷ b) zs ys r more)
 
 onto_append : (xs ys base : List Assertion) → onto (xs ++ ys) base ≡ onto ys (onto xs base)
 onto_append [] ys base = refl
@@ -59,22 +59,28 @@ opened_right (x ∷ xs) ys p o = inr (opened_right xs ys p o)
 
 -- ---- pairs and values
 
-rooted_key : (base : List Assertion) (w : Bool) (by p : Place) (ns : List (List ℕ)) (v : Value) → Stands base p → Rooted base (of_key w by p ns v)
+rooted_key : (base : List Assertion) (w : Bool) (by p : Place) (ns : List (List ℕ)) (v : Value)
+    → Stands base p → Rooted base (of_key w by p ns v)
 rooted_key base w by p [] v st = done base
 rooted_key base w by p (n ∷ []) v st = next base _ [] p (key n) refl st (done _)
-rooted_key base w by p (n ∷ m ∷ ns) v st = next base _ _ p (key n) refl st (rooted_key _ w by (at p (key n)) (m ∷ ns) v (inr (inl (refl, refl))))
+rooted_key base w by p (n ∷ m ∷ ns) v st = next base _ _ p (key n) refl st
+    (rooted_key _ w by (at p (key n)) (m ∷ ns) v (inr (inl (refl, refl))))
 
-opened_key : (base : List Assertion) (w : Bool) (by p : Place) (n : List ℕ) (ns : List (List ℕ)) (v : Value) → opens (leaf v) ≡ true → Opened (onto (of_key w by p (n ∷ ns) v) base) (named p (n ∷ ns))
+opened_key : (base : List Assertion) (w : Bool) (by p : Place) (n : List ℕ) (ns : List (List ℕ)) (v : Value)
+    → opens (leaf v) ≡ true → Opened (onto (of_key w by p (n ∷ ns) v) base) (named p (n ∷ ns))
 opened_key base w by p n [] v o = inl (refl, o)
 opened_key base w by p n (m ∷ ns) v o =
-    subst (λ q. Opened (onto (of_key w by (at p (key n)) (m ∷ ns) v) (asserts by (at p (key n)) (dotted w) ∷ base)) q) (append_assoc p (key n ∷ []) (map key (m ∷ ns)))
+    subst (λ q. Opened (onto (of_key w by (at p (key n)) (m ∷ ns) v)
+    (asserts by (at p (key n)) (dotted w) ∷ base)) q) (append_assoc p (key n ∷ []) (map key (m ∷ ns)))
     (opened_key (asserts by (at p (key n)) (dotted w) ∷ base) w by (at p (key n)) m ns v o)
 
-opened_named : (base : List Assertion) (w : Bool) (by p : Place) (k : Key) (v : Value) → opens (leaf v) ≡ true → Opened (onto (of_key w by p (names k) v) base) (named p (names k))
+opened_named : (base : List Assertion) (w : Bool) (by p : Place) (k : Key) (v : Value) → opens (leaf v) ≡ true
+    → Opened (onto (of_key w by p (names k) v) base) (named p (names k))
 opened_named base w by p k v o = opened_key base w by p (name k.first) (map (λ d. name d.part) k.others) v o
 
 mutual
-  rooted_value : (base : List Assertion) (p : Place) (v : Value) → (opens (leaf v) ≡ true → Opened base p) → Rooted base (of_value p v)
+  rooted_value : (base : List Assertion) (p : Place) (v : Value) → (opens (leaf v) ≡ true → Opened base p)
+      → Rooted base (of_value p v)
   rooted_value base p (basic ps) o = done base
   rooted_value base p (literal t) o = done base
   rooted_value base p (multi_basic ps) o = done base
@@ -86,28 +92,40 @@ mutual
   rooted_value base p (array g es) o = rooted_elements base p 0 es (o refl)
   rooted_value base p (inline g ms) o = rooted_members base p ms (o refl)
 
-  rooted_elements : (base : List Assertion) (p : Place) (i : ℕ) (es : Elements) → Opened base p → Rooted base (of_elements p i es)
+  rooted_elements : (base : List Assertion) (p : Place) (i : ℕ) (es : Elements) → Opened base p
+      → Rooted base (of_elements p i es)
   rooted_elements base p i no_elements o = done base
-  rooted_elements base p i (last_element v g) o = next base _ _ p (index i) refl (inr o) (rooted_value _ (at p (index i)) v (λ c. inl (refl, c)))
+  rooted_elements base p i (last_element v g) o = next base _ _ p (index i) refl (inr o)
+      (rooted_value _ (at p (index i)) v (λ c. inl (refl, c)))
   rooted_elements base p i (element v g h es) o =
       let x = asserts (at p (index i)) (at p (index i)) (leaf v) in
-      next base _ _ p (index i) refl (inr o) (rooted_append (x ∷ base) (of_value (at p (index i)) v) _ (rooted_value (x ∷ base) (at p (index i)) v (λ c. inl (refl, c)))
+      next base _ _ p (index i) refl (inr o)
+      (rooted_append (x ∷ base) (of_value (at p (index i)) v) _
+      (rooted_value (x ∷ base) (at p (index i)) v (λ c. inl (refl, c)))
       (rooted_elements _ p (suc i) es (opened_onto (of_value (at p (index i)) v) (x ∷ base) p (inr o))))
 
-  rooted_members : (base : List Assertion) (p : Place) (ms : Members) → Opened base p → Rooted base (of_members p ms)
+  rooted_members : (base : List Assertion) (p : Place) (ms : Members) → Opened base p
+      → Rooted base (of_members p ms)
   rooted_members base p no_members o = done base
   rooted_members base p (last_member k a b v c) o =
-      rooted_append base (of_key true (named p (names k)) p (names k) v) _ (rooted_key base true _ p (names k) v (inr o)) (rooted_value _ (named p (names k)) v (opened_named base true _ p k v))
+      rooted_append base (of_key true (named p (names k)) p (names k) v) _
+      (rooted_key base true _ p (names k) v (inr o))
+      (rooted_value _ (named p (names k)) v (opened_named base true _ p k v))
   rooted_members base p (member k a b v c d ms) o =
       let l = of_key true (named p (names k)) p (names k) v in
       let m = of_value (named p (names k)) v in
       rooted_append base (l ++ m) _
-      (rooted_append base l m (rooted_key base true _ p (names k) v (inr o)) (rooted_value _ (named p (names k)) v (opened_named base true _ p k v)))
-      (subst (λ z. Rooted z (of_members p ms)) (sym (onto_append l m base)) (rooted_members _ p ms (opened_onto m (onto l base) p (opened_onto l base p o))))
+      (rooted_append base l m (rooted_key base true _ p (names k) v (inr o))
+      (rooted_value _ (named p (names k)) v (opened_named base true _ p k v)))
+      (subst (λ z. Rooted z (of_members p ms)) (sym (onto_append l m base))
+      (rooted_members _ p ms (opened_onto m (onto l base) p (opened_onto l base p o))))
 
-rooted_pair : (base : List Assertion) (p : Place) (k : Key) (v : Value) → Stands base p → Rooted base (of_pair p k v)
+rooted_pair : (base : List Assertion) (p : Place) (k : Key) (v : Value) → Stands base p
+    → Rooted base (of_pair p k v)
 rooted_pair base p k v st =
-    rooted_append base (of_key false (named p (names k)) p (names k) v) _ (rooted_key base false _ p (names k) v st) (rooted_value _ (named p (names k)) v (opened_named base false _ p k v))
+    rooted_append base (of_key false (named p (names k)) p (names k) v) _
+    (rooted_key base false _ p (names k) v st)
+    (rooted_value _ (named p (names k)) v (opened_named base false _ p k v))
 
 -- ---- headers
 
@@ -123,152 +141,68 @@ counted : (earlier : List Assertion) (q : Place) → nat_lt 0 (elements_at earli
 counted [] q e = absurd cc
 counted (a ∷ earlier) q e =
     by_test (is_array_at q a)
-    (λ h. let b = and_parts (is_array a.kind) (same_place a.place q) h in inl (same_place_is a.place q b.1, array_opens a.kind b.0))
-    (λ h. inr (counted earlier q (sym (ap (λ c. nat_lt 0 (cond c (suc (elements_at earlier q)) (elements_at earlier q))) h) ∙ e)))
+    (λ h. let b = and_parts (is_array a.kind) (same_place a.place q) h in
+    inl (same_place_is a.place q b.1, array_opens a.kind b.0))
+    (λ h. inr (counted earlier q
+    (sym (ap (λ c. nat_lt 0 (cond c (suc (elements_at earlier q)) (elements_at earlier q))) h) ∙ e)))
 
 -- what is to be shown of what follows the fronts
 abbrev Ending : List Assertion → Place → List (List ℕ) → List Assertion → Type 0
-Ending earlier p ns tail = (more : List Assertion) (q : Place) (n : List ℕ) → header_place earlier p ns ≡ at q (key n) → Stands more q → Rooted more tail
+Ending earlier p ns tail = (more : List Assertion) (q : Place) (n : List ℕ)
+    → header_place earlier p ns ≡ at q (key n) → Stands more q → Rooted more tail
 
-rooted_fronts : (earlier base : List Assertion) → ((r : Place) → Opened earlier r → Opened base r) → (by p : Place) (n : List ℕ) (ns : List (List ℕ)) (tail : List Assertion)
+rooted_fronts : (earlier base : List Assertion) → ((r : Place) → Opened earlier r → Opened base r)
+    → (by p : Place) (n : List ℕ) (ns : List (List ℕ)) (tail : List Assertion)
     → Stands base p → Ending earlier p (n ∷ ns) tail → Rooted base (fronts earlier by p (n ∷ ns) ++ tail)
 rooted_fronts earlier base knows by p n [] tail st end = end base p n refl st
 rooted_fronts earlier base knows by p n (m ∷ ns) tail st end =
     let q = at p (key n) in
     let r = resolved earlier q in
     let more : Rooted (asserts by r super ∷ base) (fronts earlier by r (m ∷ ns) ++ tail) =
-    rooted_fronts earlier (asserts by r super ∷ base) (λ z o. inr (knows z o)) by r m ns tail (inr (inl (refl, refl))) end in
+    rooted_fronts earlier (asserts by r super ∷ base) (λ z o. inr (knows z o)) by r m ns tail
+    (inr (inl (refl, refl))) end in
     by_test (nat_lt 0 (elements_at earlier q))
-    (λ h. next base _ _ q (index (elements_at earlier q - 1)) (ap (λ c. if c then at q (index (elements_at earlier q - 1)) else q) h) (inr (knows q (counted earlier q h))) more)
-    (λ h. next base _ _ p (key n) (ap (λ c. if c then at q (index (elements_at earlier q - 1)) else q) h) st more)
+    (λ h. next base _ _ q (index (elements_at earlier q - 1))
+    (ap (λ c. if c then at q (index (elements_at earlier q - 1)) else q) h)
+    (inr (knows q (counted earlier q h))) more)
+    (λ h. next base _ _ p (key n) (ap (λ c. if c then at q (index (elements_at earlier q - 1)) else q) h) st
+    more)
 
-rooted_statement : (earlier : List Assertion) (prefix : Place) (s : Statement) → Stands (onto earlier []) prefix → Rooted (onto earlier []) (of_statement earlier prefix s)
+rooted_statement : (earlier : List Assertion) (prefix : Place) (s : Statement)
+    → Stands (onto earlier []) prefix → Rooted (onto earlier []) (of_statement earlier prefix s)
 rooted_statement earlier prefix (pair k a b v) st = rooted_pair (onto earlier []) prefix k v st
 rooted_statement earlier prefix (header a k b) st =
-    rooted_fronts earlier (onto earlier []) (λ r o. opened_in earlier [] r o) _ [] _ _ _ (inl refl) (λ more q n e stands. next more _ [] q (key n) e stands (done _))
+    rooted_fronts earlier (onto earlier []) (λ r o. opened_in earlier [] r o) _ [] _ _ _ (inl refl)
+    (λ more q n e stands. next more _ [] q (key n) e stands (done _))
 rooted_statement earlier prefix (element_header a k b) st =
     rooted_fronts earlier (onto earlier []) (λ r o. opened_in earlier [] r o) _ [] _ _ _ (inl refl)
-    (λ more q n e stands. next more _ _ q (key n) e stands (next _ _ [] (header_place earlier [] (names k)) (index (elements_at earlier (header_place earlier [] (names k)))) refl (inr (inl (refl, refl))) (done _)))
+    (λ more q n e stands. next more _ _ q (key n) e stands
+    (next _ _ [] (header_place earlier [] (names k))
+    (index (elements_at earlier (header_place earlier [] (names k)))) refl (inr (inl (refl, refl))) (done _)))
 
-stands_after : (earlier : List Assertion) (prefix : Place) (s : Statement) → Stands (onto earlier []) prefix → Stands (onto (of_statement earlier prefix s) (onto earlier [])) (prefix_after earlier prefix s)
+stands_after : (earlier : List Assertion) (prefix : Place) (s : Statement) → Stands (onto earlier []) prefix
+    → Stands (onto (of_statement earlier prefix s) (onto earlier [])) (prefix_after earlier prefix s)
 stands_after earlier prefix (pair k a b v) (inl e) = inl e
-stands_after earlier prefix (pair k a b v) (inr o) = inr (opened_onto (of_pair prefix k v) (onto earlier []) prefix o)
-stands_after earlier prefix (header a k b) st = inr (opened_in (of_statement earlier prefix (header a k b)) (onto earlier []) _ (opened_right (fronts earlier _ [] (names k)) _ _ (inl (refl, refl))))
+stands_after earlier prefix (pair k a b v) (inr o) =
+    inr (opened_onto (of_pair prefix k v) (onto earlier []) prefix o)
+stands_after earlier prefix (header a k b) st =
+    inr (opened_in (of_statement earlier prefix (header a k b)) (onto earlier []) _
+    (opened_right (fronts earlier _ [] (names k)) _ _ (inl (refl, refl))))
 stands_after earlier prefix (element_header a k b) st =
-    inr (opened_in (of_statement earlier prefix (element_header a k b)) (onto earlier []) _ (opened_right (fronts earlier _ [] (names k)) _ _ (inr (inl (refl, refl)))))
+    inr (opened_in (of_statement earlier prefix (element_header a k b)) (onto earlier []) _
+    (opened_right (fronts earlier _ [] (names k)) _ _ (inr (inl (refl, refl)))))
 
-rooted_lines : (earlier : List Assertion) (prefix : Place) (ls : Lines) → Rooted [] earlier → Stands (onto earlier []) prefix → Rooted [] (of_lines earlier prefix ls)
+rooted_lines : (earlier : List Assertion) (prefix : Place) (ls : Lines) → Rooted [] earlier
+    → Stands (onto earlier []) prefix → Rooted [] (of_lines earlier prefix ls)
 rooted_lines earlier prefix (one_line (empty_line a c)) r st = r
-rooted_lines earlier prefix (one_line (full_line a s b c)) r st = rooted_append [] earlier _ r (rooted_statement earlier prefix s st)
+rooted_lines earlier prefix (one_line (full_line a s b c)) r st =
+    rooted_append [] earlier _ r (rooted_statement earlier prefix s st)
 rooted_lines earlier prefix (more_lines (empty_line a c) e ls) r st = rooted_lines earlier prefix ls r st
 rooted_lines earlier prefix (more_lines (full_line a s b c) e ls) r st =
-    rooted_lines (earlier ++ of_statement earlier prefix s) (prefix_after earlier prefix s) ls (rooted_append [] earlier _ r (rooted_statement earlier prefix s st))
-    (subst (λ z. Stands z (prefix_after earlier prefix s)) (sym (onto_append earlier (of_statement earlier prefix s) [])) (stands_after earlier prefix s st))
+    rooted_lines (earlier ++ of_statement earlier prefix s) (prefix_after earlier prefix s) ls
+    (rooted_append [] earlier _ r (rooted_statement earlier prefix s st))
+    (subst (λ z. Stands z (prefix_after earlier prefix s))
+    (sym (onto_append earlier (of_statement earlier prefix s) [])) (stands_after earlier prefix s st))
 
 pub rooted : (t : Text) → Rooted [] (assertions t)
 rooted t = rooted_lines [] [] t.lines (done []) (inl refl)
-
--- ---- nothing below a plain value
-
-abbrev pub AnyBelow : Place → List Assertion → Type 0
-AnyBelow target [] = ⊥
-AnyBelow target (y ∷ ys) = (is_below target y.place ≡ true) ⊎ AnyBelow target ys
-
--- a place directly below the target or deeper has a parent that is the target or deeper
-parent : (target p : Place) (s : Step) → is_below target (at p s) ≡ true → (p ≡ target) ⊎ (is_below target p ≡ true)
-parent [] [] s e = inl refl
-parent [] (t ∷ ts) s e = inr refl
-parent (u ∷ []) [] s e = absurd (true≢false (sym (and_parts (same_step u s) false e).1))
-parent (u ∷ v ∷ us) [] s e = absurd (true≢false (sym (and_parts (same_step u s) false e).1))
-parent (u ∷ us) (t ∷ ts) s e =
-    let h = and_parts (same_step u t) (is_below us (at ts s)) e in
-    ⊎_elim (λ q. inl (ap₂ (λ x xs. x ∷ xs) (sym (same_step_is u t h.0)) q)) (λ q. inr (and_from (same_step u t) (is_below us ts) h.0 q)) (parent us ts s h.1)
-
-any_opened : (target : Place) (made : List Assertion) (p : Place) → is_below target p ≡ true → Opened made p → AnyBelow target made
-any_opened target [] p b o = absurd o
-any_opened target (y ∷ ys) p b (inl h) = inl (ap (λ q. is_below target q) h.0 ∙ b)
-any_opened target (y ∷ ys) p b (inr o) = inr (any_opened target ys p b o)
-
-below_root : (t : Step) (ts : Place) (s : Step) → is_below (t ∷ ts) (s ∷ []) ≡ true → ⊥
-below_root t [] s e = true≢false (sym (and_parts (same_step t s) false e).1)
-below_root t (u ∷ us) s e = true≢false (sym (and_parts (same_step t s) false e).1)
-
-pub opened_below : (t : Step) (ts : Place) (base xs : List Assertion) → Rooted base xs → (AnyBelow (t ∷ ts) base → Opened base (t ∷ ts)) → AnyBelow (t ∷ ts) (onto xs base) → Opened (onto xs base) (t ∷ ts)
-opened_below t ts base xs (done b) so any = so any
-opened_below t ts base xs (next b x zs p s e st r) so any = opened_below t ts (x ∷ b) zs r here any
-  where
-    here : AnyBelow (t ∷ ts) (x ∷ b) → Opened (x ∷ b) (t ∷ ts)
-    here (inr more) = inr (so more)
-    here (inl low) = inr (under (parent (t ∷ ts) p s (ap (λ q. is_below (t ∷ ts) q) (sym e) ∙ low)) st)
-      where
-        under : (p ≡ t ∷ ts) ⊎ (is_below (t ∷ ts) p ≡ true) → Stands b p → Opened b (t ∷ ts)
-        under (inl same) (inl root) = absurd cc
-        under (inl same) (inr o) = subst (λ q. Opened b q) same o
-        under (inr deep) (inl root) = absurd (true≢false (sym deep ∙ ap (λ q. is_below (t ∷ ts) q) root))
-        under (inr deep) (inr o) = so (any_opened (t ∷ ts) b p deep o)
-
--- the value at the target, as a text tells it
-abbrev pub HasLeaf : Place → Value → List Assertion → Type 0
-HasLeaf target b [] = ⊥
-HasLeaf target b (y ∷ ys) = ((y.place ≡ target) × (y.kind ≡ leaf b)) ⊎ HasLeaf target b ys
-
-with_leaf : (target : Place) (b : Value) (k : Kind) (p : Place) (ys : List Assertion) → p ≡ target → HasLeaf target b ys → AllByRecursion (λ y. p ≡ y.place → together k y.kind ≡ true) ys → ⊥
-with_leaf target b k p [] e has all = has
-with_leaf target b k p (y ∷ ys) e (inl h) all = true≢false (sym (all.0 (e ∙ sym h.0)) ∙ ap (together k) h.1 ∙ leaf_alone k b)
-with_leaf target b k p (y ∷ ys) e (inr has) all = with_leaf target b k p ys e has all.1
-
-with_opened : (target : Place) (b : Value) (p : Place) (ys : List Assertion) → p ≡ target → Opened ys target → AllByRecursion (λ y. p ≡ y.place → together (leaf b) y.kind ≡ true) ys → ⊥
-with_opened target b p [] e o all = o
-with_opened target b p (y ∷ ys) e (inl h) all = true≢false (sym (all.0 (e ∙ sym h.0)))
-with_opened target b p (y ∷ ys) e (inr o) all = with_opened target b p ys e o all.1
-
--- a plain value is not opened
-not_opened : (target : Place) (b : Value) (made : List Assertion) → opens (leaf b) ≡ false → NoClash made → HasLeaf target b made → Opened made target → ⊥
-not_opened target b [] shut clash has o = o
-not_opened target b (y ∷ ys) shut clash (inl h) (inl o) = true≢false (sym o.1 ∙ ap opens h.1 ∙ shut)
-not_opened target b (y ∷ ys) shut clash (inl h) (inr o) =
-    with_opened target b y.place ys h.0 o (subst (λ k. AllByRecursion (λ z. y.place ≡ z.place → together k z.kind ≡ true) ys) h.1 clash.0)
-not_opened target b (y ∷ ys) shut clash (inr has) (inl o) = with_leaf target b y.kind y.place ys o.0 has clash.0
-not_opened target b (y ∷ ys) shut clash (inr has) (inr o) = not_opened target b ys shut clash.1 has o
-
-none_there : (target q : Place) (made : List Assertion) → is_below target q ≡ true → (AnyBelow target made → ⊥) → kind_at made q ≡ None
-none_there target q [] low none_low = refl
-none_there target q (y ∷ ys) low none_low =
-    by_test (same_place y.place q)
-    (λ h. absurd (none_low (inl (ap (λ r. is_below target r) (same_place_is y.place q h) ∙ low))))
-    (λ h. ap (λ c. if c then Some y.kind else kind_at ys q) h ∙ none_there target q ys low (λ a. none_low (inr a)))
-
-onto_any : (target : Place) (xs base : List Assertion) → AnyBelow target base → AnyBelow target (onto xs base)
-onto_any target [] base a = a
-onto_any target (x ∷ xs) base a = onto_any target xs (x ∷ base) (inr a)
-
-any_onto : (target : Place) (xs base : List Assertion) → AnyBelow target xs → AnyBelow target (onto xs base)
-any_onto target [] base a = absurd a
-any_onto target (x ∷ xs) base (inl h) = onto_any target xs (x ∷ base) (inl h)
-any_onto target (x ∷ xs) base (inr a) = any_onto target xs (x ∷ base) a
-
-opened_from : (xs base : List Assertion) (p : Place) → Opened (onto xs base) p → Opened xs p ⊎ Opened base p
-opened_from [] base p o = inr o
-opened_from (x ∷ xs) base p o = ⊎_elim (λ l. inl (inr l)) (λ r. first r) (opened_from xs (x ∷ base) p o)
-  where
-    first : Opened (x ∷ base) p → Opened (x ∷ xs) p ⊎ Opened base p
-    first (inl h) = inl (inl h)
-    first (inr o) = inr o
-
--- in a text without clashes nothing shows below a plain value
-pub shut_below : (t : Text) (s : Step) (ss q : Place) (b : Value) → opens (leaf b) ≡ false → NoClash (assertions t) → HasLeaf (s ∷ ss) b (assertions t) → is_below (s ∷ ss) q ≡ true
-    → kind_at (assertions t) q ≡ None
-shut_below t s ss q b shut clash has low =
-    none_there (s ∷ ss) q (assertions t) low
-    (λ any. ⊎_elim (not_opened (s ∷ ss) b (assertions t) shut clash has) (λ z. z)
-    (opened_from (assertions t) [] (s ∷ ss) (opened_below s ss [] (assertions t) (rooted t) (λ z. absurd z) (any_onto (s ∷ ss) (assertions t) [] any))))
-
--- and the value itself shows
-pub leaf_there : (target : Place) (b : Value) (made : List Assertion) → NoClash made → HasLeaf target b made → kind_at made target ≡ Some (leaf b)
-leaf_there target b [] clash has = absurd has
-leaf_there target b (y ∷ ys) clash (inl h) =
-    ap (λ c. if c then Some y.kind else kind_at ys target) (ap (λ r. same_place r target) h.0 ∙ same_place_self target) ∙ ap Some h.1
-leaf_there target b (y ∷ ys) clash (inr has) =
-    by_test (same_place y.place target)
-    (λ h. absurd (with_leaf target b y.kind y.place ys (same_place_is y.place target h) has clash.0))
-    (λ h. ap (λ c. if c then Some y.kind else kind_at ys target) h ∙ leaf_there target b ys clash.1 has)

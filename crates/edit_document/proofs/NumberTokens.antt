@@ -14,7 +14,7 @@ use Rattle.edit_syntax.specs.Noting.{value_kind}
 use Rattle.edit_syntax.specs.Marks.{mark}
 use Rattle.edit_document.specs.Walk.{said, suffix, as_text, State, entered, step}
 use Rattle.edit_document.specs.WalkState.{IsToken}
-use Rattle.edit_syntax.proofs.NumberLaws.{IsNumber}
+use Rattle.edit_syntax.proofs.DigitLaws.{IsNumber}
 use Rattle.edit_syntax.proofs.ValueEdges.{value_rest, integer_ascii, float_ascii, datetime_ascii}
 use Rattle.edit_document.proofs.Ends.{Ends, Small, ascii_text}
 use Rattle.edit_document.proofs.WalkedTokens.{said_word}
@@ -43,38 +43,87 @@ number_plain _ h s = absurd s
 abbrev number_mark : Value → List ℕ → Mark
 number_mark v rest = mark (value_kind v) (value v rest) rest
 
-plain_told : (k : MarkKind) (bytes text rest word : List ℕ) → text ≡ word ++ rest → IsPlain word → Ends bytes text → as_text (take (length text - length rest) (suffix bytes (length text))) ≡ Some word
+plain_told : (k : MarkKind) (bytes text rest word : List ℕ) → text ≡ word ++ rest → IsPlain word
+    → Ends bytes text → as_text (take (length text - length rest) (suffix bytes (length text))) ≡ Some word
 plain_told k bytes text rest word e plain ends =
-    let P : List ℕ → Type 0 = λ t. as_text (take (length t - length rest) (suffix bytes (length t))) ≡ Some word in
-    subst P (sym e) (said_word bytes word rest (ascii_text is_ascii ascii_small word plain.1) (subst (Ends bytes) e ends))
+    let P : List ℕ → Type 0 = λ t. as_text (take (length t - length rest) (suffix bytes (length t)))
+    ≡ Some word in
+    subst P (sym e) (said_word bytes word rest (ascii_text is_ascii ascii_small word plain.1)
+    (subst (Ends bytes) e ends))
 
-number_said : (bytes : List ℕ) (v : Value) (rest : List ℕ) → IsValue v → IsNumber v → Ends bytes (value v rest) → said bytes (number_mark v rest) ≡ Some (value v [])
+number_said : (bytes : List ℕ) (v : Value) (rest : List ℕ) → IsValue v → IsNumber v
+    → Ends bytes (value v rest) → said bytes (number_mark v rest) ≡ Some (value v [])
 unfolding said
-number_said bytes (integer n) rest h s ends = plain_told kinds.Integer bytes (value (integer n) rest) rest (value (integer n) []) (value_rest (integer n) rest) (number_plain (integer n) h s) ends
-number_said bytes (float f) rest h s ends = plain_told kinds.Float bytes (value (float f) rest) rest (value (float f) []) (value_rest (float f) rest) (number_plain (float f) h s) ends
-number_said bytes (datetime d) rest h s ends = plain_told kinds.DateTime bytes (value (datetime d) rest) rest (value (datetime d) []) (value_rest (datetime d) rest) (number_plain (datetime d) h s) ends
+number_said bytes (integer n) rest h s ends = plain_told kinds.Integer bytes (value (integer n) rest) rest
+    (value (integer n) []) (value_rest (integer n) rest) (number_plain (integer n) h s) ends
+number_said bytes (float f) rest h s ends = plain_told kinds.Float bytes (value (float f) rest) rest
+    (value (float f) []) (value_rest (float f) rest) (number_plain (float f) h s) ends
+number_said bytes (datetime d) rest h s ends = plain_told kinds.DateTime bytes (value (datetime d) rest) rest
+    (value (datetime d) []) (value_rest (datetime d) rest) (number_plain (datetime d) h s) ends
 number_said bytes _ rest h s ends = absurd s
 
 -- the mark of a number is the mark of a token
-pub number_token : (bytes : List ℕ) (v : Value) (rest : List ℕ) → IsValue v → IsNumber v → Ends bytes (value v rest) → IsToken bytes (number_mark v rest)
+pub number_token : (bytes : List ℕ) (v : Value) (rest : List ℕ) → IsValue v → IsNumber v
+    → Ends bytes (value v rest) → IsToken bytes (number_mark v rest)
 number_token bytes (integer n) rest h s ends e =
     let w = value_rest (integer n) rest in
-    let a = number_plain (integer n) h s in
-    (value (integer n) [], number_said bytes (integer n) rest h s ends, (ends.0, value (integer n) [], rest, ends.1 ∙ ap (λ (t : List ℕ). ends.0 ++ t) w, ap length w, refl, (a.0, a.1, refl)))
+    let a = number_plain (integer n) h s in (
+      value (integer n) [],
+      number_said bytes (integer n) rest h s ends,
+      (
+        ends.0,
+        value (integer n) [],
+        rest,
+        ends.1 ∙ ap (λ (t : List ℕ). ends.0 ++ t) w,
+        ap length w,
+        refl,
+        (a.0, a.1, refl),
+      ),
+    )
 number_token bytes (float f) rest h s ends e =
     let w = value_rest (float f) rest in
-    let a = number_plain (float f) h s in
-    (value (float f) [], number_said bytes (float f) rest h s ends, (ends.0, value (float f) [], rest, ends.1 ∙ ap (λ (t : List ℕ). ends.0 ++ t) w, ap length w, refl, (a.0, a.1, refl)))
+    let a = number_plain (float f) h s in (
+      value (float f) [],
+      number_said bytes (float f) rest h s ends,
+      (
+        ends.0,
+        value (float f) [],
+        rest,
+        ends.1 ∙ ap (λ (t : List ℕ). ends.0 ++ t) w,
+        ap length w,
+        refl,
+        (a.0, a.1, refl),
+      ),
+    )
 number_token bytes (datetime d) rest h s ends e =
     let w = value_rest (datetime d) rest in
-    let a = number_plain (datetime d) h s in
-    (value (datetime d) [], number_said bytes (datetime d) rest h s ends, (ends.0, value (datetime d) [], rest, ends.1 ∙ ap (λ (t : List ℕ). ends.0 ++ t) w, ap length w, refl, (a.0, a.1, refl)))
+    let a = number_plain (datetime d) h s in (
+      value (datetime d) [],
+      number_said bytes (datetime d) rest h s ends,
+      (
+        ends.0,
+        value (datetime d) [],
+        rest,
+        ends.1 ∙ ap (λ (t : List ℕ). ends.0 ++ t) w,
+        ap length w,
+        refl,
+        (a.0, a.1, refl),
+      ),
+    )
 number_token bytes _ rest h s ends e = absurd s
 
 -- the walk takes the mark of a number for what it shows
-pub number_step : (bytes : List ℕ) (v : Value) (rest : List ℕ) → IsValue v → IsNumber v → Ends bytes (value v rest) → (st : State) → step bytes (number_mark v rest) st ≡ entered st (shape_of_value v) (Some (span_of v rest))
+pub number_step : (bytes : List ℕ) (v : Value) (rest : List ℕ) → IsValue v → IsNumber v
+    → Ends bytes (value v rest) → (st : State) → step bytes (number_mark v rest) st
+    ≡ entered st (shape_of_value v) (Some (span_of v rest))
 unfolding step
-number_step bytes (integer n) rest h s ends st = ap (λ (o : Option (List ℕ)). o >>= λ x. entered st (shape_said kinds.Integer x) (Some (span_of (integer n) rest))) (number_said bytes (integer n) rest h s ends)
-number_step bytes (float f) rest h s ends st = ap (λ (o : Option (List ℕ)). o >>= λ x. entered st (shape_said kinds.Float x) (Some (span_of (float f) rest))) (number_said bytes (float f) rest h s ends)
-number_step bytes (datetime d) rest h s ends st = ap (λ (o : Option (List ℕ)). o >>= λ x. entered st (shape_said kinds.DateTime x) (Some (span_of (datetime d) rest))) (number_said bytes (datetime d) rest h s ends)
+number_step bytes (integer n) rest h s ends st =
+    ap (λ (o : Option (List ℕ)). o >>= λ x. entered st (shape_said kinds.Integer x)
+    (Some (span_of (integer n) rest))) (number_said bytes (integer n) rest h s ends)
+number_step bytes (float f) rest h s ends st =
+    ap (λ (o : Option (List ℕ)). o >>= λ x. entered st (shape_said kinds.Float x)
+    (Some (span_of (float f) rest))) (number_said bytes (float f) rest h s ends)
+number_step bytes (datetime d) rest h s ends st =
+    ap (λ (o : Option (List ℕ)). o >>= λ x. entered st (shape_said kinds.DateTime x)
+    (Some (span_of (datetime d) rest))) (number_said bytes (datetime d) rest h s ends)
 number_step bytes _ rest h s ends st = absurd s

@@ -15,11 +15,14 @@ abbrev pub Apart : List Step → Type 0
 Apart [] = Unit {0}
 Apart (x ∷ xs) = (has x xs ≡ false) × Apart xs
 
-lacks_filter : (x : Step) (test : Step → Bool) (xs : List Step) → has x xs ≡ false → has x (filter test xs) ≡ false
+lacks_filter : (x : Step) (test : Step → Bool) (xs : List Step) → has x xs ≡ false
+    → has x (filter test xs) ≡ false
 lacks_filter x test [] e = refl
-lacks_filter x test (y ∷ ys) e = go (test y) (lacks_filter x test ys (or_false (same_step y x) (has x ys) e).1)
+lacks_filter x test (y ∷ ys) e =
+    go (test y) (lacks_filter x test ys (or_false (same_step y x) (has x ys) e).1)
   where
-    go : (b : Bool) → has x (filter test ys) ≡ false → has x (cond b (y ∷ filter test ys) (filter test ys)) ≡ false
+    go : (b : Bool) → has x (filter test ys) ≡ false → has x (cond b (y ∷ filter test ys) (filter test ys))
+        ≡ false
     go true ih = ap (λ (b : Bool). b || has x (filter test ys)) (or_false (same_step y x) (has x ys) e).0 ∙ ih
     go false ih = ih
 
@@ -41,14 +44,17 @@ filtered_out x (y ∷ ys) = go (same_step x y) refl (filtered_out x ys)
         sym (same_step_self y) ∙ ap (λ (s : Step). same_step s y) (same_step_is y x e) ∙ f in cc)
 
     go : (b : Bool) → same_step x y ≡ b → has x (filter (λ t. not (same_step x t)) ys) ≡ false
-        → has x (cond (not b) (y ∷ filter (λ t. not (same_step x t)) ys) (filter (λ t. not (same_step x t)) ys)) ≡ false
+        → has x (cond (not b) (y ∷ filter (λ t. not (same_step x t)) ys)
+        (filter (λ t. not (same_step x t)) ys)) ≡ false
     go true e ih = ih
     go false e ih =
-        ap (λ (b : Bool). b || has x (filter (λ t. not (same_step x t)) ys)) (other (same_step y x) refl e) ∙ ih
+        ap (λ (b : Bool). b || has x (filter (λ t. not (same_step x t)) ys)) (other (same_step y x) refl e) ∙
+        ih
 
 pub apart_once : (xs : List Step) → Apart (once xs)
 apart_once [] = tt
-apart_once (x ∷ xs) = (filtered_out x (once xs), apart_filter (λ t. not (same_step x t)) (once xs) (apart_once xs))
+apart_once (x ∷ xs) =
+    (filtered_out x (once xs), apart_filter (λ t. not (same_step x t)) (once xs) (apart_once xs))
 
 -- a name that stands among them
 has_name : (xs : List Step) (i : ℕ) (n : List ℕ) → slice_get (key_names xs) i ≡ Some n → has (key n) xs ≡ true
@@ -72,10 +78,12 @@ names_apart (index k ∷ xs) h i j n e f = names_apart xs h.1 i j n e f
 names_apart (key m ∷ xs) h zero zero n e f = refl
 names_apart (key m ∷ xs) h zero (suc j) n e f =
     let same : m ≡ n = same_Some m n e in
-    let clash : true ≡ false = sym (has_name xs j n f) ∙ ap (λ (k : List ℕ). has (key k) xs) (sym same) ∙ h.0 in
+    let clash : true ≡ false = sym (has_name xs j n f) ∙ ap (λ (k : List ℕ). has (key k) xs) (sym same) ∙
+    h.0 in
     absurd cc
 names_apart (key m ∷ xs) h (suc i) zero n e f =
     let same : m ≡ n = same_Some m n f in
-    let clash : true ≡ false = sym (has_name xs i n e) ∙ ap (λ (k : List ℕ). has (key k) xs) (sym same) ∙ h.0 in
+    let clash : true ≡ false = sym (has_name xs i n e) ∙ ap (λ (k : List ℕ). has (key k) xs) (sym same) ∙
+    h.0 in
     absurd cc
 names_apart (key m ∷ xs) h (suc i) (suc j) n e f = ap suc (names_apart xs h.1 i j n e f)

@@ -23,7 +23,8 @@ same_step_turn s t =
 pub any_has : (s : Step) (xs : List Step) → list_any (same_step s) xs ≡ has s xs
 any_has s [] = refl
 any_has s (x ∷ xs) =
-    ap (λ b. b || list_any (same_step s) xs) (same_step_turn s x) ∙ ap (λ b. same_step x s || b) (any_has s xs)
+    ap (λ b. b || list_any (same_step s) xs) (same_step_turn s x) ∙
+    ap (λ b. same_step x s || b) (any_has s xs)
 
 pub has_without : (x y : Step) (xs : List Step) → has y (without x xs) ≡ (has y xs && not (same_step x y))
 has_without x y [] = refl
@@ -32,7 +33,8 @@ has_without x y (z ∷ zs) = go (same_step x z) (same_step z y) refl refl (has_w
     here : (d : Bool) → same_step x y ≡ d → d ≡ false → true ≡ not (same_step x y)
     here d e f = ap not (sym (e ∙ f))
 
-    go : (b c : Bool) → same_step x z ≡ b → same_step z y ≡ c → has y (without x zs) ≡ (has y zs && not (same_step x y))
+    go : (b c : Bool) → same_step x z ≡ b → same_step z y ≡ c
+        → has y (without x zs) ≡ (has y zs && not (same_step x y))
         → has y (cond (not b) (z ∷ without x zs) (without x zs)) ≡ ((c || has y zs) && not (same_step x y))
     go true true e f ih =
         let same : same_step x y ≡ true = ap (λ w. same_step w y) (same_step_is x z e) ∙ f in
@@ -54,25 +56,31 @@ without_other x (y ∷ ys) e =
     ap (λ b. cond (not b) (y ∷ without x ys) (without x ys)) (same_step_turn x y ∙ h.0)
     ∙ ap (λ zs. y ∷ zs) (without_other x ys h.1)
 
-pub without_size : (x : Step) (xs : List Step) → Apart xs → has x xs ≡ true → length xs ≡ suc (length (without x xs))
+pub without_size : (x : Step) (xs : List Step) → Apart xs → has x xs ≡ true
+    → length xs ≡ suc (length (without x xs))
 without_size x [] h e = absurd (true≢false (sym e))
 without_size x (y ∷ ys) h e = go (same_step y x) refl e (without_size x ys h.1)
   where
-    go : (b : Bool) → same_step y x ≡ b → (b || has x ys) ≡ true → (has x ys ≡ true → length ys ≡ suc (length (without x ys)))
+    go : (b : Bool) → same_step y x ≡ b → (b || has x ys) ≡ true
+        → (has x ys ≡ true → length ys ≡ suc (length (without x ys)))
         → suc (length ys) ≡ suc (length (without x (y ∷ ys)))
     go true t e ih =
         let none : has x ys ≡ false = ap (λ z. has z ys) (sym (same_step_is y x t)) ∙ h.0 in
         ap (λ zs. suc (length zs)) (sym (without_other x ys none))
-        ∙ ap (λ b. suc (length (cond (not b) (y ∷ without x ys) (without x ys)))) (sym (same_step_turn x y ∙ t))
-    go false t e ih = ap suc (ih e) ∙ ap (λ b. suc (length (cond (not b) (y ∷ without x ys) (without x ys)))) (sym (same_step_turn x y ∙ t))
+        ∙ ap (λ b. suc (length (cond (not b) (y ∷ without x ys) (without x ys))))
+        (sym (same_step_turn x y ∙ t))
+    go false t e ih = ap suc (ih e) ∙ ap (λ b. suc (length (cond (not b) (y ∷ without x ys) (without x ys))))
+        (sym (same_step_turn x y ∙ t))
 
-pub apart_size : (xs ys : List Step) → Apart xs → Apart ys → ((s : Step) → has s xs ≡ has s ys) → length xs ≡ length ys
+pub apart_size : (xs ys : List Step) → Apart xs → Apart ys → ((s : Step) → has s xs ≡ has s ys)
+    → length xs ≡ length ys
 apart_size [] [] a b h = refl
 apart_size [] (y ∷ ys) a b h =
     absurd (true≢false (sym (ap (λ c. c || has y ys) (same_step_self y)) ∙ sym (h y)))
 apart_size (x ∷ xs) ys a b h =
     let here : has x ys ≡ true = sym (h x) ∙ ap (λ c. c || has x xs) (same_step_self x) in
-    ap suc (apart_size xs (without x ys) a.1 (apart_filter (λ t. not (same_step x t)) ys b) (λ s. rest s (same_step x s) refl))
+    ap suc (apart_size xs (without x ys) a.1 (apart_filter (λ t. not (same_step x t)) ys b)
+    (λ s. rest s (same_step x s) refl))
     ∙ sym (without_size x ys b here)
   where
     both : (b : Bool) → (b && true) ≡ b
@@ -100,6 +108,8 @@ has_once x (y ∷ ys) = go (same_step y x) refl (has_once x ys)
     both true = refl
     both false = refl
 
-    go : (b : Bool) → same_step y x ≡ b → has x (once ys) ≡ has x ys → (b || has x (without y (once ys))) ≡ (b || has x ys)
+    go : (b : Bool) → same_step y x ≡ b → has x (once ys) ≡ has x ys
+        → (b || has x (without y (once ys))) ≡ (b || has x ys)
     go true e ih = refl
-    go false e ih = has_without y x (once ys) ∙ ap (λ b. has x (once ys) && not b) e ∙ both (has x (once ys)) ∙ ih
+    go false e ih = has_without y x (once ys) ∙ ap (λ b. has x (once ys) && not b) e ∙
+        both (has x (once ys)) ∙ ih

@@ -1,4 +1,5 @@
--- Below a place that only dotted keys and headers go through, pairs assert as many members as dotted keys go on there.
+-- Below a place that only dotted keys and headers go through, pairs assert as many members as dotted keys go
+-- on there.
 use Rattle.std.proofs.Common.{◌≡◌, ℕ, suc, ◌+◌, Bool, true, false, ◌&&◌, cond, List, [], ◌∷◌, ◌++◌, map, Option, Some, None, refl, sym, ap, ◌∙◌, subst, true≢false, append_assoc, arith}
 use Rattle.std.specs.List.{AllByRecursion}
 use Rattle.edit_syntax.specs.Grammar.{Value, basic, literal, multi_basic, multi_literal, boolean, integer, float, datetime, array, inline, Elements, no_elements, last_element, element, Members, no_members, last_member, member, Statement, pair, header, element_header, empty_line, full_line, Lines, one_line, more_lines, Text}
@@ -18,12 +19,14 @@ abbrev pub tally : (Assertion → Bool) → List Assertion → ℕ
 tally f [] = 0
 tally f (a ∷ made) = cond (f a) (suc (tally f made)) (tally f made)
 
-pub tally_append : (f : Assertion → Bool) (xs ys : List Assertion) → tally f (xs ++ ys) ≡ tally f xs + tally f ys
+pub tally_append : (f : Assertion → Bool) (xs ys : List Assertion)
+    → tally f (xs ++ ys) ≡ tally f xs + tally f ys
 tally_append f [] ys = omega arith
 tally_append f (x ∷ xs) ys = go (f x) (tally_append f xs ys)
   where
     go : (b : Bool) → tally f (xs ++ ys) ≡ tally f xs + tally f ys
-        → cond b (suc (tally f (xs ++ ys))) (tally f (xs ++ ys)) ≡ cond b (suc (tally f xs)) (tally f xs) + tally f ys
+        → cond b (suc (tally f (xs ++ ys))) (tally f (xs ++ ys))
+        ≡ cond b (suc (tally f xs)) (tally f xs) + tally f ys
     go true e = omega (arith, e)
     go false e = e
 
@@ -64,7 +67,10 @@ step_else t q s far = go (step_from t (at q s)) refl
         absurd (true≢false (sym (ap (λ z. same_place z t) same ∙ same_place_self t) ∙ far))
 
 below_else : (t q : Place) → is_below t q ≡ true → same_place q t ≡ false
-below_else t q low = by_test (same_place q t) (λ e. absurd (true≢false (sym low ∙ ap (λ z. is_below t z) (same_place_is q t e) ∙ not_below_itself t))) (λ e. e)
+below_else t q low =
+    by_test (same_place q t)
+    (λ e. absurd (true≢false (sym low ∙ ap (λ z. is_below t z) (same_place_is q t e) ∙ not_below_itself t)))
+    (λ e. e)
 
 none_inner : (b : Bool) (n : ℕ) → b ≡ false → n ≡ 0 → cond b (suc n) n ≡ 0
 none_inner true n e f = absurd (true≢false e)
@@ -77,8 +83,10 @@ beyond t d by q [] v low = (refl, refl)
 beyond t d by q (n ∷ []) v low = (none_inner _ 0 (step_else t q (key n) (below_else t q low)) refl, refl)
 beyond t d by q (n ∷ m ∷ ns) v low =
     let deep = below_at t q (key n) (below_within t q low) in
-    let more = beyond t d by (at q (key n)) (m ∷ ns) v deep in
-    (none_inner _ _ (step_else t q (key n) (below_else t q low)) more.0, none_inner _ _ (below_else t (at q (key n)) deep) more.1)
+    let more = beyond t d by (at q (key n)) (m ∷ ns) v deep in (
+      none_inner _ _ (step_else t q (key n) (below_else t q low)) more.0,
+      none_inner _ _ (below_else t (at q (key n)) deep) more.1,
+    )
 
 -- from the place on, it asserts one member
 onward : (t : Place) (d : Bool) (by : Place) (n : List ℕ) (ns : List (List ℕ)) (v : Value)
@@ -87,24 +95,34 @@ onward t d by n [] v = (ap (λ o. cond (is_key o) 1 0) (step_from_at t (key n)),
 onward t d by n (m ∷ ns) v =
     let low = below_at t t (key n) (within_same t) in
     let more = beyond t d by (at t (key n)) (m ∷ ns) v low in (
-      ap (λ o. cond (is_key o) (suc (tally (is_inner t) (of_key d by (at t (key n)) (m ∷ ns) v))) (tally (is_inner t) (of_key d by (at t (key n)) (m ∷ ns) v))) (step_from_at t (key n)) ∙ ap suc more.0,
+      ap (λ o. cond (is_key o) (suc (tally (is_inner t) (of_key d by (at t (key n)) (m ∷ ns) v)))
+          (tally (is_inner t) (of_key d by (at t (key n)) (m ∷ ns) v))) (step_from_at t (key n)) ∙
+          ap suc more.0,
       none_inner _ _ (below_else t (at t (key n)) low) more.1,
     )
 
-key_even : (t : Place) (d : Bool) (by q : Place) (n : List ℕ) (ns : List (List ℕ)) (v : Value) → same_place q t ≡ false → IsEven t (of_key d by q (n ∷ ns) v)
+key_even : (t : Place) (d : Bool) (by q : Place) (n : List ℕ) (ns : List (List ℕ)) (v : Value)
+    → same_place q t ≡ false → IsEven t (of_key d by q (n ∷ ns) v)
 key_even t d by q n [] v far = none_inner _ 0 (step_else t q (key n) far) refl
 key_even t d by q n (m ∷ ns) v far =
     go (is_key (step_from t (at q (key n)))) (step_else t q (key n) far) (same_place (at q (key n)) t) refl
-    (λ here. onward_at (at q (key n)) (same_place_is (at q (key n)) t here)) (λ out. key_even t d by (at q (key n)) m ns v out)
+    (λ here. onward_at (at q (key n)) (same_place_is (at q (key n)) t here))
+    (λ out. key_even t d by (at q (key n)) m ns v out)
   where
-    onward_at : (c : Place) → c ≡ t → (tally (is_inner t) (of_key d by c (m ∷ ns) v) ≡ 1) × (tally (goes_on t) (of_key d by c (m ∷ ns) v) ≡ 0)
-    onward_at c e = subst (λ z. (tally (is_inner t) (of_key d by z (m ∷ ns) v) ≡ 1) × (tally (goes_on t) (of_key d by z (m ∷ ns) v) ≡ 0)) (sym e) (onward t d by m ns v)
+    onward_at : (c : Place) → c ≡ t → (tally (is_inner t) (of_key d by c (m ∷ ns) v) ≡ 1)
+        × (tally (goes_on t) (of_key d by c (m ∷ ns) v) ≡ 0)
+    onward_at c e = subst (λ z. (tally (is_inner t) (of_key d by z (m ∷ ns) v) ≡ 1)
+        × (tally (goes_on t) (of_key d by z (m ∷ ns) v) ≡ 0)) (sym e) (onward t d by m ns v)
 
     go : (a : Bool) → a ≡ false → (b : Bool) → same_place (at q (key n)) t ≡ b
-        → (same_place (at q (key n)) t ≡ true → (tally (is_inner t) (of_key d by (at q (key n)) (m ∷ ns) v) ≡ 1) × (tally (goes_on t) (of_key d by (at q (key n)) (m ∷ ns) v) ≡ 0))
+        → (same_place (at q (key n)) t ≡ true
+        → (tally (is_inner t) (of_key d by (at q (key n)) (m ∷ ns) v) ≡ 1)
+        × (tally (goes_on t) (of_key d by (at q (key n)) (m ∷ ns) v) ≡ 0))
         → (same_place (at q (key n)) t ≡ false → IsEven t (of_key d by (at q (key n)) (m ∷ ns) v))
-        → cond a (suc (tally (is_inner t) (of_key d by (at q (key n)) (m ∷ ns) v))) (tally (is_inner t) (of_key d by (at q (key n)) (m ∷ ns) v))
-        ≡ cond b (suc (tally (goes_on t) (of_key d by (at q (key n)) (m ∷ ns) v))) (tally (goes_on t) (of_key d by (at q (key n)) (m ∷ ns) v))
+        → cond a (suc (tally (is_inner t) (of_key d by (at q (key n)) (m ∷ ns) v)))
+        (tally (is_inner t) (of_key d by (at q (key n)) (m ∷ ns) v))
+        ≡ cond b (suc (tally (goes_on t) (of_key d by (at q (key n)) (m ∷ ns) v)))
+        (tally (goes_on t) (of_key d by (at q (key n)) (m ∷ ns) v))
     go true e b h here out = absurd (true≢false e)
     go false e true h here out = (here h).0 ∙ ap suc (sym (here h).1)
     go false e false h here out = out h
@@ -130,12 +148,15 @@ open_right : (t : Place) (xs ys : List Assertion) → IsOpen t (xs ++ ys) → Is
 open_right t [] ys h = h
 open_right t (x ∷ xs) ys h = open_right t xs ys h.1
 
-key_open : (t : Place) (d : Bool) (by q : Place) (n : List ℕ) (ns : List (List ℕ)) (v : Value) → IsOpen t (of_key d by q (n ∷ ns) v) → same_place (named q (n ∷ ns)) t ≡ false
+key_open : (t : Place) (d : Bool) (by q : Place) (n : List ℕ) (ns : List (List ℕ)) (v : Value)
+    → IsOpen t (of_key d by q (n ∷ ns) v) → same_place (named q (n ∷ ns)) t ≡ false
 key_open t d by q n [] v h = h.0
-key_open t d by q n (m ∷ ns) v h = ap (λ z. same_place z t) (sym (append_assoc q (key n ∷ []) (map key (m ∷ ns)))) ∙ key_open t d by (at q (key n)) m ns v h.1
+key_open t d by q n (m ∷ ns) v h = ap (λ z. same_place z t)
+    (sym (append_assoc q (key n ∷ []) (map key (m ∷ ns)))) ∙ key_open t d by (at q (key n)) m ns v h.1
 
 mutual
-  value_even : (t q : Place) (v : Value) → same_place q t ≡ false → IsOpen t (of_value q v) → IsEven t (of_value q v)
+  value_even : (t q : Place) (v : Value) → same_place q t ≡ false → IsOpen t (of_value q v)
+      → IsEven t (of_value q v)
   value_even t q (basic ps) far h = refl
   value_even t q (literal text) far h = refl
   value_even t q (multi_basic ps) far h = refl
@@ -147,77 +168,103 @@ mutual
   value_even t q (array g es) far h = elements_even t q 0 es far h
   value_even t q (inline g ms) far h = members_even t q ms far h
 
-  elements_even : (t q : Place) (i : ℕ) (es : Elements) → same_place q t ≡ false → IsOpen t (of_elements q i es) → IsEven t (of_elements q i es)
+  elements_even : (t q : Place) (i : ℕ) (es : Elements) → same_place q t ≡ false
+      → IsOpen t (of_elements q i es) → IsEven t (of_elements q i es)
   elements_even t q i no_elements far h = refl
   elements_even t q i (last_element v g) far h =
       let r = at q (index i) in
-      ap (λ b. cond b (suc (tally (is_inner t) (of_value r v))) (tally (is_inner t) (of_value r v))) (step_else t q (index i) far) ∙ value_even t r v h.0 h.1
+      ap (λ b. cond b (suc (tally (is_inner t) (of_value r v))) (tally (is_inner t) (of_value r v)))
+      (step_else t q (index i) far) ∙ value_even t r v h.0 h.1
   elements_even t q i (element v g x es) far h =
       let r = at q (index i) in
       let more = of_value r v ++ of_elements q (suc i) es in
       ap (λ b. cond b (suc (tally (is_inner t) more)) (tally (is_inner t) more)) (step_else t q (index i) far)
-      ∙ even_append t (of_value r v) (of_elements q (suc i) es) (value_even t r v h.0 (open_left t (of_value r v) _ h.1)) (elements_even t q (suc i) es far (open_right t (of_value r v) _ h.1))
+      ∙ even_append t (of_value r v) (of_elements q (suc i) es)
+      (value_even t r v h.0 (open_left t (of_value r v) _ h.1))
+      (elements_even t q (suc i) es far (open_right t (of_value r v) _ h.1))
 
-  members_even : (t q : Place) (ms : Members) → same_place q t ≡ false → IsOpen t (of_members q ms) → IsEven t (of_members q ms)
+  members_even : (t q : Place) (ms : Members) → same_place q t ≡ false → IsOpen t (of_members q ms)
+      → IsEven t (of_members q ms)
   members_even t q no_members far h = refl
   members_even t q (last_member k a b v c) far h =
       let r = named q (names k) in
       let own = of_key true r q (names k) v in
       even_append t own (of_value r v) (key_even t true r q _ _ v far)
-      (value_even t r v (key_open t true r q _ _ v (open_left t own (of_value r v) h)) (open_right t own (of_value r v) h))
+      (value_even t r v (key_open t true r q _ _ v (open_left t own (of_value r v) h))
+      (open_right t own (of_value r v) h))
   members_even t q (member k a b v c d ms) far h =
       let r = named q (names k) in
       let own = of_key true r q (names k) v in
       let here = open_left t (own ++ of_value r v) (of_members q ms) h in
       even_append t (own ++ of_value r v) (of_members q ms)
       (even_append t own (of_value r v) (key_even t true r q _ _ v far)
-      (value_even t r v (key_open t true r q _ _ v (open_left t own (of_value r v) here)) (open_right t own (of_value r v) here)))
+      (value_even t r v (key_open t true r q _ _ v (open_left t own (of_value r v) here))
+      (open_right t own (of_value r v) here)))
       (members_even t q ms far (open_right t (own ++ of_value r v) (of_members q ms) h))
 
 -- ---- lines
 
-fronts_even : (t : Place) (earlier : List Assertion) (by q : Place) (ns : List (List ℕ)) → IsEven t (fronts earlier by q ns)
+fronts_even : (t : Place) (earlier : List Assertion) (by q : Place) (ns : List (List ℕ))
+    → IsEven t (fronts earlier by q ns)
 fronts_even t earlier by q [] = refl
 fronts_even t earlier by q (n ∷ []) = refl
 fronts_even t earlier by q (n ∷ m ∷ ns) = fronts_even t earlier by (resolved earlier (at q (key n))) (m ∷ ns)
 
-statement_even : (t : Place) (earlier : List Assertion) (prefix : Place) (s : Statement) → same_place prefix t ≡ false → IsOpen t (of_statement earlier prefix s) → IsEven t (of_statement earlier prefix s)
+statement_even : (t : Place) (earlier : List Assertion) (prefix : Place) (s : Statement)
+    → same_place prefix t ≡ false → IsOpen t (of_statement earlier prefix s)
+    → IsEven t (of_statement earlier prefix s)
 statement_even t earlier prefix (pair k a b v) far h =
     let r = named prefix (names k) in
     let own = of_key false r prefix (names k) v in
     even_append t own (of_value r v) (key_even t false r prefix _ _ v far)
-    (value_even t r v (key_open t false r prefix _ _ v (open_left t own (of_value r v) h)) (open_right t own (of_value r v) h))
+    (value_even t r v (key_open t false r prefix _ _ v (open_left t own (of_value r v) h))
+    (open_right t own (of_value r v) h))
 statement_even t earlier prefix (header a k b) far h =
     let place = header_place earlier [] (names k) in
-    even_append t (fronts earlier place [] (names k)) (asserts place place header_kind ∷ []) (fronts_even t earlier place [] (names k)) refl
+    even_append t (fronts earlier place [] (names k)) (asserts place place header_kind ∷ [])
+    (fronts_even t earlier place [] (names k)) refl
 statement_even t earlier prefix (element_header a k b) far h =
     let place = header_place earlier [] (names k) in
     let last = at place (index (elements_at earlier place)) in
-    even_append t (fronts earlier last [] (names k)) (asserts last place array_kind ∷ asserts last last element_kind ∷ []) (fronts_even t earlier last [] (names k)) refl
+    even_append t (fronts earlier last [] (names k))
+    (asserts last place array_kind ∷ asserts last last element_kind ∷ [])
+    (fronts_even t earlier last [] (names k)) refl
 
-prefix_open : (t : Place) (earlier : List Assertion) (prefix : Place) (s : Statement) → same_place prefix t ≡ false → IsOpen t (of_statement earlier prefix s) → same_place (prefix_after earlier prefix s) t ≡ false
+prefix_open : (t : Place) (earlier : List Assertion) (prefix : Place) (s : Statement)
+    → same_place prefix t ≡ false → IsOpen t (of_statement earlier prefix s)
+    → same_place (prefix_after earlier prefix s) t ≡ false
 prefix_open t earlier prefix (pair k a b v) far h = far
 prefix_open t earlier prefix (header a k b) far h = (open_right t (fronts earlier _ [] (names k)) _ h).0
-prefix_open t earlier prefix (element_header a k b) far h = (open_right t (fronts earlier _ [] (names k)) _ h).1.0
+prefix_open t earlier prefix (element_header a k b) far h =
+    (open_right t (fronts earlier _ [] (names k)) _ h).1.0
 
-open_front : (t : Place) (earlier : List Assertion) (prefix : Place) (ls : Lines) → IsOpen t (of_lines earlier prefix ls) → IsOpen t earlier
+open_front : (t : Place) (earlier : List Assertion) (prefix : Place) (ls : Lines)
+    → IsOpen t (of_lines earlier prefix ls) → IsOpen t earlier
 open_front t earlier prefix (one_line (empty_line a c)) h = h
-open_front t earlier prefix (one_line (full_line a s b c)) h = open_left t earlier (of_statement earlier prefix s) h
+open_front t earlier prefix (one_line (full_line a s b c)) h =
+    open_left t earlier (of_statement earlier prefix s) h
 open_front t earlier prefix (more_lines (empty_line a c) e ls) h = open_front t earlier prefix ls h
 open_front t earlier prefix (more_lines (full_line a s b c) e ls) h =
-    open_left t earlier (of_statement earlier prefix s) (open_front t (earlier ++ of_statement earlier prefix s) (prefix_after earlier prefix s) ls h)
+    open_left t earlier (of_statement earlier prefix s)
+    (open_front t (earlier ++ of_statement earlier prefix s) (prefix_after earlier prefix s) ls h)
 
-lines_even : (t : Place) (earlier : List Assertion) (prefix : Place) (ls : Lines) → same_place prefix t ≡ false → IsEven t earlier → IsOpen t (of_lines earlier prefix ls) → IsEven t (of_lines earlier prefix ls)
+lines_even : (t : Place) (earlier : List Assertion) (prefix : Place) (ls : Lines)
+    → same_place prefix t ≡ false → IsEven t earlier → IsOpen t (of_lines earlier prefix ls)
+    → IsEven t (of_lines earlier prefix ls)
 lines_even t earlier prefix (one_line (empty_line a c)) far e h = e
 lines_even t earlier prefix (one_line (full_line a s b c)) far e h =
-    even_append t earlier (of_statement earlier prefix s) e (statement_even t earlier prefix s far (open_right t earlier (of_statement earlier prefix s) h))
-lines_even t earlier prefix (more_lines (empty_line a c) l ls) far e h = lines_even t earlier prefix ls far e h
+    even_append t earlier (of_statement earlier prefix s) e
+    (statement_even t earlier prefix s far (open_right t earlier (of_statement earlier prefix s) h))
+lines_even t earlier prefix (more_lines (empty_line a c) l ls) far e h =
+    lines_even t earlier prefix ls far e h
 lines_even t earlier prefix (more_lines (full_line a s b c) l ls) far e h =
     let us = earlier ++ of_statement earlier prefix s in
-    let here = open_right t earlier (of_statement earlier prefix s) (open_front t us (prefix_after earlier prefix s) ls h) in
+    let here = open_right t earlier (of_statement earlier prefix s)
+    (open_front t us (prefix_after earlier prefix s) ls h) in
     lines_even t us (prefix_after earlier prefix s) ls (prefix_open t earlier prefix s far here)
     (even_append t earlier (of_statement earlier prefix s) e (statement_even t earlier prefix s far here)) h
 
 -- pairs that go on at a place which nothing has for itself are those that assert its members
-pub members_even_out : (form : Text) (s : Step) (ss : Place) → IsOpen (s ∷ ss) (assertions form) → IsEven (s ∷ ss) (assertions form)
+pub members_even_out : (form : Text) (s : Step) (ss : Place) → IsOpen (s ∷ ss) (assertions form)
+    → IsEven (s ∷ ss) (assertions form)
 members_even_out form s ss h = lines_even (s ∷ ss) [] [] form.lines refl refl h

@@ -54,7 +54,8 @@ piece_before t w front k n is size lt =
 
 pub piece_behind : (t : List ℕ) (w : ℕ × ℕ) (front : List ℕ) (k n : ℕ) → front ≡ slice_range t 0 w.0
     → k ≡ length (some_text front) → k ≤ n
-    → slice_get (pieces_of t w) n ≡ slice_get (some_text (slice_range t w.0 w.1) ++ some_text (drop w.1 t)) (n - k)
+    → slice_get (pieces_of t w) n ≡ slice_get (some_text (slice_range t w.0 w.1) ++ some_text (drop w.1 t))
+    (n - k)
 piece_behind t w front k n is size le =
     let more = some_text (slice_range t w.0 w.1) ++ some_text (drop w.1 t) in
     ap (λ (l : List ℕ). slice_get (some_text l ++ more) n) (sym (is ∙ from_start t w.0))
@@ -69,7 +70,8 @@ piece_inside t w front middle k m n is there size count le lt =
     ∙ first_piece middle (some_text (drop w.1 t)) (n - k) (omega arith)
 
 pub piece_last : (t : List ℕ) (w : ℕ × ℕ) (front middle : List ℕ) (k m n : ℕ) → front ≡ slice_range t 0 w.0
-    → middle ≡ slice_range t w.0 w.1 → k ≡ length (some_text front) → m ≡ length (some_text middle) → k + m ≤ n
+    → middle ≡ slice_range t w.0 w.1 → k ≡ length (some_text front) → m ≡ length (some_text middle)
+    → k + m ≤ n
     → slice_get (pieces_of t w) n ≡ slice_get (some_text (drop w.1 t)) (n - (k + m))
 piece_last t w front middle k m n is there size count le =
     let back = some_text (drop w.1 t) in
@@ -79,13 +81,17 @@ piece_last t w front middle k m n is there size count le =
     ∙ later_piece middle back (n - k) (omega arith) ∙ ap (λ (i : ℕ). slice_get back ((n - k) - i)) (sym count)
     ∙ ap (slice_get back) rest
 
-pub pieces_count : (t : List ℕ) (w : ℕ × ℕ) (front middle back : List ℕ) (k m n : ℕ) → front ≡ slice_range t 0 w.0
+pub pieces_count : (t : List ℕ) (w : ℕ × ℕ) (front middle back : List ℕ) (k m n : ℕ)
+    → front ≡ slice_range t 0 w.0
     → middle ≡ slice_range t w.0 w.1 → back ≡ drop w.1 t → k ≡ length (some_text front)
     → m ≡ length (some_text middle) → n ≡ length (some_text back) → k + (m + n) ≡ length (pieces_of t w)
 pieces_count t w front middle back k m n is there behind size count last =
-    let a : length (some_text front) ≡ length (some_text (take w.0 t)) = ap (λ (l : List ℕ). length (some_text l)) (is ∙ from_start t w.0) in
-    let b : length (some_text middle) ≡ length (some_text (slice_range t w.0 w.1)) = ap (λ (l : List ℕ). length (some_text l)) there in
-    let c : length (some_text back) ≡ length (some_text (drop w.1 t)) = ap (λ (l : List ℕ). length (some_text l)) behind in
+    let a : length (some_text front) ≡ length (some_text (take w.0 t)) =
+    ap (λ (l : List ℕ). length (some_text l)) (is ∙ from_start t w.0) in
+    let b : length (some_text middle) ≡ length (some_text (slice_range t w.0 w.1)) =
+    ap (λ (l : List ℕ). length (some_text l)) there in
+    let c : length (some_text back) ≡ length (some_text (drop w.1 t)) =
+    ap (λ (l : List ℕ). length (some_text l)) behind in
     let three = count_of_three (take w.0 t) (slice_range t w.0 w.1) (drop w.1 t) in
     omega (size, count, last, a, b, c, three, arith)
 
@@ -120,7 +126,8 @@ drop_end (x ∷ xs) = drop_end xs
 pub whole_count : (bytes : List ℕ) → length (pieces_of bytes (0, length bytes)) ≤ 1
 whole_count bytes =
     let none : some_text (drop (length bytes) bytes) ≡ [] = ap some_text (drop_end bytes) in
-    let size = length-append (some_text (slice_range bytes 0 (length bytes))) (some_text (drop (length bytes) bytes)) in
+    let size = length-append (some_text (slice_range bytes 0 (length bytes)))
+    (some_text (drop (length bytes) bytes)) in
     let nothing : length (some_text (drop (length bytes) bytes)) ≡ 0 = ap length none in
     let most = some_count (slice_range bytes 0 (length bytes)) in
     omega arith
@@ -143,14 +150,17 @@ none_joined (p ∷ ps) bytes e n = absurd (omega arith)
 pub swapped_front : (old literal new : List ℕ) (r : ℕ × ℕ) → (s : IsSwapped old literal new r)
     → take r.0 new ≡ take s.start old
 swapped_front old literal new r s =
-    let size : r.0 ≡ length (take s.start old) = ap (λ (p : ℕ × ℕ). p.0) s.there ∙ sym (length-take-le s.start old s.within) in
-    ap₂ (λ (n : ℕ) (l : List ℕ). take n l) size s.bytes ∙ take-append_seam (take s.start old) (literal ++ drop s.end old)
+    let size : r.0 ≡ length (take s.start old) = ap (λ (p : ℕ × ℕ). p.0) s.there ∙
+    sym (length-take-le s.start old s.within) in
+    ap₂ (λ (n : ℕ) (l : List ℕ). take n l) size s.bytes ∙
+    take-append_seam (take s.start old) (literal ++ drop s.end old)
 
 behind : (old literal new : List ℕ) (r : ℕ × ℕ) → (s : IsSwapped old literal new r)
     → drop s.start new ≡ literal ++ drop s.end old
 behind old literal new r s =
     let size : s.start ≡ length (take s.start old) = sym (length-take-le s.start old s.within) in
-    ap₂ (λ (n : ℕ) (l : List ℕ). drop n l) size s.bytes ∙ drop-append_seam (take s.start old) (literal ++ drop s.end old)
+    ap₂ (λ (n : ℕ) (l : List ℕ). drop n l) size s.bytes ∙
+    drop-append_seam (take s.start old) (literal ++ drop s.end old)
 
 pub swapped_literal : (old literal new : List ℕ) (r : ℕ × ℕ) → (s : IsSwapped old literal new r)
     → slice_range new r.0 r.1 ≡ literal
@@ -158,7 +168,8 @@ swapped_literal old literal new r s =
     let first : r.0 ≡ s.start = ap (λ (p : ℕ × ℕ). p.0) s.there in
     let last : r.1 ≡ s.start + length literal = ap (λ (p : ℕ × ℕ). p.1) s.there in
     let size : r.1 - r.0 ≡ length literal = omega arith in
-    ap₂ (λ (n : ℕ) (l : List ℕ). take n l) size (ap (λ (n : ℕ). drop n new) first ∙ behind old literal new r s)
+    ap₂ (λ (n : ℕ) (l : List ℕ). take n l) size (ap (λ (n : ℕ). drop n new) first ∙
+    behind old literal new r s)
     ∙ take-append_seam literal (drop s.end old)
 
 pub swapped_back : (old literal new : List ℕ) (r : ℕ × ℕ) → (s : IsSwapped old literal new r)
@@ -166,11 +177,14 @@ pub swapped_back : (old literal new : List ℕ) (r : ℕ × ℕ) → (s : IsSwap
 swapped_back old literal new r s =
     let last : r.1 ≡ s.start + length literal = ap (λ (p : ℕ × ℕ). p.1) s.there in
     let size : r.1 ≡ length (take s.start old ++ literal) =
-    last ∙ sym (length-append (take s.start old) literal ∙ ap (λ (n : ℕ). n + length literal) (length-take-le s.start old s.within)) in
-    ap₂ (λ (n : ℕ) (l : List ℕ). drop n l) size (s.bytes ∙ sym (append_assoc (take s.start old) literal (drop s.end old)))
+    last ∙ sym (length-append (take s.start old) literal ∙
+    ap (λ (n : ℕ). n + length literal) (length-take-le s.start old s.within)) in
+    ap₂ (λ (n : ℕ) (l : List ℕ). drop n l) size (s.bytes ∙
+    sym (append_assoc (take s.start old) literal (drop s.end old)))
     ∙ drop-append_seam (take s.start old ++ literal) (drop s.end old)
 
-none_of : (old : List ℕ) (n : ℕ) → old ≡ [] → (length (some_text (take n old)) ≡ 0) × (length (some_text (drop n old)) ≡ 0)
+none_of : (old : List ℕ) (n : ℕ) → old ≡ [] → (length (some_text (take n old)) ≡ 0)
+    × (length (some_text (drop n old)) ≡ 0)
 none_of [] zero e = (refl, refl)
 none_of [] (suc n) e = (refl, refl)
 none_of (b ∷ bs) n e = cc e
@@ -196,9 +210,11 @@ most_pieces old literal new r q is range = by_count (length (pieces_of old q)) r
     by_count zero e =
         let empty = none_joined (pieces_of old q) old (joined old q range.ordered) (sym e) in
         let front : length (some_text (take r.0 new)) ≡ 0 =
-        ap (λ (l : List ℕ). length (some_text l)) (swapped_front old literal new r is) ∙ (none_of old is.start empty).0 in
+        ap (λ (l : List ℕ). length (some_text l)) (swapped_front old literal new r is) ∙
+        (none_of old is.start empty).0 in
         let back : length (some_text (drop r.1 new)) ≡ 0 =
-        ap (λ (l : List ℕ). length (some_text l)) (swapped_back old literal new r is) ∙ (none_of old is.end empty).1 in
+        ap (λ (l : List ℕ). length (some_text l)) (swapped_back old literal new r is) ∙
+        (none_of old is.end empty).1 in
         omega (three, a, b, c, front, back, arith)
     by_count (suc n) e = omega (three, a, b, c, arith)
 
@@ -236,8 +252,10 @@ swaps old literal new start end last u v le first_fits last_fits e is = record {
   there = ap (λ (n : ℕ). (start, n)) size;
   range = record {
     ordered = omega (size, arith);
-    begins = IsCharBoundary-from_take new start v (omega (count, front, arith)) (subst IsUtf8 (sym before) (IsUtf8-take old start u first_fits));
-    ends = IsCharBoundary-from_drop new last (omega (count, front, size, arith)) (subst IsUtf8 (sym after) (IsUtf8-drop old end u last_fits));
+    begins = IsCharBoundary-from_take new start v (omega (count, front, arith))
+        (subst IsUtf8 (sym before) (IsUtf8-take old start u first_fits));
+    ends = IsCharBoundary-from_drop new last (omega (count, front, size, arith))
+        (subst IsUtf8 (sym after) (IsUtf8-drop old end u last_fits));
   };
 }
   where
@@ -261,12 +279,15 @@ swaps old literal new start end last u v le first_fits last_fits e is = record {
     size = let fits : end ≤ length old = last_fits.0 in omega (is, count, front, back, fits, arith)
 
     before : take start new ≡ take start old
-    before = ap₂ (λ (n : ℕ) (l : List ℕ). take n l) (sym front) bytes ∙ take-append_seam (take start old) (literal ++ drop end old)
+    before = ap₂ (λ (n : ℕ) (l : List ℕ). take n l) (sym front) bytes ∙
+        take-append_seam (take start old) (literal ++ drop end old)
 
     after : drop last new ≡ drop end old
     after =
-        let here : last ≡ length (take start old ++ literal) = size ∙ sym (length-append (take start old) literal ∙ ap (λ (n : ℕ). n + length literal) front) in
-        ap₂ (λ (n : ℕ) (l : List ℕ). drop n l) here (bytes ∙ sym (append_assoc (take start old) literal (drop end old)))
+        let here : last ≡ length (take start old ++ literal) = size ∙
+        sym (length-append (take start old) literal ∙ ap (λ (n : ℕ). n + length literal) front) in
+        ap₂ (λ (n : ℕ) (l : List ℕ). drop n l) here (bytes ∙
+        sym (append_assoc (take start old) literal (drop end old)))
         ∙ drop-append_seam (take start old ++ literal) (drop end old)
 
 -- a literal has its quotes

@@ -1,4 +1,5 @@
--- Literals and replacements that are worked out: one literal, two literals in any order, and places where nothing is written.
+-- Literals and replacements that are worked out: one literal, two literals in any order, and places where
+-- nothing is written.
 use Rattle.std.proofs.Common.{◌≡◌, ℕ, List, [], ◌∷◌, Some, None, refl, false, true≢false}
 use Rattle.std.specs.Prelude.{codes}
 use Rattle.edit_syntax.specs.Strings.{Key, bare, lf, plain}
@@ -9,7 +10,8 @@ use Rattle.edit_document.specs.Literals.{literal_bytes}
 use Rattle.edit_document.specs.Replaces.{replaced, AreOutside}
 
 -- every escape; other control characters by their number; all else as it is
-escapes : literal_bytes (8 ∷ 9 ∷ 10 ∷ 12 ∷ 13 ∷ 34 ∷ 92 ∷ 0 ∷ 31 ∷ 127 ∷ codes "/ '\u{80}é") ≡ codes "\"\\b\\t\\n\\f\\r\\\"\\\\\\u0000\\u001F\\u007F/ '\u{80}é\""
+escapes : literal_bytes (8 ∷ 9 ∷ 10 ∷ 12 ∷ 13 ∷ 34 ∷ 92 ∷ 0 ∷ 31 ∷ 127 ∷ codes "/ '\u{80}é")
+    ≡ codes "\"\\b\\t\\n\\f\\r\\\"\\\\\\u0000\\u001F\\u007F/ '\u{80}é\""
 escapes = refl
 
 abbrev name : List ℕ → Key
@@ -19,7 +21,8 @@ abbrev spaced : List ℕ
 spaced = 32 ∷ []
 
 abbrev inner : Value
-inner = inline (blank 32 ∷ []) (member (name (codes "c")) spaced spaced (basic (plain 50 ∷ [])) [] (blank 32 ∷ []) (last_member (name (codes "d")) spaced spaced (literal (codes "3")) (blank 32 ∷ [])))
+inner = inline (blank 32 ∷ []) (member (name (codes "c")) spaced spaced (basic (plain 50 ∷ [])) []
+    (blank 32 ∷ []) (last_member (name (codes "d")) spaced spaced (literal (codes "3")) (blank 32 ∷ [])))
 
 abbrev form : Text
 form = record {
@@ -43,19 +46,23 @@ spelling : text form ≡ codes "c ='1'\n[t]\nb = { c = \"2\", d = '3' } # x"
 spelling = refl
 
 -- the literal at one place, and not at another place that ends with the same key
-one : text (replaced ((place_tbc, codes "a\"b") ∷ []) form) ≡ codes "c ='1'\n[t]\nb = { c = \"a\\\"b\", d = '3' } # x"
+one : text (replaced ((place_tbc, codes "a\"b") ∷ []) form)
+    ≡ codes "c ='1'\n[t]\nb = { c = \"a\\\"b\", d = '3' } # x"
 one = refl
 
 -- two literals, told in any order
-two : text (replaced ((place_tbd, []) ∷ (place_c, codes "0.2") ∷ []) form) ≡ codes "c =\"0.2\"\n[t]\nb = { c = \"2\", d = \"\" } # x"
+two : text (replaced ((place_tbd, []) ∷ (place_c, codes "0.2") ∷ []) form)
+    ≡ codes "c =\"0.2\"\n[t]\nb = { c = \"2\", d = \"\" } # x"
 two = refl
 
 -- a value with what is inside it
-whole : text (replaced ((key (codes "t") ∷ key (codes "b") ∷ [], codes "4") ∷ []) form) ≡ codes "c ='1'\n[t]\nb = \"4\" # x"
+whole : text (replaced ((key (codes "t") ∷ key (codes "b") ∷ [], codes "4") ∷ []) form)
+    ≡ codes "c ='1'\n[t]\nb = \"4\" # x"
 whole = refl
 
 -- an inline table and a string, told in any order
-mixed : text (replaced ((key (codes "t") ∷ key (codes "b") ∷ [], codes "4") ∷ (place_c, codes "0.2") ∷ []) form) ≡ codes "c =\"0.2\"\n[t]\nb = \"4\" # x"
+mixed : text (replaced ((key (codes "t") ∷ key (codes "b") ∷ [], codes "4") ∷ (place_c, codes "0.2") ∷ [])
+    form) ≡ codes "c =\"0.2\"\n[t]\nb = \"4\" # x"
 mixed = refl
 
 -- what was inside the inline table is gone
@@ -63,7 +70,8 @@ gone : view_at (replaced ((key (codes "t") ∷ key (codes "b") ∷ [], codes "4"
 gone = refl
 
 -- a value inside a replaced one is no place of its own
-inner_below : AreOutside ((key (codes "t") ∷ key (codes "b") ∷ [], codes "4") ∷ (place_tbc, codes "5") ∷ []) → ⊥
+inner_below : AreOutside ((key (codes "t") ∷ key (codes "b") ∷ [], codes "4") ∷ (place_tbc, codes "5") ∷ [])
+    → ⊥
 inner_below h = true≢false h.1.0
 
 -- nothing is written where no value stands

@@ -28,7 +28,8 @@ module _ (d e : Shown) (place : Place) (item : NewItem) where
       (sym (h.there []) ∙ ap (tree_of e) (append-nil place) ∙ finds h.elsewhere)
 
 -- the place above a place of the code
-pub above_seen : (steps : List WrittenStep) (n : ℕ) → n ≡ length steps - 1 → place_seen (take n steps) ≡ above (place_seen steps)
+pub above_seen : (steps : List WrittenStep) (n : ℕ) → n ≡ length steps - 1
+    → place_seen (take n steps) ≡ above (place_seen steps)
 above_seen [] n e = ap (λ (k : ℕ). place_seen (take k [])) e
 above_seen (s ∷ []) n e = ap (λ (k : ℕ). place_seen (take k (s ∷ []))) e
 above_seen (s ∷ t ∷ ts) n e =

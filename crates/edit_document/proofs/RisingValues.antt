@@ -5,11 +5,13 @@ use Rattle.std.specs.List.{AllByRecursion, cons_option}
 use Rattle.edit_syntax.specs.Grammar.{Text}
 use Rattle.edit_syntax.proofs.Cases.{by_test}
 use Rattle.edit_syntax.proofs.Members.{Among, among_all, filter_among}
+use Rattle.edit_document.specs.EditBytes.{is_within}
 use Rattle.edit_document.specs.Assertions.{Place, Step, Kind, dotted, leaf, super, header_kind, array_kind, element_kind, Assertion, assertions, together, NoClash}
 use Rattle.edit_document.specs.Written.{values}
-use Rattle.edit_document.proofs.NothingBelow.{Opened, Rooted, done, next, rooted, AnyBelow, opened_below}
+use Rattle.edit_document.proofs.NothingBelow.{Opened, Rooted, done, next, rooted}
+use Rattle.edit_document.proofs.PlainValues.{AnyBelow, opened_below}
 use Rattle.edit_document.proofs.SamePlace.{not_root}
-use Rattle.edit_document.proofs.SamePlaces.{is_within, within_cases}
+use Rattle.edit_document.proofs.SamePlaces.{within_cases}
 use Rattle.edit_document.proofs.ThinnedForms.{is_leaf}
 use Rattle.edit_document.proofs.ThinnedLines.{leaf_alone}
 use Rattle.edit_document.proofs.UniqueValues.{leaf_place, leaves, places, lines_leaves}

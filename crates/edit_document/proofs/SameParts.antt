@@ -12,7 +12,8 @@ use Rattle.edit_document.proofs.SamePlace.{same_step_is, same_step_self}
 
 -- the same stands at the first parts
 abbrev pub SameParts : Shown → ℕ → Shown → ℕ → ℕ → Type 0
-SameParts d n e m count = (j : ℕ) (step : Step) → j < count → nth_part (view_numbered d n) j ≡ Some step → SameBelow d (at (place_numbered d n) step) e (at (place_numbered e m) step)
+SameParts d n e m count = (j : ℕ) (step : Step) → j < count → nth_part (view_numbered d n) j ≡ Some step
+    → SameBelow d (at (place_numbered d n) step) e (at (place_numbered e m) step)
 
 -- ---- parts of a view
 
@@ -55,7 +56,8 @@ step_or s t = go (same_step s t) refl
   where
     go : (b : Bool) → same_step s t ≡ b → (s ≡ t) ⊎ (s ≡ t → ⊥)
     go true e = inl (same_step_is s t e)
-    go false e = inr (λ h. let clash : true ≡ false = sym (same_step_self t) ∙ ap (λ (u : Step). same_step u t) (sym h) ∙ e in cc)
+    go false e = inr (λ h. let clash : true ≡ false = sym (same_step_self t) ∙
+        ap (λ (u : Step). same_step u t) (sym h) ∙ e in cc)
 
 abbrev pub IsPart : View → Step → ℕ → Type 0
 IsPart v s n = ((j : ℕ) × (j < n) × (nth_part v j ≡ Some s)) ⊎ ((j : ℕ) → j < n → nth_part v j ≡ Some s → ⊥)
@@ -64,13 +66,15 @@ pub part_or : (v : View) (s : Step) (n : ℕ) → IsPart v s n
 part_or v s zero = inr (λ j lt e. omega arith)
 part_or v s (suc n) = go (part_or v s n) (nth_part v n) refl
   where
-    rest : (o : Option Step) → nth_part v n ≡ o → (o ≡ Some s → ⊥) → ((j : ℕ) → j < n → nth_part v j ≡ Some s → ⊥) → (j : ℕ) → j < suc n → nth_part v j ≡ Some s → ⊥
+    rest : (o : Option Step) → nth_part v n ≡ o → (o ≡ Some s → ⊥)
+        → ((j : ℕ) → j < n → nth_part v j ≡ Some s → ⊥) → (j : ℕ) → j < suc n → nth_part v j ≡ Some s → ⊥
     rest o e ne none j lt p = elim (cases_lt j n) [
       | inl l ↦ none j l p
       | inr g ↦ (let same : j ≡ n = omega arith in ne (sym e ∙ ap (nth_part v) (sym same) ∙ p))
     ]
 
-    here : (o : Option Step) → nth_part v n ≡ o → ((j : ℕ) → j < n → nth_part v j ≡ Some s → ⊥) → IsPart v s (suc n)
+    here : (o : Option Step) → nth_part v n ≡ o → ((j : ℕ) → j < n → nth_part v j ≡ Some s → ⊥)
+        → IsPart v s (suc n)
     here None e none = inr (rest None e (λ h. cc) none)
     here (Some t) e none = elim (step_or t s) [
       | inl same ↦ inl (n, omega arith, e ∙ ap Some same)
@@ -84,43 +88,58 @@ part_or v s (suc n) = go (part_or v s n) (nth_part v n) refl
 -- ---- below
 
 abbrev pub NothingElse : Shown → ℕ → Type 0
-NothingElse d n = (step : Step) → ((i : ℕ) → nth_part (view_numbered d n) i ≡ Some step → ⊥) → tree_of d (at (place_numbered d n) step) ≡ None
+NothingElse d n = (step : Step) → ((i : ℕ) → nth_part (view_numbered d n) i ≡ Some step → ⊥)
+    → tree_of d (at (place_numbered d n) step) ≡ None
 
 abbrev pub NoneBelow : Shown → Type 0
 NoneBelow d = (place more : Place) → tree_of d place ≡ None → tree_of d (place ++ more) ≡ None
 
-pub one_down : (d : Shown) (p : Place) (s : Step) (q : Place) → tree_of d (at p s ++ q) ≡ tree_of d (p ++ s ∷ q)
+pub one_down : (d : Shown) (p : Place) (s : Step) (q : Place)
+    → tree_of d (at p s ++ q) ≡ tree_of d (p ++ s ∷ q)
 one_down d p s q = ap (tree_of d) (append_assoc p (s ∷ []) q)
 
-pub same_all : (d : Shown) (n : ℕ) (e : Shown) (m : ℕ) → NoneBelow d → NoneBelow e → NothingElse d n → NothingElse e m → tree_of d (place_numbered d n) ≡ Some (view_numbered d n) → tree_of e (place_numbered e m) ≡ Some (view_numbered e m)
-    → view_numbered d n ≡ view_numbered e m → SameParts d n e m (count_in (view_numbered d n)) → SameBelow d (place_numbered d n) e (place_numbered e m)
+pub same_all : (d : Shown) (n : ℕ) (e : Shown) (m : ℕ) → NoneBelow d → NoneBelow e → NothingElse d n
+    → NothingElse e m → tree_of d (place_numbered d n) ≡ Some (view_numbered d n)
+    → tree_of e (place_numbered e m) ≡ Some (view_numbered e m)
+    → view_numbered d n ≡ view_numbered e m → SameParts d n e m (count_in (view_numbered d n))
+    → SameBelow d (place_numbered d n) e (place_numbered e m)
 same_all d n e m below_d below_e else_d else_e here there same parts [] =
-    ap (tree_of d) (append-nil (place_numbered d n)) ∙ here ∙ ap Some same ∙ sym there ∙ ap (tree_of e) (sym (append-nil (place_numbered e m)))
+    ap (tree_of d) (append-nil (place_numbered d n)) ∙ here ∙ ap Some same ∙ sym there ∙
+    ap (tree_of e) (sym (append-nil (place_numbered e m)))
 same_all d n e m below_d below_e else_d else_e here there same parts (s ∷ q) =
     elim (part_or (view_numbered d n) s (count_in (view_numbered d n))) [
-      | inl p ↦ sym (one_down d (place_numbered d n) s q) ∙ parts p.0 s p.1 p.2 q ∙ one_down e (place_numbered e m) s q
+      | inl p ↦ sym (one_down d (place_numbered d n) s q) ∙ parts p.0 s p.1 p.2 q ∙
+          one_down e (place_numbered e m) s q
       | inr none ↦
-          let no : (i : ℕ) → nth_part (view_numbered d n) i ≡ Some s → ⊥ = λ i p. none i (part_less (view_numbered d n) i s p) p in
+          let no : (i : ℕ) → nth_part (view_numbered d n) i ≡ Some s
+          → ⊥ = λ i p. none i (part_less (view_numbered d n) i s p) p in
           let left = below_d (at (place_numbered d n) s) q (else_d s no) in
-          let right = below_e (at (place_numbered e m) s) q (else_e s (λ i p. no i (ap (λ (v : View). nth_part v i) same ∙ p))) in
+          let right = below_e (at (place_numbered e m) s) q
+          (else_e s (λ i p. no i (ap (λ (v : View). nth_part v i) same ∙ p))) in
           sym (one_down d (place_numbered d n) s q) ∙ left ∙ sym right ∙ one_down e (place_numbered e m) s q
     ]
 
 -- what is the same below two nodes is the same at them
-pub same_here : (d : Shown) (n : ℕ) (e : Shown) (m : ℕ) → tree_of d (place_numbered d n) ≡ Some (view_numbered d n) → tree_of e (place_numbered e m) ≡ Some (view_numbered e m)
+pub same_here : (d : Shown) (n : ℕ) (e : Shown) (m : ℕ) → tree_of d (place_numbered d n)
+    ≡ Some (view_numbered d n) → tree_of e (place_numbered e m) ≡ Some (view_numbered e m)
     → SameBelow d (place_numbered d n) e (place_numbered e m) → view_numbered d n ≡ view_numbered e m
 same_here d n e m here there same =
     same_Some (view_numbered d n) (view_numbered e m)
-    (sym here ∙ ap (tree_of d) (sym (append-nil (place_numbered d n))) ∙ same [] ∙ ap (tree_of e) (append-nil (place_numbered e m)) ∙ there)
+    (sym here ∙ ap (tree_of d) (sym (append-nil (place_numbered d n))) ∙ same [] ∙
+    ap (tree_of e) (append-nil (place_numbered e m)) ∙ there)
 
 -- and at each of their parts
-pub same_part : (d : Shown) (n : ℕ) (e : Shown) (m : ℕ) (step : Step) → SameBelow d (place_numbered d n) e (place_numbered e m) → SameBelow d (at (place_numbered d n) step) e (at (place_numbered e m) step)
-same_part d n e m step same q = one_down d (place_numbered d n) step q ∙ same (step ∷ q) ∙ sym (one_down e (place_numbered e m) step q)
+pub same_part : (d : Shown) (n : ℕ) (e : Shown) (m : ℕ) (step : Step)
+    → SameBelow d (place_numbered d n) e (place_numbered e m)
+    → SameBelow d (at (place_numbered d n) step) e (at (place_numbered e m) step)
+same_part d n e m step same q = one_down d (place_numbered d n) step q ∙ same (step ∷ q) ∙
+    sym (one_down e (place_numbered e m) step q)
 
 -- ---- the same view
 
 worded : ℕ → List ℕ → View
-worded k w = if k == 0 then string w else (if k == 3 then whole w else (if k == 4 then fractional w else moment w))
+worded k w = if k == 0 then string w else
+    (if k == 3 then whole w else (if k == 4 then fractional w else moment w))
 
 assemble : ℕ → Option (List ℕ) → List (List ℕ) → ℕ → View
 assemble k w names n =
@@ -145,7 +164,8 @@ assembled (table_array n) k = refl
 assembled (inline_table ms) k = ap inline_table (sym k)
 assembled (table ms) k = ap table (sym k)
 
-pub same_views : (v w : View) → AreKeys v → AreKeys w → kind_of v ≡ kind_of w → word_of v ≡ word_of w → names_in v ≡ names_in w → count_in v ≡ count_in w → v ≡ w
+pub same_views : (v w : View) → AreKeys v → AreKeys w → kind_of v ≡ kind_of w → word_of v ≡ word_of w
+    → names_in v ≡ names_in w → count_in v ≡ count_in w → v ≡ w
 same_views v w kv kw a b c d =
     sym (assembled v kv)
     ∙ ap (λ k. assemble k (word_of v) (names_in v) (count_in v)) a
@@ -155,31 +175,43 @@ same_views v w kv kw a b c d =
 
 -- ---- one part more
 
-pub parts_more : (d : Shown) (n : ℕ) (e : Shown) (m i a b : ℕ) → view_numbered d n ≡ view_numbered e m → SameParts d n e m i → NumbersPart d n i (Some a) → NumbersPart e m i (Some b) → SameBelow d (place_numbered d a) e (place_numbered e b) → SameParts d n e m (i + 1)
+pub parts_more : (d : Shown) (n : ℕ) (e : Shown) (m i a b : ℕ) → view_numbered d n ≡ view_numbered e m
+    → SameParts d n e m i → NumbersPart d n i (Some a) → NumbersPart e m i (Some b)
+    → SameBelow d (place_numbered d a) e (place_numbered e b) → SameParts d n e m (i + 1)
 parts_more d n e m i a b same parts (s, ps, la, pa) (r, pr, lb, pb) below j step lt p q =
     elim (cases_lt j i) [
       | inl l ↦ parts j step l p q
       | inr g ↦
           let here : j ≡ i = omega arith in
           let one : s ≡ step = same_Some s step (sym ps ∙ ap (nth_part (view_numbered d n)) (sym here) ∙ p) in
-          let two : r ≡ step = same_Some r step (sym pr ∙ ap (λ (v : View). nth_part v i) (sym same) ∙ ap (nth_part (view_numbered d n)) (sym here) ∙ p) in
-          let left : place_numbered d a ≡ at (place_numbered d n) step = pa ∙ ap (at (place_numbered d n)) one in
-          let right : place_numbered e b ≡ at (place_numbered e m) step = pb ∙ ap (at (place_numbered e m)) two in
-          ap (λ (x : Place). tree_of d (x ++ q)) (sym left) ∙ below q ∙ ap (λ (x : Place). tree_of e (x ++ q)) right
+          let two : r ≡ step = same_Some r step (sym pr ∙ ap (λ (v : View). nth_part v i) (sym same) ∙
+          ap (nth_part (view_numbered d n)) (sym here) ∙ p) in
+          let left : place_numbered d a ≡ at (place_numbered d n) step = pa ∙
+          ap (at (place_numbered d n)) one in
+          let right : place_numbered e b ≡ at (place_numbered e m) step = pb ∙
+          ap (at (place_numbered e m)) two in
+          ap (λ (x : Place). tree_of d (x ++ q)) (sym left) ∙ below q ∙
+          ap (λ (x : Place). tree_of e (x ++ q)) right
     ]
 
-pub parts_all : (d : Shown) (n : ℕ) (e : Shown) (m i count : ℕ) → SameParts d n e m i → count ≤ i → count ≡ count_in (view_numbered d n) → SameParts d n e m (count_in (view_numbered d n))
+pub parts_all : (d : Shown) (n : ℕ) (e : Shown) (m i count : ℕ) → SameParts d n e m i → count ≤ i
+    → count ≡ count_in (view_numbered d n) → SameParts d n e m (count_in (view_numbered d n))
 parts_all d n e m i count parts le c j step lt p q = parts j step (omega arith) p q
 
 -- what is the same at two parts
-pub part_same : (d : Shown) (n : ℕ) (e : Shown) (m i a b : ℕ) → view_numbered d n ≡ view_numbered e m → NumbersPart d n i (Some a) → NumbersPart e m i (Some b) → SameBelow d (place_numbered d n) e (place_numbered e m) → SameBelow d (place_numbered d a) e (place_numbered e b)
+pub part_same : (d : Shown) (n : ℕ) (e : Shown) (m i a b : ℕ) → view_numbered d n ≡ view_numbered e m
+    → NumbersPart d n i (Some a) → NumbersPart e m i (Some b)
+    → SameBelow d (place_numbered d n) e (place_numbered e m)
+    → SameBelow d (place_numbered d a) e (place_numbered e b)
 part_same d n e m i a b same (s, ps, la, pa) (r, pr, lb, pb) below q =
     let one : s ≡ r = same_Some s r (sym ps ∙ ap (λ (v : View). nth_part v i) same ∙ pr) in
-    ap (λ (x : Place). tree_of d (x ++ q)) (pa ∙ ap (at (place_numbered d n)) one) ∙ same_part d n e m r below q ∙ ap (λ (x : Place). tree_of e (x ++ q)) (sym pb)
+    ap (λ (x : Place). tree_of d (x ++ q)) (pa ∙ ap (at (place_numbered d n)) one) ∙
+    same_part d n e m r below q ∙ ap (λ (x : Place). tree_of e (x ++ q)) (sym pb)
 
 -- ---- names
 
-take_next : (xs ys : List (List ℕ)) (i : ℕ) → take i xs ≡ take i ys → slice_get xs i ≡ slice_get ys i → take (suc i) xs ≡ take (suc i) ys
+take_next : (xs ys : List (List ℕ)) (i : ℕ) → take i xs ≡ take i ys → slice_get xs i ≡ slice_get ys i
+    → take (suc i) xs ≡ take (suc i) ys
 take_next [] [] i e s = refl
 take_next [] (y ∷ ys) zero e s = absurd cc
 take_next [] (y ∷ ys) (suc i) e s = absurd cc
@@ -189,7 +221,9 @@ take_next (x ∷ xs) (y ∷ ys) zero e s = let same : x ≡ y = cc in ap (λ (z 
 take_next (x ∷ xs) (y ∷ ys) (suc i) e s =
     let head : x ≡ y = cc in
     let tail : take i xs ≡ take i ys = cc in
-    ap (λ (z : List ℕ). z ∷ take (suc i) xs) head ∙ ap (λ (zs : List (List ℕ)). y ∷ zs) (take_next xs ys i tail s)
+    ap (λ (z : List ℕ). z ∷ take (suc i) xs) head ∙ ap (λ (zs : List (List ℕ)). y ∷ zs)
+    (take_next xs ys i tail s)
 
-pub take_both : (xs ys : List (List ℕ)) (i : ℕ) → take i xs ≡ take i ys → slice_get xs i ≡ slice_get ys i → take (i + 1) xs ≡ take (i + 1) ys
+pub take_both : (xs ys : List (List ℕ)) (i : ℕ) → take i xs ≡ take i ys → slice_get xs i ≡ slice_get ys i
+    → take (i + 1) xs ≡ take (i + 1) ys
 take_both xs ys i e s = let more : i + 1 ≡ suc i = omega arith in rw more (take_next xs ys i e s)

@@ -75,4 +75,5 @@ place_or p q = go (same_place p q) refl
   where
     go : (b : Bool) → same_place p q ≡ b → (p ≡ q) ⊎ (p ≡ q → ⊥)
     go true e = inl (same_place_is p q e)
-    go false e = inr (λ same. let t : same_place p q ≡ true = ap (λ (r : Place). same_place r q) same ∙ same_place_self q in cc)
+    go false e = inr (λ same. let t : same_place p q ≡ true = ap (λ (r : Place). same_place r q) same ∙
+        same_place_self q in cc)

@@ -1,18 +1,13 @@
 -- Tests of equal bytes, steps and places, and of a place below another.
-use Rattle.std.proofs.Common.{◌≡◌, ℕ, Bool, true, false, ◌&&◌, List, [], ◌∷◌, ◌++◌, map, refl, sym, ap₂, ◌∙◌, ◌⊎◌, inl, inr, ⊎_elim, true≢false}
+use Rattle.std.proofs.Common.{◌≡◌, ℕ, true, false, ◌&&◌, List, [], ◌∷◌, ◌++◌, map, refl, sym, ap₂, ◌∙◌, ◌⊎◌, inl, inr, ⊎_elim, true≢false}
 use Rattle.std.proofs.lemmas.Bool.{and_parts, and_from}
 use Rattle.edit_document.specs.Assertions.{Place, Step, key, at, same_step, named}
+use Rattle.edit_document.specs.EditBytes.{is_within}
 use Rattle.edit_document.specs.Replaces.{is_below}
 use Rattle.edit_syntax.proofs.Cases.{by_test}
 use Rattle.edit_document.proofs.SamePlace.{same_step_is, same_step_self}
 
 -- ---- below
-
--- the place itself, or one below it
-abbrev pub is_within : Place → Place → Bool
-is_within [] q = true
-is_within (s ∷ ss) [] = false
-is_within (s ∷ ss) (t ∷ ts) = same_step s t && is_within ss ts
 
 pub within_same : (p : Place) → is_within p p ≡ true
 within_same [] = refl
@@ -37,12 +32,15 @@ within_more (u ∷ us) (t ∷ ts) q e =
 pub within_at : (target p : Place) (s : Step) → is_within target p ≡ true → is_within target (at p s) ≡ true
 within_at target p s e = within_more target p (s ∷ []) e
 
-pub within_named : (target p : Place) (ns : List (List ℕ)) → is_within target p ≡ true → is_within target (named p ns) ≡ true
+pub within_named : (target p : Place) (ns : List (List ℕ)) → is_within target p ≡ true
+    → is_within target (named p ns) ≡ true
 within_named target p ns e = within_more target p (map key ns) e
 
 pub not_below_itself : (p : Place) → is_below p p ≡ false
 not_below_itself [] = refl
-not_below_itself (s ∷ ss) = by_test (same_step s s && is_below ss ss) (λ e. absurd (true≢false (sym (and_parts (same_step s s) (is_below ss ss) e).1 ∙ not_below_itself ss))) (λ e. e)
+not_below_itself (s ∷ ss) = by_test (same_step s s && is_below ss ss)
+    (λ e. absurd (true≢false (sym (and_parts (same_step s s) (is_below ss ss) e).1 ∙ not_below_itself ss)))
+    (λ e. e)
 
 pub below_within : (target p : Place) → is_below target p ≡ true → is_within target p ≡ true
 below_within [] p e = refl
@@ -58,4 +56,5 @@ within_cases [] (t ∷ ts) e = inr refl
 within_cases (s ∷ ss) [] e = absurd cc
 within_cases (s ∷ ss) (t ∷ ts) e =
     let h = and_parts (same_step s t) (is_within ss ts) e in
-    ⊎_elim (λ q. inl (ap₂ (λ x xs. x ∷ xs) (same_step_is s t h.0) q)) (λ q. inr (and_from (same_step s t) (is_below ss ts) h.0 q)) (within_cases ss ts h.1)
+    ⊎_elim (λ q. inl (ap₂ (λ x xs. x ∷ xs) (same_step_is s t h.0) q))
+    (λ q. inr (and_from (same_step s t) (is_below ss ts) h.0 q)) (within_cases ss ts h.1)

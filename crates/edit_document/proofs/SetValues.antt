@@ -3,7 +3,7 @@ use Rattle.std.proofs.Common.{◌≡◌, ℕ, true, false, ◌&&◌, ◌||◌, c
 use Rattle.edit_syntax.specs.Grammar.{Text, text}
 use Rattle.edit_syntax.proofs.Cases.{by_test}
 use Rattle.edit_document.specs.Assertions.{Place, Step, same_step, leaf, assertions, NoClash, IsDocument}
-use Rattle.edit_document.specs.EditBytes.{set_text}
+use Rattle.edit_document.specs.EditBytes.{set_text, is_within}
 use Rattle.edit_document.specs.EditBytes.{is_within as is_inside}
 use Rattle.edit_document.specs.Literals.{literal_of}
 use Rattle.edit_document.specs.Meant.{Tree, HasSet, new_view}
@@ -14,18 +14,20 @@ use Rattle.edit_document.specs.Supported.{IsManifest}
 use Rattle.edit_document.specs.Tree.{view_at, view_of_kind, kind_at, is_value_at}
 use Rattle.edit_document.specs.Written.{values, start_of, end_of, IsWrittenAt}
 use Rattle.edit_document.proofs.NewValues.{new_is_value, new_under, new_flat, new_short, new_apart, new_shows, new_shows_below}
-use Rattle.edit_document.proofs.NothingBelow.{shut_below, rooted}
+use Rattle.edit_document.proofs.NothingBelow.{rooted}
+use Rattle.edit_document.proofs.PlainValues.{shut_below}
 use Rattle.edit_document.proofs.Parts.{has_kind}
 use Rattle.edit_document.proofs.ReplacedStrings.{told_value, one_apart}
 use Rattle.edit_document.proofs.ReplacedTree.{formed_lines, thinned, replaced_document, no_root}
 use Rattle.edit_document.proofs.SamePlace.{same_step_self, same_place_self}
-use Rattle.edit_document.proofs.SamePlaces.{is_within, below_within}
+use Rattle.edit_document.proofs.SamePlaces.{below_within}
 use Rattle.edit_document.proofs.Shallow.{one_form}
 use Rattle.edit_document.proofs.ThinnedViews.{thin_view, thin_literal}
 use Rattle.edit_syntax.proofs.Members.{among_contained}
 use Rattle.edit_document.proofs.UniqueValues.{value_listed}
 use Rattle.edit_document.proofs.WidenedForms.{one, turned, Widened, widened}
-use Rattle.edit_document.proofs.WidenedViews.{IsFree, none_free, self_far, widened_short, widened_apart, widened_here, widened_below, widened_else}
+use Rattle.edit_document.proofs.WidenedViews.{self_far, widened_here, widened_below, widened_else}
+use Rattle.edit_document.proofs.WidenedLists.{IsFree, none_free, widened_short, widened_apart}
 use Rattle.edit_document.proofs.SetBytes.{form_set, set_at}
 
 -- ---- a document

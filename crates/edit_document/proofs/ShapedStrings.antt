@@ -6,7 +6,8 @@ use Rattle.edit_document.specs.Nodes.{scalar, shape_said}
 use Rattle.edit_document.specs.Tree.{string}
 
 -- what is no number, no date and no time shows a string
-pub string_shape : (kind : MarkKind) (said : List ℕ) → (kind ≡ Integer → ⊥) → (kind ≡ Float → ⊥) → (kind ≡ DateTime → ⊥) → scalar (string said) ≡ shape_said kind said
+pub string_shape : (kind : MarkKind) (said : List ℕ) → (kind ≡ Integer → ⊥) → (kind ≡ Float → ⊥)
+    → (kind ≡ DateTime → ⊥) → scalar (string said) ≡ shape_said kind said
 string_shape Integer said a b c = absurd (a refl)
 string_shape Float said a b c = absurd (b refl)
 string_shape DateTime said a b c = absurd (c refl)

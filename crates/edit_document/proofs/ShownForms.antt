@@ -14,22 +14,29 @@ use Rattle.edit_document.proofs.Shallow.{one_form}
 
 -- ---- the form that was read is the only one
 
-pub shown_bytes : (inside : Inside) (shown : Shown) → shown_of inside ≡ shown → string_bytes inside.text ≡ shown.bytes
+pub shown_bytes : (inside : Inside) (shown : Shown) → shown_of inside ≡ shown
+    → string_bytes inside.text ≡ shown.bytes
 unfolding shown_by
 shown_bytes inside shown view = ap (λ (s : Shown). s.bytes) view
 
-pub form_same : (inside : Inside) (shown : Shown) (form : Text) → (read : IsRead inside) → shown_of inside ≡ shown → IsManifest shown.bytes form → form ≡ read.form
+pub form_same : (inside : Inside) (shown : Shown) (form : Text) → (read : IsRead inside)
+    → shown_of inside ≡ shown → IsManifest shown.bytes form → form ≡ read.form
 form_same inside shown form read view manifest =
-    let here : IsManifest (string_bytes inside.text) form = subst (λ (b : List ℕ). IsManifest b form) (sym (shown_bytes inside shown view)) manifest in
+    let here : IsManifest (string_bytes inside.text) form =
+    subst (λ (b : List ℕ). IsManifest b form) (sym (shown_bytes inside shown view)) manifest in
     one_form (string_bytes inside.text) form read.form here read.manifest
 
-pub open_spots : (inside : Inside) (shown : Shown) → (read : IsRead inside) → shown_of inside ≡ shown → shown.nodes ≡ map shown_spot read.spots
+pub open_spots : (inside : Inside) (shown : Shown) → (read : IsRead inside) → shown_of inside ≡ shown
+    → shown.nodes ≡ map shown_spot read.spots
 unfolding shown_by
 open_spots inside shown read view = ap (λ (s : Shown). s.nodes) (sym view) ∙ ap nodes_by read.found
 
-pub shows_tree : (inside : Inside) (shown : Shown) (form : Text) → IsRead inside → shown_of inside ≡ shown → IsManifest shown.bytes form → ShowsTree shown form
+pub shows_tree : (inside : Inside) (shown : Shown) (form : Text) → IsRead inside → shown_of inside ≡ shown
+    → IsManifest shown.bytes form → ShowsTree shown form
 shows_tree inside shown form read view manifest place =
-    ap (λ (ns : List (Place × View)). node_at ns place) (open_spots inside shown read view) ∙ read.views place ∙ ap (λ (t : Text). view_at t place) (sym (form_same inside shown form read view manifest))
+    ap (λ (ns : List (Place × View)). node_at ns place) (open_spots inside shown read view) ∙
+    read.views place ∙ ap (λ (t : Text). view_at t place)
+    (sym (form_same inside shown form read view manifest))
 
 -- ---- the pieces
 

@@ -12,7 +12,7 @@ use Rattle.edit_document.specs.Items.{key_names, names_in, place_numbered, view_
 use Rattle.edit_document.specs.Compared.{kind_of, nth_part, AreSteps, AreKeys, AreApart, ShowsValue, ShowsMembers, ShowsItem, members_shown}
 use Rattle.edit_document.proofs.SamePlace.{same_bytes_self, same_bytes_is}
 use Rattle.edit_document.proofs.SameParts.{one_down, NothingElse, NoneBelow}
-use Rattle.edit_document.proofs.Views.{names_keys}
+use Rattle.edit_document.proofs.MemberViews.{names_keys}
 use Rattle.edit_document.proofs.ShownValues.{new_some, shown_at, unshown_at}
 
 -- a name and a new value
@@ -31,7 +31,8 @@ found (x ∷ ms) n m e = go (same_bytes x.0 n) refl e (found ms n m)
         → (find (λ x. same_bytes x.0 n) ms ≡ Some m → (i : ℕ) × (slice_get ms i ≡ Some m) × (m.0 ≡ n))
         → (i : ℕ) × (slice_get (x ∷ ms) i ≡ Some m) × (m.0 ≡ n)
     go true t e ih =
-        let same : x ≡ m = same_Some x m e in (0, ap Some same, ap (λ (p : Pair). p.0) (sym same) ∙ same_bytes_is x.0 n t)
+        let same : x ≡ m = same_Some x m e in
+        (0, ap Some same, ap (λ (p : Pair). p.0) (sym same) ∙ same_bytes_is x.0 n t)
     go false t e ih = let r = ih e in (suc r.0, r.1, r.2)
 
 same_self : (k n : List ℕ) → k ≡ n → same_bytes k n ≡ true
@@ -42,7 +43,8 @@ missed : (ms : List Pair) (n : List ℕ) (i : ℕ) → find (λ x. same_bytes x.
 missed [] n i e f = cc
 missed (x ∷ ms) n i e f = go (same_bytes x.0 n) refl i e f (λ j. missed ms n j)
   where
-    go : (b : Bool) → same_bytes x.0 n ≡ b → (i : ℕ) → cond b (Some x) (find (λ x. same_bytes x.0 n) ms) ≡ None
+    go : (b : Bool) → same_bytes x.0 n ≡ b → (i : ℕ) → cond b (Some x) (find (λ x. same_bytes x.0 n) ms)
+        ≡ None
         → slice_get (map (λ (m : Pair). m.0) (x ∷ ms)) i ≡ Some n
         → ((j : ℕ) → find (λ x. same_bytes x.0 n) ms ≡ None
         → slice_get (map (λ (m : Pair). m.0) ms) j ≡ Some n → ⊥) → ⊥
@@ -59,10 +61,12 @@ only : (ms : List Pair) (i : ℕ) (m : Pair) → Once ms → slice_get ms i ≡ 
     → find (λ x. same_bytes x.0 m.0) ms ≡ Some m
 only ms i m once e = go (find (λ x. same_bytes x.0 m.0) ms) refl
   where
-    name_of : (j : ℕ) (p : Pair) → slice_get ms j ≡ Some p → slice_get (map (λ (m : Pair). m.0) ms) j ≡ Some p.0
+    name_of : (j : ℕ) (p : Pair) → slice_get ms j ≡ Some p
+        → slice_get (map (λ (m : Pair). m.0) ms) j ≡ Some p.0
     name_of j p e = slice_get-map (λ (m : Pair). m.0) ms j ∙ ap (option_map (λ (m : Pair). m.0)) e
 
-    go : (o : Option Pair) → find (λ x. same_bytes x.0 m.0) ms ≡ o → find (λ x. same_bytes x.0 m.0) ms ≡ Some m
+    go : (o : Option Pair) → find (λ x. same_bytes x.0 m.0) ms ≡ o
+        → find (λ x. same_bytes x.0 m.0) ms ≡ Some m
     go None f = absurd (missed ms m.0 i f (name_of i m e))
     go (Some p) f =
         let r = found ms m.0 p f in
@@ -100,7 +104,8 @@ steps_map [] = refl
 steps_map (m ∷ ms) = ap (λ (ss : List Step). key m.0 ∷ ss) (steps_map ms)
 
 view_cond : (b : Bool) (ms : List Pair)
-    → view_of_members b ms ≡ cond b (inline_table (map key (map (λ (m : Pair). m.0) ms))) (table (map key (map (λ (m : Pair). m.0) ms)))
+    → view_of_members b ms ≡ cond b (inline_table (map key (map (λ (m : Pair). m.0) ms)))
+    (table (map key (map (λ (m : Pair). m.0) ms)))
 view_cond true ms = ap inline_table (steps_map ms)
 view_cond false ms = ap table (steps_map ms)
 
@@ -114,13 +119,15 @@ members_names false ms = ap key_names (steps_map ms) ∙ names_keys (map (λ (m 
 
 -- names that are those of pairs
 same_names : (ms : List Pair) (ns : List (List ℕ)) → length ns ≡ length ms
-    → ((i : ℕ) (m : Pair) → slice_get ms i ≡ Some m → slice_get ns i ≡ Some m.0) → ns ≡ map (λ (m : Pair). m.0) ms
+    → ((i : ℕ) (m : Pair) → slice_get ms i ≡ Some m → slice_get ns i ≡ Some m.0)
+    → ns ≡ map (λ (m : Pair). m.0) ms
 same_names [] [] e h = refl
 same_names [] (y ∷ ys) e h = absurd cc
 same_names (m ∷ ms) [] e h = absurd cc
 same_names (m ∷ ms) (y ∷ ys) e h =
     let head : y ≡ m.0 = same_Some y m.0 (h 0 m refl) in
-    let tail : ys ≡ map (λ (m : Pair). m.0) ms = same_names ms ys (omega (arith, e)) (λ i p f. h (suc i) p f) in
+    let tail : ys ≡ map (λ (m : Pair). m.0) ms = same_names ms ys (omega (arith, e))
+    (λ i p f. h (suc i) p f) in
     ap (λ (n : List ℕ). n ∷ ys) head ∙ ap (λ (ns : List (List ℕ)). m.0 ∷ ns) tail
 
 key_part : (ms : List Pair) (j : ℕ) (t : Step) → slice_get (map (λ (m : Pair). key m.0) ms) j ≡ Some t
@@ -137,7 +144,8 @@ At d n = tree_of d (place_numbered d n) ≡ Some (view_numbered d n)
 -- a member of the node has the name of this pair, and its value
 abbrev pub ShowsPair : Shown → ℕ → ℕ → Pair → Type 0
 ShowsPair d n i m =
-    (slice_get (names_in (view_numbered d n)) i ≡ Some m.0) × ShowsValue d (at (place_numbered d n) (key m.0)) m.1
+    (slice_get (names_in (view_numbered d n)) i ≡ Some m.0)
+    × ShowsValue d (at (place_numbered d n) (key m.0)) m.1
 
 module _ (d : Shown) (n : ℕ) (here : At d n) (b : Bool) (ms : List Pair) where
   pub members_view : ShowsMembers d (place_numbered d n) b ms → view_of_members b ms ≡ view_numbered d n
@@ -150,12 +158,14 @@ module _ (d : Shown) (n : ℕ) (here : At d n) (b : Bool) (ms : List Pair) where
   members_count h = ap names_in (sym (members_view h)) ∙ members_names b ms
 
   -- each member of a table of new values has its pair
-  pub members_pair : AreApart (view_numbered d n) → (i : ℕ) (m : Pair) → ShowsMembers d (place_numbered d n) b ms
+  pub members_pair : AreApart (view_numbered d n) → (i : ℕ) (m : Pair)
+      → ShowsMembers d (place_numbered d n) b ms
       → slice_get ms i ≡ Some m → ShowsPair d n i m
   members_pair distinct i m h e =
       let names = members_count h in
       let once : Once ms = λ i j k x y. distinct i j k
-      (ap (λ (ns : List (List ℕ)). slice_get ns i) names ∙ x) (ap (λ (ns : List (List ℕ)). slice_get ns j) names ∙ y) in
+      (ap (λ (ns : List (List ℕ)). slice_get ns i) names ∙ x)
+      (ap (λ (ns : List (List ℕ)). slice_get ns j) names ∙ y) in
       let first = only ms i m once e in (
         ap (λ (ns : List (List ℕ)). slice_get ns i) names ∙ slice_get-map (λ (m : Pair). m.0) ms i
             ∙ ap (option_map (λ (m : Pair). m.0)) e,
@@ -164,7 +174,8 @@ module _ (d : Shown) (n : ℕ) (here : At d n) (b : Bool) (ms : List Pair) where
       )
 
   -- and a node whose members have the pairs is such a table
-  pub members_show : NoneBelow d → NothingElse d n → AreKeys (view_numbered d n) → AreSteps (view_numbered d n)
+  pub members_show : NoneBelow d → NothingElse d n → AreKeys (view_numbered d n)
+      → AreSteps (view_numbered d n)
       → kind_of (view_numbered d n) ≡ cond b 8 9 → length (names_in (view_numbered d n)) ≡ length ms
       → ((i : ℕ) (m : Pair) → slice_get ms i ≡ Some m → ShowsPair d n i m)
       → ShowsMembers d (place_numbered d n) b ms
@@ -174,11 +185,13 @@ module _ (d : Shown) (n : ℕ) (here : At d n) (b : Bool) (ms : List Pair) where
       names = same_names ms (names_in (view_numbered d n)) count (λ i m e. (each i m e).0)
 
       view : view_numbered d n ≡ view_of_members b ms
-      view = tables_is (view_numbered d n) b (map (λ (m : Pair). m.0) ms) keys kind names ∙ sym (view_cond b ms)
+      view = tables_is (view_numbered d n) b (map (λ (m : Pair). m.0) ms) keys kind names ∙
+          sym (view_cond b ms)
 
       none : (t : Step) (q : Place) → ((j : ℕ) → nth_part (view_numbered d n) j ≡ Some t → ⊥)
           → tree_of d (place_numbered d n ++ t ∷ q) ≡ None
-      none t q no_part = sym (one_down d (place_numbered d n) t q) ∙ below (at (place_numbered d n) t) q (else t no_part)
+      none t q no_part = sym (one_down d (place_numbered d n) t q) ∙
+          below (at (place_numbered d n) t) q (else t no_part)
 
       -- every part is a name
       named_part : (t : Step) (j : ℕ) → nth_part (view_numbered d n) j ≡ Some t
@@ -195,7 +208,8 @@ module _ (d : Shown) (n : ℕ) (here : At d n) (b : Bool) (ms : List Pair) where
       member k q (Some m) e =
           let r = found ms k m e in
           sym (one_down d (place_numbered d n) (key k) q)
-          ∙ ap (λ (j : List ℕ). tree_of d (at (place_numbered d n) (key j) ++ q)) (sym r.2) ∙ (each r.0 m r.1).1 q
+          ∙ ap (λ (j : List ℕ). tree_of d (at (place_numbered d n) (key j) ++ q)) (sym r.2) ∙
+          (each r.0 m r.1).1 q
       member k q None e = none (key k) q (λ j h.
           let p = named_part (key k) j h in
           let same : p.0 ≡ k = (let s : key k ≡ key p.0 = p.2 in cc) in
@@ -205,7 +219,8 @@ module _ (d : Shown) (n : ℕ) (here : At d n) (b : Bool) (ms : List Pair) where
       shows [] = ap (tree_of d) (append-nil (place_numbered d n)) ∙ here ∙ ap Some view
       shows (key k ∷ q) =
           member k q (find (λ x. same_bytes x.0 k) ms) refl
-      shows (index i ∷ q) = none (index i) q (λ j h. let p = named_part (index i) j h in let clash : index i ≡ key p.0 = p.2 in cc)
+      shows (index i ∷ q) = none (index i) q (λ j h. let p = named_part (index i) j h in
+          let clash : index i ≡ key p.0 = p.2 in cc)
 
 -- ---- entries
 
@@ -215,10 +230,12 @@ item_members inside by_dots ms [] = refl
 item_members inside by_dots ms (t ∷ q) = refl
 
 pub shows_table : (d : Shown) (p : Place) (inside by_dots b : Bool) (ms : List Pair) (r : Bool)
-    → b ≡ (inside || not by_dots) → Decides r (ShowsMembers d p b ms) → Decides r (ShowsItem d p inside (a_table by_dots ms))
+    → b ≡ (inside || not by_dots) → Decides r (ShowsMembers d p b ms)
+    → Decides r (ShowsItem d p inside (a_table by_dots ms))
 shows_table d p inside by_dots b ms r is decided = (
   λ t q. decided.0 t q ∙ ap (λ (c : Bool). members_shown c ms q) is ∙ item_members inside by_dots ms q,
-  λ h. decided.1 (λ q. h q ∙ sym (item_members inside by_dots ms q) ∙ ap (λ (c : Bool). members_shown c ms q) (sym is)),
+  λ h. decided.1 (λ q. h q ∙ sym (item_members inside by_dots ms q) ∙
+      ap (λ (c : Bool). members_shown c ms q) (sym is)),
 )
 
 -- something is shown at the place of an entry
@@ -233,9 +250,11 @@ Pairs d p o m = (o ≡ Some m.0) × ShowsValue d (at p (key m.0)) m.1
 
 -- a member that is found
 pub pair_found : (d : Shown) (p : Place) (o : Option (List ℕ)) (m : Pair) (n : ℕ) (r : Bool) → o ≡ Some m.0
-    → Numbers d (at p (key m.0)) (Some n) → Decides r (ShowsValue d (place_numbered d n) m.1) → Decides r (Pairs d p o m)
+    → Numbers d (at p (key m.0)) (Some n) → Decides r (ShowsValue d (place_numbered d n) m.1)
+    → Decides r (Pairs d p o m)
 pair_found d p o m n r name numbers decided =
-    let there : Decides r (ShowsValue d (at p (key m.0)) m.1) = shown_at d (at p (key m.0)) n m.1 r numbers decided in
+    let there : Decides r (ShowsValue d (at p (key m.0)) m.1) =
+    shown_at d (at p (key m.0)) n m.1 r numbers decided in
     (λ t. (name, there.0 t), λ h. there.1 h.1)
 
 -- and one that is not

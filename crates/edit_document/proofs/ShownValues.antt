@@ -74,7 +74,8 @@ abbrev At : Shown → ℕ → Type 0
 At d n = tree_of d (place_numbered d n) ≡ Some (view_numbered d n)
 
 module _ (d : Shown) (n : ℕ) (here : At d n) where
-  pub shown_view : (v : NewValue) → ShowsValue d (place_numbered d n) v → new_view v [] ≡ Some (view_numbered d n)
+  pub shown_view : (v : NewValue) → ShowsValue d (place_numbered d n) v
+      → new_view v [] ≡ Some (view_numbered d n)
   shown_view v h = sym (h []) ∙ ap (tree_of d) (append-nil (place_numbered d n)) ∙ here
 
   -- what has no parts shows what it shows, and nothing below
@@ -86,22 +87,28 @@ module _ (d : Shown) (n : ℕ) (here : At d n) where
   leaf_shows below else x v is bare first more (t ∷ q) =
       let none : (i : ℕ) → nth_part (view_numbered d n) i ≡ Some t → ⊥ =
       λ i h. let clash : None ≡ Some t = sym (bare i) ∙ ap (λ (w : View). nth_part w i) (sym is) ∙ h in cc in
-      sym (one_down d (place_numbered d n) t q) ∙ below (at (place_numbered d n) t) q (else t none) ∙ sym (more t q)
+      sym (one_down d (place_numbered d n) t q) ∙ below (at (place_numbered d n) t) q (else t none) ∙
+      sym (more t q)
 
-  pub string_decides : NoneBelow d → NothingElse d n → (w : List ℕ) (r : Bool) → kind_of (view_numbered d n) ≡ 0
-      → Decides r (word_of (view_numbered d n) ≡ Some w) → Decides r (ShowsValue d (place_numbered d n) (a_string w))
+  pub string_decides : NoneBelow d → NothingElse d n → (w : List ℕ) (r : Bool)
+      → kind_of (view_numbered d n) ≡ 0
+      → Decides r (word_of (view_numbered d n) ≡ Some w)
+      → Decides r (ShowsValue d (place_numbered d n) (a_string w))
   string_decides below else w r k decided = (
-    λ e. leaf_shows below else (a_string w) (string w) (string_is (view_numbered d n) w k (decided.0 e)) (λ i. refl) refl (λ t q. refl),
+    λ e. leaf_shows below else (a_string w) (string w) (string_is (view_numbered d n) w k (decided.0 e))
+        (λ i. refl) refl (λ t q. refl),
     λ h. decided.1 (sym (ap word_of (same_Some (string w) (view_numbered d n) (shown_view (a_string w) h)))),
   )
 
-  pub string_kind : (w : List ℕ) → ShowsValue d (place_numbered d n) (a_string w) → kind_of (view_numbered d n) ≡ 0
+  pub string_kind : (w : List ℕ) → ShowsValue d (place_numbered d n) (a_string w)
+      → kind_of (view_numbered d n) ≡ 0
   string_kind w h = sym (ap kind_of (same_Some (string w) (view_numbered d n) (shown_view (a_string w) h)))
 
   pub truth_decides : NoneBelow d → NothingElse d n → (b : Bool) (k : ℕ) → k ≡ kind_of (view_numbered d n)
       → Decides (eqb k (kind_of (truth b))) (ShowsValue d (place_numbered d n) (a_truth b))
   truth_decides below else b k is = (
-    λ e. leaf_shows below else (a_truth b) (truth b) (truth_is (view_numbered d n) b (sym is ∙ eqb-true k (kind_of (truth b)) e))
+    λ e. leaf_shows below else (a_truth b) (truth b)
+        (truth_is (view_numbered d n) b (sym is ∙ eqb-true k (kind_of (truth b)) e))
         (λ i. refl) refl (λ t q. refl),
     λ h. eq-eqb k (kind_of (truth b))
         (is ∙ sym (ap kind_of (same_Some (truth b) (view_numbered d n) (shown_view (a_truth b) h)))),
@@ -119,13 +126,15 @@ module _ (d : Shown) (n : ℕ) (here : At d n) where
       one_down d (place_numbered d n) (index i) [] ∙ h (index i ∷ []) ∙ ap (option_map string) e
   list_element ss i s h e (t ∷ q) = one_down d (place_numbered d n) (index i) (t ∷ q) ∙ h (index i ∷ t ∷ q)
 
-  element_of : (m j : ℕ) (t : Step) → view_numbered d n ≡ static_array m → nth_part (view_numbered d n) j ≡ Some t
+  element_of : (m j : ℕ) (t : Step) → view_numbered d n ≡ static_array m
+      → nth_part (view_numbered d n) j ≡ Some t
       → (j < m) × (t ≡ index j)
   element_of m j t is e = element_was m j t (ap (λ (w : View). nth_part w j) (sym is) ∙ e)
 
   pub list_shows : NoneBelow d → NothingElse d n → (ss : List (List ℕ)) → kind_of (view_numbered d n) ≡ 6
       → count_in (view_numbered d n) ≡ length ss
-      → ((i : ℕ) (s : List ℕ) → slice_get ss i ≡ Some s → ShowsValue d (at (place_numbered d n) (index i)) (a_string s))
+      → ((i : ℕ) (s : List ℕ) → slice_get ss i ≡ Some s
+      → ShowsValue d (at (place_numbered d n) (index i)) (a_string s))
       → ShowsValue d (place_numbered d n) (a_list ss)
   list_shows below else ss kind count each = shows
     where
@@ -134,7 +143,8 @@ module _ (d : Shown) (n : ℕ) (here : At d n) where
 
       none : (t : Step) (q : Place) → ((j : ℕ) → nth_part (view_numbered d n) j ≡ Some t → ⊥)
           → tree_of d (place_numbered d n ++ t ∷ q) ≡ None
-      none t q no_part = sym (one_down d (place_numbered d n) t q) ∙ below (at (place_numbered d n) t) q (else t no_part)
+      none t q no_part = sym (one_down d (place_numbered d n) t q) ∙
+          below (at (place_numbered d n) t) q (else t no_part)
 
       past : (i : ℕ) → slice_get ss i ≡ None → (j : ℕ) → nth_part (view_numbered d n) j ≡ Some (index i) → ⊥
       past i e j h =
@@ -147,7 +157,8 @@ module _ (d : Shown) (n : ℕ) (here : At d n) where
           → tree_of d (place_numbered d n ++ index i ∷ q) ≡ new_view (a_list ss) (index i ∷ q)
       element i [] (Some s) e =
           sym (one_down d (place_numbered d n) (index i) []) ∙ each i s e [] ∙ sym (ap (option_map string) e)
-      element i (t ∷ q) (Some s) e = sym (one_down d (place_numbered d n) (index i) (t ∷ q)) ∙ each i s e (t ∷ q)
+      element i (t ∷ q) (Some s) e = sym (one_down d (place_numbered d n) (index i) (t ∷ q)) ∙
+          each i s e (t ∷ q)
       element i [] None e = none (index i) [] (past i e) ∙ sym (ap (option_map string) e)
       element i (t ∷ q) None e = none (index i) (t ∷ q) (past i e)
 
@@ -155,7 +166,8 @@ module _ (d : Shown) (n : ℕ) (here : At d n) where
       shows [] = ap (tree_of d) (append-nil (place_numbered d n)) ∙ here ∙ ap Some is
       shows (index i ∷ q) = element i q (slice_get ss i) refl
       shows (key name ∷ q) =
-          none (key name) q (λ j h. let p = element_of (length ss) j (key name) is h in let clash : key name ≡ index j = p.1 in cc)
+          none (key name) q (λ j h. let p = element_of (length ss) j (key name) is h in
+          let clash : key name ≡ index j = p.1 in cc)
 
 -- what stands at a place shows what its node shows
 pub shown_at : (d : Shown) (p : Place) (m : ℕ) (v : NewValue) (r : Bool) → Numbers d p (Some m)

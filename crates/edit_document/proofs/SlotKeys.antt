@@ -22,25 +22,44 @@ use Rattle.edit_document.proofs.SlotLaws.{elements_text, members_text, elements_
 
 -- ---- keys
 
-basic_split : (ps : List Piece) (rest : List ℕ) → basic_text ps rest ≡ quote ∷ (pieces quote ps [] ++ (quote ∷ rest))
+basic_split : (ps : List Piece) (rest : List ℕ) → basic_text ps rest
+    ≡ quote ∷ (pieces quote ps [] ++ (quote ∷ rest))
 basic_split ps rest = ap (λ (t : List ℕ). quote ∷ t) (pieces_rest quote ps (quote ∷ rest))
 
-part_says : (bytes : List ℕ) (p : Part) (rest : List ℕ) → IsPart p → Ends bytes (part p rest) → SaysAt bytes (part_mark p rest) (name p)
+part_says : (bytes : List ℕ) (p : Part) (rest : List ℕ) → IsPart p → Ends bytes (part p rest)
+    → SaysAt bytes (part_mark p rest) (name p)
 part_says bytes (bare text) rest h ends = (ends.0, text, rest, ends.1, refl, refl, (h.0, h.1, refl))
-part_says bytes (basic_part ps) rest h ends =
-    (ends.0, pieces quote ps [], rest, ends.1 ∙ ap (λ (t : List ℕ). ends.0 ++ t) (basic_split ps rest), ap length (basic_split ps rest), refl, (ps, h, refl, refl))
+part_says bytes (basic_part ps) rest h ends = (
+  ends.0,
+  pieces quote ps [],
+  rest,
+  ends.1 ∙ ap (λ (t : List ℕ). ends.0 ++ t) (basic_split ps rest),
+  ap length (basic_split ps rest),
+  refl,
+  (ps, h, refl, refl),
+)
 part_says bytes (literal_part text) rest h ends = (ends.0, text, rest, ends.1, refl, refl, (h, refl))
 
-dotted_said : (bytes : List ℕ) (ds : List Dotted) (rest : List ℕ) → AllByRecursion (λ d. All is_blank d.before × All is_blank d.behind × IsPart d.part) ds → Ends bytes (dotted ds rest) → AreSaid bytes (dotted_marks ds rest) (map (λ d. name d.part) ds)
+dotted_said : (bytes : List ℕ) (ds : List Dotted) (rest : List ℕ)
+    → AllByRecursion (λ d. All is_blank d.before × All is_blank d.behind × IsPart d.part) ds
+    → Ends bytes (dotted ds rest) → AreSaid bytes (dotted_marks ds rest) (map (λ d. name d.part) ds)
 dotted_said bytes [] rest h ends = tt
 dotted_said bytes (d ∷ ds) rest h ends =
-    let here : Ends bytes (part d.part (dotted ds rest)) = ends_past bytes d.behind (part d.part (dotted ds rest)) (ends_one bytes 46 (d.behind ++ part d.part (dotted ds rest)) (ends_past bytes d.before (46 ∷ (d.behind ++ part d.part (dotted ds rest))) ends)) in
-    (part_says bytes d.part (dotted ds rest) h.0.2 here, dotted_said bytes ds rest h.1 (ends_part bytes d.part (dotted ds rest) here))
+    let here : Ends bytes (part d.part (dotted ds rest)) =
+    ends_past bytes d.behind (part d.part (dotted ds rest))
+    (ends_one bytes 46 (d.behind ++ part d.part (dotted ds rest))
+    (ends_past bytes d.before (46 ∷ (d.behind ++ part d.part (dotted ds rest))) ends)) in (
+      part_says bytes d.part (dotted ds rest) h.0.2 here,
+      dotted_said bytes ds rest h.1 (ends_part bytes d.part (dotted ds rest) here),
+    )
 
 -- the marks of a key say its names
-pub key_said : (bytes : List ℕ) (k : Key) (rest : List ℕ) → IsKey k → Ends bytes (strings.key k rest) → AreSaid bytes (key_marks k rest) (names k)
-key_said bytes k rest h ends =
-    (part_says bytes k.first (dotted k.others rest) h.0 ends, dotted_said bytes k.others rest h.1 (ends_part bytes k.first (dotted k.others rest) ends))
+pub key_said : (bytes : List ℕ) (k : Key) (rest : List ℕ) → IsKey k → Ends bytes (strings.key k rest)
+    → AreSaid bytes (key_marks k rest) (names k)
+key_said bytes k rest h ends = (
+  part_says bytes k.first (dotted k.others rest) h.0 ends,
+  dotted_said bytes k.others rest h.1 (ends_part bytes k.first (dotted k.others rest) ends),
+)
 
 -- ---- places
 
@@ -52,36 +71,44 @@ same_below : (place below q : Place) → same_place (place ++ q) (place ++ below
 same_below [] below q = refl
 same_below (s ∷ place) below q = rw (same_step_self s) (same_below place below q)
 
-elements_as : (place below : Place) (i : ℕ) (es : Elements) (rest : List ℕ) → elements_left (place ++ below) place i es rest ≡ slots_left below i (of_elements es) rest
+elements_as : (place below : Place) (i : ℕ) (es : Elements) (rest : List ℕ)
+    → elements_left (place ++ below) place i es rest ≡ slots_left below i (of_elements es) rest
 elements_as place below i no_elements rest = refl
 elements_as place below i (last_element v g) rest = rw (same_below place below (index i ∷ [])) refl
-elements_as place below i (element v g h es) rest = rw (same_below place below (index i ∷ []), elements_as place below (suc i) es rest) refl
+elements_as place below i (element v g h es) rest =
+    rw (same_below place below (index i ∷ []), elements_as place below (suc i) es rest) refl
 
-members_as : (place below : Place) (i : ℕ) (ms : Members) (rest : List ℕ) → members_left (place ++ below) place ms rest ≡ slots_left below i (of_members ms) rest
+members_as : (place below : Place) (i : ℕ) (ms : Members) (rest : List ℕ)
+    → members_left (place ++ below) place ms rest ≡ slots_left below i (of_members ms) rest
 members_as place below i no_members rest = refl
 members_as place below i (last_member k a b v c) rest = rw (within_below place below (map key (names k))) refl
-members_as place below i (member k a b v c d ms) rest = rw (within_below place below (map key (names k)), members_as place below (suc i) ms rest) refl
+members_as place below i (member k a b v c d ms) rest =
+    rw (within_below place below (map key (names k)), members_as place below (suc i) ms rest) refl
 
 -- ---- values
 
-pub array_enclosed : (g : List Between) (es : Elements) (text : List ℕ) → IsValue (array g es) → depth (array g es) ≤ 80 → text ≡ value (array g es) [] → IsEnclosed false g (of_elements es) text
+pub array_enclosed : (g : List Between) (es : Elements) (text : List ℕ) → IsValue (array g es)
+    → depth (array g es) ≤ 80 → text ≡ value (array g es) [] → IsEnclosed false g (of_elements es) text
 array_enclosed g es text h le e = record {
   between = h.0;
   slots_valid = elements_valid es h.1 (omega arith);
   spelled = rw (elements_text es (right_bracket ∷ [])) e;
 }
 
-pub inline_enclosed : (g : List Between) (ms : Members) (text : List ℕ) → IsValue (inline g ms) → depth (inline g ms) ≤ 80 → text ≡ value (inline g ms) [] → IsEnclosed true g (of_members ms) text
+pub inline_enclosed : (g : List Between) (ms : Members) (text : List ℕ) → IsValue (inline g ms)
+    → depth (inline g ms) ≤ 80 → text ≡ value (inline g ms) [] → IsEnclosed true g (of_members ms) text
 inline_enclosed g ms text h le e = record {
   between = h.0;
   slots_valid = members_valid ms h.1 (omega arith);
   spelled = rw (members_text ms (right_brace ∷ [])) e;
 }
 
-pub array_left : (place below : Place) (g : List Between) (es : Elements) → enclosed_left false below g (of_elements es) ≡ value_left (place ++ below) place (array g es) []
+pub array_left : (place below : Place) (g : List Between) (es : Elements)
+    → enclosed_left false below g (of_elements es) ≡ value_left (place ++ below) place (array g es) []
 array_left place below g es = rw (elements_as place below 0 es (right_bracket ∷ [])) refl
 
-pub inline_left : (place below : Place) (g : List Between) (ms : Members) → enclosed_left true below g (of_members ms) ≡ value_left (place ++ below) place (inline g ms) []
+pub inline_left : (place below : Place) (g : List Between) (ms : Members)
+    → enclosed_left true below g (of_members ms) ≡ value_left (place ++ below) place (inline g ms) []
 inline_left place below g ms = rw (members_as place below 0 ms (right_brace ∷ [])) refl
 
 -- ---- names

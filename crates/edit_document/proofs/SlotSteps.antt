@@ -28,14 +28,16 @@ pub record ValueAt (s : List ℕ) (it : Slot) (c : List Between) (rest : List �
   pub item : IsItem v c rest
   pub spelled : s ≡ value v (gap c rest)
 
-pub value_at_front : (text s : List ℕ) (t : Bool) (it : Slot) (c : List Between) (rest : List ℕ) → StandsAt text s t it c rest → t ≡ false → ValueAt s it c rest
+pub value_at_front : (text s : List ℕ) (t : Bool) (it : Slot) (c : List Between) (rest : List ℕ)
+    → StandsAt text s t it c rest → t ≡ false → ValueAt s it c rest
 value_at_front text s t (of_value v) c rest h no_table = record {
   v = v;
   is = refl;
   item = let w = h.valid in record { valid = w.1; shallow = w.2; between = h.between; ends = h.ends };
   spelled = h.spelled;
 }
-value_at_front text s t (of_pair k a b v) c rest h no_table = let w = h.valid in absurd (true≢false (sym w.0 ∙ no_table))
+value_at_front text s t (of_pair k a b v) c rest h no_table = let w = h.valid in
+    absurd (true≢false (sym w.0 ∙ no_table))
 
 -- a member
 pub record PairAt (text s : List ℕ) (it : Slot) (c : List Between) (rest : List ℕ) : Type 0 where
@@ -49,12 +51,14 @@ pub record PairAt (text s : List ℕ) (it : Slot) (c : List Between) (rest : Lis
   pub said : AreSaid text (key_marks k (a ++ (equals ∷ (b ++ value v (gap c rest))))) (names k)
   pub spelled : s ≡ key k (a ++ (equals ∷ (b ++ value v (gap c rest))))
 
-pub pair_at_front : (text s : List ℕ) (t : Bool) (it : Slot) (c : List Between) (rest : List ℕ) → StandsAt text s t it c rest → t ≡ true → PairAt text s it c rest
+pub pair_at_front : (text s : List ℕ) (t : Bool) (it : Slot) (c : List Between) (rest : List ℕ)
+    → StandsAt text s t it c rest → t ≡ true → PairAt text s it c rest
 pair_at_front text s t (of_value v) c rest h table = let w = h.valid in absurd (true≢false (sym table ∙ w.0))
 pair_at_front text s t (of_pair k a b v) c rest h table =
     let w = h.valid in
     let more = a ++ (equals ∷ (b ++ value v (gap c rest))) in
-    let ends : Ends text (key k more) = (h.within.0, h.within.1 ∙ ap (λ (x : List ℕ). h.within.0 ++ x) h.spelled) in
+    let ends : Ends text (key k more) =
+    (h.within.0, h.within.1 ∙ ap (λ (x : List ℕ). h.within.0 ++ x) h.spelled) in
     record {
       k = k;
       a = a;
@@ -82,17 +86,24 @@ pub record FirstSaid (text : List ℕ) (marks : List Mark) (ns : List (List ℕ)
   pub said : (d : Mark) → SaysAt text (get_or marks 0 d) name
   pub others_said : AreSaid text (take (length marks - 1) (drop 1 marks)) others
 
-pub first_said : (text : List ℕ) (marks : List Mark) (ns : List (List ℕ)) → 1 ≤ length marks → AreSaid text marks ns → FirstSaid text marks ns
+pub first_said : (text : List ℕ) (marks : List Mark) (ns : List (List ℕ)) → 1 ≤ length marks
+    → AreSaid text marks ns → FirstSaid text marks ns
 first_said text [] ns le h = absurd (omega arith)
 first_said text (m ∷ ms) [] le h = absurd h
-first_said text (m ∷ ms) (n ∷ ns) le h = record { name = n; others = ns; is = refl; said = λ d. h.0; others_said = rw (tail_slice (m ∷ ms)) h.1 }
+first_said text (m ∷ ms) (n ∷ ns) le h =
+    record { name = n; others = ns; is = refl; said = λ d. h.0; others_said = rw (tail_slice (m ∷ ms)) h.1 }
 
-pub within_turn : (steps : List WrittenStep) (s : WrittenStep) (name : List ℕ) (others ns : List (List ℕ)) → 1 ≤ length steps → s ≡ get_or steps 0 s → ns ≡ name ∷ others
-    → is_within (place_seen steps) (map name_step ns) ≡ (same_step (step_seen s) (name_step name) && is_within (place_seen (take (length steps - 1) (drop 1 steps))) (map name_step others))
+pub within_turn : (steps : List WrittenStep) (s : WrittenStep) (name : List ℕ) (others ns : List (List ℕ))
+    → 1 ≤ length steps → s ≡ get_or steps 0 s → ns ≡ name ∷ others
+    → is_within (place_seen steps) (map name_step ns)
+    ≡ (same_step (step_seen s) (name_step name) && is_within
+    (place_seen (take (length steps - 1) (drop 1 steps))) (map name_step others))
 within_turn [] s name others ns le e is = absurd (omega arith)
 within_turn (x ∷ xs) s name others ns le e is = rw (is, e, tail_slice (x ∷ xs)) refl
 
 -- ---- refusals
 
-pub keeps_memory : {A : Type 0} (r : Result A Error) (e e2 : Error) (P : A → Type 0) → r ≡ Err e2 → e2 ≡ e → IsMemory e → MatchResult r P IsMemory
-keeps_memory {A} r e e2 P was same m = subst (λ (x : Result A Error). MatchResult x P IsMemory) (sym was) (subst IsMemory (sym same) m)
+pub keeps_memory : {A : Type 0} (r : Result A Error) (e e2 : Error) (P : A → Type 0) → r ≡ Err e2 → e2 ≡ e
+    → IsMemory e → MatchResult r P IsMemory
+keeps_memory {A} r e e2 P was same m = subst (λ (x : Result A Error). MatchResult x P IsMemory) (sym was)
+    (subst IsMemory (sym same) m)

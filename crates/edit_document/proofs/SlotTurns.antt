@@ -1,137 +1,46 @@
 -- One turn over the elements or the members: where the loop stands, and what each of its ways leaves.
 use Rattle.std.proofs.Common.{◌≡◌, ℕ, suc, ◌+◌, ◌≤◌, Bool, true, false, eqb, if◌then◌else◌, List, [], ◌∷◌, ◌++◌, length, drop, refl, sym, true≢false, ap, ◌∙◌, append_assoc, arith}
-use Rattle.std.proofs.lemmas.List.{length-append}
-use Rattle.edit_syntax.specs.Characters.{comma, left_brace, is_blank}
+use Rattle.edit_syntax.specs.Characters.{comma, left_brace}
 use Rattle.edit_syntax.specs.Grammar.{Between, gap, IsGap}
 use Rattle.edit_syntax.specs.Reading.{first, past_gap, past_blanks}
-use Rattle.edit_syntax.specs.Steps.{ends_item}
 use Rattle.edit_syntax.proofs.StepLaws.{item_gapless}
-use Rattle.edit_syntax.proofs.GapLaws.{opens_gap, past_gap_again, gap_longer}
-use Rattle.edit_document.specs.RemovedBytes.{Left, with_it, without_it, without_blanks}
-use Rattle.edit_document.specs.Slots.{Slot, slot, IsSlot, Slots, no_slots, last_slot, more_slots, slots, AreSlots, closing, opening, goes, slots_left, IsEnclosed, enclosed_left}
+use Rattle.edit_syntax.proofs.GapLaws.{past_gap_again, gap_longer}
+use Rattle.edit_document.specs.RemovedBytes.{Left, without_blanks}
+use Rattle.edit_document.specs.Slots.{Slot, slot, IsSlot, Slots, no_slots, last_slot, more_slots, slots, AreSlots, closing, opening, goes, slots_left, IsEnclosed}
 use Rattle.edit_document.specs.SlotTexts.{Ends, StandsAt}
 use Rattle.edit_document.specs.Assertions.{Place}
 use Rattle.edit_document.specs.Remainders.{before_end, Leaves, Keeps}
 use Rattle.edit_document.specs.declared.inside.Remainder.{Remainder}
 use Rattle.edit_document.proofs.Ends.{ends_past, ends_one, ends_gap}
-use Rattle.edit_document.proofs.SlotLaws.{no_blank, gap_rest, slot_rest, before_is, slot_begins, slots_gapless, trimmed, trimmed_gap, past_blanks_is, left_begins}
-
--- what stands from an element or a member on, behind those of this number: what is left is known so far, in two ways
-pub record AtSlots (t : Bool) (text : List ℕ) (below : Place) (i : ℕ) (rest firm commas gaps target : List ℕ) : Type 0 where
-  pub ss : Slots
-  pub valid : AreSlots t ss
-  pub spelled : rest ≡ slots ss (closing t ∷ [])
-  pub within : Ends text rest
-  pub short : length rest + i ≤ length text
-  pub total : let l = slots_left below i ss (closing t ∷ []) in target ≡ firm ++ ((if l.comma_stays then commas else gaps) ++ l.rest)
-
--- ---- lists and cases
-
-same_if : (b : Bool) (x : List ℕ) → (if b then x else x) ≡ x
-same_if true x = refl
-same_if false x = refl
-
-grouped : (firm commas s g z : List ℕ) → firm ++ (commas ++ (s ++ (g ++ z))) ≡ ((firm ++ commas) ++ (s ++ g)) ++ z
-grouped firm commas s g z =
-    sym (append_assoc firm commas (s ++ (g ++ z)))
-    ∙ ap (λ (x : List ℕ). (firm ++ commas) ++ x) (sym (append_assoc s g z))
-    ∙ sym (append_assoc (firm ++ commas) (s ++ g) z)
-
-last_total : (g : Bool) (firm commas gaps r s : List ℕ) → let l = if g then without_it r else with_it s in firm ++ ((if l.comma_stays then commas else gaps) ++ l.rest) ≡ (if g then (firm ++ gaps) ++ r else (firm ++ commas) ++ s)
-last_total true firm commas gaps r s = sym (append_assoc firm gaps r)
-last_total false firm commas gaps r s = sym (append_assoc firm commas s)
-
-left_total : (b : Bool) (x y z tr cs commas gaps : List ℕ) → (b ≡ true → x ≡ tr ++ z) → y ≡ cs ++ z → let l = if b then with_it x else without_it y in (if l.comma_stays then commas else gaps) ++ l.rest ≡ (if b then commas ++ tr else gaps ++ cs) ++ z
-left_total true x y z tr cs commas gaps e f = ap (λ (t : List ℕ). commas ++ t) (e refl) ∙ sym (append_assoc commas tr z)
-left_total false x y z tr cs commas gaps e f = ap (λ (t : List ℕ). gaps ++ t) f ∙ sym (append_assoc gaps cs z)
-
-kept_rest : (b : Bool) (d : List Between) (r : List ℕ) → (if b then comma ∷ gap d r else r) ≡ (if b then comma ∷ gap d [] else []) ++ r
-kept_rest true d r = ap (λ (t : List ℕ). comma ∷ t) (gap_rest d r)
-kept_rest false d r = refl
-
-closing_ends : (t : Bool) → ends_item (closing t) ≡ true
-closing_ends true = refl
-closing_ends false = refl
-
-closing_no_comma : (t : Bool) → eqb (closing t) comma ≡ false
-closing_no_comma true = refl
-closing_no_comma false = refl
-
-pub slot_longer : (s : Slot) (c : List Between) (rest : List ℕ) → length rest ≤ length (slot s (gap c rest))
-slot_longer s c rest = omega (arith, ap length (slot_rest s (gap c rest)), length-append (slot s []) (gap c rest), gap_longer c rest)
-
-pub slots_some : (ss : Slots) (b : ℕ) → 1 ≤ length (slots ss (b ∷ []))
-slots_some no_slots b = omega arith
-slots_some (last_slot s c) b = omega (arith, slot_longer s c (b ∷ []))
-slots_some (more_slots s c d ss) b = omega (arith, slot_longer s c (comma ∷ gap d (slots ss (b ∷ []))))
-
-blankless : (text : List ℕ) → opens_gap (first text) ≡ false → is_blank (first text) ≡ false
-blankless text h = no_blank (first text) h
-
-closing_self : (t : Bool) → eqb (closing t) (closing t) ≡ true
-closing_self true = refl
-closing_self false = refl
-
--- ---- the start
-
-pub enclosed_start : (t : Bool) (text : List ℕ) (below : Place) (g : List Between) (ss : Slots) (rest : List ℕ) → IsEnclosed t g ss text → rest ≡ past_gap (drop 1 text)
-    → AtSlots t text below 0 rest (before_end text rest) [] [] (enclosed_left t below g ss)
-enclosed_start t text below g ss rest h e =
-    let inner = slots ss (closing t ∷ []) in
-    let l = slots_left below 0 ss (closing t ∷ []) in
-    let next : rest ≡ inner = e ∙ ap (λ (x : List ℕ). past_gap (drop 1 x)) h.spelled ∙ past_gap_again g inner h.between (slots_gapless t ss h.slots_valid) in
-    let parted : text ≡ (opening t ∷ gap g []) ++ inner = h.spelled ∙ ap (λ (x : List ℕ). opening t ∷ x) (gap_rest g inner) in
-    let front : before_end text rest ≡ opening t ∷ gap g [] = before_is text (opening t ∷ gap g []) rest (parted ∙ ap (λ (x : List ℕ). (opening t ∷ gap g []) ++ x) (sym next)) in
-    let size : length text ≡ length (opening t ∷ gap g []) + length inner = ap length parted ∙ length-append (opening t ∷ gap g []) inner in
-    record {
-      ss = ss;
-      valid = h.slots_valid;
-      spelled = next;
-      within = (opening t ∷ gap g [], parted ∙ ap (λ (x : List ℕ). (opening t ∷ gap g []) ++ x) (sym next));
-      short = omega (arith, ap length next);
-      total = rw (front, same_if l.comma_stays []) (ap (λ (x : List ℕ). opening t ∷ x) (gap_rest g l.rest));
-    }
-
--- ---- the end
-
-closed_total : (t : Bool) (below : Place) (i : ℕ) (ss : Slots) (rest firm commas gaps target : List ℕ) → AreSlots t ss → rest ≡ slots ss (closing t ∷ [])
-    → (let l = slots_left below i ss (closing t ∷ []) in target ≡ firm ++ ((if l.comma_stays then commas else gaps) ++ l.rest))
-    → eqb (first rest) (closing t) ≡ true → target ≡ (firm ++ commas) ++ rest
-closed_total t below i no_slots rest firm commas gaps target h e total shut =
-    total ∙ sym (append_assoc firm commas (closing t ∷ [])) ∙ ap (λ (x : List ℕ). (firm ++ commas) ++ x) (sym e)
-closed_total t below i (last_slot s c) rest firm commas gaps target h e total shut =
-    absurd (true≢false (sym (rw e at shut) ∙ (slot_begins t s (gap c (closing t ∷ [])) h.0).unshut))
-closed_total t below i (more_slots s c d ss) rest firm commas gaps target h e total shut =
-    absurd (true≢false (sym (rw e at shut) ∙ (slot_begins t s (gap c (comma ∷ gap d (slots ss (closing t ∷ [])))) h.0).unshut))
-
--- the closing bracket or brace comes: all that is known stays, and it
-pub slots_closed : (t : Bool) (text : List ℕ) (below : Place) (i : ℕ) (rest firm commas gaps target : List ℕ) → AtSlots t text below i rest firm commas gaps target
-    → eqb (first rest) (closing t) ≡ true → target ≡ (firm ++ commas) ++ rest
-slots_closed t text below i rest firm commas gaps target at shut = closed_total t below i at.ss rest firm commas gaps target at.valid at.spelled at.total shut
-
--- the loop ends before so many turns
-pub slots_over : (t : Bool) (text : List ℕ) (below : Place) (i : ℕ) (rest firm commas gaps target : List ℕ) → AtSlots t text below i rest firm commas gaps target
-    → length text ≤ i → ⊥
-slots_over t text below i rest firm commas gaps target at le = let k = at.short in omega (arith, ap length at.spelled, slots_some at.ss (closing t))
+use Rattle.edit_document.proofs.SlotLaws.{gap_rest, slot_rest, before_is, slots_gapless, trimmed, trimmed_gap, past_blanks_is, left_begins}
+use Rattle.edit_document.proofs.SlotEnds.{AtSlots, grouped, last_total, left_total, kept_rest, closing_ends, closing_no_comma, slot_longer, blankless, closing_self}
 
 -- ---- one element or member
 
 -- it stands at the front, and each way on leaves the same
-pub record Front (t : Bool) (text : List ℕ) (below : Place) (i : ℕ) (rest firm commas gaps target : List ℕ) : Type 0 where
+pub record Front (t : Bool) (text : List ℕ) (below : Place) (i : ℕ)
+    (rest firm commas gaps target : List ℕ) : Type 0 where
   pub it : Slot
   pub gap_behind : List Between
   pub behind : List ℕ
   pub stands : StandsAt text rest t it gap_behind behind
   pub last : eqb (first behind) comma ≡ false
-      → target ≡ (if goes below i it then (firm ++ gaps) ++ gap gap_behind behind else (firm ++ commas) ++ rest)
-  pub left : eqb (first behind) comma ≡ true → goes below i it ≡ true → (next : List ℕ) → next ≡ past_gap (drop 1 behind)
-      → AtSlots t text below (suc i) next firm (commas ++ before_end (past_blanks (drop 1 behind)) next) (gaps ++ before_end (gap gap_behind behind) behind) target
-  pub kept : eqb (first behind) comma ≡ true → goes below i it ≡ false → (next : List ℕ) → next ≡ past_gap (drop 1 behind)
-      → AtSlots t text below (suc i) next ((firm ++ commas) ++ before_end rest behind) (before_end behind next) [] target
+      → target ≡ (if goes below i it then (firm ++ gaps) ++ gap gap_behind behind else
+      (firm ++ commas) ++ rest)
+  pub left : eqb (first behind) comma ≡ true → goes below i it ≡ true → (next : List ℕ)
+      → next ≡ past_gap (drop 1 behind)
+      → AtSlots t text below (suc i) next firm (commas ++ before_end (past_blanks (drop 1 behind)) next)
+      (gaps ++ before_end (gap gap_behind behind) behind) target
+  pub kept : eqb (first behind) comma ≡ true → goes below i it ≡ false → (next : List ℕ)
+      → next ≡ past_gap (drop 1 behind)
+      → AtSlots t text below (suc i) next ((firm ++ commas) ++ before_end rest behind)
+      (before_end behind next) [] target
 
-last_front : (t : Bool) (text : List ℕ) (below : Place) (i : ℕ) (rest firm commas gaps target : List ℕ) (s : Slot) (c : List Between) → IsSlot t s → IsGap c
+last_front : (t : Bool) (text : List ℕ) (below : Place) (i : ℕ) (rest firm commas gaps target : List ℕ)
+    (s : Slot) (c : List Between) → IsSlot t s → IsGap c
     → rest ≡ slot s (gap c (closing t ∷ [])) → Ends text rest
-    → (let l = slots_left below i (last_slot s c) (closing t ∷ []) in target ≡ firm ++ ((if l.comma_stays then commas else gaps) ++ l.rest))
+    → (let l = slots_left below i (last_slot s c) (closing t ∷ []) in
+    target ≡ firm ++ ((if l.comma_stays then commas else gaps) ++ l.rest))
     → Front t text below i rest firm commas gaps target
 last_front t text below i rest firm commas gaps target s c hs hc e ends total =
     let end = gap c (closing t ∷ []) in
@@ -145,9 +54,11 @@ last_front t text below i rest firm commas gaps target s c hs hc e ends total =
       kept = λ k. absurd (true≢false (sym k ∙ closing_no_comma t));
     }
 
-more_front : (t : Bool) (text : List ℕ) (below : Place) (i : ℕ) (rest firm commas gaps target : List ℕ) (s : Slot) (c d : List Between) (ss : Slots) → AreSlots t (more_slots s c d ss)
+more_front : (t : Bool) (text : List ℕ) (below : Place) (i : ℕ) (rest firm commas gaps target : List ℕ)
+    (s : Slot) (c d : List Between) (ss : Slots) → AreSlots t (more_slots s c d ss)
     → rest ≡ slots (more_slots s c d ss) (closing t ∷ []) → Ends text rest → length rest + i ≤ length text
-    → (let l = slots_left below i (more_slots s c d ss) (closing t ∷ []) in target ≡ firm ++ ((if l.comma_stays then commas else gaps) ++ l.rest))
+    → (let l = slots_left below i (more_slots s c d ss) (closing t ∷ []) in
+    target ≡ firm ++ ((if l.comma_stays then commas else gaps) ++ l.rest))
     → Front t text below i rest firm commas gaps target
 more_front t text below i rest firm commas gaps target s c d ss h e ends short total =
     record {
@@ -173,24 +84,32 @@ more_front t text below i rest firm commas gaps target s c d ss h e ends short t
     comes next n = n ∙ past_gap_again d inner h.2 (slots_gapless t ss h.3)
 
     parted : rest ≡ (slot s [] ++ gap c []) ++ behind
-    parted = e ∙ slot_rest s (gap c behind) ∙ ap (λ (x : List ℕ). slot s [] ++ x) (gap_rest c behind) ∙ sym (append_assoc (slot s []) (gap c []) behind)
+    parted = e ∙ slot_rest s (gap c behind) ∙ ap (λ (x : List ℕ). slot s [] ++ x) (gap_rest c behind) ∙
+        sym (append_assoc (slot s []) (gap c []) behind)
 
     reaches : Ends text inner
     reaches =
-        let whole : Ends text ((slot s [] ++ gap c []) ++ behind) = (ends.0, ends.1 ∙ ap (λ (x : List ℕ). ends.0 ++ x) parted) in
-        ends_gap text d inner (ends_one text comma (gap d inner) (ends_past text (slot s [] ++ gap c []) behind whole))
+        let whole : Ends text ((slot s [] ++ gap c []) ++ behind) =
+        (ends.0, ends.1 ∙ ap (λ (x : List ℕ). ends.0 ++ x) parted) in
+        ends_gap text d inner
+        (ends_one text comma (gap d inner) (ends_past text (slot s [] ++ gap c []) behind whole))
 
     nearer : length inner + suc i ≤ length text
     nearer = omega (arith, ap length e, slot_longer s c behind, gap_longer d inner)
 
-    left : eqb (first behind) comma ≡ true → goes below i s ≡ true → (next : List ℕ) → next ≡ past_gap (drop 1 behind)
-        → AtSlots t text below (suc i) next firm (commas ++ before_end (past_blanks (drop 1 behind)) next) (gaps ++ before_end (gap c behind) behind) target
+    left : eqb (first behind) comma ≡ true → goes below i s ≡ true → (next : List ℕ)
+        → next ≡ past_gap (drop 1 behind)
+        → AtSlots t text below (suc i) next firm (commas ++ before_end (past_blanks (drop 1 behind)) next)
+        (gaps ++ before_end (gap c behind) behind) target
     left k g next n =
         let b = m.comma_stays in
-        let comma_part : before_end (past_blanks (gap d inner)) inner ≡ trimmed d = before_is (past_blanks (gap d inner)) (trimmed d) inner
+        let comma_part : before_end (past_blanks (gap d inner)) inner ≡ trimmed d =
+        before_is (past_blanks (gap d inner)) (trimmed d) inner
         (past_blanks_is (gap d inner) ∙ trimmed_gap d inner h.2 (blankless inner (slots_gapless t ss h.3))) in
-        let gap_part : before_end (gap c behind) behind ≡ gap c [] = before_is (gap c behind) (gap c []) behind (gap_rest c behind) in
-        let ways = left_total b (without_blanks (gap d m.rest)) (gap c m.rest) m.rest (trimmed d) (gap c []) commas gaps
+        let gap_part : before_end (gap c behind) behind ≡ gap c [] =
+        before_is (gap c behind) (gap c []) behind (gap_rest c behind) in
+        let ways = left_total b (without_blanks (gap d m.rest)) (gap c m.rest) m.rest (trimmed d)
+        (gap c []) commas gaps
         (λ stays. trimmed_gap d m.rest h.2 (left_begins t below (suc i) ss h.3 stays)) (gap_rest c m.rest) in
         rw (comes next n) (record {
           ss = ss;
@@ -201,70 +120,99 @@ more_front t text below i rest firm commas gaps target s c d ss h e ends short t
           total = rw (comma_part, gap_part) ((rw g at total) ∙ ap (λ (x : List ℕ). firm ++ x) ways);
         })
 
-    kept : eqb (first behind) comma ≡ true → goes below i s ≡ false → (next : List ℕ) → next ≡ past_gap (drop 1 behind)
-        → AtSlots t text below (suc i) next ((firm ++ commas) ++ before_end rest behind) (before_end behind next) [] target
+    kept : eqb (first behind) comma ≡ true → goes below i s ≡ false → (next : List ℕ)
+        → next ≡ past_gap (drop 1 behind)
+        → AtSlots t text below (suc i) next ((firm ++ commas) ++ before_end rest behind)
+        (before_end behind next) [] target
     kept k g next n =
         let b = m.comma_stays in
         let z = if b then comma ∷ gap d m.rest else m.rest in
-        let item_part : before_end rest behind ≡ slot s [] ++ gap c [] = before_is rest (slot s [] ++ gap c []) behind parted in
-        let comma_part : before_end behind inner ≡ comma ∷ gap d [] = before_is behind (comma ∷ gap d []) inner (ap (λ (x : List ℕ). comma ∷ x) (gap_rest d inner)) in
-        let spread : slot s (gap c z) ≡ slot s [] ++ (gap c [] ++ z) = slot_rest s (gap c z) ∙ ap (λ (x : List ℕ). slot s [] ++ x) (gap_rest c z) in
+        let item_part : before_end rest behind ≡ slot s [] ++ gap c [] =
+        before_is rest (slot s [] ++ gap c []) behind parted in
+        let comma_part : before_end behind inner ≡ comma ∷ gap d [] =
+        before_is behind (comma ∷ gap d []) inner (ap (λ (x : List ℕ). comma ∷ x) (gap_rest d inner)) in
+        let spread : slot s (gap c z) ≡ slot s [] ++ (gap c [] ++ z) = slot_rest s (gap c z) ∙
+        ap (λ (x : List ℕ). slot s [] ++ x) (gap_rest c z) in
         rw (comes next n) (record {
           ss = ss;
           valid = h.3;
           spelled = refl;
           within = reaches;
           short = nearer;
-          total = rw (item_part, comma_part) ((rw g at total) ∙ ap (λ (x : List ℕ). firm ++ (commas ++ x)) spread
+          total = rw (item_part, comma_part) ((rw g at total) ∙
+              ap (λ (x : List ℕ). firm ++ (commas ++ x)) spread
               ∙ grouped firm commas (slot s []) (gap c []) z
-              ∙ ap (λ (x : List ℕ). ((firm ++ commas) ++ (slot s [] ++ gap c [])) ++ x) (kept_rest b d m.rest));
+              ∙ ap (λ (x : List ℕ). ((firm ++ commas) ++ (slot s [] ++ gap c [])) ++ x)
+              (kept_rest b d m.rest));
         })
 
-pub slots_front : (t : Bool) (text : List ℕ) (below : Place) (i : ℕ) (rest firm commas gaps target : List ℕ) → AtSlots t text below i rest firm commas gaps target
+pub slots_front : (t : Bool) (text : List ℕ) (below : Place) (i : ℕ) (rest firm commas gaps target : List ℕ)
+    → AtSlots t text below i rest firm commas gaps target
     → eqb (first rest) (closing t) ≡ false → Front t text below i rest firm commas gaps target
 slots_front t text below i rest firm commas gaps target at unshut = go at.ss at.valid at.spelled at.total
   where
     go : (ss : Slots) → AreSlots t ss → rest ≡ slots ss (closing t ∷ [])
-        → (let l = slots_left below i ss (closing t ∷ []) in target ≡ firm ++ ((if l.comma_stays then commas else gaps) ++ l.rest))
+        → (let l = slots_left below i ss (closing t ∷ []) in
+        target ≡ firm ++ ((if l.comma_stays then commas else gaps) ++ l.rest))
         → Front t text below i rest firm commas gaps target
-    go no_slots h e total = absurd (true≢false (sym (closing_self t) ∙ sym (ap (λ (x : List ℕ). eqb (first x) (closing t)) e) ∙ unshut))
-    go (last_slot s c) h e total = last_front t text below i rest firm commas gaps target s c h.0 h.1 e at.within total
-    go (more_slots s c d ss) h e total = more_front t text below i rest firm commas gaps target s c d ss h e at.within at.short total
+    go no_slots h e total =
+        absurd (true≢false (sym (closing_self t) ∙ sym (ap (λ (x : List ℕ). eqb (first x) (closing t)) e) ∙
+        unshut))
+    go (last_slot s c) h e total =
+        last_front t text below i rest firm commas gaps target s c h.0 h.1 e at.within total
+    go (more_slots s c d ss) h e total =
+        more_front t text below i rest firm commas gaps target s c d ss h e at.within at.short total
 
 -- ---- the same in other words
 
-pub at_with : (t : Bool) (text : List ℕ) (below : Place) (i j : ℕ) (rest firm firm' commas commas' gaps gaps' target : List ℕ) → AtSlots t text below i rest firm commas gaps target
-    → j ≡ i → firm' ≡ firm → commas' ≡ commas → gaps' ≡ gaps → AtSlots t text below j rest firm' commas' gaps' target
-at_with t text below i j rest firm firm' commas commas' gaps gaps' target at ej ef ec eg = rw (ej, ef, ec, eg) at
+pub at_with : (t : Bool) (text : List ℕ) (below : Place) (i j : ℕ)
+    (rest firm firm' commas commas' gaps gaps' target : List ℕ)
+    → AtSlots t text below i rest firm commas gaps target
+    → j ≡ i → firm' ≡ firm → commas' ≡ commas → gaps' ≡ gaps
+    → AtSlots t text below j rest firm' commas' gaps' target
+at_with t text below i j rest firm firm' commas commas' gaps gaps' target at ej ef ec eg =
+    rw (ej, ef, ec, eg) at
 
 opened : (t : Bool) (more : List ℕ) → t ≡ eqb (first (opening t ∷ more)) left_brace
 opened true more = refl
 opened false more = refl
 
 -- a brace comes first where it is an inline table
-pub table_is : (t : Bool) (g : List Between) (ss : Slots) (text : List ℕ) → IsEnclosed t g ss text → t ≡ eqb (first text) left_brace
-table_is t g ss text h = opened t (gap g (slots ss (closing t ∷ []))) ∙ ap (λ (x : List ℕ). eqb (first x) left_brace) (sym h.spelled)
+pub table_is : (t : Bool) (g : List Between) (ss : Slots) (text : List ℕ) → IsEnclosed t g ss text
+    → t ≡ eqb (first text) left_brace
+table_is t g ss text h = opened t (gap g (slots ss (closing t ∷ []))) ∙
+    ap (λ (x : List ℕ). eqb (first x) left_brace) (sym h.spelled)
 
 -- what stands behind a gap
-pub stop_is : (text s : List ℕ) (t : Bool) (it : Slot) (c : List Between) (behind : List ℕ) → StandsAt text s t it c behind → past_gap (gap c behind) ≡ behind
+pub stop_is : (text s : List ℕ) (t : Bool) (it : Slot) (c : List Between) (behind : List ℕ)
+    → StandsAt text s t it c behind → past_gap (gap c behind) ≡ behind
 stop_is text s t it c behind h = past_gap_again c behind h.between (item_gapless (first behind) h.ends)
 
 -- a turn of the loop, where a comma stands behind the element or the member
-pub turned : (t : Bool) (text : List ℕ) (below : Place) (i : ℕ) (rest target : List ℕ) (old new : Remainder) (f : Front t text below i rest old.firm.items old.with_comma.items old.without_comma.items target)
-    (is_gone : Bool) (after stop next : List ℕ) → is_gone ≡ goes below i f.it → after ≡ gap f.gap_behind f.behind → stop ≡ f.behind → eqb (first f.behind) comma ≡ true → next ≡ past_gap (drop 1 f.behind)
+pub turned : (t : Bool) (text : List ℕ) (below : Place) (i : ℕ) (rest target : List ℕ) (old new : Remainder)
+    (f : Front t text below i rest old.firm.items old.with_comma.items old.without_comma.items target)
+    (is_gone : Bool) (after stop next : List ℕ) → is_gone ≡ goes below i f.it
+    → after ≡ gap f.gap_behind f.behind → stop ≡ f.behind → eqb (first f.behind) comma ≡ true
+    → next ≡ past_gap (drop 1 f.behind)
     → (is_gone ≡ true → Leaves old new after stop next) → (is_gone ≡ false → Keeps old new rest stop next)
     → AtSlots t text below (i + 1) next new.firm.items new.with_comma.items new.without_comma.items target
-turned t text below i rest target old new f true after stop next is behind at_stop comma_there comes leaves keeps =
+turned t text below i rest target old new f true after stop next is behind at_stop comma_there comes leaves
+    keeps =
     let w = leaves refl in
     at_with t text below (suc i) (i + 1) next old.firm.items new.firm.items
     (old.with_comma.items ++ before_end (past_blanks (drop 1 f.behind)) next) new.with_comma.items
-    (old.without_comma.items ++ before_end (gap f.gap_behind f.behind) f.behind) new.without_comma.items target
+    (old.without_comma.items ++ before_end (gap f.gap_behind f.behind) f.behind) new.without_comma.items
+    target
     (f.left comma_there (sym is) next comes) (omega arith) w.firm
-    (w.with_comma ∙ ap (λ (x : List ℕ). old.with_comma.items ++ before_end (past_blanks (drop 1 x)) next) at_stop)
-    (w.without_comma ∙ ap (λ (x : List ℕ). old.without_comma.items ++ before_end after x) at_stop ∙ ap (λ (x : List ℕ). old.without_comma.items ++ before_end x f.behind) behind)
-turned t text below i rest target old new f false after stop next is behind at_stop comma_there comes leaves keeps =
+    (w.with_comma ∙ ap (λ (x : List ℕ). old.with_comma.items ++ before_end (past_blanks (drop 1 x)) next)
+    at_stop)
+    (w.without_comma ∙ ap (λ (x : List ℕ). old.without_comma.items ++ before_end after x) at_stop ∙
+    ap (λ (x : List ℕ). old.without_comma.items ++ before_end x f.behind) behind)
+turned t text below i rest target old new f false after stop next is behind at_stop comma_there comes leaves
+    keeps =
     let w = keeps refl in
-    at_with t text below (suc i) (i + 1) next ((old.firm.items ++ old.with_comma.items) ++ before_end rest f.behind) new.firm.items
+    at_with t text below (suc i) (i + 1) next
+    ((old.firm.items ++ old.with_comma.items) ++ before_end rest f.behind) new.firm.items
     (before_end f.behind next) new.with_comma.items [] new.without_comma.items target
     (f.kept comma_there (sym is) next comes) (omega arith)
     (w.firm ∙ ap (λ (x : List ℕ). (old.firm.items ++ old.with_comma.items) ++ before_end rest x) at_stop)

@@ -19,20 +19,25 @@ use Rattle.edit_document.proofs.SamePlace.{same_place_is}
 
 -- ---- two lists that rise and have the same members
 
-head_least : (r q : Range) (rs : List Range) → AllByRecursion (λ z. r.0 < z.0) rs → Among q (r ∷ rs) → r.0 ≤ q.0
+head_least : (r q : Range) (rs : List Range) → AllByRecursion (λ z. r.0 < z.0) rs → Among q (r ∷ rs)
+    → r.0 ≤ q.0
 head_least r q rs all (inl e) = let same = ap (λ (z : Range). z.0) e in omega arith
 head_least r q rs all (inr m) = let less = among_all (λ (z : Range). r.0 < z.0) q rs all m in omega arith
 
-head_only : (r q : Range) (rs : List Range) → AllByRecursion (λ z. r.0 < z.0) rs → Among q (r ∷ rs) → q.0 ≤ r.0 → q ≡ r
+head_only : (r q : Range) (rs : List Range) → AllByRecursion (λ z. r.0 < z.0) rs → Among q (r ∷ rs)
+    → q.0 ≤ r.0 → q ≡ r
 head_only r q rs all (inl e) le = e
-head_only r q rs all (inr m) le = let less = among_all (λ (z : Range). r.0 < z.0) q rs all m in absurd (omega arith)
+head_only r q rs all (inr m) le = let less = among_all (λ (z : Range). r.0 < z.0) q rs all m in
+    absurd (omega arith)
 
 abbrev Covers : List Range → List Range → Type 0
 Covers xs ys = (r : Range) → Among r xs → Among r ys
 
-tail_covers : (x : Range) (xs ys : List Range) → AllByRecursion (λ z. x.0 < z.0) xs → Covers (x ∷ xs) (x ∷ ys) → Covers xs ys
+tail_covers : (x : Range) (xs ys : List Range) → AllByRecursion (λ z. x.0 < z.0) xs → Covers (x ∷ xs) (x ∷ ys)
+    → Covers xs ys
 tail_covers x xs ys all covers r m =
-    ⊎_elim (λ e. let less = among_all (λ (z : Range). x.0 < z.0) r xs all m in let same = ap (λ (z : Range). z.0) e in absurd (omega arith)) (λ n. n) (covers r (inr m))
+    ⊎_elim (λ e. let less = among_all (λ (z : Range). x.0 < z.0) r xs all m in
+    let same = ap (λ (z : Range). z.0) e in absurd (omega arith)) (λ n. n) (covers r (inr m))
 
 pub rising_same : (xs ys : List Range) → Rises xs → Rises ys → Covers xs ys → Covers ys xs → xs ≡ ys
 rising_same [] [] up high to from = refl
@@ -65,29 +70,36 @@ same_range : (r q : Range) → r.0 ≡ q.0 → r.1 ≡ q.1 → r.2 ≡ q.2 → r
 same_range r q e f g = λ i. (e i, f i, g i)
 
 -- an edit's value is among the edited ones
-pub edit_among : (form : Text) (edits : Edits) (e : Place × List ℕ) (r : Range) → AreFirst edits → Among e edits → (is : IsRangeFor form e r) → Among (is.0.valued, e.1) (edited edits form)
+pub edit_among : (form : Text) (edits : Edits) (e : Place × List ℕ) (r : Range) → AreFirst edits
+    → Among e edits → (is : IsRangeFor form e r) → Among (is.0.valued, e.1) (edited edits form)
 edit_among form edits e r first m is =
     let w = is.0.valued in
     among_filter (edit_of edits) w (w, e.1) (values form) (contained_among w (values form) is.0.told)
-    (ap (λ (o : Option (List ℕ)). option_map (λ (said : List ℕ). (w, said)) o) (ap (λ (p : Place). new_text edits p) is.0.there ∙ first e m))
+    (ap (λ (o : Option (List ℕ)). option_map (λ (said : List ℕ). (w, said)) o)
+    (ap (λ (p : Place). new_text edits p) is.0.there ∙ first e m))
 
-range_edited : (form : Text) (edits : Edits) (e : Place × List ℕ) (r : Range) → AreFirst edits → Among e edits → IsRangeFor form e r → Among r (ranges_of (length (text form)) (edited edits form))
+range_edited : (form : Text) (edits : Edits) (e : Place × List ℕ) (r : Range) → AreFirst edits → Among e edits
+    → IsRangeFor form e r → Among r (ranges_of (length (text form)) (edited edits form))
 range_edited form edits e r first m is =
     let total = length (text form) in
     let c : Valued × List ℕ = (is.0.valued, e.1) in
-    subst (λ (q : Range). Among q (ranges_of total (edited edits form))) (sym (same_range r (edit_range total c) is.0.starts is.0.ends is.1))
+    subst (λ (q : Range). Among q (ranges_of total (edited edits form)))
+    (sym (same_range r (edit_range total c) is.0.starts is.0.ends is.1))
     (among_map (edit_range total) c (edited edits form) (edit_among form edits e r first m is))
 
 -- the edit that a new text comes from
-text_from : (edits : Edits) (p : Place) (said : List ℕ) → new_text edits p ≡ Some said → (e : Place × List ℕ) × Among e edits × (e.0 ≡ p) × (e.1 ≡ said)
+text_from : (edits : Edits) (p : Place) (said : List ℕ) → new_text edits p ≡ Some said → (e : Place × List ℕ)
+    × Among e edits × (e.0 ≡ p) × (e.1 ≡ said)
 text_from [] p said h = absurd cc
 text_from (e ∷ edits) p said h =
     by_test (same_place e.0 p)
     (λ t. let is : Some e.1 ≡ Some said = sym (ap (λ c. cond c (Some e.1) (new_text edits p)) t) ∙ h in
     let same : e.1 ≡ said = cc in (e, inl refl, same_place_is e.0 p t, same))
-    (λ t. let r = text_from edits p said (sym (ap (λ c. cond c (Some e.1) (new_text edits p)) t) ∙ h) in (r.0, inr r.1, r.2, r.3))
+    (λ t. let r = text_from edits p said (sym (ap (λ c. cond c (Some e.1) (new_text edits p)) t) ∙ h) in
+    (r.0, inr r.1, r.2, r.3))
 
-edited_from : (w : Valued) (o : Option (List ℕ)) (c : Valued × List ℕ) → option_map (λ (said : List ℕ). (w, said)) o ≡ Some c → (w ≡ c.0) × (o ≡ Some c.1)
+edited_from : (w : Valued) (o : Option (List ℕ)) (c : Valued × List ℕ)
+    → option_map (λ (said : List ℕ). (w, said)) o ≡ Some c → (w ≡ c.0) × (o ≡ Some c.1)
 edited_from w None c e = absurd cc
 edited_from w (Some said) c e =
     let both : Some (w, said) ≡ Some c = e in
@@ -97,7 +109,8 @@ edited_from w (Some said) c e =
     some_same : (a b : Valued × List ℕ) → Some a ≡ Some b → a ≡ b
     some_same a b h = cc
 
-edited_range : (form : Text) (edits : Edits) (ranges : List Range) → NoClash (assertions form) → AreRangesFor form edits ranges → Covers (ranges_of (length (text form)) (edited edits form)) ranges
+edited_range : (form : Text) (edits : Edits) (ranges : List Range) → NoClash (assertions form)
+    → AreRangesFor form edits ranges → Covers (ranges_of (length (text form)) (edited edits form)) ranges
 edited_range form edits ranges clash are r m =
     let total = length (text form) in
     let c = map_among (edit_range total) r (edited edits form) m in
@@ -106,49 +119,60 @@ edited_range form edits ranges clash are r m =
     let e = text_from edits w.0.place c.0.1 f.1 in
     let q = are.all e.0 e.1 in
     let u = q.2.0.valued in
-    let same : u ≡ c.0.0 = values_unique form u w.0 clash (contained_among u (values form) q.2.0.told) w.1 (q.2.0.there ∙ e.2) ∙ f.0 in
+    let same : u ≡ c.0.0 = values_unique form u w.0 clash (contained_among u (values form) q.2.0.told) w.1
+    (q.2.0.there ∙ e.2) ∙ f.0 in
     subst (λ (z : Range). Among z ranges)
-    (same_range q.0 (edit_range total c.0) (q.2.0.starts ∙ ap (λ (z : Valued). start_of total z) same) (q.2.0.ends ∙ ap (λ (z : Valued). end_of total z) same) (q.2.1 ∙ e.3) ∙ sym c.2)
+    (same_range q.0 (edit_range total c.0) (q.2.0.starts ∙ ap (λ (z : Valued). start_of total z) same)
+    (q.2.0.ends ∙ ap (λ (z : Valued). end_of total z) same) (q.2.1 ∙ e.3) ∙ sym c.2)
     q.1
 
 -- ---- the edited values are enclosed
 
-all_filter : {X Y : Type 0} (P : X → Type 0) (Q : Y → Type 0) (f : X → Option Y) (xs : List X) → ((x : X) (y : Y) → f x ≡ Some y → P x → Q y) → AllByRecursion P xs → AllByRecursion Q (filter_map f xs)
+all_filter : {X Y : Type 0} (P : X → Type 0) (Q : Y → Type 0) (f : X → Option Y) (xs : List X)
+    → ((x : X) (y : Y) → f x ≡ Some y → P x → Q y) → AllByRecursion P xs → AllByRecursion Q (filter_map f xs)
 all_filter P Q f [] step all = tt
 all_filter {Y = Y} P Q f (x ∷ xs) step all = go (f x) refl (all_filter P Q f xs step all.1)
   where
-    go : (o : Option Y) → f x ≡ o → AllByRecursion Q (filter_map f xs) → AllByRecursion Q (cons_option o (filter_map f xs))
+    go : (o : Option Y) → f x ≡ o → AllByRecursion Q (filter_map f xs)
+        → AllByRecursion Q (cons_option o (filter_map f xs))
     go None e more = more
     go (Some y) e more = (step x y e all.0, more)
 
 pub edits_enclosed : (form : Text) (edits : Edits) → AreLines form.lines → AreEnclosed (edited edits form)
 edits_enclosed form edits fine =
     all_filter (λ w. IsValue w.value) (λ c. IsEnclosed (value c.0.value [])) (edit_of edits) (values form)
-    (λ w c e h. let f = edited_from w (new_text edits w.place) c e in subst (λ (z : Valued). IsEnclosed (value z.value [])) f.0 (value_enclosed w.value h))
+    (λ w c e h. let f = edited_from w (new_text edits w.place) c e in
+    subst (λ (z : Valued). IsEnclosed (value z.value [])) f.0 (value_enclosed w.value h))
     (values_fine [] [] form.lines fine)
 
 -- ---- the theorem
 
-pub ranges_are : (form : Text) (edits : Edits) (ranges : List Range) → NoClash (assertions form) → AreLines form.lines → NoneBelow edits → AreFirst edits → AreRangesFor form edits ranges → Rises ranges
+pub ranges_are : (form : Text) (edits : Edits) (ranges : List Range) → NoClash (assertions form)
+    → AreLines form.lines → NoneBelow edits → AreFirst edits → AreRangesFor form edits ranges → Rises ranges
     → ranges ≡ ranges_of (length (text form)) (edited edits form)
 ranges_are form edits ranges clash fine free first are up =
     rising_same ranges (ranges_of (length (text form)) (edited edits form)) up
-    (swaps_rise (text form) (text (replaced edits form)) (edited edits form) (replaced_swaps literal_of edits form free) (edits_enclosed form edits fine))
-    (λ r m. let e = are.each r m in range_edited form edits e.0 r first e.1 e.2) (edited_range form edits ranges clash are)
+    (swaps_rise (text form) (text (replaced edits form)) (edited edits form)
+    (replaced_swaps literal_of edits form free) (edits_enclosed form edits fine))
+    (λ r m. let e = are.each r m in range_edited form edits e.0 r first e.1 e.2)
+    (edited_range form edits ranges clash are)
 
 -- the ranges may be cut out, and the text with the literals in their place is the replaced one
 pub record Rewrites (whole : List ℕ) (ranges : List Range) (new : List ℕ) : Type 0 where
   pub order : AreInOrder whole 0 ranges
   pub bytes : spliced whole 0 ranges ≡ new
 
-pub ranges_rewrite : (form : Text) (edits : Edits) (ranges : List Range) → NoClash (assertions form) → AreLines form.lines → NoneBelow edits → AreFirst edits → AreRangesFor form edits ranges → Rises ranges
+pub ranges_rewrite : (form : Text) (edits : Edits) (ranges : List Range) → NoClash (assertions form)
+    → AreLines form.lines → NoneBelow edits → AreFirst edits → AreRangesFor form edits ranges → Rises ranges
     → IsUtf8 (text form) → Rewrites (text form) ranges (text (replaced edits form))
 ranges_rewrite form edits ranges clash fine free first are up utf8 =
     let swaps = replaced_swaps literal_of edits form free in
     let fences = edits_enclosed form edits fine in
     let cuts = edited edits form in
-    subst (λ (l : List Range). Rewrites (text form) l (text (replaced edits form))) (sym (ranges_are form edits ranges clash fine free first are up))
+    subst (λ (l : List Range). Rewrites (text form) l (text (replaced edits form)))
+    (sym (ranges_are form edits ranges clash fine free first are up))
     (record {
-      order = swaps_in_order (text form) [] (text form) (text (replaced edits form)) cuts swaps utf8 refl fences;
+      order = swaps_in_order (text form) [] (text form)
+          (text (replaced edits form)) cuts swaps utf8 refl fences;
       bytes = swaps_spliced (text form) [] (text form) (text (replaced edits form)) cuts swaps refl;
     })

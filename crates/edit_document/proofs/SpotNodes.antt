@@ -1,50 +1,55 @@
 -- What assertions make of spots and of the nodes that keep them.
-use Rattle.std.proofs.Common.{◌≡◌, ℕ, zero, suc, ◌+◌, ◌<◌, ◌≤◌, true, false, List, [], ◌∷◌, ◌++◌, length, get_or, Option, Some, None, refl, sym, ap, subst, ◌∙◌, arith}
-use Rattle.std.specs.Prelude.{slice_get, slice_set, nat_le, unwrap_or}
+use Rattle.std.proofs.Common.{◌≡◌, ℕ, zero, suc, ◌+◌, ◌<◌, ◌≤◌, true, false, List, [], ◌∷◌, ◌++◌, length, get_or, Some, None, refl, sym, ap, subst, ◌∙◌, arith}
+use Rattle.std.specs.Prelude.{slice_get, slice_set}
 use Rattle.std.specs.Map.{lookup}
 use Rattle.std.specs.Str.{bytes_eq}
-use Rattle.std.proofs.lemmas.Bool.Decides.{nat_tests}
 use Rattle.std.proofs.lemmas.List.{length-set, length_push}
 use Rattle.std.proofs.lemmas.Option.{slice_get_past, slice_get_read, same_Some}
 use Rattle.edit_document.specs.declared.nodes.Node.{Node}
-use Rattle.edit_syntax.specs.declared.span.Span.{Span}
-use Rattle.edit_document.specs.declared.nodes.Content.{Content}
 use Rattle.edit_document.specs.declared.nodes.Taken.{Taken}
-use Rattle.edit_document.specs.declared.nodes.Taken.TheVariants.{Dotted, Value, Super, Header, Array, Element}
-use Rattle.edit_document.specs.Assertions.{key, index, Place, at}
+use Rattle.edit_document.specs.Assertions.{key}
 use Rattle.edit_document.specs.Taking.{joins, stronger}
-use Rattle.edit_document.specs.Nodes.{Shape, Spot, shape_of, entries_of, number_in, IsIndexed, Keeps, Holds, below}
-use Rattle.edit_document.specs.Walk.{last_table, spot_at, child, target_of, with_taken, taken_again, with_member, with_element, added, element_added}
+use Rattle.edit_document.specs.Nodes.{Spot, entries_of, number_in, Keeps, Holds, below}
+use Rattle.edit_document.specs.Walk.{child, with_taken, taken_again}
 use Rattle.edit_document.specs.WalkState.{Adds}
 use Rattle.edit_syntax.proofs.ListElements.{OneMore, OneSet, changed, in_push, in_set, newest, other, stood}
 
 -- ---- nodes and spots
 
-pub holds_set : {text : List ℕ} (nodes : List Node) (spots : List Spot) (t : ℕ) (new : Node) (s : Spot) → Holds text nodes spots → t < length nodes → Keeps text new s → Holds text (slice_set nodes t new) (slice_set spots t s)
+pub holds_set : {text : List ℕ} (nodes : List Node) (spots : List Spot) (t : ℕ) (new : Node) (s : Spot)
+    → Holds text nodes spots → t < length nodes → Keeps text new s
+    → Holds text (slice_set nodes t new) (slice_set spots t s)
 holds_set {text} nodes spots t new s holds lt keeps = record {
   len = length-set nodes t new ∙ holds.len ∙ sym (length-set spots t s);
-  each = λ i node spot a b. go i node spot (in_set nodes t new i node lt a) (in_set spots t s i spot (let l = holds.len in omega arith) b);
+  each = λ i node spot a b. go i node spot (in_set nodes t new i node lt a)
+      (in_set spots t s i spot (let l = holds.len in omega arith) b);
 }
   where
-    go : (i : ℕ) (node : Node) (spot : Spot) → OneSet nodes t new i node → OneSet spots t s i spot → Keeps text node spot
-    go i node spot (changed a e) (changed b f) = subst (λ (y : Spot). Keeps text node y) (sym f) (subst (λ (y : Node). Keeps text y s) (sym e) keeps)
+    go : (i : ℕ) (node : Node) (spot : Spot) → OneSet nodes t new i node → OneSet spots t s i spot
+        → Keeps text node spot
+    go i node spot (changed a e) (changed b f) = subst (λ (y : Spot). Keeps text node y) (sym f)
+        (subst (λ (y : Node). Keeps text y s) (sym e) keeps)
     go i node spot (changed a e) (other b f) = absurd (b a)
     go i node spot (other a e) (changed b f) = absurd (a b)
     go i node spot (other a e) (other b f) = holds.each i node spot e f
 
-pub holds_push : {text : List ℕ} (nodes : List Node) (spots : List Spot) (last : Node) (s : Spot) → Holds text nodes spots → Keeps text last s → Holds text (nodes ++ last ∷ []) (spots ++ s ∷ [])
+pub holds_push : {text : List ℕ} (nodes : List Node) (spots : List Spot) (last : Node) (s : Spot)
+    → Holds text nodes spots → Keeps text last s → Holds text (nodes ++ last ∷ []) (spots ++ s ∷ [])
 holds_push {text} nodes spots last s holds keeps = record {
   len = length_push nodes last ∙ ap (λ (n : ℕ). n + 1) holds.len ∙ sym (length_push spots s);
   each = λ i node spot a b. go i node spot (in_push nodes last i node a) (in_push spots s i spot b);
 }
   where
-    go : (i : ℕ) (node : Node) (spot : Spot) → OneMore nodes last i node → OneMore spots s i spot → Keeps text node spot
+    go : (i : ℕ) (node : Node) (spot : Spot) → OneMore nodes last i node → OneMore spots s i spot
+        → Keeps text node spot
     go i node spot (stood a e) (stood b f) = holds.each i node spot e f
     go i node spot (stood a e) (newest b f) = absurd (let l = holds.len in omega arith)
     go i node spot (newest a e) (stood b f) = absurd (let l = holds.len in omega arith)
-    go i node spot (newest a e) (newest b f) = subst (λ (y : Spot). Keeps text node y) (sym f) (subst (λ (y : Node). Keeps text y s) (sym e) keeps)
+    go i node spot (newest a e) (newest b f) = subst (λ (y : Spot). Keeps text node y) (sym f)
+        (subst (λ (y : Node). Keeps text y s) (sym e) keeps)
 
-pub spot_of_node : (nodes : List Node) (spots : List Spot) (n : ℕ) (node : Node) → length nodes ≡ length spots → slice_get nodes n ≡ Some node → (s : Spot) × (slice_get spots n ≡ Some s)
+pub spot_of_node : (nodes : List Node) (spots : List Spot) (n : ℕ) (node : Node) → length nodes ≡ length spots
+    → slice_get nodes n ≡ Some node → (s : Spot) × (slice_get spots n ≡ Some s)
 spot_of_node [] [] n node l e = absurd cc
 spot_of_node [] (s ∷ ss) n node l e = absurd cc
 spot_of_node (x ∷ xs) [] n node l e = absurd (omega arith)
@@ -58,7 +63,8 @@ pub record Kept (text : List ℕ) (nodes : List Node) (spots : List Spot) (t : �
   pub spot_is : slice_get spots t ≡ Some spot
   pub keeps : Keeps text node spot
 
-pub kept_at : {text : List ℕ} (nodes : List Node) (spots : List Spot) (t : ℕ) (node : Node) → Holds text nodes spots → t < length nodes → node ≡ get_or nodes t node → Kept text nodes spots t node
+pub kept_at : {text : List ℕ} (nodes : List Node) (spots : List Spot) (t : ℕ) (node : Node)
+    → Holds text nodes spots → t < length nodes → node ≡ get_or nodes t node → Kept text nodes spots t node
 kept_at nodes spots t node holds lt is =
     let there = slice_get_read nodes (length nodes) t node refl lt is in
     let s = spot_of_node nodes spots t node holds.len there in
@@ -66,209 +72,67 @@ kept_at nodes spots t node holds lt is =
 
 -- ---- a place that is taken again
 
-pub again_past : {text : List ℕ} (nodes : List Node) (spots : List Spot) (t : ℕ) (taken : Taken) → Holds text nodes spots → length nodes ≤ t → taken_again spots t taken ≡ None
+pub again_past : {text : List ℕ} (nodes : List Node) (spots : List Spot) (t : ℕ) (taken : Taken)
+    → Holds text nodes spots → length nodes ≤ t → taken_again spots t taken ≡ None
 unfolding taken_again
 again_past nodes spots t taken holds le = rw (slice_get_past spots t (let l = holds.len in omega arith)) refl
 
-pub again_stopped : {text : List ℕ} (nodes : List Node) (spots : List Spot) (t : ℕ) (node : Node) (taken : Taken) → Holds text nodes spots → t < length nodes → node ≡ get_or nodes t node → joins node.taken taken ≡ false → taken_again spots t taken ≡ None
+pub again_stopped : {text : List ℕ} (nodes : List Node) (spots : List Spot) (t : ℕ) (node : Node)
+    (taken : Taken) → Holds text nodes spots → t < length nodes → node ≡ get_or nodes t node
+    → joins node.taken taken ≡ false → taken_again spots t taken ≡ None
 unfolding taken_again
 again_stopped nodes spots t node taken holds lt is refusal =
     let k = kept_at nodes spots t node holds lt is in
-    let test : joins k.spot.taken taken ≡ false = ap (λ (b : Taken). joins b taken) (sym k.keeps.taken) ∙ refusal in
+    let test : joins k.spot.taken taken ≡ false = ap (λ (b : Taken). joins b taken) (sym k.keeps.taken) ∙
+    refusal in
     rw (k.spot_is, test) refl
 
-pub again_done : {text : List ℕ} (nodes : List Node) (spots : List Spot) (t : ℕ) (node old : Node) (taken now : Taken) → Holds text nodes spots → t < length nodes → node ≡ get_or nodes t node → old ≡ get_or nodes t old → joins node.taken taken ≡ true → now ≡ stronger node.taken taken
+pub again_done : {text : List ℕ} (nodes : List Node) (spots : List Spot) (t : ℕ) (node old : Node)
+    (taken now : Taken) → Holds text nodes spots → t < length nodes → node ≡ get_or nodes t node
+    → old ≡ get_or nodes t old → joins node.taken taken ≡ true → now ≡ stronger node.taken taken
     → Adds text (slice_set nodes t (record old { taken = now })) (taken_again spots t taken) true
 unfolding taken_again
 again_done {text} nodes spots t node old taken now holds lt is was granted strong =
     let k = kept_at nodes spots t node holds lt is in
-    let one : old ≡ node = same_Some old node (sym (slice_get_read nodes (length nodes) t old refl lt was) ∙ k.stands) in
-    let test : joins k.spot.taken taken ≡ true = ap (λ (b : Taken). joins b taken) (sym k.keeps.taken) ∙ granted in
+    let one : old ≡ node = same_Some old node (sym (slice_get_read nodes (length nodes) t old refl lt was) ∙
+    k.stands) in
+    let test : joins k.spot.taken taken ≡ true = ap (λ (b : Taken). joins b taken) (sym k.keeps.taken) ∙
+    granted in
     let keeps : Keeps text (record old { taken = now }) (with_taken k.spot taken) =
     subst (λ (n : Node). Keeps text (record n { taken = now }) (with_taken k.spot taken)) (sym one)
-    (record { shape = k.keeps.shape; taken = strong ∙ ap (λ (b : Taken). stronger b taken) k.keeps.taken; steps = k.keeps.steps; members = k.keeps.members; indexed = k.keeps.indexed; elements = k.keeps.elements; span = k.keeps.span }) in
-    (slice_set spots t (with_taken k.spot taken), rw (k.spot_is, test) refl, holds_set nodes spots t (record old { taken = now }) (with_taken k.spot taken) holds lt keeps)
+    (record {
+      shape = k.keeps.shape;
+      taken = strong ∙ ap (λ (b : Taken). stronger b taken) k.keeps.taken;
+      steps = k.keeps.steps;
+      members = k.keeps.members;
+      indexed = k.keeps.indexed;
+      elements = k.keeps.elements;
+      span = k.keeps.span;
+    }) in (
+      slice_set spots t (with_taken k.spot taken),
+      rw (k.spot_is, test) refl,
+      holds_set nodes spots t (record old { taken = now }) (with_taken k.spot taken) holds lt keeps,
+    )
 
 -- ---- members by name
 
-pub below_node : {text : List ℕ} (node : Node) (s : Spot) (name : List ℕ) → Keeps text node s → below s (key name) ≡ number_in (entries_of text node.members) name
+pub below_node : {text : List ℕ} (node : Node) (s : Spot) (name : List ℕ) → Keeps text node s
+    → below s (key name) ≡ number_in (entries_of text node.members) name
 below_node node s name k = ap (lookup (λ n. bytes_eq name n)) (sym k.members)
 
-pub child_past : {text : List ℕ} (nodes : List Node) (spots : List Spot) (t : ℕ) (name : List ℕ) → Holds text nodes spots → length nodes ≤ t → child spots t name ≡ None
+pub child_past : {text : List ℕ} (nodes : List Node) (spots : List Spot) (t : ℕ) (name : List ℕ)
+    → Holds text nodes spots → length nodes ≤ t → child spots t name ≡ None
 unfolding child
 child_past nodes spots t name holds le = rw (slice_get_past spots t (let l = holds.len in omega arith)) refl
 
-pub child_is : (spots : List Spot) (t : ℕ) (s : Spot) (name : List ℕ) → slice_get spots t ≡ Some s → child spots t name ≡ below s (key name)
+pub child_is : (spots : List Spot) (t : ℕ) (s : Spot) (name : List ℕ) → slice_get spots t ≡ Some s
+    → child spots t name ≡ below s (key name)
 unfolding child
 child_is spots t s name e = rw e refl
 
-pub child_found : {text : List ℕ} (nodes : List Node) (spots : List Spot) (t : ℕ) (node : Node) (name : List ℕ) → Holds text nodes spots → t < length nodes → node ≡ get_or nodes t node → child spots t name ≡ number_in (entries_of text node.members) name
+pub child_found : {text : List ℕ} (nodes : List Node) (spots : List Spot) (t : ℕ) (node : Node)
+    (name : List ℕ) → Holds text nodes spots → t < length nodes → node ≡ get_or nodes t node
+    → child spots t name ≡ number_in (entries_of text node.members) name
 child_found nodes spots t node name holds lt is =
     let k = kept_at nodes spots t node holds lt is in
     child_is spots t k.spot name k.spot_is ∙ below_node node k.spot name k.keeps
-
--- ---- targets
-
-pub target_past : {text : List ℕ} (nodes : List Node) (spots : List Spot) (t : ℕ) → Holds text nodes spots → length nodes ≤ t → target_of spots t Super ≡ t
-unfolding target_of
-target_past nodes spots t holds le = rw (slice_get_past spots t (let l = holds.len in omega arith)) refl
-
-pub target_is : (spots : List Spot) (t : ℕ) (s : Spot) → slice_get spots t ≡ Some s → target_of spots t Super ≡ unwrap_or (last_table s.shape s.elements) t
-unfolding target_of
-target_is spots t s e = rw e refl
-
-pub target_found : {text : List ℕ} (nodes : List Node) (spots : List Spot) (t : ℕ) (node : Node) → Holds text nodes spots → t < length nodes → node ≡ get_or nodes t node → target_of spots t Super ≡ unwrap_or (last_table (shape_of text node.content) node.elements.items) t
-target_found {text} nodes spots t node holds lt is =
-    let k = kept_at nodes spots t node holds lt is in
-    target_is spots t k.spot k.spot_is ∙ ap (λ (x : Shape). unwrap_or (last_table x k.spot.elements) t) (sym k.keeps.shape) ∙ ap (λ (ns : List ℕ). unwrap_or (last_table (shape_of text node.content) ns) t) (sym k.keeps.elements)
-
-pub target_other : (spots : List Spot) (t : ℕ) (taken : Taken) → (taken ≡ Super → ⊥) → target_of spots t taken ≡ t
-unfolding target_of
-target_other spots t Super ne = absurd (ne refl)
-target_other spots t Dotted ne = refl
-target_other spots t Value ne = refl
-target_other spots t Header ne = refl
-target_other spots t Array ne = refl
-target_other spots t Element ne = refl
-
--- ---- a member more, and an element more
-
-pub deepest : (n : ℕ) → nat_le 80 n ≡ true → 80 ≤ n
-deepest n e = grind (arith, nat_tests)
-
-pub not_deepest : (n : ℕ) → nat_le 80 n ≡ false → n < 80
-not_deepest n e = grind (arith, nat_tests)
-
-pub added_past : {text : List ℕ} (nodes : List Node) (spots : List Spot) (t : ℕ) (name : List ℕ) (shape : Shape) (taken : Taken) (span : Option Span) → Holds text nodes spots → length nodes ≤ t → added spots t name shape taken span ≡ None
-unfolding added
-added_past nodes spots t name shape taken span holds le = rw (slice_get_past spots t (let l = holds.len in omega arith)) refl
-
-pub added_long : (spots : List Spot) (t : ℕ) (name : List ℕ) (shape : Shape) (taken : Taken) (span : Option Span) (s : Spot) → slice_get spots t ≡ Some s → 80 ≤ length s.place → added spots t name shape taken span ≡ None
-unfolding added
-added_long spots t name shape taken span s e le = let test : nat_le 80 (length s.place) ≡ true = grind (arith, nat_tests) in rw (e, test) refl
-
-pub added_made : (spots : List Spot) (t : ℕ) (name : List ℕ) (shape : Shape) (taken : Taken) (span : Option Span) (s : Spot) → slice_get spots t ≡ Some s → length s.place < 80
-    → added spots t name shape taken span ≡ Some (slice_set spots t (with_member s name (length spots)) ++ spot_at (at s.place (key name)) shape taken span ∷ [], length spots)
-unfolding added
-added_made spots t name shape taken span s e lt = let test : nat_le 80 (length s.place) ≡ false = grind (arith, nat_tests) in rw (e, test) refl
-
-pub add_stopped : {text : List ℕ} (nodes : List Node) (spots : List Spot) (t : ℕ) (node : Node) (name : List ℕ) (shape : Shape) (taken : Taken) (span : Option Span) → Holds text nodes spots → t < length nodes → node ≡ get_or nodes t node → 80 ≤ node.steps
-    → added spots t name shape taken span ≡ None
-add_stopped nodes spots t node name shape taken span holds lt is le =
-    let k = kept_at nodes spots t node holds lt is in
-    added_long spots t name shape taken span k.spot k.spot_is (let e = k.keeps.steps in omega arith)
-
--- a node into whose members a name was inserted, where it was not
-pub record Inserted (text : List ℕ) (old new : Node) (name : List ℕ) (count : ℕ) : Type 0 where
-  pub content : new.content ≡ old.content
-  pub taken : new.taken ≡ old.taken
-  pub steps : new.steps ≡ old.steps
-  pub span : new.span ≡ old.span
-  pub elements : new.elements ≡ old.elements
-  pub entries : entries_of text new.members ≡ entries_of text old.members ++ (name, count) ∷ []
-  pub indexed : IsIndexed text new.members
-
--- a node without members, one step below another
-pub record Starts (text : List ℕ) (new : Node) (content : Content) (taken : Taken) (steps : ℕ) (span : Option Span) : Type 0 where
-  pub content_is : new.content ≡ content
-  pub taken_is : new.taken ≡ taken
-  pub steps_are : new.steps ≡ steps + 1
-  pub span_is : new.span ≡ span
-  pub empty : entries_of text new.members ≡ []
-  pub indexed : IsIndexed text new.members
-  pub none : new.elements.items ≡ []
-
-starts_keeps : (text : List ℕ) (new : Node) (content : Content) (taken : Taken) (steps : ℕ) (span : Option Span) (place : Place) → Starts text new content taken steps span → length place ≡ steps + 1 → Keeps text new (spot_at place (shape_of text content) taken span)
-starts_keeps text new content taken steps span place h e = record {
-  shape = ap (shape_of text) h.content_is;
-  taken = h.taken_is;
-  steps = h.steps_are ∙ sym e;
-  members = h.empty;
-  indexed = h.indexed;
-  elements = h.none;
-  span = h.span_is;
-}
-
-gained_keeps : {text : List ℕ} (old new : Node) (name : List ℕ) (count : ℕ) (s : Spot) → Keeps text old s → Inserted text old new name count → Keeps text new (with_member s name count)
-gained_keeps {text} old new name count s keeps i =
-    record {
-      shape = ap (shape_of text) i.content ∙ keeps.shape;
-      taken = i.taken ∙ keeps.taken;
-      steps = i.steps ∙ keeps.steps;
-      members = i.entries ∙ ap (λ (ms : List (List ℕ × ℕ)). ms ++ (name, count) ∷ []) keeps.members;
-      indexed = i.indexed;
-      elements = ap (λ v. v.items) i.elements ∙ keeps.elements;
-      span = i.span ∙ keeps.span;
-    }
-
-pub add_done : {text : List ℕ} (nodes nodes2 : List Node) (spots : List Spot) (t count : ℕ) (old node2 last : Node) (name : List ℕ) (content : Content) (taken : Taken) (span : Option Span) → Holds text nodes spots → t < count → count ≡ length nodes
-    → old ≡ get_or nodes t old → old.steps < 80 → Inserted text old node2 name count → Starts text last content taken old.steps span → nodes2 ≡ slice_set nodes t node2 ++ last ∷ []
-    → (made : List Spot) × (added spots t name (shape_of text content) taken span ≡ Some (made, count)) × Holds text nodes2 made
-add_done {text} nodes nodes2 spots t count old node2 last name content taken span holds lt size was few inserted starts made =
-    let lt2 : t < length nodes = omega arith in
-    let k = kept_at nodes spots t old holds lt2 was in
-    let number : count ≡ length spots = size ∙ holds.len in
-    let long : length (at k.spot.place (key name)) ≡ old.steps + 1 = length_push k.spot.place (key name) ∙ ap (λ (n : ℕ). n + 1) (sym k.keeps.steps) in
-    let first = holds_set nodes spots t node2 (with_member k.spot name count) holds lt2 (gained_keeps old node2 name count k.spot k.keeps inserted) in
-    let both = holds_push (slice_set nodes t node2) (slice_set spots t (with_member k.spot name count)) last (spot_at (at k.spot.place (key name)) (shape_of text content) taken span) first (starts_keeps text last content taken old.steps span (at k.spot.place (key name)) starts long) in
-    let fits : length k.spot.place < 80 = (let e = k.keeps.steps in omega arith) in (
-      slice_set spots t (with_member k.spot name count) ++ spot_at (at k.spot.place (key name)) (shape_of text content) taken span ∷ [],
-      added_made spots t name (shape_of text content) taken span k.spot k.spot_is fits
-          ∙ ap (λ (n : ℕ). Some (slice_set spots t (with_member k.spot name n) ++ spot_at (at k.spot.place (key name)) (shape_of text content) taken span ∷ [], n)) (sym number),
-      subst (λ (ns : List Node). Holds text ns (slice_set spots t (with_member k.spot name count) ++ spot_at (at k.spot.place (key name)) (shape_of text content) taken span ∷ [])) (sym made) both,
-    )
-
-pub element_past : {text : List ℕ} (nodes : List Node) (spots : List Spot) (t : ℕ) (shape : Shape) (taken : Taken) (span : Option Span) → Holds text nodes spots → length nodes ≤ t → element_added spots t shape taken span ≡ None
-unfolding element_added
-element_past nodes spots t shape taken span holds le = rw (slice_get_past spots t (let l = holds.len in omega arith)) refl
-
-pub element_long : (spots : List Spot) (t : ℕ) (shape : Shape) (taken : Taken) (span : Option Span) (s : Spot) → slice_get spots t ≡ Some s → 80 ≤ length s.place → element_added spots t shape taken span ≡ None
-unfolding element_added
-element_long spots t shape taken span s e le = let test : nat_le 80 (length s.place) ≡ true = grind (arith, nat_tests) in rw (e, test) refl
-
-pub element_made : (spots : List Spot) (t : ℕ) (shape : Shape) (taken : Taken) (span : Option Span) (s : Spot) → slice_get spots t ≡ Some s → length s.place < 80
-    → element_added spots t shape taken span ≡ Some (slice_set spots t (with_element s (length spots)) ++ spot_at (at s.place (index (length s.elements))) shape taken span ∷ [], length spots)
-unfolding element_added
-element_made spots t shape taken span s e lt = let test : nat_le 80 (length s.place) ≡ false = grind (arith, nat_tests) in rw (e, test) refl
-
-pub element_stopped : {text : List ℕ} (nodes : List Node) (spots : List Spot) (t : ℕ) (node : Node) (shape : Shape) (taken : Taken) (span : Option Span) → Holds text nodes spots → t < length nodes → node ≡ get_or nodes t node → 80 ≤ node.steps → element_added spots t shape taken span ≡ None
-element_stopped nodes spots t node shape taken span holds lt is le =
-    let k = kept_at nodes spots t node holds lt is in
-    element_long spots t shape taken span k.spot k.spot_is (let e = k.keeps.steps in omega arith)
-
--- a node with an element more
-pub record Extended (old new : Node) (count : ℕ) : Type 0 where
-  pub content : new.content ≡ old.content
-  pub taken : new.taken ≡ old.taken
-  pub steps : new.steps ≡ old.steps
-  pub span : new.span ≡ old.span
-  pub members : new.members ≡ old.members
-  pub elements : new.elements.items ≡ old.elements.items ++ count ∷ []
-
-extended_keeps : {text : List ℕ} (old new : Node) (count : ℕ) (s : Spot) → Keeps text old s → Extended old new count → Keeps text new (with_element s count)
-extended_keeps {text} old new count s keeps i = record {
-  shape = ap (shape_of text) i.content ∙ keeps.shape;
-  taken = i.taken ∙ keeps.taken;
-  steps = i.steps ∙ keeps.steps;
-  members = ap (entries_of text) i.members ∙ keeps.members;
-  indexed = subst (IsIndexed text) (sym i.members) keeps.indexed;
-  elements = i.elements ∙ ap (λ (ns : List ℕ). ns ++ count ∷ []) keeps.elements;
-  span = i.span ∙ keeps.span;
-}
-
-pub element_done : {text : List ℕ} (nodes nodes2 : List Node) (spots : List Spot) (t count : ℕ) (old node2 last : Node) (content : Content) (taken : Taken) (span : Option Span) → Holds text nodes spots → t < count → count ≡ length nodes → old ≡ get_or nodes t old → old.steps < 80 → Extended old node2 count
-    → Starts text last content taken old.steps span → nodes2 ≡ slice_set nodes t node2 ++ last ∷ [] → (made : List Spot) × (element_added spots t (shape_of text content) taken span ≡ Some (made, count)) × Holds text nodes2 made
-element_done {text} nodes nodes2 spots t count old node2 last content taken span holds lt size was few extended starts made =
-    let lt2 : t < length nodes = omega arith in
-    let k = kept_at nodes spots t old holds lt2 was in
-    let number : count ≡ length spots = size ∙ holds.len in
-    let place = at k.spot.place (index (length k.spot.elements)) in
-    let long : length (at k.spot.place (index (length k.spot.elements))) ≡ old.steps + 1 = length_push k.spot.place (index (length k.spot.elements)) ∙ ap (λ (n : ℕ). n + 1) (sym k.keeps.steps) in
-    let first = holds_set nodes spots t node2 (with_element k.spot count) holds lt2 (extended_keeps old node2 count k.spot k.keeps extended) in
-    let keeps : Keeps text last (spot_at place (shape_of text content) taken span) = starts_keeps text last content taken old.steps span place starts long in
-    let both = holds_push (slice_set nodes t node2) (slice_set spots t (with_element k.spot count)) last (spot_at place (shape_of text content) taken span) first keeps in
-    let fits : length k.spot.place < 80 = (let e = k.keeps.steps in omega arith) in (
-      slice_set spots t (with_element k.spot count) ++ spot_at place (shape_of text content) taken span ∷ [],
-      element_made spots t (shape_of text content) taken span k.spot k.spot_is fits ∙ ap (λ (n : ℕ). Some (slice_set spots t (with_element k.spot n) ++ spot_at place (shape_of text content) taken span ∷ [], n)) (sym number),
-      subst (λ (ns : List Node). Holds text ns (slice_set spots t (with_element k.spot count) ++ spot_at place (shape_of text content) taken span ∷ [])) (sym made) both,
-    )

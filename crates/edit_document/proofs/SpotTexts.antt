@@ -71,7 +71,8 @@ pub text_swapped : (bytes s t now one two three front back : List ℕ) (from to 
     → three ≡ two ++ back → three ≡ with_splice bytes (record { from = s; to = t; now = now })
 text_swapped bytes s t now one two three front back from to u at_s at_t is_s is_t f b e1 e2 e3 =
     let head : front ≡ before bytes s =
-    f ∙ cut_spots bytes bytes s (length bytes) from (whole_spot bytes u) at_s (at_s.front, at_s.seam) refl is_s in
+    f ∙ cut_spots bytes bytes s (length bytes) from (whole_spot bytes u) at_s
+    (at_s.front, at_s.seam) refl is_s in
     let tail : back ≡ t = b ∙ cut_rest bytes t to at_t is_t in
     e3 ∙ ap₂ (λ (x y : List ℕ). x ++ y) (e2 ∙ ap (λ (x : List ℕ). x ++ now) (e1 ∙ head)) tail
     ∙ append_assoc (before bytes s) now t

@@ -1,4 +1,5 @@
--- Inline tables as TOML 1.1.0 has them ("Inline Table"): over several lines, with comments, and with a comma after
+-- Inline tables as TOML 1.1.0 has them ("Inline Table"): over several lines, with comments, and with a comma
+-- after
 -- the last pair. What is a document shows what stands at a place of it.
 use Rattle.std.proofs.Common.{[], ◌∷◌, refl}
 use Rattle.std.specs.Prelude.{codes}
@@ -8,28 +9,37 @@ use Rattle.edit_document.proofs.FromReader.{Shows, IsNone, shows, is_none}
 use Rattle.edit_document.proofs.OnTexts.{on_texts}
 
 -- "Inline Table": over several lines
-pub inline_over_lines : Shows (codes "contact = {\n    personal = {\n        name = \"Donald Duck\",\n        email = \"donald@duckburg.com\",\n    },\n    work = {\n        name = \"Coin cleaner\",\n        email = \"donald@ScroogeCorp.com\",\n    },\n}")
+pub inline_over_lines : Shows
+    (codes "contact = {\n    personal = {\n        name = \"Donald Duck\",\n        email = \"donald@duckburg.com\",\n    },\n    work = {\n        name = \"Coin cleaner\",\n        email = \"donald@ScroogeCorp.com\",\n    },\n}")
     (key (codes "contact") ∷ []) (inline_table (key (codes "personal") ∷ key (codes "work") ∷ []))
 unfolding on_texts
-inline_over_lines = shows (codes "contact = {\n    personal = {\n        name = \"Donald Duck\",\n        email = \"donald@duckburg.com\",\n    },\n    work = {\n        name = \"Coin cleaner\",\n        email = \"donald@ScroogeCorp.com\",\n    },\n}") (key (codes "contact") ∷ []) (inline_table (key (codes "personal") ∷ key (codes "work") ∷ [])) refl refl
+inline_over_lines = shows
+    (codes "contact = {\n    personal = {\n        name = \"Donald Duck\",\n        email = \"donald@duckburg.com\",\n    },\n    work = {\n        name = \"Coin cleaner\",\n        email = \"donald@ScroogeCorp.com\",\n    },\n}") (key (codes "contact") ∷ []) (inline_table (key (codes "personal") ∷ key (codes "work") ∷ [])) refl refl
 
 -- "Inline Table": within another one
-pub inline_within : Shows (codes "contact = {\n    personal = {\n        name = \"Donald Duck\",\n        email = \"donald@duckburg.com\",\n    },\n    work = {\n        name = \"Coin cleaner\",\n        email = \"donald@ScroogeCorp.com\",\n    },\n}")
-    (key (codes "contact") ∷ key (codes "work") ∷ key (codes "email") ∷ []) (string (codes "donald@ScroogeCorp.com"))
+pub inline_within : Shows
+    (codes "contact = {\n    personal = {\n        name = \"Donald Duck\",\n        email = \"donald@duckburg.com\",\n    },\n    work = {\n        name = \"Coin cleaner\",\n        email = \"donald@ScroogeCorp.com\",\n    },\n}")
+    (key (codes "contact") ∷ key (codes "work") ∷ key (codes "email") ∷ [])
+    (string (codes "donald@ScroogeCorp.com"))
 unfolding on_texts
-inline_within = shows (codes "contact = {\n    personal = {\n        name = \"Donald Duck\",\n        email = \"donald@duckburg.com\",\n    },\n    work = {\n        name = \"Coin cleaner\",\n        email = \"donald@ScroogeCorp.com\",\n    },\n}") (key (codes "contact") ∷ key (codes "work") ∷ key (codes "email") ∷ []) (string (codes "donald@ScroogeCorp.com")) refl refl
+inline_within = shows
+    (codes "contact = {\n    personal = {\n        name = \"Donald Duck\",\n        email = \"donald@duckburg.com\",\n    },\n    work = {\n        name = \"Coin cleaner\",\n        email = \"donald@ScroogeCorp.com\",\n    },\n}") (key (codes "contact") ∷ key (codes "work") ∷ key (codes "email") ∷ []) (string (codes "donald@ScroogeCorp.com")) refl refl
 
 -- "Inline Table": a comma at the end
 pub inline_comma_at_the_end : Shows (codes "t = { a = true, }")
     (key (codes "t") ∷ []) (inline_table (key (codes "a") ∷ []))
 unfolding on_texts
-inline_comma_at_the_end = shows (codes "t = { a = true, }") (key (codes "t") ∷ []) (inline_table (key (codes "a") ∷ [])) refl refl
+inline_comma_at_the_end = shows (codes "t = { a = true, }") (key (codes "t") ∷ [])
+    (inline_table (key (codes "a") ∷ [])) refl refl
 
 -- "Inline Table": comments, and a comma behind one
-pub inline_comments : Shows (codes "t = { # one\r\n  # two\r\n  a = true # three\r\n  , b = 1, # four\r\n} # five")
+pub inline_comments : Shows
+    (codes "t = { # one\r\n  # two\r\n  a = true # three\r\n  , b = 1, # four\r\n} # five")
     (key (codes "t") ∷ key (codes "b") ∷ []) (whole (codes "1"))
 unfolding on_texts
-inline_comments = shows (codes "t = { # one\r\n  # two\r\n  a = true # three\r\n  , b = 1, # four\r\n} # five") (key (codes "t") ∷ key (codes "b") ∷ []) (whole (codes "1")) refl refl
+inline_comments = shows
+    (codes "t = { # one\r\n  # two\r\n  a = true # three\r\n  , b = 1, # four\r\n} # five")
+    (key (codes "t") ∷ key (codes "b") ∷ []) (whole (codes "1")) refl refl
 
 -- "Inline Table": nothing but a comment
 pub inline_comment_alone : Shows (codes "t = { # none\n}")
@@ -41,7 +51,8 @@ inline_comment_alone = shows (codes "t = { # none\n}") (key (codes "t") ∷ []) 
 pub inline_and_arrays : Shows (codes "t = [ {\n  a = [\n    1,\n  ],\n}, ]")
     (key (codes "t") ∷ index 0 ∷ key (codes "a") ∷ index 0 ∷ []) (whole (codes "1"))
 unfolding on_texts
-inline_and_arrays = shows (codes "t = [ {\n  a = [\n    1,\n  ],\n}, ]") (key (codes "t") ∷ index 0 ∷ key (codes "a") ∷ index 0 ∷ []) (whole (codes "1")) refl refl
+inline_and_arrays = shows (codes "t = [ {\n  a = [\n    1,\n  ],\n}, ]")
+    (key (codes "t") ∷ index 0 ∷ key (codes "a") ∷ index 0 ∷ []) (whole (codes "1")) refl refl
 
 -- "Inline Table": a comma alone
 pub inline_comma_alone : IsNone (codes "x = { , }")

@@ -134,7 +134,8 @@ statement_spots bytes earlier prefix a (pair k b c v) behind after next blanks v
       line = spot_of bytes _ ends (blanks_start a _ blanks (statement_start (pair k b c v) behind valid));
       key = spot_of bytes _ from (part_start k _ valid.0);
       after = spot_of bytes after last st;
-      front = λ place spot e. key_fronts bytes k _ (leads_to (stated_line earlier prefix a (pair k b c v) behind after next)) place
+      front = λ place spot e. key_fronts bytes k _
+          (leads_to (stated_line earlier prefix a (pair k b c v) behind after next)) place
           (begins_in (stated_line earlier prefix a (pair k b c v) behind after next)) spot valid.0 from e;
     }
 statement_spots bytes earlier prefix a (header b k c) behind after next blanks valid ends last st =
@@ -144,18 +145,23 @@ statement_spots bytes earlier prefix a (header b k c) behind after next blanks v
       line = spot_of bytes _ ends (blanks_start a _ blanks (statement_start (header b k c) behind valid));
       key = spot_of bytes _ from (part_start k _ valid.1);
       after = spot_of bytes after last st;
-      front = λ place spot e. key_fronts bytes k _ (leads_to (stated_line earlier prefix a (header b k c) behind after next)) place
+      front = λ place spot e. key_fronts bytes k _
+          (leads_to (stated_line earlier prefix a (header b k c) behind after next)) place
           (begins_in (stated_line earlier prefix a (header b k c) behind after next)) spot valid.1 from e;
     }
 statement_spots bytes earlier prefix a (element_header b k c) behind after next blanks valid ends last st =
     let from : Ends bytes (key k (c ++ (right_bracket ∷ (right_bracket ∷ behind)))) =
-    ends_past bytes b _ (ends_one bytes left_bracket _ (ends_one bytes left_bracket _ (ends_past bytes a _ ends))) in
+    ends_past bytes b _ (ends_one bytes left_bracket _
+    (ends_one bytes left_bracket _ (ends_past bytes a _ ends))) in
     record {
-      line = spot_of bytes _ ends (blanks_start a _ blanks (statement_start (element_header b k c) behind valid));
+      line = spot_of bytes _ ends
+          (blanks_start a _ blanks (statement_start (element_header b k c) behind valid));
       key = spot_of bytes _ from (part_start k _ valid.1);
       after = spot_of bytes after last st;
-      front = λ place spot e. key_fronts bytes k _ (leads_to (stated_line earlier prefix a (element_header b k c) behind after next)) place
-          (begins_in (stated_line earlier prefix a (element_header b k c) behind after next)) spot valid.1 from e;
+      front = λ place spot e. key_fronts bytes k _
+          (leads_to (stated_line earlier prefix a (element_header b k c) behind after next)) place
+          (begins_in (stated_line earlier prefix a (element_header b k c) behind after next)) spot valid.1
+          from e;
     }
 
 lines_spots : (bytes : List ℕ) (earlier : List Assertion) (prefix : Place) (ls : Lines) → AreLines ls
@@ -172,7 +178,8 @@ lines_spots bytes earlier prefix (more_lines (empty_line a c) e ls) valid ends s
 lines_spots bytes earlier prefix (more_lines (full_line a st b c) e ls) valid ends s (inl same) =
     let after = line_end e (lines ls) in
     subst (HasSpots bytes) (sym same)
-    (statement_spots bytes earlier prefix a st (b ++ comment c after) after (lines ls) valid.0.0 valid.0.1 ends
+    (statement_spots bytes earlier prefix a st (b ++ comment c after) after
+    (lines ls) valid.0.0 valid.0.1 ends
     (ends_line bytes (full_line a st b c) after ends) (line_end_start e (lines ls)))
 lines_spots bytes earlier prefix (more_lines (full_line a st b c) e ls) valid ends s (inr m) =
     lines_spots bytes (earlier ++ of_statement earlier prefix st) (prefix_after earlier prefix st) ls valid.1

@@ -15,7 +15,8 @@ among_flat f y (x ∷ xs) m =
     ⊎_elim (λ l. (x, inl refl, l)) (λ r. let h = among_flat f y xs r in (h.0, inr h.1, h.2))
     (among_append y (f x) (flat_map f xs) m)
 
-members_table : (p : Paired) (table : Place) (ms : Members) (rest : List ℕ) → Among p (paired_members table ms rest)
+members_table : (p : Paired) (table : Place) (ms : Members) (rest : List ℕ)
+    → Among p (paired_members table ms rest)
     → p.table ≡ table
 members_table p table no_members rest m = absurd m
 members_table p table (last_member k a b v c) rest (inl e) = ap (λ (q : Paired). q.table) e

@@ -1,17 +1,16 @@
 -- Two views that show the same but for the order of members, and what stands below them.
-use Rattle.std.proofs.Common.{◌≡◌, ℕ, zero, suc, ◌+◌, ◌<◌, ◌≤◌, Bool, true, false, ◌||◌, List, [], ◌∷◌, ◌++◌, length, map, Option, Some, None, refl, sym, ap, subst, ◌∙◌, inl, inr, arith, append-nil}
+use Rattle.std.proofs.Common.{◌≡◌, ℕ, zero, suc, ◌<◌, ◌≤◌, Bool, true, false, ◌||◌, List, [], ◌∷◌, length, map, Option, Some, None, refl, sym, ap, subst, ◌∙◌, inl, inr, arith}
 use Rattle.std.specs.Prelude.{slice_get}
 use Rattle.std.specs.List.{list_any}
-use Rattle.std.proofs.lemmas.Bool.{cases_lt}
 use Rattle.std.proofs.lemmas.Option.{same_Some}
-use Rattle.edit_document.specs.Assertions.{Step, key, Place, at, same_step}
+use Rattle.edit_document.specs.Assertions.{Step, key, at, same_step}
 use Rattle.edit_document.specs.Tree.{View, inline_table, table}
 use Rattle.edit_document.specs.Shown.{Shown, tree_of}
-use Rattle.edit_document.specs.Items.{place_numbered, view_numbered, names_in, key_names, count_in, Numbers}
+use Rattle.edit_document.specs.Items.{place_numbered, view_numbered, names_in, key_names, count_in}
 use Rattle.edit_document.specs.Meant.{SameMembers, SameButOrder, same, tables, inline_tables}
-use Rattle.edit_document.specs.Compared.{kind_of, nth_part, AreSteps, AreNames, AreKeys, NumbersPart, HasNamesOf, SameButOrderBelow}
+use Rattle.edit_document.specs.Compared.{kind_of, nth_part, AreSteps, AreNames, AreKeys, HasNamesOf}
 use Rattle.edit_document.proofs.SamePlace.{same_step_self, same_step_is}
-use Rattle.edit_document.proofs.SameParts.{part_or, part_less, one_down, NothingElse, NoneBelow}
+use Rattle.edit_document.proofs.SameParts.{part_or, part_less, NothingElse}
 use Rattle.edit_document.proofs.GrownNames.{tabled}
 
 -- ---- lists
@@ -26,7 +25,8 @@ any_at s (x ∷ xs) (suc i) e = later (same_step s x) (any_at s xs i e)
     later true h = refl
     later false h = h
 
-pub at_any : (s : Step) (xs : List Step) → list_any (same_step s) xs ≡ true → (i : ℕ) × (slice_get xs i ≡ Some s)
+pub at_any : (s : Step) (xs : List Step) → list_any (same_step s) xs ≡ true → (i : ℕ)
+    × (slice_get xs i ≡ Some s)
 at_any s [] e = absurd cc
 at_any s (x ∷ xs) e = go (same_step s x) refl e (at_any s xs)
   where
@@ -98,7 +98,8 @@ free_any _ _ v w (tables ms ns m) e f =
     (subst (λ (y : View). OrderFree (table ms) y) (same_Some (table ns) w f) (free_tables ms ns m))
 free_any _ _ v w (inline_tables ms ns m) e f =
     subst (λ (x : View). OrderFree x w) (same_Some (inline_table ms) v e)
-    (subst (λ (y : View). OrderFree (inline_table ms) y) (same_Some (inline_table ns) w f) (free_inline ms ns m))
+    (subst (λ (y : View). OrderFree (inline_table ms) y) (same_Some (inline_table ns) w f)
+    (free_inline ms ns m))
 
 pub order_free : (v w : View) → SameButOrder (Some v) (Some w) → OrderFree v w
 order_free v w h = free_any (Some v) (Some w) v w h refl refl
@@ -113,7 +114,8 @@ free_none _ _ (tables ms ns m) e = absurd cc
 free_none _ _ (inline_tables ms ns m) e = absurd cc
 
 -- tables with the same members, as many
-pub free_tabled : (v w : View) → 8 ≤ kind_of v → kind_of v ≡ kind_of w → count_in v ≡ count_in w → HasParts v w
+pub free_tabled : (v w : View) → 8 ≤ kind_of v → kind_of v ≡ kind_of w → count_in v ≡ count_in w
+    → HasParts v w
     → HasParts w v → SameButOrder (Some v) (Some w)
 free_tabled v w big kind size there back =
     elim (tabled v big) [
@@ -127,33 +129,41 @@ free_tabled v w big kind size there back =
       ]
     ]
   where
-    both : (ms ns : List Step) → ((i : ℕ) → nth_part v i ≡ slice_get ms i) → ((i : ℕ) → nth_part w i ≡ slice_get ns i)
+    both : (ms ns : List Step) → ((i : ℕ) → nth_part v i ≡ slice_get ms i)
+        → ((i : ℕ) → nth_part w i ≡ slice_get ns i)
         → length ms ≡ length ns → SameMembers ms ns
     both ms ns left right count = record {
       count = count;
       members = λ s. same_bools (list_any (same_step s) ms) (list_any (same_step s) ns)
-          (λ h. let a = at_any s ms h in let b = there s a.0 (left a.0 ∙ a.1) in any_at s ns b.0 (sym (right b.0) ∙ b.1))
-          (λ h. let a = at_any s ns h in let b = back s a.0 (right a.0 ∙ a.1) in any_at s ms b.0 (sym (left b.0) ∙ b.1));
+          (λ h. let a = at_any s ms h in let b = there s a.0 (left a.0 ∙ a.1) in
+          any_at s ns b.0 (sym (right b.0) ∙ b.1))
+          (λ h. let a = at_any s ns h in let b = back s a.0 (right a.0 ∙ a.1) in
+          any_at s ms b.0 (sym (left b.0) ∙ b.1));
     }
 
     two_tables : (ms ns : List Step) → v ≡ table ms → w ≡ table ns → SameButOrder (Some v) (Some w)
     two_tables ms ns a b =
-        subst (λ (x : View). SameButOrder (Some x) (Some w)) (sym a) (subst (λ (y : View). SameButOrder (Some (table ms)) (Some y)) (sym b)
-        (tables ms ns (both ms ns (λ i. ap (λ (x : View). nth_part x i) a) (λ i. ap (λ (x : View). nth_part x i) b)
+        subst (λ (x : View). SameButOrder (Some x) (Some w)) (sym a)
+        (subst (λ (y : View). SameButOrder (Some (table ms)) (Some y)) (sym b)
+        (tables ms ns (both ms ns (λ i. ap (λ (x : View). nth_part x i) a)
+        (λ i. ap (λ (x : View). nth_part x i) b)
         (sym (ap count_in a) ∙ size ∙ ap count_in b))))
 
-    two_inline : (ms ns : List Step) → v ≡ inline_table ms → w ≡ inline_table ns → SameButOrder (Some v) (Some w)
+    two_inline : (ms ns : List Step) → v ≡ inline_table ms → w ≡ inline_table ns
+        → SameButOrder (Some v) (Some w)
     two_inline ms ns a b =
-        subst (λ (x : View). SameButOrder (Some x) (Some w)) (sym a) (subst (λ (y : View). SameButOrder (Some (inline_table ms)) (Some y)) (sym b)
-        (inline_tables ms ns (both ms ns (λ i. ap (λ (x : View). nth_part x i) a) (λ i. ap (λ (x : View). nth_part x i) b)
+        subst (λ (x : View). SameButOrder (Some x) (Some w)) (sym a)
+        (subst (λ (y : View). SameButOrder (Some (inline_table ms)) (Some y)) (sym b)
+        (inline_tables ms ns
+        (both ms ns (λ i. ap (λ (x : View). nth_part x i) a) (λ i. ap (λ (x : View). nth_part x i) b)
         (sym (ap count_in a) ∙ size ∙ ap count_in b))))
 
 -- ---- names of nodes
 
-abbrev At : Shown → ℕ → Type 0
+abbrev pub At : Shown → ℕ → Type 0
 At d n = tree_of d (place_numbered d n) ≡ Some (view_numbered d n)
 
-abbrev Stood : Shown → ℕ → Type 0
+abbrev pub Stood : Shown → ℕ → Type 0
 Stood d n = (step : Step) (i : ℕ) → nth_part (view_numbered d n) i ≡ Some step
     → tree_of d (at (place_numbered d n) step) ≡ None → ⊥
 
@@ -172,9 +182,11 @@ module _ (d : Shown) (n : ℕ) (e : Shown) (m : ℕ) where
       → HasNamesOf d n e m → HasParts (view_numbered d n) (view_numbered e m)
   parts_by_names else steps names named has t i h =
       let k = named i t h in
-      part_of else t (λ none. has i k.0 k.1 (ap (λ (s : Step). tree_of e (at (place_numbered e m) s)) (sym k.2) ∙ none))
+      part_of else t (λ none. has i k.0 k.1
+      (ap (λ (s : Step). tree_of e (at (place_numbered e m) s)) (sym k.2) ∙ none))
 
-  pub names_by_parts : Stood e m → AreNames (view_numbered d n) → HasParts (view_numbered d n) (view_numbered e m)
+  pub names_by_parts : Stood e m → AreNames (view_numbered d n)
+      → HasParts (view_numbered d n) (view_numbered e m)
       → HasNamesOf d n e m
   names_by_parts stands names has i name h none =
       let p = has (key name) i (names i name h) in stands (key name) p.0 p.1 none
@@ -198,87 +210,3 @@ named_parts v big keys i t h = elim (tabled v big) [
     of ms keys h names =
         let k = key_at (key_names ms) i (ap (λ (xs : List Step). slice_get xs i) (sym keys) ∙ h) in
         (k.0, ap (λ (xs : List (List ℕ)). slice_get xs i) names ∙ k.1, k.2)
-
--- ---- below
-
--- of the first parts each shows the same but for the order of members
-abbrev pub UnorderedParts : Shown → ℕ → Shown → ℕ → ℕ → Type 0
-UnorderedParts d n e m count =
-    (j : ℕ) (t : Step) → j < count → nth_part (view_numbered d n) j ≡ Some t
-    → SameButOrderBelow d (at (place_numbered d n) t) e (at (place_numbered e m) t)
-
-module _ (d : Shown) (n : ℕ) (e : Shown) (m : ℕ) (here : At d n) (there : At e m) where
-  pub unordered_all : NoneBelow d → NoneBelow e → NothingElse d n → NothingElse e m
-      → SameButOrder (Some (view_numbered d n)) (Some (view_numbered e m))
-      → UnorderedParts d n e m (count_in (view_numbered d n))
-      → SameButOrderBelow d (place_numbered d n) e (place_numbered e m)
-  unordered_all below_d below_e else_d else_e views parts [] =
-      subst (λ (o : Option View). SameButOrder o (tree_of e (place_numbered e m ++ [])))
-      (sym (ap (tree_of d) (append-nil (place_numbered d n)) ∙ here))
-      (subst (λ (o : Option View). SameButOrder (Some (view_numbered d n)) o)
-      (sym (ap (tree_of e) (append-nil (place_numbered e m)) ∙ there)) views)
-  unordered_all below_d below_e else_d else_e views parts (t ∷ q) =
-      elim (part_or (view_numbered d n) t (count_in (view_numbered d n))) [
-        | inl k ↦
-            subst (λ (o : Option View). SameButOrder o (tree_of e (place_numbered e m ++ t ∷ q))) (one_down d (place_numbered d n) t q)
-            (subst (λ (o : Option View). SameButOrder (tree_of d (at (place_numbered d n) t ++ q)) o) (one_down e (place_numbered e m) t q)
-            (parts k.0 t k.1 k.2 q))
-        | inr none ↦
-            let absent : (i : ℕ) → nth_part (view_numbered d n) i ≡ Some t → ⊥ =
-            λ i h. none i (part_less (view_numbered d n) i t h) h in
-            let free = order_free (view_numbered d n) (view_numbered e m) views in
-            let left : tree_of d (place_numbered d n ++ t ∷ q) ≡ None =
-            sym (one_down d (place_numbered d n) t q) ∙ below_d (at (place_numbered d n) t) q (else_d t absent) in
-            let right : tree_of e (place_numbered e m ++ t ∷ q) ≡ None =
-            sym (one_down e (place_numbered e m) t q)
-            ∙ below_e (at (place_numbered e m) t) q (else_e t (λ i h. let r = free.back t i h in absent r.0 r.1)) in
-            subst (λ (o : Option View). SameButOrder o (tree_of e (place_numbered e m ++ t ∷ q))) (sym left)
-            (subst (λ (o : Option View). SameButOrder None o) (sym right) (same None))
-      ]
-
-  pub unordered_here : SameButOrderBelow d (place_numbered d n) e (place_numbered e m)
-      → SameButOrder (Some (view_numbered d n)) (Some (view_numbered e m))
-  unordered_here h =
-      subst (λ (o : Option View). SameButOrder o (Some (view_numbered e m))) (ap (tree_of d) (append-nil (place_numbered d n)) ∙ here)
-      (subst (λ (o : Option View). SameButOrder (tree_of d (place_numbered d n ++ [])) o)
-      (ap (tree_of e) (append-nil (place_numbered e m)) ∙ there) (h []))
-
-module _ (d : Shown) (n : ℕ) (e : Shown) (m : ℕ) where
-  pub unordered_part : (t : Step) → SameButOrderBelow d (place_numbered d n) e (place_numbered e m)
-      → SameButOrderBelow d (at (place_numbered d n) t) e (at (place_numbered e m) t)
-  unordered_part t h q =
-      subst (λ (o : Option View). SameButOrder o (tree_of e (at (place_numbered e m) t ++ q))) (sym (one_down d (place_numbered d n) t q))
-      (subst (λ (o : Option View). SameButOrder (tree_of d (place_numbered d n ++ t ∷ q)) o) (sym (one_down e (place_numbered e m) t q))
-      (h (t ∷ q)))
-
-  abbrev Counterpart : ℕ → Option ℕ → Type 0
-  Counterpart i r = (t : Step) → nth_part (view_numbered d n) i ≡ Some t → Numbers e (at (place_numbered e m) t) r
-
-  -- the numbered parts show the same but for the order, where the nodes do
-  pub unordered_down : (i a b : ℕ) → NumbersPart d n i (Some a) → Counterpart i (Some b)
-      → SameButOrderBelow d (place_numbered d n) e (place_numbered e m)
-      → SameButOrderBelow d (place_numbered d a) e (place_numbered e b)
-  unordered_down i a b (t, pt, la, pa) other h =
-      subst (λ (p : Place). SameButOrderBelow d p e (place_numbered e b)) (sym pa)
-      (subst (λ (r : Place). SameButOrderBelow d (at (place_numbered d n) t) e r) (sym (other t pt).1) (unordered_part t h))
-
-  pub unordered_more : (i a b : ℕ) → NumbersPart d n i (Some a) → Counterpart i (Some b)
-      → SameButOrderBelow d (place_numbered d a) e (place_numbered e b) → UnorderedParts d n e m i
-      → UnorderedParts d n e m (i + 1)
-  unordered_more i a b (t, pt, la, pa) other h parts j s lt ps = elim (cases_lt j i) [
-    | inl less ↦ parts j s less ps
-    | inr ge ↦
-        let is : j ≡ i = omega (arith, lt, ge) in
-        let one : t ≡ s = same_Some t s (sym pt ∙ ap (nth_part (view_numbered d n)) (sym is) ∙ ps) in
-        subst (λ (x : Step). SameButOrderBelow d (at (place_numbered d n) x) e (at (place_numbered e m) x)) one
-        (subst (λ (p : Place). SameButOrderBelow d p e (at (place_numbered e m) t)) pa
-        (subst (λ (r : Place). SameButOrderBelow d (place_numbered d a) e r) (other t pt).1 h))
-  ]
-
-  -- a part without a counterpart
-  pub unordered_lacks : (i a : ℕ) → NumbersPart d n i (Some a) → Stood d n → Counterpart i None
-      → SameButOrderBelow d (place_numbered d n) e (place_numbered e m) → ⊥
-  unordered_lacks i a (t, pt, la, pa) stands other h =
-      stands t i pt (ap (tree_of d) (sym (append-nil (at (place_numbered d n) t)))
-      ∙ free_none (tree_of d (at (place_numbered d n) t ++ [])) (tree_of e (at (place_numbered e m) t ++ []))
-      (unordered_part t h []) (ap (tree_of e) (append-nil (at (place_numbered e m) t)) ∙ other t pt))

@@ -8,7 +8,8 @@ use Rattle.edit_document.specs.Assertions.{Place, key, index, at, Kind, leaf, As
 use Rattle.edit_document.specs.Items.{is_inline}
 use Rattle.edit_document.specs.Ranges.{is_table_value}
 use Rattle.edit_document.specs.Tree.{kind_at, view_of_kind, view_at}
-use Rattle.edit_document.proofs.NothingBelow.{HasLeaf, leaf_there, rooted}
+use Rattle.edit_document.proofs.NothingBelow.{rooted}
+use Rattle.edit_document.proofs.PlainValues.{HasLeaf, leaf_there}
 use Rattle.edit_document.proofs.ReplacedTree.{no_root}
 use Rattle.edit_document.proofs.ThinnedLines.{leaf_alone}
 use Rattle.edit_document.specs.Written.{Valued, valued, inside, in_elements, in_members, in_statement, in_lines, values}
@@ -41,7 +42,8 @@ module _ (w : Valued) (a : Assertion) (own : Among a (asserted_by w)) where
   abbrev Inside : Place → Value → List ℕ → Type 0
   Inside q v after = Among w (valued q v after ∷ inside q v after)
 
-  value_here : (q : Place) (v : Value) (after : List ℕ) → (Among w (inside q v after) → Among a (of_value q v))
+  value_here : (q : Place) (v : Value) (after : List ℕ)
+      → (Among w (inside q v after) → Among a (of_value q v))
       → Inside q v after → Among a (asserts q q (leaf v) ∷ of_value q v)
   value_here q v after below (inl e) = subst (λ (z : Valued). Among a (asserted_by z)) e own
   value_here q v after below (inr m) = inr (below m)
@@ -94,7 +96,8 @@ module _ (w : Valued) (a : Assertion) (own : Among a (asserted_by w)) where
         let q = named p (names k) in
         let after = gap c (comma ∷ gap d (members ms rest)) in
         let made = of_key true q p (names k) v ++ of_value q v in
-        ⊎_elim (λ l. among_left a made (of_members p ms) (pair_here true p k v after (λ n. value_in q v after n) l))
+        ⊎_elim (λ l. among_left a made (of_members p ms)
+        (pair_here true p k v after (λ n. value_in q v after n) l))
         (λ r. among_right a made (of_members p ms) (members_in p ms rest r))
         (among_append w (valued q v after ∷ inside q v after) (in_members p ms rest) m)
 
@@ -143,16 +146,21 @@ one_leaf [] v a b clash m n e k = absurd m
 one_leaf (x ∷ made) v a b clash (inl p) (inl q) e k =
     ap (λ (z : Assertion). z.kind) (p ∙ sym q) ∙ k
 one_leaf (x ∷ made) v a b clash (inl p) (inr n) e k =
-    let met = among_all (λ (z : Assertion). x.place ≡ z.place → together x.kind z.kind ≡ true) b made clash.0 n in
-    absurd (true≢false (sym (met (ap (λ (z : Assertion). z.place) (sym p) ∙ e)) ∙ ap (together x.kind) k ∙ leaf_alone x.kind v))
+    let met = among_all (λ (z : Assertion). x.place ≡ z.place
+    → together x.kind z.kind ≡ true) b made clash.0 n in
+    absurd (true≢false (sym (met (ap (λ (z : Assertion). z.place) (sym p) ∙ e)) ∙ ap (together x.kind) k ∙
+    leaf_alone x.kind v))
 one_leaf (x ∷ made) v a b clash (inr m) (inl q) e k =
-    let met = among_all (λ (z : Assertion). x.place ≡ z.place → together x.kind z.kind ≡ true) a made clash.0 m in
+    let met = among_all (λ (z : Assertion). x.place ≡ z.place
+    → together x.kind z.kind ≡ true) a made clash.0 m in
     let kind : x.kind ≡ leaf v = ap (λ (z : Assertion). z.kind) (sym q) ∙ k in
-    absurd (true≢false (sym (met (ap (λ (z : Assertion). z.place) (sym q) ∙ sym e)) ∙ ap (λ (z : Kind). together z a.kind) kind))
+    absurd (true≢false (sym (met (ap (λ (z : Assertion). z.place) (sym q) ∙ sym e)) ∙
+    ap (λ (z : Kind). together z a.kind) kind))
 one_leaf (x ∷ made) v a b clash (inr m) (inr n) e k = one_leaf made v a b clash.1 m n e k
 
 -- what is asserted of the place of a value is that value
-pub value_alone : (form : Text) (w : Valued) (a : Assertion) → NoClash (assertions form) → Among w (values form)
+pub value_alone : (form : Text) (w : Valued) (a : Assertion) → NoClash (assertions form)
+    → Among w (values form)
     → Among a (assertions form) → a.place ≡ w.place → a.kind ≡ leaf w.value
 value_alone form w a clash m n e =
     let own = asserts w.place w.place (leaf w.value) in
@@ -160,7 +168,8 @@ value_alone form w a clash m n e =
 
 -- ---- what a value shows
 
-leaf_has : (p : Place) (v : Value) (made : List Assertion) → Among (asserts p p (leaf v)) made → HasLeaf p v made
+leaf_has : (p : Place) (v : Value) (made : List Assertion) → Among (asserts p p (leaf v)) made
+    → HasLeaf p v made
 leaf_has p v [] m = absurd m
 leaf_has p v (x ∷ made) (inl e) =
     inl (ap (λ (z : Assertion). z.place) (sym e), ap (λ (z : Assertion). z.kind) (sym e))
@@ -198,5 +207,6 @@ value_shows form w clash m = go w.place (value_kind form w clash m)
         never : None ≡ Some (leaf w.value) → ⊥
         never x = cc
     go (s ∷ ss) k =
-        ap (λ (o : Option Kind). option_map is_inline (option_map (view_of_kind (assertions form) (s ∷ ss)) o)) k
+        ap (λ (o : Option Kind). option_map is_inline
+        (option_map (view_of_kind (assertions form) (s ∷ ss)) o)) k
         ∙ ap (λ (b : _). Some b) (kind_inline (assertions form) (s ∷ ss) w.value)

@@ -23,38 +23,58 @@ use Rattle.edit_syntax.proofs.Cases.{by_test}
 
 -- ---- the span that is told at a place is that of a value there
 
-span_told : (ws : List Valued) (p : Place) (s : Span) → span_at (map placed ws) p ≡ Some s → (w : Valued) × Among w ws × (w.place ≡ p) × (s ≡ span_of w.value w.after)
+span_told : (ws : List Valued) (p : Place) (s : Span) → span_at (map placed ws) p ≡ Some s → (w : Valued)
+    × Among w ws × (w.place ≡ p) × (s ≡ span_of w.value w.after)
 span_told [] p s e = absurd cc
 span_told (w ∷ ws) p s e = go (same_place w.place p) refl e (span_told ws p s)
   where
-    go : (b : Bool) → same_place w.place p ≡ b → cond b (Some (span_of w.value w.after)) (span_at (map placed ws) p) ≡ Some s
-        → (span_at (map placed ws) p ≡ Some s → (v : Valued) × Among v ws × (v.place ≡ p) × (s ≡ span_of v.value v.after)) → (v : Valued) × Among v (w ∷ ws) × (v.place ≡ p) × (s ≡ span_of v.value v.after)
-    go true t h ih = (w, inl refl, same_place_is w.place p t, (let is : span_of w.value w.after ≡ s = cc in sym is))
+    go : (b : Bool) → same_place w.place p ≡ b
+        → cond b (Some (span_of w.value w.after)) (span_at (map placed ws) p) ≡ Some s
+        → (span_at (map placed ws) p ≡ Some s → (v : Valued) × Among v ws × (v.place ≡ p)
+        × (s ≡ span_of v.value v.after)) → (v : Valued) × Among v (w ∷ ws) × (v.place ≡ p)
+        × (s ≡ span_of v.value v.after)
+    go true t h ih = (
+      w,
+      inl refl,
+      same_place_is w.place p t,
+      (let is : span_of w.value w.after ≡ s = cc in
+          sym is),
+    )
     go false t h ih = let r = ih h in (r.0, inr r.1, r.2, r.3)
 
-told_span : (ws : List Valued) (w : Valued) (p : Place) → Among w ws → w.place ≡ p → (s : Span) × (span_at (map placed ws) p ≡ Some s)
+told_span : (ws : List Valued) (w : Valued) (p : Place) → Among w ws → w.place ≡ p → (s : Span)
+    × (span_at (map placed ws) p ≡ Some s)
 told_span [] w p m e = absurd m
 told_span (v ∷ ws) w p m e = go (same_place v.place p) refl m (λ h. told_span ws w p h e)
   where
-    go : (b : Bool) → same_place v.place p ≡ b → Among w (v ∷ ws) → (Among w ws → (s : Span) × (span_at (map placed ws) p ≡ Some s)) → (s : Span) × (cond b (Some (span_of v.value v.after)) (span_at (map placed ws) p) ≡ Some s)
+    go : (b : Bool) → same_place v.place p ≡ b → Among w (v ∷ ws)
+        → (Among w ws → (s : Span) × (span_at (map placed ws) p ≡ Some s)) → (s : Span)
+        × (cond b (Some (span_of v.value v.after)) (span_at (map placed ws) p) ≡ Some s)
     go true t h ih = (span_of v.value v.after, refl)
     go false t (inl h) ih =
-        let same : same_place v.place p ≡ true = ap (λ (q : Place). same_place q p) (ap (λ (z : Valued). z.place) (sym h) ∙ e) ∙ same_place_self p in
+        let same : same_place v.place p ≡ true = ap (λ (q : Place). same_place q p)
+        (ap (λ (z : Valued). z.place) (sym h) ∙ e) ∙ same_place_self p in
         let clash : true ≡ false = sym same ∙ t in
         absurd cc
     go false t (inr h) ih = ih h
 
 -- ---- what is a value is shown, and has a span
 
-view_some : (made : List Assertion) (p : Place) (k : Kind) → kind_at made p ≡ Some k → (v : View) × (view_in made p ≡ Some v)
+view_some : (made : List Assertion) (p : Place) (k : Kind) → kind_at made p ≡ Some k → (v : View)
+    × (view_in made p ≡ Some v)
 view_some made [] k e = (table (members_of made []), refl)
-view_some made (s ∷ ss) k e = (view_of_kind made (s ∷ ss) k, ap (λ (o : Option Kind). option_map (view_of_kind made (s ∷ ss)) o) e)
+view_some made (s ∷ ss) k e =
+    (view_of_kind made (s ∷ ss) k, ap (λ (o : Option Kind). option_map (view_of_kind made (s ∷ ss)) o) e)
 
-value_span : (form : Text) (bytes : List ℕ) (p : Place) → IsManifest bytes form → is_value_at form p ≡ true → (s : Span) × (span_at (map placed (values form)) p ≡ Some s)
-value_span form bytes p manifest h = let w = value_listed form p manifest.document.no_clash h in told_span (values form) w.0 p w.1 w.2
+value_span : (form : Text) (bytes : List ℕ) (p : Place) → IsManifest bytes form → is_value_at form p ≡ true
+    → (s : Span) × (span_at (map placed (values form)) p ≡ Some s)
+value_span form bytes p manifest h = let w = value_listed form p manifest.document.no_clash h in
+    told_span (values form) w.0 p w.1 w.2
 
 -- where nothing stands there is no value
-pub none_value : (inside : Inside) (shown : Shown) (form : Text) (p : Place) → IsRead inside → shown_of inside ≡ shown → IsManifest shown.bytes form → tree_of shown p ≡ None → is_value_at form p ≡ false
+pub none_value : (inside : Inside) (shown : Shown) (form : Text) (p : Place) → IsRead inside
+    → shown_of inside ≡ shown → IsManifest shown.bytes form → tree_of shown p ≡ None
+    → is_value_at form p ≡ false
 none_value inside shown form p read view manifest none =
     by_test (is_value_at form p)
     (λ h. let v = told_value form p manifest.document.no_clash h in
@@ -68,31 +88,50 @@ none_value inside shown form p read view manifest none =
 -- ---- nodes
 
 -- the span of a node is the one that is told at its place
-node_span : (inside : Inside) (shown : Shown) (n : ℕ) (node : Node) (form : Text) (p : Place) → (read : IsRead inside) → shown_of inside ≡ shown → IsManifest shown.bytes form → place_numbered shown n ≡ p → n < length shown.nodes → node ≡ get_or inside.nodes.items n node
+node_span : (inside : Inside) (shown : Shown) (n : ℕ) (node : Node) (form : Text) (p : Place)
+    → (read : IsRead inside) → shown_of inside ≡ shown → IsManifest shown.bytes form
+    → place_numbered shown n ≡ p → n < length shown.nodes → node ≡ get_or inside.nodes.items n node
     → node.span ≡ span_at (map placed (values form)) p
 node_span inside shown n node form p read view manifest there lt is =
-    let opens : Opened shown inside.nodes.items = record { spots = read.spots; nodes_are = open_spots inside shown read view; holds = subst (λ (b : List ℕ). Holds b inside.nodes.items read.spots) (shown_bytes inside shown view) read.holds; tree = read.tree } in
+    let opens : Opened shown inside.nodes.items =
+    record {
+      spots = read.spots;
+      nodes_are = open_spots inside shown read view;
+      holds = subst (λ (b : List ℕ). Holds b inside.nodes.items read.spots)
+          (shown_bytes inside shown view) read.holds;
+      tree = read.tree;
+    } in
     let f = found shown inside.nodes.items n node opens lt is in
-    f.keeps.span ∙ read.spans n f.spot f.stands ∙ ap (span_at (map placed (values read.form))) (sym f.place ∙ there) ∙ ap (λ (t : Text). span_at (map placed (values t)) p) (sym (form_same inside shown form read view manifest))
+    f.keeps.span ∙ read.spans n f.spot f.stands ∙ ap (span_at (map placed (values read.form)))
+    (sym f.place ∙ there) ∙ ap (λ (t : Text). span_at (map placed (values t)) p)
+    (sym (form_same inside shown form read view manifest))
 
 -- nor is one where a node has no span
-pub spanless_value : (inside : Inside) (shown : Shown) (form : Text) (p : Place) (n : ℕ) (node : Node) → IsRead inside → shown_of inside ≡ shown → IsManifest shown.bytes form → place_numbered shown n ≡ p → n < length shown.nodes
+pub spanless_value : (inside : Inside) (shown : Shown) (form : Text) (p : Place) (n : ℕ) (node : Node)
+    → IsRead inside → shown_of inside ≡ shown → IsManifest shown.bytes form → place_numbered shown n ≡ p
+    → n < length shown.nodes
     → node ≡ get_or inside.nodes.items n node → node.span ≡ None → is_value_at form p ≡ false
 spanless_value inside shown form p n node read view manifest there lt is none =
     by_test (is_value_at form p)
     (λ h. let s = value_span form shown.bytes p manifest h in
-    absurd (none_span s.0 (sym none ∙ node_span inside shown n node form p read view manifest there lt is ∙ s.1)))
+    absurd (none_span s.0 (sym none ∙ node_span inside shown n node form p read view manifest there lt is ∙
+    s.1)))
     (λ h. h)
   where
     none_span : (t : Span) → None ≡ Some t → ⊥
     none_span t h = cc
 
 -- and where it has one, it tells where the value is written
-pub spanned_value : (inside : Inside) (shown : Shown) (form : Text) (p : Place) (n : ℕ) (node : Node) (s : Span) (len : ℕ) → IsRead inside → shown_of inside ≡ shown → IsManifest shown.bytes form → place_numbered shown n ≡ p → n < length shown.nodes
-    → node ≡ get_or inside.nodes.items n node → node.span ≡ Some s → len ≡ length (string_bytes inside.text) → IsWrittenAt form p (len - s.from) (len - s.to)
+pub spanned_value : (inside : Inside) (shown : Shown) (form : Text) (p : Place) (n : ℕ) (node : Node)
+    (s : Span) (len : ℕ) → IsRead inside → shown_of inside ≡ shown → IsManifest shown.bytes form
+    → place_numbered shown n ≡ p → n < length shown.nodes
+    → node ≡ get_or inside.nodes.items n node → node.span ≡ Some s → len ≡ length (string_bytes inside.text)
+    → IsWrittenAt form p (len - s.from) (len - s.to)
 spanned_value inside shown form p n node s len read view manifest there lt is some size =
-    let whole : len ≡ length (text form) = size ∙ ap length (shown_bytes inside shown view ∙ manifest.document.grammar.spelled) in
-    let w = span_told (values form) p s (sym (node_span inside shown n node form p read view manifest there lt is) ∙ some) in
+    let whole : len ≡ length (text form) = size ∙
+    ap length (shown_bytes inside shown view ∙ manifest.document.grammar.spelled) in
+    let w = span_told (values form) p s
+    (sym (node_span inside shown n node form p read view manifest there lt is) ∙ some) in
     record {
       valued = w.0;
       told = among_contained w.0 (values form) w.1;

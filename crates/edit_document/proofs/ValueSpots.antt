@@ -8,21 +8,17 @@ use Rattle.edit_syntax.specs.Depth.{depth, elements_depth, members_depth, statem
 use Rattle.edit_syntax.specs.Grammar.{gap, Value, basic, literal, multi_basic, multi_literal, boolean, integer, float, datetime, array, inline, value, IsValue, Elements, no_elements, last_element, element, elements, Members, no_members, last_member, member, members, Statement, pair, header, element_header, statement, empty_line, full_line, Lines, one_line, more_lines, lines, Text}
 use Rattle.edit_syntax.proofs.Members.{Among, among_all}
 use Rattle.edit_document.specs.Assertions.{Place, index, at, names, named, Assertion, of_statement, prefix_after}
+use Rattle.edit_document.specs.EntrySpots.{StandsIn}
 use Rattle.edit_document.specs.Supported.{IsManifest}
 use Rattle.edit_document.specs.Written.{Valued, inside, in_elements, in_members, in_statement, in_lines, values}
 use Rattle.edit_document.proofs.Documents.{read_of, ends_all, shallow}
 use Rattle.edit_document.proofs.FineValues.{values_fine}
 use Rattle.edit_document.proofs.Ends.{Ends, ends_past, ends_one, ends_pair, ends_gap, ends_value, ends_line, ends_line_end}
 
+-- a value where it stands, at most 80 deep
 record Here (bytes : List ℕ) (w : Valued) : Type 0 where
   shallow : depth w.value ≤ 80
   ends : Ends bytes (value w.value w.after)
-
--- a value where it stands, well formed and at most 80 deep
-pub record StandsIn (bytes : List ℕ) (w : Valued) : Type 0 where
-  pub valid : IsValue w.value
-  pub shallow : depth w.value ≤ 80
-  pub ends : Ends bytes (value w.value w.after)
 
 module _ (bytes : List ℕ) where
   abbrev AllStand : List Valued → Type 0
@@ -108,7 +104,8 @@ pub values_stand : (bytes : List ℕ) (form : Text) → IsManifest bytes form �
     → Among w (values form) → StandsIn bytes w
 values_stand bytes form m u w among =
     let here = among_all (Here bytes) w (values form)
-    (stand_lines bytes [] [] form.lines (shallow bytes form m) (ends_all bytes form (read_of bytes form m u))) among in
+    (stand_lines bytes [] [] form.lines (shallow bytes form m) (ends_all bytes form (read_of bytes form m u)))
+    among in
     record {
       valid = among_all (λ (z : Valued). IsValue z.value) w (values form)
           (values_fine [] [] form.lines m.document.grammar.well_formed) among;

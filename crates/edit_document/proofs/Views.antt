@@ -1,27 +1,18 @@
 -- What the table of nodes tells of a document.
-use Rattle.std.proofs.Common.{◌≡◌, ℕ, zero, suc, ◌+◌, ◌<◌, ◌≤◌, Bool, true, false, List, [], ◌∷◌, ◌++◌, length, get_or, take, drop, Option, Some, None, refl, sym, ap, subst, ◌∙◌, ◌⊎◌, inl, inr, arith, append_assoc, append-nil}
-use Rattle.std.specs.Prelude.{map, slice_get, option_map, unwrap_or, MatchOption, IfSome, string_bytes}
-use Rattle.std.specs.Option.{option_copied}
-use Rattle.std.specs.Borrow.{Bor}
-use Rattle.std.proofs.lemmas.Option.{slice_get-map, slice_get_past, slice_get_within, slice_get_read, same_Some}
-use Rattle.std.proofs.lemmas.List.{length-map, map-append, take_more, take-append-drop}
-use Rattle.edit_syntax.specs.declared.span.Span.{Span}
-use Rattle.edit_document.specs.declared.nodes.Words.{Words}
-use Rattle.edit_document.specs.declared.nodes.Content.{Content}
-use Rattle.edit_document.specs.declared.nodes.Content.TheVariants as content
+use Rattle.std.proofs.Common.{◌≡◌, ℕ, zero, suc, ◌<◌, Bool, true, false, List, [], ◌∷◌, length, get_or, Option, Some, None, refl, sym, ap, subst, ◌∙◌, arith}
+use Rattle.std.specs.Prelude.{map, slice_get, option_map, unwrap_or, string_bytes}
+use Rattle.std.proofs.lemmas.Option.{slice_get-map, slice_get_read, same_Some}
+use Rattle.std.proofs.lemmas.List.{length-map}
 use Rattle.edit_document.specs.declared.nodes.Node.{Node}
-use Rattle.edit_document.specs.declared.document.Seen.{Seen}
 use Rattle.edit_document.specs.declared.document.Document.TheInside.{Inside}
-use Rattle.edit_document.specs.declared.place.Step.{Step as WrittenStep}
-use Rattle.edit_document.specs.Assertions.{Step, key, index, Place, at, same_place}
+use Rattle.edit_document.specs.Assertions.{Place, same_place}
 use Rattle.edit_document.specs.Tree.{View, table}
 use Rattle.edit_document.specs.Shown.{Shown, node_at, tree_of}
-use Rattle.edit_document.specs.Nodes.{Spot, Shape, names_of, view_of_shape, shown_spot, shape_of, entries_of, names_in as names_among, number_in, Keeps, Holds, below, IsTree}
+use Rattle.edit_document.specs.Nodes.{Spot, Shape, names_of, view_of_shape, shown_spot, shape_of, entries_of, names_in as names_among, Keeps, Holds, IsTree}
 use Rattle.edit_document.specs.DocumentLayout.{spots_of, nodes_by, shown_by, shown_of, IsRead}
-use Rattle.edit_document.specs.Items.{step_seen, place_seen, viewed, place_numbered, view_numbered, key_names, names_in, count_in, Numbers, Shows}
-use Rattle.edit_document.proofs.SamePlace.{same_place_self, same_place_is, other_place, last_same, not_root}
-use Rattle.edit_syntax.proofs.ListElements.{slice_get_same}
-use Rattle.edit_document.proofs.SpotNodes.{spot_of_node, below_node}
+use Rattle.edit_document.specs.Items.{viewed, place_numbered, view_numbered}
+use Rattle.edit_document.proofs.SamePlace.{same_place_self, same_place_is, other_place}
+use Rattle.edit_document.proofs.SpotNodes.{spot_of_node}
 
 -- a document that is open: its spots, and the nodes that keep them
 pub record Opened (shown : Shown) (nodes : List Node) : Type 0 where
@@ -30,12 +21,19 @@ pub record Opened (shown : Shown) (nodes : List Node) : Type 0 where
   pub holds : Holds shown.bytes nodes spots
   pub tree : IsTree spots
 
-unfoldable pub opened : (inside : Inside) (shown : Shown) → IsRead inside → shown_of inside ≡ shown → Opened shown inside.nodes.items
+unfoldable pub opened : (inside : Inside) (shown : Shown) → IsRead inside → shown_of inside ≡ shown
+    → Opened shown inside.nodes.items
 unfolding shown_by
 opened inside shown read view =
-    let seen : shown.nodes ≡ nodes_by (spots_of (string_bytes inside.text)) = ap (λ (s : Shown). s.nodes) (sym view) in
+    let seen : shown.nodes ≡ nodes_by (spots_of (string_bytes inside.text)) =
+    ap (λ (s : Shown). s.nodes) (sym view) in
     let here : string_bytes inside.text ≡ shown.bytes = ap (λ (s : Shown). s.bytes) view in
-    record { spots = read.spots; nodes_are = seen ∙ ap nodes_by read.found; holds = subst (λ (b : List ℕ). Holds b inside.nodes.items read.spots) here read.holds; tree = read.tree }
+    record {
+      spots = read.spots;
+      nodes_are = seen ∙ ap nodes_by read.found;
+      holds = subst (λ (b : List ℕ). Holds b inside.nodes.items read.spots) here read.holds;
+      tree = read.tree;
+    }
 
 -- what a spot shows
 abbrev pub view_of_spot : Spot → View
@@ -43,22 +41,27 @@ view_of_spot s = view_of_shape s.shape (names_of s) (length s.elements)
 
 -- what stands at a place
 
-pub node_first : (spots : List Spot) (n : ℕ) (s : Spot) → slice_get spots n ≡ Some s → ((i : ℕ) (t : Spot) → slice_get spots i ≡ Some t → t.place ≡ s.place → i ≡ n)
+pub node_first : (spots : List Spot) (n : ℕ) (s : Spot) → slice_get spots n ≡ Some s
+    → ((i : ℕ) (t : Spot) → slice_get spots i ≡ Some t → t.place ≡ s.place → i ≡ n)
     → node_at (map shown_spot spots) s.place ≡ Some (view_of_spot s)
 node_first [] n s e one = absurd cc
 node_first (t ∷ ts) zero s e one =
     let here : t ≡ s = same_Some t s e in
     rw here (rw (same_place_self s.place) refl)
-node_first (t ∷ ts) (suc n) s e one = go (same_place t.place s.place) refl (node_first ts n s e (λ i x g p. down (one (suc i) x g p)))
+node_first (t ∷ ts) (suc n) s e one = go (same_place t.place s.place) refl
+    (node_first ts n s e (λ i x g p. down (one (suc i) x g p)))
   where
     down : {i : ℕ} → suc i ≡ suc n → i ≡ n
     down h = cc
 
-    go : (b : Bool) → same_place t.place s.place ≡ b → node_at (map shown_spot ts) s.place ≡ Some (view_of_spot s) → node_at (map shown_spot (t ∷ ts)) s.place ≡ Some (view_of_spot s)
+    go : (b : Bool) → same_place t.place s.place ≡ b → node_at (map shown_spot ts) s.place
+        ≡ Some (view_of_spot s) → node_at (map shown_spot (t ∷ ts)) s.place ≡ Some (view_of_spot s)
     go true h ih = absurd (let z : 0 ≡ suc n = one 0 t refl (same_place_is t.place s.place h) in cc)
     go false h ih = rw h ih
 
-pub node_none : (spots : List Spot) (place : Place) → ((i : ℕ) (t : Spot) → slice_get spots i ≡ Some t → t.place ≡ place → ⊥) → node_at (map shown_spot spots) place ≡ None
+pub node_none : (spots : List Spot) (place : Place)
+    → ((i : ℕ) (t : Spot) → slice_get spots i ≡ Some t → t.place ≡ place → ⊥)
+    → node_at (map shown_spot spots) place ≡ None
 node_none [] place none = refl
 node_none (t ∷ ts) place none =
     rw (other_place t.place place (none 0 t refl)) (node_none ts place (λ i x g. none (suc i) x g))
@@ -69,7 +72,8 @@ abbrev pub names_of_node : List ℕ → Node → List (List ℕ)
 names_of_node text node = names_among (entries_of text node.members)
 
 abbrev pub view_of_node : List ℕ → Node → View
-view_of_node text node = view_of_shape (shape_of text node.content) (names_of_node text node) (length node.elements.items)
+view_of_node text node = view_of_shape (shape_of text node.content) (names_of_node text node)
+    (length node.elements.items)
 
 pub record Found (shown : Shown) (nodes : List Node) (spots : List Spot) (n : ℕ) (node : Node) : Type 0 where
   pub spot : Spot
@@ -79,33 +83,45 @@ pub record Found (shown : Shown) (nodes : List Node) (spots : List Spot) (n : �
   pub here : tree_of shown spot.place ≡ Some (view_of_spot spot)
   pub view : view_numbered shown n ≡ view_of_node shown.bytes node
 
-stand : (shown : Shown) (spots : List Spot) (n : ℕ) (s : Spot) → shown.nodes ≡ map shown_spot spots → slice_get spots n ≡ Some s → slice_get shown.nodes n ≡ Some (shown_spot s)
+stand : (shown : Shown) (spots : List Spot) (n : ℕ) (s : Spot) → shown.nodes ≡ map shown_spot spots
+    → slice_get spots n ≡ Some s → slice_get shown.nodes n ≡ Some (shown_spot s)
 stand shown spots n s e g = rw e (slice_get-map shown_spot spots n ∙ ap (option_map shown_spot) g)
 
-pub tree_spot : (shown : Shown) (spots : List Spot) (n : ℕ) (s : Spot) → shown.nodes ≡ map shown_spot spots → IsTree spots → slice_get spots n ≡ Some s → tree_of shown s.place ≡ Some (view_of_spot s)
+pub tree_spot : (shown : Shown) (spots : List Spot) (n : ℕ) (s : Spot) → shown.nodes ≡ map shown_spot spots
+    → IsTree spots → slice_get spots n ≡ Some s → tree_of shown s.place ≡ Some (view_of_spot s)
 tree_spot shown spots n s e tree g = rw e (node_first spots n s g (λ i t h p. tree.unique i n t s h g p))
 
-pub place_spot : (shown : Shown) (spots : List Spot) (n : ℕ) (s : Spot) → shown.nodes ≡ map shown_spot spots → slice_get spots n ≡ Some s → place_numbered shown n ≡ s.place
-place_spot shown spots n s e g = ap (λ (o : Option (Place × View)). (unwrap_or o ([], table [])).0) (stand shown spots n s e g)
+pub place_spot : (shown : Shown) (spots : List Spot) (n : ℕ) (s : Spot) → shown.nodes ≡ map shown_spot spots
+    → slice_get spots n ≡ Some s → place_numbered shown n ≡ s.place
+place_spot shown spots n s e g = ap (λ (o : Option (Place × View)). (unwrap_or o ([], table [])).0)
+    (stand shown spots n s e g)
 
-pub view_spot : (shown : Shown) (spots : List Spot) (n : ℕ) (s : Spot) → shown.nodes ≡ map shown_spot spots → IsTree spots → slice_get spots n ≡ Some s → view_numbered shown n ≡ view_of_spot s
-view_spot shown spots n s e tree g = ap (λ (p : Place). viewed (tree_of shown p)) (place_spot shown spots n s e g) ∙ ap viewed (tree_spot shown spots n s e tree g)
+pub view_spot : (shown : Shown) (spots : List Spot) (n : ℕ) (s : Spot) → shown.nodes ≡ map shown_spot spots
+    → IsTree spots → slice_get spots n ≡ Some s → view_numbered shown n ≡ view_of_spot s
+view_spot shown spots n s e tree g = ap (λ (p : Place). viewed (tree_of shown p))
+    (place_spot shown spots n s e g) ∙ ap viewed (tree_spot shown spots n s e tree g)
 
-pub within : (shown : Shown) (nodes : List Node) (len n : ℕ) → Opened shown nodes → len ≡ length nodes → n < length shown.nodes → n < len
+pub within : (shown : Shown) (nodes : List Node) (len n : ℕ) → Opened shown nodes → len ≡ length nodes
+    → n < length shown.nodes → n < len
 within shown nodes len n opens size lt =
     let l = opens.holds.len in
-    let m : length shown.nodes ≡ length opens.spots = ap length opens.nodes_are ∙ length-map opens.spots shown_spot in
+    let m : length shown.nodes ≡ length opens.spots = ap length opens.nodes_are ∙
+    length-map opens.spots shown_spot in
     omega arith
 
-kept : {text : List ℕ} {node : Node} {spot : Spot} → Keeps text node spot → view_of_node text node ≡ view_of_spot spot
+kept : {text : List ℕ} {node : Node} {spot : Spot} → Keeps text node spot
+    → view_of_node text node ≡ view_of_spot spot
 kept {text} {node} {spot} k =
     ap (λ (s : Shape). view_of_shape s (names_of_node text node) (length node.elements.items)) k.shape
-    ∙ ap (λ (ns : List (List ℕ)). view_of_shape spot.shape ns (length node.elements.items)) (ap names_among k.members)
+    ∙ ap (λ (ns : List (List ℕ)). view_of_shape spot.shape ns (length node.elements.items))
+    (ap names_among k.members)
     ∙ ap (λ (es : List ℕ). view_of_shape spot.shape (names_of spot) (length es)) k.elements
 
-pub found : (shown : Shown) (nodes : List Node) (n : ℕ) (node : Node) → (opens : Opened shown nodes) → n < length shown.nodes → node ≡ get_or nodes n node → Found shown nodes opens.spots n node
+pub found : (shown : Shown) (nodes : List Node) (n : ℕ) (node : Node) → (opens : Opened shown nodes)
+    → n < length shown.nodes → node ≡ get_or nodes n node → Found shown nodes opens.spots n node
 found shown nodes n node opens lt is =
-    let e = slice_get_read nodes (length nodes) n node refl (within shown nodes (length nodes) n opens refl lt) is in
+    let e = slice_get_read nodes (length nodes) n node refl
+    (within shown nodes (length nodes) n opens refl lt) is in
     let s = spot_of_node nodes opens.spots n node opens.holds.len e in
     record {
       spot = s.0;
@@ -113,161 +129,6 @@ found shown nodes n node opens lt is =
       keeps = opens.holds.each n node s.0 e s.1;
       place = place_spot shown opens.spots n s.0 opens.nodes_are s.1;
       here = tree_spot shown opens.spots n s.0 opens.nodes_are opens.tree s.1;
-      view = view_spot shown opens.spots n s.0 opens.nodes_are opens.tree s.1 ∙ sym (kept (opens.holds.each n node s.0 e s.1));
+      view = view_spot shown opens.spots n s.0 opens.nodes_are opens.tree s.1 ∙
+          sym (kept (opens.holds.each n node s.0 e s.1));
     }
-
--- ---- members
-
--- the names of keys are the keys' names
-pub names_keys : (names : List (List ℕ)) → key_names (map key names) ≡ names
-names_keys [] = refl
-names_keys (n ∷ ns) = ap (λ (m : List (List ℕ)). n ∷ m) (names_keys ns)
-
--- how many members there are
-pub count_members : (text : List ℕ) (node : Node) → length (map key (names_of_node text node)) ≡ length (entries_of text node.members)
-count_members text node = length-map (names_of_node text node) key ∙ length-map (entries_of text node.members) (λ e. e.0)
-
-abbrev pub IsText : Content → Type 0
-IsText x = (s : Words) × (x ≡ content.Text s)
-
-abbrev pub IsTruth : Content → Type 0
-IsTruth x = (b : Bool) × (x ≡ content.Truth b)
-
-abbrev pub IsInteger : Content → Type 0
-IsInteger x = (s : Span) × (x ≡ content.Integer s)
-
-abbrev pub IsFloat : Content → Type 0
-IsFloat x = (s : Span) × (x ≡ content.Float s)
-
-abbrev pub IsDateTime : Content → Type 0
-IsDateTime x = (s : Span) × (x ≡ content.DateTime s)
-
--- a string, a boolean, a number, a date or a time
-abbrev pub IsScalar : Content → Type 0
-IsScalar x = IsText x ⊎ (IsTruth x ⊎ (IsInteger x ⊎ (IsFloat x ⊎ IsDateTime x)))
-
-names_of_content : (shown : Shown) (nodes : List Node) (spots : List Spot) (n : ℕ) (node : Node) (x : Content) → Found shown nodes spots n node → node.content ≡ x → names_in (view_numbered shown n) ≡ names_in (view_of_shape (shape_of shown.bytes x) (names_of_node shown.bytes node) (length node.elements.items))
-names_of_content shown nodes spots n node x f is = ap names_in f.view ∙ ap (λ (y : Content). names_in (view_of_shape (shape_of shown.bytes y) (names_of_node shown.bytes node) (length node.elements.items))) is
-
--- what shows no names, and what does
-pub names_none : (shown : Shown) (nodes : List Node) (spots : List Spot) (n : ℕ) (node : Node) → Found shown nodes spots n node → IsText node.content ⊎ (IsTruth node.content ⊎ (IsInteger node.content ⊎ (IsFloat node.content ⊎ (IsDateTime node.content ⊎ ((node.content ≡ content.Array) ⊎ (node.content ≡ content.Tables))))))
-    → names_in (view_numbered shown n) ≡ []
-names_none shown nodes spots n node f (inl t) = names_of_content shown nodes spots n node (content.Text t.0) f t.1
-names_none shown nodes spots n node f (inr (inl t)) = names_of_content shown nodes spots n node (content.Truth t.0) f t.1
-names_none shown nodes spots n node f (inr (inr (inl t))) = names_of_content shown nodes spots n node (content.Integer t.0) f t.1
-names_none shown nodes spots n node f (inr (inr (inr (inl t)))) = names_of_content shown nodes spots n node (content.Float t.0) f t.1
-names_none shown nodes spots n node f (inr (inr (inr (inr (inl t))))) = names_of_content shown nodes spots n node (content.DateTime t.0) f t.1
-names_none shown nodes spots n node f (inr (inr (inr (inr (inr (inl t)))))) = names_of_content shown nodes spots n node content.Array f t
-names_none shown nodes spots n node f (inr (inr (inr (inr (inr (inr t)))))) = names_of_content shown nodes spots n node content.Tables f t
-
-pub names_tabular : (shown : Shown) (nodes : List Node) (spots : List Spot) (n : ℕ) (node : Node) → Found shown nodes spots n node → (node.content ≡ content.Inline) ⊎ (node.content ≡ content.Table) → names_in (view_numbered shown n) ≡ names_of_node shown.bytes node
-names_tabular shown nodes spots n node f (inl t) = names_of_content shown nodes spots n node content.Inline f t ∙ names_keys (names_of_node shown.bytes node)
-names_tabular shown nodes spots n node f (inr t) = names_of_content shown nodes spots n node content.Table f t ∙ names_keys (names_of_node shown.bytes node)
-
--- a node of this content has so many parts
-pub count_shown : (shown : Shown) (nodes : List Node) (spots : List Spot) (n : ℕ) (node : Node) (x : Content) → Found shown nodes spots n node → node.content ≡ x → count_in (view_numbered shown n) ≡ count_in (view_of_shape (shape_of shown.bytes x) (names_of_node shown.bytes node) (length node.elements.items))
-count_shown shown nodes spots n node x f is = ap count_in f.view ∙ ap (λ (y : Content). count_in (view_of_shape (shape_of shown.bytes y) (names_of_node shown.bytes node) (length node.elements.items))) is
-
-pub count_scalar : (shown : Shown) (nodes : List Node) (spots : List Spot) (n : ℕ) (node : Node) → Found shown nodes spots n node → IsScalar node.content → count_in (view_numbered shown n) ≡ 0
-count_scalar shown nodes spots n node f (inl t) = count_shown shown nodes spots n node (content.Text t.0) f t.1
-count_scalar shown nodes spots n node f (inr (inl t)) = count_shown shown nodes spots n node (content.Truth t.0) f t.1
-count_scalar shown nodes spots n node f (inr (inr (inl t))) = count_shown shown nodes spots n node (content.Integer t.0) f t.1
-count_scalar shown nodes spots n node f (inr (inr (inr (inl t)))) = count_shown shown nodes spots n node (content.Float t.0) f t.1
-count_scalar shown nodes spots n node f (inr (inr (inr (inr t)))) = count_shown shown nodes spots n node (content.DateTime t.0) f t.1
-
-pub count_elements : (shown : Shown) (nodes : List Node) (spots : List Spot) (n : ℕ) (node : Node) → Found shown nodes spots n node → (node.content ≡ content.Array) ⊎ (node.content ≡ content.Tables) → count_in (view_numbered shown n) ≡ length node.elements.items
-count_elements shown nodes spots n node f (inl t) = count_shown shown nodes spots n node content.Array f t
-count_elements shown nodes spots n node f (inr t) = count_shown shown nodes spots n node content.Tables f t
-
-pub count_tabular : (shown : Shown) (nodes : List Node) (spots : List Spot) (n : ℕ) (node : Node) → Found shown nodes spots n node → (node.content ≡ content.Inline) ⊎ (node.content ≡ content.Table) → count_in (view_numbered shown n) ≡ length (entries_of shown.bytes node.members)
-count_tabular shown nodes spots n node f (inl t) = count_shown shown nodes spots n node content.Inline f t ∙ count_members shown.bytes node
-count_tabular shown nodes spots n node f (inr t) = count_shown shown nodes spots n node content.Table f t ∙ count_members shown.bytes node
-
--- what a node shows
-abbrev pub shows_content : List ℕ → Node → Content → Seen → Type 0
-shows_content text node x s = Shows (view_of_shape (shape_of text x) (names_of_node text node) (length node.elements.items)) s
-
-pub shows : (shown : Shown) (nodes : List Node) (spots : List Spot) (n : ℕ) (node : Node) (x : Content) (s : Seen) → Found shown nodes spots n node → node.content ≡ x → shows_content shown.bytes node x s → Shows (view_numbered shown n) s
-shows shown nodes spots n node x s f is h = subst (λ (v : View). Shows v s) (sym f.view) (subst (λ (y : Content). shows_content shown.bytes node y s) (sym is) h)
-
--- what a slice gives at an index
-pub got : (xs : List ℕ) (i : ℕ) (Q : Bor ℕ → Type 0) (r : Option (Bor ℕ)) → MatchOption r (length xs ≤ i) (λ x. (i < length xs) × Q x) → IfSome r (λ x. x.now ≡ get_or xs i x.now) → option_copied r ≡ slice_get xs i
-got xs i Q None h k = sym (slice_get_past xs i h)
-got xs i Q (Some x) h k = sym (slice_get_read xs (length xs) i x.now refl h.0 k)
-
--- nothing stands one step below a node that has no such part
-absent : (spots : List Spot) (tree : IsTree spots) (n : ℕ) (s : Spot) (x : Step) → slice_get spots n ≡ Some s → below s x ≡ None → (i : ℕ) (t : Spot) → slice_get spots i ≡ Some t → t.place ≡ at s.place x → ⊥
-absent spots tree n s x stands none i t g p =
-    elim (tree.up i t g) [
-      | inl root ↦ not_root s.place x (sym p ∙ root)
-      | inr m ↦
-          let same = last_same m.upper.place s.place m.step x (sym m.place_is ∙ p) in
-          let number : m.above ≡ n = tree.unique m.above n m.upper s m.stands stands same.0 in
-          let spot : m.upper ≡ s = slice_get_same spots n m.upper s (ap (slice_get spots) (sym number) ∙ m.stands) stands in
-          let some : below s x ≡ Some i = ap (λ (u : Spot). below u x) (sym spot) ∙ ap (below m.upper) (sym same.1) ∙ m.listed in
-          let clash : None ≡ Some i = sym none ∙ some in
-          absurd cc
-    ]
-
--- the number of what stands one step below a node
-pub part_here : (shown : Shown) (nodes : List Node) (n : ℕ) (node : Node) (x : Step) (r : Option ℕ) → (opens : Opened shown nodes) → (f : Found shown nodes opens.spots n node) → r ≡ below f.spot x → Numbers shown (at (place_numbered shown n) x) r
-part_here shown nodes n node x None opens f e = rw (f.place, opens.nodes_are) (node_none opens.spots (at f.spot.place x) (absent opens.spots opens.tree n f.spot x f.stands (sym e)))
-part_here shown nodes n node x (Some m) opens f e =
-    let s = opens.tree.down n m f.spot x f.stands (sym e) in
-    let place : s.0.place ≡ at (place_numbered shown n) x = s.2 ∙ ap (λ (p : Place). at p x) (sym f.place) in
-    let tree = tree_spot shown opens.spots m s.0 opens.nodes_are opens.tree s.1 in
-    let view = view_spot shown opens.spots m s.0 opens.nodes_are opens.tree s.1 in
-    let lt = slice_get_within opens.spots m s.0 s.1 in
-    let l : length shown.nodes ≡ length opens.spots = ap length opens.nodes_are ∙ length-map opens.spots shown_spot in
-    (ap (tree_of shown) (sym place) ∙ tree ∙ ap (λ (v : View). Some v) (sym view), place_spot shown opens.spots m s.0 opens.nodes_are s.1 ∙ place, omega arith)
-
-pub member_here : (shown : Shown) (nodes : List Node) (n : ℕ) (node : Node) (name : List ℕ) (r : Option ℕ) → (opens : Opened shown nodes) → Found shown nodes opens.spots n node → r ≡ number_in (entries_of shown.bytes node.members) name
-    → Numbers shown (at (place_numbered shown n) (key name)) r
-member_here shown nodes n node name r opens f e = part_here shown nodes n node (key name) r opens f (e ∙ sym (below_node node f.spot name f.keeps))
-
-pub element_here : (shown : Shown) (nodes : List Node) (n : ℕ) (node : Node) (i : ℕ) (r : Option ℕ) → (opens : Opened shown nodes) → Found shown nodes opens.spots n node → r ≡ slice_get node.elements.items i
-    → Numbers shown (at (place_numbered shown n) (index i)) r
-element_here shown nodes n node i r opens f e = part_here shown nodes n node (index i) r opens f (e ∙ ap (λ (es : List ℕ). slice_get es i) f.keeps.elements)
-
--- a node stands at its place
-pub node_stands : (shown : Shown) (nodes : List Node) (n : ℕ) (node : Node) (opens : Opened shown nodes) → Found shown nodes opens.spots n node → tree_of shown (place_numbered shown n) ≡ Some (view_numbered shown n)
-node_stands shown nodes n node opens f = ap (tree_of shown) f.place ∙ f.here ∙ ap (λ (v : View). Some v) (sym (ap viewed (ap (tree_of shown) f.place ∙ f.here)))
-
--- nothing stands below a place where nothing stands
-step_none : (shown : Shown) (nodes : List Node) (place : Place) (x : Step) → Opened shown nodes → tree_of shown place ≡ None → tree_of shown (at place x) ≡ None
-step_none shown nodes place x opens none = rw opens.nodes_are (node_none opens.spots (at place x) (λ j t g p. elim (opens.tree.up j t g) [
-  | inl root ↦ not_root place x (sym p ∙ root)
-  | inr m ↦
-      let same = last_same m.upper.place place m.step x (sym m.place_is ∙ p) in
-      let some = tree_spot shown opens.spots m.above m.upper opens.nodes_are opens.tree m.stands in
-      let no : None ≡ Some (view_of_spot m.upper) = sym none ∙ ap (tree_of shown) (sym same.0) ∙ some in
-      absurd cc
-]))
-
-pub nothing_below : (shown : Shown) (nodes : List Node) (more place : Place) → Opened shown nodes → tree_of shown place ≡ None → tree_of shown (place ++ more) ≡ None
-nothing_below shown nodes [] place opens none = ap (tree_of shown) (append-nil place) ∙ none
-nothing_below shown nodes (x ∷ more) place opens none =
-    ap (tree_of shown) (sym (append_assoc place (x ∷ []) more)) ∙ nothing_below shown nodes more (at place x) opens (step_none shown nodes place x opens none)
-
-pub root_stands : (shown : Shown) (nodes : List Node) → Opened shown nodes → (0 < length shown.nodes) × (place_numbered shown 0 ≡ [])
-root_stands shown nodes opens =
-    let r = opens.tree.root in
-    let l : length shown.nodes ≡ length opens.spots = ap length opens.nodes_are ∙ length-map opens.spots shown_spot in
-    let lt = slice_get_within opens.spots 0 r.0 r.1 in
-    (omega arith, place_spot shown opens.spots 0 r.0 opens.nodes_are r.1 ∙ r.2)
-
--- ---- the walk along a place
-
-pub place_more : (steps : List WrittenStep) (i : ℕ) (step : WrittenStep) → i < length steps → step ≡ get_or steps i step → place_seen (take (i + 1) steps) ≡ at (place_seen (take i steps)) (step_seen step)
-place_more steps i step lt is =
-    ap (map step_seen) (take_more steps i step lt) ∙ map-append step_seen (take i steps) (get_or steps i step ∷ []) ∙ ap (λ (x : WrittenStep). at (place_seen (take i steps)) (step_seen x)) (sym is)
-
--- nothing stands at a place where nothing stands on the way
-pub walk_none : (shown : Shown) → ((place more : Place) → tree_of shown place ≡ None → tree_of shown (place ++ more) ≡ None)
-    → (steps : List WrittenStep) (i : ℕ) (step : WrittenStep) → i < length steps → step ≡ get_or steps i step
-    → (p : Place) → p ≡ place_seen (take i steps) → tree_of shown (at p (step_seen step)) ≡ None → tree_of shown (place_seen steps) ≡ None
-walk_none shown below steps i step lt is p here none =
-    let front : at p (step_seen step) ≡ place_seen (take (i + 1) steps) = ap (λ (q : Place). at q (step_seen step)) here ∙ sym (place_more steps i step lt is) in
-    let whole : place_seen steps ≡ place_seen (take (i + 1) steps) ++ place_seen (drop (i + 1) steps) =
-    ap (map step_seen) (sym (take-append-drop (i + 1) steps)) ∙ map-append step_seen (take (i + 1) steps) (drop (i + 1) steps) in
-    ap (tree_of shown) whole ∙ below (place_seen (take (i + 1) steps)) (place_seen (drop (i + 1) steps)) (ap (tree_of shown) (sym front) ∙ none)

@@ -23,11 +23,12 @@ use Rattle.edit_document.proofs.Ends.{Ends}
 use Rattle.edit_document.proofs.MoreAssertions.{IsClear, clear_front}
 use Rattle.edit_document.proofs.Trees.{Grows, grows_then}
 use Rattle.edit_document.proofs.AssertedSpots.{Stands, nothing_under}
-use Rattle.edit_document.proofs.NothingBelow.{HasLeaf}
+use Rattle.edit_document.proofs.PlainValues.{HasLeaf}
 use Rattle.edit_document.proofs.Parts.{kind_append}
 use Rattle.edit_document.proofs.Walks.{walked_one, walked_first, walked_stops, walked_append}
 use Rattle.edit_document.proofs.WalkedTokens.{said_basic, said_literal}
-use Rattle.edit_document.proofs.KeyWalks.{Leads, leads, stops, leads_along, Enters, enters, bars, closed_leads}
+use Rattle.edit_document.proofs.KeyWalks.{Leads, leads, stops, leads_along, Enters, enters, bars}
+use Rattle.edit_document.proofs.KeySpans.{closed_leads}
 
 -- where the values of a list are written
 abbrev pub spans : List Valued → List Placed
@@ -38,23 +39,35 @@ spans ws = map placed ws
 abbrev pub IsStep : List ℕ → Mark → Shape → Span → Type 0
 IsStep bytes m shape span = (st : State) → step bytes m st ≡ entered st shape (Some span)
 
-pub basic_step : (bytes : List ℕ) (ps : List Piece) (rest : List ℕ) → IsValue (basic ps) → IsUtf8 bytes → Ends bytes (basic_text ps rest) → IsStep bytes (mark kinds.BasicString (basic_text ps rest) rest) (scalar (string (says quote ps))) (span_of (basic ps) rest)
+pub basic_step : (bytes : List ℕ) (ps : List Piece) (rest : List ℕ) → IsValue (basic ps) → IsUtf8 bytes
+    → Ends bytes (basic_text ps rest) → IsStep bytes (mark kinds.BasicString (basic_text ps rest) rest)
+    (scalar (string (says quote ps))) (span_of (basic ps) rest)
 unfolding step said
-basic_step bytes ps rest h u ends st = ap (λ (o : Option (List ℕ)). o >>= λ x. entered st (scalar (string x)) (Some (span_of (basic ps) rest))) (said_basic bytes ps rest 0 h u ends)
+basic_step bytes ps rest h u ends st =
+    ap (λ (o : Option (List ℕ)). o >>= λ x. entered st (scalar (string x)) (Some (span_of (basic ps) rest)))
+    (said_basic bytes ps rest 0 h u ends)
 
-pub literal_step : (bytes text rest : List ℕ) → IsValue (literal text) → IsUtf8 bytes → Ends bytes (literal_text text rest) → IsStep bytes (mark kinds.LiteralString (literal_text text rest) rest) (scalar (string text)) (span_of (literal text) rest)
+pub literal_step : (bytes text rest : List ℕ) → IsValue (literal text) → IsUtf8 bytes
+    → Ends bytes (literal_text text rest)
+    → IsStep bytes (mark kinds.LiteralString (literal_text text rest) rest) (scalar (string text))
+    (span_of (literal text) rest)
 unfolding step said
-literal_step bytes text rest h u ends st = ap (λ (o : Option (List ℕ)). o >>= λ x. entered st (scalar (string x)) (Some (span_of (literal text) rest))) (said_literal bytes text rest 0 h u ends)
+literal_step bytes text rest h u ends st =
+    ap (λ (o : Option (List ℕ)). o >>= λ x. entered st (scalar (string x))
+    (Some (span_of (literal text) rest))) (said_literal bytes text rest 0 h u ends)
 
-pub true_step : (bytes rest : List ℕ) → IsStep bytes (mark kinds.True (value (boolean true) rest) rest) (scalar (truth true)) (span_of (boolean true) rest)
+pub true_step : (bytes rest : List ℕ) → IsStep bytes (mark kinds.True (value (boolean true) rest) rest)
+    (scalar (truth true)) (span_of (boolean true) rest)
 unfolding step
 true_step bytes rest st = refl
 
-pub false_step : (bytes rest : List ℕ) → IsStep bytes (mark kinds.False (value (boolean false) rest) rest) (scalar (truth false)) (span_of (boolean false) rest)
+pub false_step : (bytes rest : List ℕ) → IsStep bytes (mark kinds.False (value (boolean false) rest) rest)
+    (scalar (truth false)) (span_of (boolean false) rest)
 unfolding step
 false_step bytes rest st = refl
 
--- where a walk stands before a value: the spots, what was asserted and written, the tables that are open, the place of the
+-- where a walk stands before a value: the spots, what was asserted and written, the tables that are open, the
+-- place of the
 -- value, and what is asserted there for a value
 pub record Before : Type 0 where
   pub spots : List Spot
@@ -66,7 +79,9 @@ pub record Before : Type 0 where
   pub keyed : Value → List Assertion
 
 pub record IsBefore (b : Before) : Type 0 where
-  pub enters_at : (v : Value) (span : Span) → Enters b.spots (b.made ++ b.keyed v) (b.written ++ (b.place, span) ∷ []) b.tables b.place (entered_at b.waiting (shape_of_value v) (Some span))
+  pub enters_at : (v : Value) (span : Span)
+      → Enters b.spots (b.made ++ b.keyed v) (b.written ++ (b.place, span) ∷ []) b.tables b.place
+      (entered_at b.waiting (shape_of_value v) (Some span))
   pub vacant_at : (v : Value) → IsClear (b.made ++ b.keyed v) → kind_at b.made b.place ≡ None
   pub low : (v : Value) → kind_at (b.keyed v) (at b.place (index 0)) ≡ None
   pub told : (v : Value) → HasLeaf b.place v (b.keyed v)
@@ -74,16 +89,21 @@ pub record IsBefore (b : Before) : Type 0 where
   pub inner : b.place ≡ [] → ⊥
   pub deep : (j : ℕ) → is_dotted_within (length (b.tables ++ j ∷ [])) Dotted ≡ true
 
-unwritten_at : (b : Before) (v : Value) → IsBefore b → IsClear (b.made ++ b.keyed v) → span_at b.written b.place ≡ None
+unwritten_at : (b : Before) (v : Value) → IsBefore b → IsClear (b.made ++ b.keyed v)
+    → span_at b.written b.place ≡ None
 unwritten_at b v h clear = go (span_at b.written b.place) refl
   where
     go : (o : Option Span) → span_at b.written b.place ≡ o → span_at b.written b.place ≡ None
     go None e = e
-    go (Some s) e = let k = h.stands.spans b.place s e in absurd (let clash : None ≡ Some k.0 = sym (h.vacant_at v clear) ∙ k.1 in cc)
+    go (Some s) e = let k = h.stands.spans b.place s e in
+        absurd (let clash : None ≡ Some k.0 = sym (h.vacant_at v clear) ∙ k.1 in cc)
 
 -- nothing stands below the value yet
-pub bare_at : (b : Before) (v : Value) → IsBefore b → IsClear (b.made ++ b.keyed v) → kind_at (b.made ++ b.keyed v) (at b.place (index 0)) ≡ None
-bare_at b v h clear = kind_append b.made (b.keyed v) (at b.place (index 0)) (nothing_under b.made b.written b.spots b.place (index 0) h.stands h.inner (h.vacant_at v clear)) ∙ h.low v
+pub bare_at : (b : Before) (v : Value) → IsBefore b → IsClear (b.made ++ b.keyed v)
+    → kind_at (b.made ++ b.keyed v) (at b.place (index 0)) ≡ None
+bare_at b v h clear = kind_append b.made (b.keyed v) (at b.place (index 0))
+    (nothing_under b.made b.written b.spots b.place (index 0) h.stands h.inner (h.vacant_at v clear)) ∙
+    h.low v
 
 -- what the value asserts
 abbrev pub made_by : Before → Value → List Assertion
@@ -95,48 +115,68 @@ written_by b v rest = b.written ++ spans (valued b.place v rest ∷ inside b.pla
 abbrev pub LeadsBy : Before → Value → List ℕ → Option State → Type 0
 LeadsBy b v rest r = Leads b.spots (made_by b v) (written_by b v rest) b.tables r
 
-pub scalar_leads : (bytes : List ℕ) (mk : Mark) (b : Before) (v : Value) (rest : List ℕ) → IsStep bytes mk (shape_of_value v) (span_of v rest) → of_value b.place v ≡ [] → inside b.place v rest ≡ [] → IsBefore b → LeadsBy b v rest (walked bytes (mk ∷ []) b.waiting)
+pub scalar_leads : (bytes : List ℕ) (mk : Mark) (b : Before) (v : Value) (rest : List ℕ)
+    → IsStep bytes mk (shape_of_value v) (span_of v rest) → of_value b.place v ≡ []
+    → inside b.place v rest ≡ [] → IsBefore b → LeadsBy b v rest (walked bytes (mk ∷ []) b.waiting)
 scalar_leads bytes mk b v rest act none empty h =
-    subst (λ (xs : List Assertion). Leads b.spots (b.made ++ (b.keyed v ++ xs)) (b.written ++ spans (valued b.place v rest ∷ inside b.place v rest)) b.tables (walked bytes (mk ∷ []) b.waiting)) (sym none)
-    (subst (λ (ws : List Valued). Leads b.spots (b.made ++ (b.keyed v ++ [])) (b.written ++ spans (valued b.place v rest ∷ ws)) b.tables (walked bytes (mk ∷ []) b.waiting)) (sym empty)
-    (subst (λ (xs : List Assertion). Leads b.spots (b.made ++ xs) (b.written ++ (b.place, span_of v rest) ∷ []) b.tables (walked bytes (mk ∷ []) b.waiting)) (sym (append-nil (b.keyed v)))
+    subst (λ (xs : List Assertion). Leads b.spots (b.made ++ (b.keyed v ++ xs))
+    (b.written ++ spans (valued b.place v rest ∷ inside b.place v rest)) b.tables
+    (walked bytes (mk ∷ []) b.waiting)) (sym none)
+    (subst (λ (ws : List Valued). Leads b.spots (b.made ++ (b.keyed v ++ []))
+    (b.written ++ spans (valued b.place v rest ∷ ws)) b.tables (walked bytes (mk ∷ []) b.waiting)) (sym empty)
+    (subst (λ (xs : List Assertion). Leads b.spots (b.made ++ xs)
+    (b.written ++ (b.place, span_of v rest) ∷ []) b.tables (walked bytes (mk ∷ []) b.waiting))
+    (sym (append-nil (b.keyed v)))
     (go (h.enters_at v (span_of v rest)))))
   where
-    path : walked bytes (mk ∷ []) b.waiting ≡ (entered_at b.waiting (shape_of_value v) (Some (span_of v rest)) >>= λ r. Some r.0)
+    path : walked bytes (mk ∷ []) b.waiting
+        ≡ (entered_at b.waiting (shape_of_value v) (Some (span_of v rest)) >>= λ r. Some r.0)
     path = walked_one bytes mk b.waiting ∙ act b.waiting
 
-    go : Enters b.spots (b.made ++ b.keyed v) (b.written ++ (b.place, span_of v rest) ∷ []) b.tables b.place (entered_at b.waiting (shape_of_value v) (Some (span_of v rest)))
-        → Leads b.spots (b.made ++ b.keyed v) (b.written ++ (b.place, span_of v rest) ∷ []) b.tables (walked bytes (mk ∷ []) b.waiting)
+    go : Enters b.spots (b.made ++ b.keyed v) (b.written ++ (b.place, span_of v rest) ∷ []) b.tables b.place
+        (entered_at b.waiting (shape_of_value v) (Some (span_of v rest)))
+        → Leads b.spots (b.made ++ b.keyed v) (b.written ++ (b.place, span_of v rest) ∷ []) b.tables
+        (walked bytes (mk ∷ []) b.waiting)
     go (enters now j e s p g) = leads now (path ∙ ap (λ (o : Option (State × ℕ)). o >>= λ r. Some r.0) e) s g
     go (bars e c) = stops (path ∙ ap (λ (o : Option (State × ℕ)). o >>= λ r. Some r.0) e) c
 
 -- ---- arrays and inline tables
 
-pub open_array : (bytes from rest : List ℕ) (st : State) → step bytes (mark kinds.OpenArray from rest) st ≡ opened st shapes.listed (Some (record { from = length from; to = length rest }))
+pub open_array : (bytes from rest : List ℕ) (st : State)
+    → step bytes (mark kinds.OpenArray from rest) st ≡ opened st shapes.listed
+    (Some (record { from = length from; to = length rest }))
 unfolding step
 open_array bytes from rest st = refl
 
-pub close_array : (bytes from rest : List ℕ) (st : State) → step bytes (mark kinds.CloseArray from rest) st ≡ closed st (length rest)
+pub close_array : (bytes from rest : List ℕ) (st : State)
+    → step bytes (mark kinds.CloseArray from rest) st ≡ closed st (length rest)
 unfolding step
 close_array bytes from rest st = refl
 
-pub open_table : (bytes from rest : List ℕ) (st : State) → step bytes (mark kinds.OpenTable from rest) st ≡ opened st shapes.inline (Some (record { from = length from; to = length rest }))
+pub open_table : (bytes from rest : List ℕ) (st : State)
+    → step bytes (mark kinds.OpenTable from rest) st ≡ opened st shapes.inline
+    (Some (record { from = length from; to = length rest }))
 unfolding step
 open_table bytes from rest st = refl
 
-pub close_table : (bytes from rest : List ℕ) (st : State) → step bytes (mark kinds.CloseTable from rest) st ≡ closed st (length rest)
+pub close_table : (bytes from rest : List ℕ) (st : State)
+    → step bytes (mark kinds.CloseTable from rest) st ≡ closed st (length rest)
 unfolding step
 close_table bytes from rest st = refl
 
 pub deeper : (base : List ℕ) (t j : ℕ) → is_dotted_within (length ((base ++ t ∷ []) ++ j ∷ [])) Dotted ≡ true
 deeper base t j =
-    let a : length ((base ++ t ∷ []) ++ j ∷ []) ≡ length (base ++ t ∷ []) + 1 = length-append (base ++ t ∷ []) (j ∷ []) in
+    let a : length ((base ++ t ∷ []) ++ j ∷ []) ≡ length (base ++ t ∷ []) + 1 =
+    length-append (base ++ t ∷ []) (j ∷ []) in
     let b : length (base ++ t ∷ []) ≡ length base + 1 = length-append base (t ∷ []) in
     grind (arith, nat_tests)
 
 -- a value that holds others: its first mark opens it, its last mark ends it
-module _ (bytes : List ℕ) (v : Value) (rest behind : List ℕ) (first_mark last_mark : Mark) (marks : List Mark) (b : Before) (h : IsBefore b)
-    (opens : (st : State) → step bytes first_mark st ≡ opened st (shape_of_value v) (Some (record { from = length (value v rest); to = length behind })))
+module _ (bytes : List ℕ) (v : Value) (rest behind : List ℕ) (first_mark last_mark : Mark) (marks : List Mark)
+    (b : Before) (h : IsBefore b)
+    (opens : (st : State)
+    → step bytes first_mark st ≡ opened st (shape_of_value v)
+    (Some (record { from = length (value v rest); to = length behind })))
     (ends_here : (st : State) → step bytes last_mark st ≡ closed st (length rest)) where
   abbrev first_span : Span
   first_span = record { from = length (value v rest); to = length behind }
@@ -154,36 +194,62 @@ module _ (bytes : List ℕ) (v : Value) (rest behind : List ℕ) (first_mark las
   all_made = append_assoc b.made (b.keyed v) (of_value b.place v)
 
   -- behind what it holds comes its last mark
-  closing : (now : List Spot) (j : ℕ) → Stands (b.made ++ b.keyed v) (b.written ++ (b.place, record { from = length (value v rest); to = length behind }) ∷ []) now → StandsAt now j b.place → Grows b.spots now
-      → Leads now (keyed_made ++ inner) ((b.written ++ (b.place, first_span) ∷ []) ++ inner_spans) (b.tables ++ j ∷ []) (walked bytes marks (settled_state now (b.tables ++ j ∷ [])))
+  closing : (now : List Spot) (j : ℕ)
+      → Stands (b.made ++ b.keyed v)
+      (b.written ++ (b.place, record { from = length (value v rest); to = length behind }) ∷ []) now
+      → StandsAt now j b.place → Grows b.spots now
+      → Leads now (keyed_made ++ inner) ((b.written ++ (b.place, first_span) ∷ []) ++ inner_spans)
+      (b.tables ++ j ∷ []) (walked bytes marks (settled_state now (b.tables ++ j ∷ [])))
       → LeadsBy b v rest (walked bytes (marks ++ last_mark ∷ []) (settled_state now (b.tables ++ j ∷ [])))
   closing now j st_open there grows (leads later e st g2) =
       let none = unwritten_at b v h st_open.clear in
-      let st2 : Stands (keyed_made ++ inner) (b.written ++ (b.place, first_span) ∷ inner_spans) later = subst (λ (w : List Placed). Stands (keyed_made ++ inner) w later) (append_assoc b.written ((b.place, first_span) ∷ []) inner_spans) st in
-      let done = closed_leads b.spots later (keyed_made ++ inner) b.written inner_spans b.place first_span b.tables j (length rest) st2 none (g2 j b.place there) (grows_then b.spots now later grows g2) in
-      let path : walked bytes (marks ++ last_mark ∷ []) (settled_state now (b.tables ++ j ∷ [])) ≡ closed (settled_state later (b.tables ++ j ∷ [])) (length rest) =
+      let st2 : Stands (keyed_made ++ inner) (b.written ++ (b.place, first_span) ∷ inner_spans) later =
+      subst (λ (w : List Placed). Stands (keyed_made ++ inner) w later)
+      (append_assoc b.written ((b.place, first_span) ∷ []) inner_spans) st in
+      let done = closed_leads b.spots later (keyed_made ++ inner) b.written inner_spans b.place first_span
+      b.tables j (length rest) st2 none (g2 j b.place there) (grows_then b.spots now later grows g2) in
+      let path : walked bytes (marks ++ last_mark ∷ []) (settled_state now (b.tables ++ j ∷ []))
+      ≡ closed (settled_state later (b.tables ++ j ∷ [])) (length rest) =
       walked_append bytes marks (last_mark ∷ []) (settled_state now (b.tables ++ j ∷ []))
-      ∙ ap (λ (o : Option State). o >>= walked bytes (last_mark ∷ [])) e ∙ walked_one bytes last_mark (settled_state later (b.tables ++ j ∷ [])) ∙ ends_here (settled_state later (b.tables ++ j ∷ [])) in
-      subst (λ (xs : List Assertion). Leads b.spots xs (b.written ++ spans (valued b.place v rest ∷ inside b.place v rest)) b.tables (walked bytes (marks ++ last_mark ∷ []) (settled_state now (b.tables ++ j ∷ [])))) all_made
+      ∙ ap (λ (o : Option State). o >>= walked bytes (last_mark ∷ [])) e ∙
+      walked_one bytes last_mark (settled_state later (b.tables ++ j ∷ [])) ∙
+      ends_here (settled_state later (b.tables ++ j ∷ [])) in
+      subst (λ (xs : List Assertion). Leads b.spots xs
+      (b.written ++ spans (valued b.place v rest ∷ inside b.place v rest)) b.tables
+      (walked bytes (marks ++ last_mark ∷ []) (settled_state now (b.tables ++ j ∷ [])))) all_made
       (leads_along path done)
   closing now j st_open there grows (stops e clash) =
       stops
-      (walked_append bytes marks (last_mark ∷ []) (settled_state now (b.tables ++ j ∷ [])) ∙ ap (λ (o : Option State). o >>= walked bytes (last_mark ∷ [])) e)
+      (walked_append bytes marks (last_mark ∷ []) (settled_state now (b.tables ++ j ∷ [])) ∙
+      ap (λ (o : Option State). o >>= walked bytes (last_mark ∷ [])) e)
       (λ clear. clash (subst IsClear (sym all_made) clear))
 
-  pub holder_leads : ((now : List Spot) (j : ℕ) → Stands (b.made ++ b.keyed v) (b.written ++ (b.place, record { from = length (value v rest); to = length behind }) ∷ []) now → StandsAt now j b.place → Grows b.spots now
-      → Leads now ((b.made ++ b.keyed v) ++ of_value b.place v) ((b.written ++ (b.place, record { from = length (value v rest); to = length behind }) ∷ []) ++ spans (inside b.place v rest)) (b.tables ++ j ∷ []) (walked bytes marks (settled_state now (b.tables ++ j ∷ []))))
+  pub holder_leads : ((now : List Spot) (j : ℕ)
+      → Stands (b.made ++ b.keyed v)
+      (b.written ++ (b.place, record { from = length (value v rest); to = length behind }) ∷ []) now
+      → StandsAt now j b.place → Grows b.spots now
+      → Leads now ((b.made ++ b.keyed v) ++ of_value b.place v)
+      ((b.written ++ (b.place, record { from = length (value v rest); to = length behind }) ∷ []) ++ spans
+      (inside b.place v rest)) (b.tables ++ j ∷ [])
+      (walked bytes marks (settled_state now (b.tables ++ j ∷ []))))
       → LeadsBy b v rest (walked bytes (first_mark ∷ (marks ++ last_mark ∷ [])) b.waiting)
   holder_leads into = go (h.enters_at v first_span)
     where
-      go : Enters b.spots (b.made ++ b.keyed v) (b.written ++ (b.place, record { from = length (value v rest); to = length behind }) ∷ []) b.tables b.place (entered_at b.waiting (shape_of_value v) (Some (record { from = length (value v rest); to = length behind })))
+      go : Enters b.spots (b.made ++ b.keyed v)
+          (b.written ++ (b.place, record { from = length (value v rest); to = length behind }) ∷ []) b.tables
+          b.place (entered_at b.waiting (shape_of_value v)
+          (Some (record { from = length (value v rest); to = length behind })))
           → LeadsBy b v rest (walked bytes (first_mark ∷ (marks ++ last_mark ∷ [])) b.waiting)
       go (enters now j e st there grows) =
           let first : step bytes first_mark b.waiting ≡ Some (settled_state now (b.tables ++ j ∷ [])) =
-          opens b.waiting ∙ ap (λ (o : Option (State × ℕ)). o >>= λ r. Some (record r.0 { tables = r.0.tables ++ r.1 ∷ [] })) e in
-          leads_along (walked_first bytes first_mark (marks ++ last_mark ∷ []) b.waiting (settled_state now (b.tables ++ j ∷ [])) first) (closing now j st there grows (into now j st there grows))
+          opens b.waiting ∙ ap
+          (λ (o : Option (State × ℕ)). o >>= λ r. Some (record r.0 { tables = r.0.tables ++ r.1 ∷ [] })) e in
+          leads_along (walked_first bytes first_mark (marks ++ last_mark ∷ []) b.waiting
+          (settled_state now (b.tables ++ j ∷ [])) first)
+          (closing now j st there grows (into now j st there grows))
       go (bars e clash) =
           stops
           (walked_stops bytes first_mark (marks ++ last_mark ∷ []) b.waiting
-          (opens b.waiting ∙ ap (λ (o : Option (State × ℕ)). o >>= λ r. Some (record r.0 { tables = r.0.tables ++ r.1 ∷ [] })) e))
+          (opens b.waiting ∙ ap
+          (λ (o : Option (State × ℕ)). o >>= λ r. Some (record r.0 { tables = r.0.tables ++ r.1 ∷ [] })) e))
           (λ clear. clash (clear_front keyed_made inner (subst IsClear (sym all_made) clear)))

@@ -14,11 +14,13 @@ pub walked_one : (bytes : List ℕ) (m : Mark) (st : State) → walked bytes (m 
 unfolding walked
 walked_one bytes m st = bind_some (step bytes m st)
 
-pub walked_first : (bytes : List ℕ) (m : Mark) (ms : List Mark) (st next : State) → step bytes m st ≡ Some next → walked bytes (m ∷ ms) st ≡ walked bytes ms next
+pub walked_first : (bytes : List ℕ) (m : Mark) (ms : List Mark) (st next : State)
+    → step bytes m st ≡ Some next → walked bytes (m ∷ ms) st ≡ walked bytes ms next
 unfolding walked
 walked_first bytes m ms st next e = ap (λ (o : Option State). o >>= walked bytes ms) e
 
-pub walked_stops : (bytes : List ℕ) (m : Mark) (ms : List Mark) (st : State) → step bytes m st ≡ None → walked bytes (m ∷ ms) st ≡ None
+pub walked_stops : (bytes : List ℕ) (m : Mark) (ms : List Mark) (st : State) → step bytes m st ≡ None
+    → walked bytes (m ∷ ms) st ≡ None
 unfolding walked
 walked_stops bytes m ms st e = ap (λ (o : Option State). o >>= walked bytes ms) e
 
@@ -26,12 +28,15 @@ pub walked_none : (bytes : List ℕ) (st : State) → walked bytes [] st ≡ Som
 unfolding walked
 walked_none bytes st = refl
 
-pub walked_append : (bytes : List ℕ) (xs ys : List Mark) (st : State) → walked bytes (xs ++ ys) st ≡ (walked bytes xs st >>= walked bytes ys)
+pub walked_append : (bytes : List ℕ) (xs ys : List Mark) (st : State)
+    → walked bytes (xs ++ ys) st ≡ (walked bytes xs st >>= walked bytes ys)
 unfolding walked
 walked_append bytes [] ys st = refl
 walked_append bytes (x ∷ xs) ys st = go (step bytes x st) (λ next. walked_append bytes xs ys next)
   where
-    go : (o : Option State) → ((next : State) → walked bytes (xs ++ ys) next ≡ (walked bytes xs next >>= walked bytes ys)) → (o >>= walked bytes (xs ++ ys)) ≡ ((o >>= walked bytes xs) >>= walked bytes ys)
+    go : (o : Option State)
+        → ((next : State) → walked bytes (xs ++ ys) next ≡ (walked bytes xs next >>= walked bytes ys))
+        → (o >>= walked bytes (xs ++ ys)) ≡ ((o >>= walked bytes xs) >>= walked bytes ys)
     go None ih = refl
     go (Some n) ih = ih n
 

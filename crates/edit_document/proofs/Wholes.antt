@@ -1,39 +1,33 @@
 -- What stands below a node: its members and its elements, and nothing else.
-use Rattle.std.proofs.Common.{◌≡◌, ℕ, zero, suc, ◌<◌, ◌≤◌, Bool, true, false, nat_lt, cond, List, [], ◌∷◌, length, map, Option, Some, None, refl, sym, ap, subst, ◌∙◌, ◌⊎◌, inl, inr, arith}
+use Rattle.std.proofs.Common.{◌≡◌, ℕ, zero, suc, ◌<◌, Bool, true, false, nat_lt, cond, List, [], ◌∷◌, length, map, Option, Some, None, refl, sym, ap, subst, ◌∙◌, ◌⊎◌, inl, inr}
 use Rattle.std.specs.Prelude.{slice_get, option_map, IsUtf8, string_bytes}
 use Rattle.std.specs.Map.{lookup}
 use Rattle.std.specs.Str.{bytes_eq}
-use Rattle.std.proofs.lemmas.Option.{slice_get-map, slice_get_within, slice_get-get_or, same_Some}
+use Rattle.std.proofs.lemmas.Option.{slice_get-map, slice_get-get_or, same_Some}
 use Rattle.std.proofs.lemmas.Slice.Eq.{bytes_eq-Decides}
 use Rattle.std.proofs.lemmas.Bool.{lt-ltb, ltb-true}
 use Rattle.edit_document.specs.declared.document.Document.TheInside.{Inside}
 use Rattle.edit_syntax.specs.Grammar.{Value, Text, array, inline, basic, literal, multi_basic, multi_literal, boolean, integer, float, datetime}
-use Rattle.edit_document.specs.Assertions.{Step, key, index, Place, at, Kind, dotted, leaf, super, header_kind, array_kind, element_kind, Assertion, assertions}
-use Rattle.edit_document.specs.Tree.{View, kind_at}
+use Rattle.edit_document.specs.Assertions.{Step, key, index, Kind, dotted, leaf, super, header_kind, array_kind, element_kind, Assertion, assertions}
+use Rattle.edit_document.specs.Tree.{View}
 use Rattle.edit_syntax.specs.Reading.{◌>>=◌}
 use Rattle.edit_document.specs.Walk.{State, start, walked}
 use Rattle.edit_syntax.specs.Marks.{text_marks}
 use Rattle.edit_document.specs.Written.{values}
 use Rattle.edit_document.specs.DocumentLayout.{placed, Placed, spots_of, IsRead, shape_of_value}
-use Rattle.edit_document.specs.Nodes.{Shape, scalar, listed, inline as inlined, section, sections, Spot, names_of, view_of_shape, below, IsTree}
-use Rattle.edit_document.specs.Items.{names_in, key_names, place_numbered, view_numbered}
-use Rattle.edit_document.specs.Shown.{Shown, tree_of, node_at}
-use Rattle.edit_document.specs.Compared.{element_step, nth_part, AreSteps, AreNames, AreKeys}
-use Rattle.edit_document.proofs.SamePlace.{not_root, last_same}
-use Rattle.edit_syntax.proofs.ListElements.{slice_get_same}
-use Rattle.edit_document.proofs.Views.{view_of_spot, names_keys, Opened, opened, Found, view_spot, tree_spot, node_none}
-use Rattle.edit_document.specs.declared.nodes.Node.{Node}
-use Rattle.edit_document.specs.DocumentLayout.{shown_of}
+use Rattle.edit_document.specs.Nodes.{Shape, scalar, listed, inline as inlined, section, sections, Spot, names_of, view_of_shape, below}
+use Rattle.edit_document.specs.Items.{names_in, key_names}
+use Rattle.edit_document.specs.Compared.{element_step, nth_part, AreNames, AreKeys}
+use Rattle.edit_document.proofs.Views.{view_of_spot}
+use Rattle.edit_document.proofs.MemberViews.{names_keys}
 use Rattle.edit_document.proofs.Shallow.{manifest_form}
-use Rattle.edit_document.proofs.MoreAssertions.{first_kind}
-use Rattle.edit_document.specs.Assertions.{NoClash}
-use Rattle.edit_document.proofs.Keyed.{tabular, AreUnder, under_tables, first_table, found_under}
-use Rattle.edit_document.proofs.AssertedSpots.{Stands, Lists, shape_of_kind, was_asserted, short_at}
+use Rattle.edit_document.proofs.AssertedSpots.{Stands, shape_of_kind}
 use Rattle.edit_document.proofs.WalkedLines.{Walked as Walks, ended, stuck}
 use Rattle.edit_document.proofs.Documents.{read_of, walk_of}
 
 -- the spots of a document that was read stand for its assertions
-pub stands_of : (inside : Inside) → (read : IsRead inside) → IsUtf8 (string_bytes inside.text) → Stands (assertions read.form) (map placed (values read.form)) read.spots
+pub stands_of : (inside : Inside) → (read : IsRead inside) → IsUtf8 (string_bytes inside.text)
+    → Stands (assertions read.form) (map placed (values read.form)) read.spots
 stands_of inside read u = go (walk_of bytes form (read_of bytes form read.manifest u))
   where
     bytes : List ℕ
@@ -42,37 +36,53 @@ stands_of inside read u = go (walk_of bytes form (read_of bytes form read.manife
     form : Text
     form = read.form
 
-    go : Walks (assertions form) (map placed (values form)) (walked bytes (text_marks form) start) → Stands (assertions form) (map placed (values form)) read.spots
+    go : Walks (assertions form) (map placed (values form)) (walked bytes (text_marks form) start)
+        → Stands (assertions form) (map placed (values form)) read.spots
     go (ended now tables e st) =
         let made : spots_of bytes ≡ Some now =
-        ap (λ (o : Option Text). o >>= λ f. walked bytes (text_marks f) start >>= λ s. Some s.spots) (manifest_form bytes form read.manifest) ∙ ap (λ (o : Option State). o >>= λ s. Some s.spots) e in
-        subst (λ (ss : List Spot). Stands (assertions form) (map placed (values form)) ss) (same_Some now read.spots (sym made ∙ read.found)) st
-    go (stuck e clash) = absurd (clash (record { apart = read.manifest.document.no_clash; short = read.manifest.document.short }))
+        ap (λ (o : Option Text). o >>= λ f. walked bytes (text_marks f) start >>= λ s. Some s.spots)
+        (manifest_form bytes form read.manifest) ∙ ap (λ (o : Option State). o >>= λ s. Some s.spots) e in
+        subst (λ (ss : List Spot). Stands (assertions form) (map placed (values form)) ss)
+        (same_Some now read.spots (sym made ∙ read.found)) st
+    go (stuck e clash) =
+        absurd (clash (record {
+          apart = read.manifest.document.no_clash;
+          short = read.manifest.document.short;
+        }))
 
 -- ---- names and numbers
 
-pub name_at : (ms : List (List ℕ × ℕ)) (name : List ℕ) (j : ℕ) → lookup (λ n. bytes_eq name n) ms ≡ Some j → (i : ℕ) × (slice_get (map (λ (e : List ℕ × ℕ). e.0) ms) i ≡ Some name)
+pub name_at : (ms : List (List ℕ × ℕ)) (name : List ℕ) (j : ℕ) → lookup (λ n. bytes_eq name n) ms ≡ Some j
+    → (i : ℕ) × (slice_get (map (λ (e : List ℕ × ℕ). e.0) ms) i ≡ Some name)
 name_at [] name j e = absurd cc
 name_at (m ∷ ms) name j e = go (bytes_eq name m.0) (bytes_eq-Decides name m.0).0 e (name_at ms name j)
   where
     go : (b : Bool) → (b ≡ true → name ≡ m.0) → cond b (Some m.1) (lookup (λ n. bytes_eq name n) ms) ≡ Some j
-        → (lookup (λ n. bytes_eq name n) ms ≡ Some j → (i : ℕ) × (slice_get (map (λ (e : List ℕ × ℕ). e.0) ms) i ≡ Some name))
+        → (lookup (λ n. bytes_eq name n) ms ≡ Some j → (i : ℕ)
+        × (slice_get (map (λ (e : List ℕ × ℕ). e.0) ms) i ≡ Some name))
         → (i : ℕ) × (slice_get (map (λ (e : List ℕ × ℕ). e.0) (m ∷ ms)) i ≡ Some name)
     go true same e ih = (0, ap Some (sym (same refl)))
     go false same e ih = let r = ih e in (suc r.0, r.1)
 
-pub number_at : (ms : List (List ℕ × ℕ)) (name : List ℕ) (i : ℕ) → slice_get (map (λ (e : List ℕ × ℕ). e.0) ms) i ≡ Some name → (j : ℕ) × (lookup (λ n. bytes_eq name n) ms ≡ Some j)
+pub number_at : (ms : List (List ℕ × ℕ)) (name : List ℕ) (i : ℕ)
+    → slice_get (map (λ (e : List ℕ × ℕ). e.0) ms) i ≡ Some name → (j : ℕ)
+    × (lookup (λ n. bytes_eq name n) ms ≡ Some j)
 number_at [] name i e = absurd cc
-number_at (m ∷ ms) name zero e = let same : name ≡ m.0 = sym (same_Some m.0 name e) in (m.1, ap (λ (b : Bool). cond b (Some m.1) (lookup (λ n. bytes_eq name n) ms)) ((bytes_eq-Decides name m.0).1 same))
+number_at (m ∷ ms) name zero e = let same : name ≡ m.0 = sym (same_Some m.0 name e) in (
+  m.1,
+  ap (λ (b : Bool). cond b (Some m.1) (lookup (λ n. bytes_eq name n) ms))
+      ((bytes_eq-Decides name m.0).1 same),
+)
 number_at (m ∷ ms) name (suc i) e = go (bytes_eq name m.0) (number_at ms name i e)
   where
-    go : (b : Bool) → ((j : ℕ) × (lookup (λ n. bytes_eq name n) ms ≡ Some j)) → (j : ℕ) × (cond b (Some m.1) (lookup (λ n. bytes_eq name n) ms) ≡ Some j)
+    go : (b : Bool) → ((j : ℕ) × (lookup (λ n. bytes_eq name n) ms ≡ Some j)) → (j : ℕ)
+        × (cond b (Some m.1) (lookup (λ n. bytes_eq name n) ms) ≡ Some j)
     go true r = (m.1, refl)
     go false r = r
 
 -- ---- steps
 
-element_is : (n i : ℕ) → i < n → element_step n i ≡ Some (index i)
+pub element_is : (n i : ℕ) → i < n → element_step n i ≡ Some (index i)
 element_is n i lt = ap (λ (b : Bool). cond b (Some (index i)) None) (lt-ltb i n lt)
 
 pub element_was : (n i : ℕ) (step : Step) → element_step n i ≡ Some step → (i < n) × (step ≡ index i)
@@ -82,24 +92,34 @@ element_was n i step e = go (nat_lt i n) refl e
     go true t e = (ltb-true i n t, sym (same_Some (index i) step e))
     go false t e = absurd cc
 
-key_was : (names : List (List ℕ)) (i : ℕ) (step : Step) → slice_get (map key names) i ≡ Some step → (name : List ℕ) × (slice_get names i ≡ Some name) × (step ≡ key name)
+key_was : (names : List (List ℕ)) (i : ℕ) (step : Step) → slice_get (map key names) i ≡ Some step
+    → (name : List ℕ) × (slice_get names i ≡ Some name) × (step ≡ key name)
 key_was [] i step e = absurd cc
 key_was (n ∷ ns) zero step e = (n, refl, sym (same_Some (key n) step e))
 key_was (n ∷ ns) (suc i) step e = key_was ns i step e
 
 -- the parts of a shape
 abbrev Parts : Spot → Shape → Type 0
-Parts s shape = (i : ℕ) (step : Step) → nth_part (view_of_shape shape (names_of s) (length s.elements)) i ≡ Some step
-    → ((m : ℕ) × (below s step ≡ Some m)) × (((name : List ℕ) × (slice_get (names_in (view_of_shape shape (names_of s) (length s.elements))) i ≡ Some name) × (step ≡ key name)) ⊎ ((slice_get (names_in (view_of_shape shape (names_of s) (length s.elements))) i ≡ None) × (step ≡ index i)))
+Parts s shape = (i : ℕ) (step : Step) → nth_part (view_of_shape shape (names_of s) (length s.elements)) i
+    ≡ Some step
+    → ((m : ℕ) × (below s step ≡ Some m))
+    × (((name : List ℕ) × (slice_get (names_in (view_of_shape shape (names_of s) (length s.elements))) i
+    ≡ Some name) × (step ≡ key name))
+    ⊎ ((slice_get (names_in (view_of_shape shape (names_of s) (length s.elements))) i ≡ None)
+    × (step ≡ index i)))
 
 parts_tabular : (s : Spot) (i : ℕ) (step : Step) → slice_get (map key (names_of s)) i ≡ Some step
-    → ((m : ℕ) × (below s step ≡ Some m)) × ((name : List ℕ) × (slice_get (key_names (map key (names_of s))) i ≡ Some name) × (step ≡ key name))
+    → ((m : ℕ) × (below s step ≡ Some m))
+    × ((name : List ℕ) × (slice_get (key_names (map key (names_of s))) i ≡ Some name) × (step ≡ key name))
 parts_tabular s i step e =
     let k = key_was (names_of s) i step e in
-    let j = number_at s.members k.0 i k.1 in
-    ((j.0, ap (below s) k.2 ∙ j.1), (k.0, ap (λ (ns : List (List ℕ)). slice_get ns i) (names_keys (names_of s)) ∙ k.1, k.2))
+    let j = number_at s.members k.0 i k.1 in (
+      (j.0, ap (below s) k.2 ∙ j.1),
+      (k.0, ap (λ (ns : List (List ℕ)). slice_get ns i) (names_keys (names_of s)) ∙ k.1, k.2),
+    )
 
-parts_listed : (s : Spot) (i : ℕ) (step : Step) → element_step (length s.elements) i ≡ Some step → ((m : ℕ) × (below s step ≡ Some m)) × (step ≡ index i)
+parts_listed : (s : Spot) (i : ℕ) (step : Step) → element_step (length s.elements) i ≡ Some step
+    → ((m : ℕ) × (below s step ≡ Some m)) × (step ≡ index i)
 parts_listed s i step e =
     let k = element_was (length s.elements) i step e in
     ((_, ap (below s) k.1 ∙ slice_get-get_or s.elements i 0 k.0), k.1)
@@ -133,160 +153,48 @@ scalar_bare array_kind v e = absurd cc
 scalar_bare element_kind v e = absurd cc
 
 parts_of : (s : Spot) (shape : Shape) → ((v : View) → shape ≡ scalar v → IsBare v) → Parts s shape
-parts_of s (scalar v) bare i step e = absurd (let clash : None ≡ Some step = sym ((bare v refl).1 i) ∙ e in cc)
+parts_of s (scalar v) bare i step e = absurd (let clash : None ≡ Some step = sym ((bare v refl).1 i) ∙ e in
+    cc)
 parts_of s listed bare i step e = let p = parts_listed s i step e in (p.0, inr (refl, p.1))
 parts_of s sections bare i step e = let p = parts_listed s i step e in (p.0, inr (refl, p.1))
 parts_of s inlined bare i step e = let p = parts_tabular s i step e in (p.0, inl p.1)
 parts_of s section bare i step e = let p = parts_tabular s i step e in (p.0, inl p.1)
 
-name_tabular : (names : List (List ℕ)) (i : ℕ) (name : List ℕ) → slice_get (key_names (map key names)) i ≡ Some name → slice_get (map key names) i ≡ Some (key name)
-name_tabular names i name e = slice_get-map key names i ∙ ap (option_map key) (ap (λ (ns : List (List ℕ)). slice_get ns i) (sym (names_keys names)) ∙ e)
+name_tabular : (names : List (List ℕ)) (i : ℕ) (name : List ℕ)
+    → slice_get (key_names (map key names)) i ≡ Some name → slice_get (map key names) i ≡ Some (key name)
+name_tabular names i name e = slice_get-map key names i ∙
+    ap (option_map key) (ap (λ (ns : List (List ℕ)). slice_get ns i) (sym (names_keys names)) ∙ e)
 
-names_of_shape : (s : Spot) (shape : Shape) → ((v : View) → shape ≡ scalar v → IsBare v) → AreNames (view_of_shape shape (names_of s) (length s.elements))
-names_of_shape s (scalar v) bare i name e = absurd (let clash : None ≡ Some name = sym (ap (λ (ns : List (List ℕ)). slice_get ns i) (bare v refl).0) ∙ e in cc)
+names_of_shape : (s : Spot) (shape : Shape) → ((v : View) → shape ≡ scalar v → IsBare v)
+    → AreNames (view_of_shape shape (names_of s) (length s.elements))
+names_of_shape s (scalar v) bare i name e =
+    absurd (let clash : None ≡ Some name = sym (ap (λ (ns : List (List ℕ)). slice_get ns i) (bare v refl).0) ∙
+    e in cc)
 names_of_shape s listed bare i name e = absurd cc
 names_of_shape s sections bare i name e = absurd cc
 names_of_shape s inlined bare i name e = name_tabular (names_of s) i name e
 names_of_shape s section bare i name e = name_tabular (names_of s) i name e
 
-keys_of_shape : (s : Spot) (shape : Shape) → ((v : View) → shape ≡ scalar v → IsBare v) → AreKeys (view_of_shape shape (names_of s) (length s.elements))
+keys_of_shape : (s : Spot) (shape : Shape) → ((v : View) → shape ≡ scalar v → IsBare v)
+    → AreKeys (view_of_shape shape (names_of s) (length s.elements))
 keys_of_shape s (scalar v) bare = (bare v refl).2
 keys_of_shape s listed bare = tt
 keys_of_shape s sections bare = tt
 keys_of_shape s inlined bare = ap (map key) (sym (names_keys (names_of s)))
 keys_of_shape s section bare = ap (map key) (sym (names_keys (names_of s)))
 
-pub keys_below : (made : List Assertion) (written : List Placed) (spots : List Spot) (n : ℕ) (s : Spot) → Stands made written spots → slice_get spots n ≡ Some s → AreKeys (view_of_spot s)
-keys_below made written spots n s st here = let t = st.tells n s here in keys_of_shape s s.shape (λ v e. scalar_bare t.kind v (sym t.shape ∙ e))
+pub keys_below : (made : List Assertion) (written : List Placed) (spots : List Spot) (n : ℕ) (s : Spot)
+    → Stands made written spots → slice_get spots n ≡ Some s → AreKeys (view_of_spot s)
+keys_below made written spots n s st here = let t = st.tells n s here in
+    keys_of_shape s s.shape (λ v e. scalar_bare t.kind v (sym t.shape ∙ e))
 
-pub named_below : (made : List Assertion) (written : List Placed) (spots : List Spot) (n : ℕ) (s : Spot) → Stands made written spots → slice_get spots n ≡ Some s → AreNames (view_of_spot s)
-named_below made written spots n s st here = let t = st.tells n s here in names_of_shape s s.shape (λ v e. scalar_bare t.kind v (sym t.shape ∙ e))
+pub named_below : (made : List Assertion) (written : List Placed) (spots : List Spot) (n : ℕ) (s : Spot)
+    → Stands made written spots → slice_get spots n ≡ Some s → AreNames (view_of_spot s)
+named_below made written spots n s st here = let t = st.tells n s here in
+    names_of_shape s s.shape (λ v e. scalar_bare t.kind v (sym t.shape ∙ e))
 
 -- what a view numbers stands below its spot
-pub numbered_below : (made : List Assertion) (written : List Placed) (spots : List Spot) (n : ℕ) (s : Spot) → Stands made written spots → slice_get spots n ≡ Some s → Parts s s.shape
-numbered_below made written spots n s st here = let t = st.tells n s here in parts_of s s.shape (λ v e. scalar_bare t.kind v (sym t.shape ∙ e))
-
--- ---- what stands below a spot is numbered
-
-shape_tabular : (k : Kind) → tabular k ≡ true → (shape_of_kind k ≡ section) ⊎ (shape_of_kind k ≡ inlined)
-shape_tabular (dotted true) e = inr refl
-shape_tabular (dotted false) e = inl refl
-shape_tabular super e = inl refl
-shape_tabular header_kind e = inl refl
-shape_tabular element_kind e = inl refl
-shape_tabular array_kind e = absurd cc
-shape_tabular (leaf (inline g ms)) e = inr refl
-shape_tabular (leaf (array g es)) e = absurd cc
-shape_tabular (leaf (basic ps)) e = absurd cc
-shape_tabular (leaf (literal text)) e = absurd cc
-shape_tabular (leaf (multi_basic ps)) e = absurd cc
-shape_tabular (leaf (multi_literal ps)) e = absurd cc
-shape_tabular (leaf (boolean b)) e = absurd cc
-shape_tabular (leaf (integer n)) e = absurd cc
-shape_tabular (leaf (float f)) e = absurd cc
-shape_tabular (leaf (datetime d)) e = absurd cc
-
--- names stand below tables alone
-keyed : (made : List Assertion) (p : Place) (k l : Kind) (name : List ℕ) → NoClash made → AreUnder made made → first_kind made p ≡ Some k → kind_at made (at p (key name)) ≡ Some l → (shape_of_kind k ≡ section) ⊎ (shape_of_kind k ≡ inlined)
-keyed made [] k l name clash under here below = let same : header_kind ≡ k = same_Some header_kind k here in inl (ap shape_of_kind (sym same))
-keyed made (x ∷ xs) k l name clash under here below = elim (found_under made made (x ∷ xs) name l under below) [
-  | inl root ↦ absurd cc
-  | inr h ↦ shape_tabular k (first_table made (x ∷ xs) k clash h here)
-]
-
-lists_shape : (k : Kind) (i : ℕ) → Lists k i → (shape_of_kind k ≡ listed) ⊎ (shape_of_kind k ≡ sections)
-lists_shape array_kind i h = inr refl
-lists_shape (leaf (array g es)) i h = inl refl
-lists_shape (leaf (basic ps)) i h = absurd h
-lists_shape (leaf (literal text)) i h = absurd h
-lists_shape (leaf (multi_basic ps)) i h = absurd h
-lists_shape (leaf (multi_literal ps)) i h = absurd h
-lists_shape (leaf (boolean b)) i h = absurd h
-lists_shape (leaf (integer n)) i h = absurd h
-lists_shape (leaf (float f)) i h = absurd h
-lists_shape (leaf (datetime d)) i h = absurd h
-lists_shape (leaf (inline g ms)) i h = absurd h
-lists_shape (dotted b) i h = absurd h
-lists_shape super i h = absurd h
-lists_shape header_kind i h = absurd h
-lists_shape element_kind i h = absurd h
-
-below_listed : (spots : List Spot) (tree : IsTree spots) (n : ℕ) (s : Spot) (x : Step) → slice_get spots n ≡ Some s → (j : ℕ) (t : Spot) → slice_get spots j ≡ Some t → t.place ≡ at s.place x → (m : ℕ) × (below s x ≡ Some m)
-below_listed spots tree n s x here j t there p =
-    elim (tree.up j t there) [
-      | inl root ↦ absurd (not_root s.place x (sym p ∙ root))
-      | inr m ↦
-          let same = last_same m.upper.place s.place m.step x (sym m.place_is ∙ p) in
-          let number : m.above ≡ n = tree.unique m.above n m.upper s m.stands here same.0 in
-          let spot : m.upper ≡ s = slice_get_same spots n m.upper s (ap (slice_get spots) (sym number) ∙ m.stands) here in
-          (j, ap (λ (u : Spot). below u x) (sym spot) ∙ ap (below m.upper) (sym same.1) ∙ m.listed)
-    ]
-
--- a shape in place of a spot's own
-in_shape : (s : Spot) (a : Shape) (i : ℕ) (step : Step) → s.shape ≡ a → nth_part (view_of_shape a (names_of s) (length s.elements)) i ≡ Some step → nth_part (view_of_spot s) i ≡ Some step
-in_shape s a i step e h = ap (λ (x : Shape). nth_part (view_of_shape x (names_of s) (length s.elements)) i) e ∙ h
-
-pub unnumbered : (made : List Assertion) (written : List Placed) (spots : List Spot) (n : ℕ) (s : Spot) (step : Step) → AreUnder made made → Stands made written spots → slice_get spots n ≡ Some s → ((i : ℕ) → nth_part (view_of_spot s) i ≡ Some step → ⊥)
-    → (j : ℕ) (t : Spot) → slice_get spots j ≡ Some t → t.place ≡ at s.place step → ⊥
-unnumbered made written spots n s (index i) under st here none j t there p =
-    let k = st.tells n s here in
-    let b = below_listed spots st.tree n s (index i) here j t there p in
-    let l = st.indexed s.place i (st.tells j t there).kind (ap (kind_at made) (sym p) ∙ was_asserted (st.tells j t there) (λ root. not_root s.place (index i) (sym p ∙ root))) in
-    let same : l.kind ≡ k.kind = same_Some l.kind k.kind (sym l.first ∙ k.first) in
-    let lt = slice_get_within s.elements i b.0 b.1 in
-    elim (lists_shape k.kind i (subst (λ (x : Kind). Lists x i) same l.lists)) [
-      | inl e ↦ none i (in_shape s listed i (index i) (k.shape ∙ e) (element_is (length s.elements) i lt))
-      | inr e ↦ none i (in_shape s sections i (index i) (k.shape ∙ e) (element_is (length s.elements) i lt))
-    ]
-unnumbered made written spots n s (key name) under st here none j t there p =
-    let k = st.tells n s here in
-    let b = below_listed spots st.tree n s (key name) here j t there p in
-    let at_name = name_at s.members name b.0 b.1 in
-    let asserted : kind_at made (at s.place (key name)) ≡ Some (st.tells j t there).kind = ap (kind_at made) (sym p) ∙ was_asserted (st.tells j t there) (λ root. not_root s.place (key name) (sym p ∙ root)) in
-    let named : slice_get (map key (names_of s)) at_name.0 ≡ Some (key name) = slice_get-map key (names_of s) at_name.0 ∙ ap (option_map key) at_name.1 in
-    elim (keyed made s.place k.kind (st.tells j t there).kind name st.clear.apart under k.first asserted) [
-      | inl e ↦ none at_name.0 (in_shape s section at_name.0 (key name) (k.shape ∙ e) named)
-      | inr e ↦ none at_name.0 (in_shape s inlined at_name.0 (key name) (k.shape ∙ e) named)
-    ]
-
--- a place that stands is short
-pub short_spot : (made : List Assertion) (written : List Placed) (spots : List Spot) (n : ℕ) (s : Spot) → Stands made written spots → slice_get spots n ≡ Some s → length s.place ≤ 80
-short_spot made written spots n s st here = go s.place refl
-  where
-    go : (p : Place) → s.place ≡ p → length s.place ≤ 80
-    go [] e = subst (λ (q : Place). length q ≤ 80) (sym e) (omega arith)
-    go (x ∷ xs) e = short_at made s.place (st.tells n s here).kind st.clear.short (was_asserted (st.tells n s here) (λ root. let clash : x ∷ xs ≡ [] = sym e ∙ root in cc))
-
--- ---- what a document tells of a node
-
-pub record Whole (d : Shown) (number : ℕ) : Type 0 where
-  pub parts : (step : Step) → ((i : ℕ) → nth_part (view_numbered d number) i ≡ Some step → ⊥) → tree_of d (at (place_numbered d number) step) ≡ None
-  pub stands : (step : Step) (i : ℕ) → nth_part (view_numbered d number) i ≡ Some step → tree_of d (at (place_numbered d number) step) ≡ None → ⊥
-  pub steps : AreSteps (view_numbered d number)
-  pub names : AreNames (view_numbered d number)
-  pub keys : AreKeys (view_numbered d number)
-  pub short : length (place_numbered d number) ≤ 80
-
-whole_of : (d : Shown) (nodes : List Node) (made : List Assertion) (written : List Placed) (n : ℕ) (node : Node) (opens : Opened d nodes) → Found d nodes opens.spots n node → AreUnder made made → Stands made written opens.spots → Whole d n
-whole_of d nodes made written n node opens f under st = record {
-  parts = λ step none.
-      ap (λ (p : Place). tree_of d (at p step)) f.place
-      ∙ ap (λ (ns : List (Place × View)). node_at ns (at f.spot.place step)) opens.nodes_are
-      ∙ node_none opens.spots (at f.spot.place step) (unnumbered made written opens.spots n f.spot step under st f.stands (λ i e. none i (ap (λ (v : View). nth_part v i) view ∙ e)));
-  stands = λ step i numbered none.
-      let b = numbered_below made written opens.spots n f.spot st f.stands i step (sym (ap (λ (v : View). nth_part v i) view) ∙ numbered) in
-      let s = opens.tree.down n b.0.0 f.spot step f.stands b.0.1 in
-      let clash : None ≡ Some (view_of_spot s.0) = sym none ∙ ap (λ (p : Place). tree_of d (at p step)) f.place ∙ ap (tree_of d) (sym s.2) ∙ tree_spot d opens.spots b.0.0 s.0 opens.nodes_are opens.tree s.1 in
-      cc;
-  steps = subst AreSteps (sym view) (λ i step e. (numbered_below made written opens.spots n f.spot st f.stands i step e).1);
-  names = subst AreNames (sym view) (named_below made written opens.spots n f.spot st f.stands);
-  keys = subst AreKeys (sym view) (keys_below made written opens.spots n f.spot st f.stands);
-  short = subst (λ (p : Place). length p ≤ 80) (sym f.place) (short_spot made written opens.spots n f.spot st f.stands);
-}
-  where
-    view : view_numbered d n ≡ view_of_spot f.spot
-    view = view_spot d opens.spots n f.spot opens.nodes_are opens.tree f.stands
-
-pub whole : (inside : Inside) (d : Shown) (n : ℕ) (node : Node) (read : IsRead inside) (view : shown_of inside ≡ d) → IsUtf8 (string_bytes inside.text) → Found d inside.nodes.items (opened inside d read view).spots n node → Whole d n
-unfolding opened
-whole inside d n node read view u f = whole_of d inside.nodes.items (assertions read.form) (map placed (values read.form)) n node (opened inside d read view) f (under_tables read.form) (stands_of inside read u)
+pub numbered_below : (made : List Assertion) (written : List Placed) (spots : List Spot) (n : ℕ) (s : Spot)
+    → Stands made written spots → slice_get spots n ≡ Some s → Parts s s.shape
+numbered_below made written spots n s st here = let t = st.tells n s here in
+    parts_of s s.shape (λ v e. scalar_bare t.kind v (sym t.shape ∙ e))

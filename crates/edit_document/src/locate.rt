@@ -63,6 +63,33 @@ struct Spots {
     next: usize,
 }
 
+impl Spots {
+    /// The statement that stands here, as it stands to a place.
+    fn entry(self, is_own: bool, is_within: bool, is_header: bool, front: Option<usize>) -> Entry
+        ensures { result ≡ record {
+          is_own = is_own;
+          is_within = is_within;
+          is_header = is_header;
+          front = front;
+          line = self.line;
+          key = self.key;
+          after = self.after;
+          next = self.next;
+        } }
+    {
+        Entry {
+            is_own,
+            is_within,
+            is_header,
+            front,
+            line: self.line,
+            key: self.key,
+            after: self.after,
+            next: self.next,
+        }
+    }
+}
+
 /// How the statements so far leave a place: the way of the last header, and how many elements each array of
 /// tables on the way has, by the count of steps.
 #[derive(Drop)]
@@ -104,16 +131,12 @@ impl Standing {
         ensures refused { IfErr result IsMemory }
     {
         let (named, front) = along(alloc, text, place, marks, self.prefix, &[])?;
-        Ok(Entry {
-            is_own: is_at(self.prefix, place),
-            is_within: has_come(named, place),
-            is_header: false,
+        Ok(spots.entry(
+            is_at(self.prefix, place),
+            has_come(named, place),
+            false,
             front,
-            line: spots.line,
-            key: spots.key,
-            after: spots.after,
-            next: spots.next,
-        })
+        ))
     }
 
     /// How a header stands to the place.
@@ -135,16 +158,7 @@ impl Standing {
     {
         let (named, front) = along(alloc, text, place, marks, Way::On(0), &self.counts)?;
         self.prefix = named;
-        Ok(Entry {
-            is_own: is_at(named, place),
-            is_within: has_come(named, place),
-            is_header: true,
-            front,
-            line: spots.line,
-            key: spots.key,
-            after: spots.after,
-            next: spots.next,
-        })
+        Ok(spots.entry(is_at(named, place), has_come(named, place), true, front))
     }
 
     /// How the header of an element stands to the place.
@@ -168,16 +182,7 @@ impl Standing {
         let element = step_index(named, place, count_on(named, &self.counts));
         count_more(&mut self.counts, named)?;
         self.prefix = element;
-        Ok(Entry {
-            is_own: is_at(element, place),
-            is_within: has_come(element, place),
-            is_header: true,
-            front,
-            line: spots.line,
-            key: spots.key,
-            after: spots.after,
-            next: spots.next,
-        })
+        Ok(spots.entry(is_at(element, place), has_come(element, place), true, front))
     }
 
     /// How the next statement stands to the place.

@@ -1,144 +1,19 @@
 -- What a basic string says, run by run and escape by escape.
-use Rattle.std.proofs.Common.{◌≡◌, ℕ, suc, ◌+◌, ◌<◌, ◌≤◌, Bool, true, false, cond, List, [], ◌∷◌, ◌++◌, length, take, drop, get_or, Option, Some, refl, sym, ap, subst, ◌∙◌, append_assoc, true≢false, arith}
-use Rattle.std.specs.Prelude.{encode_utf8, unwrap_or}
+use Rattle.std.proofs.Common.{◌≡◌, ℕ, ◌+◌, ◌<◌, true, false, List, [], ◌∷◌, ◌++◌, length, take, drop, get_or, refl, sym, ap, subst, ◌∙◌, append_assoc, true≢false, arith}
+use Rattle.std.specs.Prelude.{encode_utf8}
 use Rattle.std.specs.List.{prefix_len, AllByRecursion}
 use Rattle.std.specs.Str.{IsUtf8, IsCharBoundary}
-use Rattle.std.specs.Str.Parse.{digits_value}
 use Rattle.std.proofs.lemmas.Bool.Decides.{nat_tests}
-use Rattle.std.proofs.lemmas.List.{take_at, drop_at, length-append, append-nil, nil_from_length}
+use Rattle.std.proofs.lemmas.List.{drop_at, append-nil, nil_from_length}
 use Rattle.std.proofs.lemmas.Str.{IsCharBoundary-at_seam}
-use Rattle.edit_syntax.specs.Characters.{quote, backslash, is_blank, is_basic_ch, is_unescaped, All}
-use Rattle.edit_syntax.specs.Strings.{LineEnd, lf, crlf, line_end, Space, spaces, IsSpace, Piece, plain, letter, short, long, feed, fold, delimiter, piece, pieces, is_escape, is_hex, NamesScalar, IsBasicPiece, IsMultiPiece, IsRawPiece, FoldsAreWhole, begins_with_space, said, says, says_multi}
-use Rattle.edit_syntax.specs.Strings as strings
+use Rattle.edit_syntax.specs.Characters.{quote, is_blank, is_basic_ch, is_unescaped, All}
+use Rattle.edit_syntax.specs.Strings.{LineEnd, lf, crlf, line_end, Space, spaces, Piece, plain, letter, short, long, feed, fold, delimiter, piece, pieces, is_escape, IsBasicPiece, IsMultiPiece, begins_with_space, said, says}
 use Rattle.edit_syntax.specs.Decoding.{IsEscape, IsMarked, FoldStops, is_spacing}
-use Rattle.edit_syntax.specs.Reading.{scalar, first}
-use Rattle.edit_syntax.proofs.TokenLaws.{list_of_all, basic_ch_not, prefix_len_run}
+use Rattle.edit_syntax.specs.Reading.{first}
+use Rattle.edit_syntax.proofs.TokenLaws.{prefix_len_run}
 use Rattle.edit_syntax.proofs.PutBefore.{piece_rest}
 use Rattle.edit_syntax.proofs.DelimitedContents.{Ascii, utf8_behind}
-
--- ---- codes
-
-scalar_of : (n : ℕ) (digits : List ℕ) → NamesScalar n digits → scalar digits ≡ Some (digits_value 16 digits)
-scalar_of n digits h = rw (list_of_all is_hex digits h.1, h.2) refl
-
-pub coded_says : (n : ℕ) (bytes digits rest : List ℕ) (d : ℕ) (r : Option ℕ) → bytes ≡ digits ++ rest → NamesScalar n digits → r ≡ scalar (take n bytes) → unwrap_or r d ≡ digits_value 16 digits
-coded_says n bytes digits rest d r spelled h e =
-    let k : take n bytes ≡ digits = ap (take n) spelled ∙ take_at digits rest n h.0 in
-    let f : r ≡ Some (digits_value 16 digits) = e ∙ ap scalar k ∙ scalar_of n digits h in
-    ap (λ (o : Option ℕ). unwrap_or o d) f
-
-pub coded_enough : (n : ℕ) (bytes digits rest : List ℕ) → bytes ≡ digits ++ rest → NamesScalar n digits → n ≤ length bytes
-coded_enough n bytes digits rest spelled h = omega (arith, ap length spelled, length-append digits rest, h.0)
-
--- ---- runs
-
--- pieces of a basic string, also over several lines
-pub record AreLine (ps : List Piece) : Type 0 where
-  pub all : AllByRecursion IsMultiPiece ps
-  pub folds : FoldsAreWhole ps
-
--- nothing, or a backslash first
-abbrev pub BeginsMarked : List Piece → Type 0
-BeginsMarked [] = Unit {0}
-BeginsMarked (p ∷ ps) = IsMarked p
-
--- the pieces behind the run of plain bytes, of a text that says this
-pub record Behind (bytes said : List ℕ) (rs : List Piece) : Type 0 where
-  pub line : AreLine rs
-  pub rest : drop (prefix_len is_unescaped bytes) bytes ≡ pieces quote rs []
-  pub says : said ≡ take (prefix_len is_unescaped bytes) bytes ++ says quote rs
-  pub begins : BeginsMarked rs
-
-basic_unescaped : (b : ℕ) → is_basic_ch b ≡ true → is_unescaped b ≡ true
-basic_unescaped b h = let k = (basic_ch_not b h).1 in rw k refl
-
-byte_behind : (b : ℕ) (bytes said : List ℕ) (rs : List Piece) → is_unescaped b ≡ true → Behind bytes said rs → Behind (b ∷ bytes) (b ∷ said) rs
-byte_behind b bytes said rs h more =
-    let n = prefix_len is_unescaped bytes in
-    let k : prefix_len is_unescaped (b ∷ bytes) ≡ suc n = rw h (omega arith) in
-    record {
-      line = more.line;
-      rest = rw k more.rest;
-      says = rw k (ap (λ (r : List ℕ). b ∷ r) more.says);
-      begins = more.begins;
-    }
-
-marked_behind : (p : Piece) (qs : List Piece) (bytes : List ℕ) → AreLine (p ∷ qs) → IsMarked p → pieces quote (p ∷ qs) [] ≡ backslash ∷ bytes → Behind (pieces quote (p ∷ qs) []) (says quote (p ∷ qs)) (p ∷ qs)
-marked_behind p qs bytes line marked e =
-    let k : prefix_len is_unescaped (pieces quote (p ∷ qs) []) ≡ 0 = ap (prefix_len is_unescaped) e in
-    record {
-      line = line;
-      rest = rw k refl;
-      says = rw k refl;
-      begins = marked;
-    }
-
-pub run_behind : (qs : List Piece) → AreLine qs → (rs : List Piece) × Behind (pieces quote qs []) (says quote qs) rs
-run_behind [] h = ([], record { line = h; rest = refl; says = refl; begins = tt })
-run_behind (plain b ∷ qs) h =
-    let more = run_behind qs (record { all = h.all.1; folds = h.folds }) in
-    (more.0, byte_behind b (pieces quote qs []) (says quote qs) more.0 (basic_unescaped b h.all.0) more.1)
-run_behind (letter c ∷ qs) h = (letter c ∷ qs, marked_behind (letter c) qs (c ∷ pieces quote qs []) h tt refl)
-run_behind (short digits ∷ qs) h = (short digits ∷ qs, marked_behind (short digits) qs (117 ∷ (digits ++ pieces quote qs [])) h tt refl)
-run_behind (long digits ∷ qs) h = (long digits ∷ qs, marked_behind (long digits) qs (85 ∷ (digits ++ pieces quote qs [])) h tt refl)
-run_behind (feed lf ∷ qs) h =
-    let more = run_behind qs (record { all = h.all.1; folds = h.folds }) in
-    (more.0, byte_behind 10 (pieces quote qs []) (says quote qs) more.0 refl more.1)
-run_behind (feed crlf ∷ qs) h =
-    let more = run_behind qs (record { all = h.all.1; folds = h.folds }) in
-    (more.0, byte_behind 13 (10 ∷ pieces quote qs []) (10 ∷ says quote qs) more.0 refl (byte_behind 10 (pieces quote qs []) (says quote qs) more.0 refl more.1))
-run_behind (fold ws end more ∷ qs) h = (fold ws end more ∷ qs, marked_behind (fold ws end more) qs (ws ++ line_end end (spaces more (pieces quote qs []))) h tt refl)
-run_behind (delimiter ∷ qs) h =
-    let more = run_behind qs (record { all = h.all.1; folds = h.folds }) in
-    (more.0, byte_behind quote (pieces quote qs []) (says quote qs) more.0 refl more.1)
-
-run_stops : (class : ℕ → Bool) (bytes : List ℕ) → (prefix_len class bytes ≤ length bytes) × (prefix_len class bytes < length bytes → class (get_or bytes (prefix_len class bytes) 0) ≡ false)
-run_stops class [] = (omega arith, λ lt. absurd (omega arith))
-run_stops class (b ∷ bytes) = go (class b) refl (run_stops class bytes)
-  where
-    go : (t : Bool) → class b ≡ t → (prefix_len class bytes ≤ length bytes) × (prefix_len class bytes < length bytes → class (get_or bytes (prefix_len class bytes) 0) ≡ false)
-        → (cond t (1 + prefix_len class bytes) 0 ≤ suc (length bytes)) × (cond t (1 + prefix_len class bytes) 0 < suc (length bytes) → class (get_or (b ∷ bytes) (cond t (1 + prefix_len class bytes) 0) 0) ≡ false)
-    go true e more = let k : 1 + prefix_len class bytes ≡ suc (prefix_len class bytes) = omega arith in rw k (let l = more.0 in omega arith, λ lt. more.1 (omega arith))
-    go false e more = (omega arith, λ lt. e)
-
-unescaped_ascii : (b : ℕ) → is_unescaped b ≡ false → b < 128
-unescaped_ascii b h = grind (arith, nat_tests)
-
-pub run_boundary : (bytes : List ℕ) → IsCharBoundary bytes (prefix_len is_unescaped bytes)
-run_boundary bytes = let s = run_stops is_unescaped bytes in (s.0, λ lt high. absurd (let k = unescaped_ascii _ (s.1 lt) in omega arith))
-
-hex_ascii : (b : ℕ) → is_hex b ≡ true → b < 128
-hex_ascii b h = grind (arith, nat_tests)
-
-hexes_ascii : (digits : List ℕ) → All is_hex digits → Ascii (digits ++ [])
-hexes_ascii [] h = tt
-hexes_ascii (b ∷ digits) h = (hex_ascii b h.0, hexes_ascii digits h.1)
-
-letter_ascii : (c : ℕ) → is_escape c ≡ true → c < 128
-letter_ascii c h = grind (arith, nat_tests)
-
--- ---- folds
-
-spacing_ascii : (b : ℕ) → is_spacing b ≡ true → b < 128
-spacing_ascii b h = grind (arith, nat_tests)
-
-blank_spacing : (b : ℕ) → is_blank b ≡ true → is_spacing b ≡ true
-blank_spacing b h = rw h refl
-
-spaces_spacing : (more : List Space) → AllByRecursion IsSpace more → All is_spacing (spaces more [])
-spaces_spacing [] h = tt
-spaces_spacing (strings.blank b ∷ more) h = (blank_spacing b h.0, spaces_spacing more h.1)
-spaces_spacing (strings.break lf ∷ more) h = (refl, spaces_spacing more h.1)
-spaces_spacing (strings.break crlf ∷ more) h = (refl, (refl, spaces_spacing more h.1))
-
-fold_spacing : (ws : List ℕ) (e : LineEnd) (more : List Space) → All is_blank ws → AllByRecursion IsSpace more → All is_spacing (ws ++ line_end e (spaces more []))
-fold_spacing [] lf more hw hm = (refl, spaces_spacing more hm)
-fold_spacing [] crlf more hw hm = (refl, (refl, spaces_spacing more hm))
-fold_spacing (w ∷ ws) e more hw hm = (blank_spacing w hw.0, fold_spacing ws e more hw.1 hm)
-
-spacings_ascii : (bytes : List ℕ) → All is_spacing bytes → Ascii bytes
-spacings_ascii [] h = tt
-spacings_ascii (b ∷ bytes) h = (spacing_ascii b h.0, spacings_ascii bytes h.1)
+use Rattle.edit_syntax.proofs.EscapeRuns.{AreLine, BeginsMarked, run_behind, hexes_ascii, letter_ascii, blank_spacing, fold_spacing, spacings_ascii}
 
 -- ---- one turn
 
@@ -148,26 +23,36 @@ marked_bytes (letter c) marked fine = (omega arith, (letter_ascii c fine, tt))
 marked_bytes (short digits) marked fine = (omega arith, (omega arith, hexes_ascii digits fine.1))
 marked_bytes (long digits) marked fine = (omega arith, (omega arith, hexes_ascii digits fine.1))
 marked_bytes (feed end) marked fine = absurd marked
-marked_bytes (fold ws e more) marked fine = (omega arith, spacings_ascii (ws ++ line_end e (spaces more [])) (fold_spacing ws e more fine.0 fine.1))
+marked_bytes (fold ws e more) marked fine =
+    (omega arith, spacings_ascii (ws ++ line_end e (spaces more [])) (fold_spacing ws e more fine.0 fine.1))
 marked_bytes delimiter marked fine = absurd marked
 
 -- a text may be cut behind an escape and behind a fold
-behind_piece : (p : Piece) (rest bytes : List ℕ) (len : ℕ) → IsMarked p → IsMultiPiece p → IsUtf8 bytes → bytes ≡ piece quote p rest → len ≡ length (piece quote p []) → IsCharBoundary bytes len × (drop len bytes ≡ rest)
+behind_piece : (p : Piece) (rest bytes : List ℕ) (len : ℕ) → IsMarked p → IsMultiPiece p → IsUtf8 bytes
+    → bytes ≡ piece quote p rest → len ≡ length (piece quote p []) → IsCharBoundary bytes len
+    × (drop len bytes ≡ rest)
 behind_piece p rest bytes len marked fine u spelled e =
     let whole = spelled ∙ piece_rest quote p rest in
-    let v = utf8_behind (piece quote p []) rest (marked_bytes p marked fine) (subst IsUtf8 whole u) in
-    (rw e (IsCharBoundary-at_seam bytes (piece quote p []) rest whole v), ap (drop len) whole ∙ drop_at (piece quote p []) rest len (sym e))
+    let v = utf8_behind (piece quote p []) rest (marked_bytes p marked fine) (subst IsUtf8 whole u) in (
+      rw e (IsCharBoundary-at_seam bytes (piece quote p []) rest whole v),
+      ap (drop len) whole ∙
+          drop_at (piece quote p []) rest len (sym e),
+    )
 
 -- how long a fold is
-pub fold_length : (ws : List ℕ) (e : LineEnd) (more : List Space) (rest bytes : List ℕ) (n : ℕ) → IsMultiPiece (fold ws e more) → is_spacing (first rest) ≡ false → bytes ≡ piece quote (fold ws e more) rest → n ≡ prefix_len is_spacing (drop 1 bytes)
+pub fold_length : (ws : List ℕ) (e : LineEnd) (more : List Space) (rest bytes : List ℕ) (n : ℕ)
+    → IsMultiPiece (fold ws e more) → is_spacing (first rest) ≡ false
+    → bytes ≡ piece quote (fold ws e more) rest → n ≡ prefix_len is_spacing (drop 1 bytes)
     → 1 + n ≡ length (piece quote (fold ws e more) [])
 fold_length ws e more rest bytes n fine stops spelled is =
     let run = ws ++ line_end e (spaces more []) in
     let whole : drop 1 bytes ≡ run ++ rest = ap (drop 1) (spelled ∙ piece_rest quote (fold ws e more) rest) in
-    let k : n ≡ length run = is ∙ ap (prefix_len is_spacing) whole ∙ prefix_len_run is_spacing run rest (fold_spacing ws e more fine.0 fine.1) stops in
+    let k : n ≡ length run = is ∙ ap (prefix_len is_spacing) whole ∙
+    prefix_len_run is_spacing run rest (fold_spacing ws e more fine.0 fine.1) stops in
     omega arith
 
-fold_begins : (ws : List ℕ) (e : LineEnd) (more : List Space) (rest : List ℕ) → All is_blank ws → is_spacing (first (ws ++ line_end e (spaces more rest))) ≡ true
+fold_begins : (ws : List ℕ) (e : LineEnd) (more : List Space) (rest : List ℕ) → All is_blank ws
+    → is_spacing (first (ws ++ line_end e (spaces more rest))) ≡ true
 fold_begins [] lf more rest h = refl
 fold_begins [] crlf more rest h = refl
 fold_begins (w ∷ ws) e more rest h = blank_spacing w h.0
@@ -176,20 +61,26 @@ escape_alone : (c : ℕ) → is_escape c ≡ true → is_spacing c ≡ false
 escape_alone c h = grind (arith, nat_tests)
 
 -- behind its backslash white space or a newline comes in a fold alone
-pub marked_next : (p : Piece) (rest : List ℕ) → IsMarked p → IsMultiPiece p → (is_spacing (get_or (piece quote p rest) 1 0) ≡ true → (ws : List ℕ) × (e : LineEnd) × (more : List Space) × (p ≡ fold ws e more)) × (is_spacing (get_or (piece quote p rest) 1 0) ≡ false → IsEscape p × IsBasicPiece p)
+pub marked_next : (p : Piece) (rest : List ℕ) → IsMarked p → IsMultiPiece p
+    → (is_spacing (get_or (piece quote p rest) 1 0) ≡ true → (ws : List ℕ) × (e : LineEnd)
+    × (more : List Space) × (p ≡ fold ws e more))
+    × (is_spacing (get_or (piece quote p rest) 1 0) ≡ false → IsEscape p × IsBasicPiece p)
 marked_next (plain b) rest marked fine = absurd marked
-marked_next (letter c) rest marked fine = ((λ h. absurd (true≢false (sym h ∙ escape_alone c fine))), λ h. (tt, fine))
+marked_next (letter c) rest marked fine =
+    ((λ h. absurd (true≢false (sym h ∙ escape_alone c fine))), λ h. (tt, fine))
 marked_next (short digits) rest marked fine = ((λ h. absurd (true≢false (sym h))), λ h. (tt, fine))
 marked_next (long digits) rest marked fine = ((λ h. absurd (true≢false (sym h))), λ h. (tt, fine))
 marked_next (feed e) rest marked fine = absurd marked
-marked_next (fold ws e more) rest marked fine = ((λ h. (ws, e, more, refl)), λ h. absurd (true≢false (sym (fold_begins ws e more rest fine.0) ∙ h)))
+marked_next (fold ws e more) rest marked fine =
+    ((λ h. (ws, e, more, refl)), λ h. absurd (true≢false (sym (fold_begins ws e more rest fine.0) ∙ h)))
 marked_next delimiter rest marked fine = absurd marked
 
 -- where no white space follows a fold
 basic_alone : (b : ℕ) → is_basic_ch b ≡ true → is_blank b ≡ false → is_spacing b ≡ false
 basic_alone b h other = grind (arith, nat_tests)
 
-spacing_over : (ps : List Piece) → AllByRecursion IsMultiPiece ps → begins_with_space ps ≡ false → is_spacing (first (pieces quote ps [])) ≡ false
+spacing_over : (ps : List Piece) → AllByRecursion IsMultiPiece ps → begins_with_space ps ≡ false
+    → is_spacing (first (pieces quote ps [])) ≡ false
 spacing_over [] h e = refl
 spacing_over (plain b ∷ ps) h e = basic_alone b h.0 e
 spacing_over (letter c ∷ ps) h e = refl
@@ -199,13 +90,15 @@ spacing_over (feed end ∷ ps) h e = absurd (true≢false e)
 spacing_over (fold ws end more ∷ ps) h e = refl
 spacing_over (delimiter ∷ ps) h e = refl
 
-fold_stops : (p : Piece) (ps : List Piece) → AreLine (p ∷ ps) → FoldStops p (first (pieces quote ps [])) × AreLine ps
+fold_stops : (p : Piece) (ps : List Piece) → AreLine (p ∷ ps) → FoldStops p (first (pieces quote ps []))
+    × AreLine ps
 fold_stops (plain b) ps h = (tt, record { all = h.all.1; folds = h.folds })
 fold_stops (letter c) ps h = (tt, record { all = h.all.1; folds = h.folds })
 fold_stops (short digits) ps h = (tt, record { all = h.all.1; folds = h.folds })
 fold_stops (long digits) ps h = (tt, record { all = h.all.1; folds = h.folds })
 fold_stops (feed e) ps h = (tt, record { all = h.all.1; folds = h.folds })
-fold_stops (fold ws e more) ps h = (spacing_over ps h.all.1 h.folds.0, record { all = h.all.1; folds = h.folds.1 })
+fold_stops (fold ws e more) ps h =
+    (spacing_over ps h.all.1 h.folds.0, record { all = h.all.1; folds = h.folds.1 })
 fold_stops delimiter ps h = (tt, record { all = h.all.1; folds = h.folds })
 
 -- what is still to be read says what is missing
@@ -217,11 +110,14 @@ pub record Left (ps : List Piece) (rest out : List ℕ) : Type 0 where
 
 -- what the function that takes a piece promises of it
 abbrev pub Takes : List ℕ → List ℕ → List ℕ → ℕ → Type 0
-Takes tail out new len = (p : Piece) (r : List ℕ) → IsMarked p → IsMultiPiece p → FoldStops p (first r) → tail ≡ piece quote p r → (new ≡ out ++ said quote p) × (len ≡ length (piece quote p []))
+Takes tail out new len = (p : Piece) (r : List ℕ) → IsMarked p → IsMultiPiece p → FoldStops p (first r)
+    → tail ≡ piece quote p r → (new ≡ out ++ said quote p) × (len ≡ length (piece quote p []))
 
-piece_turn : (ps rs : List Piece) (tail out new next : List ℕ) (len : ℕ) → AreLine rs → BeginsMarked rs → tail ≡ pieces quote rs [] → out ++ says quote rs ≡ says quote ps → IsUtf8 tail → 0 < length tail
+piece_turn : (ps rs : List Piece) (tail out new next : List ℕ) (len : ℕ) → AreLine rs → BeginsMarked rs
+    → tail ≡ pieces quote rs [] → out ++ says quote rs ≡ says quote ps → IsUtf8 tail → 0 < length tail
     → Takes tail out new len → (IsCharBoundary tail len → next ≡ drop len tail) → Left ps next new
-piece_turn ps [] tail out new next len line begins spelled says u some takes cut = absurd (omega (arith, ap length spelled))
+piece_turn ps [] tail out new next len line begins spelled says u some takes cut =
+    absurd (omega (arith, ap length spelled))
 piece_turn ps (p ∷ rs) tail out new next len line begins spelled same u some takes cut =
     let f = fold_stops p rs line in
     let a = takes p (pieces quote rs []) begins line.all.0 f.0 spelled in
@@ -230,20 +126,34 @@ piece_turn ps (p ∷ rs) tail out new next len line begins spelled same u some t
       left = rs;
       line = f.1;
       spelled = cut b.0 ∙ b.1;
-      says = ap (λ (e : List ℕ). e ++ says quote rs) a.0 ∙ append_assoc out (said quote p) (says quote rs) ∙ same;
+      says = ap (λ (e : List ℕ). e ++ says quote rs) a.0 ∙ append_assoc out (said quote p) (says quote rs) ∙
+          same;
     }
 
-run_turn : (ps : List Piece) (rest out run tail : List ℕ) (l : Left ps rest out) → run ≡ take (prefix_len is_unescaped rest) rest → tail ≡ drop (prefix_len is_unescaped rest) rest
-    → (rs : List Piece) × AreLine rs × BeginsMarked rs × (tail ≡ pieces quote rs []) × ((out ++ run) ++ says quote rs ≡ says quote ps)
+run_turn : (ps : List Piece) (rest out run tail : List ℕ) (l : Left ps rest out)
+    → run ≡ take (prefix_len is_unescaped rest) rest → tail ≡ drop (prefix_len is_unescaped rest) rest
+    → (rs : List Piece) × AreLine rs × BeginsMarked rs × (tail ≡ pieces quote rs [])
+    × ((out ++ run) ++ says quote rs ≡ says quote ps)
 run_turn ps rest out run tail l front back =
     let b = run_behind l.left l.line in
     let bytes = pieces quote l.left [] in
-    let f : run ≡ take (prefix_len is_unescaped bytes) bytes = front ∙ ap (λ (r : List ℕ). take (prefix_len is_unescaped r) r) l.spelled in
-    let t : tail ≡ pieces quote b.0 [] = back ∙ ap (λ (r : List ℕ). drop (prefix_len is_unescaped r) r) l.spelled ∙ b.1.rest in
-    (b.0, b.1.line, b.1.begins, t, append_assoc out run (says quote b.0) ∙ ap (λ (r : List ℕ). out ++ (r ++ says quote b.0)) f ∙ ap (λ (r : List ℕ). out ++ r) (sym b.1.says) ∙ l.says)
+    let f : run ≡ take (prefix_len is_unescaped bytes) bytes = front ∙
+    ap (λ (r : List ℕ). take (prefix_len is_unescaped r) r) l.spelled in
+    let t : tail ≡ pieces quote b.0 [] = back ∙
+    ap (λ (r : List ℕ). drop (prefix_len is_unescaped r) r) l.spelled ∙ b.1.rest in (
+      b.0,
+      b.1.line,
+      b.1.begins,
+      t,
+      append_assoc out run (says quote b.0) ∙
+          ap (λ (r : List ℕ). out ++ (r ++ says quote b.0)) f ∙ ap (λ (r : List ℕ). out ++ r) (sym b.1.says) ∙
+          l.says,
+    )
 
 -- a run and an escape or a fold were read
-pub turn : (ps : List Piece) (rest out run tail new next : List ℕ) (len : ℕ) → Left ps rest out → run ≡ take (prefix_len is_unescaped rest) rest → tail ≡ drop (prefix_len is_unescaped rest) rest → IsUtf8 tail → 0 < length tail
+pub turn : (ps : List Piece) (rest out run tail new next : List ℕ) (len : ℕ) → Left ps rest out
+    → run ≡ take (prefix_len is_unescaped rest) rest → tail ≡ drop (prefix_len is_unescaped rest) rest
+    → IsUtf8 tail → 0 < length tail
     → Takes tail (out ++ run) new len → (IsCharBoundary tail len → next ≡ drop len tail) → Left ps next new
 turn ps rest out run tail new next len l front back u some takes cut =
     let r = run_turn ps rest out run tail l front back in
@@ -260,14 +170,18 @@ last_says (fold ws end more ∷ rs) begins e = absurd cc
 last_says (delimiter ∷ rs) begins e = absurd begins
 
 -- the last run was read
-pub done : (ps : List Piece) (rest out run tail : List ℕ) → Left ps rest out → run ≡ take (prefix_len is_unescaped rest) rest → tail ≡ drop (prefix_len is_unescaped rest) rest → length tail ≡ 0 → out ++ run ≡ says quote ps
+pub done : (ps : List Piece) (rest out run tail : List ℕ) → Left ps rest out
+    → run ≡ take (prefix_len is_unescaped rest) rest → tail ≡ drop (prefix_len is_unescaped rest) rest
+    → length tail ≡ 0 → out ++ run ≡ says quote ps
 done ps rest out run tail l front back over =
     let r = run_turn ps rest out run tail l front back in
     let none : says quote r.0 ≡ [] = last_says r.0 r.2 (sym r.3 ∙ nil_from_length tail over) in
     sym (append-nil (out ++ run)) ∙ ap (λ (t : List ℕ). (out ++ run) ++ t) (sym none) ∙ r.4
 
 -- a fold was taken
-pub fold_taken : (p : Piece) (rest bytes out : List ℕ) (n : ℕ) → IsMarked p → IsMultiPiece p → FoldStops p (first rest) → bytes ≡ piece quote p rest → is_spacing (get_or bytes 1 0) ≡ true → n ≡ prefix_len is_spacing (drop 1 bytes)
+pub fold_taken : (p : Piece) (rest bytes out : List ℕ) (n : ℕ) → IsMarked p → IsMultiPiece p
+    → FoldStops p (first rest) → bytes ≡ piece quote p rest → is_spacing (get_or bytes 1 0) ≡ true
+    → n ≡ prefix_len is_spacing (drop 1 bytes)
     → (out ≡ out ++ said quote p) × (1 + n ≡ length (piece quote p []))
 fold_taken p rest bytes out n marked fine stops spelled here is =
     let f = (marked_next p rest marked fine).0 (rw spelled at here) in
@@ -278,8 +192,10 @@ fold_taken p rest bytes out n marked fine stops spelled here is =
     rw f.3 (sym (append-nil out), fold_length f.0 f.1 f.2 rest bytes n fine2 stops2 spelled2 is)
 
 -- an escape was taken
-pub escape_taken : (p : Piece) (rest bytes out new : List ℕ) (named n : ℕ) → IsMarked p → IsMultiPiece p → bytes ≡ piece quote p rest → is_spacing (get_or bytes 1 0) ≡ false → new ≡ out ++ encode_utf8 named
-    → (IsEscape p → IsBasicPiece p → (encode_utf8 named ≡ said quote p) × (n ≡ length (piece quote p []))) → (new ≡ out ++ said quote p) × (n ≡ length (piece quote p []))
+pub escape_taken : (p : Piece) (rest bytes out new : List ℕ) (named n : ℕ) → IsMarked p → IsMultiPiece p
+    → bytes ≡ piece quote p rest → is_spacing (get_or bytes 1 0) ≡ false → new ≡ out ++ encode_utf8 named
+    → (IsEscape p → IsBasicPiece p → (encode_utf8 named ≡ said quote p) × (n ≡ length (piece quote p [])))
+    → (new ≡ out ++ said quote p) × (n ≡ length (piece quote p []))
 escape_taken p rest bytes out new named n marked fine spelled other pushed names =
     let e = (marked_next p rest marked fine).1 (rw spelled at other) in
     let a = names e.0 e.1 in

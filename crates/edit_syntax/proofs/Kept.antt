@@ -32,18 +32,21 @@ boundary_is bytes i at = elim (cases_lt i (length bytes)) [
 boundary_from : (bytes : List ℕ) (i : ℕ) → is_boundary bytes i ≡ true → IsCharBoundary bytes i
 boundary_from bytes i e = (grind (arith, nat_tests), λ lt high. grind (arith, nat_tests))
 
-pub cut_is : (bytes : List ℕ) (i j : ℕ) → i ≤ j → IsCharBoundary bytes i → IsCharBoundary bytes j → cut_from bytes i j ≡ slice_range bytes i j
+pub cut_is : (bytes : List ℕ) (i j : ℕ) → i ≤ j → IsCharBoundary bytes i → IsCharBoundary bytes j
+    → cut_from bytes i j ≡ slice_range bytes i j
 cut_is bytes i j le from to =
     let a : nat_le i j ≡ true = grind (arith, nat_tests) in
     rw (a, boundary_is bytes i from, boundary_is bytes j to) refl
 
-pub cut_none : (bytes : List ℕ) (i j : ℕ) → (i ≤ j → IsCharBoundary bytes i → IsCharBoundary bytes j → ⊥) → cut_from bytes i j ≡ []
+pub cut_none : (bytes : List ℕ) (i j : ℕ) → (i ≤ j → IsCharBoundary bytes i → IsCharBoundary bytes j → ⊥)
+    → cut_from bytes i j ≡ []
 cut_none bytes i j not = go (nat_le i j) (is_boundary bytes i) (is_boundary bytes j) refl refl refl
   where
     ordered : nat_le i j ≡ true → i ≤ j
     ordered e = grind (arith, nat_tests)
 
-    go : (a b c : Bool) → nat_le i j ≡ a → is_boundary bytes i ≡ b → is_boundary bytes j ≡ c → cond ((a && b) && c) (slice_range bytes i j) [] ≡ []
+    go : (a b c : Bool) → nat_le i j ≡ a → is_boundary bytes i ≡ b → is_boundary bytes j ≡ c
+        → cond ((a && b) && c) (slice_range bytes i j) [] ≡ []
     go true true true e f g = absurd (not (ordered e) (boundary_from bytes i f) (boundary_from bytes j g))
     go true true false e f g = refl
     go true false c e f g = refl
@@ -51,7 +54,8 @@ cut_none bytes i j not = go (nat_le i j) (is_boundary bytes i) (is_boundary byte
 
 -- what is cut out has as many bytes as lie between its ends, or none
 pub cut_length : (bytes : List ℕ) (i j n : ℕ) → length (cut_from bytes i j) ≡ n → 0 < n → n ≡ j - i
-cut_length bytes i j n long some = go (nat_le i j) (is_boundary bytes i) (is_boundary bytes j) refl refl refl long
+cut_length bytes i j n long some = go (nat_le i j) (is_boundary bytes i)
+    (is_boundary bytes j) refl refl refl long
   where
     none : 0 ≡ n → n ≡ j - i
     none e = absurd (omega arith)
@@ -63,7 +67,8 @@ cut_length bytes i j n long some = go (nat_le i j) (is_boundary bytes i) (is_bou
         let fits : j - i ≤ length (drop i bytes) = omega arith in
         sym e ∙ length-take-le (j - i) (drop i bytes) fits
 
-    go : (a b c : Bool) → nat_le i j ≡ a → is_boundary bytes i ≡ b → is_boundary bytes j ≡ c → length (cond ((a && b) && c) (slice_range bytes i j) []) ≡ n → n ≡ j - i
+    go : (a b c : Bool) → nat_le i j ≡ a → is_boundary bytes i ≡ b → is_boundary bytes j ≡ c
+        → length (cond ((a && b) && c) (slice_range bytes i j) []) ≡ n → n ≡ j - i
     go true true true e f g h = whole g h
     go true true false e f g h = none h
     go true false c e f g h = none h
@@ -75,13 +80,17 @@ unequal a b r long off = go (bytes_eq a b) refl
   where
     go : (x : Bool) → bytes_eq a b ≡ x → false ≡ x
     go false e = refl
-    go true e = absurd (let clash : false ≡ true = sym off ∙ long (sym (ap length ((bytes_eq-Decides a b).0 e))) in cc)
+    go true e = absurd (let clash : false ≡ true = sym off ∙
+        long (sym (ap length ((bytes_eq-Decides a b).0 e))) in cc)
 
 -- ---- contents that are kept
 
 -- the span from behind a token's opening delimiter to before its closing one
-pub content_kept : (kind : MarkKind) (bytes before content rest said : List ℕ) (from width : ℕ) (span : Span) → IsUtf8 bytes → bytes ≡ before ++ delimited kind content rest → from ≡ length (delimited kind content rest)
-    → Says kind content said → width ≡ length (decoding.delimiter kind) → span.from ≡ from - width → span.to ≡ length rest + width → bytes_at bytes span ≡ content
+pub content_kept : (kind : MarkKind) (bytes before content rest said : List ℕ) (from width : ℕ) (span : Span)
+    → IsUtf8 bytes → bytes ≡ before ++ delimited kind content rest
+    → from ≡ length (delimited kind content rest)
+    → Says kind content said → width ≡ length (decoding.delimiter kind) → span.from ≡ from - width
+    → span.to ≡ length rest + width → bytes_at bytes span ≡ content
 unfolding bytes_at
 content_kept kind bytes before content rest said from width span u spelled start says wide first last =
     let d = decoding.delimiter kind in
@@ -92,16 +101,23 @@ content_kept kind bytes before content rest said from width span u spelled start
     let m = length-append d rest in
     let i = length bytes - span.from in
     let j = length bytes - span.to in
-    let at = content_found kind bytes before content rest said i j u spelled says (omega arith) (omega arith) in
+    let at = content_found kind bytes before content rest said i j u spelled says (omega arith)
+    (omega arith) in
     cut_is bytes i j at.ordered at.from at.to ∙ at.cut
 
 -- a content without a backslash says itself
-pub plain_line : (content said : List ℕ) → LineSays content said → length content ≤ prefix_len is_unescaped content → content ≡ said
+pub plain_line : (content said : List ℕ) → LineSays content said
+    → length content ≤ prefix_len is_unescaped content → content ≡ said
 plain_line content said (ps, all, folds, spelled, says) le =
     let n = prefix_len is_unescaped content in
-    done ps content [] content [] (record { left = ps; line = record { all = all; folds = folds }; spelled = spelled; says = refl }) (sym (take_all n content le)) (sym (drop_all n content le)) refl ∙ sym says
+    done ps content [] content []
+    (record { left = ps; line = record { all = all; folds = folds }; spelled = spelled; says = refl })
+    (sym (take_all n content le)) (sym (drop_all n content le)) refl ∙ sym says
 
 -- the content of a basic string without a backslash
-pub plain_basic : (kind : MarkKind) (content said : List ℕ) → (kind ≡ BasicPart) ⊎ (kind ≡ BasicString) → Says kind content said → length content ≤ prefix_len is_unescaped content → content ≡ said
-plain_basic kind content said (inl e) h le = plain_line content said (basic_line content said (subst (λ (k : MarkKind). Says k content said) e h)) le
-plain_basic kind content said (inr e) h le = plain_line content said (basic_line content said (subst (λ (k : MarkKind). Says k content said) e h)) le
+pub plain_basic : (kind : MarkKind) (content said : List ℕ) → (kind ≡ BasicPart) ⊎ (kind ≡ BasicString)
+    → Says kind content said → length content ≤ prefix_len is_unescaped content → content ≡ said
+plain_basic kind content said (inl e) h le = plain_line content said
+    (basic_line content said (subst (λ (k : MarkKind). Says k content said) e h)) le
+plain_basic kind content said (inr e) h le = plain_line content said
+    (basic_line content said (subst (λ (k : MarkKind). Says k content said) e h)) le

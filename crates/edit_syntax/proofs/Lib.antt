@@ -8,18 +8,23 @@ pub mod MultiLoops
 pub mod Codes
 pub mod TokenLaws
 pub mod KeyLaws
+pub mod FoldLaws
 pub mod MultiLaws
+pub mod PieceReadAgain
 pub mod MultiReadAgain
+pub mod DigitLaws
 pub mod NumberLaws
 pub mod NumberReadAgain
 pub mod NumberEnds
 pub mod DateReadAgain
 -- Values and lines
 pub mod GapLaws
+pub mod ScalarLaws
 pub mod ValueLaws
 pub mod ValueReadAgain
 pub mod MembersReadAgain
 pub mod LineLaws
+pub mod TextLaws
 pub mod LineSound
 pub mod ValueEdges
 pub mod StepLaws
@@ -30,6 +35,7 @@ pub mod NotedValues
 pub mod NotedElements
 pub mod NotedLines
 -- What tokens say
+pub mod EscapeRuns
 pub mod Escapes
 pub mod LineContents
 pub mod DelimitedContents

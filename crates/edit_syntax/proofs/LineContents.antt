@@ -9,14 +9,18 @@ use Rattle.edit_syntax.specs.Strings.{lf, crlf, Piece, plain, letter, short, lon
 use Rattle.edit_syntax.specs.Decoding.{BasicSays, LineSays, RawSays, past_break}
 use Rattle.edit_syntax.specs.Reading.{first}
 use Rattle.edit_syntax.proofs.TokenLaws.{AreBasic}
-use Rattle.edit_syntax.proofs.Escapes.{AreLine}
+use Rattle.edit_syntax.proofs.EscapeRuns.{AreLine}
 
 basic_folds : (ps : List Piece) → AreBasic ps → AreLine ps
 basic_folds [] h = record { all = tt; folds = tt }
-basic_folds (plain b ∷ ps) h = let more = basic_folds ps h.1 in record { all = (h.0, more.all); folds = more.folds }
-basic_folds (letter c ∷ ps) h = let more = basic_folds ps h.1 in record { all = (h.0, more.all); folds = more.folds }
-basic_folds (short digits ∷ ps) h = let more = basic_folds ps h.1 in record { all = (h.0, more.all); folds = more.folds }
-basic_folds (long digits ∷ ps) h = let more = basic_folds ps h.1 in record { all = (h.0, more.all); folds = more.folds }
+basic_folds (plain b ∷ ps) h = let more = basic_folds ps h.1 in
+    record { all = (h.0, more.all); folds = more.folds }
+basic_folds (letter c ∷ ps) h = let more = basic_folds ps h.1 in
+    record { all = (h.0, more.all); folds = more.folds }
+basic_folds (short digits ∷ ps) h = let more = basic_folds ps h.1 in
+    record { all = (h.0, more.all); folds = more.folds }
+basic_folds (long digits ∷ ps) h = let more = basic_folds ps h.1 in
+    record { all = (h.0, more.all); folds = more.folds }
 basic_folds (feed e ∷ ps) h = absurd h.0
 basic_folds (fold ws e more ∷ ps) h = absurd h.0
 basic_folds (delimiter ∷ ps) h = absurd h.0
@@ -44,9 +48,11 @@ raw_says (delimiter ∷ ps) h = ap (λ (r : List ℕ). apostrophe ∷ r) (raw_sa
 pub raw_content : (content said : List ℕ) → RawSays content said → past_break content ≡ said
 raw_content content said (ps, all, spelled, says) = ap past_break spelled ∙ go ps all ∙ sym says
   where
-    go : (qs : List Piece) → AllByRecursion IsRawPiece qs → past_break (pieces apostrophe qs []) ≡ says_multi apostrophe qs
+    go : (qs : List Piece) → AllByRecursion IsRawPiece qs
+        → past_break (pieces apostrophe qs []) ≡ says_multi apostrophe qs
     go [] all = refl
-    go (plain b ∷ qs) all = let k = literal_no_break b all.0 in rw (k.0, k.1) (sym (raw_says (plain b ∷ qs) all))
+    go (plain b ∷ qs) all = let k = literal_no_break b all.0 in
+        rw (k.0, k.1) (sym (raw_says (plain b ∷ qs) all))
     go (letter c ∷ qs) all = absurd all.0
     go (short digits ∷ qs) all = absurd all.0
     go (long digits ∷ qs) all = absurd all.0
@@ -56,11 +62,14 @@ raw_content content said (ps, all, spelled, says) = ap past_break spelled ∙ go
     go (delimiter ∷ qs) all = sym (raw_says (delimiter ∷ qs) all)
 
 -- where a text is cut behind a newline that comes first
-pub break_one : (text : List ℕ) → IsUtf8 text → first text ≡ 10 → IsCharBoundary text 1 × (past_break text ≡ drop 1 text)
+pub break_one : (text : List ℕ) → IsUtf8 text → first text ≡ 10 → IsCharBoundary text 1
+    × (past_break text ≡ drop 1 text)
 break_one [] u e = absurd (omega arith)
 break_one (b ∷ text) u e = (IsCharBoundary-after_ascii (b ∷ text) 0 u (omega arith) (omega arith), rw e refl)
 
-pub break_two : (text : List ℕ) → IsUtf8 text → first text ≡ 13 → get_or text 1 0 ≡ 10 → IsCharBoundary text 2 × (past_break text ≡ drop 2 text)
+pub break_two : (text : List ℕ) → IsUtf8 text → first text ≡ 13 → get_or text 1 0 ≡ 10 → IsCharBoundary text 2
+    × (past_break text ≡ drop 2 text)
 break_two [] u e f = absurd (omega arith)
 break_two (b ∷ []) u e f = absurd (omega arith)
-break_two (b ∷ c ∷ text) u e f = (IsCharBoundary-after_ascii (b ∷ (c ∷ text)) 1 u (omega arith) (omega arith), rw (e, f) refl)
+break_two (b ∷ c ∷ text) u e f =
+    (IsCharBoundary-after_ascii (b ∷ (c ∷ text)) 1 u (omega arith) (omega arith), rw (e, f) refl)

@@ -1,21 +1,19 @@
--- The laws of lines and texts.
-use Rattle.std.proofs.Common.{◌≡◌, ℕ, zero, suc, ◌+◌, ◌≤◌, Bool, true, false, eqb, List, [], ◌∷◌, ◌++◌, length, slice_index, drop, Option, Some, None, refl, ap, ◌∙◌, arith, cond}
-use Rattle.std.proofs.lemmas.Bool.{and_parts}
+-- The laws of lines.
+use Rattle.std.proofs.Common.{◌≡◌, ℕ, zero, suc, ◌+◌, ◌≤◌, true, false, eqb, List, [], ◌∷◌, ◌++◌, length, slice_index, Option, Some, None, refl, arith}
 use Rattle.std.proofs.lemmas.Bool.Decides.{nat_tests}
 use Rattle.std.proofs.lemmas.List.{length-append}
 use Rattle.edit_syntax.specs.Characters.{line_feed, carriage_return, hash, equals, left_bracket, right_bracket, is_blank, is_bare, is_ch, All}
 use Rattle.edit_syntax.specs.Strings.{LineEnd, lf, crlf, line_end, Part, bare, basic_part, literal_part, part, IsPart, Key, key, dotted, IsKey}
-use Rattle.edit_syntax.specs.Grammar.{value, Statement, pair, header, element_header, statement, IsStatement, comment, IsComment, Line, empty_line, full_line, line, IsLine, Lines, one_line, more_lines, lines, AreLines, Text, text, byte_order_mark, Spells}
-use Rattle.edit_syntax.specs.Depth.{lines_depth, text_depth}
-use Rattle.edit_syntax.specs.Reading.{◌>>=◌, first, Pair, value_at, header_at, element_header_at, statement_at, comment_front, past_comment, is_line_over, line_at, lines_at, is_marked, past_mark, read_text}
-use Rattle.edit_syntax.proofs.TokenLaws.{first_is, at_drop, front_again, after_again}
+use Rattle.edit_syntax.specs.Grammar.{value, Statement, pair, header, element_header, statement, IsStatement, comment, IsComment, Line, empty_line, full_line, line, Lines, one_line, more_lines, lines, text}
+use Rattle.edit_syntax.specs.Reading.{first, Pair, value_at, header_at, element_header_at, statement_at, comment_front, past_comment, is_line_over, line_at, lines_at}
+use Rattle.edit_syntax.proofs.TokenLaws.{front_again, after_again}
 use Rattle.edit_syntax.proofs.KeyLaws.{key_again, ends_key}
 use Rattle.edit_syntax.proofs.ValueLaws.{IsPair}
-use Rattle.edit_syntax.proofs.MultiLaws.{line_end_again}
+use Rattle.edit_syntax.proofs.FoldLaws.{line_end_again}
 use Rattle.edit_syntax.proofs.ValueReadAgain.{value_again}
 use Rattle.edit_syntax.proofs.MembersReadAgain.{pair_again, key_first, pair_longer, key_longer, value_longer}
 use Rattle.edit_syntax.proofs.NumberEnds.{EndsValue, ends_value, is_stop}
-use Rattle.edit_syntax.proofs.LineSound.{IsGoodStatement, IsGoodLine, AreGoodLines, lines_sound}
+use Rattle.edit_syntax.proofs.LineSound.{IsGoodStatement, IsGoodLine, AreGoodLines}
 
 -- ---- what is spelled so is read
 
@@ -33,11 +31,14 @@ pub end_of_line : (e : LineEnd) (rest : List ℕ) → EndsLine (line_end e rest)
 end_of_line lf rest = record { no_ch = refl; no_comment = refl; no_blank = refl; over = refl }
 end_of_line crlf rest = record { no_ch = refl; no_comment = refl; no_blank = refl; over = refl }
 
-comment_again : (c : Option (List ℕ)) (rest : List ℕ) → IsComment c → EndsLine rest → (comment_front (comment c rest) ≡ c) × (past_comment (comment c rest) ≡ rest)
+comment_again : (c : Option (List ℕ)) (rest : List ℕ) → IsComment c → EndsLine rest
+    → (comment_front (comment c rest) ≡ c) × (past_comment (comment c rest) ≡ rest)
 comment_again None rest h ends = (rw ends.no_comment refl, rw ends.no_comment refl)
-comment_again (Some text) rest h ends = (rw (front_again is_ch text rest h ends.no_ch) refl, after_again is_ch text rest h ends.no_ch)
+comment_again (Some text) rest h ends =
+    (rw (front_again is_ch text rest h ends.no_ch) refl, after_again is_ch text rest h ends.no_ch)
 
-comment_first : (c : Option (List ℕ)) (rest : List ℕ) → EndsLine rest → (is_blank (first (comment c rest)) ≡ false) × (is_line_over (first (comment c rest)) ≡ true)
+comment_first : (c : Option (List ℕ)) (rest : List ℕ) → EndsLine rest
+    → (is_blank (first (comment c rest)) ≡ false) × (is_line_over (first (comment c rest)) ≡ true)
 comment_first None rest ends = (ends.no_blank, ends.over)
 comment_first (Some text) rest ends = (refl, refl)
 
@@ -47,71 +48,111 @@ over_stop b h = grind (arith, nat_tests)
 bare_starts : (b : ℕ) → is_bare b ≡ true → (is_line_over b ≡ false) × (eqb b left_bracket ≡ false)
 bare_starts b h = (grind (arith, nat_tests), grind (arith, nat_tests))
 
-part_starts : (k : Part) (rest : List ℕ) → IsPart k → (is_line_over (first (part k rest)) ≡ false) × (eqb (first (part k rest)) left_bracket ≡ false)
+part_starts : (k : Part) (rest : List ℕ) → IsPart k → (is_line_over (first (part k rest)) ≡ false)
+    × (eqb (first (part k rest)) left_bracket ≡ false)
 part_starts (bare []) rest h = absurd (omega (arith, h.0))
 part_starts (bare (b ∷ text)) rest h = bare_starts b h.1.0
 part_starts (basic_part ps) rest h = (refl, refl)
 part_starts (literal_part text) rest h = (refl, refl)
 
-key_starts : (k : Key) (rest : List ℕ) → IsKey k → (is_line_over (first (key k rest)) ≡ false) × (eqb (first (key k rest)) left_bracket ≡ false)
+key_starts : (k : Key) (rest : List ℕ) → IsKey k → (is_line_over (first (key k rest)) ≡ false)
+    × (eqb (first (key k rest)) left_bracket ≡ false)
 key_starts k rest h = part_starts k.first (dotted k.others rest) h.0
 
-statement_first : (s : Statement) (rest : List ℕ) → IsStatement s → (is_blank (first (statement s rest)) ≡ false) × (is_line_over (first (statement s rest)) ≡ false)
+statement_first : (s : Statement) (rest : List ℕ) → IsStatement s
+    → (is_blank (first (statement s rest)) ≡ false) × (is_line_over (first (statement s rest)) ≡ false)
 statement_first (pair k a b v) rest h = ((key_first k _ h.0).0, (key_starts k _ h.0).0)
 statement_first (header a k b) rest h = (refl, refl)
 statement_first (element_header a k b) rest h = (refl, refl)
 
 -- white space or a key stands behind the bracket of a header
-not_double : (a tail : List ℕ) → All is_blank a → eqb (first tail) left_bracket ≡ false → eqb (first (a ++ tail)) left_bracket ≡ false
+not_double : (a tail : List ℕ) → All is_blank a → eqb (first tail) left_bracket ≡ false
+    → eqb (first (a ++ tail)) left_bracket ≡ false
 not_double [] tail h e = e
 not_double (c ∷ a) tail h e = grind (arith, nat_tests, h.0)
 
-header_again : (a : List ℕ) (k : Key) (b rest : List ℕ) → All is_blank a → IsKey k → All is_blank b → header_at (statement (header a k b) rest) ≡ Some (header a k b, rest)
+header_again : (a : List ℕ) (k : Key) (b rest : List ℕ) → All is_blank a → IsKey k → All is_blank b
+    → header_at (statement (header a k b) rest) ≡ Some (header a k b, rest)
 unfolding header_at
 header_again a k b rest ha hk hb =
     let end = right_bracket ∷ rest in
     let one = key_again k (b ++ end) hk (ends_key b right_bracket rest hb refl refl refl) in
     let begins = (key_first k (b ++ end) hk).0 in
-    rw (after_again is_blank a (key k (b ++ end)) ha begins, front_again is_blank a (key k (b ++ end)) ha begins, one, after_again is_blank b end hb refl, front_again is_blank b end hb refl) refl
+    rw (
+      after_again is_blank a (key k (b ++ end)) ha begins,
+      front_again is_blank a (key k (b ++ end)) ha begins,
+      one,
+      after_again is_blank b end hb refl,
+      front_again is_blank b end hb refl,
+    ) refl
 
-element_again : (a : List ℕ) (k : Key) (b rest : List ℕ) → All is_blank a → IsKey k → All is_blank b → element_header_at (statement (element_header a k b) rest) ≡ Some (element_header a k b, rest)
+element_again : (a : List ℕ) (k : Key) (b rest : List ℕ) → All is_blank a → IsKey k → All is_blank b
+    → element_header_at (statement (element_header a k b) rest) ≡ Some (element_header a k b, rest)
 unfolding element_header_at
 element_again a k b rest ha hk hb =
     let end = right_bracket ∷ (right_bracket ∷ rest) in
     let one = key_again k (b ++ end) hk (ends_key b right_bracket (right_bracket ∷ rest) hb refl refl refl) in
     let begins = (key_first k (b ++ end) hk).0 in
-    rw (after_again is_blank a (key k (b ++ end)) ha begins, front_again is_blank a (key k (b ++ end)) ha begins, one, after_again is_blank b end hb refl, front_again is_blank b end hb refl) refl
+    rw (
+      after_again is_blank a (key k (b ++ end)) ha begins,
+      front_again is_blank a (key k (b ++ end)) ha begins,
+      one,
+      after_again is_blank b end hb refl,
+      front_again is_blank b end hb refl,
+    ) refl
 
-pub statement_again : (n : ℕ) (s : Statement) (rest : List ℕ) → IsGoodStatement n s → EndsValue rest → statement_at n (statement s rest) ≡ Some (s, rest)
+pub statement_again : (n : ℕ) (s : Statement) (rest : List ℕ) → IsGoodStatement n s → EndsValue rest
+    → statement_at n (statement s rest) ≡ Some (s, rest)
 unfolding statement_at
 statement_again n (pair k a b v) rest good ends =
     let h = good.valid in
     let p : Pair = record { key = k; before = a; behind = b; value = v } in
-    let hp : IsPair n p = record { key = h.0; before = h.1; behind = h.2; value = record { valid = h.3; shallow = good.shallow } } in
+    let hp : IsPair n p =
+    record { key = h.0; before = h.1; behind = h.2; value = record { valid = h.3; shallow = good.shallow } }
+    in
     let one = pair_again n (value_at n) p rest hp (value_again v n h.3 good.shallow) ends in
     rw ((key_starts k (a ++ (equals ∷ (b ++ value v rest))) h.0).1, one) refl
 statement_again n (header a k b) rest good ends =
     let h = good.valid in
     let tail = key k (b ++ (right_bracket ∷ rest)) in
-    let single : eqb (slice_index (left_bracket ∷ (a ++ tail)) 1) left_bracket ≡ false = not_double a tail h.0 (key_starts k (b ++ (right_bracket ∷ rest)) h.1).1 in
+    let single : eqb (slice_index (left_bracket ∷ (a ++ tail)) 1) left_bracket ≡ false =
+    not_double a tail h.0 (key_starts k (b ++ (right_bracket ∷ rest)) h.1).1 in
     rw (single, header_again a k b rest h.0 h.1 h.2) refl
-statement_again n (element_header a k b) rest good ends = let h = good.valid in rw (element_again a k b rest h.0 h.1 h.2) refl
+statement_again n (element_header a k b) rest good ends = let h = good.valid in
+    rw (element_again a k b rest h.0 h.1 h.2) refl
 
-pub line_again : (n : ℕ) (l : Line) (rest : List ℕ) → IsGoodLine n l → EndsLine rest → line_at n (line l rest) ≡ Some (l, rest)
+pub line_again : (n : ℕ) (l : Line) (rest : List ℕ) → IsGoodLine n l → EndsLine rest
+    → line_at n (line l rest) ≡ Some (l, rest)
 unfolding line_at
 line_again n (empty_line a c) rest good ends =
     let h = good.valid in
     let begins = comment_first c rest ends in
     let more = comment_again c rest h.1 ends in
-    rw (after_again is_blank a (comment c rest) h.0 begins.0, front_again is_blank a (comment c rest) h.0 begins.0, begins.1, more.0, more.1) refl
+    rw (
+      after_again is_blank a (comment c rest) h.0 begins.0,
+      front_again is_blank a (comment c rest) h.0 begins.0,
+      begins.1,
+      more.0,
+      more.1,
+    ) refl
 line_again n (full_line a s b c) rest good ends =
     let h = good.valid in
     let tail = comment c rest in
     let begins = comment_first c rest ends in
     let more = comment_again c rest h.3 ends in
     let starts = statement_first s (b ++ tail) h.1 in
-    let one = statement_again n s (b ++ tail) (record { valid = h.1; shallow = good.shallow }) (ends_value b tail h.2 (over_stop (first tail) begins.1)) in
-    rw (after_again is_blank a (statement s (b ++ tail)) h.0 starts.0, front_again is_blank a (statement s (b ++ tail)) h.0 starts.0, starts.1, one, after_again is_blank b tail h.2 begins.0, front_again is_blank b tail h.2 begins.0, more.0, more.1) refl
+    let one = statement_again n s (b ++ tail) (record { valid = h.1; shallow = good.shallow })
+    (ends_value b tail h.2 (over_stop (first tail) begins.1)) in
+    rw (
+      after_again is_blank a (statement s (b ++ tail)) h.0 starts.0,
+      front_again is_blank a (statement s (b ++ tail)) h.0 starts.0,
+      starts.1,
+      one,
+      after_again is_blank b tail h.2 begins.0,
+      front_again is_blank b tail h.2 begins.0,
+      more.0,
+      more.1,
+    ) refl
 
 abbrev pub count_lines : Lines → ℕ
 count_lines (one_line l) = 1
@@ -124,27 +165,45 @@ not_over : (e : LineEnd) (rest : List ℕ) → eqb (length (line_end e rest)) 0 
 not_over lf rest = suc_not_zero (length rest)
 not_over crlf rest = suc_not_zero (suc (length rest))
 
-pub first_good : (n : ℕ) (l : Line) (e : LineEnd) (ls : Lines) → AreGoodLines n (more_lines l e ls) → IsGoodLine n l
+pub first_good : (n : ℕ) (l : Line) (e : LineEnd) (ls : Lines) → AreGoodLines n (more_lines l e ls)
+    → IsGoodLine n l
 first_good n l e ls h = record { valid = h.valid.0; shallow = let k = h.shallow in omega arith }
 
-others_good : (n : ℕ) (l : Line) (e : LineEnd) (ls : Lines) → AreGoodLines n (more_lines l e ls) → AreGoodLines n ls
+others_good : (n : ℕ) (l : Line) (e : LineEnd) (ls : Lines) → AreGoodLines n (more_lines l e ls)
+    → AreGoodLines n ls
 others_good n l e ls h = record { valid = h.valid.1; shallow = let k = h.shallow in omega arith }
 
-pub lines_again : (n count : ℕ) (ls : Lines) → AreGoodLines n ls → count_lines ls ≤ count → lines_at n count (lines ls) ≡ Some ls
+pub lines_again : (n count : ℕ) (ls : Lines) → AreGoodLines n ls → count_lines ls ≤ count
+    → lines_at n count (lines ls) ≡ Some ls
 unfolding lines_at
 lines_again n zero (one_line l) h few = absurd (omega arith)
 lines_again n zero (more_lines l e ls) h few = absurd (omega arith)
-lines_again n (suc count) (one_line l) h few = rw (line_again n l [] (record { valid = h.valid; shallow = h.shallow }) end_of_text) refl
+lines_again n (suc count) (one_line l) h few =
+    rw (line_again n l [] (record { valid = h.valid; shallow = h.shallow }) end_of_text) refl
 lines_again n (suc count) (more_lines l e ls) h few =
-    rw (line_again n l (line_end e (lines ls)) (first_good n l e ls h) (end_of_line e (lines ls)), not_over e (lines ls), line_end_again e (lines ls), lines_again n count ls (others_good n l e ls h) (omega arith)) refl
+    rw (
+      line_again n l (line_end e (lines ls)) (first_good n l e ls h) (end_of_line e (lines ls)),
+      not_over e (lines ls),
+      line_end_again e (lines ls),
+      lines_again n count ls (others_good n l e ls h)
+          (omega arith),
+    ) refl
 
 comment_longer : (c : Option (List ℕ)) (rest : List ℕ) → length rest ≤ length (comment c rest)
 comment_longer None rest = omega arith
 comment_longer (Some text) rest = omega (arith, length-append text rest)
 
-statement_longer : (n : ℕ) (s : Statement) (rest : List ℕ) → IsGoodStatement n s → length rest ≤ length (statement s rest)
-statement_longer n (pair k a b v) rest h = omega (arith, pair_longer k a b (value v rest), value_longer v rest h.valid.3)
-statement_longer n (header a k b) rest h = omega (arith, length-append a (key k (b ++ (right_bracket ∷ rest))), key_longer k (b ++ (right_bracket ∷ rest)), length-append b (right_bracket ∷ rest))
+statement_longer : (n : ℕ) (s : Statement) (rest : List ℕ) → IsGoodStatement n s
+    → length rest ≤ length (statement s rest)
+statement_longer n (pair k a b v) rest h =
+    omega (arith, pair_longer k a b (value v rest), value_longer v rest h.valid.3)
+statement_longer n (header a k b) rest h =
+    omega (
+      arith,
+      length-append a (key k (b ++ (right_bracket ∷ rest))),
+      key_longer k (b ++ (right_bracket ∷ rest)),
+      length-append b (right_bracket ∷ rest),
+    )
 statement_longer n (element_header a k b) rest h =
     let end = right_bracket ∷ (right_bracket ∷ rest) in
     omega (arith, length-append a (key k (b ++ end)), key_longer k (b ++ end), length-append b end)
@@ -153,98 +212,25 @@ line_longer : (n : ℕ) (l : Line) (rest : List ℕ) → IsGoodLine n l → leng
 line_longer n (empty_line a c) rest h = omega (arith, length-append a (comment c rest), comment_longer c rest)
 line_longer n (full_line a s b c) rest h =
     let good : IsGoodStatement n s = record { valid = h.valid.1; shallow = h.shallow } in
-    omega (arith, length-append a (statement s (b ++ comment c rest)), statement_longer n s (b ++ comment c rest) good, length-append b (comment c rest), comment_longer c rest)
+    omega (
+      arith,
+      length-append a (statement s (b ++ comment c rest)),
+      statement_longer n s (b ++ comment c rest) good,
+      length-append b (comment c rest),
+      comment_longer c rest,
+    )
 
-few_lines : (n : ℕ) (ls : Lines) → AreGoodLines n ls → count_lines ls ≤ length (lines ls) + 1
+pub few_lines : (n : ℕ) (ls : Lines) → AreGoodLines n ls → count_lines ls ≤ length (lines ls) + 1
 few_lines n (one_line l) h = omega arith
-few_lines n (more_lines l lf ls) h = omega (arith, line_longer n l (line_feed ∷ lines ls) (first_good n l lf ls h), few_lines n ls (others_good n l lf ls h))
-few_lines n (more_lines l crlf ls) h = omega (arith, line_longer n l (carriage_return ∷ (line_feed ∷ lines ls)) (first_good n l crlf ls h), few_lines n ls (others_good n l crlf ls h))
-
--- ---- texts
-
--- the text is in the grammar with this form, which is of the part that is read
-pub record IsReadText (n : ℕ) (bytes : List ℕ) (t : Text) : Type 0 where
-  pub spells : Spells bytes t
-  pub shallow : text_depth t ≤ n
-
-mark_parts : (bytes : List ℕ) → bytes ≡ byte_order_mark (is_marked bytes) (past_mark bytes)
-mark_parts bytes = go (is_marked bytes) refl
-  where
-    go : (b : Bool) → is_marked bytes ≡ b → bytes ≡ byte_order_mark b (cond b (drop 3 bytes) bytes)
-    go true e =
-        let x = and_parts _ (eqb (slice_index bytes 2) 0xBF) e in
-        let y = and_parts _ (eqb (slice_index bytes 1) 0xBB) x.0 in
-        first_is 0xEF bytes (omega arith) y.0 ∙ ap (λ (r : List ℕ). 0xEF ∷ r) (at_drop 1 0xBB bytes (omega arith) y.1 ∙ ap (λ (r : List ℕ). 0xBB ∷ r) (at_drop 2 0xBF bytes (omega arith) x.1))
-    go false e = refl
-
--- lines that were read behind a mark or nothing
-pub lines_found : (n : ℕ) (bytes : List ℕ) (ls : Lines) → past_mark bytes ≡ lines ls → AreLines ls → lines_depth ls ≤ n → IsReadText n bytes (record { marked = is_marked bytes; lines = ls })
-lines_found n bytes ls e valid shallow = record {
-  spells = record { spelled = mark_parts bytes ∙ ap (byte_order_mark (is_marked bytes)) e; well_formed = valid };
-  shallow = shallow;
-}
-
--- no line begins as a byte order mark does
-blank_unmarked : (a rest : List ℕ) → All is_blank a → eqb (first rest) 0xEF ≡ false → eqb (first (a ++ rest)) 0xEF ≡ false
-blank_unmarked [] rest h e = e
-blank_unmarked (c ∷ a) rest h e = grind (arith, nat_tests, h.0)
-
-comment_unmarked : (c : Option (List ℕ)) (rest : List ℕ) → eqb (first rest) 0xEF ≡ false → eqb (first (comment c rest)) 0xEF ≡ false
-comment_unmarked None rest e = e
-comment_unmarked (Some text) rest e = refl
-
-bare_unmarked : (b : ℕ) → is_bare b ≡ true → eqb b 0xEF ≡ false
-bare_unmarked b h = grind (arith, nat_tests)
-
-part_unmarked : (k : Part) (rest : List ℕ) → IsPart k → eqb (first (part k rest)) 0xEF ≡ false
-part_unmarked (bare []) rest h = absurd (omega (arith, h.0))
-part_unmarked (bare (b ∷ text)) rest h = bare_unmarked b h.1.0
-part_unmarked (basic_part ps) rest h = refl
-part_unmarked (literal_part text) rest h = refl
-
-statement_unmarked : (s : Statement) (rest : List ℕ) → IsStatement s → eqb (first (statement s rest)) 0xEF ≡ false
-statement_unmarked (pair k a b v) rest h = part_unmarked k.first _ h.0.0
-statement_unmarked (header a k b) rest h = refl
-statement_unmarked (element_header a k b) rest h = refl
-
-line_unmarked : (l : Line) (rest : List ℕ) → IsLine l → eqb (first rest) 0xEF ≡ false → eqb (first (line l rest)) 0xEF ≡ false
-line_unmarked (empty_line a c) rest h e = blank_unmarked a (comment c rest) h.0 (comment_unmarked c rest e)
-line_unmarked (full_line a s b c) rest h e = blank_unmarked a (statement s (b ++ comment c rest)) h.0 (statement_unmarked s (b ++ comment c rest) h.1)
-
-end_unmarked : (e : LineEnd) (rest : List ℕ) → eqb (first (line_end e rest)) 0xEF ≡ false
-end_unmarked lf rest = refl
-end_unmarked crlf rest = refl
-
-lines_unmarked : (ls : Lines) → AreLines ls → eqb (first (lines ls)) 0xEF ≡ false
-lines_unmarked (one_line l) h = line_unmarked l [] h refl
-lines_unmarked (more_lines l e ls) h = line_unmarked l (line_end e (lines ls)) h.0 (end_unmarked e (lines ls))
-
-unmarked : (bytes : List ℕ) → eqb (first bytes) 0xEF ≡ false → is_marked bytes ≡ false
-unmarked bytes e = rw e refl
-
--- the lines of any form of a text are those behind its mark
-mark_of : (b : Bool) (ls : Lines) → AreLines ls → (is_marked (byte_order_mark b (lines ls)) ≡ b) × (past_mark (byte_order_mark b (lines ls)) ≡ lines ls)
-mark_of true ls h = (refl, refl)
-mark_of false ls h = let e = unmarked (lines ls) (lines_unmarked ls h) in (e, rw e refl)
-
-pub lines_only : (bytes : List ℕ) (t : Text) → Spells bytes t → past_mark bytes ≡ lines t.lines
-lines_only bytes t h = ap past_mark h.spelled ∙ (mark_of t.marked t.lines h.well_formed).1
-
-pub lines_read : (n : ℕ) (bytes : List ℕ) (ls : Lines) → lines_at n (length bytes + 1) bytes ≡ Some ls → (bytes ≡ lines ls) × AreGoodLines n ls
-lines_read n bytes ls e = lines_sound n (length bytes + 1) bytes ls e
-
-pub lines_read_again : (n : ℕ) (bytes : List ℕ) (ls : Lines) → bytes ≡ lines ls → AreGoodLines n ls → lines_at n (length bytes + 1) bytes ≡ Some ls
-lines_read_again n bytes ls e h = rw e (lines_again n (length (lines ls) + 1) ls h (few_lines n ls h))
-
--- whatever is in the grammar and of the part is read, in the one form that it has
-pub read_again : (n : ℕ) (bytes : List ℕ) (t : Text) → IsReadText n bytes t → read_text n bytes ≡ Some t
-unfolding read_text
-read_again n bytes t h =
-    let body = lines_only bytes t h.spells in
-    let mark : is_marked bytes ≡ t.marked = ap is_marked h.spells.spelled ∙ (mark_of t.marked t.lines h.spells.well_formed).0 in
-    let good : AreGoodLines n t.lines = record { valid = h.spells.well_formed; shallow = h.shallow } in
-    let again : lines_at n (length (lines t.lines) + 1) (lines t.lines) ≡ Some t.lines = lines_again n (length (lines t.lines) + 1) t.lines good (few_lines n t.lines good) in
-    let form : Bool → Lines → Text = λ b ls. record { marked = b; lines = ls } in
-    ap (λ (x : List ℕ). lines_at n (length x + 1) x >>= λ ls. Some (form (is_marked bytes) ls)) body
-    ∙ ap (λ (o : Option Lines). o >>= λ ls. Some (form (is_marked bytes) ls)) again
-    ∙ ap (λ (b : Bool). Some (form b t.lines)) mark
+few_lines n (more_lines l lf ls) h =
+    omega (
+      arith,
+      line_longer n l (line_feed ∷ lines ls) (first_good n l lf ls h),
+      few_lines n ls (others_good n l lf ls h),
+    )
+few_lines n (more_lines l crlf ls) h =
+    omega (
+      arith,
+      line_longer n l (carriage_return ∷ (line_feed ∷ lines ls)) (first_good n l crlf ls h),
+      few_lines n ls (others_good n l crlf ls h),
+    )

@@ -5,7 +5,8 @@ use Rattle.std.proofs.lemmas.Bool.{cases_lt}
 use Rattle.std.proofs.lemmas.List.{length_push}
 use Rattle.std.proofs.lemmas.Option.{slice_get_within, same_Some}
 
-pub get_front : {X : Type 0} (xs ys : List X) (i : ℕ) → i < length xs → slice_get (xs ++ ys) i ≡ slice_get xs i
+pub get_front : {X : Type 0} (xs ys : List X) (i : ℕ) → i < length xs
+    → slice_get (xs ++ ys) i ≡ slice_get xs i
 get_front [] ys i lt = absurd (omega arith)
 get_front (x ∷ xs) ys zero lt = refl
 get_front (x ∷ xs) ys (suc i) lt = get_front xs ys i (omega arith)
@@ -14,12 +15,14 @@ pub get_last : {X : Type 0} (xs : List X) (y : X) → slice_get (xs ++ y ∷ [])
 get_last [] y = refl
 get_last (x ∷ xs) y = get_last xs y
 
-pub get_set_same : {X : Type 0} (xs : List X) (i : ℕ) (y : X) → i < length xs → slice_get (slice_set xs i y) i ≡ Some y
+pub get_set_same : {X : Type 0} (xs : List X) (i : ℕ) (y : X) → i < length xs
+    → slice_get (slice_set xs i y) i ≡ Some y
 get_set_same [] i y lt = absurd (omega arith)
 get_set_same (x ∷ xs) zero y lt = refl
 get_set_same (x ∷ xs) (suc i) y lt = get_set_same xs i y (omega arith)
 
-pub get_set_other : {X : Type 0} (xs : List X) (i j : ℕ) (y : X) → (j ≡ i → ⊥) → slice_get (slice_set xs i y) j ≡ slice_get xs j
+pub get_set_other : {X : Type 0} (xs : List X) (i j : ℕ) (y : X) → (j ≡ i → ⊥)
+    → slice_get (slice_set xs i y) j ≡ slice_get xs j
 get_set_other [] i j y ne = refl
 get_set_other (x ∷ xs) zero zero y ne = absurd (ne refl)
 get_set_other (x ∷ xs) zero (suc j) y ne = refl
@@ -27,16 +30,22 @@ get_set_other (x ∷ xs) (suc i) zero y ne = refl
 get_set_other (x ∷ xs) (suc i) (suc j) y ne = get_set_other xs i j y (λ e. ne (ap suc e))
 
 pub equal_or : (i j : ℕ) → (i ≡ j) ⊎ (i ≡ j → ⊥)
-equal_or i j = elim (cases_lt i j) [ inl a ↦ inr (λ e. absurd (omega arith)) | inr a ↦ elim (cases_lt j i) [ inl b ↦ inr (λ e. absurd (omega arith)) | inr b ↦ inl (omega arith) ] ]
+equal_or i j = elim (cases_lt i j) [
+  | inl a ↦ inr (λ e. absurd (omega arith))
+  | inr a ↦ elim
+      (cases_lt j i) [ inl b ↦ inr (λ e. absurd (omega arith)) | inr b ↦ inl (omega arith) ]
+]
 
 -- an element of a list with one changed: the changed one, or another one
 pub data OneSet {X : Type 0} (xs : List X) (t : ℕ) (new : X) (i : ℕ) (x : X) : Type 0 where
   changed : i ≡ t → x ≡ new → OneSet xs t new i x
   other : (i ≡ t → ⊥) → slice_get xs i ≡ Some x → OneSet xs t new i x
 
-pub in_set : {X : Type 0} (xs : List X) (t : ℕ) (new : X) (i : ℕ) (x : X) → t < length xs → slice_get (slice_set xs t new) i ≡ Some x → OneSet xs t new i x
+pub in_set : {X : Type 0} (xs : List X) (t : ℕ) (new : X) (i : ℕ) (x : X) → t < length xs
+    → slice_get (slice_set xs t new) i ≡ Some x → OneSet xs t new i x
 in_set xs t new i x lt e = elim (equal_or i t) [
-  | inl same ↦ changed same (same_Some x new (sym e ∙ ap (slice_get (slice_set xs t new)) same ∙ get_set_same xs t new lt))
+  | inl same ↦ changed same
+      (same_Some x new (sym e ∙ ap (slice_get (slice_set xs t new)) same ∙ get_set_same xs t new lt))
   | inr ne ↦ other ne (sym (get_set_other xs t i new ne) ∙ e)
 ]
 
@@ -45,7 +54,8 @@ pub data OneMore {X : Type 0} (xs : List X) (last : X) (i : ℕ) (x : X) : Type 
   stood : i < length xs → slice_get xs i ≡ Some x → OneMore xs last i x
   newest : i ≡ length xs → x ≡ last → OneMore xs last i x
 
-pub in_push : {X : Type 0} (xs : List X) (last : X) (i : ℕ) (x : X) → slice_get (xs ++ last ∷ []) i ≡ Some x → OneMore xs last i x
+pub in_push : {X : Type 0} (xs : List X) (last : X) (i : ℕ) (x : X) → slice_get (xs ++ last ∷ []) i ≡ Some x
+    → OneMore xs last i x
 in_push xs last i x e =
     elim (cases_lt i (length xs)) [
       | inl a ↦ stood a (sym (get_front xs (last ∷ []) i a) ∙ e)
@@ -57,12 +67,14 @@ in_push xs last i x e =
     ]
 
 -- a list from one of its elements on
-pub drop_from : {X : Type 0} (xs : List X) (i : ℕ) (x : X) → slice_get xs i ≡ Some x → drop i xs ≡ x ∷ drop (i + 1) xs
+pub drop_from : {X : Type 0} (xs : List X) (i : ℕ) (x : X) → slice_get xs i ≡ Some x
+    → drop i xs ≡ x ∷ drop (i + 1) xs
 drop_from [] i x e = absurd cc
 drop_from (y ∷ ys) zero x e = let h : y ≡ x = same_Some y x e in ap (λ z. z ∷ ys) h
 drop_from (y ∷ ys) (suc i) x e = let up : suc i + 1 ≡ suc (i + 1) = omega arith in rw up (drop_from ys i x e)
 
-pub slice_get_same : {X : Type 0} (xs : List X) (i : ℕ) (x y : X) → slice_get xs i ≡ Some x → slice_get xs i ≡ Some y → x ≡ y
+pub slice_get_same : {X : Type 0} (xs : List X) (i : ℕ) (x y : X) → slice_get xs i ≡ Some x
+    → slice_get xs i ≡ Some y → x ≡ y
 slice_get_same xs i x y a b = same_Some x y (sym a ∙ b)
 
 -- the byte behind a front

@@ -34,28 +34,34 @@ among_map f x [] m = m
 among_map f x (y ∷ ys) (inl e) = inl (ap f e)
 among_map f x (y ∷ ys) (inr m) = inr (among_map f x ys m)
 
-pub map_among : {X Y : Type 0} (f : X → Y) (y : Y) (xs : List X) → Among y (map f xs) → (x : X) × Among x xs × (y ≡ f x)
+pub map_among : {X Y : Type 0} (f : X → Y) (y : Y) (xs : List X) → Among y (map f xs) → (x : X) × Among x xs
+    × (y ≡ f x)
 map_among f y [] m = absurd m
 map_among f y (x ∷ xs) (inl e) = (x, inl refl, e)
 map_among f y (x ∷ xs) (inr m) = let r = map_among f y xs m in (r.0, inr r.1, r.2)
 
-cons_among : {Y : Type 0} (y : Y) (o : Option Y) (ys : List Y) → (o ≡ Some y) ⊎ Among y ys → Among y (cons_option o ys)
+cons_among : {Y : Type 0} (y : Y) (o : Option Y) (ys : List Y) → (o ≡ Some y) ⊎ Among y ys
+    → Among y (cons_option o ys)
 cons_among y None ys (inl e) = absurd cc
 cons_among y None ys (inr m) = m
 cons_among y (Some z) ys (inl e) = let is : z ≡ y = cc in inl (sym is)
 cons_among y (Some z) ys (inr m) = inr m
 
-among_cons : {Y : Type 0} (y : Y) (o : Option Y) (ys : List Y) → Among y (cons_option o ys) → (o ≡ Some y) ⊎ Among y ys
+among_cons : {Y : Type 0} (y : Y) (o : Option Y) (ys : List Y) → Among y (cons_option o ys) → (o ≡ Some y)
+    ⊎ Among y ys
 among_cons y None ys m = inr m
 among_cons y (Some z) ys (inl e) = inl (ap Some (sym e))
 among_cons y (Some z) ys (inr m) = inr m
 
-pub among_filter : {X Y : Type 0} (f : X → Option Y) (x : X) (y : Y) (xs : List X) → Among x xs → f x ≡ Some y → Among y (filter_map f xs)
+pub among_filter : {X Y : Type 0} (f : X → Option Y) (x : X) (y : Y) (xs : List X) → Among x xs → f x ≡ Some y
+    → Among y (filter_map f xs)
 among_filter f x y [] m e = absurd m
 among_filter f x y (z ∷ xs) (inl h) e = cons_among y (f z) (filter_map f xs) (inl (ap f (sym h) ∙ e))
 among_filter f x y (z ∷ xs) (inr m) e = cons_among y (f z) (filter_map f xs) (inr (among_filter f x y xs m e))
 
-pub filter_among : {X Y : Type 0} (f : X → Option Y) (y : Y) (xs : List X) → Among y (filter_map f xs) → (x : X) × Among x xs × (f x ≡ Some y)
+pub filter_among : {X Y : Type 0} (f : X → Option Y) (y : Y) (xs : List X) → Among y (filter_map f xs)
+    → (x : X) × Among x xs × (f x ≡ Some y)
 filter_among f y [] m = absurd m
 filter_among f y (x ∷ xs) m =
-    ⊎_elim (λ e. (x, inl refl, e)) (λ more. let r = filter_among f y xs more in (r.0, inr r.1, r.2)) (among_cons y (f x) (filter_map f xs) m)
+    ⊎_elim (λ e. (x, inl refl, e)) (λ more. let r = filter_among f y xs more in
+    (r.0, inr r.1, r.2)) (among_cons y (f x) (filter_map f xs) m)

@@ -1,98 +1,14 @@
 -- Strings over several lines that are read are spelled so, and those that are spelled so are read.
-use Rattle.std.proofs.Common.{◌≡◌, ℕ, zero, suc, ◌+◌, ◌<◌, ◌≤◌, Bool, true, false, ◌&&◌, eqb, List, [], ◌∷◌, ◌++◌, length, slice_index, drop, Some, refl, sym, ap, subst, ◌∙◌, inl, inr, true≢false, arith}
+use Rattle.std.proofs.Common.{◌≡◌, ℕ, zero, suc, ◌+◌, ◌<◌, Bool, true, false, eqb, List, [], ◌∷◌, ◌++◌, length, slice_index, drop, Some, refl, sym, ap, subst, ◌∙◌, inl, inr, true≢false, arith}
 use Rattle.std.specs.List.{AllByRecursion}
-use Rattle.edit_syntax.specs.Characters.{line_feed, carriage_return, quote, apostrophe, backslash, is_blank, is_basic_ch, is_literal_ch}
-use Rattle.edit_syntax.specs.Strings.{LineEnd, lf, crlf, line_end, Space, blank, break, spaces, IsSpace, Piece, plain, letter, short, long, feed, fold, delimiter, piece, pieces, IsBasicPiece, IsMultiPiece, IsRawPiece, RunsFit, FoldsAreWhole, begins_with_space}
+use Rattle.edit_syntax.specs.Characters.{quote, apostrophe, backslash, is_blank, is_basic_ch, is_literal_ch}
+use Rattle.edit_syntax.specs.Strings.{LineEnd, lf, crlf, line_end, Piece, plain, letter, short, long, feed, fold, delimiter, piece, pieces, IsBasicPiece, IsMultiPiece, IsRawPiece, RunsFit, FoldsAreWhole, begins_with_space}
 use Rattle.edit_syntax.specs.Grammar.{three}
-use Rattle.edit_syntax.specs.Reading.{first, blanks, past_blanks, line_end_at, begins_space, space_at, spaces_at, fold_at, feed_at, is_line_break, spot_at, raw_at, line_piece_at, closes, delimiter_at, body_at, multi_at}
+use Rattle.edit_syntax.specs.Reading.{first, blanks, past_blanks, line_end_at, begins_space, spaces_at, fold_at, feed_at, is_line_break, spot_at, raw_at, line_piece_at, closes, delimiter_at, body_at, multi_at}
 use Rattle.edit_syntax.specs.ReadingNumbers.{begins}
 use Rattle.edit_syntax.proofs.TokenLaws.{bind_some, chosen, tested, some_is, first_is, first_of, at_drop, run_parts, run_all, escape_sound}
 use Rattle.std.proofs.lemmas.Bool.{and_parts}
-
--- ---- newlines
-
-pub line_end_sound : (bytes : List ℕ) (x : LineEnd × List ℕ) → line_end_at bytes ≡ Some x → bytes ≡ line_end x.0 x.1
-unfolding line_end_at
-line_end_sound bytes x e =
-    let P : LineEnd × List ℕ → Type 0 = λ y. bytes ≡ line_end y.0 y.1 in
-    elim (chosen (eqb (first bytes) line_feed) _ _ (Some x) e) [
-      | inl h ↦ subst P (some_is _ x h.1) (first_is line_feed bytes (omega arith) h.0)
-      | inr h ↦
-          let t = tested (eqb (first bytes) carriage_return && eqb (slice_index bytes 1) line_feed) _ x h.1 in
-          let w = and_parts (eqb (first bytes) carriage_return) (eqb (slice_index bytes 1) line_feed) t.0 in
-          subst P (some_is _ x t.1) (first_is carriage_return bytes (omega arith) w.0 ∙ ap (λ (r : List ℕ). carriage_return ∷ r) (at_drop 1 line_feed bytes (omega arith) w.1))
-    ]
-
-pub line_end_again : (e : LineEnd) (rest : List ℕ) → line_end_at (line_end e rest) ≡ Some (e, rest)
-unfolding line_end_at
-line_end_again lf rest = refl
-line_end_again crlf rest = refl
-
-pub line_end_first : (e : LineEnd) (rest : List ℕ) → is_line_break (first (line_end e rest)) ≡ true
-line_end_first lf rest = refl
-line_end_first crlf rest = refl
-
--- ---- white space and newlines
-
-space_sound : (text : List ℕ) (x : Space × List ℕ) → space_at text ≡ Some x → (text ≡ spaces (x.0 ∷ []) x.1) × IsSpace x.0
-unfolding space_at
-space_sound text x e =
-    let P : Space × List ℕ → Type 0 = λ y. (text ≡ spaces (y.0 ∷ []) y.1) × IsSpace y.0 in
-    elim (chosen (is_blank (first text)) _ _ (Some x) e) [
-      | inl h ↦ subst P (some_is _ x h.1) (first_of is_blank text refl h.0, h.0)
-      | inr h ↦
-          let a = bind_some (line_end_at text) _ x h.1 in
-          subst P (some_is _ x a.2) (line_end_sound text a.0 a.1, tt)
-    ]
-
-spaces_step : (s : Space) (more : List Space) (rest : List ℕ) → spaces (s ∷ []) (spaces more rest) ≡ spaces (s ∷ more) rest
-spaces_step (blank b) more rest = refl
-spaces_step (break e) more rest = refl
-
--- all of them were read
-pub record AreSpaces (text : List ℕ) (x : List Space × List ℕ) : Type 0 where
-  pub spelled : text ≡ spaces x.0 x.1
-  pub valid : AllByRecursion IsSpace x.0
-  pub ended : begins_space x.1 ≡ false
-
-spaces_sound : (n : ℕ) (text : List ℕ) (x : List Space × List ℕ) → spaces_at n text ≡ Some x → AreSpaces text x
-unfolding spaces_at
-spaces_sound zero text x e = absurd cc
-spaces_sound (suc n) text x e = elim (chosen (begins_space text) _ _ (Some x) e) [
-  | inl h ↦
-      let a = bind_some (space_at text) _ x h.1 in
-      let b = bind_some (spaces_at n a.0.1) _ x a.2 in
-      let one = space_sound text a.0 a.1 in
-      let others = spaces_sound n a.0.1 b.0 b.1 in
-      subst (AreSpaces text) (some_is (a.0.0 ∷ b.0.0, b.0.1) x b.2)
-      (record { spelled = one.0 ∙ ap (spaces (a.0.0 ∷ [])) others.spelled ∙ spaces_step a.0.0 b.0.0 b.0.1; valid = (one.1, others.valid); ended = others.ended })
-  | inr h ↦ subst (AreSpaces text) (some_is _ x h.1) (record { spelled = refl; valid = tt; ended = h.0 })
-]
-
-space_begins : (s : Space) (more : List ℕ) → IsSpace s → begins_space (spaces (s ∷ []) more) ≡ true
-space_begins (blank b) more h = rw h refl
-space_begins (break lf) more h = refl
-space_begins (break crlf) more h = refl
-
-space_again : (s : Space) (more : List ℕ) → IsSpace s → space_at (spaces (s ∷ []) more) ≡ Some (s, more)
-unfolding space_at
-space_again (blank b) more h = rw h refl
-space_again (break lf) more h = rw (line_end_again lf more) refl
-space_again (break crlf) more h = rw (line_end_again crlf more) refl
-
-pub spaces_again : (n : ℕ) (ss : List Space) (rest : List ℕ) → AllByRecursion IsSpace ss → begins_space rest ≡ false → length ss < n → spaces_at n (spaces ss rest) ≡ Some (ss, rest)
-unfolding spaces_at
-spaces_again zero ss rest h ends lt = absurd (omega arith)
-spaces_again (suc n) [] rest h ends lt = rw ends refl
-spaces_again (suc n) (s ∷ ss) rest h ends lt =
-    let P : List ℕ → Type 0 = λ t. spaces_at (suc n) t ≡ Some (s ∷ ss, rest) in
-    subst P (spaces_step s ss rest) (rw (space_begins s (spaces ss rest) h.0, space_again s (spaces ss rest) h.0, spaces_again n ss rest h.1 ends (omega arith)) refl)
-
-pub count_spaces : (ss : List Space) (rest : List ℕ) → length ss ≤ length (spaces ss rest)
-count_spaces [] rest = omega arith
-count_spaces (blank b ∷ ss) rest = let h = count_spaces ss rest in omega arith
-count_spaces (break lf ∷ ss) rest = let h = count_spaces ss rest in omega arith
-count_spaces (break crlf ∷ ss) rest = let h = count_spaces ss rest in omega arith
+use Rattle.edit_syntax.proofs.FoldLaws.{line_end_sound, spaces_sound}
 
 -- ---- one piece
 
@@ -113,13 +29,16 @@ pub record IsRead (mark : ℕ) (valid : Piece → Type 0) (text : List ℕ) (x :
   pub other : IsOther x.0
   pub ends : FoldEnds x.0 x.1
 
-feed_sound : (mark : ℕ) (valid : Piece → Type 0) → ((e : LineEnd) → valid (feed e)) → (text : List ℕ) (x : Piece × List ℕ) → feed_at text ≡ Some x → IsRead mark valid text x
+feed_sound : (mark : ℕ) (valid : Piece → Type 0) → ((e : LineEnd) → valid (feed e))
+    → (text : List ℕ) (x : Piece × List ℕ) → feed_at text ≡ Some x → IsRead mark valid text x
 unfolding feed_at
 feed_sound mark valid all text x e =
     let a = bind_some (line_end_at text) _ x e in
-    subst (IsRead mark valid text) (some_is _ x a.2) (record { spelled = line_end_sound text a.0 a.1; fine = all a.0.0; other = tt; ends = tt })
+    subst (IsRead mark valid text) (some_is _ x a.2)
+    (record { spelled = line_end_sound text a.0 a.1; fine = all a.0.0; other = tt; ends = tt })
 
-fold_sound : (mark : ℕ) (text : List ℕ) (x : Piece × List ℕ) → eqb (first text) backslash ≡ true → fold_at text ≡ Some x → IsRead mark IsMultiPiece text x
+fold_sound : (mark : ℕ) (text : List ℕ) (x : Piece × List ℕ) → eqb (first text) backslash ≡ true
+    → fold_at text ≡ Some x → IsRead mark IsMultiPiece text x
 unfolding fold_at
 fold_sound mark text x opened e =
     let inner = drop 1 text in
@@ -128,7 +47,9 @@ fold_sound mark text x opened e =
     let l = line_end_sound (past_blanks inner) a.0 a.1 in
     let s = spaces_sound (length a.0.1 + 1) a.0.1 b.0 b.1 in
     subst (IsRead mark IsMultiPiece text) (some_is _ x b.2) (record {
-      spelled = first_is backslash text (omega arith) opened ∙ ap (λ (r : List ℕ). backslash ∷ r) (run_parts is_blank inner ∙ ap (λ (r : List ℕ). blanks inner ++ r) (l ∙ ap (line_end a.0.0) s.spelled));
+      spelled = first_is backslash text (omega arith) opened ∙
+          ap (λ (r : List ℕ). backslash ∷ r) (run_parts is_blank inner ∙
+          ap (λ (r : List ℕ). blanks inner ++ r) (l ∙ ap (line_end a.0.0) s.spelled));
       fine = (run_all is_blank inner, s.valid);
       other = tt;
       ends = s.ended;
@@ -157,7 +78,8 @@ spot_sound text x e = elim (chosen (is_line_break (first text)) _ _ (Some x) e) 
     ]
     | inr i ↦
         let t = tested (is_basic_ch (first text)) (Some (plain (first text), drop 1 text)) x i.1 in
-        subst (IsRead quote IsMultiPiece text) (some_is _ x t.1) (record { spelled = first_of is_basic_ch text refl t.0; fine = t.0; other = tt; ends = tt })
+        subst (IsRead quote IsMultiPiece text) (some_is _ x t.1)
+        (record { spelled = first_of is_basic_ch text refl t.0; fine = t.0; other = tt; ends = tt })
   ]
 ]
 
@@ -167,7 +89,8 @@ raw_sound text x e = elim (chosen (is_line_break (first text)) _ _ (Some x) e) [
   | inl h ↦ feed_sound apostrophe IsRawPiece (λ e. tt) text x h.1
   | inr h ↦
       let t = tested (is_literal_ch (first text)) (Some (plain (first text), drop 1 text)) x h.1 in
-      subst (IsRead apostrophe IsRawPiece text) (some_is _ x t.1) (record { spelled = first_of is_literal_ch text refl t.0; fine = t.0; other = tt; ends = tt })
+      subst (IsRead apostrophe IsRawPiece text) (some_is _ x t.1)
+      (record { spelled = first_of is_literal_ch text refl t.0; fine = t.0; other = tt; ends = tt })
 ]
 
 -- ---- what is read is spelled so
@@ -189,7 +112,8 @@ no_blank b rest h = go (is_blank b) refl
     go true e = absurd (true≢false (let k : begins_space (b ∷ rest) ≡ true = rw e refl in sym k ∙ h))
 
 -- no white space comes first, where none is read
-no_space : (mark : ℕ) (ps : List Piece) (rest : List ℕ) → begins_space (pieces mark ps rest) ≡ false → begins_with_space ps ≡ false
+no_space : (mark : ℕ) (ps : List Piece) (rest : List ℕ) → begins_space (pieces mark ps rest) ≡ false
+    → begins_with_space ps ≡ false
 no_space mark [] rest h = refl
 no_space mark (plain b ∷ ps) rest h = no_blank b (pieces mark ps rest) h
 no_space mark (letter c ∷ ps) rest h = refl
@@ -200,7 +124,8 @@ no_space mark (feed crlf ∷ ps) rest h = absurd (true≢false h)
 no_space mark (fold ws e more ∷ ps) rest h = refl
 no_space mark (delimiter ∷ ps) rest h = refl
 
-folds_more : (mark : ℕ) (p : Piece) (ps : List Piece) (rest : List ℕ) → IsOther p → FoldEnds p (pieces mark ps rest) → FoldsAreWhole ps → FoldsAreWhole (p ∷ ps)
+folds_more : (mark : ℕ) (p : Piece) (ps : List Piece) (rest : List ℕ) → IsOther p
+    → FoldEnds p (pieces mark ps rest) → FoldsAreWhole ps → FoldsAreWhole (p ∷ ps)
 folds_more mark (plain b) ps rest o ends h = h
 folds_more mark (letter c) ps rest o ends h = h
 folds_more mark (short digits) ps rest o ends h = h
@@ -210,7 +135,8 @@ folds_more mark (fold ws e more) ps rest o ends h = (no_space mark ps rest ends,
 folds_more mark delimiter ps rest o ends h = absurd o
 
 -- the pieces of a string over several lines, the closing delimiters and what follows
-pub record IsBody (mark : ℕ) (valid : Piece → Type 0) (few : ℕ) (text : List ℕ) (x : List Piece × List ℕ) : Type 0 where
+pub record IsBody (mark : ℕ) (valid : Piece → Type 0) (few : ℕ) (text : List ℕ)
+    (x : List Piece × List ℕ) : Type 0 where
   pub spelled : text ≡ pieces mark x.0 (three mark x.1)
   pub fine : AllByRecursion valid x.0
   pub runs : RunsFit few x.0
@@ -219,23 +145,31 @@ pub record IsBody (mark : ℕ) (valid : Piece → Type 0) (few : ℕ) (text : Li
 -- what pieces of one kind of string need
 pub record IsKind (mark : ℕ) (valid : Piece → Type 0) : Type 0 where
   pub above : 0 < mark
-  pub sound : (text : List ℕ) (x : Piece × List ℕ) → line_piece_at mark text ≡ Some x → IsRead mark valid text x
+  pub sound : (text : List ℕ) (x : Piece × List ℕ) → line_piece_at mark text ≡ Some x
+      → IsRead mark valid text x
   pub delimits : valid delimiter
 
-begins_three : (mark : ℕ) (text : List ℕ) → 0 < mark → closes mark text ≡ true → text ≡ three mark (drop 3 text)
+begins_three : (mark : ℕ) (text : List ℕ) → 0 < mark → closes mark text ≡ true
+    → text ≡ three mark (drop 3 text)
 begins_three mark text lt e =
     let w = and_parts (begins mark mark mark text) _ e in
     let y = and_parts _ (eqb (slice_index text 2) mark) w.0 in
     let z = and_parts _ (eqb (slice_index text 1) mark) y.0 in
-    first_is mark text lt z.0 ∙ ap (λ (r : List ℕ). mark ∷ r) (at_drop 1 mark text lt z.1 ∙ ap (λ (r : List ℕ). mark ∷ r) (at_drop 2 mark text lt y.1))
+    first_is mark text lt z.0 ∙
+    ap (λ (r : List ℕ). mark ∷ r) (at_drop 1 mark text lt z.1 ∙
+    ap (λ (r : List ℕ). mark ∷ r) (at_drop 2 mark text lt y.1))
 
-body_sound : (mark : ℕ) (valid : Piece → Type 0) → IsKind mark valid → (n few : ℕ) (text : List ℕ) (x : List Piece × List ℕ) → body_at mark n few text ≡ Some x → IsBody mark valid few text x
+body_sound : (mark : ℕ) (valid : Piece → Type 0) → IsKind mark valid
+    → (n few : ℕ) (text : List ℕ) (x : List Piece × List ℕ) → body_at mark n few text ≡ Some x
+    → IsBody mark valid few text x
 unfolding body_at
 body_sound mark valid kind zero few text x e = absurd cc
 body_sound mark valid kind (suc n) few text x e = elim (chosen (closes mark text) _ _ (Some x) e) [
-  | inl h ↦ subst (IsBody mark valid few text) (some_is _ x h.1) (record { spelled = begins_three mark text kind.above h.0; fine = tt; runs = tt; folds = tt })
+  | inl h ↦ subst (IsBody mark valid few text) (some_is _ x h.1)
+      (record { spelled = begins_three mark text kind.above h.0; fine = tt; runs = tt; folds = tt })
   | inr h ↦ elim (chosen (eqb (first text) mark) _ _ (Some x) h.1) [
-    | inl i ↦ more_delimiters few i.1 (first_is mark text kind.above i.0) (λ less y f. body_sound mark valid kind n less (drop 1 text) y f)
+    | inl i ↦ more_delimiters few i.1 (first_is mark text kind.above i.0)
+        (λ less y f. body_sound mark valid kind n less (drop 1 text) y f)
     | inr i ↦
         let a = bind_some (line_piece_at mark text) _ x i.1 in
         let b = bind_some (body_at mark n 2 a.0.1) _ x a.2 in
@@ -246,18 +180,26 @@ body_sound mark valid kind (suc n) few text x e = elim (chosen (closes mark text
           spelled = one.spelled ∙ ap (piece mark a.0.0) others.spelled;
           fine = (one.fine, others.fine);
           runs = runs_more few a.0.0 b.0.0 one.other others.runs;
-          folds = folds_more mark a.0.0 b.0.0 rest one.other (subst (FoldEnds a.0.0) others.spelled one.ends) others.folds;
+          folds = folds_more mark a.0.0 b.0.0 rest one.other
+              (subst (FoldEnds a.0.0) others.spelled one.ends) others.folds;
         })
   ]
 ]
   where
-    more_delimiters : (few : ℕ) → delimiter_at (body_at mark n) few text ≡ Some x → text ≡ mark ∷ drop 1 text → ((less : ℕ) (y : List Piece × List ℕ) → body_at mark n less (drop 1 text) ≡ Some y → IsBody mark valid less (drop 1 text) y) → IsBody mark valid few text x
+    more_delimiters : (few : ℕ) → delimiter_at (body_at mark n) few text ≡ Some x → text ≡ mark ∷ drop 1 text
+        → ((less : ℕ) (y : List Piece × List ℕ) → body_at mark n less (drop 1 text) ≡ Some y
+        → IsBody mark valid less (drop 1 text) y) → IsBody mark valid few text x
     more_delimiters zero e here others = absurd cc
     more_delimiters (suc less) e here others =
         let b = bind_some (body_at mark n less (drop 1 text)) _ x e in
         let h = others less b.0 b.1 in
         subst (IsBody mark valid (suc less) text) (some_is (delimiter ∷ b.0.0, b.0.1) x b.2)
-        (record { spelled = here ∙ ap (λ (r : List ℕ). mark ∷ r) h.spelled; fine = (kind.delimits, h.fine); runs = h.runs; folds = h.folds })
+        (record {
+          spelled = here ∙ ap (λ (r : List ℕ). mark ∷ r) h.spelled;
+          fine = (kind.delimits, h.fine);
+          runs = h.runs;
+          folds = h.folds;
+        })
 
 basic_kind : IsKind quote IsMultiPiece
 unfolding line_piece_at
@@ -267,10 +209,12 @@ literal_kind : IsKind apostrophe IsRawPiece
 unfolding line_piece_at
 literal_kind = record { above = omega arith; sound = raw_sound; delimits = tt }
 
-pub multi_basic_sound : (text : List ℕ) (x : List Piece × List ℕ) → multi_at quote text ≡ Some x → IsBody quote IsMultiPiece 2 text x
+pub multi_basic_sound : (text : List ℕ) (x : List Piece × List ℕ) → multi_at quote text ≡ Some x
+    → IsBody quote IsMultiPiece 2 text x
 unfolding multi_at
 multi_basic_sound text x e = body_sound quote IsMultiPiece basic_kind (length text) 2 text x e
 
-pub multi_literal_sound : (text : List ℕ) (x : List Piece × List ℕ) → multi_at apostrophe text ≡ Some x → IsBody apostrophe IsRawPiece 2 text x
+pub multi_literal_sound : (text : List ℕ) (x : List Piece × List ℕ) → multi_at apostrophe text ≡ Some x
+    → IsBody apostrophe IsRawPiece 2 text x
 unfolding multi_at
 multi_literal_sound text x e = body_sound apostrophe IsRawPiece literal_kind (length text) 2 text x e

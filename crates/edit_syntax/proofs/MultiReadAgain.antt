@@ -1,89 +1,14 @@
 -- Strings over several lines that are spelled so are read.
-use Rattle.std.proofs.Common.{◌≡◌, ℕ, zero, suc, ◌+◌, ◌<◌, ◌≤◌, true, false, eqb, eq-eqb, List, [], ◌∷◌, ◌++◌, length, Some, refl, subst, ◌⊎◌, inl, inr, true≢false, arith}
+use Rattle.std.proofs.Common.{◌≡◌, ℕ, zero, suc, ◌<◌, ◌≤◌, true, false, eqb, eq-eqb, List, [], ◌∷◌, length, Some, refl, subst, ◌⊎◌, inl, inr, true≢false, arith}
 use Rattle.std.proofs.lemmas.Bool.Decides.{nat_tests}
 use Rattle.std.specs.List.{AllByRecursion}
-use Rattle.edit_syntax.specs.Characters.{line_feed, carriage_return, quote, apostrophe, backslash, is_blank, is_basic_ch, is_literal_ch, All}
-use Rattle.edit_syntax.specs.Strings.{LineEnd, lf, crlf, line_end, Space, spaces, IsSpace, Piece, plain, letter, short, long, feed, fold, delimiter, piece, pieces, IsMultiPiece, IsRawPiece, RunsFit, FoldsAreWhole, begins_with_space, is_escape}
+use Rattle.edit_syntax.specs.Characters.{line_feed, carriage_return, quote, apostrophe, is_blank}
+use Rattle.edit_syntax.specs.Strings.{Piece, plain, letter, short, long, feed, fold, delimiter, piece, pieces, IsMultiPiece, IsRawPiece, RunsFit, FoldsAreWhole, begins_with_space}
 use Rattle.edit_syntax.specs.Grammar.{three}
-use Rattle.edit_syntax.specs.Reading.{◌>>=◌, first, begins_space, fold_at, feed_at, is_line_break, escape_at, spot_at, raw_at, line_piece_at, closes, delimiter_at, body_at, multi_at}
-use Rattle.edit_syntax.specs.Reading as reading
-use Rattle.edit_syntax.proofs.TokenLaws.{front_again, after_again, piece_again, basic_ch_not, length-pieces}
-use Rattle.edit_syntax.proofs.MultiLaws.{line_end_again, line_end_first, spaces_again, count_spaces, IsOther, FoldEnds}
-
--- ---- one piece
-
-basic_no_break : (b : ℕ) → is_basic_ch b ≡ true → is_line_break b ≡ false
-basic_no_break b h = grind (arith, nat_tests)
-
-literal_no_break : (b : ℕ) → is_literal_ch b ≡ true → is_line_break b ≡ false
-literal_no_break b h = grind (arith, nat_tests)
-
-escape_alone : (c : ℕ) → is_escape c ≡ true → (is_blank c ≡ false) × (is_line_break c ≡ false)
-escape_alone c h = (grind (arith, nat_tests), grind (arith, nat_tests))
-
-end_not_blank : (e : LineEnd) (rest : List ℕ) → is_blank (first (line_end e rest)) ≡ false
-end_not_blank lf rest = refl
-end_not_blank crlf rest = refl
-
-feed_again : (e : LineEnd) (rest : List ℕ) → feed_at (line_end e rest) ≡ Some (feed e, rest)
-unfolding feed_at
-feed_again e rest = rw (line_end_again e rest) refl
-
-fold_again : (ws : List ℕ) (e : LineEnd) (more : List Space) (rest : List ℕ) → All is_blank ws → AllByRecursion IsSpace more → begins_space rest ≡ false
-    → fold_at (backslash ∷ (ws ++ line_end e (spaces more rest))) ≡ Some (fold ws e more, rest)
-unfolding fold_at
-fold_again ws e more rest hw hm ends =
-    let tail = line_end e (spaces more rest) in
-    let stops = end_not_blank e (spaces more rest) in
-    let few : length more < length (spaces more rest) + 1 = let k = count_spaces more rest in omega arith in
-    rw (after_again is_blank ws tail hw stops, front_again is_blank ws tail hw stops, line_end_again e (spaces more rest), spaces_again (length (spaces more rest) + 1) more rest hm ends few) refl
-
-escape_again : (p : Piece) (rest : List ℕ) → IsMultiPiece p → IsOther p → FoldEnds p rest → spot_at (piece quote p rest) ≡ Some (p, rest)
-unfolding spot_at reading.piece_at
-escape_again (plain b) rest h o ends = rw (basic_no_break b h, h, (basic_ch_not b h).1) refl
-escape_again (letter c) rest h o ends =
-    let a = escape_alone c h in
-    rw (after_again is_blank [] (c ∷ rest) tt a.0, a.1) (piece_again (letter c) rest h)
-escape_again (short digits) rest h o ends = piece_again (short digits) rest h
-escape_again (long digits) rest h o ends = piece_again (long digits) rest h
-escape_again (feed e) rest h o ends = rw (line_end_first e rest) (feed_again e rest)
-escape_again (fold ws e more) rest h o ends =
-    let tail = line_end e (spaces more rest) in
-    rw (after_again is_blank ws tail h.0 (end_not_blank e (spaces more rest)), line_end_first e (spaces more rest)) (fold_again ws e more rest h.0 h.1 ends)
-escape_again delimiter rest h o ends = absurd o
-
-raw_again : (p : Piece) (rest : List ℕ) → IsRawPiece p → IsOther p → FoldEnds p rest → raw_at (piece apostrophe p rest) ≡ Some (p, rest)
-unfolding raw_at
-raw_again (plain b) rest h o ends = rw (literal_no_break b h, h) refl
-raw_again (letter c) rest h o ends = absurd h
-raw_again (short digits) rest h o ends = absurd h
-raw_again (long digits) rest h o ends = absurd h
-raw_again (feed e) rest h o ends = rw (line_end_first e rest) (feed_again e rest)
-raw_again (fold ws e more) rest h o ends = absurd h
-raw_again delimiter rest h o ends = absurd o
-
-pub literal_other : (b : ℕ) → is_literal_ch b ≡ true → eqb b apostrophe ≡ false
-literal_other b h = grind (arith, nat_tests)
-
-basic_first : (p : Piece) (rest : List ℕ) → IsMultiPiece p → IsOther p → eqb (first (piece quote p rest)) quote ≡ false
-basic_first (plain b) rest h o = (basic_ch_not b h).0
-basic_first (letter c) rest h o = refl
-basic_first (short digits) rest h o = refl
-basic_first (long digits) rest h o = refl
-basic_first (feed lf) rest h o = refl
-basic_first (feed crlf) rest h o = refl
-basic_first (fold ws e more) rest h o = refl
-basic_first delimiter rest h o = absurd o
-
-raw_first : (p : Piece) (rest : List ℕ) → IsRawPiece p → IsOther p → eqb (first (piece apostrophe p rest)) apostrophe ≡ false
-raw_first (plain b) rest h o = literal_other b h
-raw_first (letter c) rest h o = absurd h
-raw_first (short digits) rest h o = absurd h
-raw_first (long digits) rest h o = absurd h
-raw_first (feed lf) rest h o = refl
-raw_first (feed crlf) rest h o = refl
-raw_first (fold ws e more) rest h o = absurd h
-raw_first delimiter rest h o = absurd o
+use Rattle.edit_syntax.specs.Reading.{first, begins_space, is_line_break, line_piece_at, closes, body_at, multi_at}
+use Rattle.edit_syntax.proofs.TokenLaws.{length-pieces}
+use Rattle.edit_syntax.proofs.MultiLaws.{IsOther, FoldEnds}
+use Rattle.edit_syntax.proofs.PieceReadAgain.{basic_no_break, literal_no_break, escape_again, raw_again, basic_first, raw_first}
 
 -- ---- all pieces
 
@@ -91,17 +16,30 @@ raw_first delimiter rest h o = absurd o
 record Rereads (mark : ℕ) (valid : Piece → Type 0) : Type 0 where
   no_blank : is_blank mark ≡ false
   no_break : is_line_break mark ≡ false
-  again : (p : Piece) (rest : List ℕ) → valid p → IsOther p → FoldEnds p rest → line_piece_at mark (piece mark p rest) ≡ Some (p, rest)
+  again : (p : Piece) (rest : List ℕ) → valid p → IsOther p → FoldEnds p rest
+      → line_piece_at mark (piece mark p rest) ≡ Some (p, rest)
   other : (p : Piece) (rest : List ℕ) → valid p → IsOther p → eqb (first (piece mark p rest)) mark ≡ false
   plain_other : (b : ℕ) → valid (plain b) → is_line_break b ≡ false
 
 basic_rereads : Rereads quote IsMultiPiece
 unfolding line_piece_at
-basic_rereads = record { no_blank = refl; no_break = refl; again = escape_again; other = basic_first; plain_other = basic_no_break }
+basic_rereads = record {
+  no_blank = refl;
+  no_break = refl;
+  again = escape_again;
+  other = basic_first;
+  plain_other = basic_no_break;
+}
 
 raw_rereads : Rereads apostrophe IsRawPiece
 unfolding line_piece_at
-raw_rereads = record { no_blank = refl; no_break = refl; again = raw_again; other = raw_first; plain_other = literal_no_break }
+raw_rereads = record {
+  no_blank = refl;
+  no_break = refl;
+  again = raw_again;
+  other = raw_first;
+  plain_other = literal_no_break;
+}
 
 -- a delimiter, or another piece
 sort : (p : Piece) → (p ≡ delimiter) ⊎ IsOther p
@@ -113,24 +51,32 @@ sort (feed e) = inr tt
 sort (fold ws e more) = inr tt
 sort delimiter = inl refl
 
-no_space_byte : (b : ℕ) (rest : List ℕ) → is_blank b ≡ false → is_line_break b ≡ false → begins_space (b ∷ rest) ≡ false
+no_space_byte : (b : ℕ) (rest : List ℕ) → is_blank b ≡ false → is_line_break b ≡ false
+    → begins_space (b ∷ rest) ≡ false
 no_space_byte b rest h g =
     let not_lf : eqb b line_feed ≡ false = grind (arith, nat_tests) in
     let not_cr : eqb b carriage_return ≡ false = grind (arith, nat_tests) in
     rw (h, not_lf, not_cr) refl
 
 -- where no piece of white space comes first, no white space does
-spaces_over : (mark : ℕ) (valid : Piece → Type 0) → Rereads mark valid → (ps : List Piece) (rest : List ℕ) → AllByRecursion valid ps → begins_with_space ps ≡ false → begins_space (pieces mark ps (three mark rest)) ≡ false
-spaces_over mark valid kind [] rest h e = no_space_byte mark (mark ∷ (mark ∷ rest)) kind.no_blank kind.no_break
-spaces_over mark valid kind (plain b ∷ ps) rest h e = no_space_byte b (pieces mark ps (three mark rest)) e (kind.plain_other b h.0)
+spaces_over : (mark : ℕ) (valid : Piece → Type 0) → Rereads mark valid → (ps : List Piece) (rest : List ℕ)
+    → AllByRecursion valid ps → begins_with_space ps ≡ false
+    → begins_space (pieces mark ps (three mark rest)) ≡ false
+spaces_over mark valid kind [] rest h e = no_space_byte mark
+    (mark ∷ (mark ∷ rest)) kind.no_blank kind.no_break
+spaces_over mark valid kind (plain b ∷ ps) rest h e = no_space_byte b (pieces mark ps (three mark rest)) e
+    (kind.plain_other b h.0)
 spaces_over mark valid kind (letter c ∷ ps) rest h e = refl
 spaces_over mark valid kind (short digits ∷ ps) rest h e = refl
 spaces_over mark valid kind (long digits ∷ ps) rest h e = refl
 spaces_over mark valid kind (feed end ∷ ps) rest h e = absurd (true≢false e)
 spaces_over mark valid kind (fold ws end more ∷ ps) rest h e = refl
-spaces_over mark valid kind (delimiter ∷ ps) rest h e = no_space_byte mark (pieces mark ps (three mark rest)) kind.no_blank kind.no_break
+spaces_over mark valid kind (delimiter ∷ ps) rest h e = no_space_byte mark
+    (pieces mark ps (three mark rest)) kind.no_blank kind.no_break
 
-fold_ends : (mark : ℕ) (valid : Piece → Type 0) → Rereads mark valid → (p : Piece) (ps : List Piece) (rest : List ℕ) → AllByRecursion valid ps → FoldsAreWhole (p ∷ ps) → FoldEnds p (pieces mark ps (three mark rest))
+fold_ends : (mark : ℕ) (valid : Piece → Type 0) → Rereads mark valid
+    → (p : Piece) (ps : List Piece) (rest : List ℕ) → AllByRecursion valid ps → FoldsAreWhole (p ∷ ps)
+    → FoldEnds p (pieces mark ps (three mark rest))
 fold_ends mark valid kind (plain b) ps rest h w = tt
 fold_ends mark valid kind (letter c) ps rest h w = tt
 fold_ends mark valid kind (short digits) ps rest h w = tt
@@ -169,17 +115,21 @@ closes_four mark rest = rw (eq-eqb mark mark refl) refl
 closes_second : (mark : ℕ) (text : List ℕ) → eqb (first text) mark ≡ false → closes mark (mark ∷ text) ≡ false
 closes_second mark text h = rw (eq-eqb mark mark refl, h) refl
 
-closes_third : (mark : ℕ) (text : List ℕ) → eqb (first text) mark ≡ false → closes mark (mark ∷ (mark ∷ text)) ≡ false
+closes_third : (mark : ℕ) (text : List ℕ) → eqb (first text) mark ≡ false
+    → closes mark (mark ∷ (mark ∷ text)) ≡ false
 closes_third mark text h = rw (eq-eqb mark mark refl, h) refl
 
-too_many : (few : ℕ) (ps : List Piece) → few ≤ 2 → RunsFit few (delimiter ∷ (delimiter ∷ (delimiter ∷ ps))) → ⊥
+too_many : (few : ℕ) (ps : List Piece) → few ≤ 2 → RunsFit few (delimiter ∷ (delimiter ∷ (delimiter ∷ ps)))
+    → ⊥
 too_many zero ps le h = h
 too_many (suc zero) ps le h = h
 too_many (suc (suc zero)) ps le h = h
 too_many (suc (suc (suc n))) ps le h = absurd (omega arith)
 
 -- behind a delimiter that is text the string is not over
-closes_delimiter : (mark : ℕ) (valid : Piece → Type 0) → Rereads mark valid → (few : ℕ) (ps : List Piece) (rest : List ℕ) → few ≤ 2 → AllByRecursion valid ps → RunsFit few (delimiter ∷ ps) → closes mark (mark ∷ pieces mark ps (three mark rest)) ≡ false
+closes_delimiter : (mark : ℕ) (valid : Piece → Type 0) → Rereads mark valid
+    → (few : ℕ) (ps : List Piece) (rest : List ℕ) → few ≤ 2 → AllByRecursion valid ps
+    → RunsFit few (delimiter ∷ ps) → closes mark (mark ∷ pieces mark ps (three mark rest)) ≡ false
 closes_delimiter mark valid kind few [] rest le h runs = closes_four mark rest
 closes_delimiter mark valid kind few (q ∷ []) rest le h runs = elim (sort q) [
   | inl e ↦ rw e (closes_four mark (mark ∷ rest))
@@ -187,10 +137,14 @@ closes_delimiter mark valid kind few (q ∷ []) rest le h runs = elim (sort q) [
 ]
 closes_delimiter mark valid kind few (q ∷ r ∷ ps) rest le h runs = elim (sort q) [
   | inl e ↦ elim (sort r) [
-    | inl f ↦ absurd (too_many few ps le (subst (λ (x : Piece). RunsFit few (delimiter ∷ (delimiter ∷ (x ∷ ps)))) f (subst (λ (x : Piece). RunsFit few (delimiter ∷ (x ∷ (r ∷ ps)))) e runs)))
-    | inr o ↦ rw e (closes_third mark (piece mark r (pieces mark ps (three mark rest))) (kind.other r (pieces mark ps (three mark rest)) h.1.0 o))
+    | inl f ↦ absurd (too_many few ps le
+        (subst (λ (x : Piece). RunsFit few (delimiter ∷ (delimiter ∷ (x ∷ ps)))) f
+        (subst (λ (x : Piece). RunsFit few (delimiter ∷ (x ∷ (r ∷ ps)))) e runs)))
+    | inr o ↦ rw e (closes_third mark (piece mark r (pieces mark ps (three mark rest)))
+        (kind.other r (pieces mark ps (three mark rest)) h.1.0 o))
   ]
-  | inr o ↦ closes_second mark (piece mark q (pieces mark (r ∷ ps) (three mark rest))) (kind.other q (pieces mark (r ∷ ps) (three mark rest)) h.0 o)
+  | inr o ↦ closes_second mark (piece mark q (pieces mark (r ∷ ps) (three mark rest)))
+      (kind.other q (pieces mark (r ∷ ps) (three mark rest)) h.0 o)
 ]
 
 -- pieces that are valid, in a string
@@ -200,15 +154,25 @@ record AreFine (valid : Piece → Type 0) (few : ℕ) (ps : List Piece) : Type 0
   folds : FoldsAreWhole ps
   bound : few ≤ 2
 
-delimiter_again : (mark : ℕ) (valid : Piece → Type 0) → Rereads mark valid → (n few : ℕ) (ps : List Piece) (rest : List ℕ) → AreFine valid few (delimiter ∷ ps)
-    → ((less : ℕ) → AreFine valid less ps → body_at mark n less (pieces mark ps (three mark rest)) ≡ Some (ps, rest)) → body_at mark (suc n) few (mark ∷ pieces mark ps (three mark rest)) ≡ Some (delimiter ∷ ps, rest)
+delimiter_again : (mark : ℕ) (valid : Piece → Type 0) → Rereads mark valid
+    → (n few : ℕ) (ps : List Piece) (rest : List ℕ) → AreFine valid few (delimiter ∷ ps)
+    → ((less : ℕ) → AreFine valid less ps → body_at mark n less (pieces mark ps (three mark rest))
+    ≡ Some (ps, rest)) → body_at mark (suc n) few (mark ∷ pieces mark ps (three mark rest))
+    ≡ Some (delimiter ∷ ps, rest)
 unfolding body_at
 delimiter_again mark valid kind n zero ps rest h others = absurd h.runs
 delimiter_again mark valid kind n (suc less) ps rest h others =
-    let more = others less (record { all = h.all.1; runs = h.runs; folds = h.folds; bound = let k = h.bound in omega arith }) in
-    rw (closes_delimiter mark valid kind (suc less) ps rest h.bound h.all.1 h.runs, eq-eqb mark mark refl, more) refl
+    let more = others less
+    (record { all = h.all.1; runs = h.runs; folds = h.folds; bound = let k = h.bound in omega arith }) in
+    rw (
+      closes_delimiter mark valid kind (suc less) ps rest h.bound h.all.1 h.runs,
+      eq-eqb mark mark refl,
+      more,
+    ) refl
 
-body_again : (mark : ℕ) (valid : Piece → Type 0) → Rereads mark valid → (n few : ℕ) (ps : List Piece) (rest : List ℕ) → AreFine valid few ps → eqb (first rest) mark ≡ false → length ps < n
+body_again : (mark : ℕ) (valid : Piece → Type 0) → Rereads mark valid
+    → (n few : ℕ) (ps : List Piece) (rest : List ℕ) → AreFine valid few ps → eqb (first rest) mark ≡ false
+    → length ps < n
     → body_at mark n few (pieces mark ps (three mark rest)) ≡ Some (ps, rest)
 unfolding body_at
 body_again mark valid kind zero few ps rest h ends lt = absurd (omega arith)
@@ -216,20 +180,31 @@ body_again mark valid kind (suc n) few [] rest h ends lt = rw (closes_end mark r
 body_again mark valid kind (suc n) few (p ∷ ps) rest h ends lt = elim (sort p) [
   | inl e ↦
       let fine : AreFine valid few (delimiter ∷ ps) = subst (λ (x : Piece). AreFine valid few (x ∷ ps)) e h in
-      rw e (delimiter_again mark valid kind n few ps rest fine (λ less g. body_again mark valid kind n less ps rest g ends (omega arith)))
+      rw e (delimiter_again mark valid kind n few ps rest fine
+      (λ less g. body_again mark valid kind n less ps rest g ends (omega arith)))
   | inr o ↦
       let tail = pieces mark ps (three mark rest) in
       let other = kind.other p tail h.all.0 o in
       let here = kind.again p tail h.all.0 o (fold_ends mark valid kind p ps rest h.all.1 h.folds) in
-      let more = body_again mark valid kind n 2 ps rest (record { all = h.all.1; runs = runs_behind few p ps o h.runs; folds = folds_behind p ps h.folds; bound = omega arith }) ends (omega arith) in
+      let more = body_again mark valid kind n 2 ps rest
+      (record {
+        all = h.all.1;
+        runs = runs_behind few p ps o h.runs;
+        folds = folds_behind p ps h.folds;
+        bound = omega arith;
+      }) ends (omega arith) in
       rw (closes_other mark (piece mark p tail) other, other, here, more) refl
 ]
 
-pub multi_basic_again : (ps : List Piece) (rest : List ℕ) → AllByRecursion IsMultiPiece ps → RunsFit 2 ps → FoldsAreWhole ps → eqb (first rest) quote ≡ false → multi_at quote (pieces quote ps (three quote rest)) ≡ Some (ps, rest)
+pub multi_basic_again : (ps : List Piece) (rest : List ℕ) → AllByRecursion IsMultiPiece ps → RunsFit 2 ps
+    → FoldsAreWhole ps → eqb (first rest) quote ≡ false → multi_at quote (pieces quote ps (three quote rest))
+    ≡ Some (ps, rest)
 unfolding multi_at
 multi_basic_again ps rest h runs folds ends =
     let text = pieces quote ps (three quote rest) in
-    body_again quote IsMultiPiece basic_rereads (length text) 2 ps rest (record { all = h; runs = runs; folds = folds; bound = omega arith }) ends (let k = length-pieces quote ps (three quote rest) in omega arith)
+    body_again quote IsMultiPiece basic_rereads (length text) 2 ps rest
+    (record { all = h; runs = runs; folds = folds; bound = omega arith }) ends
+    (let k = length-pieces quote ps (three quote rest) in omega arith)
 
 raw_folds : (ps : List Piece) → AllByRecursion IsRawPiece ps → FoldsAreWhole ps
 raw_folds [] h = tt
@@ -241,8 +216,12 @@ raw_folds (feed e ∷ ps) h = raw_folds ps h.1
 raw_folds (fold ws e more ∷ ps) h = absurd h.0
 raw_folds (delimiter ∷ ps) h = raw_folds ps h.1
 
-pub multi_literal_again : (ps : List Piece) (rest : List ℕ) → AllByRecursion IsRawPiece ps → RunsFit 2 ps → eqb (first rest) apostrophe ≡ false → multi_at apostrophe (pieces apostrophe ps (three apostrophe rest)) ≡ Some (ps, rest)
+pub multi_literal_again : (ps : List Piece) (rest : List ℕ) → AllByRecursion IsRawPiece ps → RunsFit 2 ps
+    → eqb (first rest) apostrophe ≡ false → multi_at apostrophe (pieces apostrophe ps (three apostrophe rest))
+    ≡ Some (ps, rest)
 unfolding multi_at
 multi_literal_again ps rest h runs ends =
     let text = pieces apostrophe ps (three apostrophe rest) in
-    body_again apostrophe IsRawPiece raw_rereads (length text) 2 ps rest (record { all = h; runs = runs; folds = raw_folds ps h; bound = omega arith }) ends (let k = length-pieces apostrophe ps (three apostrophe rest) in omega arith)
+    body_again apostrophe IsRawPiece raw_rereads (length text) 2 ps rest
+    (record { all = h; runs = runs; folds = raw_folds ps h; bound = omega arith }) ends
+    (let k = length-pieces apostrophe ps (three apostrophe rest) in omega arith)

@@ -12,87 +12,133 @@ use Rattle.edit_syntax.specs.Reading.{◌>>=◌, Read, first, gap_front, past_ga
 use Rattle.edit_syntax.specs.Marks.{mark, value_marks, elements_marks}
 use Rattle.edit_syntax.specs.Noting.{Notes, array_marks}
 use Rattle.edit_syntax.proofs.TokenLaws.{first_is, past_some}
-use Rattle.edit_syntax.proofs.ValueLaws.{Sound, elements_sound, value_sound}
+use Rattle.edit_syntax.proofs.ValueLaws.{elements_sound, value_sound}
+use Rattle.edit_syntax.proofs.ScalarLaws.{Sound}
 use Rattle.edit_syntax.proofs.GapLaws.{front_parts}
 
--- whatever is read from here on, behind these marks, completes what is read from the start behind the old ones
-pub record Fills (read : List ℕ → Read Value) (total : Read Elements) (count : ℕ) (text : List ℕ) (old out : List Mark) : Type 0 where
-  pub some : (x : Elements × List ℕ) → elements_at read count text ≡ Some x → (es : Elements) × (total ≡ Some (es, x.1)) × (out ++ array_marks x.0 x.1 ≡ old ++ array_marks es x.1)
+-- whatever is read from here on, behind these marks, completes what is read from the start behind the old
+-- ones
+pub record Fills (read : List ℕ → Read Value) (total : Read Elements) (count : ℕ) (text : List ℕ)
+    (old out : List Mark) : Type 0 where
+  pub some : (x : Elements × List ℕ) → elements_at read count text ≡ Some x → (es : Elements)
+      × (total ≡ Some (es, x.1)) × (out ++ array_marks x.0 x.1 ≡ old ++ array_marks es x.1)
   pub none : elements_at read count text ≡ None → total ≡ None
 
 -- an element before others
 abbrev pub put : Value → List ℕ → Elements → Elements
 put v r es = element v (gap_front r) (gap_front (drop 1 (past_gap r))) es
 
-elements_more : (read : List ℕ → Read Value) (count : ℕ) (text r : List ℕ) (v : Value) → eqb (first text) right_bracket ≡ false → read text ≡ Some (v, r) → eqb (first (past_gap r)) comma ≡ true
-    → elements_at read (suc count) text ≡ (elements_at read count (past_gap (drop 1 (past_gap r))) >>= λ es. Some (put v r es.0, es.1))
+elements_more : (read : List ℕ → Read Value) (count : ℕ) (text r : List ℕ) (v : Value)
+    → eqb (first text) right_bracket ≡ false → read text ≡ Some (v, r) → eqb (first (past_gap r)) comma ≡ true
+    → elements_at read (suc count) text
+    ≡ (elements_at read count (past_gap (drop 1 (past_gap r))) >>= λ es. Some (put v r es.0, es.1))
 unfolding elements_at
 elements_more read count text r v unclosed e sign = rw (unclosed, e, sign) refl
 
-put_marks : (n : ℕ) (read : List ℕ → Read Value) → Sound n read → (count : ℕ) (r : List ℕ) (v : Value) (es : Elements) (after : List ℕ) → eqb (first (past_gap r)) comma ≡ true
-    → elements_at read count (past_gap (drop 1 (past_gap r))) ≡ Some (es, after) → array_marks (put v r es) after ≡ value_marks v r ++ array_marks es after
+put_marks : (n : ℕ) (read : List ℕ → Read Value) → Sound n read
+    → (count : ℕ) (r : List ℕ) (v : Value) (es : Elements) (after : List ℕ)
+    → eqb (first (past_gap r)) comma ≡ true
+    → elements_at read count (past_gap (drop 1 (past_gap r))) ≡ Some (es, after)
+    → array_marks (put v r es) after ≡ value_marks v r ++ array_marks es after
 put_marks n read sound count r v es after sign e =
     let next = drop 1 (past_gap r) in
     let more = elements es (right_bracket ∷ after) in
     let others = elements_sound n read sound count (past_gap next) (es, after) e in
     let tail = comma ∷ gap (gap_front next) more in
     let two : next ≡ gap (gap_front next) more = front_parts next more others.0 in
-    let whole : r ≡ gap (gap_front r) tail = front_parts r tail (first_is comma (past_gap r) (omega arith) sign ∙ ap (λ (t : List ℕ). comma ∷ t) two) in
+    let whole : r ≡ gap (gap_front r) tail = front_parts r tail
+    (first_is comma (past_gap r) (omega arith) sign ∙ ap (λ (t : List ℕ). comma ∷ t) two) in
     let close = mark kinds.CloseArray (right_bracket ∷ after) after ∷ [] in
-    let one : array_marks (put v r es) after ≡ (value_marks v (gap (gap_front r) tail) ++ elements_marks es (right_bracket ∷ after)) ++ close = refl in
-    one ∙ append_assoc (value_marks v (gap (gap_front r) tail)) (elements_marks es (right_bracket ∷ after)) close ∙ ap (λ (t : List ℕ). value_marks v t ++ array_marks es after) (sym whole)
+    let one : array_marks (put v r es) after
+    ≡ (value_marks v (gap (gap_front r) tail) ++ elements_marks es (right_bracket ∷ after)) ++ close = refl in
+    one ∙ append_assoc (value_marks v (gap (gap_front r) tail))
+    (elements_marks es (right_bracket ∷ after)) close ∙
+    ap (λ (t : List ℕ). value_marks v t ++ array_marks es after) (sym whole)
 
-pub elements_turn : (n : ℕ) (read : List ℕ → Read Value) → Sound n read → (total : Read Elements) (count : ℕ) (text r : List ℕ) (v : Value) (old out new : List Mark) → eqb (first text) right_bracket ≡ false → read text ≡ Some (v, r) → eqb (first (past_gap r)) comma ≡ true
-    → new ≡ out ++ value_marks v r → Fills read total (suc count) text old out → Fills read total count (past_gap (drop 1 (past_gap r))) old new
+pub elements_turn : (n : ℕ) (read : List ℕ → Read Value) → Sound n read
+    → (total : Read Elements) (count : ℕ) (text r : List ℕ) (v : Value) (old out new : List Mark)
+    → eqb (first text) right_bracket ≡ false → read text ≡ Some (v, r) → eqb (first (past_gap r)) comma ≡ true
+    → new ≡ out ++ value_marks v r → Fills read total (suc count) text old out
+    → Fills read total count (past_gap (drop 1 (past_gap r))) old new
 elements_turn n read sound total count text r v old out new unclosed e sign noted before =
     let step = elements_more read count text r v unclosed e sign in
     record {
       some = λ x h.
           let here : elements_at read (suc count) text ≡ Some (put v r x.0, x.1) = step ∙ rw h refl in
-          let b = before.some (put v r x.0, x.1) here in
-          (b.0, b.1, ap (λ (m : List Mark). m ++ array_marks x.0 x.1) noted ∙ append_assoc out (value_marks v r) (array_marks x.0 x.1) ∙ ap (λ (m : List Mark). out ++ m) (sym (put_marks n read sound count r v x.0 x.1 sign h)) ∙ b.2);
+          let b = before.some (put v r x.0, x.1) here in (
+            b.0,
+            b.1,
+            ap (λ (m : List Mark). m ++ array_marks x.0 x.1) noted ∙
+                append_assoc out (value_marks v r) (array_marks x.0 x.1) ∙
+                ap (λ (m : List Mark). out ++ m) (sym (put_marks n read sound count r v x.0 x.1 sign h)) ∙
+                b.2,
+          );
       none = λ h. before.none (step ∙ rw h refl);
     }
 
-elements_over : (read : List ℕ → Read Value) (count : ℕ) (text r : List ℕ) (v : Value) → eqb (first text) right_bracket ≡ false → read text ≡ Some (v, r) → eqb (first (past_gap r)) comma ≡ false
-    → elements_at read (suc count) text ≡ (past right_bracket (past_gap r) >>= λ rest. Some (last_element v (gap_front r), rest))
+elements_over : (read : List ℕ → Read Value) (count : ℕ) (text r : List ℕ) (v : Value)
+    → eqb (first text) right_bracket ≡ false → read text ≡ Some (v, r)
+    → eqb (first (past_gap r)) comma ≡ false
+    → elements_at read (suc count) text
+    ≡ (past right_bracket (past_gap r) >>= λ rest. Some (last_element v (gap_front r), rest))
 unfolding elements_at
 elements_over read count text r v unclosed e sign = rw (unclosed, e, sign) refl
 
-elements_closed : (read : List ℕ → Read Value) (count : ℕ) (text : List ℕ) → eqb (first text) right_bracket ≡ true → elements_at read (suc count) text ≡ Some (no_elements, drop 1 text)
+elements_closed : (read : List ℕ → Read Value) (count : ℕ) (text : List ℕ)
+    → eqb (first text) right_bracket ≡ true → elements_at read (suc count) text
+    ≡ Some (no_elements, drop 1 text)
 unfolding elements_at
 elements_closed read count text closed = rw closed refl
 
 -- the closing bracket stands where an element may
-pub elements_end : (read : List ℕ → Read Value) (total : Read Elements) (count : ℕ) (text : List ℕ) (old out new : List Mark) → eqb (first text) right_bracket ≡ true → new ≡ out ++ (mark kinds.CloseArray text (drop 1 text) ∷ [])
-    → Fills read total (suc count) text old out → (es : Elements) × (total ≡ Some (es, drop 1 text)) × (new ≡ old ++ array_marks es (drop 1 text))
+pub elements_end : (read : List ℕ → Read Value) (total : Read Elements) (count : ℕ) (text : List ℕ)
+    (old out new : List Mark) → eqb (first text) right_bracket ≡ true
+    → new ≡ out ++ (mark kinds.CloseArray text (drop 1 text) ∷ [])
+    → Fills read total (suc count) text old out → (es : Elements) × (total ≡ Some (es, drop 1 text))
+    × (new ≡ old ++ array_marks es (drop 1 text))
 elements_end read total count text old out new closed ended before =
     let b = before.some (no_elements, drop 1 text) (elements_closed read count text closed) in
     let bracket : text ≡ right_bracket ∷ drop 1 text = first_is right_bracket text (omega arith) closed in
     (b.0, b.1, ended ∙ ap (λ (t : List ℕ). out ++ (mark kinds.CloseArray t (drop 1 text) ∷ [])) bracket ∙ b.2)
 
 -- the closing bracket stands behind an element
-pub elements_done : (read : List ℕ → Read Value) (total : Read Elements) (count : ℕ) (text r after : List ℕ) (v : Value) (old out mid new : List Mark) → eqb (first text) right_bracket ≡ false → read text ≡ Some (v, r) → eqb (first (past_gap r)) comma ≡ false
-    → Some after ≡ past right_bracket (past_gap r) → mid ≡ out ++ value_marks v r → new ≡ mid ++ (mark kinds.CloseArray (past_gap r) after ∷ []) → Fills read total (suc count) text old out
+pub elements_done : (read : List ℕ → Read Value) (total : Read Elements) (count : ℕ) (text r after : List ℕ)
+    (v : Value) (old out mid new : List Mark) → eqb (first text) right_bracket ≡ false
+    → read text ≡ Some (v, r) → eqb (first (past_gap r)) comma ≡ false
+    → Some after ≡ past right_bracket (past_gap r) → mid ≡ out ++ value_marks v r
+    → new ≡ mid ++ (mark kinds.CloseArray (past_gap r) after ∷ []) → Fills read total (suc count) text old out
     → (es : Elements) × (total ≡ Some (es, after)) × (new ≡ old ++ array_marks es after)
 elements_done read total count text r after v old out mid new unclosed e sign closed noted ended before =
     let g = gap_front r in
     let m = last_element v g in
-    let here : elements_at read (suc count) text ≡ Some (m, after) = elements_over read count text r v unclosed e sign ∙ rw (← closed) refl in
+    let here : elements_at read (suc count) text ≡ Some (m, after) =
+    elements_over read count text r v unclosed e sign ∙ rw (← closed) refl in
     let b = before.some (m, after) here in
-    let bracket : past_gap r ≡ right_bracket ∷ after = past_some right_bracket (past_gap r) after (omega arith) (sym closed) in
+    let bracket : past_gap r ≡ right_bracket ∷ after = past_some right_bracket (past_gap r) after
+    (omega arith) (sym closed) in
     let whole : r ≡ gap g (right_bracket ∷ after) = front_parts r (right_bracket ∷ after) bracket in
     let close = mark kinds.CloseArray (right_bracket ∷ after) after ∷ [] in
     let one : array_marks m after ≡ value_marks v (gap g (right_bracket ∷ after)) ++ close = refl in
     let all : array_marks m after ≡ value_marks v r ++ (mark kinds.CloseArray (past_gap r) after ∷ []) =
-    one ∙ ap (λ (t : List ℕ). value_marks v t ++ close) (sym whole) ∙ ap (λ (t : List ℕ). value_marks v r ++ (mark kinds.CloseArray t after ∷ [])) (sym bracket) in
-    (b.0, b.1, ended ∙ ap (λ (t : List Mark). t ++ (mark kinds.CloseArray (past_gap r) after ∷ [])) noted ∙ append_assoc out (value_marks v r) (mark kinds.CloseArray (past_gap r) after ∷ []) ∙ ap (λ (t : List Mark). out ++ t) (sym all) ∙ b.2)
+    one ∙ ap (λ (t : List ℕ). value_marks v t ++ close) (sym whole) ∙
+    ap (λ (t : List ℕ). value_marks v r ++ (mark kinds.CloseArray t after ∷ [])) (sym bracket) in (
+      b.0,
+      b.1,
+      ended ∙ ap (λ (t : List Mark). t ++ (mark kinds.CloseArray (past_gap r) after ∷ [])) noted ∙
+          append_assoc out (value_marks v r) (mark kinds.CloseArray (past_gap r) after ∷ []) ∙
+          ap (λ (t : List Mark). out ++ t) (sym all) ∙ b.2,
+    )
 
-pub elements_refused : (read : List ℕ → Read Value) (total : Read Elements) (count : ℕ) (text r : List ℕ) (v : Value) (old out : List Mark) → eqb (first text) right_bracket ≡ false → read text ≡ Some (v, r) → eqb (first (past_gap r)) comma ≡ false
+pub elements_refused : (read : List ℕ → Read Value) (total : Read Elements) (count : ℕ) (text r : List ℕ)
+    (v : Value) (old out : List Mark) → eqb (first text) right_bracket ≡ false → read text ≡ Some (v, r)
+    → eqb (first (past_gap r)) comma ≡ false
     → None ≡ past right_bracket (past_gap r) → Fills read total (suc count) text old out → total ≡ None
-elements_refused read total count text r v old out unclosed e sign closed before = before.none (elements_over read count text r v unclosed e sign ∙ rw (← closed) refl)
+elements_refused read total count text r v old out unclosed e sign closed before =
+    before.none (elements_over read count text r v unclosed e sign ∙ rw (← closed) refl)
 
-elements_fail : (read : List ℕ → Read Value) (total : Read Elements) (count : ℕ) (text : List ℕ) (old out : List Mark) → eqb (first text) right_bracket ≡ false → read text ≡ None → Fills read total (suc count) text old out → total ≡ None
+elements_fail : (read : List ℕ → Read Value) (total : Read Elements) (count : ℕ) (text : List ℕ)
+    (old out : List Mark) → eqb (first text) right_bracket ≡ false → read text ≡ None
+    → Fills read total (suc count) text old out → total ≡ None
 unfolding elements_at
 elements_fail read total count text old out unclosed e before = before.none (rw (unclosed, e) refl)
 
@@ -101,15 +147,22 @@ unfolding elements_at
 elements_none read text = refl
 
 -- the exit of an element that was not read
-pub elements_failed : (read : List ℕ → Read Value) (total : Read Elements) (count : ℕ) (text : List ℕ) (old new : Vec Mark) (out : List Mark) (e e2 : ReadError) (r : Result (Bor (List ℕ)) ReadError) → r ≡ Err e2 → e2 ≡ e → eqb (first text) right_bracket ≡ false
-    → ((e ≡ Memory → ⊥) → read text ≡ None) → Fills read total (suc count) text old.items out → Notes array_marks old new r total
+pub elements_failed : (read : List ℕ → Read Value) (total : Read Elements) (count : ℕ) (text : List ℕ)
+    (old new : Vec Mark) (out : List Mark) (e e2 : ReadError) (r : Result (Bor (List ℕ)) ReadError)
+    → r ≡ Err e2 → e2 ≡ e → eqb (first text) right_bracket ≡ false
+    → ((e ≡ Memory → ⊥) → read text ≡ None) → Fills read total (suc count) text old.items out
+    → Notes array_marks old new r total
 elements_failed read total count text old new out e e2 r was same unclosed h before =
-    subst (λ (x : Result (Bor (List ℕ)) ReadError). Notes array_marks old new x total) (sym was) (λ other. elements_fail read total count text old.items out unclosed (h (λ m. other (same ∙ m))) before)
+    subst (λ (x : Result (Bor (List ℕ)) ReadError). Notes array_marks old new x total) (sym was)
+    (λ other. elements_fail read total count text old.items out unclosed (h (λ m. other (same ∙ m))) before)
 
 -- ---- arrays
 
-pub array_noted : (n : ℕ) (old mid new : Vec Mark) (text : List ℕ) (r : Result (Bor (List ℕ)) ReadError) → eqb (first text) left_bracket ≡ true
-    → mid.items ≡ old.items ++ (mark kinds.OpenArray text (drop 1 text) ∷ []) → Notes array_marks mid new r (elements_at (value_at n) (length text) (past_gap (drop 1 text))) → Notes value_marks old new r (value_at (suc n) text)
+pub array_noted : (n : ℕ) (old mid new : Vec Mark) (text : List ℕ) (r : Result (Bor (List ℕ)) ReadError)
+    → eqb (first text) left_bracket ≡ true
+    → mid.items ≡ old.items ++ (mark kinds.OpenArray text (drop 1 text) ∷ [])
+    → Notes array_marks mid new r (elements_at (value_at n) (length text) (past_gap (drop 1 text)))
+    → Notes value_marks old new r (value_at (suc n) text)
 unfolding value_at
 array_noted n old mid new text (Ok after) opened noted h =
     let inner = drop 1 text in
@@ -118,9 +171,16 @@ array_noted n old mid new text (Ok after) opened noted h =
     let more = elements h.0 (right_bracket ∷ after.now) in
     let here : value_at (suc n) text ≡ Some (v, after.now) = rw (opened, h.1) refl in
     let sound = value_sound (suc n) text (v, after.now) here in
-    let es = elements_sound n (value_at n) (value_sound n) (length text) (past_gap inner) (h.0, after.now) h.1 in
+    let es = elements_sound n (value_at n) (value_sound n) (length text) (past_gap inner)
+    (h.0, after.now) h.1 in
     let tail : inner ≡ gap g more = front_parts inner more es.0 in
     let same : mark kinds.OpenArray text inner ≡ mark kinds.OpenArray (value v after.now) (gap g more) =
-    ap (λ (t : List ℕ). mark kinds.OpenArray t inner) sound.0 ∙ ap (λ (t : List ℕ). mark kinds.OpenArray (value v after.now) t) tail in
-    (v, here, h.2 ∙ ap (λ (m : List Mark). m ++ array_marks h.0 after.now) (noted ∙ ap (λ (m : Mark). old.items ++ (m ∷ [])) same) ∙ append_assoc old.items _ (array_marks h.0 after.now))
+    ap (λ (t : List ℕ). mark kinds.OpenArray t inner) sound.0 ∙
+    ap (λ (t : List ℕ). mark kinds.OpenArray (value v after.now) t) tail in (
+      v,
+      here,
+      h.2 ∙ ap (λ (m : List Mark). m ++ array_marks h.0 after.now)
+          (noted ∙ ap (λ (m : Mark). old.items ++ (m ∷ [])) same) ∙
+          append_assoc old.items _ (array_marks h.0 after.now),
+    )
 array_noted n old mid new text (Err e) opened noted h = λ refused. rw (opened, h refused) refl

@@ -26,7 +26,8 @@ pub record EndsValue (rest : List ℕ) : Type 0 where
   pub no_quote : eqb (first rest) 34 ≡ false
   pub no_apostrophe : eqb (first rest) 39 ≡ false
 
-pub blank_ends : (b : ℕ) (rest : List ℕ) → is_blank b ≡ true → is_decimal (first rest) ≡ false → EndsValue (b ∷ rest)
+pub blank_ends : (b : ℕ) (rest : List ℕ) → is_blank b ≡ true → is_decimal (first rest) ≡ false
+    → EndsValue (b ∷ rest)
 blank_ends b rest h other = record {
   no_word = grind (arith, nat_tests);
   no_time = rw other (and_false (eqb b 32));
@@ -91,7 +92,15 @@ power_whole b h = record {
 }
 
 pub dot_whole : EndsWhole 46
-dot_whole = record { no_mark = refl; no_digit = refl; no_dash = refl; no_colon = refl; no_x = refl; no_o = refl; no_b = refl }
+dot_whole = record {
+  no_mark = refl;
+  no_digit = refl;
+  no_dash = refl;
+  no_colon = refl;
+  no_x = refl;
+  no_o = refl;
+  no_b = refl;
+}
 
 -- ---- digits
 
@@ -108,42 +117,58 @@ marked_bar class b h = go (class b)
 mutual
   digits_marked : (class : ℕ → Bool) (ds : List ℕ) → are_digits class ds ≡ true → All (is_marked class) ds
   digits_marked class [] e = tt
-  digits_marked class (b ∷ ds) e = let h = and_parts (class b) (are_more_digits class ds) e in (marked_class class b h.0, more_marked class ds h.1)
+  digits_marked class (b ∷ ds) e = let h = and_parts (class b) (are_more_digits class ds) e in
+      (marked_class class b h.0, more_marked class ds h.1)
 
   more_marked : (class : ℕ → Bool) (ds : List ℕ) → are_more_digits class ds ≡ true → All (is_marked class) ds
   more_marked class [] e = tt
   more_marked class (b ∷ ds) e =
       by_test (eqb b 95)
-      (λ h. (marked_bar class b h, digits_marked class ds (sym (ap (λ c. cond c (are_digits class ds) (class b && are_more_digits class ds)) h) ∙ e)))
-      (λ h. let g = and_parts (class b) (are_more_digits class ds) (sym (ap (λ c. cond c (are_digits class ds) (class b && are_more_digits class ds)) h) ∙ e) in
+      (λ h. (
+        marked_bar class b h,
+        digits_marked class ds
+            (sym (ap (λ c. cond c (are_digits class ds) (class b && are_more_digits class ds)) h) ∙ e),
+      ))
+      (λ h. let g = and_parts (class b) (are_more_digits class ds)
+      (sym (ap (λ c. cond c (are_digits class ds) (class b && are_more_digits class ds)) h) ∙ e) in
       (marked_class class b g.0, more_marked class ds g.1))
 
 pub whole_marked : (ds : List ℕ) → is_whole ds ≡ true → All (is_marked is_decimal) ds
 whole_marked [] e = absurd (true≢false (sym e))
 whole_marked (b ∷ []) e = (marked_class is_decimal b e, tt)
-whole_marked (b ∷ c ∷ ds) e = digits_marked is_decimal (b ∷ c ∷ ds) (and_parts (nat_le 49 b) (are_digits is_decimal (b ∷ c ∷ ds)) e).1
+whole_marked (b ∷ c ∷ ds) e = digits_marked is_decimal (b ∷ c ∷ ds)
+    (and_parts (nat_le 49 b) (are_digits is_decimal (b ∷ c ∷ ds)) e).1
 
-pub digits_again : (class : ℕ → Bool) (ds rest : List ℕ) → are_digits class ds ≡ true → is_marked class (first rest) ≡ false → digits_at class (ds ++ rest) ≡ Some (ds, rest)
+pub digits_again : (class : ℕ → Bool) (ds rest : List ℕ) → are_digits class ds ≡ true
+    → is_marked class (first rest) ≡ false → digits_at class (ds ++ rest) ≡ Some (ds, rest)
 unfolding digits_at
 digits_again class ds rest h stops =
     let all = digits_marked class ds h in
-    rw (front_again (is_marked class) ds rest all stops, after_again (is_marked class) ds rest all stops, h) refl
+    rw (front_again (is_marked class) ds rest all stops, after_again (is_marked class) ds rest all stops, h)
+    refl
 
-pub whole_again : (ds rest : List ℕ) → is_whole ds ≡ true → is_marked is_decimal (first rest) ≡ false → whole_at (ds ++ rest) ≡ Some (ds, rest)
+pub whole_again : (ds rest : List ℕ) → is_whole ds ≡ true → is_marked is_decimal (first rest) ≡ false
+    → whole_at (ds ++ rest) ≡ Some (ds, rest)
 unfolding whole_at
 whole_again ds rest h stops =
     let all = whole_marked ds h in
-    rw (front_again (is_marked is_decimal) ds rest all stops, after_again (is_marked is_decimal) ds rest all stops, h) refl
+    rw (
+      front_again (is_marked is_decimal) ds rest all stops,
+      after_again (is_marked is_decimal) ds rest all stops,
+      h,
+    ) refl
 
 -- a digit comes first
-pub digits_first : (ds rest : List ℕ) → are_digits is_decimal ds ≡ true → is_decimal (first (ds ++ rest)) ≡ true
+pub digits_first : (ds rest : List ℕ) → are_digits is_decimal ds ≡ true
+    → is_decimal (first (ds ++ rest)) ≡ true
 digits_first [] rest e = absurd (true≢false (sym e))
 digits_first (b ∷ ds) rest e = (and_parts (is_decimal b) (are_more_digits is_decimal ds) e).0
 
 pub whole_first : (ds rest : List ℕ) → is_whole ds ≡ true → is_decimal (first (ds ++ rest)) ≡ true
 whole_first [] rest e = absurd (true≢false (sym e))
 whole_first (b ∷ []) rest e = e
-whole_first (b ∷ c ∷ ds) rest e = digits_first (b ∷ c ∷ ds) rest (and_parts (nat_le 49 b) (are_digits is_decimal (b ∷ c ∷ ds)) e).1
+whole_first (b ∷ c ∷ ds) rest e = digits_first (b ∷ c ∷ ds) rest
+    (and_parts (nat_le 49 b) (are_digits is_decimal (b ∷ c ∷ ds)) e).1
 
 -- a digit is nothing else
 pub record IsDigitAlone (b : ℕ) : Type 0 where

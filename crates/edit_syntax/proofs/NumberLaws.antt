@@ -1,121 +1,17 @@
--- Numbers, dates and times that are read are spelled so.
+-- Dates and times that are read are spelled so, and with them all numbers.
 use Rattle.std.proofs.Common.{◌≡◌, ℕ, zero, suc, ◌+◌, ◌<◌, ◌≤◌, nat_le, cond, Bool, true, false, ◌&&◌, ◌||◌, ◌==◌, eqb, List, [], ◌∷◌, ◌++◌, length, slice_index, take, drop, Option, Some, IfSome, refl, sym, ap, subst, ◌∙◌, inl, inr, arith}
 use Rattle.std.proofs.lemmas.Bool.Decides.{nat_tests}
 use Rattle.std.proofs.lemmas.List.{take-append-drop}
 use Rattle.std.specs.List.{prefix_len}
 use Rattle.edit_syntax.specs.Characters.{All}
-use Rattle.edit_syntax.specs.Numbers.{Sign, no_sign, plus, minus, sign, is_decimal, are_digits, is_whole, Base, hexadecimal, octal, binary, base_letter, base_digit, Exponent, exponent, IsExponent, Date, date, IsDate, Time, time, IsTime, HasDigits, fraction_text, Offset, offset, IsOffset}
-use Rattle.edit_syntax.specs.Grammar.{Value, integer, float, datetime, value, IsValue}
-use Rattle.edit_syntax.specs.ReadingSteps.{first, front, after, past}
-use Rattle.edit_syntax.specs.ReadingNumbers.{is_marked, digits_at, whole_at, sign_of, past_sign, is_power, exponent_at, fraction_read, whole_read, begins, decimal_at, based_at, count_at, group_at, date_at, second_at, time_at, offset_at, joins, dated_at, timed_at, unsigned_at, number_at}
+use Rattle.edit_syntax.specs.Numbers.{no_sign, plus, minus, is_decimal, Base, hexadecimal, octal, binary, base_letter, Date, date, IsDate, Time, time, IsTime, HasDigits, fraction_text, Offset, offset, IsOffset}
+use Rattle.edit_syntax.specs.Grammar.{Value}
+use Rattle.edit_syntax.specs.ReadingSteps.{first, after, past}
+use Rattle.edit_syntax.specs.ReadingNumbers.{based_at, count_at, group_at, date_at, second_at, time_at, offset_at, joins, dated_at, timed_at, unsigned_at, number_at}
 use Rattle.edit_syntax.proofs.TokenLaws.{bind_some, chosen, tested, some_is, first_is, first_of, at_drop, past_some, run_parts, run_all}
 use Rattle.edit_syntax.proofs.KeyLaws.{length_front}
 use Rattle.std.proofs.lemmas.Bool.{and_parts}
-
--- a number, a date or a time
-abbrev pub IsNumber : Value → Type 0
-IsNumber (integer n) = Unit {0}
-IsNumber (float f) = Unit {0}
-IsNumber (datetime d) = Unit {0}
-IsNumber _ = ⊥
-
--- the text begins with this number, and the rest follows it
-abbrev pub Spelled : List ℕ → Value × List ℕ → Type 0
-Spelled text y = (text ≡ value y.0 y.1) × IsValue y.0 × IsNumber y.0
-
--- ---- digits
-
-digits_sound : (class : ℕ → Bool) (text : List ℕ) (x : List ℕ × List ℕ) → digits_at class text ≡ Some x → (text ≡ x.0 ++ x.1) × (are_digits class x.0 ≡ true)
-unfolding digits_at
-digits_sound class text x e =
-    let t = tested (are_digits class (front (is_marked class) text)) _ x e in
-    subst (λ (y : List ℕ × List ℕ). (text ≡ y.0 ++ y.1) × (are_digits class y.0 ≡ true)) (some_is _ x t.1) (run_parts (is_marked class) text, t.0)
-
-whole_sound : (text : List ℕ) (x : List ℕ × List ℕ) → whole_at text ≡ Some x → (text ≡ x.0 ++ x.1) × (is_whole x.0 ≡ true)
-unfolding whole_at
-whole_sound text x e =
-    let t = tested (is_whole (front (is_marked is_decimal) text)) _ x e in
-    subst (λ (y : List ℕ × List ℕ). (text ≡ y.0 ++ y.1) × (is_whole y.0 ≡ true)) (some_is _ x t.1) (run_parts (is_marked is_decimal) text, t.0)
-
-sign_sound : (text : List ℕ) → text ≡ sign (sign_of text) (past_sign text)
-sign_sound text = go (eqb (first text) 43) (eqb (first text) 45) refl refl
-  where
-    go : (a b : Bool) → eqb (first text) 43 ≡ a → eqb (first text) 45 ≡ b → text ≡ sign (sign_of text) (past_sign text)
-    go true b e f = rw e (first_is 43 text (omega arith) e)
-    go false true e f = rw (e, f) (first_is 45 text (omega arith) f)
-    go false false e f = rw (e, f) refl
-
--- ---- numbers
-
-exponent_sound : (text : List ℕ) (x : Exponent × List ℕ) → is_power (first text) ≡ true → exponent_at text ≡ Some x → (text ≡ exponent x.0 x.1) × IsExponent x.0
-unfolding exponent_at
-exponent_sound text x h e =
-    let a = bind_some (digits_at is_decimal (past_sign (drop 1 text))) _ x e in
-    let d = digits_sound is_decimal (past_sign (drop 1 text)) a.0 a.1 in
-    subst (λ (y : Exponent × List ℕ). (text ≡ exponent y.0 y.1) × IsExponent y.0) (some_is _ x a.2)
-    (first_of is_power text refl h ∙ ap (λ (r : List ℕ). first text ∷ r) (sign_sound (drop 1 text) ∙ ap (sign (sign_of (drop 1 text))) d.0), (h, d.1))
-
-fraction_sound : (s : Sign) (whole fraction text : List ℕ) (x : Value × List ℕ) → is_whole whole ≡ true → are_digits is_decimal fraction ≡ true → fraction_read s whole fraction text ≡ Some x
-    → Spelled (sign s (whole ++ (46 ∷ (fraction ++ text)))) x
-unfolding fraction_read
-fraction_sound s whole fraction text x hw hf e =
-    let P : Value × List ℕ → Type 0 = Spelled (sign s (whole ++ (46 ∷ (fraction ++ text)))) in
-    elim (chosen (is_power (first text)) _ _ (Some x) e) [
-      | inl h ↦
-          let a = bind_some (exponent_at text) _ x h.1 in
-          let p = exponent_sound text a.0 h.0 a.1 in
-          subst P (some_is _ x a.2) (ap (λ (r : List ℕ). sign s (whole ++ (46 ∷ (fraction ++ r)))) p.0, (hw, hf, p.1), tt)
-      | inr h ↦ subst P (some_is _ x h.1) (refl, (hw, hf, tt), tt)
-    ]
-
-behind_sound : (s : Sign) (whole text : List ℕ) (x : Value × List ℕ) → is_whole whole ≡ true → whole_read s whole text ≡ Some x → Spelled (sign s (whole ++ text)) x
-unfolding whole_read
-behind_sound s whole text x hw e =
-    let P : Value × List ℕ → Type 0 = Spelled (sign s (whole ++ text)) in
-    elim (chosen (eqb (first text) 46) _ _ (Some x) e) [
-      | inl h ↦
-          let a = bind_some (digits_at is_decimal (drop 1 text)) _ x h.1 in
-          let d = digits_sound is_decimal (drop 1 text) a.0 a.1 in
-          let f = fraction_sound s whole a.0.0 a.0.1 x hw d.1 a.2 in
-          let same : text ≡ 46 ∷ (a.0.0 ++ a.0.1) = first_is 46 text (omega arith) h.0 ∙ ap (λ (r : List ℕ). 46 ∷ r) d.0 in
-          (ap (λ (r : List ℕ). sign s (whole ++ r)) same ∙ f.0, f.1, f.2)
-      | inr h ↦ elim (chosen (is_power (first text)) _ _ (Some x) h.1) [
-        | inl k ↦
-            let a = bind_some (exponent_at text) _ x k.1 in
-            let p = exponent_sound text a.0 k.0 a.1 in
-            subst P (some_is _ x a.2) (ap (λ (r : List ℕ). sign s (whole ++ r)) p.0, (hw, p.1), tt)
-        | inr k ↦ subst P (some_is _ x k.1) (refl, hw, tt)
-      ]
-    ]
-
-pub begins_is : (a b c : ℕ) (text : List ℕ) → 0 < a → 0 < b → 0 < c → begins a b c text ≡ true → text ≡ a ∷ (b ∷ (c ∷ drop 3 text))
-begins_is a b c text la lb lc e =
-    let y = and_parts _ (eqb (slice_index text 2) c) e in
-    let z = and_parts _ (eqb (slice_index text 1) b) y.0 in
-    first_is a text la z.0 ∙ ap (λ (r : List ℕ). a ∷ r) (at_drop 1 b text lb z.1 ∙ ap (λ (r : List ℕ). b ∷ r) (at_drop 2 c text lc y.1))
-
-decimal_sound : (s : Sign) (text : List ℕ) (x : Value × List ℕ) → decimal_at s text ≡ Some x → Spelled (sign s text) x
-unfolding decimal_at
-decimal_sound s text x e =
-    let P : Value × List ℕ → Type 0 = Spelled (sign s text) in
-    elim (chosen (begins 105 110 102 text) _ _ (Some x) e) [
-      | inl h ↦ subst P (some_is _ x h.1) (ap (sign s) (begins_is 105 110 102 text (omega arith) (omega arith) (omega arith) h.0), tt, tt)
-      | inr h ↦ elim (chosen (begins 110 97 110 text) _ _ (Some x) h.1) [
-        | inl k ↦ subst P (some_is _ x k.1) (ap (sign s) (begins_is 110 97 110 text (omega arith) (omega arith) (omega arith) k.0), tt, tt)
-        | inr k ↦
-            let a = bind_some (whole_at text) _ x k.1 in
-            let w = whole_sound text a.0 a.1 in
-            let f = behind_sound s a.0.0 a.0.1 x w.1 a.2 in
-            (ap (sign s) w.0 ∙ f.0, f.1, f.2)
-      ]
-    ]
-
-based_sound : (b : Base) (text : List ℕ) (x : Value × List ℕ) → based_at b text ≡ Some x → Spelled (48 ∷ (base_letter b ∷ text)) x
-unfolding based_at
-based_sound b text x e =
-    let a = bind_some (digits_at (base_digit b) text) _ x e in
-    let d = digits_sound (base_digit b) text a.0 a.1 in
-    subst (Spelled (48 ∷ (base_letter b ∷ text))) (some_is _ x a.2) (ap (λ (r : List ℕ). 48 ∷ (base_letter b ∷ r)) d.0, d.1, tt)
+use Rattle.edit_syntax.proofs.DigitLaws.{Spelled, decimal_sound, based_sound}
 
 -- ---- dates and times
 
@@ -123,29 +19,35 @@ le_of : (a b : ℕ) → nat_le a b ≡ true → a ≤ b
 le_of a b h = grind (arith, nat_tests)
 
 -- a front of a run
-run_front : (class : ℕ → Bool) (n : ℕ) (text : List ℕ) → n ≤ prefix_len class text → (length (take n text) ≡ n) × All class (take n text)
+run_front : (class : ℕ → Bool) (n : ℕ) (text : List ℕ) → n ≤ prefix_len class text
+    → (length (take n text) ≡ n) × All class (take n text)
 run_front class zero text le = (refl, tt)
 run_front class (suc n) [] le = absurd (omega arith)
 run_front class (suc n) (b ∷ text) le = go (class b) refl le (λ h. run_front class n text h)
   where
-    go : (t : Bool) → class b ≡ t → suc n ≤ cond t (1 + prefix_len class text) 0 → (n ≤ prefix_len class text → (length (take n text) ≡ n) × All class (take n text))
+    go : (t : Bool) → class b ≡ t → suc n ≤ cond t (1 + prefix_len class text) 0
+        → (n ≤ prefix_len class text → (length (take n text) ≡ n) × All class (take n text))
         → (length (take (suc n) (b ∷ text)) ≡ suc n) × All class (take (suc n) (b ∷ text))
     go true e h others = let more = others (omega arith) in (ap suc more.0, (e, more.1))
     go false e h others = absurd (omega arith)
 
-count_sound : (n : ℕ) (text : List ℕ) (x : List ℕ × List ℕ) → count_at n text ≡ Some x → (text ≡ x.0 ++ x.1) × HasDigits n x.0
+count_sound : (n : ℕ) (text : List ℕ) (x : List ℕ × List ℕ) → count_at n text ≡ Some x → (text ≡ x.0 ++ x.1)
+    × HasDigits n x.0
 unfolding count_at
 count_sound n text x e =
     let t = tested (nat_le n (prefix_len is_decimal text)) _ x e in
-    subst (λ (y : List ℕ × List ℕ). (text ≡ y.0 ++ y.1) × HasDigits n y.0) (some_is _ x t.1) (sym (take-append-drop n text), run_front is_decimal n text (le_of _ _ t.0))
+    subst (λ (y : List ℕ × List ℕ). (text ≡ y.0 ++ y.1) × HasDigits n y.0) (some_is _ x t.1)
+    (sym (take-append-drop n text), run_front is_decimal n text (le_of _ _ t.0))
 
-group_sound : (n b : ℕ) (text : List ℕ) (x : List ℕ × List ℕ) → 0 < b → group_at n b text ≡ Some x → (text ≡ x.0 ++ (b ∷ x.1)) × HasDigits n x.0
+group_sound : (n b : ℕ) (text : List ℕ) (x : List ℕ × List ℕ) → 0 < b → group_at n b text ≡ Some x
+    → (text ≡ x.0 ++ (b ∷ x.1)) × HasDigits n x.0
 unfolding group_at
 group_sound n b text x lt e =
     let a = bind_some (count_at n text) _ x e in
     let r = bind_some (past b a.0.1) _ x a.2 in
     let d = count_sound n text a.0 a.1 in
-    subst (λ (y : List ℕ × List ℕ). (text ≡ y.0 ++ (b ∷ y.1)) × HasDigits n y.0) (some_is _ x r.2) (d.0 ∙ ap (λ (t : List ℕ). a.0.0 ++ t) (past_some b a.0.1 r.0 lt r.1), d.1)
+    subst (λ (y : List ℕ × List ℕ). (text ≡ y.0 ++ (b ∷ y.1)) × HasDigits n y.0) (some_is _ x r.2)
+    (d.0 ∙ ap (λ (t : List ℕ). a.0.0 ++ t) (past_some b a.0.1 r.0 lt r.1), d.1)
 
 date_sound : (text : List ℕ) (x : Date × List ℕ) → date_at text ≡ Some x → (text ≡ date x.0 x.1) × IsDate x.0
 unfolding date_at
@@ -156,17 +58,25 @@ date_sound text x e =
     let y = group_sound 4 45 text a.0 (omega arith) a.1 in
     let m = group_sound 2 45 a.0.1 b.0 (omega arith) b.1 in
     let d = count_sound 2 b.0.1 c.0 c.1 in
-    subst (λ (y : Date × List ℕ). (text ≡ date y.0 y.1) × IsDate y.0) (some_is _ x c.2)
-    (y.0 ∙ ap (λ (r : List ℕ). a.0.0 ++ (45 ∷ r)) (m.0 ∙ ap (λ (r : List ℕ). b.0.0 ++ (45 ∷ r)) d.0), (y.1, m.1, d.1))
+    subst (λ (y : Date × List ℕ). (text ≡ date y.0 y.1) × IsDate y.0) (some_is _ x c.2) (
+      y.0 ∙ ap (λ (r : List ℕ). a.0.0 ++ (45 ∷ r)) (m.0 ∙ ap (λ (r : List ℕ). b.0.0 ++ (45 ∷ r)) d.0),
+      (y.1, m.1, d.1),
+    )
 
-second_sound : (text : List ℕ) (x : Option (List ℕ) × List ℕ) → second_at text ≡ Some x → (text ≡ fraction_text x.0 x.1) × IfSome x.0 (λ digits. (0 < length digits) × All is_decimal digits)
+second_sound : (text : List ℕ) (x : Option (List ℕ) × List ℕ) → second_at text ≡ Some x
+    → (text ≡ fraction_text x.0 x.1) × IfSome x.0 (λ digits. (0 < length digits) × All is_decimal digits)
 unfolding second_at
 second_sound text x e =
-    let P : Option (List ℕ) × List ℕ → Type 0 = λ y. (text ≡ fraction_text y.0 y.1) × IfSome y.0 (λ digits. (0 < length digits) × All is_decimal digits) in
+    let P : Option (List ℕ) × List ℕ → Type 0 = λ y. (text ≡ fraction_text y.0 y.1)
+    × IfSome y.0 (λ digits. (0 < length digits) × All is_decimal digits) in
     elim (chosen (eqb (first text) 46) _ _ (Some x) e) [
       | inl h ↦
           let t = tested (is_decimal (first (drop 1 text))) _ x h.1 in
-          subst P (some_is _ x t.1) (first_is 46 text (omega arith) h.0 ∙ ap (λ (r : List ℕ). 46 ∷ r) (run_parts is_decimal (drop 1 text)), (length_front is_decimal (drop 1 text) refl t.0, run_all is_decimal (drop 1 text)))
+          subst P (some_is _ x t.1) (
+            first_is 46 text (omega arith) h.0 ∙
+                ap (λ (r : List ℕ). 46 ∷ r) (run_parts is_decimal (drop 1 text)),
+            (length_front is_decimal (drop 1 text) refl t.0, run_all is_decimal (drop 1 text)),
+          )
       | inr h ↦ subst P (some_is _ x h.1) (refl, tt)
     ]
 
@@ -181,8 +91,11 @@ time_sound text x e =
     let m = group_sound 2 58 a.0.1 b.0 (omega arith) b.1 in
     let s = count_sound 2 b.0.1 c.0 c.1 in
     let f = second_sound c.0.1 d.0 d.1 in
-    subst (λ (y : Time × List ℕ). (text ≡ time y.0 y.1) × IsTime y.0) (some_is _ x d.2)
-    (h.0 ∙ ap (λ (r : List ℕ). a.0.0 ++ (58 ∷ r)) (m.0 ∙ ap (λ (r : List ℕ). b.0.0 ++ (58 ∷ r)) (s.0 ∙ ap (λ (r : List ℕ). c.0.0 ++ r) f.0)), (h.1, m.1, s.1, f.1))
+    subst (λ (y : Time × List ℕ). (text ≡ time y.0 y.1) × IsTime y.0) (some_is _ x d.2) (
+      h.0 ∙ ap (λ (r : List ℕ). a.0.0 ++ (58 ∷ r)) (m.0 ∙
+          ap (λ (r : List ℕ). b.0.0 ++ (58 ∷ r)) (s.0 ∙ ap (λ (r : List ℕ). c.0.0 ++ r) f.0)),
+      (h.1, m.1, s.1, f.1),
+    )
 
 abbrev is_zulu : ℕ → Bool
 is_zulu b = b == 90 || b == 122
@@ -193,7 +106,8 @@ is_shift b = b == 43 || b == 45
 abbrev is_between : ℕ → Bool
 is_between b = b == 84 || b == 116 || b == 32
 
-offset_sound : (text : List ℕ) (x : Offset × List ℕ) → offset_at text ≡ Some x → (text ≡ offset x.0 x.1) × IsOffset x.0
+offset_sound : (text : List ℕ) (x : Offset × List ℕ) → offset_at text ≡ Some x → (text ≡ offset x.0 x.1)
+    × IsOffset x.0
 unfolding offset_at
 offset_sound text x e =
     let P : Offset × List ℕ → Type 0 = λ y. (text ≡ offset y.0 y.1) × IsOffset y.0 in
@@ -205,7 +119,11 @@ offset_sound text x e =
             let b = bind_some (count_at 2 a.0.1) _ x a.2 in
             let g = group_sound 2 58 (drop 1 text) a.0 (omega arith) a.1 in
             let m = count_sound 2 a.0.1 b.0 b.1 in
-            subst P (some_is _ x b.2) (first_of is_shift text refl k.0 ∙ ap (λ (r : List ℕ). first text ∷ r) (g.0 ∙ ap (λ (r : List ℕ). a.0.0 ++ (58 ∷ r)) m.0), (k.0, g.1, m.1))
+            subst P (some_is _ x b.2) (
+              first_of is_shift text refl k.0 ∙ ap (λ (r : List ℕ). first text ∷ r)
+                  (g.0 ∙ ap (λ (r : List ℕ). a.0.0 ++ (58 ∷ r)) m.0),
+              (k.0, g.1, m.1),
+            )
         | inr k ↦ subst P (some_is _ x k.1) (refl, tt)
       ]
     ]
@@ -226,8 +144,12 @@ dated_sound text x e =
           let t = time_sound (drop 1 a.0.1) b.0 b.1 in
           let o = offset_sound b.0.1 c.0 c.1 in
           let between = joins_between a.0.1 h.0 in
-          subst (Spelled text) (some_is _ x c.2)
-          (d.0 ∙ ap (date a.0.0) (first_of is_between a.0.1 refl between ∙ ap (λ (r : List ℕ). first a.0.1 ∷ r) (t.0 ∙ ap (time b.0.0) o.0)), (d.1, between, t.1, o.1), tt)
+          subst (Spelled text) (some_is _ x c.2) (
+            d.0 ∙ ap (date a.0.0) (first_of is_between a.0.1 refl between ∙
+                ap (λ (r : List ℕ). first a.0.1 ∷ r) (t.0 ∙ ap (time b.0.0) o.0)),
+            (d.1, between, t.1, o.1),
+            tt,
+          )
       | inr h ↦ subst (Spelled text) (some_is _ x h.1) (d.0, d.1, tt)
     ]
 
@@ -240,11 +162,17 @@ timed_sound text x e =
 
 -- ---- all of them
 
-prefixed : (b : Base) (text : List ℕ) (x : Value × List ℕ) → 0 < base_letter b → (eqb (first text) 48 && eqb (slice_index text 1) (base_letter b)) ≡ true → based_at b (drop 2 text) ≡ Some x → Spelled text x
+prefixed : (b : Base) (text : List ℕ) (x : Value × List ℕ) → 0 < base_letter b
+    → (eqb (first text) 48 && eqb (slice_index text 1) (base_letter b)) ≡ true
+    → based_at b (drop 2 text) ≡ Some x → Spelled text x
 prefixed b text x lt t e =
     let w = and_parts (eqb (first text) 48) (eqb (slice_index text 1) (base_letter b)) t in
-    let f = based_sound b (drop 2 text) x e in
-    (first_is 48 text (omega arith) w.0 ∙ ap (λ (r : List ℕ). 48 ∷ r) (at_drop 1 (base_letter b) text lt w.1) ∙ f.0, f.1, f.2)
+    let f = based_sound b (drop 2 text) x e in (
+      first_is 48 text (omega arith) w.0 ∙
+          ap (λ (r : List ℕ). 48 ∷ r) (at_drop 1 (base_letter b) text lt w.1) ∙ f.0,
+      f.1,
+      f.2,
+    )
 
 unsigned_sound : (text : List ℕ) (x : Value × List ℕ) → unsigned_at text ≡ Some x → Spelled text x
 unfolding unsigned_at
@@ -271,9 +199,11 @@ unsigned_sound text x e =
 pub number_sound : (text : List ℕ) (x : Value × List ℕ) → number_at text ≡ Some x → Spelled text x
 unfolding number_at
 number_sound text x e = elim (chosen (eqb (first text) 43) _ _ (Some x) e) [
-  | inl h ↦ let f = decimal_sound plus (drop 1 text) x h.1 in (first_is 43 text (omega arith) h.0 ∙ f.0, f.1, f.2)
+  | inl h ↦ let f = decimal_sound plus (drop 1 text) x h.1 in
+      (first_is 43 text (omega arith) h.0 ∙ f.0, f.1, f.2)
   | inr h ↦ elim (chosen (eqb (first text) 45) _ _ (Some x) h.1) [
-    | inl k ↦ let f = decimal_sound minus (drop 1 text) x k.1 in (first_is 45 text (omega arith) k.0 ∙ f.0, f.1, f.2)
+    | inl k ↦ let f = decimal_sound minus (drop 1 text) x k.1 in
+        (first_is 45 text (omega arith) k.0 ∙ f.0, f.1, f.2)
     | inr k ↦ unsigned_sound text x k.1
   ]
 ]

@@ -1,117 +1,13 @@
 -- The laws of values: what is read is spelled so, and what is spelled so is read.
-use Rattle.std.proofs.Common.{◌≡◌, ℕ, if◌then◌else◌, zero, suc, ◌<◌, ◌≤◌, true, false, ◌&&◌, eqb, List, ◌∷◌, ◌++◌, length, slice_index, drop, Some, refl, ap, subst, ◌∙◌, inl, inr, arith}
-use Rattle.edit_syntax.specs.Characters.{quote, apostrophe, comma, equals, left_bracket, right_bracket, left_brace, right_brace, is_blank, All}
+use Rattle.std.proofs.Common.{◌≡◌, ℕ, zero, suc, eqb, List, ◌∷◌, ◌++◌, length, drop, Some, ap, subst, ◌∙◌, inl, inr, arith}
+use Rattle.edit_syntax.specs.Characters.{comma, equals, left_bracket, right_bracket, left_brace, right_brace, is_blank, All}
 use Rattle.edit_syntax.specs.Strings.{key, IsKey}
-use Rattle.edit_syntax.specs.Grammar.{three, Between, gap, IsGap, Value, basic, literal, multi_basic, multi_literal, boolean, integer, float, datetime, array, inline, Elements, no_elements, last_element, element, Members, no_members, last_member, member, value, elements, members, IsValue, AreElements, AreMembers}
-use Rattle.edit_syntax.specs.Depth.{depth, elements_depth, members_depth}
-use Rattle.edit_syntax.specs.ReadingNumbers.{begins, number_at}
-use Rattle.edit_syntax.specs.Reading.{◌>>=◌, Read, multi_at, first, past, blanks, past_blanks, gap_front, past_gap, basic_at, literal_at, key_at, scalar_at, starts, Pair, pair_at, members_at, elements_at, value_at}
-use Rattle.edit_syntax.proofs.TokenLaws.{bind_some, chosen, some_is, first_is, at_drop, past_some, run_parts, run_all, basic_sound, literal_sound}
+use Rattle.edit_syntax.specs.Grammar.{Between, gap, IsGap, Value, array, inline, Elements, no_elements, last_element, element, Members, no_members, last_member, member, value, elements, members}
+use Rattle.edit_syntax.specs.Reading.{◌>>=◌, Read, first, past, blanks, past_blanks, gap_front, past_gap, key_at, Pair, pair_at, members_at, elements_at, value_at}
+use Rattle.edit_syntax.proofs.TokenLaws.{bind_some, chosen, some_is, first_is, past_some, run_all}
 use Rattle.edit_syntax.proofs.KeyLaws.{key_sound}
-use Rattle.edit_syntax.proofs.NumberLaws.{IsNumber, begins_is, number_sound}
-use Rattle.edit_syntax.proofs.MultiLaws.{multi_basic_sound, multi_literal_sound}
 use Rattle.edit_syntax.proofs.GapLaws.{front_parts, front_gap}
-use Rattle.std.proofs.lemmas.Bool.{and_parts}
-
--- ---- white space
-
--- the tabs and spaces at the front, and what follows them
-pub blank_parts : (text rest : List ℕ) → past_blanks text ≡ rest → text ≡ blanks text ++ rest
-blank_parts text rest e = run_parts is_blank text ∙ ap (λ (r : List ℕ). blanks text ++ r) e
-
--- ---- values that are one token
-
--- a value that is read where n may be nested
-pub record IsReadable (n : ℕ) (v : Value) : Type 0 where
-  pub valid : IsValue v
-  pub shallow : depth v ≤ n
-
-pub record AreReadable (n : ℕ) (ms : Members) : Type 0 where
-  pub valid : AreMembers ms
-  pub shallow : members_depth ms ≤ n
-
-pub record AreReadableElements (n : ℕ) (es : Elements) : Type 0 where
-  pub valid : AreElements es
-  pub shallow : elements_depth es ≤ n
-
--- a reader of values reads nothing that is not spelled so
-abbrev pub Sound : ℕ → (List ℕ → Read Value) → Type 0
-Sound n read = (text : List ℕ) (x : Value × List ℕ) → read text ≡ Some x → (text ≡ value x.0 x.1) × IsReadable n x.0
-
-starts_is : (a b c d : ℕ) (text : List ℕ) → 0 < a → 0 < b → 0 < c → 0 < d → starts a b c d text ≡ true → text ≡ a ∷ (b ∷ (c ∷ (d ∷ drop 4 text)))
-starts_is a b c d text la lb lc ld e =
-    let x = and_parts _ (eqb (slice_index text 3) d) e in
-    let y = and_parts _ (eqb (slice_index text 2) c) x.0 in
-    let z = and_parts _ (eqb (slice_index text 1) b) y.0 in
-    first_is a text la z.0 ∙ ap (λ (r : List ℕ). a ∷ r) (at_drop 1 b text lb z.1 ∙ ap (λ (r : List ℕ). b ∷ r) (at_drop 2 c text lc y.1 ∙ ap (λ (r : List ℕ). c ∷ r) (at_drop 3 d text ld x.1)))
-
-flat : (n : ℕ) (v : Value) → IsValue v → depth v ≡ 0 → IsReadable n v
-flat n v h e = record { valid = h; shallow = omega arith }
-
-number_readable : (n : ℕ) (v : Value) → IsValue v → IsNumber v → IsReadable n v
-number_readable n (integer i) h s = flat n (integer i) h refl
-number_readable n (float f) h s = flat n (float f) h refl
-number_readable n (datetime d) h s = flat n (datetime d) h refl
-number_readable n (basic ps) h s = absurd s
-number_readable n (literal text) h s = absurd s
-number_readable n (multi_basic ps) h s = absurd s
-number_readable n (multi_literal ps) h s = absurd s
-number_readable n (boolean b) h s = absurd s
-number_readable n (array g es) h s = absurd s
-number_readable n (inline g ms) h s = absurd s
-
--- a value that is one token on one line
-abbrev token_at : List ℕ → Read Value
-token_at text =
-    if eqb (first text) quote then (basic_at (drop 1 text) >>= λ p. Some (basic p.0, p.1))
-    else (if eqb (first text) apostrophe then (literal_at (drop 1 text) >>= λ p. Some (literal p.0, p.1))
-    else (if starts 116 114 117 101 text then Some (boolean true, drop 4 text)
-    else (if starts 102 97 108 115 text && eqb (slice_index text 4) 101 then Some (boolean false, drop 5 text)
-    else number_at text)))
-
-token_sound : (n : ℕ) → Sound n token_at
-token_sound n text x e =
-    let P : Value × List ℕ → Type 0 = λ y. (text ≡ value y.0 y.1) × IsReadable n y.0 in
-    elim (chosen (eqb (first text) quote) _ _ (Some x) e) [
-      | inl h ↦
-          let a = bind_some (basic_at (drop 1 text)) (λ p. Some (basic p.0, p.1)) x h.1 in
-          let b = basic_sound (drop 1 text) a.0 a.1 in
-          subst P (some_is _ x a.2) (first_is quote text (omega arith) h.0 ∙ ap (λ (r : List ℕ). quote ∷ r) b.0, flat n (basic a.0.0) b.1 refl)
-      | inr h ↦ elim (chosen (eqb (first text) apostrophe) _ _ (Some x) h.1) [
-        | inl k ↦
-            let a = bind_some (literal_at (drop 1 text)) (λ p. Some (literal p.0, p.1)) x k.1 in
-            let b = literal_sound (drop 1 text) a.0 a.1 in
-            subst P (some_is _ x a.2) (first_is apostrophe text (omega arith) k.0 ∙ ap (λ (r : List ℕ). apostrophe ∷ r) b.0, flat n (literal a.0.0) b.1 refl)
-        | inr k ↦ elim (chosen (starts 116 114 117 101 text) _ _ (Some x) k.1) [
-          | inl l ↦ subst P (some_is _ x l.1) (starts_is 116 114 117 101 text (omega arith) (omega arith) (omega arith) (omega arith) l.0, flat n (boolean true) tt refl)
-          | inr l ↦ elim (chosen (starts 102 97 108 115 text && eqb (slice_index text 4) 101) _ _ (Some x) l.1) [
-            | inl m ↦
-                let w = and_parts (starts 102 97 108 115 text) (eqb (slice_index text 4) 101) m.0 in
-                let four = starts_is 102 97 108 115 text (omega arith) (omega arith) (omega arith) (omega arith) w.0 in
-                subst P (some_is _ x m.1) (four ∙ ap (λ (r : List ℕ). 102 ∷ (97 ∷ (108 ∷ (115 ∷ r)))) (at_drop 4 101 text (omega arith) w.1), flat n (boolean false) tt refl)
-            | inr m ↦ let f = number_sound text x m.1 in (f.0, number_readable n x.0 f.1 f.2)
-          ]
-        ]
-      ]
-    ]
-
-pub scalar_sound : (n : ℕ) → Sound n scalar_at
-unfolding scalar_at
-scalar_sound n text x e =
-    let P : Value × List ℕ → Type 0 = λ y. (text ≡ value y.0 y.1) × IsReadable n y.0 in
-    elim (chosen (begins quote quote quote text) _ _ (Some x) e) [
-      | inl h ↦
-          let a = bind_some (multi_at quote (drop 3 text)) (λ p. Some (multi_basic p.0, p.1)) x h.1 in
-          let b = multi_basic_sound (drop 3 text) a.0 a.1 in
-          subst P (some_is _ x a.2) (begins_is quote quote quote text (omega arith) (omega arith) (omega arith) h.0 ∙ ap (three quote) b.spelled, flat n (multi_basic a.0.0) (b.fine, b.runs, b.folds) refl)
-      | inr g ↦ elim (chosen (begins apostrophe apostrophe apostrophe text) _ _ (Some x) g.1) [
-        | inl h ↦
-            let a = bind_some (multi_at apostrophe (drop 3 text)) (λ p. Some (multi_literal p.0, p.1)) x h.1 in
-            let b = multi_literal_sound (drop 3 text) a.0 a.1 in
-            subst P (some_is _ x a.2) (begins_is apostrophe apostrophe apostrophe text (omega arith) (omega arith) (omega arith) h.0 ∙ ap (three apostrophe) b.spelled, flat n (multi_literal a.0.0) (b.fine, b.runs) refl)
-        | inr f ↦ token_sound n text x f.1
-      ]
-    ]
+use Rattle.edit_syntax.proofs.ScalarLaws.{blank_parts, IsReadable, AreReadable, AreReadableElements, Sound, scalar_sound}
 
 -- ---- pairs
 
@@ -125,29 +21,43 @@ pub record IsPair (n : ℕ) (p : Pair) : Type 0 where
   pub behind : All is_blank p.behind
   pub value : IsReadable n p.value
 
-pub pair_sound : (n : ℕ) (read : List ℕ → Read Value) → Sound n read → (text : List ℕ) (x : Pair × List ℕ) → pair_at read text ≡ Some x → (text ≡ pair_text x.0 x.1) × IsPair n x.0
+pub pair_sound : (n : ℕ) (read : List ℕ → Read Value) → Sound n read → (text : List ℕ) (x : Pair × List ℕ)
+    → pair_at read text ≡ Some x → (text ≡ pair_text x.0 x.1) × IsPair n x.0
 unfolding pair_at
 pair_sound n read sound text x e =
-    let a = bind_some (key_at text) (λ k. past equals (past_blanks k.1) >>= λ rest. read (past_blanks rest) >>= λ v. Some (record { key = k.0; before = blanks k.1; behind = blanks rest; value = v.0 }, v.1)) x e in
-    let b = bind_some (past equals (past_blanks a.0.1)) (λ rest. read (past_blanks rest) >>= λ v. Some (record { key = a.0.0; before = blanks a.0.1; behind = blanks rest; value = v.0 }, v.1)) x a.2 in
-    let c = bind_some (read (past_blanks b.0)) (λ v. Some (record { key = a.0.0; before = blanks a.0.1; behind = blanks b.0; value = v.0 }, v.1)) x b.2 in
+    let a = bind_some (key_at text)
+    (λ k. past equals (past_blanks k.1) >>= λ rest. read (past_blanks rest) >>= λ v. Some
+    (record { key = k.0; before = blanks k.1; behind = blanks rest; value = v.0 }, v.1)) x e in
+    let b = bind_some (past equals (past_blanks a.0.1))
+    (λ rest. read (past_blanks rest) >>= λ v. Some
+    (record { key = a.0.0; before = blanks a.0.1; behind = blanks rest; value = v.0 }, v.1)) x a.2 in
+    let c = bind_some (read (past_blanks b.0))
+    (λ v. Some (record { key = a.0.0; before = blanks a.0.1; behind = blanks b.0; value = v.0 }, v.1)) x b.2
+    in
     let k = key_sound text a.0 a.1 in
     let v = sound (past_blanks b.0) c.0 c.1 in
     let one : b.0 ≡ blanks b.0 ++ value c.0.0 c.0.1 = blank_parts b.0 (value c.0.0 c.0.1) v.0 in
-    let two : a.0.1 ≡ blanks a.0.1 ++ (equals ∷ (blanks b.0 ++ value c.0.0 c.0.1)) = blank_parts a.0.1 (equals ∷ (blanks b.0 ++ value c.0.0 c.0.1)) (past_some equals _ b.0 (omega arith) b.1 ∙ ap (λ (r : List ℕ). equals ∷ r) one) in
-    subst (λ (y : Pair × List ℕ). (text ≡ pair_text y.0 y.1) × IsPair n y.0) (some_is (record { key = a.0.0; before = blanks a.0.1; behind = blanks b.0; value = c.0.0 }, c.0.1) x c.2)
-    (k.0 ∙ ap (key a.0.0) two, record { key = k.1; before = run_all is_blank a.0.1; behind = run_all is_blank b.0; value = v.1 })
+    let two : a.0.1 ≡ blanks a.0.1 ++ (equals ∷ (blanks b.0 ++ value c.0.0 c.0.1)) =
+    blank_parts a.0.1 (equals ∷ (blanks b.0 ++ value c.0.0 c.0.1)) (past_some equals _ b.0 (omega arith) b.1 ∙
+    ap (λ (r : List ℕ). equals ∷ r) one) in
+    subst (λ (y : Pair × List ℕ). (text ≡ pair_text y.0 y.1) × IsPair n y.0)
+    (some_is (record { key = a.0.0; before = blanks a.0.1; behind = blanks b.0; value = c.0.0 }, c.0.1) x c.2) (
+      k.0 ∙ ap (key a.0.0) two,
+      record { key = k.1; before = run_all is_blank a.0.1; behind = run_all is_blank b.0; value = v.1 },
+    )
 
 -- ---- members
 
 -- the readability of a pair before others
-member_readable : (n : ℕ) (p : Pair) (c d : List Between) (ms : Members) → IsPair n p → IsGap c → IsGap d → AreReadable n ms → AreReadable n (member p.key p.before p.behind p.value c d ms)
+member_readable : (n : ℕ) (p : Pair) (c d : List Between) (ms : Members) → IsPair n p → IsGap c → IsGap d
+    → AreReadable n ms → AreReadable n (member p.key p.before p.behind p.value c d ms)
 member_readable n p c d ms one hc hd others = record {
   valid = (one.key, one.before, one.behind, one.value.valid, hc, hd, others.valid);
   shallow = let k = one.value.shallow in let l = others.shallow in omega arith;
 }
 
-last_readable : (n : ℕ) (p : Pair) (c : List Between) → IsPair n p → IsGap c → AreReadable n (last_member p.key p.before p.behind p.value c)
+last_readable : (n : ℕ) (p : Pair) (c : List Between) → IsPair n p → IsGap c
+    → AreReadable n (last_member p.key p.before p.behind p.value c)
 last_readable n p c one hc = record {
   valid = (one.key, one.before, one.behind, one.value.valid, hc);
   shallow = one.value.shallow;
@@ -156,7 +66,9 @@ last_readable n p c one hc = record {
 no_members_readable : (n : ℕ) → AreReadable n no_members
 no_members_readable n = record { valid = tt; shallow = omega arith }
 
-pub members_sound : (n : ℕ) (read : List ℕ → Read Value) → Sound n read → (count : ℕ) (text : List ℕ) (x : Members × List ℕ) → members_at read count text ≡ Some x → (text ≡ members x.0 (right_brace ∷ x.1)) × AreReadable n x.0
+pub members_sound : (n : ℕ) (read : List ℕ → Read Value) → Sound n read
+    → (count : ℕ) (text : List ℕ) (x : Members × List ℕ) → members_at read count text ≡ Some x
+    → (text ≡ members x.0 (right_brace ∷ x.1)) × AreReadable n x.0
 unfolding members_at
 members_sound n read sound zero text x e = absurd cc
 members_sound n read sound (suc count) text x e =
@@ -176,12 +88,20 @@ members_sound n read sound (suc count) text x e =
                 let more = members b.0.0 (right_brace ∷ b.0.1) in
                 let two : next ≡ gap (gap_front next) more = front_parts next more others.0 in
                 let three : r ≡ gap (gap_front r) (comma ∷ gap (gap_front next) more) =
-                front_parts r (comma ∷ gap (gap_front next) more) (first_is comma (past_gap r) (omega arith) k.0 ∙ ap (λ (t : List ℕ). comma ∷ t) two) in
-                subst P (some_is _ x b.2) (one.0 ∙ ap (pair_text p) three, member_readable n p (gap_front r) (gap_front next) b.0.0 one.1 (front_gap r) (front_gap next) others.1)
+                front_parts r (comma ∷ gap (gap_front next) more)
+                (first_is comma (past_gap r) (omega arith) k.0 ∙ ap (λ (t : List ℕ). comma ∷ t) two) in
+                subst P (some_is _ x b.2) (
+                  one.0 ∙ ap (pair_text p) three,
+                  member_readable n p (gap_front r)
+                      (gap_front next) b.0.0 one.1 (front_gap r) (front_gap next) others.1,
+                )
             | inr k ↦
                 let b = bind_some (past right_brace (past_gap r)) _ x k.1 in
-                let two : r ≡ gap (gap_front r) (right_brace ∷ b.0) = front_parts r (right_brace ∷ b.0) (past_some right_brace (past_gap r) b.0 (omega arith) b.1) in
-                subst P (some_is _ x b.2) (one.0 ∙ ap (pair_text p) two, last_readable n p (gap_front r) one.1 (front_gap r))
+                let two : r ≡ gap (gap_front r) (right_brace ∷ b.0) =
+                front_parts r (right_brace ∷ b.0)
+                (past_some right_brace (past_gap r) b.0 (omega arith) b.1) in
+                subst P (some_is _ x b.2)
+                (one.0 ∙ ap (pair_text p) two, last_readable n p (gap_front r) one.1 (front_gap r))
           ]
     ]
 
@@ -190,20 +110,25 @@ members_sound n read sound (suc count) text x e =
 none_readable : (n : ℕ) → AreReadableElements n no_elements
 none_readable n = record { valid = tt; shallow = omega arith }
 
-last_element_readable : (n : ℕ) (v : Value) (g : List Between) → IsReadable n v → IsGap g → AreReadableElements n (last_element v g)
+last_element_readable : (n : ℕ) (v : Value) (g : List Between) → IsReadable n v → IsGap g
+    → AreReadableElements n (last_element v g)
 last_element_readable n v g one hg = record { valid = (one.valid, hg); shallow = one.shallow }
 
-element_readable : (n : ℕ) (v : Value) (g h : List Between) (es : Elements) → IsReadable n v → IsGap g → IsGap h → AreReadableElements n es → AreReadableElements n (element v g h es)
+element_readable : (n : ℕ) (v : Value) (g h : List Between) (es : Elements) → IsReadable n v → IsGap g
+    → IsGap h → AreReadableElements n es → AreReadableElements n (element v g h es)
 element_readable n v g h es one hg hh others = record {
   valid = (one.valid, hg, hh, others.valid);
   shallow = let k = one.shallow in let l = others.shallow in omega arith;
 }
 
-pub elements_sound : (n : ℕ) (read : List ℕ → Read Value) → Sound n read → (count : ℕ) (text : List ℕ) (x : Elements × List ℕ) → elements_at read count text ≡ Some x → (text ≡ elements x.0 (right_bracket ∷ x.1)) × AreReadableElements n x.0
+pub elements_sound : (n : ℕ) (read : List ℕ → Read Value) → Sound n read
+    → (count : ℕ) (text : List ℕ) (x : Elements × List ℕ) → elements_at read count text ≡ Some x
+    → (text ≡ elements x.0 (right_bracket ∷ x.1)) × AreReadableElements n x.0
 unfolding elements_at
 elements_sound n read sound zero text x e = absurd cc
 elements_sound n read sound (suc count) text x e =
-    let P : Elements × List ℕ → Type 0 = λ y. (text ≡ elements y.0 (right_bracket ∷ y.1)) × AreReadableElements n y.0 in
+    let P : Elements × List ℕ → Type 0 = λ y. (text ≡ elements y.0 (right_bracket ∷ y.1))
+    × AreReadableElements n y.0 in
     elim (chosen (eqb (first text) right_bracket) _ _ (Some x) e) [
       | inl h ↦ subst P (some_is _ x h.1) (first_is right_bracket text (omega arith) h.0, none_readable n)
       | inr h ↦
@@ -219,21 +144,31 @@ elements_sound n read sound (suc count) text x e =
                 let more = elements b.0.0 (right_bracket ∷ b.0.1) in
                 let two : next ≡ gap (gap_front next) more = front_parts next more others.0 in
                 let three : r ≡ gap (gap_front r) (comma ∷ gap (gap_front next) more) =
-                front_parts r (comma ∷ gap (gap_front next) more) (first_is comma (past_gap r) (omega arith) k.0 ∙ ap (λ (t : List ℕ). comma ∷ t) two) in
-                subst P (some_is _ x b.2) (one.0 ∙ ap (value v) three, element_readable n v (gap_front r) (gap_front next) b.0.0 one.1 (front_gap r) (front_gap next) others.1)
+                front_parts r (comma ∷ gap (gap_front next) more)
+                (first_is comma (past_gap r) (omega arith) k.0 ∙ ap (λ (t : List ℕ). comma ∷ t) two) in
+                subst P (some_is _ x b.2) (
+                  one.0 ∙ ap (value v) three,
+                  element_readable n v (gap_front r) (gap_front next) b.0.0 one.1
+                      (front_gap r) (front_gap next) others.1,
+                )
             | inr k ↦
                 let b = bind_some (past right_bracket (past_gap r)) _ x k.1 in
-                let two : r ≡ gap (gap_front r) (right_bracket ∷ b.0) = front_parts r (right_bracket ∷ b.0) (past_some right_bracket (past_gap r) b.0 (omega arith) b.1) in
-                subst P (some_is _ x b.2) (one.0 ∙ ap (value v) two, last_element_readable n v (gap_front r) one.1 (front_gap r))
+                let two : r ≡ gap (gap_front r) (right_bracket ∷ b.0) =
+                front_parts r (right_bracket ∷ b.0)
+                (past_some right_bracket (past_gap r) b.0 (omega arith) b.1) in
+                subst P (some_is _ x b.2)
+                (one.0 ∙ ap (value v) two, last_element_readable n v (gap_front r) one.1 (front_gap r))
           ]
     ]
 
-array_readable : (n : ℕ) (g : List Between) (es : Elements) → IsGap g → AreReadableElements n es → IsReadable (suc n) (array g es)
+array_readable : (n : ℕ) (g : List Between) (es : Elements) → IsGap g → AreReadableElements n es
+    → IsReadable (suc n) (array g es)
 array_readable n g es hg h = record { valid = (hg, h.valid); shallow = let k = h.shallow in omega arith }
 
 -- ---- inline tables
 
-inline_readable : (n : ℕ) (g : List Between) (ms : Members) → IsGap g → AreReadable n ms → IsReadable (suc n) (inline g ms)
+inline_readable : (n : ℕ) (g : List Between) (ms : Members) → IsGap g → AreReadable n ms
+    → IsReadable (suc n) (inline g ms)
 inline_readable n g ms hg h = record { valid = (hg, h.valid); shallow = let k = h.shallow in omega arith }
 
 pub value_sound : (n : ℕ) → Sound n (value_at n)
@@ -246,14 +181,22 @@ value_sound (suc n) text x e =
       | inl h ↦
           let b = bind_some (elements_at (value_at n) (length text) (past_gap inner)) _ x h.1 in
           let es = elements_sound n (value_at n) (value_sound n) (length text) (past_gap inner) b.0 b.1 in
-          let tail : inner ≡ gap (gap_front inner) (elements b.0.0 (right_bracket ∷ b.0.1)) = front_parts inner (elements b.0.0 (right_bracket ∷ b.0.1)) es.0 in
-          subst P (some_is _ x b.2) (first_is left_bracket text (omega arith) h.0 ∙ ap (λ (t : List ℕ). left_bracket ∷ t) tail, array_readable n (gap_front inner) b.0.0 (front_gap inner) es.1)
+          let tail : inner ≡ gap (gap_front inner) (elements b.0.0 (right_bracket ∷ b.0.1)) =
+          front_parts inner (elements b.0.0 (right_bracket ∷ b.0.1)) es.0 in
+          subst P (some_is _ x b.2) (
+            first_is left_bracket text (omega arith) h.0 ∙ ap (λ (t : List ℕ). left_bracket ∷ t) tail,
+            array_readable n (gap_front inner) b.0.0 (front_gap inner) es.1,
+          )
       | inr other ↦ elim (chosen (eqb (first text) left_brace) _ _ (Some x) other.1) [
         | inl h ↦
             let b = bind_some (members_at (value_at n) (length text) (past_gap inner)) _ x h.1 in
             let ms = members_sound n (value_at n) (value_sound n) (length text) (past_gap inner) b.0 b.1 in
-            let tail : inner ≡ gap (gap_front inner) (members b.0.0 (right_brace ∷ b.0.1)) = front_parts inner (members b.0.0 (right_brace ∷ b.0.1)) ms.0 in
-            subst P (some_is _ x b.2) (first_is left_brace text (omega arith) h.0 ∙ ap (λ (t : List ℕ). left_brace ∷ t) tail, inline_readable n (gap_front inner) b.0.0 (front_gap inner) ms.1)
+            let tail : inner ≡ gap (gap_front inner) (members b.0.0 (right_brace ∷ b.0.1)) =
+            front_parts inner (members b.0.0 (right_brace ∷ b.0.1)) ms.0 in
+            subst P (some_is _ x b.2) (
+              first_is left_brace text (omega arith) h.0 ∙ ap (λ (t : List ℕ). left_brace ∷ t) tail,
+              inline_readable n (gap_front inner) b.0.0 (front_gap inner) ms.1,
+            )
         | inr h ↦ scalar_sound (suc n) text x h.1
       ]
     ]

@@ -8,6 +8,7 @@ pub mod Spans
 pub mod FormOf
 pub mod ReadingSteps
 pub mod ReadingNumbers
+pub mod ReadingTexts
 pub mod Reading
 pub mod Noting
 pub mod Decoding

@@ -8,5 +8,8 @@ returns-then-number-nodes c spots holds =
 
 pub returns : goal.returns
 returns c spots holds =
-    let kept = kept_at c.args.nodes.now spots c.args.number c.index-nodes-number.result holds c.if-number-nodes.false c.index-nodes-number.is in
-    c.get.ensures kept.keeps.indexed ∙ sym (child_found c.args.nodes.now spots c.args.number c.index-nodes-number.result c.args.name.now holds c.if-number-nodes.false c.index-nodes-number.is)
+    let kept = kept_at c.args.nodes.now spots c.args.number c.index-nodes-number.result holds
+    c.if-number-nodes.false c.index-nodes-number.is in
+    c.get.ensures kept.keeps.indexed ∙
+    sym (child_found c.args.nodes.now spots c.args.number c.index-nodes-number.result c.args.name.now holds
+    c.if-number-nodes.false c.index-nodes-number.is)

@@ -9,4 +9,6 @@ use Rattle.edit_document.proofs.assertions.reach.Given as goal
 abbrev pub invariant-fronts : goal.invariant-fronts
 invariant-fronts l =
     (spots : List Spot) → Holds l.text l.fn.nodes.items spots
-    → Reaches l.text l.nodes.items (reached spots l.fn.number (map (bytes_of l.text) l.fronts) (front_shape l.is_inline) l.taken) l.table (map (bytes_of l.text) (drop l.front-index l.fronts)) (front_shape l.is_inline) l.taken
+    → Reaches l.text l.nodes.items
+    (reached spots l.fn.number (map (bytes_of l.text) l.fronts) (front_shape l.is_inline) l.taken) l.table
+    (map (bytes_of l.text) (drop l.front-index l.fronts)) (front_shape l.is_inline) l.taken

@@ -16,7 +16,8 @@ returns-then-begins-clause-text c g after s h is =
     let inner : c.behind_one-inner.result.now ≡ gap g (right_brace ∷ after) =
     c.behind_one-inner.ensures ∙ ap (λ (x : List ℕ). drop 1 x) h.spelled in
     let blanks = c.past_blanks-close.ensures ∙ ap past_blanks inner in
-    let is_blank = sym (empty_closes g after close h.valid.0 blanks) ∙ sym c.begins.ensures ∙ c.if-begins.true in
+    let is_blank = sym (empty_closes g after close h.valid.0 blanks) ∙ sym c.begins.ensures ∙
+    c.if-begins.true in
     let spots = inline_spots text c.args.table.now g no_members after c.utf8.text h in
     IfOk-weaker c.with_alone.result _ _
     (λ t e. e ∙ ap (λ (x : Splice). with_splice text x) (sym (blank_row m g after s is_blank is)))
@@ -31,7 +32,8 @@ returns-else-begins-clause-text c g after s h is =
     let inner : c.behind_one-inner.result.now ≡ gap g (right_brace ∷ after) =
     c.behind_one-inner.ensures ∙ ap (λ (x : List ℕ). drop 1 x) h.spelled in
     let blanks = c.past_blanks-close.ensures ∙ ap past_blanks inner in
-    let is_open = sym (empty_closes g after close h.valid.0 blanks) ∙ sym c.begins.ensures ∙ c.if-begins.false in
+    let is_open = sym (empty_closes g after close h.valid.0 blanks) ∙ sym c.begins.ensures ∙
+    c.if-begins.false in
     let spots = inline_spots text c.args.table.now g no_members after c.utf8.text h in
     IfOk-weaker c.with_lead.result _ _
     (λ t e. e ∙ ap (λ (x : Splice). with_splice text x) (sym (open_row m g after s is_open is)))

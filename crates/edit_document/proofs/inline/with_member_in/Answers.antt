@@ -27,7 +27,8 @@ pub returns-in_err-last : goal.returns-in_err-last
 returns-in_err-last c g ms after s h is =
     let p = err_from_is_err_and c.from_residual.result c.from_residual.ensures.1 in
     keeps_memory c.from_residual.result c.in_err-last.field-0.0 p.0
-    (λ t. string_bytes t ≡ with_splice c.args.text.now s) p.1 p.2 (c.in_err-last.ensures {u = tt} g ms after h)
+    (λ t. string_bytes t ≡ with_splice c.args.text.now s) p.1 p.2
+    (c.in_err-last.ensures {u = tt} g ms after h)
 
 pub returns : goal.returns
 returns c g ms after s h is =

@@ -29,7 +29,8 @@ members-init c above g ms after h start =
 pub returns-then-begins : goal.returns-then-begins
 returns-then-begins c above g ms after h start =
     let place = place_seen c.args.place.now in
-    sym (members_closed (inner_turn place above) c.args.text.now after c.members.index c.members.rest.now c.members.last
+    sym (members_closed (inner_turn place above) c.args.text.now after c.members.index c.members.rest.now
+    c.members.last
     (last_made (inner_of place) (paired_members above ms (right_brace ∷ after)))
     (c.members.invariant above g ms after h start) (sym c.begins.ensures ∙ c.if-begins.true))
 
@@ -38,7 +39,8 @@ returns-in_err-here c above g ms after h start =
     let p = err_from_is_err_and c.from_residual.result c.from_residual.ensures.1 in
     let place = place_seen c.args.place.now in
     let target = last_made (inner_of place) (paired_members above ms (right_brace ∷ after)) in
-    let f = members_front (inner_turn place above) c.args.text.now after c.members.index c.members.rest.now c.members.last
+    let f = members_front (inner_turn place above) c.args.text.now after c.members.index c.members.rest.now
+    c.members.last
     target (c.members.invariant above g ms after h start) (sym c.begins.ensures ∙ c.if-begins.false) in
     keeps_memory c.from_residual.result c.in_err-here.field-0.0 p.0 (λ r. r ≡ target) p.1 p.2
     (c.in_err-here.ensures {u = tt} above f.it f.gap_behind f.behind f.stands start)
@@ -76,11 +78,13 @@ members-preserved c above g ms after h start =
     let comes : next ≡ past_gap (drop 1 f.behind) =
     c.past_gap-rest-in-members.ensures ∙ ap past_gap (c.behind_one-in-members.ensures ∙ ap (drop 1) stop) in
     subst (λ (x : Option Inner). AtMembers turn text after (c.members.index + 1) next x target)
-    (sym (c.or-last.ensures ∙ ap (λ (x : Option Inner). option_or x c.members.last) r.0)) (f.next more next comes)
+    (sym (c.or-last.ensures ∙ ap (λ (x : Option Inner). option_or x c.members.last) r.0))
+    (f.next more next comes)
 
 pub returns : goal.returns
 returns c above g ms after h start =
     let place = place_seen c.args.place.now in
-    absurd (members_over (inner_turn place above) c.args.text.now after c.members.index c.members.rest.now c.members.last
+    absurd (members_over (inner_turn place above) c.args.text.now after c.members.index c.members.rest.now
+    c.members.last
     (last_made (inner_of place) (paired_members above ms (right_brace ∷ after)))
     (c.members.invariant above g ms after h start) (omega (arith, c.members-test.false)))

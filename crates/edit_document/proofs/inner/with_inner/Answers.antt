@@ -13,7 +13,8 @@ returns-clause-text c place p spot h f e =
     let pair = c.args.pair.now in
     let is = inner_is place p spot c.args.inner f e in
     let name = c.between.ensures
-    ∙ cut_spots text p.from spot c.args.inner.from c.args.inner.front h.from h.front.cut (h.front.head, h.front.ends)
+    ∙ cut_spots text p.from spot c.args.inner.from c.args.inner.front h.from h.front.cut
+    (h.front.head, h.front.ends)
     (ap (λ (x : Inner). x.from) is) (ap (λ (x : Inner). x.front) is) in
     let member = c.as_str.ensures.value ∙ (c.in_ok-push_str-2.ensures {u = tt}).bytes
     ∙ ap (λ (l : List ℕ). l ++ pair) ((c.in_ok-push_str.ensures {u = tt}).bytes

@@ -11,7 +11,8 @@ returns-clause-text c place s spot h e f =
     let pair = c.args.pair.now in
     let line = c.as_str.ensures.value ∙ (c.in_ok-push_str-2.ensures {u = tt}).bytes
     ∙ ap (λ (l : List ℕ). l ++ pair) ((c.in_ok-push_str.ensures {u = tt}).bytes
-    ∙ ap (λ (l : List ℕ). l ++ codes ".") ((c.in_ok-line.ensures {u = tt}).ok ∙ c.name_of.ensures place s spot h e f))
+    ∙ ap (λ (l : List ℕ). l ++ codes ".") ((c.in_ok-line.ensures {u = tt}).ok ∙
+    c.name_of.ensures place s spot h e f))
     ∙ append_assoc (key_to s spot) (codes ".") pair in
     IfOk-weaker c.with_line.result _ _
     (λ t is. is ∙ ap (λ (l : List ℕ). with_splice c.args.text.now (new_line s.after l)) line)

@@ -8,6 +8,7 @@ use Rattle.edit_document.proofs.insert.with_header.Goals as goal
 pub returns-clause-text : goal.returns-clause-text
 returns-clause-text c place s spot h e f =
     IfOk-weaker c.with_section.result _ _
-    (λ t is. is ∙ ap (λ (l : List ℕ). with_splice c.args.text.now (put_before s.line (section_text l c.args.pair.now)))
+    (λ t is. is ∙ ap (λ (l : List ℕ). with_splice c.args.text.now
+    (put_before s.line (section_text l c.args.pair.now)))
     (c.name_of.ensures place s spot h e f))
     (c.with_section.ensures.text s.line h.line (ap (λ (x : Entry). x.line) e))

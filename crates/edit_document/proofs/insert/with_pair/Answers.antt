@@ -15,7 +15,8 @@ returns-in-Some-clause-text c form name v m no_table found is =
     let text = c.args.text.now in
     let all = c.as_slice-found.ensures.value ∙ (c.in_ok-all.ensures {u = tt}).found form m in
     let none = row_of form (place_seen c.args.place.now) name v c.args.pair.now no_table is in
-    let row = own_row form (place_seen c.args.place.now) name v none c.args.inner found c.as_slice-found.result.now all
+    let row = own_row form (place_seen c.args.place.now) name v none c.args.inner found
+    c.as_slice-found.result.now all
     c.in-Some.entry (sym c.last_own.ensures ∙ c.in-Some.is) in
     let spots = stated_spots text form m c.utf8.text row.0 row.1 in
     IfOk-weaker c.with_line.result _ _
@@ -30,7 +31,8 @@ returns-in-Some-last_dotted-clause-text c form name v m no_table found is =
     let all = c.as_slice-found.ensures.value ∙ (c.in_ok-all.ensures {u = tt}).found form m in
     let none = row_of form place name v c.args.pair.now no_table is in
     let row = dotted_row form place name v none c.args.inner found c.as_slice-found.result.now all
-    c.in-Some-last_dotted.entry (sym c.last_own.ensures ∙ c.in_default.is) (sym c.last_dotted.ensures ∙ c.in-Some-last_dotted.is) in
+    c.in-Some-last_dotted.entry (sym c.last_own.ensures ∙ c.in_default.is)
+    (sym c.last_dotted.ensures ∙ c.in-Some-last_dotted.is) in
     let spots = stated_spots text form m c.utf8.text row.0 row.1 in
     IfOk-weaker c.with_dotted.result _ _
     (λ t e. e ∙ ap₂ (λ (b : List ℕ) (s : Splice). with_splice b s) m.document.grammar.spelled
@@ -43,7 +45,8 @@ returns-in-Some-inner-clause-text c form name v m no_table found is =
     let place = place_seen c.args.place.now in
     let all = c.as_slice-found.ensures.value ∙ (c.in_ok-all.ensures {u = tt}).found form m in
     let none = row_of form place name v c.args.pair.now no_table is in
-    let row = inner_row form place name v none c.args.inner found c.as_slice-found.result.now all c.in-Some-inner.inner
+    let row = inner_row form place name v none c.args.inner found c.as_slice-found.result.now all
+    c.in-Some-inner.inner
     (sym c.last_own.ensures ∙ c.in_default.is) (sym c.last_dotted.ensures ∙ c.in_default-last_dotted.is)
     c.in-Some-inner.is in
     let r = row.0 in
@@ -61,7 +64,8 @@ returns-in-Some-first_through-clause-text c form name v m no_table found is =
     let none = row_of form place name v c.args.pair.now no_table is in
     let row = through_row form place name v none c.args.inner found c.as_slice-found.result.now all
     c.in-Some-first_through.entry (sym c.last_own.ensures ∙ c.in_default.is)
-    (sym c.last_dotted.ensures ∙ c.in_default-last_dotted.is) c.in_default-inner.is (sym c.first_through.ensures ∙ c.in-Some-first_through.is) in
+    (sym c.last_dotted.ensures ∙ c.in_default-last_dotted.is) c.in_default-inner.is
+    (sym c.first_through.ensures ∙ c.in-Some-first_through.is) in
     let spots = stated_spots text form m c.utf8.text row.0 row.1 in
     IfOk-weaker c.with_header.result _ _
     (λ t e. e ∙ ap₂ (λ (b : List ℕ) (s : Splice). with_splice b s) m.document.grammar.spelled

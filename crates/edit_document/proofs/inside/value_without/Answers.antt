@@ -8,10 +8,12 @@ use Rattle.edit_document.proofs.inside.value_without.Goals as goal
 
 pub returns : goal.returns
 returns c place (array g es) is valid shallow e =
-    MatchResult-weaker c.slots_left.result (c.slots_left.ensures false g (of_elements es) (array_enclosed g es c.args.text.now valid shallow e))
+    MatchResult-weaker c.slots_left.result
+    (c.slots_left.ensures false g (of_elements es) (array_enclosed g es c.args.text.now valid shallow e))
     (λ w k. k ∙ array_left place (place_seen c.args.below.now) g es) (λ d k. k)
 returns c place (inline g ms) is valid shallow e =
-    MatchResult-weaker c.slots_left.result (c.slots_left.ensures true g (of_members ms) (inline_enclosed g ms c.args.text.now valid shallow e))
+    MatchResult-weaker c.slots_left.result
+    (c.slots_left.ensures true g (of_members ms) (inline_enclosed g ms c.args.text.now valid shallow e))
     (λ w k. k ∙ inline_left place (place_seen c.args.below.now) g ms) (λ d k. k)
 returns c place (basic ps) is valid shallow e = absurd is
 returns c place (literal text) is valid shallow e = absurd is

@@ -7,7 +7,11 @@ use Rattle.edit_document.proofs.literal.push_body.Goals as goal
 use Rattle.edit_document.proofs.literal.push_body.Goals.{then-needs_escape+in_ok-push_str+in_ok-push_escape, else-needs_escape}
 
 pub bytes-init : goal.bytes-init
-bytes-init c = record { low = omega arith; boundary = IsCharBoundary-start c.args.text.now c.utf8.text; whole = refl }
+bytes-init c = record {
+  low = omega arith;
+  boundary = IsCharBoundary-start c.args.text.now c.utf8.text;
+  whole = refl;
+}
 
 pub bytes-preserved : goal.bytes-preserved
 bytes-preserved c =
@@ -26,7 +30,12 @@ bytes-preserved c =
           })
       | else-needs_escape w ↦
           let same : is_escaped (get_or s l.at 0) ≡ false = grind (arith, common_steps) in
-          rw (w.start-is, w.out-is) (record { low = omega arith; boundary = h.boundary; whole = keep_byte s _ _ l.start l.at h.low within same h.whole })
+          rw (w.start-is, w.out-is)
+          (record {
+            low = omega arith;
+            boundary = h.boundary;
+            whole = keep_byte s _ _ l.start l.at h.low within same h.whole;
+          })
     ]
 
 pub returns : goal.returns

@@ -8,5 +8,6 @@ abbrev pub invariant-bytes : goal.invariant-bytes
 invariant-bytes l = record {
   low : l.start ≤ l.at;
   boundary : IsCharBoundary l.fn.text l.start;
-  whole : string_bytes l.out ++ (take (l.at - l.start) (drop l.start l.fn.text) ++ literal_body (drop l.at l.fn.text)) ≡ string_bytes l.fn.out ++ literal_body l.fn.text;
+  whole : string_bytes l.out ++ (take (l.at - l.start) (drop l.start l.fn.text) ++ literal_body
+      (drop l.at l.fn.text)) ≡ string_bytes l.fn.out ++ literal_body l.fn.text;
 }

@@ -6,4 +6,5 @@ use Rattle.edit_document.proofs.locate.entries.Given as goal
 
 -- the entries of the statements so far were found
 abbrev pub invariant-lines : goal.invariant-lines
-invariant-lines l = (form : Text) → IsManifest l.text form → AtLine l.text (place_seen l.place) form l.standing l.found.items l.rest
+invariant-lines l = (form : Text) → IsManifest l.text form
+    → AtLine l.text (place_seen l.place) form l.standing l.found.items l.rest

@@ -7,6 +7,7 @@ use Rattle.edit_document.proofs.new_item.push_pair.Goals as goal
 pub returns : goal.returns
 returns c =
     on_ok_weaker c.push_member.result
-    (λ e. e ∙ ap (λ (n : List ℕ). string_bytes c.args.out.now ++ new_pair n (value_seen c.args.member.now.1) [])
+    (λ e. e ∙ ap (λ (n : List ℕ). string_bytes c.args.out.now ++ new_pair n
+    (value_seen c.args.member.now.1) [])
     c.as_str.ensures.value)
     c.push_member.ensures

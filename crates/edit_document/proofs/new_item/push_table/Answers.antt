@@ -16,5 +16,6 @@ returns c =
     on_appended c.push_str-3.result _ _ _ c.push_str-3.ensures.bytes
     (λ last. last
     ∙ table_done pair_seen c.args.members.now c.first-item.result c.others.member-index start _ _ _
-    (omega arith) c.first-item.is c.others-test.false c.in_ok-push_str.ensures.bytes (c.in_ok-push_pair.ensures {u = tt})
+    (omega arith) c.first-item.is c.others-test.false c.in_ok-push_str.ensures.bytes
+    (c.in_ok-push_pair.ensures {u = tt})
     c.others.invariant)

@@ -10,6 +10,7 @@ returns-in-Key-clause-yes c e =
     let i = length c.args.place.now - 1 in (
       place_seen (take i c.args.place.now),
       string_bytes c.in-Key.field-0,
-      last_member c.args.place.now c.last-item.result i (omega (arith, c.in-len1-up.len_at_least)) c.last-item.is
+      last_member c.args.place.now c.last-item.result i
+          (omega (arith, c.in-len1-up.len_at_least)) c.last-item.is
           ∙ ap (λ s. at (place_seen (take i c.args.place.now)) (step_seen s)) c.in-Key.is,
     )

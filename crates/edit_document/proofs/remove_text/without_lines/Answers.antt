@@ -3,7 +3,7 @@ use Rattle.std.specs.Prelude.{string_bytes}
 use Rattle.std.proofs.lemmas.List.{drop_more, drop_all}
 use Rattle.edit_syntax.specs.Grammar.{lines, byte_order_mark}
 use Rattle.edit_syntax.specs.Reading.{past_mark}
-use Rattle.edit_syntax.proofs.LineLaws.{lines_only}
+use Rattle.edit_syntax.proofs.TextLaws.{lines_only}
 use Rattle.edit_document.specs.Items.{place_seen}
 use Rattle.edit_document.specs.RemovedBytes.{lines_left}
 use Rattle.edit_document.specs.Statements.{stated}

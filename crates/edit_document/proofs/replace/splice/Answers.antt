@@ -8,5 +8,6 @@ pub loop-rewrite-init : goal.loop-rewrite-init
 loop-rewrite-init c = record {
   boundary = IsCharBoundary-start c.args.text.now c.utf8.text;
   order = c.requires;
-  whole = ap (λ (l : List ℕ). l ++ spliced c.args.text.now 0 (map range_of c.args.rewrites.now)) c.in_ok-out.ensures.bytes;
+  whole = ap (λ (l : List ℕ). l ++ spliced c.args.text.now 0 (map range_of c.args.rewrites.now))
+      c.in_ok-out.ensures.bytes;
 }

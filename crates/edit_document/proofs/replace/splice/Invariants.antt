@@ -8,5 +8,6 @@ abbrev pub invariant-loop-rewrite : goal.invariant-loop-rewrite
 invariant-loop-rewrite l = record {
   boundary : IsCharBoundary l.text l.at;
   order : AreInOrder l.text l.at (map range_of (drop l.rewrite-index l.rewrites));
-  whole : string_bytes l.out ++ spliced l.text l.at (map range_of (drop l.rewrite-index l.rewrites)) ≡ spliced l.text 0 (map range_of l.rewrites);
+  whole : string_bytes l.out ++ spliced l.text l.at (map range_of (drop l.rewrite-index l.rewrites))
+      ≡ spliced l.text 0 (map range_of l.rewrites);
 }

@@ -6,4 +6,5 @@ use Rattle.edit_document.proofs.walk.nodes_of.Given as goal
 
 -- the walk is in the state behind the marks so far
 abbrev pub invariant-marks : goal.invariant-marks
-invariant-marks l = AllByRecursion (IsToken l.text) l.marks → Along l.walk l.text l.marks (drop l.mark-index l.marks)
+invariant-marks l = AllByRecursion (IsToken l.text) l.marks
+    → Along l.walk l.text l.marks (drop l.mark-index l.marks)

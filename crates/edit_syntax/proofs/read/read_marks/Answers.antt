@@ -1,7 +1,7 @@
 use Rattle.std.proofs.Common.{◌≡◌, sym, ◌∙◌}
 use Rattle.edit_syntax.specs.declared.read.marks.ReadError.TheVariants.{Memory, NotToml}
 use Rattle.edit_syntax.specs.Reading.{is_marked}
-use Rattle.edit_syntax.proofs.LineLaws.{lines_found, lines_only}
+use Rattle.edit_syntax.proofs.TextLaws.{lines_found, lines_only}
 use Rattle.edit_syntax.proofs.read.read_marks.Goals as goal
 
 pub returns-in-Ok-clause-found : goal.returns-in-Ok-clause-found
@@ -12,10 +12,12 @@ returns-in-Ok-clause-found c =
 
 pub returns-in-Ok-clause-only : goal.returns-in-Ok-clause-only
 returns-in-Ok-clause-only c form has le =
-    c.in-Ok.ensures.only form.lines (c.past_mark-body.ensures ∙ lines_only c.args.text.now form has) has.well_formed le
+    c.in-Ok.ensures.only form.lines (c.past_mark-body.ensures ∙
+    lines_only c.args.text.now form has) has.well_formed le
 
 pub returns-in-Err-NotToml-clause-only : goal.returns-in-Err-NotToml-clause-only
 returns-in-Err-NotToml-clause-only c form has le =
-    let e : c.in-Err-NotToml.field-0 ≡ Memory = c.in-Err-NotToml.ensures.only form.lines (c.past_mark-body.ensures ∙ lines_only c.args.text.now form has) has.well_formed le in
+    let e : c.in-Err-NotToml.field-0 ≡ Memory = c.in-Err-NotToml.ensures.only form.lines
+    (c.past_mark-body.ensures ∙ lines_only c.args.text.now form has) has.well_formed le in
     let none : NotToml c.in-Err-NotToml.left ≡ Memory = sym c.in-Err-NotToml.field-0-is ∙ e in
     absurd cc

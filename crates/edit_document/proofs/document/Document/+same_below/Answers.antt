@@ -4,21 +4,34 @@ use Rattle.edit_document.proofs.SameParts.{same_here, same_all, part_some, parts
 use Rattle.edit_document.proofs.document.Document.+same_below.Goals as goal
 
 pub returns-then-not-same_view : goal.returns-then-not-same_view
-returns-then-not-same_view t c =
-    (λ e. absurd cc, λ h. sym c.if-not-same_view.true ∙ c.same_view.ensures.1 (same_here c.args.self.now c.args.number c.args.other.now c.args.there c.stands.ensures c.stands-2.ensures h))
+returns-then-not-same_view t c = (
+  λ e. absurd cc,
+  λ h. sym c.if-not-same_view.true ∙
+      c.same_view.ensures.1
+      (same_here c.args.self.now c.args.number c.args.other.now c.args.there c.stands.ensures
+      c.stands-2.ensures
+      h),
+)
 
 pub returns-in_default : goal.returns-in_default
-returns-in_default t c = absurd (part_some (view_numbered c.args.self.now c.args.number) c.parts.index (omega (arith, c.parts-test.true, c.member_count-count.ensures)) (c.in_default.ensures {u = tt}))
+returns-in_default t c =
+    absurd (part_some (view_numbered c.args.self.now c.args.number) c.parts.index
+    (omega (arith, c.parts-test.true, c.member_count-count.ensures)) (c.in_default.ensures {u = tt}))
 
 pub parts-preserved : goal.parts-preserved
 parts-preserved t c =
-    parts_more c.args.self.now c.args.number c.args.other.now c.args.there c.parts.index c.in-Some.part c.in-Some-part.other_part (c.same_view.ensures.0 c.if-not-same_view.false) c.parts.invariant
-    (c.in-Some.ensures {u = tt}) (c.in-Some-part.ensures {u = tt}) (c.same_below.ensures.0 c.if-not-same_below.false)
+    parts_more c.args.self.now c.args.number c.args.other.now c.args.there c.parts.index c.in-Some.part
+    c.in-Some-part.other_part (c.same_view.ensures.0 c.if-not-same_view.false) c.parts.invariant
+    (c.in-Some.ensures {u = tt}) (c.in-Some-part.ensures {u = tt})
+    (c.same_below.ensures.0 c.if-not-same_below.false)
 
 pub returns : goal.returns
 returns t c =
     let same = c.same_view.ensures.0 c.if-not-same_view.false in (
-      λ e. same_all c.args.self.now c.args.number c.args.other.now c.args.there c.is_tree.ensures.below c.is_tree-2.ensures.below c.is_whole.ensures.parts c.is_whole-2.ensures.parts c.stands.ensures c.stands-2.ensures same
-          (parts_all c.args.self.now c.args.number c.args.other.now c.args.there c.parts.index c.member_count-count.result c.parts.invariant c.parts-test.false c.member_count-count.ensures),
+      λ e. same_all c.args.self.now c.args.number c.args.other.now c.args.there c.is_tree.ensures.below
+          c.is_tree-2.ensures.below c.is_whole.ensures.parts c.is_whole-2.ensures.parts c.stands.ensures
+          c.stands-2.ensures same
+          (parts_all c.args.self.now c.args.number c.args.other.now c.args.there c.parts.index
+          c.member_count-count.result c.parts.invariant c.parts-test.false c.member_count-count.ensures),
       λ h. refl,
     )

@@ -1,13 +1,14 @@
 use Rattle.std.proofs.Common.{sym, ◌∙◌, refl, arith}
 use Rattle.edit_document.specs.Items.{view_numbered}
 use Rattle.edit_document.proofs.SameParts.{part_some}
-use Rattle.edit_document.proofs.UnorderedViews.{unordered_all, unordered_here, unordered_down, unordered_more, unordered_lacks}
+use Rattle.edit_document.proofs.UnorderedNodes.{unordered_all, unordered_here, unordered_down, unordered_more, unordered_lacks}
 use Rattle.edit_document.proofs.document.Document.+same_unordered.Goals as goal
 
 pub returns-then-not-same_but_order : goal.returns-then-not-same_but_order
 returns-then-not-same_but_order t c = (
   λ e. absurd cc,
-  λ h. sym c.if-not-same_but_order.true ∙ c.same_but_order.ensures.1 (unordered_here c.args.self.now c.args.number
+  λ h. sym c.if-not-same_but_order.true ∙
+      c.same_but_order.ensures.1 (unordered_here c.args.self.now c.args.number
       c.args.other.now c.args.there c.stands.ensures c.stands-2.ensures h),
 )
 
@@ -19,14 +20,16 @@ returns-in_default t c =
 pub returns-in_default-counterpart : goal.returns-in_default-counterpart
 returns-in_default-counterpart t c = (
   λ e. absurd cc,
-  λ h. absurd (unordered_lacks c.args.self.now c.args.number c.args.other.now c.args.there c.parts.index c.in-Some.part
+  λ h. absurd (unordered_lacks c.args.self.now c.args.number c.args.other.now c.args.there c.parts.index
+      c.in-Some.part
       (c.in-Some.ensures {u = tt}) c.is_whole.ensures.stands (c.in_default-counterpart.ensures {u = tt}) h),
 )
 
 pub returns-then-not-same_unordered : goal.returns-then-not-same_unordered
 returns-then-not-same_unordered t c = (
   λ e. absurd cc,
-  λ h. sym c.if-not-same_unordered.true ∙ c.same_unordered.ensures.1 (unordered_down c.args.self.now c.args.number
+  λ h. sym c.if-not-same_unordered.true ∙
+      c.same_unordered.ensures.1 (unordered_down c.args.self.now c.args.number
       c.args.other.now c.args.there c.parts.index c.in-Some.part c.in-Some-counterpart.other_part
       (c.in-Some.ensures {u = tt}) (c.in-Some-counterpart.ensures {u = tt}) h),
 )
@@ -39,9 +42,11 @@ parts-preserved t c =
 
 pub returns : goal.returns
 returns t c = (
-  λ e. unordered_all c.args.self.now c.args.number c.args.other.now c.args.there c.stands.ensures c.stands-2.ensures
+  λ e. unordered_all c.args.self.now c.args.number c.args.other.now c.args.there c.stands.ensures
+      c.stands-2.ensures
       c.is_tree.ensures.below c.is_tree-2.ensures.below c.is_whole.ensures.parts c.is_whole-2.ensures.parts
       (c.same_but_order.ensures.0 c.if-not-same_but_order.false)
-      (λ j s lt ps. c.parts.invariant j s (omega (arith, lt, c.parts-test.false, c.member_count-count.ensures)) ps),
+      (λ j s lt ps. c.parts.invariant j s
+      (omega (arith, lt, c.parts-test.false, c.member_count-count.ensures)) ps),
   λ h. refl,
 )

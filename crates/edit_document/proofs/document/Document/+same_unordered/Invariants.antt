@@ -1,4 +1,4 @@
-use Rattle.edit_document.proofs.UnorderedViews.{UnorderedParts}
+use Rattle.edit_document.proofs.UnorderedNodes.{UnorderedParts}
 use Rattle.edit_document.proofs.document.Document.+same_unordered.Given as goal
 
 abbrev pub decreases-same_unordered : goal.decreases-same_unordered

@@ -9,4 +9,5 @@ use Rattle.edit_document.proofs.document.Document.beside_unordered.Given as goal
 abbrev pub invariant-steps : goal.invariant-steps
 invariant-steps l =
     let p = place_seen (take l.step-index l.place) in
-    SameButOrderBeside p (tree_of l.self) (tree_of l.other) × IsNumber l.self p l.number × IsNumber l.other p l.there
+    SameButOrderBeside p (tree_of l.self) (tree_of l.other) × IsNumber l.self p l.number
+    × IsNumber l.other p l.there

@@ -12,7 +12,8 @@ returns-in_default c =
     let v = view_numbered c.args.self.now c.args.number in
     let w = view_numbered c.args.other.now c.args.there in (
       λ e. absurd cc,
-      λ h. absurd (grown_has c.args.key.now v w (grown_names c.args.key.now v w h) (c.in_default.ensures {u = tt})),
+      λ h. absurd (grown_has c.args.key.now v w (grown_names c.args.key.now v w h)
+          (c.in_default.ensures {u = tt})),
     )
 
 pub returns-then-saturating_sub-count : goal.returns-then-saturating_sub-count
@@ -30,18 +31,21 @@ returns-then-not-same_word c =
     let v = view_numbered c.args.self.now c.args.number in
     let w = view_numbered c.args.other.now c.args.there in
     let lacks : (i : ℕ) → slice_get (names_in v) i ≡ Some c.args.key.now → ⊥ = λ i h.
-    c.is_whole.ensures.stands (key c.args.key.now) i (c.is_whole.ensures.names i c.args.key.now h) c.requires.absent in
+    c.is_whole.ensures.stands (key c.args.key.now) i
+    (c.is_whole.ensures.names i c.args.key.now h) c.requires.absent in
     let first = c.in-Some.ensures {u = tt} in (
       λ e. absurd cc,
       λ h.
           let g = grown_names c.args.key.now v w h in
-          sym c.if-not-same_word.true ∙ c.same_word.ensures.1 (c.member_name.ensures ∙ elim c.if-index-added.branch [
+          sym c.if-not-same_word.true ∙
+          c.same_word.ensures.1 (c.member_name.ensures ∙ elim c.if-index-added.branch [
             | then-index-added b ↦
                 grown_before c.args.key.now v w g c.in-Some.added c.names.index lacks first (omega (arith, b))
                 ∙ ap (slice_get (names_in w)) (sym b.moved-is)
             | else-index-added b ↦
                 grown_behind c.args.key.now v w g c.in-Some.added c.names.index lacks first (omega (arith, b))
-                ∙ ap (slice_get (names_in w)) (let more : suc c.names.index ≡ c.names.index + 1 = omega arith in more ∙ sym b.moved-is)
+                ∙ ap (slice_get (names_in w))
+                (let more : suc c.names.index ≡ c.names.index + 1 = omega arith in more ∙ sym b.moved-is)
           ] ∙ sym c.member_name-in-names.ensures),
     )
 

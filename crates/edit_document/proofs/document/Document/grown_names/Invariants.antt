@@ -7,6 +7,8 @@ use Rattle.edit_document.proofs.document.Document.grown_names.Given as goal
 abbrev pub invariant-names : goal.invariant-names
 invariant-names l =
     ((i : ℕ) → i < l.index → i < l.added
-    → slice_get (names_in (view_numbered l.self l.number)) i ≡ slice_get (names_in (view_numbered l.other l.there)) i)
+    → slice_get (names_in (view_numbered l.self l.number)) i
+    ≡ slice_get (names_in (view_numbered l.other l.there)) i)
     × ((i : ℕ) → i < l.index → l.added ≤ i
-    → slice_get (names_in (view_numbered l.self l.number)) i ≡ slice_get (names_in (view_numbered l.other l.there)) (suc i))
+    → slice_get (names_in (view_numbered l.self l.number)) i
+    ≡ slice_get (names_in (view_numbered l.other l.there)) (suc i))

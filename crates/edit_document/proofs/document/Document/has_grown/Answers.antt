@@ -6,7 +6,8 @@ use Rattle.edit_document.proofs.document.Document.has_grown.Goals as goal
 pub returns-in-Some : goal.returns-in-Some
 returns-in-Some c =
     grown_there c.args.self.now c.args.other.now (place_seen c.args.place.now) c.args.key.now
-    (value_seen c.args.value.now) c.in-Some.number c.in-Some.there c.grown_here.result (c.in-Some.ensures {u = tt})
+    (value_seen c.args.value.now) c.in-Some.number c.in-Some.there c.grown_here.result
+    (c.in-Some.ensures {u = tt})
     c.grown_here.ensures
 
 pub returns-in-None : goal.returns-in-None

@@ -9,4 +9,5 @@ pub returns : goal.returns
 returns c =
     let f = c.has_form.ensures.some in
     let place = place_numbered c.args.self.now c.args.number in
-    subst AreApart (ap viewed (sym (c.has_form.ensures.shows f.0 f.1 place))) (apart_view (assertions f.0) place)
+    subst AreApart (ap viewed (sym (c.has_form.ensures.shows f.0 f.1 place)))
+    (apart_view (assertions f.0) place)

@@ -8,13 +8,16 @@ use Rattle.edit_document.proofs.document.Document.is_inline_above.Goals as goal
 pub returns-in-Some : goal.returns-in-Some
 returns-in-Some c =
     let n = c.in-Some.ensures {u = tt} in
-    let upper = above_seen c.args.place.now c.saturating_sub.result (omega (arith, c.saturating_sub.ensures)) in
+    let upper = above_seen c.args.place.now c.saturating_sub.result
+    (omega (arith, c.saturating_sub.ensures)) in
     let view : tree_of c.args.self.now (above (place_seen c.args.place.now))
-    ≡ Some (view_numbered c.args.self.now c.in-Some.number) = ap (tree_of c.args.self.now) (sym upper) ∙ n.0 in
+    ≡ Some (view_numbered c.args.self.now c.in-Some.number) = ap (tree_of c.args.self.now) (sym upper) ∙
+    n.0 in
     inline_kind (view_numbered c.args.self.now c.in-Some.number) c.kind.result c.kind.ensures
     ∙ sym (ap is_inline_table view)
 
 pub returns-in-None : goal.returns-in-None
 returns-in-None c =
-    let upper = above_seen c.args.place.now c.saturating_sub.result (omega (arith, c.saturating_sub.ensures)) in
+    let upper = above_seen c.args.place.now c.saturating_sub.result
+    (omega (arith, c.saturating_sub.ensures)) in
     sym (ap is_inline_table (ap (tree_of c.args.self.now) (sym upper) ∙ c.in-None.ensures {u = tt}))

@@ -1,6 +1,6 @@
 use Rattle.std.proofs.Common.{sym, ◌∙◌}
 use Rattle.edit_document.specs.Items.{place_numbered}
-use Rattle.edit_document.proofs.KeptNodes.{named_kept}
+use Rattle.edit_document.proofs.KeptParts.{named_kept}
 use Rattle.edit_document.proofs.KeptSteps.{kept_parts}
 use Rattle.edit_document.proofs.document.Document.is_kept.Goals as goal
 

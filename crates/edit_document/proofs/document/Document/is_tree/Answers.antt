@@ -1,4 +1,5 @@
-use Rattle.edit_document.proofs.Views.{opened, root_stands, nothing_below}
+use Rattle.edit_document.proofs.Views.{opened}
+use Rattle.edit_document.proofs.MemberViews.{root_stands, nothing_below}
 use Rattle.edit_document.proofs.document.Document.is_tree.Goals as goal
 
 pub returns : goal.returns
@@ -6,5 +7,6 @@ returns c =
     let opens = opened c.self.inside c.args.self.now c.self.invariant c.self.view_is in
     record {
       root = root_stands c.args.self.now c.self.inside.nodes.items opens;
-      below = λ place more none. nothing_below c.args.self.now c.self.inside.nodes.items more place opens none;
+      below = λ place more none. nothing_below c.args.self.now c.self.inside.nodes.items more place opens
+          none;
     }

@@ -4,4 +4,5 @@ use Rattle.edit_document.proofs.ReplacementLaws.{range_tells}
 use Rattle.edit_document.proofs.document.Document.is_value.Goals as goal
 
 pub returns : goal.returns
-returns c form manifest = c.is_some.ensures ∙ range_tells form (place_seen c.args.place.now) c.value_range.result (c.value_range.ensures form manifest)
+returns c form manifest = c.is_some.ensures ∙
+    range_tells form (place_seen c.args.place.now) c.value_range.result (c.value_range.ensures form manifest)

@@ -10,7 +10,8 @@ use Rattle.edit_document.proofs.document.Document.last_inner.Goals as goal
 
 pub returns-in_default-clause-found : goal.returns-in_default-clause-found
 returns-in_default-clause-found c form m =
-    sym (none_inner form (place_seen c.args.place.now) m.document.no_clash (c.in_default.ensures {u = tt} form m))
+    sym (none_inner form (place_seen c.args.place.now) m.document.no_clash
+    (c.in_default.ensures {u = tt} form m))
 
 pub returns-clause-found : goal.returns-clause-found
 returns-clause-found c form manifest =

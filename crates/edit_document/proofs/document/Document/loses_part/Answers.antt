@@ -6,7 +6,8 @@ use Rattle.edit_document.proofs.document.Document.loses_part.Goals as goal
 pub returns-then-not-loses_view : goal.returns-then-not-loses_view
 returns-then-not-loses_view c = (
   λ e. absurd cc,
-  λ h. sym c.if-not-loses_view.true ∙ c.loses_view.ensures.1 (part_view c.args.self.now c.args.number c.args.other.now
+  λ h. sym c.if-not-loses_view.true ∙
+      c.loses_view.ensures.1 (part_view c.args.self.now c.args.number c.args.other.now
       c.args.there (step_seen c.args.step.now) c.stands.ensures c.stands-2.ensures h),
 )
 

@@ -1,7 +1,8 @@
 use Rattle.std.proofs.Common.{◌≡◌, ℕ, suc, ◌<◌, ◌≤◌, refl, sym, subst, ◌∙◌, arith}
 use Rattle.edit_document.specs.Compared.{kind_of}
 use Rattle.edit_document.specs.Items.{view_numbered, step_seen, count_in}
-use Rattle.edit_document.proofs.LosesParts.{loses_kind, loses_size, loses_parts, array_loses, table_loses, part_is, parts_but, names_but}
+use Rattle.edit_document.proofs.LosesParts.{part_is, parts_but, names_but}
+use Rattle.edit_document.proofs.LosesViews.{loses_kind, loses_size, loses_parts, array_loses, table_loses}
 use Rattle.edit_document.proofs.SameParts.{part_less}
 use Rattle.edit_document.proofs.UnorderedViews.{names_by_parts}
 use Rattle.edit_document.proofs.document.Document.loses_view.Goals as goal
@@ -11,7 +12,8 @@ returns-then-kind c =
     let v = view_numbered c.args.self.now c.args.number in
     let w = view_numbered c.args.other.now c.args.there in (
       λ e. absurd cc,
-      λ h. absurd (c.if-kind.true (c.kind-kind.ensures ∙ loses_kind (step_seen c.args.step.now) v w h ∙ sym c.kind.ensures)),
+      λ h. absurd (c.if-kind.true (c.kind-kind.ensures ∙ loses_kind (step_seen c.args.step.now) v w h ∙
+          sym c.kind.ensures)),
     )
 
 pub returns-then-saturating_sub-rest : goal.returns-then-saturating_sub-rest
@@ -20,7 +22,8 @@ returns-then-saturating_sub-rest c =
     let w = view_numbered c.args.other.now c.args.there in (
       λ e. absurd cc,
       λ h. absurd (let size = loses_size (step_seen c.args.step.now) v w h in
-          c.if-saturating_sub-rest.true (omega (arith, size, c.member_count.ensures, c.member_count-rest.ensures))),
+          c.if-saturating_sub-rest.true
+          (omega (arith, size, c.member_count.ensures, c.member_count-rest.ensures))),
     )
 
 pub returns-then-kind-lt8 : goal.returns-then-kind-lt8
@@ -42,8 +45,10 @@ returns-then-not-has_names_but c =
     let w = view_numbered c.args.other.now c.args.there in
     let big : 8 ≤ kind_of v = subst (λ (k : ℕ). 8 ≤ k) c.kind-kind.ensures c.if-kind-lt8.false in (
       λ e. absurd cc,
-      λ h. sym c.if-not-has_names_but.true ∙ c.has_names_but.ensures.1 (names_but c.args.self.now c.args.number
-          c.args.other.now c.args.there (step_seen c.args.step.now) c.is_whole-2.ensures.stands c.is_whole.ensures.names
+      λ h. sym c.if-not-has_names_but.true ∙
+          c.has_names_but.ensures.1 (names_but c.args.self.now c.args.number
+          c.args.other.now c.args.there
+          (step_seen c.args.step.now) c.is_whole-2.ensures.stands c.is_whole.ensures.names
           (loses_parts (step_seen c.args.step.now) v w h big)),
     )
 
@@ -53,7 +58,8 @@ returns-then-not-has_names_of c =
     let w = view_numbered c.args.other.now c.args.there in
     let big : 8 ≤ kind_of v = subst (λ (k : ℕ). 8 ≤ k) c.kind-kind.ensures c.if-kind-lt8.false in (
       λ e. absurd cc,
-      λ h. sym c.if-not-has_names_of.true ∙ c.has_names_of.ensures.1 (names_by_parts c.args.other.now c.args.there
+      λ h. sym c.if-not-has_names_of.true ∙
+          c.has_names_of.ensures.1 (names_by_parts c.args.other.now c.args.there
           c.args.self.now c.args.number c.is_whole.ensures.stands c.is_whole-2.ensures.names
           (loses_parts (step_seen c.args.step.now) v w h big).back),
     )
@@ -69,10 +75,13 @@ returns c =
     let size : count_in v ≡ suc (count_in w) =
     omega (arith, lt, c.if-saturating_sub-rest.false, c.member_count.ensures, c.member_count-rest.ensures) in
     let big : 8 ≤ kind_of v = subst (λ (k : ℕ). 8 ≤ k) c.kind-kind.ensures c.if-kind-lt8.false in (
-      λ e. table_loses t v w big kind size (parts_but c.args.self.now c.args.number c.args.other.now c.args.there t
+      λ e. table_loses t v w big kind size
+          (parts_but c.args.self.now c.args.number c.args.other.now c.args.there t
           big kind c.is_whole.ensures.parts c.is_whole-2.ensures.parts c.is_whole-2.ensures.stands
-          c.is_whole-2.ensures.steps c.is_whole-2.ensures.names c.is_whole.ensures.keys c.is_whole-2.ensures.keys
-          (c.has_names_but.ensures.0 c.if-not-has_names_but.false) (c.has_names_of.ensures.0 c.if-not-has_names_of.false)
+          c.is_whole-2.ensures.steps c.is_whole-2.ensures.names c.is_whole.ensures.keys
+          c.is_whole-2.ensures.keys
+          (c.has_names_but.ensures.0 c.if-not-has_names_but.false)
+          (c.has_names_of.ensures.0 c.if-not-has_names_of.false)
           (c.lacks.ensures.0 e)),
       λ h. c.lacks.ensures.1 (c.is_whole-2.ensures.parts t (loses_parts t v w h big).none),
     )

@@ -11,14 +11,16 @@ same_unordered-requires-clause-there c =
 pub returns-in_default-moved_counterpart : goal.returns-in_default-moved_counterpart
 returns-in_default-moved_counterpart c = (
   λ e. absurd cc,
-  λ h. absurd (part_missing (moved_place (step_seen c.args.step.now) (place_numbered c.args.other.now c.args.there))
+  λ h. absurd (part_missing
+      (moved_place (step_seen c.args.step.now) (place_numbered c.args.other.now c.args.there))
       c.args.self.now c.args.number c.args.other.now c.args.index c.in-Some.part (c.in-Some.ensures {u = tt})
       c.is_whole.ensures.stands (c.in_default-moved_counterpart.ensures {u = tt}) h),
 )
 
 pub returns : goal.returns
 returns c =
-    part_there (moved_place (step_seen c.args.step.now) (place_numbered c.args.other.now c.args.there)) c.args.self.now
+    part_there (moved_place (step_seen c.args.step.now) (place_numbered c.args.other.now c.args.there))
+    c.args.self.now
     c.args.number c.args.other.now c.args.index c.in-Some.part c.in-Some-moved_counterpart.other_part
     c.same_unordered.result (c.in-Some.ensures {u = tt}) (c.in-Some-moved_counterpart.ensures {u = tt})
     c.same_unordered.ensures

@@ -5,4 +5,5 @@ use Rattle.edit_document.proofs.document.Document.name_index.Given as goal
 
 -- the names so far are others
 abbrev pub invariant-names : goal.invariant-names
-invariant-names l = (i : ℕ) → i < l.index → slice_get (names_in (view_numbered l.self l.number)) i ≡ Some l.key → ⊥
+invariant-names l = (i : ℕ) → i < l.index → slice_get (names_in (view_numbered l.self l.number)) i
+    ≡ Some l.key → ⊥

@@ -4,25 +4,31 @@ use Rattle.edit_document.specs.declared.place.Step.{Step as WrittenStep}
 use Rattle.edit_document.specs.Assertions.{key, at}
 use Rattle.edit_document.specs.Shown.{tree_of}
 use Rattle.edit_document.specs.Items.{place_numbered, place_seen, step_seen, Numbers}
-use Rattle.edit_document.proofs.Views.{walk_none}
+use Rattle.edit_document.proofs.MemberViews.{walk_none}
 use Rattle.edit_document.proofs.document.Document.number.Goals as goal
 
 pub returns-in_err-number-in-Index : goal.returns-in_err-number-in-Index
 returns-in_err-number-in-Index c =
     let p = place_numbered c.args.self.now c.steps.number in
     let none : tree_of c.args.self.now (at p (step_seen c.step-item.result)) ≡ None =
-    ap (λ (s : WrittenStep). tree_of c.args.self.now (at p (step_seen s))) c.in-Index.is ∙ c.in_err-number-in-Index.ensures {u = tt} in
-    let whole = walk_none c.args.self.now c.is_tree.ensures.below c.args.place.now c.steps.step-index c.step-item.result c.steps-test.true c.step-item.is p c.steps.invariant.1 none in
-    subst (λ (r : Option ℕ). Numbers c.args.self.now (place_seen c.args.place.now) r) (sym c.from_residual-in_err-number-in-Index.ensures) whole
+    ap (λ (s : WrittenStep). tree_of c.args.self.now (at p (step_seen s))) c.in-Index.is ∙
+    c.in_err-number-in-Index.ensures {u = tt} in
+    let whole = walk_none c.args.self.now c.is_tree.ensures.below c.args.place.now c.steps.step-index
+    c.step-item.result c.steps-test.true c.step-item.is p c.steps.invariant.1 none in
+    subst (λ (r : Option ℕ). Numbers c.args.self.now (place_seen c.args.place.now) r)
+    (sym c.from_residual-in_err-number-in-Index.ensures) whole
 
 pub returns-in_err-number-in-Key : goal.returns-in_err-number-in-Key
 returns-in_err-number-in-Key c =
     let p = place_numbered c.args.self.now c.steps.number in
     let none : tree_of c.args.self.now (at p (step_seen c.step-item.result)) ≡ None =
     ap (λ (s : WrittenStep). tree_of c.args.self.now (at p (step_seen s))) c.in-Key.is
-    ∙ ap (λ (n : List ℕ). tree_of c.args.self.now (at p (key n))) (sym c.as_str.ensures.value) ∙ c.in_err-number-in-Key.ensures {u = tt} in
-    let whole = walk_none c.args.self.now c.is_tree.ensures.below c.args.place.now c.steps.step-index c.step-item.result c.steps-test.true c.step-item.is p c.steps.invariant.1 none in
-    subst (λ (r : Option ℕ). Numbers c.args.self.now (place_seen c.args.place.now) r) (sym c.from_residual.ensures) whole
+    ∙ ap (λ (n : List ℕ). tree_of c.args.self.now (at p (key n))) (sym c.as_str.ensures.value) ∙
+    c.in_err-number-in-Key.ensures {u = tt} in
+    let whole = walk_none c.args.self.now c.is_tree.ensures.below c.args.place.now c.steps.step-index
+    c.step-item.result c.steps-test.true c.step-item.is p c.steps.invariant.1 none in
+    subst (λ (r : Option ℕ). Numbers c.args.self.now (place_seen c.args.place.now) r)
+    (sym c.from_residual.ensures) whole
 
 pub returns : goal.returns
 returns c =

@@ -4,4 +4,5 @@ use Rattle.edit_document.proofs.document.Document.number.Given as goal
 
 -- the steps so far lead to the node
 abbrev pub invariant-steps : goal.invariant-steps
-invariant-steps l = (l.number < length l.self.nodes) × (place_numbered l.self l.number ≡ place_seen (take l.step-index l.place))
+invariant-steps l = (l.number < length l.self.nodes)
+    × (place_numbered l.self l.number ≡ place_seen (take l.step-index l.place))

@@ -10,4 +10,6 @@ returns-then-not-is_member c form manifest =
 pub returns-in_default : goal.returns-in_default
 returns-in_default c form manifest =
     let m = c.if-not-is_member.ensures.yes refl in
-    sym (nothing_alone form (place_seen c.args.place.now) m.0 m.1 m.2 (sym (c.has_form.ensures.shows form manifest (place_seen c.args.place.now)) ∙ c.in_default.ensures {u = tt}))
+    sym (nothing_alone form (place_seen c.args.place.now) m.0 m.1 m.2
+    (sym (c.has_form.ensures.shows form manifest (place_seen c.args.place.now)) ∙
+    c.in_default.ensures {u = tt}))

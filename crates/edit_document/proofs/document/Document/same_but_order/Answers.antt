@@ -18,8 +18,10 @@ returns-then-not-has_names_of c =
     let v = view_numbered c.args.self.now c.args.number in
     let w = view_numbered c.args.other.now c.args.there in (
       λ e. absurd cc,
-      λ h. sym c.if-not-has_names_of.true ∙ c.has_names_of.ensures.1 (names_by_parts c.args.self.now c.args.number
-          c.args.other.now c.args.there c.is_whole-2.ensures.stands c.is_whole.ensures.names (order_free v w h).there),
+      λ h. sym c.if-not-has_names_of.true ∙
+          c.has_names_of.ensures.1 (names_by_parts c.args.self.now c.args.number
+          c.args.other.now c.args.there c.is_whole-2.ensures.stands c.is_whole.ensures.names
+          (order_free v w h).there),
     )
 
 pub returns : goal.returns
@@ -32,9 +34,12 @@ returns c =
     let there = parts_by_names c.args.self.now c.args.number c.args.other.now c.args.there
     c.is_whole-2.ensures.parts c.is_whole.ensures.steps c.is_whole.ensures.names
     (named_parts v big c.is_whole.ensures.keys) (c.has_names_of.ensures.0 c.if-not-has_names_of.false) in (
-      λ e. free_tabled v w big kind size there (parts_by_names c.args.other.now c.args.there c.args.self.now c.args.number
+      λ e. free_tabled v w big kind size there
+          (parts_by_names c.args.other.now c.args.there c.args.self.now c.args.number
           c.is_whole.ensures.parts c.is_whole-2.ensures.steps c.is_whole-2.ensures.names
-          (named_parts w (subst (λ (k : ℕ). 8 ≤ k) kind big) c.is_whole-2.ensures.keys) (c.has_names_of-2.ensures.0 e)),
-      λ h. c.has_names_of-2.ensures.1 (names_by_parts c.args.other.now c.args.there c.args.self.now c.args.number
+          (named_parts w (subst (λ (k : ℕ). 8 ≤ k) kind big) c.is_whole-2.ensures.keys)
+          (c.has_names_of-2.ensures.0 e)),
+      λ h. c.has_names_of-2.ensures.1
+          (names_by_parts c.args.other.now c.args.there c.args.self.now c.args.number
           c.is_whole.ensures.stands c.is_whole-2.ensures.names (order_free v w h).back),
     )

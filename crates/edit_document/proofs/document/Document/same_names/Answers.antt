@@ -5,5 +5,7 @@ use Rattle.edit_document.proofs.document.Document.same_names.Goals as goal
 
 pub names-preserved : goal.names-preserved
 names-preserved c =
-    take_both (names_in (view_numbered c.args.self.now c.args.number)) (names_in (view_numbered c.args.other.now c.args.there)) c.names.index c.names.invariant
-    (sym c.member_name.ensures ∙ c.same_word.ensures.0 c.if-not-same_word.false ∙ c.member_name-in-names.ensures)
+    take_both (names_in (view_numbered c.args.self.now c.args.number))
+    (names_in (view_numbered c.args.other.now c.args.there)) c.names.index c.names.invariant
+    (sym c.member_name.ensures ∙ c.same_word.ensures.0 c.if-not-same_word.false ∙
+    c.member_name-in-names.ensures)

@@ -4,7 +4,8 @@ use Rattle.edit_document.proofs.document.Document.same_part.Goals as goal
 pub returns-in_default-counterpart : goal.returns-in_default-counterpart
 returns-in_default-counterpart c = (
   λ e. absurd cc,
-  λ h. absurd (part_lacks c.args.self.now c.args.number c.args.other.now c.args.there c.args.index c.in-Some.part
+  λ h. absurd (part_lacks c.args.self.now c.args.number c.args.other.now c.args.there c.args.index
+      c.in-Some.part
       (c.in-Some.ensures {u = tt}) c.is_whole.ensures.stands (c.in_default-counterpart.ensures {u = tt}) h),
 )
 

@@ -9,4 +9,5 @@ abbrev pub invariant-parts : goal.invariant-parts
 invariant-parts l =
     (i : ℕ) → i < l.index → (part : Step) → nth_part (view_numbered l.self l.number) i ≡ Some part
     → (part ≡ step_seen l.step → ⊥)
-    → SameBelow l.self (at (place_numbered l.self l.number) part) l.other (at (place_numbered l.other l.there) part)
+    → SameBelow l.self (at (place_numbered l.self l.number) part) l.other
+    (at (place_numbered l.other l.there) part)

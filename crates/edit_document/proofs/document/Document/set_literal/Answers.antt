@@ -19,15 +19,18 @@ pub returns-in_err-new-clause-refused : goal.returns-in_err-new-clause-refused
 returns-in_err-new-clause-refused c =
     let edit = one_edit (place_seen c.args.place.now) c.args.text.now in
     let r = (c.in_ok-new_text.ensures {u = tt}).replaces in
-    let manifest = subst (λ (b : List ℕ). IsManifest b (replaced edit r.form)) (sym c.as_str.ensures.value) r.is in
-    let memory : IsMemory c.in_err-new.field-0.0 = (c.in_err-new.ensures {u = tt}).only (replaced edit r.form) manifest in
+    let manifest = subst (λ (b : List ℕ). IsManifest b (replaced edit r.form))
+    (sym c.as_str.ensures.value) r.is in
+    let memory : IsMemory c.in_err-new.field-0.0 = (c.in_err-new.ensures {u = tt}).only
+    (replaced edit r.form) manifest in
     search rules
 
 pub returns-clause-tree : goal.returns-clause-tree
 returns-clause-tree c at =
     let edit = one_edit (place_seen c.args.place.now) c.args.text.now in
     let r = (c.in_ok-new_text.ensures {u = tt}).replaces in
-    let manifest = subst (λ (b : List ℕ). IsManifest b (replaced edit r.form)) (sym c.as_str.ensures.value) r.is in
+    let manifest = subst (λ (b : List ℕ). IsManifest b (replaced edit r.form))
+    (sym c.as_str.ensures.value) r.is in
     ap (λ (ns : List (Place × View)). node_at ns at) c.with_written.ensures.nodes
     ∙ (c.in_ok-new.ensures {u = tt}).only (replaced edit r.form) manifest at ∙ r.tree at
     ∙ written_same edit (emptied edit (view_at r.form)) (emptied edit (tree_of c.args.self.now)) at
@@ -38,7 +41,8 @@ returns-clause-piece c =
     let new = string_bytes c.in_ok-new_text.new_text in
     let told : c.with_written.result.pieces ≡ pieces_of new c.in_ok-new_text.written =
     c.with_written.ensures.pieces
-    ∙ ap (λ (b : List ℕ). pieces_of b c.in_ok-new_text.written) ((c.in_ok-new.ensures {u = tt}).bytes ∙ c.as_str.ensures.value) in
+    ∙ ap (λ (b : List ℕ). pieces_of b c.in_ok-new_text.written) ((c.in_ok-new.ensures {u = tt}).bytes ∙
+    c.as_str.ensures.value) in
     subst (IsAmong (literal_bytes c.args.text.now)) (sym told)
     (literal_among c.args.self.now.bytes (literal_bytes c.args.text.now) new c.in_ok-new_text.written
     (c.in_ok-new_text.ensures {u = tt}).swapped (literal_some c.args.text.now))
@@ -49,7 +53,9 @@ returns-clause-pieces c =
     let kept = c.has_pieces.ensures in
     let told : c.with_written.result.pieces ≡ pieces_of new c.in_ok-new_text.written =
     c.with_written.ensures.pieces
-    ∙ ap (λ (b : List ℕ). pieces_of b c.in_ok-new_text.written) ((c.in_ok-new.ensures {u = tt}).bytes ∙ c.as_str.ensures.value) in
-    let most = most_pieces c.args.self.now.bytes (literal_bytes c.args.text.now) new c.in_ok-new_text.written kept.0
+    ∙ ap (λ (b : List ℕ). pieces_of b c.in_ok-new_text.written) ((c.in_ok-new.ensures {u = tt}).bytes ∙
+    c.as_str.ensures.value) in
+    let most = most_pieces c.args.self.now.bytes (literal_bytes c.args.text.now) new c.in_ok-new_text.written
+    kept.0
     (c.in_ok-new_text.ensures {u = tt}).swapped kept.1 in
     rw (told, kept.2) most

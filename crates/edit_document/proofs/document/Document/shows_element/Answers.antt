@@ -6,12 +6,14 @@ use Rattle.edit_document.proofs.document.Document.shows_element.Goals as goal
 
 pub returns-in-Some : goal.returns-in-Some
 returns-in-Some c =
-    shown_at c.args.self.now (at (place_numbered c.args.self.now c.args.number) (index c.args.index)) c.in-Some.element
+    shown_at c.args.self.now (at (place_numbered c.args.self.now c.args.number) (index c.args.index))
+    c.in-Some.element
     (a_string c.args.said.now) c.shows_string.result (c.in-Some.ensures {u = tt}) c.shows_string.ensures
 
 pub returns-in-None : goal.returns-in-None
 returns-in-None c = (
   λ e. absurd cc,
-  λ h. absurd (unshown_at c.args.self.now (at (place_numbered c.args.self.now c.args.number) (index c.args.index))
+  λ h. absurd (unshown_at c.args.self.now
+      (at (place_numbered c.args.self.now c.args.number) (index c.args.index))
       (a_string c.args.said.now) (c.in-None.ensures {u = tt}) h),
 )

@@ -20,8 +20,10 @@ returns-then-kind-ne6 c = (
 pub returns-then-member_count-list : goal.returns-then-member_count-list
 returns-then-member_count-list c = (
   λ e. absurd cc,
-  λ h. absurd (c.if-member_count-list.true (c.member_count.ensures ∙ sym (ap count_in (list_view c.args.self.now
-      c.args.number c.stands.ensures (map string_bytes c.args.list.now) h)) ∙ length-map c.args.list.now string_bytes)),
+  λ h. absurd (c.if-member_count-list.true (c.member_count.ensures ∙
+      sym (ap count_in (list_view c.args.self.now
+      c.args.number c.stands.ensures (map string_bytes c.args.list.now) h)) ∙
+      length-map c.args.list.now string_bytes)),
 )
 
 pub returns-then-not-shows_element : goal.returns-then-not-shows_element
@@ -32,7 +34,8 @@ returns-then-not-shows_element c =
     c.index-list-index.result refl c.texts-test.true c.index-list-index.is)
     ∙ ap Some (sym c.as_str.ensures.value) in (
       λ e. absurd cc,
-      λ h. sym c.if-not-shows_element.true ∙ c.shows_element.ensures.1 (list_element c.args.self.now c.args.number
+      λ h. sym c.if-not-shows_element.true ∙
+          c.shows_element.ensures.1 (list_element c.args.self.now c.args.number
           c.stands.ensures (map string_bytes c.args.list.now) c.texts.index c.as_str.result.now h said),
     )
 
@@ -49,7 +52,8 @@ texts-preserved c i s lt e =
           let here : c.texts.index ≡ i = omega (arith, lt, ge) in
           let same : c.as_str.result.now ≡ s = same_Some c.as_str.result.now s
           (sym said ∙ ap (slice_get (map string_bytes c.args.list.now)) here ∙ e) in
-          subst (λ (j : ℕ). ShowsValue c.args.self.now (at (place_numbered c.args.self.now c.args.number) (index j)) (a_string s)) here
+          subst (λ (j : ℕ). ShowsValue c.args.self.now
+          (at (place_numbered c.args.self.now c.args.number) (index j)) (a_string s)) here
           (subst (λ (w : List ℕ). ShowsValue c.args.self.now
           (at (place_numbered c.args.self.now c.args.number) (index c.texts.index)) (a_string w)) same
           (c.shows_element.ensures.0 c.if-not-shows_element.false))
@@ -57,9 +61,11 @@ texts-preserved c i s lt e =
 
 pub returns : goal.returns
 returns c = (
-  λ e. list_shows c.args.self.now c.args.number c.stands.ensures c.is_tree.ensures.below c.is_whole.ensures.parts
+  λ e. list_shows c.args.self.now c.args.number c.stands.ensures c.is_tree.ensures.below
+      c.is_whole.ensures.parts
       (map string_bytes c.args.list.now) (sym c.kind.ensures ∙ c.if-kind-ne6.false)
-      (sym c.member_count.ensures ∙ c.if-member_count-list.false ∙ sym (length-map c.args.list.now string_bytes))
+      (sym c.member_count.ensures ∙ c.if-member_count-list.false ∙
+      sym (length-map c.args.list.now string_bytes))
       (λ i s there. c.texts.invariant i s
       (let lt = slice_get_within (map string_bytes c.args.list.now) i s there in
       let n = length-map c.args.list.now string_bytes in

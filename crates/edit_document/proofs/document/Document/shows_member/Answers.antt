@@ -13,6 +13,7 @@ returns-in-None c =
     let none = ap (λ (n : List ℕ). tree_of c.args.self.now (at p (key n))) (sym c.as_str-name.ensures.value)
     ∙ c.in-None.ensures {u = tt} in (
       λ e. absurd cc,
-      λ h. absurd (pair_missed c.args.self.now p (slice_get (names_in (view_numbered c.args.self.now c.args.number)) c.args.index)
+      λ h. absurd (pair_missed c.args.self.now p
+          (slice_get (names_in (view_numbered c.args.self.now c.args.number)) c.args.index)
           (pair_seen c.args.member.now) none h),
     )

@@ -19,7 +19,8 @@ returns-then-kind c =
     ] in (
       λ e. absurd cc,
       λ h. absurd (c.if-kind.true (c.kind.ensures
-          ∙ sym (ap kind_of (members_view c.args.self.now c.args.number c.stands.ensures c.args.is_inline ms h))
+          ∙ sym (ap kind_of (members_view c.args.self.now c.args.number c.stands.ensures c.args.is_inline ms
+          h))
           ∙ members_kind c.args.is_inline ms ∙ sym kind)),
     )
 
@@ -40,8 +41,10 @@ returns-then-not-shows_member c =
     ∙ ap (option_map pair_seen) (slice_get_read c.args.members.now (length c.args.members.now) c.members.index
     c.index-members-index.result refl c.members-test.true c.index-members-index.is) in (
       λ e. absurd cc,
-      λ h. sym c.if-not-shows_member.true ∙ c.shows_member.ensures.1 (members_pair c.args.self.now c.args.number
-          c.stands.ensures c.args.is_inline ms c.is_apart.ensures c.members.index (pair_seen c.index-members-index.result) h there),
+      λ h. sym c.if-not-shows_member.true ∙
+          c.shows_member.ensures.1 (members_pair c.args.self.now c.args.number
+          c.stands.ensures c.args.is_inline ms c.is_apart.ensures c.members.index
+          (pair_seen c.index-members-index.result) h there),
     )
 
 pub members-preserved : goal.members-preserved
@@ -69,10 +72,12 @@ returns c =
       | then-is_inline w ↦ w.kind-is ∙ sym (ap (λ b. cond b 8 9) w.if-is_inline.true)
       | else-is_inline w ↦ w.kind-is ∙ sym (ap (λ b. cond b 8 9) w.if-is_inline.false)
     ] in (
-      λ e. members_show c.args.self.now c.args.number c.stands.ensures c.args.is_inline ms c.is_tree.ensures.below
+      λ e. members_show c.args.self.now c.args.number c.stands.ensures c.args.is_inline ms
+          c.is_tree.ensures.below
           c.is_whole.ensures.parts c.is_whole.ensures.keys c.is_whole.ensures.steps
           (sym c.kind.ensures ∙ c.if-kind.false ∙ kind)
-          (sym c.name_count.ensures ∙ c.if-name_count-members.false ∙ sym (length-map c.args.members.now pair_seen))
+          (sym c.name_count.ensures ∙ c.if-name_count-members.false ∙
+          sym (length-map c.args.members.now pair_seen))
           (λ i m there. c.members.invariant i m
           (let lt = slice_get_within ms i m there in
           let n = length-map c.args.members.now pair_seen in

@@ -12,7 +12,8 @@ returns-then-kind-ne0 c = (
 
 pub returns : goal.returns
 returns c =
-    string_decides c.args.self.now c.args.number c.stands.ensures c.is_tree.ensures.below c.is_whole.ensures.parts
+    string_decides c.args.self.now c.args.number c.stands.ensures c.is_tree.ensures.below
+    c.is_whole.ensures.parts
     c.args.said.now c.same_word.result (sym c.kind.ensures ∙ c.if-kind-ne0.false)
     (subst (λ (o : Option (List ℕ)). Decides c.same_word.result (o ≡ Some c.args.said.now)) c.word.ensures
     c.same_word.ensures)

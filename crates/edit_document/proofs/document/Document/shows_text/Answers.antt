@@ -7,4 +7,5 @@ pub returns : goal.returns
 unfolding shown_by
 returns c =
     let same = c.self.view_is in
-    ap (λ (s : Shown). s.nodes) (sym same) ∙ ap (λ (bytes : List ℕ). nodes_by (spots_of bytes)) (ap (λ (s : Shown). s.bytes) same)
+    ap (λ (s : Shown). s.nodes) (sym same) ∙ ap (λ (bytes : List ℕ). nodes_by (spots_of bytes))
+    (ap (λ (s : Shown). s.bytes) same)

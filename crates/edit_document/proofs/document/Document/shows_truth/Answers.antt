@@ -9,13 +9,17 @@ use Rattle.edit_document.proofs.document.Document.shows_truth.Goals as goal
 pub returns-then-truth : goal.returns-then-truth
 returns-then-truth c =
     subst (λ (b : Bool). Decides (eqb c.kind-kind.result 2)
-    (ShowsValue c.args.self.now (place_numbered c.args.self.now c.args.number) (a_truth b))) (sym c.if-truth.true)
-    (truth_decides c.args.self.now c.args.number c.stands.ensures c.is_tree.ensures.below c.is_whole.ensures.parts true
+    (ShowsValue c.args.self.now (place_numbered c.args.self.now c.args.number) (a_truth b)))
+    (sym c.if-truth.true)
+    (truth_decides c.args.self.now c.args.number c.stands.ensures c.is_tree.ensures.below
+    c.is_whole.ensures.parts true
     c.kind-kind.result c.kind-kind.ensures)
 
 pub returns-else-truth : goal.returns-else-truth
 returns-else-truth c =
     subst (λ (b : Bool). Decides (eqb c.kind-kind.result 1)
-    (ShowsValue c.args.self.now (place_numbered c.args.self.now c.args.number) (a_truth b))) (sym c.if-truth.false)
-    (truth_decides c.args.self.now c.args.number c.stands.ensures c.is_tree.ensures.below c.is_whole.ensures.parts false
+    (ShowsValue c.args.self.now (place_numbered c.args.self.now c.args.number) (a_truth b)))
+    (sym c.if-truth.false)
+    (truth_decides c.args.self.now c.args.number c.stands.ensures c.is_tree.ensures.below
+    c.is_whole.ensures.parts false
     c.kind-kind.result c.kind-kind.ensures)

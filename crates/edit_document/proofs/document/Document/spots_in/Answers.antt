@@ -11,7 +11,7 @@ use Rattle.edit_document.specs.Tree.{is_value_at}
 use Rattle.edit_document.specs.Written.{values}
 use Rattle.edit_document.proofs.Ends.{suffix_is}
 use Rattle.edit_document.proofs.InnerPairs.{front_way, inner_told, no_inner_told}
-use Rattle.edit_document.proofs.ValuesStand.{values_stand}
+use Rattle.edit_document.proofs.ValueSpots.{values_stand}
 use Rattle.edit_document.proofs.document.Document.spots_in.Goals as goal
 
 pub returns-in-Some-clause-told : goal.returns-in-Some-clause-told

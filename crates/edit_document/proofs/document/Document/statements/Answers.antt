@@ -12,50 +12,71 @@ index-node-requires c =
 pub returns-in-Value : goal.returns-in-Value
 returns-in-Value c form upper name manifest place =
     let opens = opened c.self.inside c.args.self.now c.self.invariant c.self.view_is in
-    let f = found c.args.self.now c.self.inside.nodes.items c.args.number c.index-node.result.now opens c.requires c.index-node.ensures in
-    let st = stood c.self.inside c.args.self.now c.self.invariant c.self.view_is (subst IsUtf8 c.as_str-text.ensures.value c.as_str-text.utf8) form manifest in
-    value_answer c.args.self.now c.self.inside.nodes.items opens c.args.number c.index-node.result.now f form st upper name place c.in-Value.is
+    let f = found c.args.self.now c.self.inside.nodes.items c.args.number c.index-node.result.now opens
+    c.requires c.index-node.ensures in
+    let st = stood c.self.inside c.args.self.now c.self.invariant c.self.view_is
+    (subst IsUtf8 c.as_str-text.ensures.value c.as_str-text.utf8) form manifest in
+    value_answer c.args.self.now c.self.inside.nodes.items opens c.args.number c.index-node.result.now f form
+    st upper name place c.in-Value.is
 
 pub returns-in-Super : goal.returns-in-Super
 returns-in-Super c form upper name manifest place =
     let opens = opened c.self.inside c.args.self.now c.self.invariant c.self.view_is in
-    let f = found c.args.self.now c.self.inside.nodes.items c.args.number c.index-node.result.now opens c.requires c.index-node.ensures in
-    let st = stood c.self.inside c.args.self.now c.self.invariant c.self.view_is (subst IsUtf8 c.as_str-text.ensures.value c.as_str-text.utf8) form manifest in
-    super_answer c.args.self.now c.self.inside.nodes.items opens c.args.number c.index-node.result.now f form st upper name place c.in-Super.is
+    let f = found c.args.self.now c.self.inside.nodes.items c.args.number c.index-node.result.now opens
+    c.requires c.index-node.ensures in
+    let st = stood c.self.inside c.args.self.now c.self.invariant c.self.view_is
+    (subst IsUtf8 c.as_str-text.ensures.value c.as_str-text.utf8) form manifest in
+    super_answer c.args.self.now c.self.inside.nodes.items opens c.args.number c.index-node.result.now f form
+    st upper name place c.in-Super.is
 
 pub returns-in-Header : goal.returns-in-Header
 returns-in-Header c form upper name manifest place =
     let opens = opened c.self.inside c.args.self.now c.self.invariant c.self.view_is in
-    let f = found c.args.self.now c.self.inside.nodes.items c.args.number c.index-node.result.now opens c.requires c.index-node.ensures in
-    let st = stood c.self.inside c.args.self.now c.self.invariant c.self.view_is (subst IsUtf8 c.as_str-text.ensures.value c.as_str-text.utf8) form manifest in
-    header_answer c.args.self.now c.self.inside.nodes.items opens c.args.number c.index-node.result.now f form st upper name place c.in-Header.is
+    let f = found c.args.self.now c.self.inside.nodes.items c.args.number c.index-node.result.now opens
+    c.requires c.index-node.ensures in
+    let st = stood c.self.inside c.args.self.now c.self.invariant c.self.view_is
+    (subst IsUtf8 c.as_str-text.ensures.value c.as_str-text.utf8) form manifest in
+    header_answer c.args.self.now c.self.inside.nodes.items opens c.args.number c.index-node.result.now f form
+    st upper name place c.in-Header.is
 
 pub returns-in-Array : goal.returns-in-Array
 returns-in-Array c form upper name manifest place =
     let opens = opened c.self.inside c.args.self.now c.self.invariant c.self.view_is in
-    let f = found c.args.self.now c.self.inside.nodes.items c.args.number c.index-node.result.now opens c.requires c.index-node.ensures in
-    let st = stood c.self.inside c.args.self.now c.self.invariant c.self.view_is (subst IsUtf8 c.as_str-text.ensures.value c.as_str-text.utf8) form manifest in
-    array_answer c.args.self.now c.self.inside.nodes.items opens c.args.number c.index-node.result.now f form st upper name place c.in-Array.is
+    let f = found c.args.self.now c.self.inside.nodes.items c.args.number c.index-node.result.now opens
+    c.requires c.index-node.ensures in
+    let st = stood c.self.inside c.args.self.now c.self.invariant c.self.view_is
+    (subst IsUtf8 c.as_str-text.ensures.value c.as_str-text.utf8) form manifest in
+    array_answer c.args.self.now c.self.inside.nodes.items opens c.args.number c.index-node.result.now f form
+    st upper name place c.in-Array.is
 
 pub returns-in-Element : goal.returns-in-Element
 returns-in-Element c form upper name manifest place =
     let opens = opened c.self.inside c.args.self.now c.self.invariant c.self.view_is in
-    let f = found c.args.self.now c.self.inside.nodes.items c.args.number c.index-node.result.now opens c.requires c.index-node.ensures in
-    let st = stood c.self.inside c.args.self.now c.self.invariant c.self.view_is (subst IsUtf8 c.as_str-text.ensures.value c.as_str-text.utf8) form manifest in
-    element_answer c.args.self.now c.self.inside.nodes.items opens c.args.number c.index-node.result.now f form st upper name place c.in-Element.is
+    let f = found c.args.self.now c.self.inside.nodes.items c.args.number c.index-node.result.now opens
+    c.requires c.index-node.ensures in
+    let st = stood c.self.inside c.args.self.now c.self.invariant c.self.view_is
+    (subst IsUtf8 c.as_str-text.ensures.value c.as_str-text.utf8) form manifest in
+    element_answer c.args.self.now c.self.inside.nodes.items opens c.args.number c.index-node.result.now f
+    form st upper name place c.in-Element.is
 
 pub returns-in-Some : goal.returns-in-Some
 returns-in-Some c form upper name manifest place =
     let opens = opened c.self.inside c.args.self.now c.self.invariant c.self.view_is in
-    let f = found c.args.self.now c.self.inside.nodes.items c.args.number c.index-node.result.now opens c.requires c.index-node.ensures in
-    let st = stood c.self.inside c.args.self.now c.self.invariant c.self.view_is (subst IsUtf8 c.as_str-text.ensures.value c.as_str-text.utf8) form manifest in
-    only_answer c.args.self.now c.self.inside.nodes.items opens c.args.number c.index-node.result.now f form st upper name place c.in-Dotted.is c.in-Some.next
+    let f = found c.args.self.now c.self.inside.nodes.items c.args.number c.index-node.result.now opens
+    c.requires c.index-node.ensures in
+    let st = stood c.self.inside c.args.self.now c.self.invariant c.self.view_is
+    (subst IsUtf8 c.as_str-text.ensures.value c.as_str-text.utf8) form manifest in
+    only_answer c.args.self.now c.self.inside.nodes.items opens c.args.number c.index-node.result.now f form
+    st upper name place c.in-Dotted.is c.in-Some.next
     (c.in-Some.ensures {u = tt})
 
 pub returns-in-None : goal.returns-in-None
 returns-in-None c form upper name manifest place =
     let opens = opened c.self.inside c.args.self.now c.self.invariant c.self.view_is in
-    let f = found c.args.self.now c.self.inside.nodes.items c.args.number c.index-node.result.now opens c.requires c.index-node.ensures in
-    let st = stood c.self.inside c.args.self.now c.self.invariant c.self.view_is (subst IsUtf8 c.as_str-text.ensures.value c.as_str-text.utf8) form manifest in
-    other_answer c.args.self.now c.self.inside.nodes.items opens c.args.number c.index-node.result.now f form st upper name place c.in-Dotted.is
+    let f = found c.args.self.now c.self.inside.nodes.items c.args.number c.index-node.result.now opens
+    c.requires c.index-node.ensures in
+    let st = stood c.self.inside c.args.self.now c.self.invariant c.self.view_is
+    (subst IsUtf8 c.as_str-text.ensures.value c.as_str-text.utf8) form manifest in
+    other_answer c.args.self.now c.self.inside.nodes.items opens c.args.number c.index-node.result.now f form
+    st upper name place c.in-Dotted.is
     (c.in-None.ensures {u = tt})

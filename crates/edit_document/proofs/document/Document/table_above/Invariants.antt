@@ -11,4 +11,5 @@ use Rattle.edit_document.proofs.document.Document.table_above.Given as goal
 abbrev pub invariant-ends : goal.invariant-ends
 invariant-ends l = (form : Text) → IsManifest l.self.bytes form
     → MatchOption l.found (NoneFrom form l.place 0 l.end)
-    (λ p. (p.0 < l.end) × StartsTable form (place_seen (take p.0 l.place)) p.1 × NoneFrom form l.place (suc p.0) l.end)
+    (λ p. (p.0 < l.end) × StartsTable form (place_seen (take p.0 l.place)) p.1
+    × NoneFrom form l.place (suc p.0) l.end)

@@ -22,12 +22,14 @@ returns-then-is_inline_table c form m =
     let place = place_seen c.args.place.now in
     own_table form place c.in_ok-start.start c.in_ok-start.field-0-1 m.document.no_clash
     (c.in_ok-start.ensures {u = tt} form m)
-    (ap (option_map is_inline) (sym (c.has_form.ensures.shows form m place) ∙ (c.in_ok-item.ensures {u = tt}).2)
+    (ap (option_map is_inline) (sym (c.has_form.ensures.shows form m place) ∙
+    (c.in_ok-item.ensures {u = tt}).2)
     ∙ ap (λ b. Some b) (sym c.is_inline_table.ensures ∙ c.if-is_inline_table.true))
 
 pub returns-else-is_inline_table : goal.returns-else-is_inline_table
 returns-else-is_inline_table c form m =
     let place = place_seen c.args.place.now in
     other_value form place m.document.no_clash
-    (ap (option_map is_inline) (sym (c.has_form.ensures.shows form m place) ∙ (c.in_ok-item.ensures {u = tt}).2)
+    (ap (option_map is_inline) (sym (c.has_form.ensures.shows form m place) ∙
+    (c.in_ok-item.ensures {u = tt}).2)
     ∙ ap (λ b. Some b) (sym c.is_inline_table.ensures ∙ c.if-is_inline_table.false))

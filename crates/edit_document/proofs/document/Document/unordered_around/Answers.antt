@@ -6,7 +6,8 @@ use Rattle.edit_document.proofs.document.Document.unordered_around.Goals as goal
 pub returns-then-not-same_but_order-clause-same : goal.returns-then-not-same_but_order-clause-same
 returns-then-not-same_but_order-clause-same c = (
   λ e. absurd cc,
-  λ h. sym c.if-not-same_but_order.true ∙ c.same_but_order.ensures.1 (around_here c.args.self.now c.args.number
+  λ h. sym c.if-not-same_but_order.true ∙
+      c.same_but_order.ensures.1 (around_here c.args.self.now c.args.number
       c.args.other.now c.args.there (step_seen c.args.step.now) c.stands.ensures c.stands-2.ensures h),
 )
 
@@ -16,7 +17,8 @@ returns-clause-same c =
       λ e. around_all c.args.self.now c.args.number c.args.other.now c.args.there (step_seen c.args.step.now)
           c.stands.ensures c.stands-2.ensures c.is_tree.ensures.below c.is_tree-2.ensures.below
           c.is_whole.ensures.parts c.is_whole-2.ensures.parts views (c.unordered_parts_but.ensures.0 e),
-      λ h. c.unordered_parts_but.ensures.1 (around_else c.args.self.now c.args.number c.args.other.now c.args.there
+      λ h. c.unordered_parts_but.ensures.1
+          (around_else c.args.self.now c.args.number c.args.other.now c.args.there
           (step_seen c.args.step.now) c.stands.ensures c.stands-2.ensures h),
     )
 

@@ -13,6 +13,7 @@ returns-in_default-counterpart c = (
 
 pub returns : goal.returns
 returns c =
-    part_there (at (place_numbered c.args.other.now c.args.there)) c.args.self.now c.args.number c.args.other.now
+    part_there (at (place_numbered c.args.other.now c.args.there)) c.args.self.now c.args.number
+    c.args.other.now
     c.args.index c.in-Some.part c.in-Some-counterpart.other_part c.same_unordered.result
     (c.in-Some.ensures {u = tt}) (c.in-Some-counterpart.ensures {u = tt}) c.same_unordered.ensures

@@ -19,18 +19,23 @@ use Rattle.edit_document.proofs.document.Document.with_literals.Goals as goal
 pub rewrite_of-requires : goal.rewrite_of-requires
 rewrite_of-requires c form manifest =
     subst (λ (l : List WrittenStep). is_value_at form (place_seen l) ≡ true) (sym c.deref.ensures.value)
-    (value_at form c.args.edits.now c.loop-edit.edit-index c.edit-item.result c.loop-edit-test.true c.edit-item.is (c.requires.values form manifest))
+    (value_at form c.args.edits.now c.loop-edit.edit-index c.edit-item.result c.loop-edit-test.true
+    c.edit-item.is (c.requires.values form manifest))
 
 pub loop-edit-preserved : goal.loop-edit-preserved
 loop-edit-preserved c form manifest =
     let e = c.edit-item.result in
-    let range = range_seen form e c.deref.result.now c.as_str.result.now (range_of c.rewrite_of.result) c.deref.ensures.value c.as_str.ensures.value (c.rewrite_of.ensures form manifest) in
-    ranged_more form c.args.edits.now c.loop-edit.edit-index e c.loop-edit.rewrites.items c.push.new.self.items c.rewrite_of.result c.loop-edit-test.true c.edit-item.is c.in_ok-push.ensures.items
+    let range = range_seen form e c.deref.result.now c.as_str.result.now
+    (range_of c.rewrite_of.result) c.deref.ensures.value c.as_str.ensures.value
+    (c.rewrite_of.ensures form manifest) in
+    ranged_more form c.args.edits.now c.loop-edit.edit-index e c.loop-edit.rewrites.items
+    c.push.new.self.items c.rewrite_of.result c.loop-edit-test.true c.edit-item.is c.in_ok-push.ensures.items
     (c.loop-edit.invariant form manifest) range
 
 -- the clauses of a result that is the replaced text
 replaced_text : (c : goal.After-drop-rewrites-2) → (P : List ℕ → Type 0)
-    → ((new : List ℕ) → new ≡ text_of (replaced (edits_seen c.args.edits.now) c.has_form.ensures.some.0) → P new) → IfOk c.splice_unordered.result (λ s. P (string_bytes s))
+    → ((new : List ℕ) → new ≡ text_of (replaced (edits_seen c.args.edits.now) c.has_form.ensures.some.0)
+    → P new) → IfOk c.splice_unordered.result (λ s. P (string_bytes s))
 replaced_text c P from =
     let f = c.has_form.ensures.some in
     let edits = edits_seen c.args.edits.now in
@@ -39,16 +44,20 @@ replaced_text c P from =
       values = c.requires.values f.0 f.1;
       distinct = c.requires.distinct;
       outside = c.requires.outside;
-      found = all_ranges f.0 c.args.edits.now c.loop-edit.edit-index c.loop-edit.rewrites.items c.deref_mut.result.now c.loop-edit-test.false c.deref_mut.ensures.value (c.loop-edit.invariant f.0 f.1);
+      found = all_ranges f.0 c.args.edits.now c.loop-edit.edit-index c.loop-edit.rewrites.items
+          c.deref_mut.result.now c.loop-edit-test.false c.deref_mut.ensures.value
+          (c.loop-edit.invariant f.0 f.1);
     } in
-    IfOk-weaker c.splice_unordered.result _ _ (λ s e. from (string_bytes s) e) (c.splice_unordered.ensures.text f.0 edits located)
+    IfOk-weaker c.splice_unordered.result _ _ (λ s e. from (string_bytes s) e)
+    (c.splice_unordered.ensures.text f.0 edits located)
 
 pub returns-clause-replaces : goal.returns-clause-replaces
 returns-clause-replaces c =
     let f = c.has_form.ensures.some in
     let edits = edits_seen c.args.edits.now in
     let apart = values_apart edits f.0 f.1.document.no_clash (c.requires.values f.0 f.1) c.requires.outside in
-    replaced_text c (λ new. Replaces edits c.args.self.now.bytes new) (λ new e. replaces_apart edits c.args.self.now.bytes new f.0 f.1 apart e)
+    replaced_text c (λ new. Replaces edits c.args.self.now.bytes new)
+    (λ new e. replaces_apart edits c.args.self.now.bytes new f.0 f.1 apart e)
 
 pub returns-clause-tree : goal.returns-clause-tree
 returns-clause-tree c =
@@ -56,5 +65,6 @@ returns-clause-tree c =
     let edits = edits_seen c.args.edits.now in
     let shows = c.has_form.ensures.shows f.0 f.1 in
     let apart = values_apart edits f.0 f.1.document.no_clash (c.requires.values f.0 f.1) c.requires.outside in
-    replaced_text c (λ new. (form : Text) → IsManifest new form → (at : Place) → view_at form at ≡ written edits (emptied edits (tree_of c.args.self.now)) at)
+    replaced_text c (λ new. (form : Text) → IsManifest new form → (at : Place)
+    → view_at form at ≡ written edits (emptied edits (tree_of c.args.self.now)) at)
     (λ new e. tree_again edits c.args.self.now.bytes new f.0 (tree_of c.args.self.now) f.1 apart shows e)

@@ -6,4 +6,5 @@ use Rattle.edit_document.specs.Supported.{IsManifest}
 use Rattle.edit_document.proofs.document.Document.with_literals.Given as goal
 
 abbrev pub invariant-loop-edit : goal.invariant-loop-edit
-invariant-loop-edit l = (form : Text) → IsManifest l.self.bytes form → AreRanges form (take l.edit-index (edits_seen l.edits)) (map range_of l.rewrites.items)
+invariant-loop-edit l = (form : Text) → IsManifest l.self.bytes form
+    → AreRanges form (take l.edit-index (edits_seen l.edits)) (map range_of l.rewrites.items)

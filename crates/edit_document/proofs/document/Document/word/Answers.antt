@@ -15,7 +15,8 @@ pub returns-in-Text : goal.returns-in-Text
 returns-in-Text c =
     let opens = opened c.self.inside c.args.self.now c.self.invariant c.self.view_is in
     let node = c.index-node.result.now in
-    let f = found c.args.self.now c.self.inside.nodes.items c.args.number node opens c.requires c.index-node.ensures in
+    let f = found c.args.self.now c.self.inside.nodes.items c.args.number node opens c.requires
+    c.index-node.ensures in
     let here = c.as_str.ensures.value ∙ shown_bytes c.self.inside c.args.self.now c.self.view_is in
     ap Some (c.words_in.ensures ∙ ap (λ (b : List ℕ). bytes_of b c.in-Text.words) here)
     ∙ word_shown c.args.self.now c.self.inside.nodes.items opens.spots c.args.number node _ f c.in-Text.is
@@ -24,7 +25,8 @@ pub returns-in-Integer : goal.returns-in-Integer
 returns-in-Integer c =
     let opens = opened c.self.inside c.args.self.now c.self.invariant c.self.view_is in
     let node = c.index-node.result.now in
-    let f = found c.args.self.now c.self.inside.nodes.items c.args.number node opens c.requires c.index-node.ensures in
+    let f = found c.args.self.now c.self.inside.nodes.items c.args.number node opens c.requires
+    c.index-node.ensures in
     let here = c.as_str-in-Integer.ensures.value ∙ shown_bytes c.self.inside c.args.self.now c.self.view_is in
     ap Some (c.cut.ensures ∙ ap (λ (b : List ℕ). bytes_at b c.in-Integer.span) here)
     ∙ word_shown c.args.self.now c.self.inside.nodes.items opens.spots c.args.number node _ f c.in-Integer.is
@@ -33,7 +35,8 @@ pub returns-in-Float : goal.returns-in-Float
 returns-in-Float c =
     let opens = opened c.self.inside c.args.self.now c.self.invariant c.self.view_is in
     let node = c.index-node.result.now in
-    let f = found c.args.self.now c.self.inside.nodes.items c.args.number node opens c.requires c.index-node.ensures in
+    let f = found c.args.self.now c.self.inside.nodes.items c.args.number node opens c.requires
+    c.index-node.ensures in
     let here = c.as_str-in-Float.ensures.value ∙ shown_bytes c.self.inside c.args.self.now c.self.view_is in
     ap Some (c.cut-in-Float.ensures ∙ ap (λ (b : List ℕ). bytes_at b c.in-Float.span) here)
     ∙ word_shown c.args.self.now c.self.inside.nodes.items opens.spots c.args.number node _ f c.in-Float.is
@@ -42,8 +45,10 @@ pub returns-in-DateTime : goal.returns-in-DateTime
 returns-in-DateTime c =
     let opens = opened c.self.inside c.args.self.now c.self.invariant c.self.view_is in
     let node = c.index-node.result.now in
-    let f = found c.args.self.now c.self.inside.nodes.items c.args.number node opens c.requires c.index-node.ensures in
-    let here = c.as_str-in-DateTime.ensures.value ∙ shown_bytes c.self.inside c.args.self.now c.self.view_is in
+    let f = found c.args.self.now c.self.inside.nodes.items c.args.number node opens c.requires
+    c.index-node.ensures in
+    let here = c.as_str-in-DateTime.ensures.value ∙
+    shown_bytes c.self.inside c.args.self.now c.self.view_is in
     ap Some (c.cut-in-DateTime.ensures ∙ ap (λ (b : List ℕ). bytes_at b c.in-DateTime.span) here)
     ∙ word_shown c.args.self.now c.self.inside.nodes.items opens.spots c.args.number node _ f c.in-DateTime.is
 
@@ -51,11 +56,16 @@ pub returns-in-Truth : goal.returns-in-Truth
 returns-in-Truth c =
     let opens = opened c.self.inside c.args.self.now c.self.invariant c.self.view_is in
     let node = c.index-node.result.now in
-    let f = found c.args.self.now c.self.inside.nodes.items c.args.number node opens c.requires c.index-node.ensures in
+    let f = found c.args.self.now c.self.inside.nodes.items c.args.number node opens c.requires
+    c.index-node.ensures in
     elim c.in-Truth.is [
       | inl e ↦ word_shown c.args.self.now c.self.inside.nodes.items opens.spots c.args.number node _ f e.1
-      | inr (inl e) ↦ word_shown c.args.self.now c.self.inside.nodes.items opens.spots c.args.number node _ f e
-      | inr (inr (inl e)) ↦ word_shown c.args.self.now c.self.inside.nodes.items opens.spots c.args.number node _ f e
-      | inr (inr (inr (inl e))) ↦ word_shown c.args.self.now c.self.inside.nodes.items opens.spots c.args.number node _ f e
-      | inr (inr (inr (inr e))) ↦ word_shown c.args.self.now c.self.inside.nodes.items opens.spots c.args.number node _ f e
+      | inr (inl e) ↦ word_shown c.args.self.now c.self.inside.nodes.items opens.spots c.args.number node _ f
+          e
+      | inr (inr (inl e)) ↦ word_shown c.args.self.now c.self.inside.nodes.items opens.spots c.args.number
+          node _ f e
+      | inr (inr (inr (inl e))) ↦ word_shown c.args.self.now c.self.inside.nodes.items opens.spots
+          c.args.number node _ f e
+      | inr (inr (inr (inr e))) ↦ word_shown c.args.self.now c.self.inside.nodes.items opens.spots
+          c.args.number node _ f e
     ]

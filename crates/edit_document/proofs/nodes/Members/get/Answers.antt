@@ -11,8 +11,10 @@ returns-in-Some c indexed =
     let name = c.args.name.now in
     let list = c.args.self.now.list.items in
     let first : number_in (take 8 (entries_in text list)) name ≡ Some c.in-Some.number =
-    ap (λ (es : List (List ℕ × ℕ)). number_in es name) (take-map (λ (e : Member). (bytes_of text e.name, e.number)) 8 list)
-    ∙ ap (λ (ms : List Member). number_in (entries_in text ms) name) (sym c.few.ensures) ∙ sym (c.in-Some.ensures {u = tt}) in
+    ap (λ (es : List (List ℕ × ℕ)). number_in es name)
+    (take-map (λ (e : Member). (bytes_of text e.name, e.number)) 8 list)
+    ∙ ap (λ (ms : List Member). number_in (entries_in text ms) name) (sym c.few.ensures) ∙
+    sym (c.in-Some.ensures {u = tt}) in
     sym (number_few 8 (entries_in text list) name c.in-Some.number first)
 
 pub returns-in-None : goal.returns-in-None
@@ -21,6 +23,8 @@ returns-in-None c indexed =
     let name = c.args.name.now in
     let list = c.args.self.now.list.items in
     let first : number_in (take 8 (entries_in text list)) name ≡ None =
-    ap (λ (es : List (List ℕ × ℕ)). number_in es name) (take-map (λ (e : Member). (bytes_of text e.name, e.number)) 8 list)
-    ∙ ap (λ (ms : List Member). number_in (entries_in text ms) name) (sym c.few.ensures) ∙ sym (c.in-None.ensures {u = tt}) in
+    ap (λ (es : List (List ℕ × ℕ)). number_in es name)
+    (take-map (λ (e : Member). (bytes_of text e.name, e.number)) 8 list)
+    ∙ ap (λ (ms : List Member). number_in (entries_in text ms) name) (sym c.few.ensures) ∙
+    sym (c.in-None.ensures {u = tt}) in
     c.get.ensures ∙ indexed name ∙ sym (number_others 8 (entries_in text list) name first)

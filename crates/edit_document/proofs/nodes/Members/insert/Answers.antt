@@ -20,17 +20,28 @@ returns-clause-indexed c kept none =
     let kept_len = old.list.ok.0 in
     let seen_len = c.len.ensures in
     let pushed = λ (same : c.if-len-ge-FEW.self.list.items ≡ list).
-    ap (entries_in text) ((c.in_ok-push_exact.ensures {u = tt}).items ∙ ap (λ (ms : List Member). ms ++ member ∷ []) same) ∙ map-append entry list (member ∷ []) in
+    ap (entries_in text) ((c.in_ok-push_exact.ensures {u = tt}).items ∙
+    ap (λ (ms : List Member). ms ++ member ∷ []) same) ∙ map-append entry list (member ∷ []) in
     elim c.if-len-ge-FEW.branch [
       | then-len-ge-FEW+in_ok-copy+in_ok-insert w ↦
           let test = w.if-len-ge-FEW.true in
           let many : 8 ≤ length (entries_in text list) = omega arith in
           let copied = (w.in_ok-copy.ensures {u = tt}).ok ∙ w.words_in.ensures in
-          others_kept (entries_in text list) (entries_in text c.push_exact.new.list.items) old.others c.if-len-ge-FEW.self.others name c.args.number (pushed (ap (λ (m : Members). m.list.items) w.self-is)) kept none
-          (inl (many, λ other. ap (λ (m : Members). number_of m.others other) w.self-is ∙ (w.in_ok-insert.ensures {u = tt}).added other ∙ ap (λ (k : List ℕ). cond (bytes_eq k other) (Some c.args.number) (number_of old.others other)) copied))
+          others_kept (entries_in text list)
+          (entries_in text c.push_exact.new.list.items) old.others c.if-len-ge-FEW.self.others name
+          c.args.number (pushed (ap (λ (m : Members). m.list.items) w.self-is)) kept none
+          (inl (
+            many,
+            λ other. ap (λ (m : Members). number_of m.others other) w.self-is ∙
+                (w.in_ok-insert.ensures {u = tt}).added other ∙
+                ap (λ (k : List ℕ). cond (bytes_eq k other) (Some c.args.number) (number_of old.others other))
+                copied,
+          ))
       | else-len-ge-FEW w ↦
           let test = w.if-len-ge-FEW.false in
           let few : length (entries_in text list) < 8 = omega arith in
-          others_kept (entries_in text list) (entries_in text c.push_exact.new.list.items) old.others c.if-len-ge-FEW.self.others name c.args.number (pushed (ap (λ (m : Members). m.list.items) w.self-is)) kept none
+          others_kept (entries_in text list)
+          (entries_in text c.push_exact.new.list.items) old.others c.if-len-ge-FEW.self.others name
+          c.args.number (pushed (ap (λ (m : Members). m.list.items) w.self-is)) kept none
           (inr (few, ap (λ (m : Members). m.others) w.self-is))
     ]

@@ -17,7 +17,10 @@ returns c =
     let inside : index < length list = grind (arith, nat_tests) in
     let there = slice_get_read list (length list) index member refl inside got.1 in
     let entry : slice_get (entries_in text list) index ≡ Some (bytes_of text member.name, member.number) =
-    slice_get-map (λ (e : Member). (bytes_of text e.name, e.number)) list index ∙ ap (option_map (λ (e : Member). (bytes_of text e.name, e.number))) there in
+    slice_get-map (λ (e : Member). (bytes_of text e.name, e.number)) list index ∙
+    ap (option_map (λ (e : Member). (bytes_of text e.name, e.number))) there in
     let name : slice_get (names_in (entries_in text list)) index ≡ Some (bytes_of text member.name) =
-    slice_get-map (λ (e : List ℕ × ℕ). e.0) (entries_in text list) index ∙ ap (option_map (λ (e : List ℕ × ℕ). e.0)) entry in
-    ap (λ (b : List ℕ). Some b) c.words_in.ensures ∙ sym name ∙ ap (λ (ms : List Member). slice_get (names_in (entries_in text ms)) index) c.deref.ensures.value
+    slice_get-map (λ (e : List ℕ × ℕ). e.0) (entries_in text list) index ∙
+    ap (option_map (λ (e : List ℕ × ℕ). e.0)) entry in
+    ap (λ (b : List ℕ). Some b) c.words_in.ensures ∙ sym name ∙
+    ap (λ (ms : List Member). slice_get (names_in (entries_in text ms)) index) c.deref.ensures.value

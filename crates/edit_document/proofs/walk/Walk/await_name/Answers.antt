@@ -13,10 +13,14 @@ returns-clause-goes c text st w =
     elim c.match-take.branch [
       | in-Some+in_ok-push b ↦
           let some : old.name ≡ Some b.in-Some.front = sym c.take.ensures.value ∙ b.in-Some.is in
-          awaits old _ st c.args.name w (ap (λ (m : Walk). m.nodes.items) b.self-is) (ap (λ (m : Walk). m.tables.items) b.self-is)
-          (ap (λ (m : Walk). m.fronts.items) b.self-is ∙ (b.in_ok-push.ensures {u = tt}).items ∙ ap (λ (o : Option Words). fronts ++ option_to_list o) (sym some)) refl
+          awaits old _ st c.args.name w (ap (λ (m : Walk). m.nodes.items) b.self-is)
+          (ap (λ (m : Walk). m.tables.items) b.self-is)
+          (ap (λ (m : Walk). m.fronts.items) b.self-is ∙ (b.in_ok-push.ensures {u = tt}).items ∙
+          ap (λ (o : Option Words). fronts ++ option_to_list o) (sym some)) refl
       | in_default b ↦
           let none : old.name ≡ None = sym c.take.ensures.value ∙ b.in_default.is in
-          awaits old _ st c.args.name w (ap (λ (m : Walk). m.nodes.items) b.self-is) (ap (λ (m : Walk). m.tables.items) b.self-is)
-          (ap (λ (m : Walk). m.fronts.items) b.self-is ∙ sym (append-nil fronts) ∙ ap (λ (o : Option Words). fronts ++ option_to_list o) (sym none)) refl
+          awaits old _ st c.args.name w (ap (λ (m : Walk). m.nodes.items) b.self-is)
+          (ap (λ (m : Walk). m.tables.items) b.self-is)
+          (ap (λ (m : Walk). m.fronts.items) b.self-is ∙ sym (append-nil fronts) ∙
+          ap (λ (o : Option Words). fronts ++ option_to_list o) (sym none)) refl
     ]

@@ -10,4 +10,5 @@ returns-clause-goes c st w =
     let text = c.args.text.now in
     let shape = shape_of text c.args.content in
     subst (Goes text c.enter_at.new.self (entered st shape c.args.span)) (sym c.is_some.ensures)
-    (goes_settled text c.enter_at.new.self (entered_at st shape c.args.span) c.in_ok-enter_at.field-0 ((c.in_ok-enter_at.ensures {u = tt}).goes st w))
+    (goes_settled text c.enter_at.new.self (entered_at st shape c.args.span) c.in_ok-enter_at.field-0
+    ((c.in_ok-enter_at.ensures {u = tt}).goes st w))

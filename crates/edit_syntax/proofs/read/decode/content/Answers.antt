@@ -8,8 +8,12 @@ returns c before content rest said spelled from to says =
     let text = c.args.text.now in
     let kind = c.args.mark.kind in
     let d = c.delimiter_len-width.result in
-    let range = content_range kind before content rest (length text) c.args.mark.from c.args.mark.to d (ap length spelled) from to c.delimiter_len-width.ensures in
+    let range = content_range kind before content rest (length text) c.args.mark.from c.args.mark.to d
+    (ap length spelled) from to c.delimiter_len-width.ensures in
     let i = c.saturating_sub.result + d in
     let j = c.saturating_sub-end.result in
-    let at : IsContentAt text content i j = content_found kind text before content rest said i j c.utf8.text spelled says (omega (arith, range.0)) (omega (arith, range.0, range.1)) in
-    ap (λ (b : Bor _). b.now) c.unwrap_or.ensures ∙ got_content text content i j c.get.result _ at c.get.ensures.cases
+    let at : IsContentAt text content i j =
+    content_found kind text before content rest said i j c.utf8.text spelled says (omega (arith, range.0))
+    (omega (arith, range.0, range.1)) in
+    ap (λ (b : Bor _). b.now) c.unwrap_or.ensures ∙
+    got_content text content i j c.get.result _ at c.get.ensures.cases

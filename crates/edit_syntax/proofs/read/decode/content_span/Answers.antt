@@ -10,5 +10,7 @@ returns c text before content rest said utf8 spelled from to says =
     let a = length-append d (content ++ (d ++ rest)) in
     let b = length-append content (d ++ rest) in
     let k = length-append d rest in
-    let ends : c.saturating_add.result ≡ length rest + c.delimiter_len-width.result = let e = c.saturating_add.ensures in omega arith in
-    content_kept c.args.mark.kind text before content rest said c.args.mark.from c.delimiter_len-width.result _ utf8 spelled from says width c.saturating_sub.ensures ends
+    let ends : c.saturating_add.result ≡ length rest + c.delimiter_len-width.result = let e =
+    c.saturating_add.ensures in omega arith in
+    content_kept c.args.mark.kind text before content rest said c.args.mark.from c.delimiter_len-width.result
+    _ utf8 spelled from says width c.saturating_sub.ensures ends

@@ -7,6 +7,7 @@ use Rattle.edit_syntax.proofs.read.decode.is_plain.Goals as goal
 
 pub returns-in-BasicPart : goal.returns-in-BasicPart
 returns-in-BasicPart c said says test =
-    let run : c.run_len.result ≡ prefix_len is_unescaped c.args.content.now = c.run_len.ensures.len ∙ ap (prefix_len is_unescaped) c.as_bytes.ensures.value in
+    let run : c.run_len.result ≡ prefix_len is_unescaped c.args.content.now = c.run_len.ensures.len ∙
+    ap (prefix_len is_unescaped) c.as_bytes.ensures.value in
     let all : length c.args.content.now ≤ c.run_len.result = grind (arith, nat_tests) in
     plain_basic c.args.kind c.args.content.now said c.in-BasicPart.is says (omega arith)

@@ -10,7 +10,11 @@ pub returns : goal.returns
 returns c =
     let s = c.args.s.now in
     let opened : eqb (first s) left_bracket ≡ true = eq-eqb _ _ c.requires in
-    let inner : c.past_run.result.now ≡ past_blanks (drop 1 s) = c.past_run.ensures ∙ ap past_blanks c.skip.ensures in
-    let k : (k : Key) × (key_at c.past_run.result.now ≡ Some (k, c.in_ok-after_key.after_key.now)) × (c.key.new.out.items ≡ c.args.out.now.items ++ key_marks k c.in_ok-after_key.after_key.now) = c.in_ok-after_key.ensures in
-    header_noted c.args.out.now.items c.key.new.out.items c.note.new.out.items s c.in_ok-after_key.after_key.now c.in-Some.rest.now k.0 opened (rw (← inner) k.1) k.2
+    let inner : c.past_run.result.now ≡ past_blanks (drop 1 s) = c.past_run.ensures ∙
+    ap past_blanks c.skip.ensures in
+    let k : (k : Key) × (key_at c.past_run.result.now ≡ Some (k, c.in_ok-after_key.after_key.now))
+    × (c.key.new.out.items ≡ c.args.out.now.items ++ key_marks k c.in_ok-after_key.after_key.now) =
+    c.in_ok-after_key.ensures in
+    header_noted c.args.out.now.items c.key.new.out.items c.note.new.out.items s
+    c.in_ok-after_key.after_key.now c.in-Some.rest.now k.0 opened (rw (← inner) k.1) k.2
     (c.in-Some.ensures ∙ ap (past right_bracket) c.past_run-end.ensures) c.in_ok-note.ensures

@@ -14,39 +14,52 @@ pub returns-then-closes : goal.returns-then-closes
 returns-then-closes c =
     let closed = sym c.closes.ensures ∙ c.if-closes.true in
     let k = one_less (length c.args.s.now) c.pieces._piece c.pieces-test.true in
-    ap Some c.skip.ensures ∙ sym (body_end c.args.mark _ c.pieces.few c.pieces.rest.now closed) ∙ (rw k at c.pieces.invariant)
+    ap Some c.skip.ensures ∙ sym (body_end c.args.mark _ c.pieces.few c.pieces.rest.now closed) ∙
+    (rw k at c.pieces.invariant)
 
 pub returns-in_err-rest : goal.returns-in_err-rest
 returns-in_err-rest c =
     let going = sym c.closes.ensures ∙ c.if-closes.false in
     let other : eqb (first c.pieces.rest.now) c.args.mark ≡ false = grind (arith, nat_tests) in
     let k = one_less (length c.args.s.now) c.pieces._piece c.pieces-test.true in
-    let none : None ≡ rest_of (line_piece_at c.args.mark c.pieces.rest.now) = c.in_err-rest.ensures {u = tt} in
-    rw c.from_residual.ensures (sym (body_stop c.args.mark _ c.pieces.few c.pieces.rest.now going other none) ∙ (rw k at c.pieces.invariant))
+    let none : None ≡ rest_of (line_piece_at c.args.mark c.pieces.rest.now) =
+    c.in_err-rest.ensures {u = tt} in
+    rw c.from_residual.ensures
+    (sym (body_stop c.args.mark _ c.pieces.few c.pieces.rest.now going other none) ∙
+    (rw k at c.pieces.invariant))
 
 pub returns-then-few-eq0 : goal.returns-then-few-eq0
 returns-then-few-eq0 c =
     let going = sym c.closes.ensures ∙ c.if-closes.false in
-    let here : eqb (first c.pieces.rest.now) c.args.mark ≡ true = eq-eqb _ _ (sym c.first.ensures ∙ c.if-first-mark.false) in
+    let here : eqb (first c.pieces.rest.now) c.args.mark ≡ true =
+    eq-eqb _ _ (sym c.first.ensures ∙ c.if-first-mark.false) in
     let k = one_less (length c.args.s.now) c.pieces._piece c.pieces-test.true in
-    sym (body_full c.args.mark _ c.pieces.few c.pieces.rest.now c.if-few-eq0.true going here) ∙ (rw k at c.pieces.invariant)
+    sym (body_full c.args.mark _ c.pieces.few c.pieces.rest.now c.if-few-eq0.true going here) ∙
+    (rw k at c.pieces.invariant)
 
 pub pieces-preserved : goal.pieces-preserved
 pieces-preserved c =
     let going = sym c.closes.ensures ∙ c.if-closes.false in
     let k = one_less (length c.args.s.now) c.pieces._piece c.pieces-test.true in
     let left = length c.args.s.now - (c.pieces._piece + 1) in
-    let P : ℕ → List ℕ → Type 0 = λ few rest. rest_of (body_at c.args.mark left few rest) ≡ rest_of (multi_at c.args.mark c.args.s.now) in
+    let P : ℕ → List ℕ → Type 0 = λ few rest. rest_of (body_at c.args.mark left few rest)
+    ≡ rest_of (multi_at c.args.mark c.args.s.now) in
     elim c.if-first-mark.branch [
       | then-first-mark+in_ok-rest w ↦
           let other : eqb (first c.pieces.rest.now) c.args.mark ≡ false = grind (arith, nat_tests) in
-          let some : Some w.in_ok-rest.rest.now ≡ rest_of (line_piece_at c.args.mark c.pieces.rest.now) = w.in_ok-rest.ensures in
-          let next : P 2 w.in_ok-rest.rest.now = sym (body_turn c.args.mark left c.pieces.few c.pieces.rest.now w.in_ok-rest.rest.now going other some) ∙ (rw k at c.pieces.invariant) in
+          let some : Some w.in_ok-rest.rest.now ≡ rest_of (line_piece_at c.args.mark c.pieces.rest.now) =
+          w.in_ok-rest.ensures in
+          let next : P 2 w.in_ok-rest.rest.now =
+          sym (body_turn c.args.mark left c.pieces.few c.pieces.rest.now w.in_ok-rest.rest.now going other
+          some) ∙ (rw k at c.pieces.invariant) in
           rw (w.few-is, w.rest-is) next
       | else-first-mark+else-few-eq0 w ↦
-          let here : eqb (first c.pieces.rest.now) c.args.mark ≡ true = eq-eqb _ _ (sym c.first.ensures ∙ w.if-first-mark.false) in
+          let here : eqb (first c.pieces.rest.now) c.args.mark ≡ true =
+          eq-eqb _ _ (sym c.first.ensures ∙ w.if-first-mark.false) in
           let less : c.pieces.few ≡ suc (c.pieces.few - 1) = omega arith in
-          let next : P (c.pieces.few - 1) (drop 1 c.pieces.rest.now) = sym (body_delimiter c.args.mark left c.pieces.few (c.pieces.few - 1) c.pieces.rest.now less going here) ∙ (rw k at c.pieces.invariant) in
+          let next : P (c.pieces.few - 1) (drop 1 c.pieces.rest.now) =
+          sym (body_delimiter c.args.mark left c.pieces.few
+          (c.pieces.few - 1) c.pieces.rest.now less going here) ∙ (rw k at c.pieces.invariant) in
           rw (w.few-is, w.rest-is, w.skip-rest.ensures) next
     ]
 

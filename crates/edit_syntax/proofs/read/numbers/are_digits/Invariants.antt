@@ -5,4 +5,6 @@ use Rattle.edit_syntax.proofs.read.numbers.are_digits.Given as goal
 
 -- what is left tells what all tells
 abbrev pub invariant-loop-b : goal.invariant-loop-b
-invariant-loop-b l = are_digits (class_test l.class) l.s ≡ cond l.wanted (are_digits (class_test l.class) (drop l.b-index l.s)) (are_more_digits (class_test l.class) (drop l.b-index l.s))
+invariant-loop-b l = are_digits (class_test l.class) l.s
+    ≡ cond l.wanted (are_digits (class_test l.class) (drop l.b-index l.s))
+    (are_more_digits (class_test l.class) (drop l.b-index l.s))

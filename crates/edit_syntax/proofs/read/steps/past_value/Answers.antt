@@ -1,6 +1,5 @@
-use Rattle.std.proofs.Common.{◌≡◌, ℕ, List, Some, ap, ◌∙◌}
-use Rattle.edit_syntax.specs.Grammar.{Value, gap}
-use Rattle.edit_syntax.specs.Marks.{value_marks}
+use Rattle.std.proofs.Common.{ap, ◌∙◌}
+use Rattle.edit_syntax.specs.Grammar.{gap}
 use Rattle.edit_syntax.specs.Reading.{value_at}
 use Rattle.edit_syntax.proofs.StepLaws.{item_again, item_read, refused_memory}
 use Rattle.edit_syntax.proofs.read.steps.past_value.Goals as goal

@@ -20,7 +20,8 @@ returns-in_err-rest c =
     let other : eqb (first c.pieces.rest.now) quote ≡ false = grind (arith, nat_tests) in
     let k = one_less (length c.args.s.now) c.pieces._piece c.pieces-test.true in
     let none : None ≡ rest_of (piece_at c.pieces.rest.now) = c.in_err-rest.ensures {u = tt} in
-    rw c.from_residual.ensures (sym (pieces_stop _ c.pieces.rest.now other none) ∙ (rw k at c.pieces.invariant))
+    rw c.from_residual.ensures (sym (pieces_stop _ c.pieces.rest.now other none) ∙
+    (rw k at c.pieces.invariant))
 
 pub pieces-preserved : goal.pieces-preserved
 pieces-preserved c =

@@ -13,5 +13,6 @@ returns-in_err-_code c made =
 
 pub returns : goal.returns
 returns c made =
-    let some : Some c.in_ok-_code._code ≡ scalar (take c.args.n c.args.s.now) = c.in_ok-_code.ensures {u = tt} in
+    let some : Some c.in_ok-_code._code ≡ scalar (take c.args.n c.args.s.now) =
+    c.in_ok-_code.ensures {u = tt} in
     ap Some c.skip.ensures ∙ some_coded made c.args.n c.args.s.now c.in_ok-_code._code c.if-s-n.false some

@@ -5,4 +5,5 @@ use Rattle.edit_syntax.proofs.read.tokens.scalar.Given as goal
 
 -- what is left completes the code
 abbrev pub invariant-loop-digit : goal.invariant-loop-digit
-invariant-loop-digit l = (l.code < 16 ^ l.digit-index) × (scalar_after l.code (drop l.digit-index l.digits) ≡ reading.scalar l.digits)
+invariant-loop-digit l = (l.code < 16 ^ l.digit-index)
+    × (scalar_after l.code (drop l.digit-index l.digits) ≡ reading.scalar l.digits)

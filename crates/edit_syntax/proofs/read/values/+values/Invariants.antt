@@ -15,7 +15,8 @@ decreases-members l = 4 * l.depth + 2
 
 -- whatever is read from here on completes what is read from the start
 abbrev pub invariant-members-members : goal.invariant-members-members
-invariant-members-members l = Completes (value_at l.depth) (members_at (value_at l.depth) l.count l.s) (l.count - l._member) l.rest l.fn.out.items l.out.items
+invariant-members-members l = Completes (value_at l.depth) (members_at (value_at l.depth) l.count l.s)
+    (l.count - l._member) l.rest l.fn.out.items l.out.items
 
 abbrev pub decreases-array : goal.decreases-array
 decreases-array l = 4 * l.depth + 3
@@ -28,4 +29,5 @@ decreases-elements l = 4 * l.depth + 2
 
 -- whatever is read from here on fills the array that is read from the start
 abbrev pub invariant-elements-elements : goal.invariant-elements-elements
-invariant-elements-elements l = Fills (value_at l.depth) (elements_at (value_at l.depth) l.count l.s) (l.count - l._element) l.rest l.fn.out.items l.out.items
+invariant-elements-elements l = Fills (value_at l.depth) (elements_at (value_at l.depth) l.count l.s)
+    (l.count - l._element) l.rest l.fn.out.items l.out.items

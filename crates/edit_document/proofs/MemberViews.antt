@@ -1,0 +1,259 @@
+-- What the members of a node show, and the walk along a place.
+use Rattle.std.proofs.Common.{◌≡◌, ℕ, ◌+◌, ◌<◌, ◌≤◌, Bool, List, [], ◌∷◌, ◌++◌, length, get_or, take, drop, Option, Some, None, refl, sym, ap, subst, ◌∙◌, ◌⊎◌, inl, inr, arith, append_assoc, append-nil}
+use Rattle.std.specs.Prelude.{map, slice_get, MatchOption, IfSome}
+use Rattle.std.specs.Option.{option_copied}
+use Rattle.std.specs.Borrow.{Bor}
+use Rattle.std.proofs.lemmas.Option.{slice_get_past, slice_get_within, slice_get_read}
+use Rattle.std.proofs.lemmas.List.{length-map, map-append, take_more, take-append-drop}
+use Rattle.edit_syntax.specs.declared.span.Span.{Span}
+use Rattle.edit_document.specs.declared.nodes.Words.{Words}
+use Rattle.edit_document.specs.declared.nodes.Content.{Content}
+use Rattle.edit_document.specs.declared.nodes.Content.TheVariants as content
+use Rattle.edit_document.specs.declared.nodes.Node.{Node}
+use Rattle.edit_document.specs.declared.document.Seen.{Seen}
+use Rattle.edit_document.specs.declared.place.Step.{Step as WrittenStep}
+use Rattle.edit_document.specs.Assertions.{Step, key, index, Place, at}
+use Rattle.edit_document.specs.Tree.{View}
+use Rattle.edit_document.specs.Shown.{Shown, tree_of}
+use Rattle.edit_document.specs.Nodes.{Spot, view_of_shape, shown_spot, shape_of, entries_of, number_in, below, IsTree}
+use Rattle.edit_document.specs.Items.{step_seen, place_seen, viewed, place_numbered, view_numbered, key_names, names_in, count_in, Numbers, Shows}
+use Rattle.edit_document.proofs.SamePlace.{last_same, not_root}
+use Rattle.edit_syntax.proofs.ListElements.{slice_get_same}
+use Rattle.edit_document.proofs.SpotNodes.{below_node}
+use Rattle.edit_document.proofs.Views.{Opened, view_of_spot, node_none, names_of_node, Found, tree_spot, place_spot, view_spot}
+
+-- ---- members
+
+-- the names of keys are the keys' names
+pub names_keys : (names : List (List ℕ)) → key_names (map key names) ≡ names
+names_keys [] = refl
+names_keys (n ∷ ns) = ap (λ (m : List (List ℕ)). n ∷ m) (names_keys ns)
+
+-- how many members there are
+pub count_members : (text : List ℕ) (node : Node) → length (map key (names_of_node text node))
+    ≡ length (entries_of text node.members)
+count_members text node = length-map (names_of_node text node) key ∙
+    length-map (entries_of text node.members) (λ e. e.0)
+
+abbrev pub IsText : Content → Type 0
+IsText x = (s : Words) × (x ≡ content.Text s)
+
+abbrev pub IsTruth : Content → Type 0
+IsTruth x = (b : Bool) × (x ≡ content.Truth b)
+
+abbrev pub IsInteger : Content → Type 0
+IsInteger x = (s : Span) × (x ≡ content.Integer s)
+
+abbrev pub IsFloat : Content → Type 0
+IsFloat x = (s : Span) × (x ≡ content.Float s)
+
+abbrev pub IsDateTime : Content → Type 0
+IsDateTime x = (s : Span) × (x ≡ content.DateTime s)
+
+-- a string, a boolean, a number, a date or a time
+abbrev pub IsScalar : Content → Type 0
+IsScalar x = IsText x ⊎ (IsTruth x ⊎ (IsInteger x ⊎ (IsFloat x ⊎ IsDateTime x)))
+
+names_of_content : (shown : Shown) (nodes : List Node) (spots : List Spot) (n : ℕ) (node : Node) (x : Content)
+    → Found shown nodes spots n node → node.content ≡ x → names_in (view_numbered shown n)
+    ≡ names_in (view_of_shape (shape_of shown.bytes x) (names_of_node shown.bytes node)
+    (length node.elements.items))
+names_of_content shown nodes spots n node x f is = ap names_in f.view ∙
+    ap (λ (y : Content). names_in (view_of_shape (shape_of shown.bytes y) (names_of_node shown.bytes node)
+    (length node.elements.items))) is
+
+-- what shows no names, and what does
+pub names_none : (shown : Shown) (nodes : List Node) (spots : List Spot) (n : ℕ) (node : Node)
+    → Found shown nodes spots n node → IsText node.content
+    ⊎ (IsTruth node.content
+    ⊎ (IsInteger node.content
+    ⊎ (IsFloat node.content
+    ⊎ (IsDateTime node.content ⊎ ((node.content ≡ content.Array) ⊎ (node.content ≡ content.Tables))))))
+    → names_in (view_numbered shown n) ≡ []
+names_none shown nodes spots n node f (inl t) = names_of_content shown nodes spots n node
+    (content.Text t.0) f t.1
+names_none shown nodes spots n node f (inr (inl t)) = names_of_content shown nodes spots n node
+    (content.Truth t.0) f t.1
+names_none shown nodes spots n node f (inr (inr (inl t))) =
+    names_of_content shown nodes spots n node (content.Integer t.0) f t.1
+names_none shown nodes spots n node f (inr (inr (inr (inl t)))) =
+    names_of_content shown nodes spots n node (content.Float t.0) f t.1
+names_none shown nodes spots n node f (inr (inr (inr (inr (inl t))))) =
+    names_of_content shown nodes spots n node (content.DateTime t.0) f t.1
+names_none shown nodes spots n node f (inr (inr (inr (inr (inr (inl t)))))) =
+    names_of_content shown nodes spots n node content.Array f t
+names_none shown nodes spots n node f (inr (inr (inr (inr (inr (inr t)))))) =
+    names_of_content shown nodes spots n node content.Tables f t
+
+pub names_tabular : (shown : Shown) (nodes : List Node) (spots : List Spot) (n : ℕ) (node : Node)
+    → Found shown nodes spots n node → (node.content ≡ content.Inline) ⊎ (node.content ≡ content.Table)
+    → names_in (view_numbered shown n) ≡ names_of_node shown.bytes node
+names_tabular shown nodes spots n node f (inl t) =
+    names_of_content shown nodes spots n node content.Inline f t ∙ names_keys (names_of_node shown.bytes node)
+names_tabular shown nodes spots n node f (inr t) =
+    names_of_content shown nodes spots n node content.Table f t ∙ names_keys (names_of_node shown.bytes node)
+
+-- a node of this content has so many parts
+pub count_shown : (shown : Shown) (nodes : List Node) (spots : List Spot) (n : ℕ) (node : Node) (x : Content)
+    → Found shown nodes spots n node → node.content ≡ x → count_in (view_numbered shown n)
+    ≡ count_in (view_of_shape (shape_of shown.bytes x) (names_of_node shown.bytes node)
+    (length node.elements.items))
+count_shown shown nodes spots n node x f is = ap count_in f.view ∙
+    ap (λ (y : Content). count_in (view_of_shape (shape_of shown.bytes y) (names_of_node shown.bytes node)
+    (length node.elements.items))) is
+
+pub count_scalar : (shown : Shown) (nodes : List Node) (spots : List Spot) (n : ℕ) (node : Node)
+    → Found shown nodes spots n node → IsScalar node.content → count_in (view_numbered shown n) ≡ 0
+count_scalar shown nodes spots n node f (inl t) = count_shown shown nodes spots n node
+    (content.Text t.0) f t.1
+count_scalar shown nodes spots n node f (inr (inl t)) = count_shown shown nodes spots n node
+    (content.Truth t.0) f t.1
+count_scalar shown nodes spots n node f (inr (inr (inl t))) =
+    count_shown shown nodes spots n node (content.Integer t.0) f t.1
+count_scalar shown nodes spots n node f (inr (inr (inr (inl t)))) =
+    count_shown shown nodes spots n node (content.Float t.0) f t.1
+count_scalar shown nodes spots n node f (inr (inr (inr (inr t)))) =
+    count_shown shown nodes spots n node (content.DateTime t.0) f t.1
+
+pub count_elements : (shown : Shown) (nodes : List Node) (spots : List Spot) (n : ℕ) (node : Node)
+    → Found shown nodes spots n node → (node.content ≡ content.Array) ⊎ (node.content ≡ content.Tables)
+    → count_in (view_numbered shown n) ≡ length node.elements.items
+count_elements shown nodes spots n node f (inl t) = count_shown shown nodes spots n node content.Array f t
+count_elements shown nodes spots n node f (inr t) = count_shown shown nodes spots n node content.Tables f t
+
+pub count_tabular : (shown : Shown) (nodes : List Node) (spots : List Spot) (n : ℕ) (node : Node)
+    → Found shown nodes spots n node → (node.content ≡ content.Inline) ⊎ (node.content ≡ content.Table)
+    → count_in (view_numbered shown n) ≡ length (entries_of shown.bytes node.members)
+count_tabular shown nodes spots n node f (inl t) = count_shown shown nodes spots n node content.Inline f t ∙
+    count_members shown.bytes node
+count_tabular shown nodes spots n node f (inr t) = count_shown shown nodes spots n node content.Table f t ∙
+    count_members shown.bytes node
+
+-- what a node shows
+abbrev pub shows_content : List ℕ → Node → Content → Seen → Type 0
+shows_content text node x s =
+    Shows (view_of_shape (shape_of text x) (names_of_node text node) (length node.elements.items)) s
+
+pub shows : (shown : Shown) (nodes : List Node) (spots : List Spot) (n : ℕ) (node : Node) (x : Content)
+    (s : Seen) → Found shown nodes spots n node → node.content ≡ x → shows_content shown.bytes node x s
+    → Shows (view_numbered shown n) s
+shows shown nodes spots n node x s f is h = subst (λ (v : View). Shows v s) (sym f.view)
+    (subst (λ (y : Content). shows_content shown.bytes node y s) (sym is) h)
+
+-- what a slice gives at an index
+pub got : (xs : List ℕ) (i : ℕ) (Q : Bor ℕ → Type 0) (r : Option (Bor ℕ))
+    → MatchOption r (length xs ≤ i) (λ x. (i < length xs) × Q x) → IfSome r (λ x. x.now ≡ get_or xs i x.now)
+    → option_copied r ≡ slice_get xs i
+got xs i Q None h k = sym (slice_get_past xs i h)
+got xs i Q (Some x) h k = sym (slice_get_read xs (length xs) i x.now refl h.0 k)
+
+-- nothing stands one step below a node that has no such part
+absent : (spots : List Spot) (tree : IsTree spots) (n : ℕ) (s : Spot) (x : Step) → slice_get spots n ≡ Some s
+    → below s x ≡ None → (i : ℕ) (t : Spot) → slice_get spots i ≡ Some t → t.place ≡ at s.place x → ⊥
+absent spots tree n s x stands none i t g p =
+    elim (tree.up i t g) [
+      | inl root ↦ not_root s.place x (sym p ∙ root)
+      | inr m ↦
+          let same = last_same m.upper.place s.place m.step x (sym m.place_is ∙ p) in
+          let number : m.above ≡ n = tree.unique m.above n m.upper s m.stands stands same.0 in
+          let spot : m.upper ≡ s = slice_get_same spots n m.upper s (ap (slice_get spots) (sym number) ∙
+          m.stands) stands in
+          let some : below s x ≡ Some i = ap (λ (u : Spot). below u x) (sym spot) ∙
+          ap (below m.upper) (sym same.1) ∙ m.listed in
+          let clash : None ≡ Some i = sym none ∙ some in
+          absurd cc
+    ]
+
+-- the number of what stands one step below a node
+pub part_here : (shown : Shown) (nodes : List Node) (n : ℕ) (node : Node) (x : Step) (r : Option ℕ)
+    → (opens : Opened shown nodes) → (f : Found shown nodes opens.spots n node) → r ≡ below f.spot x
+    → Numbers shown (at (place_numbered shown n) x) r
+part_here shown nodes n node x None opens f e = rw (f.place, opens.nodes_are)
+    (node_none opens.spots (at f.spot.place x) (absent opens.spots opens.tree n f.spot x f.stands (sym e)))
+part_here shown nodes n node x (Some m) opens f e =
+    let s = opens.tree.down n m f.spot x f.stands (sym e) in
+    let place : s.0.place ≡ at (place_numbered shown n) x = s.2 ∙ ap (λ (p : Place). at p x) (sym f.place) in
+    let tree = tree_spot shown opens.spots m s.0 opens.nodes_are opens.tree s.1 in
+    let view = view_spot shown opens.spots m s.0 opens.nodes_are opens.tree s.1 in
+    let lt = slice_get_within opens.spots m s.0 s.1 in
+    let l : length shown.nodes ≡ length opens.spots = ap length opens.nodes_are ∙
+    length-map opens.spots shown_spot in (
+      ap (tree_of shown) (sym place) ∙ tree ∙ ap (λ (v : View). Some v) (sym view),
+      place_spot shown opens.spots m s.0 opens.nodes_are s.1 ∙ place,
+      omega arith,
+    )
+
+pub member_here : (shown : Shown) (nodes : List Node) (n : ℕ) (node : Node) (name : List ℕ) (r : Option ℕ)
+    → (opens : Opened shown nodes) → Found shown nodes opens.spots n node
+    → r ≡ number_in (entries_of shown.bytes node.members) name
+    → Numbers shown (at (place_numbered shown n) (key name)) r
+member_here shown nodes n node name r opens f e = part_here shown nodes n node (key name) r opens f
+    (e ∙ sym (below_node node f.spot name f.keeps))
+
+pub element_here : (shown : Shown) (nodes : List Node) (n : ℕ) (node : Node) (i : ℕ) (r : Option ℕ)
+    → (opens : Opened shown nodes) → Found shown nodes opens.spots n node
+    → r ≡ slice_get node.elements.items i
+    → Numbers shown (at (place_numbered shown n) (index i)) r
+element_here shown nodes n node i r opens f e = part_here shown nodes n node (index i) r opens f
+    (e ∙ ap (λ (es : List ℕ). slice_get es i) f.keeps.elements)
+
+-- a node stands at its place
+pub node_stands : (shown : Shown) (nodes : List Node) (n : ℕ) (node : Node) (opens : Opened shown nodes)
+    → Found shown nodes opens.spots n node → tree_of shown (place_numbered shown n)
+    ≡ Some (view_numbered shown n)
+node_stands shown nodes n node opens f = ap (tree_of shown) f.place ∙ f.here ∙
+    ap (λ (v : View). Some v) (sym (ap viewed (ap (tree_of shown) f.place ∙ f.here)))
+
+-- nothing stands below a place where nothing stands
+step_none : (shown : Shown) (nodes : List Node) (place : Place) (x : Step) → Opened shown nodes
+    → tree_of shown place ≡ None → tree_of shown (at place x) ≡ None
+step_none shown nodes place x opens none = rw opens.nodes_are
+    (node_none opens.spots (at place x) (λ j t g p. elim (opens.tree.up j t g) [
+      | inl root ↦ not_root place x (sym p ∙ root)
+      | inr m ↦
+          let same = last_same m.upper.place place m.step x (sym m.place_is ∙ p) in
+          let some = tree_spot shown opens.spots m.above m.upper opens.nodes_are opens.tree m.stands in
+          let no : None ≡ Some (view_of_spot m.upper) = sym none ∙ ap (tree_of shown) (sym same.0) ∙ some in
+          absurd cc
+    ]))
+
+pub nothing_below : (shown : Shown) (nodes : List Node) (more place : Place) → Opened shown nodes
+    → tree_of shown place ≡ None → tree_of shown (place ++ more) ≡ None
+nothing_below shown nodes [] place opens none = ap (tree_of shown) (append-nil place) ∙ none
+nothing_below shown nodes (x ∷ more) place opens none =
+    ap (tree_of shown) (sym (append_assoc place (x ∷ []) more)) ∙
+    nothing_below shown nodes more (at place x) opens (step_none shown nodes place x opens none)
+
+pub root_stands : (shown : Shown) (nodes : List Node) → Opened shown nodes → (0 < length shown.nodes)
+    × (place_numbered shown 0 ≡ [])
+root_stands shown nodes opens =
+    let r = opens.tree.root in
+    let l : length shown.nodes ≡ length opens.spots = ap length opens.nodes_are ∙
+    length-map opens.spots shown_spot in
+    let lt = slice_get_within opens.spots 0 r.0 r.1 in
+    (omega arith, place_spot shown opens.spots 0 r.0 opens.nodes_are r.1 ∙ r.2)
+
+-- ---- the walk along a place
+
+pub place_more : (steps : List WrittenStep) (i : ℕ) (step : WrittenStep) → i < length steps
+    → step ≡ get_or steps i step → place_seen (take (i + 1) steps)
+    ≡ at (place_seen (take i steps)) (step_seen step)
+place_more steps i step lt is =
+    ap (map step_seen) (take_more steps i step lt) ∙ map-append step_seen (take i steps)
+    (get_or steps i step ∷ []) ∙ ap (λ (x : WrittenStep). at (place_seen (take i steps)) (step_seen x))
+    (sym is)
+
+-- nothing stands at a place where nothing stands on the way
+pub walk_none : (shown : Shown)
+    → ((place more : Place) → tree_of shown place ≡ None → tree_of shown (place ++ more) ≡ None)
+    → (steps : List WrittenStep) (i : ℕ) (step : WrittenStep) → i < length steps → step ≡ get_or steps i step
+    → (p : Place) → p ≡ place_seen (take i steps) → tree_of shown (at p (step_seen step)) ≡ None
+    → tree_of shown (place_seen steps) ≡ None
+walk_none shown below steps i step lt is p here none =
+    let front : at p (step_seen step) ≡ place_seen (take (i + 1) steps) =
+    ap (λ (q : Place). at q (step_seen step)) here ∙ sym (place_more steps i step lt is) in
+    let whole : place_seen steps ≡ place_seen (take (i + 1) steps) ++ place_seen (drop (i + 1) steps) =
+    ap (map step_seen) (sym (take-append-drop (i + 1) steps)) ∙
+    map-append step_seen (take (i + 1) steps) (drop (i + 1) steps) in
+    ap (tree_of shown) whole ∙ below (place_seen (take (i + 1) steps)) (place_seen (drop (i + 1) steps))
+    (ap (tree_of shown) (sym front) ∙ none)
