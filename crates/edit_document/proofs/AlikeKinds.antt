@@ -1,5 +1,5 @@
 -- Which kinds stand together at a place, and that the first that is left of them shows the same.
-use Rattle.std.proofs.Common.{◌≡◌, Bool, true, false, not, List, [], ◌∷◌, Option, Some, None, refl, sym, ap, subst, ◌∙◌, ◌⊎◌, inl, inr, true≢false}
+use Rattle.std.proofs.Common.{◌≡◌, Bool, ◌&&◌, is_some, true, false, not, List, [], ◌∷◌, Option, Some, None, refl, sym, ap, subst, ◌∙◌, ◌⊎◌, inl, inr, true≢false}
 use Rattle.std.specs.Prelude.{option_map}
 use Rattle.std.proofs.lemmas.Option.{same_Some}
 use Rattle.edit_syntax.proofs.Members.{Among, among_all}
@@ -128,6 +128,15 @@ pub view_first : (made : List Assertion) (p : Place) → view_in made p
     ≡ option_map (view_of_kind made p) (first_kind made p)
 view_first made [] = refl
 view_first made (s ∷ ss) = refl
+
+-- where there is something
+pub some_is : (o : Option Kind) → (o ≡ None → ⊥) → is_some o ≡ true
+some_is None ne = absurd (ne refl)
+some_is (Some k) ne = refl
+
+pub never : (b : Bool) → (b && false) ≡ false
+never true = refl
+never false = refl
 
 module _ (made : List Assertion) (all : AreMade made made) (clash : NoClash made)
     (root : kind_at made [] ≡ None) where

@@ -23,7 +23,7 @@ use Rattle.edit_document.proofs.OnceSizes.{without, any_has, has_without, withou
 use Rattle.edit_document.proofs.SamePlace.{same_step_self, same_step_is, same_place_is}
 use Rattle.edit_document.proofs.Wholes.{element_was}
 use Rattle.edit_document.proofs.StayingWays.{same_kind, same_elements, off_way}
-use Rattle.edit_document.proofs.AlikeKinds.{section_view, Alike, alike, sections, view_first, alike_first, first_made}
+use Rattle.edit_document.proofs.AlikeKinds.{section_view, Alike, alike, sections, some_is, never, view_first, alike_first, first_made}
 
 module _ (made : List Assertion) (all : AreMade made made) (clash : NoClash made)
     (root : kind_at made [] ≡ None) where
@@ -45,10 +45,6 @@ module _ (made : List Assertion) (all : AreMade made made) (clash : NoClash made
     members_has : (xs : List Assertion) (x : Step) → list_any (same_step x) (members_of xs q)
         ≡ is_some (kind_at xs (at q x))
     members_has xs x = any_has x (members_of xs q) ∙ has_once x (steps xs q) ∙ has_step xs q x
-
-    some_is : (o : Option Kind) → (o ≡ None → ⊥) → is_some o ≡ true
-    some_is None ne = absurd (ne refl)
-    some_is (Some k) ne = refl
 
     -- the same members, where the next one stays
     pub same_members : (kind_at (staying (q ++ t ∷ r) made) (at q t) ≡ None → ⊥)
@@ -94,10 +90,6 @@ module _ (made : List Assertion) (all : AreMade made made) (clash : NoClash made
         there = sym (any_has t (members_of made q)) ∙ members_has made t ∙
             some_is (kind_at made (at q t)) stood
 
-        never : (b : Bool) → (b && false) ≡ false
-        never true = refl
-        never false = refl
-
         both : (b : Bool) → (b && true) ≡ b
         both true = refl
         both false = refl
@@ -128,10 +120,6 @@ module _ (made : List Assertion) (all : AreMade made made) (clash : NoClash made
         ap (λ z. is_within (q ++ t ∷ r) z) (i.1 ∙ ap (λ z. at z (index i.0)) (same_place_is a.place q h.1))
         ∙ within_back q (t ∷ r) (index i.0 ∷ []) ∙ ap (λ z. is_within (t ∷ z) (index i.0 ∷ [])) e ∙
         never (same_step t (index i.0)))
-      where
-        never : (b : Bool) → (b && false) ≡ false
-        never true = refl
-        never false = refl
 
     deep_from : (u : Step) (us : Place) → r ≡ u ∷ us → step_from q (q ++ t ∷ r) ≡ None
     deep_from u us e = ap (λ z. step_from q (q ++ t ∷ z)) e ∙ go q
