@@ -34,6 +34,8 @@ const LINES: &str = "\
 [a] # c\nn = true\n\n# d\n[b]\n|flag a n true|[a] # c\n\n# d\n[b]\n~\
 [a]\nx = [\n 1, # c\n]\nn = true\n[b]\n|flag a n true|[a]\nx = [\n 1, # c\n]\n[b]\n~\
 [a.b]\nx = 1\n[a]\ny = 2\nn = true\n|flag a n true|[a.b]\nx = 1\n[a]\ny = 2\n~\
+[a]\nx.y = 1 # c\nn = true\n[b]\n|flag a n true|[a]\nx.y = 1 # c\n[b]\n~\
+[a]\nx = '''\n[b]\ny = 2\n'''\nn = true\n[c]\n|flag a n true|[a]\nx = '''\n[b]\ny = 2\n'''\n[c]\n~\
 [[a]]\nx = 1\nn = true\n[[a]]\n|flag a/#0 n true|[[a]]\nx = 1\n[[a]]\n~\
 [[a]]\n[[a]]\nn = true\n[a.b]\n|flag a/#1 n true|[[a]]\n[[a]]\n[a.b]\n~\
 x = 1 # c\nn = true\n\n[a]\n|flag  n true|x = 1 # c\n\n[a]\n~\
@@ -48,7 +50,8 @@ const SUPER: &str = "\
 [a]\nn = true\n[a.b]\nx = 1\n|flag a n true|[a.b]\nx = 1\n~\
 # c\n[a]\nn = true\n  [a.b] # d\n[a.c]\n|flag a n true|# c\n  [a.b] # d\n[a.c]\n~\
 ['a' . b]\nn = true\n[ 'a' . b . c]\n|flag a/b n true|[ 'a' . b . c]\n~\
-x = 1\r\n[a]\nn = true\n[[a.b]]\r\n|flag a n true|x = 1\r\n[[a.b]]\r\n";
+x = 1\r\n[a]\nn = true\n[[a.b]]\r\n|flag a n true|x = 1\r\n[[a.b]]\r\n~\
+[[a]]\n[a.b]\nn = true\n[a.b.c]\nx = 1\n[[a]]\n|flag a/#0/b n true|[[a]]\n[a.b.c]\nx = 1\n[[a]]\n";
 
 /// Tables made by dotted keys: behind the last pair that goes on there.
 const DOTTED: &str = "\

@@ -38,6 +38,7 @@ const TABLES_GONE: &str = "\
 [c]\n|a|[a.b]\nx = 1\n[c]\n[a.d]\n~\
 # f\n[b]\ny = 2\n|a|# c\n[a] # d\n# e\nx = 1\n# f\n[b]\ny = 2\n~\
 [[a]]\ny = 2\n|a/#0|[[a]]\nx = 1\n[a.b]\n[[a]]\ny = 2\n~\
+|a/#0|[[a]]\nx = 1\n~\
 [[a]]\nx = 1\n[a.b]\n|a/#1|[[a]]\nx = 1\n[a.b]\n[[a]]\ny = 2\n[a.b.c]\n~\
 [b]\n|a|[[a]]\nx = 1\n[b]\n[[a]]\n[a.b]\n~\
 [[a]]\n[a.b]\nx = 1\n[[a]]\n|a/#1/b|[[a]]\n[a.b]\nx = 1\n[[a]]\n[a.b]\ny = 2\n~\
@@ -53,6 +54,7 @@ x = [\"dep\"]|x/#1|x = [\"dep\", \"other\"]~\
 x = [  ]|x/#0|x = [ 1 ]~\
 x = [ ]|x/#0|x = [ 1, ]~\
 x = [1, ]|x/#1|x = [1, 2, ]~\
+x = [2]|x/#0|x = [1,\t 2]~\
 x = [\n # one\n 2, # two\n]|x/#0|x = [\n 1, # one\n 2, # two\n]~\
 x = [\n 1, # one\n # two\n]|x/#1|x = [\n 1, # one\n 2, # two\n]~\
 x = [\r\n 1\r\n]\r\n|x/#1|x = [\r\n 1,\r\n 2\r\n]\r\n~\
@@ -64,6 +66,7 @@ const MEMBERS_GONE: &str = "\
 x = { git = \"u\", tag = \"t\" }|x/branch|x = { git = \"u\", branch = \"b\", tag = \"t\" }~\
 dependencies = { a = \"1\" }|dependencies/b|dependencies = { a = \"1\", b = \"2\" }~\
 x = { b = 2 }|x/a|x = { a = 1 , b = 2 }~\
+x = { b = 2 }|x/a|x = { a = 1,\tb = 2 }~\
 x = {  }|x/a|x = { a = 1 }~\
 x = { }|x/a|x = { a = 1, }~\
 x = { c = 1 }|x/a|x = { c = 1, a.b = 2, a.d = 3 }~\
