@@ -7,11 +7,15 @@ use Rattle.toml.specs.declared.value.Value.{Value}
 use Rattle.edit_sources.specs.Configuration.{both, entries_of}
 
 -- what is read so far, and one entry more
-pushed : {A : Type 0} (done : List (List ℕ × A)) (key : List ℕ) (x : A) (rest : Option (List (List ℕ × A))) → option_map (λ r. done ++ r) (both (λ y ys. (key, y) ∷ ys) (Some x) rest) ≡ option_map (λ r. (done ++ (key, x) ∷ []) ++ r) rest
+pushed : {A : Type 0} (done : List (List ℕ × A)) (key : List ℕ) (x : A) (rest : Option (List (List ℕ × A)))
+    → option_map (λ r. done ++ r) (both (λ y ys. (key, y) ∷ ys) (Some x) rest)
+    ≡ option_map (λ r. (done ++ (key, x) ∷ []) ++ r) rest
 pushed done key x None = refl
 pushed done key x (Some rest) = ap (λ r. Some r) (sym (append_assoc done ((key, x) ∷ []) rest))
 
-pub entry_more : {A X : Type 0} (read : Data → Option A) (shows : X → List ℕ × A) (whole : Option (List (List ℕ × A))) (old new : List X) (e : X) (left rest : List (String Global × Value)) (k : String Global) (v : Value)
+pub entry_more : {A X : Type 0} (read : Data → Option A) (shows : X → List ℕ × A)
+    (whole : Option (List (List ℕ × A))) (old new : List X) (e : X) (left rest : List (String Global × Value))
+    (k : String Global) (v : Value)
     → whole ≡ option_map (λ r. map shows old ++ r) (entries_of read (members_view left))
     → left ≡ (k, v) ∷ rest
     → read (view v) ≡ Some (shows e).1
@@ -19,7 +23,10 @@ pub entry_more : {A X : Type 0} (read : Data → Option A) (shows : X → List �
     → new ≡ old ++ e ∷ []
     → whole ≡ option_map (λ r. map shows new ++ r) (entries_of read (members_view rest))
 entry_more read shows whole old new e left rest k v so_far next said named items =
-    let here : option_map (λ r. map shows old ++ r) (entries_of read (members_view ((k, v) ∷ rest))) ≡ option_map (λ r. (map shows old ++ shows e ∷ []) ++ r) (entries_of read (members_view rest))
-    = rw (said, ← named) (pushed (map shows old) (shows e).0 (shows e).1 (entries_of read (members_view rest))) in
+    let here : option_map (λ r. map shows old ++ r) (entries_of read (members_view ((k, v) ∷ rest)))
+    ≡ option_map (λ r. (map shows old ++ shows e ∷ []) ++ r) (entries_of read (members_view rest))
+    = rw (said, ← named)
+    (pushed (map shows old) (shows e).0 (shows e).1 (entries_of read (members_view rest))) in
     so_far ∙ ap (λ xs. option_map (λ r. map shows old ++ r) (entries_of read (members_view xs))) next ∙ here
-    ∙ ap (λ xs. option_map (λ r. xs ++ r) (entries_of read (members_view rest))) (sym (ap (map shows) items ∙ map_push shows old e))
+    ∙ ap (λ xs. option_map (λ r. xs ++ r) (entries_of read (members_view rest)))
+    (sym (ap (map shows) items ∙ map_push shows old e))

@@ -16,7 +16,8 @@ use Rattle.edit_sources.specs.declared.config.Config.{Config}
 
 raised_later : (a b c : ℕ) → a ≤ b → raised b c → raised a c
 raised_later a b c le (inl lt) = inl (omega arith)
-raised_later a b c le (inr ends) = ⊎_elim (λ same. inr (same ∙ ends.0, ends.1)) (λ lt. inl (omega arith)) (eq-or-lt_of_le le)
+raised_later a b c le (inr ends) = ⊎_elim (λ same. inr (same ∙ ends.0, ends.1)) (λ lt. inl (omega arith))
+    (eq-or-lt_of_le le)
 
 -- a failure that is counted from earlier on
 pub failed_later : (a b c : ℕ) (e : Error) → a ≤ b → HasFailed b c e → HasFailed a c e
@@ -28,45 +29,72 @@ absent None h = refl
 absent (Some file) h = absurd h
 
 standing-same : (old new : Files) (path : List ℕ) → SameFiles old new → standing new path ≡ standing old path
-standing-same old new path same = ap (option_map (λ (bytes : List ℕ). let file : List ℕ × List ℕ = (path, bytes) in file)) (same path)
+standing-same old new path same =
+    ap (option_map (λ (bytes : List ℕ). let file : List ℕ × List ℕ = (path, bytes) in file)) (same path)
 
-pub file_in-same : (old new : Files) (place : List ℕ) → SameFiles old new → file_in new place ≡ file_in old place
+pub file_in-same : (old new : Files) (place : List ℕ) → SameFiles old new
+    → file_in new place ≡ file_in old place
 file_in-same old new place same =
-    ap (λ o. or_else o (standing new (joined place (codes "config.toml")))) (standing-same old new (joined place (codes "config")) same)
-    ∙ ap (or_else (standing old (joined place (codes "config")))) (standing-same old new (joined place (codes "config.toml")) same)
+    ap (λ o. or_else o (standing new (joined place (codes "config.toml"))))
+    (standing-same old new (joined place (codes "config")) same)
+    ∙ ap (or_else (standing old (joined place (codes "config"))))
+    (standing-same old new (joined place (codes "config.toml")) same)
 
 -- where `config` does not stand, `config.toml` counts
-pub file_in-second : (old new : Files) (place first second : List ℕ) → first ≡ joined place (codes "config") → second ≡ joined place (codes "config.toml") → SameFiles old new → IsReadOf (standing old first) None → standing new second ≡ file_in old place
+pub file_in-second : (old new : Files) (place first second : List ℕ) → first ≡ joined place (codes "config")
+    → second ≡ joined place (codes "config.toml") → SameFiles old new → IsReadOf (standing old first) None
+    → standing new second ≡ file_in old place
 file_in-second old new place first second a b same none =
-    let gone : standing old (joined place (codes "config")) ≡ None = subst (λ p. standing old p ≡ None) a (absent (standing old first) none) in
-    ap (standing new) b ∙ standing-same old new (joined place (codes "config.toml")) same ∙ sym (ap (λ o. or_else o (standing old (joined place (codes "config.toml")))) gone)
+    let gone : standing old (joined place (codes "config")) ≡ None =
+    subst (λ p. standing old p ≡ None) a (absent (standing old first) none) in
+    ap (standing new) b ∙ standing-same old new (joined place (codes "config.toml")) same ∙
+    sym (ap (λ o. or_else o (standing old (joined place (codes "config.toml")))) gone)
 
-zip_more : (o : Option (List ℕ × List ℕ)) (found : Option Config) (files : List (List ℕ × List ℕ)) (configs : List Config) → AllZip IsReadFrom files configs → IsReadOf o found → AllZip IsReadFrom (files ++ cons_option o []) (configs ++ option_to_list found)
-zip_more None None files configs all h = subst (λ fs. AllZip IsReadFrom fs (configs ++ [])) (sym (append-nil files)) (subst (λ cs. AllZip IsReadFrom files cs) (sym (append-nil configs)) all)
-zip_more (Some file) (Some config) files configs all h = all_zipped_more IsReadFrom files configs file config all h
+zip_more : (o : Option (List ℕ × List ℕ)) (found : Option Config) (files : List (List ℕ × List ℕ))
+    (configs : List Config) → AllZip IsReadFrom files configs → IsReadOf o found
+    → AllZip IsReadFrom (files ++ cons_option o []) (configs ++ option_to_list found)
+zip_more None None files configs all h = subst (λ fs. AllZip IsReadFrom fs (configs ++ []))
+    (sym (append-nil files)) (subst (λ cs. AllZip IsReadFrom files cs) (sym (append-nil configs)) all)
+zip_more (Some file) (Some config) files configs all h =
+    all_zipped_more IsReadFrom files configs file config all h
 zip_more None (Some config) files configs all h = absurd h
 zip_more (Some file) None files configs all h = absurd h
 
 -- one place more
-pub files_more : (files : Files) (places : List (String Global)) (i : ℕ) (place : String Global) (found : Option Config) (old new : List Config)
-    → i < length places → place ≡ get_or places i place → AllZip IsReadFrom (files_in files (map string_bytes (take i places))) old → IsReadOf (file_in files (string_bytes place)) found → new ≡ old ++ option_to_list found
+pub files_more : (files : Files) (places : List (String Global)) (i : ℕ) (place : String Global)
+    (found : Option Config) (old new : List Config)
+    → i < length places → place ≡ get_or places i place
+    → AllZip IsReadFrom (files_in files (map string_bytes (take i places))) old
+    → IsReadOf (file_in files (string_bytes place)) found → new ≡ old ++ option_to_list found
     → AllZip IsReadFrom (files_in files (map string_bytes (take (i + 1) places))) new
 files_more files places i place found old new within is all read items =
-    let more : map string_bytes (take (i + 1) places) ≡ map string_bytes (take i places) ++ string_bytes place ∷ []
-    = map_more string_bytes places i place within ∙ ap (λ p. map string_bytes (take i places) ++ string_bytes p ∷ []) (sym is) in
-    let split : files_in files (map string_bytes (take (i + 1) places)) ≡ files_in files (map string_bytes (take i places)) ++ cons_option (file_in files (string_bytes place)) []
-    = ap (files_in files) more ∙ filter_map-append (file_in files) (map string_bytes (take i places)) (string_bytes place ∷ []) in
-    subst (λ fs. AllZip IsReadFrom fs new) (sym split) (subst (λ cs. AllZip IsReadFrom (files_in files (map string_bytes (take i places)) ++ cons_option (file_in files (string_bytes place)) []) cs) (sym items) (zip_more (file_in files (string_bytes place)) found _ old all read))
+    let more : map string_bytes (take (i + 1) places) ≡ map string_bytes
+    (take i places) ++ string_bytes place ∷ []
+    = map_more string_bytes places i place within ∙
+    ap (λ p. map string_bytes (take i places) ++ string_bytes p ∷ []) (sym is) in
+    let split : files_in files (map string_bytes (take (i + 1) places))
+    ≡ files_in files (map string_bytes (take i places)) ++ cons_option (file_in files (string_bytes place)) []
+    = ap (files_in files) more ∙ filter_map-append (file_in files) (map string_bytes (take i places))
+    (string_bytes place ∷ []) in
+    subst (λ fs. AllZip IsReadFrom fs new) (sym split)
+    (subst (λ cs. AllZip IsReadFrom (files_in files (map string_bytes (take i places)) ++ cons_option
+    (file_in files (string_bytes place)) []) cs) (sym items)
+    (zip_more (file_in files (string_bytes place)) found _ old all read))
 
 -- a file that fails among places
-pub place_fails : (tells told : Bool) (old new : Files) (places : List (String Global)) (i : ℕ) (place : String Global) (text : List ℕ) (e : Error)
-    → i < length places → place ≡ get_or places i place → text ≡ string_bytes place → told ≡ tells → SameFiles old new → FileFails told (file_in new text) e → PlaceFails tells old (map string_bytes places) e
+pub place_fails : (tells told : Bool) (old new : Files) (places : List (String Global)) (i : ℕ)
+    (place : String Global) (text : List ℕ) (e : Error)
+    → i < length places → place ≡ get_or places i place → text ≡ string_bytes place → told ≡ tells
+    → SameFiles old new → FileFails told (file_in new text) e
+    → PlaceFails tells old (map string_bytes places) e
 place_fails tells told old new places i place text e within is said same_told same fails = record {
   place = text;
   before = map string_bytes (take i places);
   after = map string_bytes (drop (i + 1) places);
   within =
-      ap (map string_bytes) (sym (take-append-drop i places) ∙ ap (λ xs. take i places ++ xs) (drop_more places i place within ∙ ap (λ p. p ∷ drop (i + 1) places) (sym is)))
+      ap (map string_bytes) (sym (take-append-drop i places) ∙
+      ap (λ xs. take i places ++ xs) (drop_more places i place within ∙
+      ap (λ p. p ∷ drop (i + 1) places) (sym is)))
       ∙ map-append string_bytes (take i places) (place ∷ drop (i + 1) places)
       ∙ ap (λ t. map string_bytes (take i places) ++ t ∷ map string_bytes (drop (i + 1) places)) (sym said);
   fails = record {

@@ -25,10 +25,12 @@ height-le here = omega (arith, cond-le (bytes_eq here (codes "/")))
 
 height-ne : (here : List ℕ) → here ≢ codes "/" → height here ≡ length here + 1
 height-ne here ne =
-    let off : bytes_eq here (codes "/") ≡ false = false_from_ne_true (bytes_eq here (codes "/")) (λ e. ne ((bytes_eq-Decides here (codes "/")).0 e)) in
+    let off : bytes_eq here (codes "/") ≡ false = false_from_ne_true (bytes_eq here (codes "/"))
+    (λ e. ne ((bytes_eq-Decides here (codes "/")).0 e)) in
     ap (λ b. length here + cond b 0 1) off
 
-pub height-folder : (here folder : List ℕ) → IsFolderOf here folder → here ≢ codes "/" → 0 < length here → height folder < height here
+pub height-folder : (here folder : List ℕ) → IsFolderOf here folder → here ≢ codes "/" → 0 < length here
+    → height folder < height here
 height-folder here folder (above before after e none some) ne long =
     omega (arith, height-ne here ne, height-le folder, ap length e, length-append before (47 ∷ after))
 height-folder here folder (below_root after e none) ne long = omega (arith, height-ne here ne, ap length e)

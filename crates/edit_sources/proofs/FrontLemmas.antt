@@ -14,15 +14,19 @@ use Rattle.std.proofs.lemmas.Slice.Eq.{bytes_eq-Decides}
 use Rattle.edit_sources.specs.Memory.{IsBelow}
 
 -- a key of a map that lies below a path makes the path a front
-pub front_from_key : {X Y : Type 0} (m : BTreeMap (String Y) X) (path : List ℕ) (key : String Y) → IsBelow (string_bytes key) path → ContainsKey string_cmp m key → (rest : List ℕ) × IsSome (get_by_text m (path ++ 47 ∷ rest))
+pub front_from_key : {X Y : Type 0} (m : BTreeMap (String Y) X) (path : List ℕ) (key : String Y)
+    → IsBelow (string_bytes key) path → ContainsKey string_cmp m key → (rest : List ℕ)
+    × IsSome (get_by_text m (path ++ 47 ∷ rest))
 front_from_key m path key below has = (below.0, subst (λ bs. IsSome (get_by_text m bs)) below.1 has)
 
 -- a text that a map holds is the text of one of its keys
-key_from_text : {X Y : Type 0} (m : BTreeMap (String Y) X) (bs : List ℕ) (v : X) → get_by_text m bs ≡ Some v → (i : ℕ) × (k : String Y) × (slice_get (keys m) i ≡ Some k) × (bs ≡ string_bytes k)
+key_from_text : {X Y : Type 0} (m : BTreeMap (String Y) X) (bs : List ℕ) (v : X) → get_by_text m bs ≡ Some v
+    → (i : ℕ) × (k : String Y) × (slice_get (keys m) i ≡ Some k) × (bs ≡ string_bytes k)
 key_from_text m bs v h =
     let found = place_from_lookup (is_at (λ k. slice_cmp nat_cmp bs (string_bytes k))) m.entries v h in
     let at = slice_get-map (λ e. e.0) m.entries found.0 ∙ ap (λ o. option_map (λ e. e.0) o) found.2 in
-    let same : bytes_eq bs (string_bytes found.1) ≡ true = sym (is_eq-slice_cmp bs (string_bytes found.1)) ∙ found.3 in
+    let same : bytes_eq bs (string_bytes found.1) ≡ true = sym (is_eq-slice_cmp bs (string_bytes found.1)) ∙
+    found.3 in
     (found.0, found.1, at, (bytes_eq-Decides bs (string_bytes found.1)).0 same)
 
 -- some value, of an option that has one
@@ -31,7 +35,9 @@ value_of None h = cc
 value_of (Some v) h = (v, refl)
 
 -- where no key lies below a path, it is no front
-pub no_front : {X Y : Type 0} (m : BTreeMap (String Y) X) (path : List ℕ) → AllWithin (λ k. IsBelow (string_bytes k) path → ⊥) (keys m) 0 (length (keys m)) → (rest : List ℕ) → IsSome (get_by_text m (path ++ 47 ∷ rest)) → ⊥
+pub no_front : {X Y : Type 0} (m : BTreeMap (String Y) X) (path : List ℕ)
+    → AllWithin (λ k. IsBelow (string_bytes k) path → ⊥) (keys m) 0 (length (keys m)) → (rest : List ℕ)
+    → IsSome (get_by_text m (path ++ 47 ∷ rest)) → ⊥
 no_front m path none rest has =
     let v = value_of (get_by_text m (path ++ 47 ∷ rest)) has in
     let key = key_from_text m (path ++ 47 ∷ rest) v.0 v.1 in
@@ -54,10 +60,18 @@ unmapped f None h = cc
 unmapped f (Some v) h = refl
 
 -- the answer of a search among the keys tells whether a path is a front
-pub front_from_search : {X Y B : Type 0} (f : X → B) (m : BTreeMap (String Y) X) (path : List ℕ) (r : Bool) → All (ContainsKey string_cmp m) (keys m) → MatchBool r ((k : ℕ) × (k < length (keys m)) × HoldsAt (λ n. IsBelow (string_bytes n) path) (keys m) k) (AllWithin (λ n. IsBelow (string_bytes n) path → ⊥) (keys m) 0 (length (keys m))) → (IsTrue r → (rest : List ℕ) × IsSome (option_map f (get_by_text m (path ++ 47 ∷ rest)))) × (((rest : List ℕ) × IsSome (option_map f (get_by_text m (path ++ 47 ∷ rest)))) → IsTrue r)
+pub front_from_search : {X Y B : Type 0} (f : X → B) (m : BTreeMap (String Y) X) (path : List ℕ) (r : Bool)
+    → All (ContainsKey string_cmp m) (keys m)
+    → MatchBool r ((k : ℕ) × (k < length (keys m)) × HoldsAt (λ n. IsBelow (string_bytes n) path) (keys m) k)
+    (AllWithin (λ n. IsBelow (string_bytes n) path → ⊥) (keys m) 0 (length (keys m)))
+    → (IsTrue r → (rest : List ℕ) × IsSome (option_map f (get_by_text m (path ++ 47 ∷ rest))))
+    × (((rest : List ℕ) × IsSome (option_map f (get_by_text m (path ++ 47 ∷ rest)))) → IsTrue r)
 front_from_search f m path true has found =
     let d = element (keys m) found.0 found.1 in
     let front = front_from_key m path (get_or (keys m) found.0 d) (found.2 d) (has found.0 d found.1) in
     (λ _. (front.0, mapped f (get_by_text m (path ++ 47 ∷ front.0)) front.1), λ _. refl)
-front_from_search f m path false has found =
-    (λ h. cc, λ some. absurd (no_front m path found some.0 (unmapped f (get_by_text m (path ++ 47 ∷ some.0)) some.1)))
+front_from_search f m path false has found = (
+  λ h. cc,
+  λ some. absurd
+      (no_front m path found some.0 (unmapped f (get_by_text m (path ++ 47 ∷ some.0)) some.1)),
+)

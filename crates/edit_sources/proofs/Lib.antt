@@ -2,6 +2,7 @@ pub mod AddressLemmas
 pub mod ChainLemmas
 pub mod ConfigurationLemmas
 pub mod FileLemmas
+pub mod ToldRanks
 pub mod FirstLemmas
 pub mod FolderLemmas
 pub mod FrontLemmas

@@ -29,8 +29,11 @@ texts-enumerate_from n [] = refl
 texts-enumerate_from n (line ∷ lines) = ap (λ t. line ∷ t) (texts-enumerate_from (n + 1) lines)
 
 -- the lines so far are the first ones
-so_far : (lines : List (List ℕ)) (xs : List Placed) → map told xs ≡ take (length xs) (enumerate_from 0 lines) → texts xs ≡ take (length xs) lines
-so_far lines xs first = texts-told xs ∙ ap (map (λ p. p.1)) first ∙ sym (take-map (λ p. p.1) (length xs) (enumerate_from 0 lines)) ∙ ap (take (length xs)) (texts-enumerate_from 0 lines)
+so_far : (lines : List (List ℕ)) (xs : List Placed) → map told xs ≡ take (length xs) (enumerate_from 0 lines)
+    → texts xs ≡ take (length xs) lines
+so_far lines xs first = texts-told xs ∙ ap (map (λ p. p.1)) first ∙
+    sym (take-map (λ p. p.1) (length xs) (enumerate_from 0 lines)) ∙
+    ap (take (length xs)) (texts-enumerate_from 0 lines)
 
 all : (lines : List (List ℕ)) (xs : List Placed) → map told xs ≡ enumerate_from 0 lines → texts xs ≡ lines
 all lines xs end = texts-told xs ∙ ap (map (λ p. p.1)) end ∙ texts-enumerate_from 0 lines
@@ -39,22 +42,31 @@ all lines xs end = texts-told xs ∙ ap (map (λ p. p.1)) end ∙ texts-enumerat
 abbrev pub IsTurn : List (List ℕ) → List Placed → Placed → Type 0
 IsTurn lines xs x = (lines ≡ texts xs ++ x.1.now ∷ drop (length xs + 1) lines) × (x.0 ≡ length (texts xs))
 
-parted : (lines : List (List ℕ)) (xs : List Placed) (x : Placed) → map told xs ≡ take (length xs) (enumerate_from 0 lines)
-    → (length xs < length (enumerate_from 0 lines)) × (told x ≡ get_or (enumerate_from 0 lines) (length xs) (told x)) → IsTurn lines xs x
+parted : (lines : List (List ℕ)) (xs : List Placed) (x : Placed)
+    → map told xs ≡ take (length xs) (enumerate_from 0 lines)
+    → (length xs < length (enumerate_from 0 lines))
+    × (told x ≡ get_or (enumerate_from 0 lines) (length xs) (told x)) → IsTurn lines xs x
 parted lines xs x first h =
     let within : length xs < length lines = omega (arith, h.0, length-enumerate_from 0 lines) in
-    let is : told x ≡ (0 + length xs, get_or lines (length xs) x.1.now) = h.1 ∙ get_or-enumerate_from 0 lines (length xs) (told x) within in
+    let is : told x ≡ (0 + length xs, get_or lines (length xs) x.1.now) = h.1 ∙
+    get_or-enumerate_from 0 lines (length xs) (told x) within in
     let line : x.1.now ≡ get_or lines (length xs) x.1.now = ap (λ p. p.1) is in
-    let rest : drop (length xs) lines ≡ get_or lines (length xs) x.1.now ∷ drop (length xs + 1) lines = rw add-one (drop-cons lines (length xs) x.1.now within) in
-    let whole : lines ≡ take (length xs) lines ++ drop (length xs) lines = sym (take-append-drop (length xs) lines) in (
-      whole ∙ ap (λ t. t ++ drop (length xs) lines) (sym (so_far lines xs first)) ∙ ap (λ t. texts xs ++ t) (rest ∙ ap (λ l. l ∷ drop (length xs + 1) lines) (sym line)),
+    let rest : drop (length xs) lines ≡ get_or lines (length xs) x.1.now ∷ drop (length xs + 1) lines =
+    rw add-one (drop-cons lines (length xs) x.1.now within) in
+    let whole : lines ≡ take (length xs) lines ++ drop (length xs) lines =
+    sym (take-append-drop (length xs) lines) in (
+      whole ∙ ap (λ t. t ++ drop (length xs) lines) (sym (so_far lines xs first)) ∙
+          ap (λ t. texts xs ++ t) (rest ∙ ap (λ l. l ∷ drop (length xs + 1) lines) (sym line)),
       omega (arith, ap (λ p. p.0) is, length-map xs (λ (y : Placed). y.1.now)),
     )
 
-module _ {S : Type 0} {steps : S → Option Placed → S → Type 0} {s : S} (lines : List (List ℕ)) (road : YieldsList {B = ℕ × List ℕ} steps told s (enumerate_from 0 lines)) (xs : List Placed) (t : S) (yields : Yields steps s xs t) where
+module _ {S : Type 0} {steps : S → Option Placed → S → Type 0} {s : S} (lines : List (List ℕ))
+    (road : YieldsList {B = ℕ × List ℕ} steps told s (enumerate_from 0 lines)) (xs : List Placed) (t : S)
+    (yields : Yields steps s xs t) where
   -- a turn of a loop over the lines
   pub line_turn : (r : Option Placed) (u : S) (x : Placed) → r ≡ Some x → steps t r u → IsTurn lines xs x
-  line_turn r u x is step = parted lines xs x (YieldsList-so_far road xs t yields) (YieldsList-turn road xs t yields r u x is step)
+  line_turn r u x is step = parted lines xs x (YieldsList-so_far road xs t yields)
+      (YieldsList-turn road xs t yields r u x is step)
 
   -- and its end
   pub line_end : (r : Option Placed) (u : S) → r ≡ None → steps t r u → texts xs ≡ lines

@@ -19,10 +19,14 @@ right false b h = cc
 small_byte : (b : ℕ) → is_name_byte b ≡ true → to_ascii_lowercase b < 128
 small_byte b h = grind (arith, nat_tests)
 
-small_bytes : (name : List ℕ) → list_all is_name_byte name ≡ true → All (λ b. b < 128) (map to_ascii_lowercase name)
+small_bytes : (name : List ℕ) → list_all is_name_byte name ≡ true
+    → All (λ b. b < 128) (map to_ascii_lowercase name)
 small_bytes [] h = All-nil (λ b. b < 128)
-small_bytes (b ∷ name) h = All-cons (λ b. b < 128) (to_ascii_lowercase b) (map to_ascii_lowercase name) (small_byte b (left (is_name_byte b) (list_all is_name_byte name) h)) (small_bytes name (right (is_name_byte b) (list_all is_name_byte name) h))
+small_bytes (b ∷ name) h = All-cons (λ b. b < 128) (to_ascii_lowercase b) (map to_ascii_lowercase name)
+    (small_byte b (left (is_name_byte b) (list_all is_name_byte name) h))
+    (small_bytes name (right (is_name_byte b) (list_all is_name_byte name) h))
 
 -- a name that an index may have is of ASCII by small letters too
-pub small_name : (name : List ℕ) → is_crate_name name ≡ true → All (λ b. b < 128) (map to_ascii_lowercase name)
+pub small_name : (name : List ℕ) → is_crate_name name ≡ true
+    → All (λ b. b < 128) (map to_ascii_lowercase name)
 small_name name h = small_bytes name (right _ _ (right _ _ h))

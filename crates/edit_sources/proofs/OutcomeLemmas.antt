@@ -23,13 +23,17 @@ use Rattle.edit_sources.specs.declared.file_index.FileIndex.{FileIndex}
 -- ---- lines say their entries
 
 -- an entry of its four parts, where each is said
-abbrev entry_by : Option (List ℕ) → Option (List ℕ) → Option Bool → Option (Option (List ℕ)) → Option IndexEntry
-entry_by (Some n) (Some v) (Some y) (Some r) = Some (record { name = n; version = v; yanked = y; rust_version = r })
+abbrev entry_by : Option (List ℕ) → Option (List ℕ) → Option Bool → Option (Option (List ℕ))
+    → Option IndexEntry
+entry_by (Some n) (Some v) (Some y) (Some r) =
+    Some (record { name = n; version = v; yanked = y; rust_version = r })
 entry_by _ _ _ _ = None
 
 -- the entry that a value says
 abbrev entry_in : Data → Option IndexEntry
-entry_in d = entry_by (option_and_then as_str (get (codes "name") d)) (option_and_then as_str (get (codes "vers") d)) (yanked_of (get (codes "yanked") d)) (rust_version_of (get (codes "rust_version") d))
+entry_in d = entry_by (option_and_then as_str (get (codes "name") d))
+    (option_and_then as_str (get (codes "vers") d)) (yanked_of (get (codes "yanked") d))
+    (rust_version_of (get (codes "rust_version") d))
 
 entry_is : (d : Data) (e : IndexEntry) → SaysEntry d e → entry_in d ≡ Some e
 entry_is d e h = λ i. entry_by (h.name i) (h.version i) (h.yanked i) (h.rust_version i)
@@ -41,20 +45,26 @@ said line = cond (is_blank line) [] (option_to_list (option_and_then entry_in (r
 said-blank : (line : List ℕ) → is_blank line ≡ true → said line ++ [] ≡ []
 said-blank line is = ap (λ b. cond b [] (option_to_list (option_and_then entry_in (read line))) ++ []) is
 
-said-entry : (line : List ℕ) (e : IndexEntry) → is_blank line ≡ false → IsIndexLine line e → said line ++ [] ≡ e ∷ []
+said-entry : (line : List ℕ) (e : IndexEntry) → is_blank line ≡ false → IsIndexLine line e
+    → said line ++ [] ≡ e ∷ []
 said-entry line e is h =
-    let reads : option_and_then entry_in (read line) ≡ Some e = ap (option_and_then entry_in) h.reads ∙ entry_is h.value e h.says in
+    let reads : option_and_then entry_in (read line) ≡ Some e = ap (option_and_then entry_in) h.reads ∙
+    entry_is h.value e h.says in
     λ i. cond (is i) [] (option_to_list (reads i)) ++ []
 
 -- lines say the entries of each in turn
-all_said : (lines : List (List ℕ)) (entries : List IndexEntry) → LinesSay lines entries → flat_map said lines ≡ entries
+all_said : (lines : List (List ℕ)) (entries : List IndexEntry) → LinesSay lines entries
+    → flat_map said lines ≡ entries
 all_said lines entries none = refl
 all_said lines entries (blank ls es line h is) =
-    flat_map-append said ls (line ∷ []) ∙ ap (λ t. flat_map said ls ++ t) (said-blank line is) ∙ append-nil (flat_map said ls) ∙ all_said ls es h
+    flat_map-append said ls (line ∷ []) ∙ ap (λ t. flat_map said ls ++ t) (said-blank line is) ∙
+    append-nil (flat_map said ls) ∙ all_said ls es h
 all_said lines entries (entry ls es line e h is says) =
-    flat_map-append said ls (line ∷ []) ∙ ap (λ t. flat_map said ls ++ t) (said-entry line e is says) ∙ ap (λ t. t ++ e ∷ []) (all_said ls es h)
+    flat_map-append said ls (line ∷ []) ∙ ap (λ t. flat_map said ls ++ t) (said-entry line e is says) ∙
+    ap (λ t. t ++ e ∷ []) (all_said ls es h)
 
-pub one_reading : (lines : List (List ℕ)) (a b : List IndexEntry) → LinesSay lines a → LinesSay lines b → a ≡ b
+pub one_reading : (lines : List (List ℕ)) (a b : List IndexEntry) → LinesSay lines a → LinesSay lines b
+    → a ≡ b
 one_reading lines a b x y = sym (all_said lines a x) ∙ all_said lines b y
 
 -- ---- a bad line stands among no good ones
@@ -66,23 +76,29 @@ IsGood line = (is_blank line ≡ true) ⊎ ((e : IndexEntry) × IsIndexLine line
 each_good : (lines : List (List ℕ)) (entries : List IndexEntry) → LinesSay lines entries → All IsGood lines
 each_good lines entries none = All-nil IsGood
 each_good lines entries (blank ls es line h is) = All-push IsGood ls line (each_good ls es h) (inl is)
-each_good lines entries (entry ls es line e h is says) = All-push IsGood ls line (each_good ls es h) (inr (e, says))
+each_good lines entries (entry ls es line e h is says) =
+    All-push IsGood ls line (each_good ls es h) (inr (e, says))
 
 not_good : (lines : List (List ℕ)) (n : ℕ) (b : IsBadLine lines n) → IsGood b.line → ⊥
 not_good lines n b (inl is) = cc
 not_good lines n b (inr h) = b.bad h.0 h.1
 
 -- the line at the place of a bad one
-there : (lines : List (List ℕ)) (n : ℕ) (b : IsBadLine lines n) → get_or lines (length b.before) b.line ≡ b.line
-there lines n b = ap (λ ls. get_or ls (length b.before) b.line) b.whole ∙ get_or_at b.before b.line b.after b.line (length b.before) refl
+there : (lines : List (List ℕ)) (n : ℕ) (b : IsBadLine lines n)
+    → get_or lines (length b.before) b.line ≡ b.line
+there lines n b = ap (λ ls. get_or ls (length b.before) b.line) b.whole ∙
+    get_or_at b.before b.line b.after b.line (length b.before) refl
 
 -- a bad line is not past another one
-not_later : (lines : List (List ℕ)) (m n : ℕ) (a : IsBadLine lines m) (b : IsBadLine lines n) → length a.before < length b.before → ⊥
+not_later : (lines : List (List ℕ)) (m n : ℕ) (a : IsBadLine lines m) (b : IsBadLine lines n)
+    → length a.before < length b.before → ⊥
 not_later lines m n a b lt =
     let within : get_or lines (length a.before) a.line ≡ get_or b.before (length a.before) a.line =
-    ap (λ ls. get_or ls (length a.before) a.line) b.whole ∙ get_or_append_left b.before (b.line ∷ b.after) a.line (length a.before) lt in
+    ap (λ ls. get_or ls (length a.before) a.line) b.whole ∙
+    get_or_append_left b.before (b.line ∷ b.after) a.line (length a.before) lt in
     let is : get_or b.before (length a.before) a.line ≡ a.line = sym within ∙ there lines m a in
-    not_good lines m a (subst IsGood is (All-get_or IsGood b.before (length a.before) a.line lt (each_good b.before b.entries b.good)))
+    not_good lines m a (subst IsGood is
+    (All-get_or IsGood b.before (length a.before) a.line lt (each_good b.before b.entries b.good)))
 
 -- two numbers, neither of which is less, are one
 even : (m n : ℕ) → (m < n → ⊥) → (n < m → ⊥) → m ≡ n
@@ -91,29 +107,36 @@ even m n a b = omega arith
 -- the first bad line has one number
 pub one_bad_line : (lines : List (List ℕ)) (m n : ℕ) → IsBadLine lines m → IsBadLine lines n → m ≡ n
 one_bad_line lines m n a b =
-    let same : length a.before ≡ length b.before = even (length a.before) (length b.before) (not_later lines m n a b) (not_later lines n m b a) in
+    let same : length a.before ≡ length b.before = even (length a.before) (length b.before)
+    (not_later lines m n a b) (not_later lines n m b a) in
     a.place ∙ ap (λ k. k + 1) same ∙ sym b.place
 
 -- lines with a bad one say no entries
-pub none_said : (lines : List (List ℕ)) (entries : List IndexEntry) (n : ℕ) → LinesSay lines entries → IsBadLine lines n → ⊥
+pub none_said : (lines : List (List ℕ)) (entries : List IndexEntry) (n : ℕ) → LinesSay lines entries
+    → IsBadLine lines n → ⊥
 none_said lines entries n says b =
-    let within : length b.before < length lines = omega (arith, ap length b.whole, length-append b.before (b.line ∷ b.after)) in
-    not_good lines n b (subst IsGood (there lines n b) (All-get_or IsGood lines (length b.before) b.line within (each_good lines entries says)))
+    let within : length b.before < length lines =
+    omega (arith, ap length b.whole, length-append b.before (b.line ∷ b.after)) in
+    not_good lines n b (subst IsGood (there lines n b)
+    (All-get_or IsGood lines (length b.before) b.line within (each_good lines entries says)))
 
 -- ---- a name has one path at an address
 
-one_path : (address : Parts) (name p q : List ℕ) → IsIndexPath address name p → IsIndexPath address name q → p ≡ q
+one_path : (address : Parts) (name p q : List ℕ) → IsIndexPath address name p → IsIndexPath address name q
+    → p ≡ q
 one_path address name p q a b =
     let folder : a.folder ≡ b.folder = a.folder_of.path ∙ sym b.folder_of.path in
     a.is ∙ ap (λ f. below f (layout name)) folder ∙ sym b.is
 
 -- or none, for one reason
-no_path : (address : Parts) (name p : List ℕ) (n : ℕ) → IsIndexPath address name p → HasNoIndexPath address name n → ⊥
+no_path : (address : Parts) (name p : List ℕ) (n : ℕ) → IsIndexPath address name p
+    → HasNoIndexPath address name n → ⊥
 no_path address name p n a (inl h) = h.1 a.scheme
 no_path address name p n a (inr (inl h)) = h.2 a.folder a.folder_of
 no_path address name p n a (inr (inr h)) = let is = a.named in let isnt = h.2.1 in cc
 
-one_reason : (address : Parts) (name : List ℕ) (m n : ℕ) → HasNoIndexPath address name m → HasNoIndexPath address name n → m ≡ n
+one_reason : (address : Parts) (name : List ℕ) (m n : ℕ) → HasNoIndexPath address name m
+    → HasNoIndexPath address name n → m ≡ n
 one_reason address name m n (inl a) (inl b) = a.0 ∙ sym b.0
 one_reason address name m n (inl a) (inr (inl b)) = absurd (a.1 b.1)
 one_reason address name m n (inl a) (inr (inr b)) = absurd (a.1 b.1)
@@ -127,54 +150,75 @@ one_reason address name m n (inr (inr a)) (inr (inr b)) = a.0 ∙ sym b.0
 -- ---- one outcome
 
 -- the text of the file of a name is one text
-one_text : (files : Files) (address : Parts) (name p q : List ℕ) (a b : Option (List ℕ)) → IsIndexPath address name p → IsIndexPath address name q → files p ≡ a → files q ≡ b → a ≡ b
+one_text : (files : Files) (address : Parts) (name p q : List ℕ) (a b : Option (List ℕ))
+    → IsIndexPath address name p → IsIndexPath address name q → files p ≡ a → files q ≡ b → a ≡ b
 one_text files address name p q a b at also x y = sym x ∙ ap files (one_path address name p q at also) ∙ y
 
 -- lines do not both say entries and have a bad one
-not_both : (store : StoreView) (address : Parts) (name : List ℕ) (es : List IndexEntry) (line : ℕ) → store.tells ≡ true
+not_both : (store : StoreView) (address : Parts) (name : List ℕ) (es : List IndexEntry) (line : ℕ)
+    → store.tells ≡ true
     → HasEntries store address name es → HasBadLine store address name line → ⊥
 not_both store address name es line tells x y =
-    let h : Some x.bytes ≡ Some y.bytes = one_text store.file_at address name x.path y.path (Some x.bytes) (Some y.bytes) x.at y.at (x.stands tells) (y.stands tells) in
+    let h : Some x.bytes ≡ Some y.bytes = one_text store.file_at address name x.path y.path (Some x.bytes)
+    (Some y.bytes) x.at y.at (x.stands tells) (y.stands tells) in
     let same : x.bytes ≡ y.bytes = cc in
     none_said (lines_of y.bytes) es line (subst (λ t. LinesSay (lines_of t) es) same x.say) y.bad
 
 -- an index in files that its store tells gives one outcome for an address and a name
-pub one_local_outcome : (store : StoreView) (address : Parts) (name : List ℕ) (a b : Outcome) → store.tells ≡ true
+pub one_local_outcome : (store : StoreView) (address : Parts) (name : List ℕ) (a b : Outcome)
+    → store.tells ≡ true
     → LocalGives store address name a → LocalGives store address name b → a ≡ b
 one_local_outcome store address name (Ok None) (Ok None) tells x y = refl
 one_local_outcome store address name (Ok None) (Ok (Some es)) tells x y =
-    let h : None ≡ Some y.bytes = one_text store.file_at address name x.path y.path None (Some y.bytes) x.at y.at (x.absent tells) (y.stands tells) in cc
-one_local_outcome store address name (Ok None) (Err n) tells x (inl why) = absurd (no_path address name x.path n x.at why)
+    let h : None ≡ Some y.bytes = one_text store.file_at address name x.path y.path None
+    (Some y.bytes) x.at y.at (x.absent tells) (y.stands tells) in cc
+one_local_outcome store address name (Ok None) (Err n) tells x (inl why) =
+    absurd (no_path address name x.path n x.at why)
 one_local_outcome store address name (Ok None) (Err n) tells x (inr (number, (line, y))) =
-    let h : None ≡ Some y.bytes = one_text store.file_at address name x.path y.path None (Some y.bytes) x.at y.at (x.absent tells) (y.stands tells) in cc
+    let h : None ≡ Some y.bytes = one_text store.file_at address name x.path y.path None
+    (Some y.bytes) x.at y.at (x.absent tells) (y.stands tells) in cc
 one_local_outcome store address name (Ok (Some es)) (Ok None) tells x y =
-    let h : Some x.bytes ≡ None = one_text store.file_at address name x.path y.path (Some x.bytes) None x.at y.at (x.stands tells) (y.absent tells) in cc
+    let h : Some x.bytes ≡ None = one_text store.file_at address name x.path y.path
+    (Some x.bytes) None x.at y.at (x.stands tells) (y.absent tells) in cc
 one_local_outcome store address name (Ok (Some es)) (Ok (Some fs)) tells x y =
-    let h : Some x.bytes ≡ Some y.bytes = one_text store.file_at address name x.path y.path (Some x.bytes) (Some y.bytes) x.at y.at (x.stands tells) (y.stands tells) in
+    let h : Some x.bytes ≡ Some y.bytes = one_text store.file_at address name x.path y.path (Some x.bytes)
+    (Some y.bytes) x.at y.at (x.stands tells) (y.stands tells) in
     let same : x.bytes ≡ y.bytes = cc in
-    ap (λ t. Ok (Some t)) (one_reading (lines_of y.bytes) es fs (subst (λ t. LinesSay (lines_of t) es) same x.say) y.say)
-one_local_outcome store address name (Ok (Some es)) (Err n) tells x (inl why) = absurd (no_path address name x.path n x.at why)
-one_local_outcome store address name (Ok (Some es)) (Err n) tells x (inr (number, (line, y))) = absurd (not_both store address name es line tells x y)
-one_local_outcome store address name (Err m) (Ok None) tells (inl why) y = absurd (no_path address name y.path m y.at why)
+    ap (λ t. Ok (Some t))
+    (one_reading (lines_of y.bytes) es fs (subst (λ t. LinesSay (lines_of t) es) same x.say) y.say)
+one_local_outcome store address name (Ok (Some es)) (Err n) tells x (inl why) =
+    absurd (no_path address name x.path n x.at why)
+one_local_outcome store address name (Ok (Some es)) (Err n) tells x (inr (number, (line, y))) =
+    absurd (not_both store address name es line tells x y)
+one_local_outcome store address name (Err m) (Ok None) tells (inl why) y =
+    absurd (no_path address name y.path m y.at why)
 one_local_outcome store address name (Err m) (Ok None) tells (inr (number, (line, x))) y =
-    let h : Some x.bytes ≡ None = one_text store.file_at address name x.path y.path (Some x.bytes) None x.at y.at (x.stands tells) (y.absent tells) in cc
-one_local_outcome store address name (Err m) (Ok (Some es)) tells (inl why) y = absurd (no_path address name y.path m y.at why)
-one_local_outcome store address name (Err m) (Ok (Some es)) tells (inr (number, (line, x))) y = absurd (not_both store address name es line tells y x)
-one_local_outcome store address name (Err m) (Err n) tells (inl a) (inl b) = ap Err (one_reason address name m n a b)
-one_local_outcome store address name (Err m) (Err n) tells (inl why) (inr (number, (line, y))) = absurd (no_path address name y.path m y.at why)
-one_local_outcome store address name (Err m) (Err n) tells (inr (number, (line, x))) (inl why) = absurd (no_path address name x.path n x.at why)
+    let h : Some x.bytes ≡ None = one_text store.file_at address name x.path y.path
+    (Some x.bytes) None x.at y.at (x.stands tells) (y.absent tells) in cc
+one_local_outcome store address name (Err m) (Ok (Some es)) tells (inl why) y =
+    absurd (no_path address name y.path m y.at why)
+one_local_outcome store address name (Err m) (Ok (Some es)) tells (inr (number, (line, x))) y =
+    absurd (not_both store address name es line tells y x)
+one_local_outcome store address name (Err m) (Err n) tells (inl a) (inl b) =
+    ap Err (one_reason address name m n a b)
+one_local_outcome store address name (Err m) (Err n) tells (inl why) (inr (number, (line, y))) =
+    absurd (no_path address name y.path m y.at why)
+one_local_outcome store address name (Err m) (Err n) tells (inr (number, (line, x))) (inl why) =
+    absurd (no_path address name x.path n x.at why)
 one_local_outcome store address name (Err m) (Err n) tells (inr a) (inr b) = ap Err (a.0 ∙ sym b.0)
 
 -- and its refusal 30 one line
 pub one_line : (store : StoreView) (address : Parts) (name : List ℕ) (m n : ℕ) → store.tells ≡ true
     → HasBadLine store address name m → HasBadLine store address name n → m ≡ n
 one_line store address name m n tells x y =
-    let h : Some x.bytes ≡ Some y.bytes = one_text store.file_at address name x.path y.path (Some x.bytes) (Some y.bytes) x.at y.at (x.stands tells) (y.stands tells) in
+    let h : Some x.bytes ≡ Some y.bytes = one_text store.file_at address name x.path y.path (Some x.bytes)
+    (Some y.bytes) x.at y.at (x.stands tells) (y.stands tells) in
     let same : x.bytes ≡ y.bytes = cc in
     one_bad_line (lines_of y.bytes) m n (subst (λ t. IsBadLine (lines_of t) m) same x.bad) y.bad
 
 -- an index of one file gives one outcome for a name
-pub one_file_outcome : (index : FileIndex) (name : List ℕ) (a b : Outcome) → FileGives index name a → FileGives index name b → a ≡ b
+pub one_file_outcome : (index : FileIndex) (name : List ℕ) (a b : Outcome) → FileGives index name a
+    → FileGives index name b → a ≡ b
 one_file_outcome index name a b (inl x) (inl y) = x.1 ∙ sym y.1
 one_file_outcome index name a b (inl x) (inr y) = let isnt = x.0 in let yes = y.0 in cc
 one_file_outcome index name a b (inr x) (inl y) = let yes = x.0 in let isnt = y.0 in cc

@@ -5,4 +5,6 @@ use Rattle.edit_sources.specs.Configured.{registry_entry}
 use Rattle.edit_sources.proofs.config.registry_entries.Given as goal
 
 abbrev pub invariant-loop-key : goal.invariant-loop-key
-invariant-loop-key l = entries_of index_of (table_view l.table) ≡ option_map (λ rest. map registry_entry l.registries.items ++ rest) (entries_of index_of (members_view l.key-iterator))
+invariant-loop-key l = entries_of index_of (table_view l.table)
+    ≡ option_map (λ rest. map registry_entry l.registries.items ++ rest)
+    (entries_of index_of (members_view l.key-iterator))

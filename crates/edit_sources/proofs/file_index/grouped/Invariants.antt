@@ -7,4 +7,5 @@ use Rattle.std.specs.BTreeMap.{get_by_text}
 use Rattle.edit_sources.proofs.file_index.grouped.Given as goal
 
 abbrev pub invariant-loop-entry : goal.invariant-loop-entry
-invariant-loop-entry l = (q : List ℕ) → option_map_or (λ g. g.items) (get_by_text l.groups q) [] ≡ filter (λ e. bytes_eq q (string_bytes e.name)) l.yielded
+invariant-loop-entry l = (q : List ℕ) → option_map_or (λ g. g.items) (get_by_text l.groups q) []
+    ≡ filter (λ e. bytes_eq q (string_bytes e.name)) l.yielded

@@ -4,4 +4,5 @@ use Rattle.edit_sources.proofs.NameLemmas.{small_name}
 use Rattle.edit_sources.proofs.index_path.path_below.Goals as goal
 
 pub push_folders-requires : goal.push_folders-requires
-push_folders-requires c = subst (λ (bs : List ℕ). All (λ b. b < 128) bs) (sym (c.as_bytes-2.ensures.value ∙ c.in_ok-small.ensures.ok)) (small_name c.args.name.now c.requires)
+push_folders-requires c = subst (λ (bs : List ℕ). All (λ b. b < 128) bs)
+    (sym (c.as_bytes-2.ensures.value ∙ c.in_ok-small.ensures.ok)) (small_name c.args.name.now c.requires)

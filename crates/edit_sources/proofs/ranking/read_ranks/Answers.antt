@@ -9,4 +9,5 @@ loop-place-preserved c =
     let told = c.index-entries-place.result in
     c.in_ok-push_rank.ensures.ok
     ∙ ap (λ ranks. ranks ++ rank_at c.loop-place.place (entry_of told)) c.loop-place.invariant
-    ∙ sym (ranks_from-step c.args.entries.now c.loop-place.place told c.loop-place-test.true c.index-entries-place.is)
+    ∙ sym (ranks_from-step c.args.entries.now c.loop-place.place told c.loop-place-test.true
+    c.index-entries-place.is)

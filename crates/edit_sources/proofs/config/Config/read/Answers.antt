@@ -7,7 +7,8 @@ use Rattle.edit_sources.proofs.config.Config.read.Goals as goal
 
 pub returns-clause-refused : goal.returns-clause-refused
 returns-clause-refused c =
-    let document : parse_document c.args.bytes.now ≡ Some (table_view c.in-Ok-table_from_str.table) = search rules in
+    let document : parse_document c.args.bytes.now ≡ Some (table_view c.in-Ok-table_from_str.table) =
+    search rules in
     let none : configuration_of (table_view c.in-Ok-table_from_str.table) ≡ None = search rules in
     elim c.unreadable-in-None.ensures [
       | inl memory ↦ inl memory

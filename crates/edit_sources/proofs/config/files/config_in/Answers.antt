@@ -7,9 +7,13 @@ pub returns-in-Ok-read_file-clause-read : goal.returns-in-Ok-read_file-clause-re
 returns-in-Ok-read_file-clause-read g c = λ tells.
     let first = c.as_str.ensures.value ∙ c.in-Ok.ensures.text in
     let second = c.as_str-2.ensures.value ∙ c.in-Ok-join.ensures.text in
-    let none = subst (λ o. IsReadOf (standing (g.S.Store.view c.args.store.now).file_at c.as_str.result.now) o) c.in-Ok-None.field-0-is (c.in-Ok-None.ensures.read tells) in
-    let counts = file_in-second (g.S.Store.view c.args.store.now).file_at (g.S.Store.view c.read_file.new.store).file_at c.args.place.now c.as_str.result.now c.as_str-2.result.now first second c.read_file.ensures.store.files none in
-    subst (λ o. IsReadOf o c.in-Ok-read_file.found) counts (c.in-Ok-read_file.ensures.read (c.read_file.ensures.store.tells ∙ tells))
+    let none = subst (λ o. IsReadOf (standing (g.S.Store.view c.args.store.now).file_at c.as_str.result.now)
+    o) c.in-Ok-None.field-0-is (c.in-Ok-None.ensures.read tells) in
+    let counts = file_in-second (g.S.Store.view c.args.store.now).file_at
+    (g.S.Store.view c.read_file.new.store).file_at c.args.place.now c.as_str.result.now c.as_str-2.result.now
+    first second c.read_file.ensures.store.files none in
+    subst (λ o. IsReadOf o c.in-Ok-read_file.found) counts
+    (c.in-Ok-read_file.ensures.read (c.read_file.ensures.store.tells ∙ tells))
 
 pub returns-clause-refused : goal.returns-clause-refused
 returns-clause-refused g c =
@@ -19,6 +23,12 @@ returns-clause-refused g c =
     (λ failed. inl (failed_later _ _ _ _ c.read_file.ensures.store.later failed))
     (λ fails. inr (record {
       file = fails.file;
-      stands = λ tells. sym (file_in-second (g.S.Store.view c.args.store.now).file_at (g.S.Store.view c.read_file.new.store).file_at c.args.place.now c.as_str.result.now c.as_str-2.result.now first second c.read_file.ensures.store.files (subst (λ o. IsReadOf (standing (g.S.Store.view c.args.store.now).file_at c.as_str.result.now) o) c.in-Ok-None.field-0-is (c.in-Ok-None.ensures.read tells))) ∙ fails.stands (c.read_file.ensures.store.tells ∙ tells);
+      stands = λ tells. sym
+          (file_in-second (g.S.Store.view c.args.store.now).file_at
+          (g.S.Store.view c.read_file.new.store).file_at c.args.place.now c.as_str.result.now
+          c.as_str-2.result.now first second c.read_file.ensures.store.files
+          (subst (λ o. IsReadOf (standing (g.S.Store.view c.args.store.now).file_at c.as_str.result.now) o)
+          c.in-Ok-None.field-0-is (c.in-Ok-None.ensures.read tells))) ∙
+          fails.stands (c.read_file.ensures.store.tells ∙ tells);
       unread = fails.unread;
     })) other)) c.in-Err-read_file-2.ensures.refused

@@ -8,19 +8,26 @@ returns-in-Err-clause-refused g c =
     let store = c.loop-place.invariant.0 in
     ⊎_elim (λ memory. inl memory) (λ other. inr (⊎_elim
     (λ failed. inl (failed_later _ _ _ _ store.later failed))
-    (λ fails. inr (place_fails _ _ (g.S.Store.view c.args.store.now).file_at (g.S.Store.view c.loop-place.store).file_at c.args.places.now c.loop-place.place-index c.place-item.result c.as_str.result.now c.in-Err.error c.loop-place-test.true c.place-item.is c.as_str.ensures.value store.tells store.files fails))
+    (λ fails. inr (place_fails _ _ (g.S.Store.view c.args.store.now).file_at
+    (g.S.Store.view c.loop-place.store).file_at c.args.places.now c.loop-place.place-index c.place-item.result
+    c.as_str.result.now c.in-Err.error c.loop-place-test.true c.place-item.is c.as_str.ensures.value
+    store.tells store.files fails))
     other)) c.in-Err.ensures.refused
 
 pub loop-place-preserved : goal.loop-place-preserved
 loop-place-preserved g c =
     let store = c.loop-place.invariant.0 in
-    let same = file_in-same (g.S.Store.view c.args.store.now).file_at (g.S.Store.view c.loop-place.store).file_at (string_bytes c.place-item.result) store.files in
+    let same = file_in-same (g.S.Store.view c.args.store.now).file_at
+    (g.S.Store.view c.loop-place.store).file_at (string_bytes c.place-item.result) store.files in
     let counts = ap (file_in (g.S.Store.view c.loop-place.store).file_at) c.as_str.ensures.value ∙ same in (
       record {
         tells = c.config_in.ensures.store.tells ∙ store.tells;
         files = λ path. c.config_in.ensures.store.files path ∙ store.files path;
         later = omega (arith, store.later, c.config_in.ensures.store.later);
       },
-      λ tells. files_more (g.S.Store.view c.args.store.now).file_at c.args.places.now c.loop-place.place-index c.place-item.result c.in-Ok.found c.loop-place.configs.items c.add.new.configs.items c.loop-place-test.true c.place-item.is (c.loop-place.invariant.1 tells)
-          (subst (λ o. IsReadOf o c.in-Ok.found) counts (c.in-Ok.ensures.read (store.tells ∙ tells))) c.in_ok-add.ensures,
+      λ tells. files_more (g.S.Store.view c.args.store.now).file_at c.args.places.now c.loop-place.place-index
+          c.place-item.result c.in-Ok.found c.loop-place.configs.items c.add.new.configs.items
+          c.loop-place-test.true c.place-item.is (c.loop-place.invariant.1 tells)
+          (subst (λ o. IsReadOf o c.in-Ok.found) counts (c.in-Ok.ensures.read (store.tells ∙ tells)))
+          c.in_ok-add.ensures,
     )

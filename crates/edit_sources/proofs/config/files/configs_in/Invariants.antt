@@ -7,4 +7,6 @@ use Rattle.edit_sources.proofs.config.files.configs_in.Given as goal
 abbrev pub invariant-loop-place : goal.invariant-loop-place
 invariant-loop-place g l =
     OnlyReads (g.S.Store.view l.initial.store) (g.S.Store.view l.store)
-    × ((g.S.Store.view l.initial.store).tells ≡ true → AllZip IsReadFrom (files_in (g.S.Store.view l.initial.store).file_at (map string_bytes (take l.place-index l.places))) l.configs.items)
+    × ((g.S.Store.view l.initial.store).tells ≡ true
+    → AllZip IsReadFrom (files_in (g.S.Store.view l.initial.store).file_at
+    (map string_bytes (take l.place-index l.places))) l.configs.items)

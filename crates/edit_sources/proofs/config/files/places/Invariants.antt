@@ -4,4 +4,5 @@ use Rattle.edit_base.specs.Paths.{joined, texts}
 use Rattle.edit_sources.proofs.config.files.places.Given as goal
 
 abbrev pub invariant-loop-folder : goal.invariant-loop-folder
-invariant-loop-folder l = map string_bytes l.places.items ≡ map (λ folder. joined folder (codes ".cargo")) (texts (take l.folder-index l.folder-items))
+invariant-loop-folder l = map string_bytes l.places.items
+    ≡ map (λ folder. joined folder (codes ".cargo")) (texts (take l.folder-index l.folder-items))

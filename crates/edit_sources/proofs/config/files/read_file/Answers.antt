@@ -6,8 +6,11 @@ use Rattle.edit_sources.proofs.config.files.read_file.Goals as goal
 pub returns-clause-refused : goal.returns-clause-refused
 returns-clause-refused g c =
     let file : List ℕ × List ℕ = (c.args.path.now, c.in-Ok-Some.bytes.items) in
-    let stands : (g.S.Store.view c.args.store.now).tells ≡ true → standing (g.S.Store.view c.args.store.now).file_at c.args.path.now ≡ Some file
-    = λ tells. ap (option_map (λ (bytes : List ℕ). let pair : List ℕ × List ℕ = (c.args.path.now, bytes) in pair)) (sym (c.in-Ok-Some.ensures.bytes tells) ∙ ap (option_map (λ (v : Vec ℕ Global). v.items)) c.in-Ok-Some.field-0-is) in
+    let stands : (g.S.Store.view c.args.store.now).tells ≡ true
+    → standing (g.S.Store.view c.args.store.now).file_at c.args.path.now ≡ Some file
+    = λ tells. ap (option_map (λ (bytes : List ℕ). let pair : List ℕ × List ℕ = (c.args.path.now, bytes) in
+    pair)) (sym (c.in-Ok-Some.ensures.bytes tells) ∙
+    ap (option_map (λ (v : Vec ℕ Global). v.items)) c.in-Ok-Some.field-0-is) in
     ⊎_elim (λ memory. inl memory) (λ refused. inr (inr (record {
       file = file;
       stands = stands;

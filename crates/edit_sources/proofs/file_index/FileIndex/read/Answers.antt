@@ -7,18 +7,24 @@ use Rattle.edit_record.specs.IndexEntry.{entry_of}
 use Rattle.edit_record.specs.declared.fetch.IndexVersion.{IndexVersion}
 use Rattle.edit_sources.proofs.file_index.FileIndex.read.Goals as goal
 
-map-cond : (b : Bool) (x : IndexVersion) (xs : List IndexVersion) (es : List IndexEntry) → map entry_of xs ≡ es → map entry_of (cond b (x ∷ xs) xs) ≡ cond b (entry_of x ∷ es) es
+map-cond : (b : Bool) (x : IndexVersion) (xs : List IndexVersion) (es : List IndexEntry)
+    → map entry_of xs ≡ es → map entry_of (cond b (x ∷ xs) xs) ≡ cond b (entry_of x ∷ es) es
 map-cond true x xs es h = ap (λ t. entry_of x ∷ t) h
 map-cond false x xs es h = h
 
 -- the entries of the kept are the kept entries
-map-filter : (q : List ℕ) (xs : List IndexVersion) → map entry_of (filter (λ v. bytes_eq q (string_bytes v.name)) xs) ≡ filter (λ e. bytes_eq q e.name) (map entry_of xs)
+map-filter : (q : List ℕ) (xs : List IndexVersion)
+    → map entry_of (filter (λ v. bytes_eq q (string_bytes v.name)) xs)
+    ≡ filter (λ e. bytes_eq q e.name) (map entry_of xs)
 map-filter q [] = refl
-map-filter q (x ∷ xs) = map-cond (bytes_eq q (string_bytes x.name)) x (filter (λ v. bytes_eq q (string_bytes v.name)) xs) (filter (λ e. bytes_eq q e.name) (map entry_of xs)) (map-filter q xs)
+map-filter q (x ∷ xs) = map-cond (bytes_eq q (string_bytes x.name)) x
+    (filter (λ v. bytes_eq q (string_bytes v.name)) xs) (filter (λ e. bytes_eq q e.name) (map entry_of xs))
+    (map-filter q xs)
 
 pub returns-clause-entries : goal.returns-clause-entries
 returns-clause-entries c = record {
   entries = map entry_of c.in_ok-entries.entries.items;
   say = c.in_ok-entries.ensures.entries;
-  groups = λ q. ap (λ xs. map entry_of xs) (c.in_ok-grouped.ensures q) ∙ map-filter q c.in_ok-entries.entries.items;
+  groups = λ q. ap (λ xs. map entry_of xs) (c.in_ok-grouped.ensures q) ∙
+      map-filter q c.in_ok-entries.entries.items;
 }

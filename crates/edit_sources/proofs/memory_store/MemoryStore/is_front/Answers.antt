@@ -11,5 +11,7 @@ use Rattle.edit_sources.proofs.memory_store.MemoryStore.is_front.Goals as goal
 pub returns : goal.returns
 returns c =
     let path = c.args.path.now in
-    let found = cases_from_any _ _ _ (λ n. IsBelow (string_bytes n) path) (λ n. IsBelow (string_bytes n) path → ⊥) c.any.ensures.ran (YieldsList-from_rest (keys c.args.self.now.files) c.keys.ensures.rest) (λ x q k. search (rules, tests)) (λ x q k. search (rules, tests)) in
+    let found = cases_from_any _ _ _ (λ n. IsBelow (string_bytes n) path) (λ n. IsBelow (string_bytes n) path
+    → ⊥) c.any.ensures.ran (YieldsList-from_rest (keys c.args.self.now.files) c.keys.ensures.rest)
+    (λ x q k. search (rules, tests)) (λ x q k. search (rules, tests)) in
     front_from_search (λ v. v.items) c.args.self.now.files path c.any.result c.keys.ensures.found found

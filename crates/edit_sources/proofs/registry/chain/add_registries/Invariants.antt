@@ -5,4 +5,6 @@ use Rattle.edit_sources.specs.Sources.{Adds}
 use Rattle.edit_sources.proofs.registry.chain.add_registries.Given as goal
 
 abbrev pub invariant-loop-key : goal.invariant-loop-key
-invariant-loop-key l = Adds l.initial.sources l.sources (map registry_definition (map registry_entry (take l.key-index l.registries)))
+invariant-loop-key l =
+    Adds l.initial.sources l.sources
+    (map registry_definition (map registry_entry (take l.key-index l.registries)))

@@ -6,4 +6,6 @@ use Rattle.edit_sources.proofs.registry.chain.add_sources.Goals as goal
 
 pub loop-key-preserved : goal.loop-key-preserved
 loop-key-preserved c =
-    Adds_turn source_definition source_entry c.args.sources.now c.loop-key.sources c.define.new.sources c.args.defined.now c.loop-key.key-index c.loop-key-item.result _ c.loop-key-test.true c.loop-key-item.is (search rules) c.loop-key.invariant c.in_ok-define.ensures
+    Adds_turn source_definition source_entry c.args.sources.now c.loop-key.sources c.define.new.sources
+    c.args.defined.now c.loop-key.key-index c.loop-key-item.result _ c.loop-key-test.true c.loop-key-item.is
+    (search rules) c.loop-key.invariant c.in_ok-define.ensures

@@ -5,4 +5,5 @@ use Rattle.edit_sources.specs.Sources.{found}
 use Rattle.edit_sources.proofs.registry.chain.first_definitions.Given as goal
 
 abbrev pub invariant-loop-config : goal.invariant-loop-config
-invariant-loop-config l = (key : List ℕ) → found l.sources key ≡ first key (all_definitions (take l.config-index l.configs))
+invariant-loop-config l = (key : List ℕ) → found l.sources key
+    ≡ first key (all_definitions (take l.config-index l.configs))
