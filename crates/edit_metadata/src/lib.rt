@@ -1,6 +1,12 @@
 //! Workspaces: what their metadata say, and the manifests that plans are made for.
 #![tactic(auto)]
 
+mod fields;
+mod folders;
 pub mod input;
+mod members;
+mod packages;
+pub mod workspace;
 
 pub use input::Input;
+pub use workspace::{Package, Workspace, manifest_from_pkgid};

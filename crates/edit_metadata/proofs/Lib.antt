@@ -1,0 +1,6 @@
+pub mod FirstMember
+pub mod Ids
+pub mod MemberPaths
+pub mod Sayings
+pub mod Values
+pub mod Zipped

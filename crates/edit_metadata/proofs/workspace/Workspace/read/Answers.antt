@@ -1,0 +1,8 @@
+use Rattle.edit_metadata.proofs.Sayings.{versions-readable}
+use Rattle.edit_metadata.specs.Metadata.{is_listed}
+use Rattle.edit_metadata.proofs.workspace.Workspace.read.Goals as goal
+
+pub returns-clause-readable : goal.returns-clause-readable
+returns-clause-readable c =
+    let says = c.in_ok-workspace.ensures.said.says in
+    versions-readable (is_listed says.ids) says.said c.in_ok-workspace.workspace.packages.items says.packages

@@ -1,0 +1,4 @@
+pub mod Folders
+pub mod Metadata
+pub mod Reading
+pub mod Workspaces

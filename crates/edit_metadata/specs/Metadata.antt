@@ -1,0 +1,112 @@
+-- What metadata say of a workspace: JSON as `cargo metadata` prints it (The Cargo Book, "cargo metadata",
+-- JSON format).
+use Rattle.std.specs.Prelude.{◌≡◌, ℕ, List, [], ◌∷◌, map, Option, Some, None, option_map, option_and_then, Bool, true, codes, nat_eq}
+use Rattle.std.specs.List.{AllZip, filter, list_any, starts_with}
+use Rattle.std.specs.Result.{result_ok}
+use Rattle.std.specs.Str.{IsUtf8, bytes_eq}
+use Rattle.semver.specs.Parse.{Parts, version_parts}
+use Rattle.serde_json.specs.Data.{Data, null, string, Items, no_items, item}
+use Rattle.serde_json.specs.Find.{get, as_array, as_str}
+use Rattle.serde_json.specs.Read.{read}
+use Rattle.edit_version.specs.RustVersions.{Numbers, rust_of}
+
+-- ---- what a member of an object says
+
+-- the text of a member, where a text stands there
+abbrev pub text_at : List ℕ → Data → Option (List ℕ)
+text_at name d = option_and_then as_str (get name d)
+
+-- a text that may be left out or null
+abbrev pub maybe_text : Option Data → Option (Option (List ℕ))
+maybe_text None = Some None
+maybe_text (Some null) = Some None
+maybe_text (Some (string text)) = Some (Some text)
+maybe_text (Some other) = None
+
+-- the text of a member that may be left out or null; none where something else stands there
+abbrev pub maybe_text_at : List ℕ → Data → Option (Option (List ℕ))
+maybe_text_at name d = maybe_text (get name d)
+
+-- the values of an array
+abbrev pub values : Items → List Data
+values no_items = []
+values (item d ds) = d ∷ values ds
+
+-- the values of a member, where an array stands there
+abbrev pub values_at : List ℕ → Data → Option (List Data)
+values_at name d = option_map values (option_and_then as_array (get name d))
+
+-- a value is this text
+abbrev pub IsText : Data → List ℕ → Type 0
+IsText d text = as_str d ≡ Some text
+
+-- a path that begins with `/`
+abbrev pub is_absolute : List ℕ → Bool
+is_absolute path = starts_with nat_eq path (codes "/")
+
+-- ---- packages
+
+-- a package that metadata tell of
+pub record PackageSaid : Type 0 where
+  pub name : List ℕ
+  pub id : List ℕ
+  pub manifest_path : List ℕ
+  pub version : Parts
+  pub source : Option (List ℕ)
+  pub rust_version : Option Numbers
+  pub member : Bool
+
+-- the version of a package, where a text stands there that is one (SemVer 2.0.0)
+abbrev pub version_said : Data → Option Parts
+version_said d = option_and_then (λ text. result_ok (version_parts text)) (text_at (codes "version") d)
+
+-- the Rust version of a package; a text that names none counts as left out (own)
+abbrev pub rust_version_said : Data → Option (Option Numbers)
+rust_version_said d =
+    option_map (λ text. option_and_then rust_of text) (maybe_text_at (codes "rust_version") d)
+
+-- whether an id is among those of the members
+abbrev pub is_listed : List (List ℕ) → List ℕ → Bool
+is_listed ids id = list_any (λ listed. bytes_eq listed id) ids
+
+-- an object says this package, where ids of members are those that pass a test
+-- (The Cargo Book, "cargo metadata", packages)
+pub record SaysPackage (listed : List ℕ → Bool) (d : Data) (p : PackageSaid) : Type 0 where
+  pub name : text_at (codes "name") d ≡ Some p.name
+  pub id : text_at (codes "id") d ≡ Some p.id
+  pub manifest_path : text_at (codes "manifest_path") d ≡ Some p.manifest_path
+  pub absolute : is_absolute p.manifest_path ≡ true
+  pub version : version_said d ≡ Some p.version
+  pub source : maybe_text_at (codes "source") d ≡ Some p.source
+  pub rust_version : rust_version_said d ≡ Some p.rust_version
+  pub member : p.member ≡ listed p.id
+
+-- those of these packages that are members, in their order
+abbrev pub members : List PackageSaid → List PackageSaid
+members ps = filter (λ p. p.member) ps
+
+-- ---- the workspace
+
+-- a workspace that metadata tell of: its folder, and its packages in their order
+pub record WorkspaceSaid : Type 0 where
+  pub root : List ℕ
+  pub packages : List PackageSaid
+
+-- a JSON value says this workspace (The Cargo Book, "cargo metadata", workspace_root, workspace_members)
+pub record SaysWorkspace (d : Data) (w : WorkspaceSaid) : Type 0 where
+  pub root : text_at (codes "workspace_root") d ≡ Some w.root
+  pub absolute : is_absolute w.root ≡ true
+  pub listed : List Data
+  pub has_members : values_at (codes "workspace_members") d ≡ Some listed
+  pub ids : List (List ℕ)
+  pub are_ids : AllZip IsText listed ids
+  pub said : List Data
+  pub has_packages : values_at (codes "packages") d ≡ Some said
+  pub packages : AllZip (SaysPackage (is_listed ids)) said w.packages
+
+-- the bytes are the JSON of a value that says this workspace
+pub record AreMetadata (bytes : List ℕ) (w : WorkspaceSaid) : Type 0 where
+  pub utf8 : IsUtf8 bytes
+  pub value : Data
+  pub reads : read bytes ≡ Some value
+  pub says : SaysWorkspace value w

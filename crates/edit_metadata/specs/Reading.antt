@@ -1,0 +1,17 @@
+-- What the reading of metadata answers on the way: sets of ids, and why nothing is read.
+use Rattle.std.specs.Prelude.{◌≡◌, ◌⊎◌, ℕ, List, Option, None, Bool}
+use Rattle.std.specs.Borrow.{Bor}
+use Rattle.std.specs.BTreeSet.{BTreeSet, contains_by}
+use Rattle.std.specs.Cmp.Lexicographic.{slice_cmp}
+use Rattle.std.specs.Ordering.{nat_cmp}
+use Rattle.edit_base.specs.Errors.{IsMemory}
+use Rattle.edit_base.specs.declared.errors.Error.{Error}
+use Rattle.edit_base.specs.declared.errors.Error.TheVariants.{Metadata}
+
+-- whether a set has a text
+abbrev pub holds : BTreeSet (Bor (List ℕ)) → List ℕ → Bool
+holds set text = contains_by (λ k. slice_cmp nat_cmp text k.now) set
+
+-- why nothing is read: memory ran out, or nothing is said
+abbrev pub IsUnsaid : {A : Type 0} → (A → Type 0) → Error → Type 0
+IsUnsaid {A} Says e = IsMemory e ⊎ ((e ≡ Metadata) × ((x : A) → Says x → ⊥))

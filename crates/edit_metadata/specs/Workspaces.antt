@@ -1,0 +1,58 @@
+-- A workspace as contracts see it, and what reading one answers.
+use Rattle.std.specs.Prelude.{◌≡◌, ◌⊎◌, ◌&&◌, ℕ, Bool, List, map, option_map, string_bytes}
+use Rattle.std.specs.Str.{bytes_eq}
+use Rattle.semver.specs.Identifiers.{parts_of}
+use Rattle.edit_base.specs.Errors.{IsMemory}
+use Rattle.edit_base.specs.declared.errors.Error.{Error}
+use Rattle.edit_base.specs.declared.errors.Error.TheVariants.{Metadata}
+use Rattle.edit_version.specs.RustVersions.{numbers_of}
+use Rattle.edit_metadata.specs.Folders.{HaveOwnFolders, ShareNamed}
+use Rattle.edit_metadata.specs.Metadata.{AreMetadata, PackageSaid, WorkspaceSaid, members}
+use Rattle.edit_metadata.specs.declared.workspace.Package.{Package}
+use Rattle.edit_metadata.specs.declared.workspace.Workspace.{Workspace}
+
+-- what a package shows
+abbrev pub package_said : Package → PackageSaid
+package_said p = record {
+  name = string_bytes p.name;
+  id = string_bytes p.id;
+  manifest_path = string_bytes p.manifest_path;
+  version = parts_of p.version;
+  source = option_map string_bytes p.source;
+  rust_version = option_map numbers_of p.rust_version;
+  member = p.member;
+}
+
+-- what packages show, in order
+abbrev pub packages_said : List Package → List PackageSaid
+packages_said ps = map package_said ps
+
+-- what a workspace shows
+abbrev pub workspace_said : Workspace → WorkspaceSaid
+workspace_said w = record { root = string_bytes w.root; packages = packages_said w.packages.items }
+
+-- the paths of the members' manifests, in order
+abbrev pub member_paths : List PackageSaid → List (List ℕ)
+member_paths ps = map (λ p. p.manifest_path) (members ps)
+
+-- the members' manifests stand in folders of their own
+abbrev pub HasOwnFolders : WorkspaceSaid → Type 0
+HasOwnFolders w = HaveOwnFolders (member_paths w.packages)
+
+-- the bytes say no workspace
+abbrev pub SayNothing : List ℕ → Type 0
+SayNothing bytes = (w : WorkspaceSaid) → AreMetadata bytes w → ⊥
+
+-- the bytes say a workspace, and two of its members share the folder that is named
+pub record SayFolderTwice (bytes : List ℕ) (e : Error) : Type 0 where
+  pub workspace : WorkspaceSaid
+  pub said : AreMetadata bytes workspace
+  pub shared : ShareNamed (member_paths workspace.packages) e
+
+-- why no workspace is read: memory ran out, the bytes say none, or two members share a folder
+abbrev pub IsNoWorkspace : List ℕ → Error → Type 0
+IsNoWorkspace bytes e = IsMemory e ⊎ (((e ≡ Metadata) × SayNothing bytes) ⊎ SayFolderTwice bytes e)
+
+-- a member of this name
+abbrev pub is_member_named : List ℕ → Package → Bool
+is_member_named name p = p.member && bytes_eq (string_bytes p.name) name

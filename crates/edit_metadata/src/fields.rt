@@ -1,0 +1,109 @@
+//! The fields of a package, on memory of their own.
+ghost use Rattle.std.specs.Prelude.{◌≡◌, None, Some, true, IfErr, IfOk, MatchResult, option_map, string_bytes};
+ghost use Rattle.std.specs.Result.{result_ok};
+ghost use Rattle.edit_base.specs.Errors.{IsMemory};
+ghost use Rattle.edit_metadata.specs.Metadata.{is_absolute, maybe_text_at, rust_version_said, text_at, version_said};
+ghost use Rattle.edit_metadata.specs.Reading.{IsUnsaid};
+ghost use Rattle.edit_version.specs.RustVersions.{numbers_of, rust_of};
+ghost use Rattle.semver.specs.Identifiers.{parts_of};
+ghost use Rattle.semver.specs.Parse.{version_parts};
+ghost use Rattle.serde_json.specs.View.{view};
+
+use crate::members::{is_absolute, maybe_text_at, text_at};
+use edit_base::{CargoResult, Error};
+use edit_version::rust_version::rust_version_of;
+use edit_version::{RustVersion, read_requirement};
+use semver::Version;
+use serde_json::Value;
+use std::alloc::{AllocError, Global};
+
+/// The text of a member.
+pub(crate) fn text(alloc: Global, value: &Value, name: &str) -> CargoResult<String>
+    ensures { MatchResult result (λ s. text_at name.now (view value.now) ≡ Some (string_bytes s))
+        (IsUnsaid (λ t. text_at name.now (view value.now) ≡ Some t)) }
+{
+    match text_at(value, name) {
+        Some(text) => Ok(String::from_str(alloc, text)?),
+        None => Err(Error::Metadata),
+    }
+}
+
+/// The text of a member that is an absolute path.
+pub(crate) fn path(alloc: Global, value: &Value, name: &str) -> CargoResult<String>
+    ensures { MatchResult result (λ s. (text_at name.now (view value.now) ≡ Some (string_bytes s))
+        × (is_absolute (string_bytes s) ≡ true))
+        (IsUnsaid (λ t. (text_at name.now (view value.now) ≡ Some t) × (is_absolute t ≡ true))) }
+{
+    let path = text(alloc, value, name)?;
+    if !is_absolute(path.as_str()) {
+        return Err(Error::Metadata);
+    }
+    Ok(path)
+}
+
+/// The text of a member that may be left out or null.
+pub(crate) fn maybe_text(alloc: Global, value: &Value, name: &str) -> CargoResult<Option<String>>
+    ensures { MatchResult result
+        (λ s. maybe_text_at name.now (view value.now) ≡ Some (option_map string_bytes s))
+        (IsUnsaid (λ t. maybe_text_at name.now (view value.now) ≡ Some t)) }
+{
+    match maybe_text_at(value, name) {
+        Some(Some(text)) => Ok(Some(String::from_str(alloc, text)?)),
+        Some(None) => Ok(None),
+        None => Err(Error::Metadata),
+    }
+}
+
+/// The version that a text is.
+fn read_version(alloc: Global, text: &str) -> CargoResult<Option<Version>>
+    ensures ok { IfOk result (λ o. option_map parts_of o ≡ result_ok (version_parts text.now)) }
+    ensures refused { IfErr result IsMemory }
+{
+    match Version::parse(alloc, text) {
+        Ok(version) => Ok(Some(version)),
+        Err(error) => {
+            if error == semver::Error::from(AllocError) {
+                return Err(Error::Memory);
+            }
+            Ok(None)
+        }
+    }
+}
+
+/// The version of a package.
+pub(crate) fn version(alloc: Global, value: &Value) -> CargoResult<Version>
+    ensures { MatchResult result (λ v. version_said (view value.now) ≡ Some (parts_of v))
+        (IsUnsaid (λ v. version_said (view value.now) ≡ Some v)) }
+{
+    let Some(text) = text_at(value, "version") else {
+        return Err(Error::Metadata);
+    };
+    match read_version(alloc, text)? {
+        Some(version) => Ok(version),
+        None => Err(Error::Metadata),
+    }
+}
+
+/// The Rust version that a text names, none where it names none.
+fn read_rust_version(alloc: Global, text: &str) -> CargoResult<Option<RustVersion>>
+    ensures ok { IfOk result (λ o. option_map numbers_of o ≡ rust_of text.now) }
+    ensures refused { IfErr result IsMemory }
+{
+    match read_requirement(alloc, text)? {
+        Some(req) => Ok(rust_version_of(&req.comparators)),
+        None => Ok(None),
+    }
+}
+
+/// The Rust version of a package.
+pub(crate) fn rust_version(alloc: Global, value: &Value) -> CargoResult<Option<RustVersion>>
+    ensures { MatchResult result
+        (λ v. rust_version_said (view value.now) ≡ Some (option_map numbers_of v))
+        (IsUnsaid (λ v. rust_version_said (view value.now) ≡ Some v)) }
+{
+    match maybe_text_at(value, "rust_version") {
+        Some(Some(text)) => read_rust_version(alloc, text),
+        Some(None) => Ok(None),
+        None => Err(Error::Metadata),
+    }
+}

@@ -1,0 +1,48 @@
+//! What the members of JSON objects say.
+ghost use Rattle.std.specs.Prelude.{◌≡◌, map, option_map};
+ghost use Rattle.edit_metadata.specs.Metadata.{is_absolute, maybe_text_at, text_at, values_at};
+ghost use Rattle.serde_json.specs.View.{view};
+
+use serde_json::Value;
+
+/// The text of a member, where a text stands there.
+pub(crate) fn text_at<'a>(value: &'a Value, name: &str) -> Option<&'a str>
+    ensures { option_map (λ s. s.now) result ≡ text_at name.now (view value.now) }
+{
+    match value.get(name) {
+        Some(member) => member.as_str(),
+        None => None,
+    }
+}
+
+/// The text of a member that may be left out or null; none where something else stands there.
+pub(crate) fn maybe_text_at<'a>(value: &'a Value, name: &str) -> Option<Option<&'a str>>
+    ensures { option_map (λ r. option_map (λ s. s.now) r) result
+        ≡ maybe_text_at name.now (view value.now) }
+{
+    match value.get(name) {
+        None | Some(Value::Null) => Some(None),
+        Some(Value::String(text)) => Some(Some(text.as_str())),
+        Some(_) => None,
+    }
+}
+
+/// The values of a member, where an array stands there.
+pub(crate) fn values_at<'a>(value: &'a Value, name: &str) -> Option<&'a [Value]>
+    ensures { option_map (λ v. map view v.now) result ≡ values_at name.now (view value.now) }
+{
+    match value.get(name) {
+        Some(member) => match member.as_array() {
+            Some(values) => Some(values.as_slice()),
+            None => None,
+        },
+        None => None,
+    }
+}
+
+/// Whether a path begins with `/`.
+pub(crate) fn is_absolute(path: &str) -> bool
+    ensures { result ≡ is_absolute path.now }
+{
+    path.starts_with('/')
+}

@@ -1,0 +1,71 @@
+//! The packages that metadata tell of, and the ids of members.
+ghost use Rattle.std.specs.Prelude.{◌≡◌, ℕ, List, MatchResult, map};
+ghost use Rattle.std.specs.List.{AllZip};
+ghost use Rattle.edit_metadata.specs.Metadata.{IsText, SaysPackage, is_listed};
+ghost use Rattle.edit_metadata.specs.Reading.{IsUnsaid, holds};
+ghost use Rattle.edit_metadata.specs.Workspaces.{package_said};
+ghost use Rattle.serde_json.specs.View.{view};
+
+use crate::fields::{maybe_text, path, rust_version, text, version};
+use crate::workspace::Package;
+use edit_base::{CargoResult, Error};
+use serde_json::Value;
+use std::alloc::Global;
+use std::collections::BTreeSet;
+
+/// The set of these ids.
+pub(crate) fn read_ids<'a>(alloc: Global, values: &'a [Value]) -> CargoResult<BTreeSet<&'a str>>
+    ensures { MatchResult result (λ s. (ids : List (List ℕ)) × AllZip IsText (map view values.now) ids
+        × ((id : List ℕ) → holds s id ≡ is_listed ids id))
+        (IsUnsaid (AllZip IsText (map view values.now))) }
+{
+    let mut ids = BTreeSet::new(alloc);
+    'values: for value in values {
+        let Some(id) = value.as_str() else {
+            return Err(Error::Metadata);
+        };
+        ids.insert(id)?;
+    }
+    Ok(ids)
+}
+
+/// The package that an object says.
+fn read_package(alloc: Global, ids: &BTreeSet<&str>, value: &Value) -> CargoResult<Package>
+    ensures { MatchResult result (λ p. SaysPackage (holds ids.now) (view value.now) (package_said p))
+        (IsUnsaid (SaysPackage (holds ids.now) (view value.now))) }
+{
+    let name = text(alloc, value, "name")?;
+    let id = text(alloc, value, "id")?;
+    let manifest_path = path(alloc, value, "manifest_path")?;
+    let version = version(alloc, value)?;
+    let source = maybe_text(alloc, value, "source")?;
+    let rust_version = rust_version(alloc, value)?;
+    let member = ids.contains(id.as_str());
+    Ok(Package {
+        name,
+        id,
+        manifest_path,
+        version,
+        source,
+        rust_version,
+        member,
+    })
+}
+
+/// The packages that these objects say, in order.
+pub(crate) fn read_packages(
+    alloc: Global,
+    ids: &BTreeSet<&str>,
+    values: &[Value],
+) -> CargoResult<Vec<Package>>
+    ensures { MatchResult result
+        (λ v. AllZip (SaysPackage (holds ids.now)) (map view values.now) (map package_said v.items))
+        (IsUnsaid (AllZip (SaysPackage (holds ids.now)) (map view values.now))) }
+{
+    let mut packages = Vec::with_capacity(alloc, values.len())?;
+    'values: for value in values {
+        let package = read_package(alloc, ids, value)?;
+        packages.push(package)?;
+    }
+    Ok(packages)
+}

@@ -1,0 +1,115 @@
+//! What the metadata of a workspace say.
+ghost use Rattle.std.specs.Prelude.{◌≡◌, ◌⊎◌, None, Some, All, IfErr, IfOk, MatchResult, find};
+ghost use Rattle.edit_base.specs.Errors.{IsMemory};
+ghost use Rattle.edit_base.specs.declared.errors.Error.TheVariants.{Metadata, VirtualManifest};
+ghost use Rattle.edit_metadata.specs.Metadata.{AreMetadata, SaysWorkspace};
+ghost use Rattle.edit_metadata.specs.Reading.{IsUnsaid};
+ghost use Rattle.edit_metadata.specs.Workspaces.{HasOwnFolders, IsNoWorkspace, is_member_named, SayNothing, workspace_said};
+ghost use Rattle.edit_version.specs.Laws.{IsReadable};
+ghost use Rattle.semver.specs.Identifiers.{parts_of};
+ghost use Rattle.serde_json.specs.View.{view};
+
+use crate::fields::path;
+use crate::folders::check_folders;
+use crate::members::values_at;
+use crate::packages::{read_ids, read_packages};
+use edit_base::{CargoResult, Error};
+use edit_version::RustVersion;
+use semver::Version;
+use serde_json::Value;
+use std::alloc::Global;
+
+/// A package that a workspace knows.
+#[derive(Debug, Drop)]
+pub struct Package {
+    pub name: String,
+    /// What metadata name the package by.
+    pub id: String,
+    /// An absolute path.
+    pub manifest_path: String,
+    pub version: Version,
+    /// Where the package comes from; none for one that stands on the machine.
+    pub source: Option<String>,
+    pub rust_version: Option<RustVersion>,
+    /// Whether the package is a member of the workspace.
+    pub member: bool,
+}
+
+/// A workspace: its folder, and its packages in the order of the metadata.
+#[derive(Debug, Drop)]
+pub struct Workspace {
+    /// An absolute path.
+    pub root: String,
+    pub packages: Vec<Package>,
+}
+
+/// The workspace that a JSON value says.
+fn said_by(alloc: Global, value: &Value) -> CargoResult<Workspace>
+    ensures { MatchResult result (λ w. SaysWorkspace (view value.now) (workspace_said w))
+        (IsUnsaid (SaysWorkspace (view value.now))) }
+{
+    let root = path(alloc, value, "workspace_root")?;
+    let Some(ids) = values_at(value, "workspace_members") else {
+        return Err(Error::Metadata);
+    };
+    let Some(packages) = values_at(value, "packages") else {
+        return Err(Error::Metadata);
+    };
+    let ids = read_ids(alloc, ids)?;
+    let packages = read_packages(alloc, &ids, packages)?;
+    Ok(Workspace { root, packages })
+}
+
+/// The workspace that JSON says.
+fn said(alloc: Global, json: &[u8]) -> CargoResult<Workspace>
+    ensures said { IfOk result (λ w. AreMetadata json.now (workspace_said w)) }
+    ensures refused { IfErr result (λ e. IsMemory e ⊎ ((e ≡ Metadata) × SayNothing json.now)) }
+{
+    match Value::from_slice(alloc, json) {
+        Ok(value) => said_by(alloc, &value),
+        Err(error) if error.is_memory() => Err(Error::Memory),
+        Err(_) => Err(Error::Metadata),
+    }
+}
+
+impl Workspace {
+    /// Reads the JSON that `cargo metadata` prints.
+    ///
+    /// It is an object with an absolute `workspace_root`, the ids `workspace_members`, and `packages`, each
+    /// with `name`, `id`, an absolute `manifest_path` and a `version` that is one; its `source` and
+    /// `rust_version` may be left out or null, and a `rust_version` that names none counts as left out.
+    /// What stands there besides is not looked at. Refused with 36 where it is something else, and with 37
+    /// where two members have their manifests in one folder.
+    pub fn read(alloc: Global, json: &[u8]) -> CargoResult<Workspace>
+        ensures workspace { IfOk result (λ w. AreMetadata json.now (workspace_said w)) }
+        ensures folders { IfOk result (λ w. HasOwnFolders (workspace_said w)) }
+        ensures readable { IfOk result (λ w. All (λ p. IsReadable (parts_of p.version)) w.packages.items) }
+        ensures refused { IfErr result (IsNoWorkspace json.now) }
+    {
+        let workspace = said(alloc, json)?;
+        check_folders(alloc, &workspace.packages)?;
+        Ok(workspace)
+    }
+}
+
+/// Whether a package is a member of this name.
+fn is_member_named(found: &Package, name: &str) -> bool
+    ensures { result ≡ is_member_named name.now found.now }
+{
+    found.member && found.name.as_str() == name
+}
+
+/// The first member of a name; refused with 38 where no member has it.
+pub fn manifest_from_pkgid<'a>(workspace: &'a Workspace, name: &str) -> CargoResult<&'a Package>
+    ensures found { IfOk result (λ p. find (is_member_named name.now) workspace.now.packages.items
+        ≡ Some p.now) }
+    ensures refused { IfErr result (λ e. (e ≡ VirtualManifest)
+        × (find (is_member_named name.now) workspace.now.packages.items ≡ None)) }
+{
+    'packages: for package in &workspace.packages {
+        if is_member_named(package, name) {
+            return Ok(package);
+        }
+    }
+    Err(Error::VirtualManifest)
+}
