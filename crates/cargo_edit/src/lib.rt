@@ -29,7 +29,10 @@ pub use edit_record::{
     dependency_on, find_compatible_version, find_latest_version, is_for, is_wanted, read_candidate,
     read_requirement, upgrade_requirement,
 };
-pub use edit_report::{Change, Output, Reason, Row};
+pub use edit_report::{
+    Change, Output, Reason, Row, apply, shell, shell_note, shell_print, shell_status, shell_warn,
+    shell_write_stderr, shell_write_stdout, shown, table_text,
+};
 pub use edit_sources::config::read_configs;
 pub use edit_sources::registry::{registry_url, resolve};
 pub use edit_sources::{

@@ -1,0 +1,3 @@
+pub mod ApplyLemmas
+pub mod ReportFacts
+pub mod TableLemmas

@@ -1,8 +1,18 @@
 //! What is reported of entries, and the writing of what is planned.
 #![tactic(auto)]
 
+mod layout;
+mod lines;
 pub mod output;
 pub mod row;
+pub mod shell;
+mod shows;
+mod table;
 
-pub use output::Output;
+pub use output::{Output, apply};
 pub use row::{Change, Reason, Row};
+pub use shell::{
+    shell_note, shell_print, shell_status, shell_warn, shell_write_stderr, shell_write_stdout,
+};
+pub use shows::shown;
+pub use table::table_text;

@@ -1,0 +1,92 @@
+-- Files to which outputs are written one by one.
+use Rattle.std.proofs.Common.{◌≡◌, ◌≢◌, ℕ, ◌+◌, ◌<◌, ◌≤◌, List, [], true, length, take, get_or, refl, sym, ◌∙◌, arith, subst}
+use Rattle.std.specs.Prelude.{Result, Ok, Err, OnErr}
+use Rattle.std.specs.List.{All}
+use Rattle.std.proofs.lemmas.List.{get_or_default, get_or-drop, get_or-take, length-drop, length-take}
+use Rattle.std.proofs.lemmas.List.Elements.{All-more}
+use Rattle.edit_report.specs.Applied.{AreWritten, HasStopped, HaveDistinctPaths, IsWhole, KeepsOthers, path_of}
+use Rattle.edit_report.specs.declared.output.Output.{Output}
+use Rattle.edit_sources.specs.Store.{Files, SameBut, StoreView}
+
+-- what holds anyway holds of a refusal
+pub on_refusal : {T E : Type 0} (r : Result T E) (P : Type 0) → P → OnErr r P
+on_refusal (Ok x) P p = tt
+on_refusal (Err e) P p = p
+
+-- before the first write
+pub written_none : (old : StoreView) → AreWritten [] old old
+written_none old = record { whole = λ _ k d lt. absurd (omega arith); others = λ path _. refl }
+
+-- two outputs go elsewhere
+apart : (outputs : List Output) (k j : ℕ) (d e : Output) → HaveDistinctPaths outputs
+    → k < j → j < length outputs
+    → path_of (get_or outputs k d) ≢ path_of (get_or outputs j e)
+apart outputs k j d e distinct before within =
+    let P : Output → Type 0 = λ o. path_of (get_or outputs k d) ≢ path_of o in
+    subst P (get_or_default outputs j d e within) (distinct k j d before within)
+
+-- an output among the first ones goes elsewhere than a later one
+apart_front : (outputs : List Output) (n k j : ℕ) (d e : Output) → HaveDistinctPaths outputs
+    → k < n → n ≤ j → j < length outputs
+    → path_of (get_or (take n outputs) k d) ≢ path_of (get_or outputs j e)
+apart_front outputs n k j d e distinct front behind within =
+    let P : Output → Type 0 = λ o. path_of o ≢ path_of (get_or outputs j e) in
+    subst P (sym (get_or-take n outputs k d front)) (apart outputs k j d e distinct (omega arith) within)
+
+-- a path that the first ones and one more do not go to keeps what it has
+keeps_more : (outputs : List Output) (i : ℕ) (d : Output) (old mid new : Files) → i < length outputs
+    → KeepsOthers (take i outputs) old mid → SameBut (path_of (get_or outputs i d)) mid new
+    → KeepsOthers (take (i + 1) outputs) old new
+keeps_more outputs i d old mid new within before others path away =
+    let P : Output → Type 0 = λ o. path ≢ path_of o in
+    let within_more : i < length (take (i + 1) outputs) = omega (arith, length-take (i + 1) outputs) in
+    others path (subst P (get_or-take (i + 1) outputs i d (omega arith)) (away i d within_more))
+    ∙ before path (λ k e lt.
+    let front : k < i = omega (arith, length-take i outputs) in
+    let more : k < length (take (i + 1) outputs)
+    = omega (arith, length-take i outputs, length-take (i + 1) outputs) in
+    subst P (get_or-take (i + 1) outputs k e (omega arith) ∙ sym (get_or-take i outputs k e front))
+    (away k e more))
+
+-- files that are whole stay so when a later output is written
+whole_still : (outputs : List Output) (i : ℕ) (d : Output) (mid new : Files) → HaveDistinctPaths outputs
+    → i < length outputs → SameBut (path_of (get_or outputs i d)) mid new
+    → All (IsWhole mid) (take i outputs) → All (IsWhole new) (take i outputs)
+whole_still outputs i d mid new distinct within others whole k e lt =
+    let front : k < i = omega (arith, length-take i outputs) in
+    others _ (apart_front outputs i k i e d distinct front (omega arith) within) ∙ whole k e lt
+
+-- one write more
+pub written_more : (outputs : List Output) (i : ℕ) (d : Output) (old mid new : StoreView)
+    → HaveDistinctPaths outputs → i < length outputs
+    → mid.tells ≡ old.tells → AreWritten (take i outputs) old mid
+    → (mid.tells ≡ true → IsWhole new.file_at (get_or outputs i d))
+    → SameBut (path_of (get_or outputs i d)) mid.file_at new.file_at
+    → AreWritten (take (i + 1) outputs) old new
+written_more outputs i d old mid new distinct within tells before written others = record {
+  whole = λ t. All-more (IsWhole new.file_at) outputs i d within
+      (whole_still outputs i d mid.file_at new.file_at distinct within others (before.whole t))
+      (written (tells ∙ t));
+  others = keeps_more outputs i d old.file_at mid.file_at new.file_at within before.others others;
+}
+
+-- a write that is refused
+pub stopped_at : (outputs : List Output) (i : ℕ) (d : Output) (old mid new : StoreView)
+    → HaveDistinctPaths outputs → i < length outputs → AreWritten (take i outputs) old mid
+    → SameBut (path_of (get_or outputs i d)) mid.file_at new.file_at
+    → HasStopped outputs old new
+stopped_at outputs i d old mid new distinct within before others =
+    let kept = keeps_more outputs i d old.file_at mid.file_at new.file_at within before.others others in
+    record {
+      at = i;
+      within = within;
+      whole = λ t. whole_still outputs i d mid.file_at new.file_at distinct within others (before.whole t);
+      untouched = λ k e lt. kept _ (λ m f front.
+          let first : m < i + 1 = omega (arith, length-take (i + 1) outputs) in
+          let last : i + 1 + k < length outputs = omega (arith, length-drop (i + 1) outputs) in
+          let P : Output → Type 0 = λ o. path_of o ≢ path_of (get_or (take (i + 1) outputs) m f) in
+          subst P (sym (get_or-drop (i + 1) outputs k e))
+          (λ same. apart_front outputs (i + 1) m (i + 1 + k) f e distinct first (omega arith) last
+          (sym same)));
+      others = kept;
+    }

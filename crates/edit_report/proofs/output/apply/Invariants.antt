@@ -1,0 +1,10 @@
+use Rattle.std.proofs.Common.{◌≡◌, ◌≤◌, take}
+use Rattle.edit_report.specs.Applied.{AreWritten}
+use Rattle.edit_report.proofs.output.apply.Given as goal
+
+abbrev pub invariant-loop-output : goal.invariant-loop-output
+invariant-loop-output g l = record {
+  tells : (g.S.Store.view l.store).tells ≡ (g.S.Store.view l.initial.store).tells;
+  later : (g.S.Store.view l.initial.store).faults ≤ (g.S.Store.view l.store).faults;
+  written : AreWritten (take l.output-index l.outputs) (g.S.Store.view l.initial.store) (g.S.Store.view l.store);
+}

@@ -1,0 +1,7 @@
+use Rattle.std.proofs.Common.{◌≡◌, map, take}
+use Rattle.std.specs.List.{filter}
+use Rattle.edit_report.specs.Shown.{is_shown}
+use Rattle.edit_report.proofs.table.shown_rows.Given as goal
+
+abbrev pub invariant-loop-row : goal.invariant-loop-row
+invariant-loop-row l = map (λ r. r.now) l.kept.items ≡ filter (is_shown l.verbosity) (take l.row-index l.rows)

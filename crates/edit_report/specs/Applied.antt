@@ -1,0 +1,39 @@
+-- What becomes of files when outputs are written to them.
+use Rattle.std.specs.Prelude.{◌≡◌, ◌≢◌, ℕ, ◌+◌, ◌<◌, List, Some, true, length, take, drop, string_bytes}
+use Rattle.std.specs.List.{All, AllPairs}
+use Rattle.edit_report.specs.declared.output.Output.{Output}
+use Rattle.edit_sources.specs.Store.{Files, StoreView}
+
+-- where an output goes
+abbrev pub path_of : Output → List ℕ
+path_of o = string_bytes o.path
+
+-- no two outputs go to one path (own)
+abbrev pub HaveDistinctPaths : List Output → Type 0
+HaveDistinctPaths outputs = AllPairs (λ a b. path_of a ≢ path_of b) outputs
+
+-- the file of an output holds it whole (own)
+abbrev pub IsWhole : Files → Output → Type 0
+IsWhole files o = files (path_of o) ≡ Some o.bytes.items
+
+-- the file of an output is as it was (own)
+abbrev pub IsUntouched : Files → Files → Output → Type 0
+IsUntouched old new o = new (path_of o) ≡ old (path_of o)
+
+-- each path that no output goes to has what it had (own)
+abbrev pub KeepsOthers : List Output → Files → Files → Type 0
+KeepsOthers outputs old new = (path : List ℕ) → All (λ o. path ≢ path_of o) outputs → new path ≡ old path
+
+-- outputs are written: each file whole, where the store tells its files, and no other file changed (own)
+pub record AreWritten (outputs : List Output) (old new : StoreView) : Type 0 where
+  pub whole : old.tells ≡ true → All (IsWhole new.file_at) outputs
+  pub others : KeepsOthers outputs old.file_at new.file_at
+
+-- writing stopped at an output: the files of those before it are whole, those behind it are untouched, and
+-- no other file changed but perhaps its own (own)
+pub record HasStopped (outputs : List Output) (old new : StoreView) : Type 0 where
+  pub at : ℕ
+  pub within : at < length outputs
+  pub whole : old.tells ≡ true → All (IsWhole new.file_at) (take at outputs)
+  pub untouched : All (IsUntouched old.file_at new.file_at) (drop (at + 1) outputs)
+  pub others : KeepsOthers (take (at + 1) outputs) old.file_at new.file_at

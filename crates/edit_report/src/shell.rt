@@ -1,0 +1,104 @@
+//! Messages to a writer.
+ghost use Rattle.std.specs.Prelude.{◌≡◌, IfErr, OnOk, codes, false, true};
+ghost use Rattle.std.specs.Io.KnownBytes.{Appends};
+ghost use Rattle.edit_base.specs.declared.errors.Error.TheVariants.{Output};
+ghost use Rattle.edit_report.specs.Messages.{message_text};
+
+use edit_base::{CargoResult, Error};
+use std::io;
+
+/// Writes a text to a writer.
+fn write_text<W: io::Write>(out: &mut W, text: &str) -> CargoResult<()>
+    ensures bytes { OnOk result (Appends (W.contents out.old) (W.contents out.new) text.now) }
+    ensures refused { IfErr result (λ e. e ≡ Output) }
+{
+    match out.write_all(text.as_bytes()) {
+        Ok(()) => Ok(()),
+        Err(_) => Err(Error::Output),
+    }
+}
+
+/// Writes a message behind its status, which stands right in twelve columns.
+fn print_justified<W: io::Write>(out: &mut W, status: &str, message: &str) -> CargoResult<()>
+    ensures bytes { OnOk result (Appends (W.contents out.old) (W.contents out.new)
+        (message_text true status.now message.now)) }
+    ensures refused { IfErr result (λ e. e ≡ Output) }
+{
+    match writeln!(out, "{status:>12} {message}") {
+        Ok(()) => Ok(()),
+        Err(_) => Err(Error::Output),
+    }
+}
+
+/// Writes a message behind its status and a colon.
+fn print_plain<W: io::Write>(out: &mut W, status: &str, message: &str) -> CargoResult<()>
+    ensures bytes { OnOk result (Appends (W.contents out.old) (W.contents out.new)
+        (message_text false status.now message.now)) }
+    ensures refused { IfErr result (λ e. e ≡ Output) }
+{
+    match writeln!(out, "{status}: {message}") {
+        Ok(()) => Ok(()),
+        Err(_) => Err(Error::Output),
+    }
+}
+
+/// Writes a message behind its status: right in twelve columns, or at the left with a colon.
+pub fn shell_print<W: io::Write>(
+    out: &mut W,
+    status: &str,
+    message: &str,
+    justified: bool,
+) -> CargoResult<()>
+    ensures bytes { OnOk result (Appends (W.contents out.old) (W.contents out.new)
+        (message_text justified status.now message.now)) }
+    ensures refused { IfErr result (λ e. e ≡ Output) }
+{
+    if justified {
+        print_justified(out, status, message)
+    } else {
+        print_plain(out, status, message)
+    }
+}
+
+/// Writes what is done, right in twelve columns, and to what.
+pub fn shell_status<W: io::Write>(out: &mut W, action: &str, message: &str) -> CargoResult<()>
+    ensures bytes { OnOk result (Appends (W.contents out.old) (W.contents out.new)
+        (message_text true action.now message.now)) }
+    ensures refused { IfErr result (λ e. e ≡ Output) }
+{
+    shell_print(out, action, message, true)
+}
+
+/// Writes a warning.
+pub fn shell_warn<W: io::Write>(out: &mut W, message: &str) -> CargoResult<()>
+    ensures bytes { OnOk result (Appends (W.contents out.old) (W.contents out.new)
+        (message_text false (codes "warning") message.now)) }
+    ensures refused { IfErr result (λ e. e ≡ Output) }
+{
+    shell_print(out, "warning", message, false)
+}
+
+/// Writes a note.
+pub fn shell_note<W: io::Write>(out: &mut W, message: &str) -> CargoResult<()>
+    ensures bytes { OnOk result (Appends (W.contents out.old) (W.contents out.new)
+        (message_text false (codes "note") message.now)) }
+    ensures refused { IfErr result (λ e. e ≡ Output) }
+{
+    shell_print(out, "note", message, false)
+}
+
+/// Writes a fragment, as it stands, to the standard error that is handed in.
+pub fn shell_write_stderr<W: io::Write>(out: &mut W, fragment: &str) -> CargoResult<()>
+    ensures bytes { OnOk result (Appends (W.contents out.old) (W.contents out.new) fragment.now) }
+    ensures refused { IfErr result (λ e. e ≡ Output) }
+{
+    write_text(out, fragment)
+}
+
+/// Writes a fragment, as it stands, to the standard output that is handed in.
+pub fn shell_write_stdout<W: io::Write>(out: &mut W, fragment: &str) -> CargoResult<()>
+    ensures bytes { OnOk result (Appends (W.contents out.old) (W.contents out.new) fragment.now) }
+    ensures refused { IfErr result (λ e. e ≡ Output) }
+{
+    write_text(out, fragment)
+}

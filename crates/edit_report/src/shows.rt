@@ -1,0 +1,71 @@
+//! Which rows a report shows.
+ghost use Rattle.std.specs.Prelude.{◌≡◌, IfErr, IfOk, not, option_map, string_bytes};
+ghost use Rattle.std.specs.Result.{result_ok};
+ghost use Rattle.semver.specs.Parse.{version_parts};
+ghost use Rattle.edit_base.specs.Errors.{IsMemory};
+ghost use Rattle.edit_report.specs.Shown.{is_held_back, is_outgrown, is_shown, misses};
+ghost use Rattle.edit_version.specs.Requirement.{requirement_read};
+
+use crate::row::{Reason, Row};
+use edit_base::{CargoResult, Error};
+use edit_version::{admits, read_requirement};
+use semver::Version;
+use std::alloc::{AllocError, Global};
+
+/// Whether the reason is one that an option lifts.
+fn is_held_back(reason: Option<Reason>) -> bool
+    ensures { result ≡ is_held_back reason }
+{
+    matches!(
+        reason,
+        Some(Reason::Compatible | Reason::Incompatible | Reason::Pinned)
+    )
+}
+
+/// Whether a readable requirement does not admit a readable version.
+fn misses(alloc: Global, req: &str, version: &str) -> CargoResult<bool>
+    ensures ok { IfOk result (λ b. b
+        ≡ misses (requirement_read req.now) (result_ok (version_parts version.now))) }
+    ensures refused { IfErr result IsMemory }
+{
+    let Some(req) = read_requirement(alloc, req)? else {
+        return Ok(false);
+    };
+    match Version::parse(alloc, version) {
+        Ok(version) => Ok(!admits(&req, &version)),
+        Err(error) => {
+            if error == semver::Error::from(AllocError) {
+                return Err(Error::Memory);
+            }
+            Ok(false)
+        }
+    }
+}
+
+/// Whether the old requirement is readable and does not match the latest version.
+fn is_outgrown(alloc: Global, row: &Row) -> CargoResult<bool>
+    ensures ok { IfOk result (λ b. b ≡ is_outgrown row.now) }
+    ensures refused { IfErr result IsMemory }
+{
+    match (&row.old, &row.latest) {
+        (Some(old), Some(latest)) => misses(alloc, old.as_str(), latest.as_str()),
+        _ => Ok(false),
+    }
+}
+
+/// Whether a report of this verbosity shows the row.
+pub fn shown(alloc: Global, row: &Row, verbosity: i8) -> CargoResult<bool>
+    ensures ok { IfOk result (λ b. b ≡ is_shown verbosity row.now) }
+    ensures refused { IfErr result IsMemory }
+{
+    if verbosity >= 2 || row.old != row.new {
+        return Ok(true);
+    }
+    if verbosity < 1 {
+        return Ok(false);
+    }
+    if is_held_back(row.reason) {
+        return Ok(true);
+    }
+    is_outgrown(alloc, row)
+}

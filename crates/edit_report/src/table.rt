@@ -1,0 +1,147 @@
+//! The table of a report.
+ghost use Rattle.std.specs.Prelude.{◌≡◌, ◌++◌, ◌∷◌, IfErr, IfOk, OnOk, filter, map, string_bytes};
+ghost use Rattle.std.specs.List.{list_any};
+ghost use Rattle.edit_base.specs.Errors.{IsMemory};
+ghost use Rattle.edit_report.specs.Shown.{is_shown};
+ghost use Rattle.edit_report.specs.Table.{headings, is_noted, name_text, or_dash, reason_text, report_text, row_cells, underlines};
+ghost use Rattle.edit_report.specs.Widths.{cells_of};
+
+use crate::layout::lines_text;
+use crate::lines::Line;
+use crate::row::{Reason, Row};
+use crate::shows::shown;
+use edit_base::CargoResult;
+use std::alloc::{AllocError, Global};
+
+/// A dependency's name, behind it the name that its manifest gives it.
+fn name_text(alloc: Global, row: &Row) -> Result<String, AllocError>
+    ensures { IfOk result (λ s. string_bytes s ≡ name_text (string_bytes row.now.name) row.now.rename) }
+{
+    let name = row.name.as_str();
+    match &row.rename {
+        None => String::from_str(alloc, name),
+        Some(rename) => {
+            let rename = rename.as_str();
+            format!(in alloc; "{name} ({rename})")
+        }
+    }
+}
+
+/// A text, or a dash for none.
+fn or_dash(text: &Option<String>) -> &str
+    ensures { result.now ≡ or_dash text.now }
+{
+    match text {
+        Some(text) => text.as_str(),
+        None => "-",
+    }
+}
+
+/// The text of a reason.
+fn reason_text(reason: Option<Reason>) -> &'static str
+    ensures { result.now ≡ reason_text reason }
+{
+    match reason {
+        None | Some(Reason::Latest) => "",
+        Some(Reason::Compatible) => "compatible",
+        Some(Reason::Incompatible) => "incompatible",
+        Some(Reason::Pinned) => "pinned",
+        Some(Reason::GitSource) => "git",
+        Some(Reason::PathSource) => "local",
+        Some(Reason::Excluded) => "excluded",
+    }
+}
+
+/// The first line.
+fn heading_line(alloc: Global) -> CargoResult<Line<'static>>
+    ensures ok { IfOk result (λ l. cells_of l ≡ headings) }
+    ensures refused { IfErr result IsMemory }
+{
+    Ok(Line {
+        name: String::from_str(alloc, "name")?,
+        old: "old req",
+        compatible: "compatible",
+        latest: "latest",
+        new: "new req",
+        note: "note",
+    })
+}
+
+/// The line below it.
+fn underline_line(alloc: Global) -> CargoResult<Line<'static>>
+    ensures ok { IfOk result (λ l. cells_of l ≡ underlines) }
+    ensures refused { IfErr result IsMemory }
+{
+    Ok(Line {
+        name: String::from_str(alloc, "====")?,
+        old: "=======",
+        compatible: "==========",
+        latest: "======",
+        new: "=======",
+        note: "====",
+    })
+}
+
+/// The line of a row.
+fn row_line(alloc: Global, row: &Row) -> CargoResult<Line<'_>>
+    ensures ok { IfOk result (λ l. cells_of l ≡ row_cells row.now) }
+    ensures refused { IfErr result IsMemory }
+{
+    Ok(Line {
+        name: name_text(alloc, row)?,
+        old: or_dash(&row.old),
+        compatible: or_dash(&row.compatible),
+        latest: or_dash(&row.latest),
+        new: or_dash(&row.new),
+        note: reason_text(row.reason),
+    })
+}
+
+/// The rows that a report of this verbosity shows.
+fn shown_rows<'a>(alloc: Global, rows: &'a [Row], verbosity: i8) -> CargoResult<Vec<&'a Row>>
+    ensures ok { IfOk result (λ v. map (λ r. r.now) v.items ≡ filter (is_shown verbosity) rows.now) }
+    ensures refused { IfErr result IsMemory }
+{
+    let mut kept = Vec::new(alloc);
+    for row in rows {
+        if shown(alloc, row, verbosity)? {
+            kept.push(row)?;
+        }
+    }
+    Ok(kept)
+}
+
+/// The lines of a table with these rows.
+fn table_lines<'a>(alloc: Global, rows: &[&'a Row]) -> CargoResult<Vec<Line<'a>>>
+    ensures ok { IfOk result (λ v. map cells_of v.items
+        ≡ headings ∷ underlines ∷ map (λ r. row_cells r.now) rows.now) }
+    ensures refused { IfErr result IsMemory }
+{
+    let mut lines = Vec::new(alloc);
+    lines.push(heading_line(alloc)?)?;
+    lines.push(underline_line(alloc)?)?;
+    for row in rows {
+        lines.push(row_line(alloc, row)?)?;
+    }
+    Ok(lines)
+}
+
+/// Whether a row has a text for its reason.
+fn are_noted(rows: &[&Row]) -> bool
+    ensures { result ≡ list_any (λ r. is_noted r.now) rows.now }
+{
+    rows.iter().any(|row| reason_text(row.reason).len() > 0)
+}
+
+/// The table of a report of this verbosity: empty where no row is shown.
+pub fn table_text(alloc: Global, rows: &[Row], verbosity: i8) -> CargoResult<String>
+    ensures text { IfOk result (λ s. string_bytes s ≡ report_text verbosity rows.now) }
+    ensures refused { IfErr result IsMemory }
+{
+    let rows = shown_rows(alloc, rows, verbosity)?;
+    if rows.is_empty() {
+        return Ok(String::new(alloc));
+    }
+    let lines = table_lines(alloc, rows.as_slice())?;
+    lines_text(alloc, lines.as_slice(), are_noted(rows.as_slice()))
+}
