@@ -15,7 +15,8 @@ pub mod upgrade;
 mod writes;
 
 pub use edit_base::{
-    CargoResult, DeviceCall, Error, MergedCommand, MissingKind, MissingNames, errors, paths,
+    CargoResult, CliError, CliResult, DeviceCall, Error, MergedCommand, MissingKind, MissingNames,
+    errors, paths,
 };
 pub use edit_document::{Document, Item, Keys, NewItem, NewValue, Place, Step};
 pub use edit_manifest::{
