@@ -2,9 +2,11 @@
 #![tactic(auto)]
 
 pub mod dep_table;
+mod features;
 pub mod local_manifest;
 pub mod locate;
 pub mod manifest;
+mod remove;
 pub mod tables;
 pub mod versions;
 mod ways;

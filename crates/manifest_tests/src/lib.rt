@@ -8,6 +8,8 @@ mod found;
 #[cfg(test)]
 mod kinds;
 #[cfg(test)]
+mod removals;
+#[cfg(test)]
 mod tables;
 #[cfg(test)]
 mod versions;
