@@ -11,3 +11,5 @@ mod NewMembers
 mod MembersRead
 pub mod RoundTrip
 mod UpdateFacts
+pub mod EachOnce
+pub mod Updates

@@ -1,9 +1,9 @@
 -- What becomes of an entry that is to say what a record says; the table of its members is this project's own,
 -- after that of cargo-edit.
-use Rattle.std.specs.Prelude.{ℕ, Bool, true, false, not, ◌&&◌, ◌==◌, if◌then◌else◌, List, [], ◌∷◌, ◌++◌, map, filter, filter_map, Option, Some, None, is_some, is_none, option_map, Result, Ok, codes}
+use Rattle.std.specs.Prelude.{ℕ, Bool, true, false, not, ◌&&◌, ◌||◌, ◌==◌, if◌then◌else◌, List, [], ◌∷◌, ◌++◌, map, filter, filter_map, Option, Some, None, is_some, is_none, option_map, Result, Ok, codes}
 use Rattle.std.specs.List.{list_any}
 use Rattle.edit_document.specs.Assertions.{same_bytes}
-use Rattle.edit_document.specs.Items.{count_in, is_tabular}
+use Rattle.edit_document.specs.Items.{count_in, is_string, is_tabular}
 use Rattle.edit_document.specs.NewItems.{NewValue, a_string, a_truth, a_list, NewItem}
 use Rattle.edit_document.specs.Tree.{View, string}
 use Rattle.edit_record.specs.EntryRecords.{EntryRecord, Origin, from_registry, from_path, from_git, from_workspace, Refusal, origin_version}
@@ -100,26 +100,27 @@ pub data Change : Type 0 where
 abbrev pub write_of : End → Option Change
 write_of e = option_map (writes e.0) e.1
 
--- a member that is there and does not end with a value is removed (own)
-abbrev pub removal_of : Tree → End → Option Change
-removal_of t e = if is_some (member_in t e.0) && is_none e.1 then Some (removes e.0) else None
+-- a member that ends without a value is removed (own)
+abbrev pub removal_of : End → Option Change
+removal_of (name, None) = Some (removes name)
+removal_of (name, Some v) = None
 
 -- the edits of the members of an entry: all that is written, then all that is removed (own)
-abbrev pub changes : Tree → List ℕ → EntryRecord → List Change
-changes t root r = filter_map write_of (ends t root r) ++ filter_map (removal_of t) (ends t root r)
+abbrev pub changes : List End → List Change
+changes es = filter_map write_of es ++ filter_map removal_of es
 
 -- what an entry becomes: another one, or its own with other members (own)
 pub data Update : Type 0 where
   replaced_by : NewItem → Update
   changed_by : List Change → Update
 
--- a string, or a table of one member that one statement names, is replaced whole (own)
-abbrev pub is_replaced : Option View → Bool → Bool
-is_replaced None one = false
-is_replaced (Some (string s)) one = true
-is_replaced (Some v) one = one && (is_tabular v && (count_in v == 1))
+-- a string, or a table of one member: nothing of it is to stay (own)
+abbrev pub is_slight : Option View → Bool
+is_slight None = false
+is_slight (Some v) = is_string v || (is_tabular v && (count_in v == 1))
 
--- what the entry becomes that this tree shows, where `one` tells whether one statement alone names it (own)
+-- What the entry becomes that this tree shows, where `one` tells whether one statement alone names it: then a
+-- string, which is named by no more than one, or a table of one member is replaced whole (own).
 abbrev pub update_of : Tree → Bool → List ℕ → EntryRecord → Update
 update_of t one root r =
-    if is_replaced (t []) one then replaced_by (item_of root r) else changed_by (changes t root r)
+    if one && is_slight (t []) then replaced_by (item_of root r) else changed_by (changes (ends t root r))

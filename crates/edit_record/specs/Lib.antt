@@ -11,3 +11,5 @@ pub mod RelativePaths
 pub mod NewEntries
 pub mod ReadsAgain
 pub mod EntryUpdates
+pub mod UpdatedTexts
+pub mod EndViews

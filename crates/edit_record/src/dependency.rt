@@ -7,10 +7,12 @@ ghost use Rattle.edit_record.specs.Records.{IsBare, version_of};
 
 mod conversions;
 mod copies;
+mod ends;
 mod members;
 mod read;
 mod sources;
 mod texts;
+mod update;
 mod write;
 
 use copies::{copied_lists, copied_pair, joined};

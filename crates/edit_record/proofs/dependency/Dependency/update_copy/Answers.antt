@@ -1,0 +1,143 @@
+use Rattle.std.proofs.Common.{◌≡◌, true, false, ◌&&◌, Some, ap, sym, subst, ◌∙◌, inl, inr}
+use Rattle.std.proofs.lemmas.Bool.{and_parts}
+use Rattle.std.proofs.lemmas.Result.{IfErr-weaker, IfOk-weaker, err_from_is_err_and}
+use Rattle.std.specs.List.{filter_map}
+use Rattle.edit_document.specs.EditBytes.{is_one_statement}
+use Rattle.edit_document.specs.Items.{place_seen}
+use Rattle.edit_document.specs.Meant.{ReplaceFails}
+use Rattle.edit_document.specs.NewItems.{IsEntry}
+use Rattle.edit_document.specs.Shown.{tree_of}
+use Rattle.edit_record.specs.EndViews.{ends_seen}
+use Rattle.edit_record.specs.EntryUpdates.{is_slight, removal_of, replaced_by, write_of}
+use Rattle.edit_record.specs.ReadEntries.{below}
+use Rattle.edit_record.specs.RecordViews.{record_view}
+use Rattle.edit_record.specs.UpdatedTexts.{BecomingFails, Changed, HasBecome, OneFails}
+use Rattle.edit_record.proofs.Updates.{entry_ends, is_changed, is_entry, is_other, stops_before, stops_behind, then_others}
+use Rattle.edit_record.proofs.dependency.Dependency.update_copy.Goals as goal
+
+pub replace_entry-requires-clause-one : goal.replace_entry-requires-clause-one
+replace_entry-requires-clause-one c = λ form is.
+    (and_parts _ _ (sym (c.is_replaced.ensures form is) ∙ c.if-is_replaced.true)).0
+
+pub replace_entry-requires-clause-entry : goal.replace_entry-requires-clause-entry
+replace_entry-requires-clause-entry c =
+    subst IsEntry (sym c.in_ok-new.ensures.item) (is_entry c.args.crate_root.now (record_view c.args.self.now))
+
+pub returns-then-is_replaced-clause-text : goal.returns-then-is_replaced-clause-text
+returns-then-is_replaced-clause-text c =
+    IfOk-weaker c.replace_entry.result _ _
+    (λ x h. λ form is.
+    let place = place_seen c.args.entry.now in
+    let there = ap is_slight c.in-Some.ensures.2 in
+    let both = ap (λ b. is_one_statement form place && b) there
+    ∙ sym (c.is_replaced.ensures form is) ∙ c.if-is_replaced.true in
+    let becomes = is_other c.args.document.now form place c.args.crate_root.now
+    (record_view c.args.self.now) (c.has_form.ensures.shows form is) both in
+    subst (λ u. HasBecome place u form c.args.document.now.bytes c.replace_entry.new.self.bytes)
+    (sym becomes)
+    (subst (λ i. HasBecome place (replaced_by i) form c.args.document.now.bytes
+    c.replace_entry.new.self.bytes) c.in_ok-new.ensures.item (h form is)))
+    c.replace_entry.ensures.bytes
+
+pub returns-then-is_replaced-clause-refused : goal.returns-then-is_replaced-clause-refused
+returns-then-is_replaced-clause-refused c =
+    IfErr-weaker c.replace_entry.result _ _
+    (λ e h. elim h [
+      | inl memory ↦ inl memory
+      | inr p ↦ inr (
+        p.0,
+        λ form is.
+            let place = place_seen c.args.entry.now in
+            let there = ap is_slight c.in-Some.ensures.2 in
+            let both = ap (λ b. is_one_statement form place && b) there
+            ∙ sym (c.is_replaced.ensures form is) ∙ c.if-is_replaced.true in
+            let becomes = is_other c.args.document.now form place c.args.crate_root.now
+            (record_view c.args.self.now) (c.has_form.ensures.shows form is) both in
+            subst (λ u. BecomingFails place u c.args.document.now.bytes) (sym becomes)
+            (subst (λ i. ReplaceFails place i c.args.document.now.bytes) c.in_ok-new.ensures.item p.1),
+      )
+    ]) c.replace_entry.ensures.refused
+
+pub returns-in_err-write_members-clause-refused : goal.returns-in_err-write_members-clause-refused
+returns-in_err-write_members-clause-refused c =
+    let stop = c.from_residual-in_err-write_members in
+    let p = err_from_is_err_and stop.result stop.ensures.1 in
+    rw (p.1, p.2)
+    (elim c.in_err-write_members.ensures.refused [
+      | inl memory ↦ inl memory
+      | inr h ↦ inr (
+        h.0,
+        λ form is.
+            let place = place_seen c.args.entry.now in
+            let all = c.in_ok-ends.ends.items in
+            let there = ap is_slight c.in-Some.ensures.2 in
+            let one = ap (λ b. is_one_statement form place && b) there
+            ∙ sym (c.is_replaced.ensures form is) ∙ c.if-is_replaced.false in
+            let same = entry_ends c.in-Some.item c.args.document.now place c.args.crate_root.now
+            (record_view c.args.self.now) (ends_seen all) c.in-Some.ensures.0 c.in-Some.ensures.1
+            c.in_ok-ends.ensures.ok in
+            let becomes = is_changed c.args.document.now form place c.args.crate_root.now
+            (record_view c.args.self.now) (ends_seen all) (c.has_form.ensures.shows form is) one same in
+            subst (λ u. BecomingFails place u c.args.document.now.bytes) (sym becomes)
+            (stops_before place (filter_map write_of (ends_seen all)) (filter_map removal_of (ends_seen all))
+            c.args.document.now.bytes
+            (subst (λ l. OneFails place (filter_map write_of (ends_seen l)) c.args.document.now.bytes)
+            c.as_slice.ensures.value h.1)),
+      )
+    ])
+
+pub returns-clause-text : goal.returns-clause-text
+returns-clause-text c =
+    IfOk-weaker c.remove_members.result _ _
+    (λ x h. λ form is.
+    let place = place_seen c.args.entry.now in
+    let all = c.in_ok-ends.ends.items in
+    let old = c.args.document.now.bytes in
+    let mid = c.write_members.new.document.bytes in
+    let new = c.remove_members.new.document.bytes in
+    let there = ap is_slight c.in-Some.ensures.2 in
+    let one = ap (λ b. is_one_statement form place && b) there
+    ∙ sym (c.is_replaced.ensures form is) ∙ c.if-is_replaced.false in
+    let same = entry_ends c.in-Some.item c.args.document.now place c.args.crate_root.now
+    (record_view c.args.self.now) (ends_seen all) c.in-Some.ensures.0 c.in-Some.ensures.1
+    c.in_ok-ends.ensures.ok in
+    let becomes = is_changed c.args.document.now form place c.args.crate_root.now
+    (record_view c.args.self.now) (ends_seen all) (c.has_form.ensures.shows form is) one same in
+    subst (λ u. HasBecome place u form old new) (sym becomes)
+    (then_others place (filter_map write_of (ends_seen all)) (filter_map removal_of (ends_seen all))
+    old mid new
+    (subst (λ l. Changed place (filter_map write_of (ends_seen l)) old mid)
+    c.as_slice.ensures.value c.in_ok-write_members.ensures.changed)
+    (subst (λ l. Changed place (filter_map removal_of (ends_seen l)) mid new)
+    c.as_slice-2.ensures.value h)))
+    c.remove_members.ensures.changed
+
+pub returns-clause-refused : goal.returns-clause-refused
+returns-clause-refused c =
+    IfErr-weaker c.remove_members.result _ _
+    (λ e h. elim h [
+      | inl memory ↦ inl memory
+      | inr p ↦ inr (
+        p.0,
+        λ form is.
+            let place = place_seen c.args.entry.now in
+            let all = c.in_ok-ends.ends.items in
+            let old = c.args.document.now.bytes in
+            let mid = c.write_members.new.document.bytes in
+            let there = ap is_slight c.in-Some.ensures.2 in
+            let one = ap (λ b. is_one_statement form place && b) there
+            ∙ sym (c.is_replaced.ensures form is) ∙ c.if-is_replaced.false in
+            let same = entry_ends c.in-Some.item c.args.document.now place c.args.crate_root.now
+            (record_view c.args.self.now) (ends_seen all) c.in-Some.ensures.0 c.in-Some.ensures.1
+            c.in_ok-ends.ensures.ok in
+            let becomes = is_changed c.args.document.now form place c.args.crate_root.now
+            (record_view c.args.self.now) (ends_seen all) (c.has_form.ensures.shows form is) one same in
+            subst (λ u. BecomingFails place u old) (sym becomes)
+            (stops_behind place (filter_map write_of (ends_seen all)) (filter_map removal_of (ends_seen all))
+            old mid
+            (subst (λ l. Changed place (filter_map write_of (ends_seen l)) old mid)
+            c.as_slice.ensures.value c.in_ok-write_members.ensures.changed)
+            (subst (λ l. OneFails place (filter_map removal_of (ends_seen l)) mid)
+            c.as_slice-2.ensures.value p.1)),
+      )
+    ]) c.remove_members.ensures.refused
