@@ -53,13 +53,15 @@ fn words(alloc: Global, text: &str) -> Result<Vec<String>, AllocError> {
     Ok(words)
 }
 
-/// A repository at a branch, a tag or a revision, with a version.
+/// A repository at a branch, a tag or a revision; a bare one has no version.
 fn repository(alloc: Global, part: &str, text: &str) -> CargoResult<GitSource> {
-    let git = GitSource::new(alloc, "u")?.set_version(alloc, "0.1")?;
+    let git = GitSource::new(alloc, "u")?;
     match part {
-        "branch" => git.set_branch(alloc, text),
-        "tag" => git.set_tag(alloc, text),
-        _ => git.set_rev(alloc, text),
+        "bare tag" => git.set_tag(alloc, text),
+        "bare rev" => git.set_rev(alloc, text),
+        "branch" => git.set_version(alloc, "0.1")?.set_branch(alloc, text),
+        "tag" => git.set_version(alloc, "0.1")?.set_tag(alloc, text),
+        _ => git.set_version(alloc, "0.1")?.set_rev(alloc, text),
     }
 }
 
@@ -89,7 +91,7 @@ fn with_part(alloc: Global, record: Dependency, part: &str, text: &str) -> Cargo
 }
 
 /// The record of the crate `dep` that has these parts.
-fn record(alloc: Global, parts: &str) -> CargoResult<Dependency> {
+pub(crate) fn record(alloc: Global, parts: &str) -> CargoResult<Dependency> {
     let mut record = Dependency::new(alloc, "dep")?;
     for part in parts.split(';') {
         let (part, text) = part.split_once('=').unwrap_or((part, ""));
