@@ -7,10 +7,9 @@ use Rattle.semver.specs.Identifiers.{parts_of}
 use Rattle.semver.specs.Parse.{Parts, version_parts}
 use Rattle.semver.specs.declared.error.Error as semver_error
 use Rattle.serde_json.specs.Data.{Data}
-use Rattle.serde_json.specs.Find.{as_str}
 use Rattle.edit_version.specs.Laws.{IsReadable}
 use Rattle.edit_version.proofs.Outcomes.{readable-read}
-use Rattle.edit_metadata.specs.Metadata.{IsText, PackageSaid, SaysPackage, SaysWorkspace, WorkspaceSaid, is_listed, text_at, values_at, version_said}
+use Rattle.edit_metadata.specs.Metadata.{IsText, PackageSaid, SaysPackage, SaysWorkspace, WorkspaceSaid, is_listed, text_at, values_at}
 use Rattle.edit_metadata.specs.Workspaces.{package_said}
 use Rattle.edit_metadata.specs.declared.workspace.Package.{Package}
 use Rattle.edit_metadata.proofs.Values.{some-same}

@@ -1,5 +1,5 @@
 -- The folders that manifests stand in (own).
-use Rattle.std.specs.Prelude.{◌≡◌, ◌≢◌, ℕ, List, [], ◌∷◌, ◌++◌, AllPairs, Contains, string_bytes}
+use Rattle.std.specs.Prelude.{◌≡◌, ◌≢◌, ℕ, List, ◌∷◌, ◌++◌, AllPairs, Contains, string_bytes}
 use Rattle.std.specs.List.{AllZip}
 use Rattle.edit_base.specs.Paths.{IsFolderOf, IsNormalOf}
 use Rattle.edit_base.specs.declared.errors.Error.{Error}

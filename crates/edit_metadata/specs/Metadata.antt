@@ -1,6 +1,6 @@
 -- What metadata say of a workspace: JSON as `cargo metadata` prints it (The Cargo Book, "cargo metadata",
 -- JSON format).
-use Rattle.std.specs.Prelude.{◌≡◌, ℕ, List, [], ◌∷◌, map, Option, Some, None, option_map, option_and_then, Bool, true, codes, nat_eq}
+use Rattle.std.specs.Prelude.{◌≡◌, ℕ, List, [], ◌∷◌, Option, Some, None, option_map, option_and_then, Bool, true, codes, nat_eq}
 use Rattle.std.specs.List.{AllZip, filter, list_any, starts_with}
 use Rattle.std.specs.Result.{result_ok}
 use Rattle.std.specs.Str.{IsUtf8, bytes_eq}

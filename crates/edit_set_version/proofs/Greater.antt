@@ -49,7 +49,8 @@ unfolding strip_zeros
 part-not p =
     then-not (nat_cmp 0 (part_class p)) _ (zero-not (part_class p))
     (then-not (nat_cmp 0 (value_len p)) _ (zero-not (value_len p))
-    (then-not (slice_cmp nat_cmp [] (without_zeros p)) (nat_cmp 0 (numeric_len p)) (nil-not (without_zeros p)) (zero-not (numeric_len p))))
+    (then-not (slice_cmp nat_cmp [] (without_zeros p)) (nat_cmp 0 (numeric_len p))
+    (nil-not (without_zeros p)) (zero-not (numeric_len p))))
 
 -- or below no parts
 rest-not : (ys : List (List ℕ)) → NotGreater (slice_cmp build_part_cmp [] ys)
@@ -59,7 +60,8 @@ rest-not (y ∷ ys) e = cc e
 -- or below the one empty part, of some parts
 some-not : (ys : List (List ℕ)) → (ys ≡ [] → ⊥) → NotGreater (slice_cmp build_part_cmp ([] ∷ []) ys)
 some-not [] h e = absurd (h refl)
-some-not (y ∷ ys) h e = then-not (build_part_cmp [] y) (slice_cmp build_part_cmp [] ys) (part-not y) (rest-not ys) e
+some-not (y ∷ ys) h e =
+    then-not (build_part_cmp [] y) (slice_cmp build_part_cmp [] ys) (part-not y) (rest-not ys) e
 
 -- a text has at least one part
 onto-some : (x : ℕ) (l : List (List ℕ)) → (l ≡ [] → ⊥) → onto_first x l ≡ [] → ⊥
@@ -114,7 +116,8 @@ pub greater_taken : (given : Option (List ℕ)) (current v next : Parts) → ful
 greater_taken given current v next e h = elim (cases_Bool (length v.4 == 0)) [
   | inl empty ↦
       let bare : v.4 ≡ [] = nil_from_length v.4 (eqb-true (length v.4) 0 empty) in
-      let least = subst (λ (x : List ℕ). NotGreater (build_cmp x current.4)) (sym bare) (build-not current.4) in
+      let least =
+      subst (λ (x : List ℕ). NotGreater (build_cmp x current.4)) (sym bare) (build-not current.4) in
       filled-greater given current v next
       (first-greater (precedence v current) (build_cmp v.4 current.4) e least) (rw empty at h)
   | inr some ↦

@@ -1,2 +1,10 @@
 pub mod Greater
+pub mod FolderLemmas
+pub mod TablePlaces
+pub mod Clear
+pub mod EntriesStay
+pub mod WrittenPlaces
+pub mod Following
 mod BumpRows
+pub mod PlanRows
+mod PlanTexts

@@ -1,3 +1,10 @@
 pub mod Levels
 pub mod Bumps
 pub mod BumpCauses
+pub mod Folders
+pub mod Chosen
+pub mod Entries
+pub mod SetVersioned
+pub mod PlanLines
+pub mod Follows
+pub mod PlanCauses

@@ -29,7 +29,8 @@ fn release(version: &mut Version)
 
 /// Raises the patch number, or empties the pre-release where there is one.
 fn raise_patch(version: &mut Version) -> CargoResult<()>
-    ensures changed { IsChanged (raised_by level.Patch (parts_of version.old)) version.old version.new result }
+    ensures changed { IsChanged (raised_by level.Patch (parts_of version.old)) version.old version.new
+        result }
     ensures readable { OnOk result (IsReadable (parts_of version.new)) }
 {
     if version.pre.is_empty() {

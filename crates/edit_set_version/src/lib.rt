@@ -2,6 +2,7 @@
 #![tactic(auto)]
 
 mod bump;
+pub mod laws;
 pub mod set_version;
 
 pub use set_version::{BumpLevel, TargetVersion};

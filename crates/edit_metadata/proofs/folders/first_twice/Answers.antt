@@ -1,10 +1,9 @@
-use Rattle.std.proofs.Common.{◌≡◌, ◌≢◌, ℕ, List, ◌∷◌, [], ◌++◌, ◌+◌, ap, cond, false, true, map, not, refl, string_bytes, subst, sym, take, drop, ◌∙◌, length, rules, Bool}
+use Rattle.std.proofs.Common.{◌≡◌, ◌≢◌, ℕ, List, ◌∷◌, [], ◌++◌, ◌+◌, ap, cond, false, true, map, not, refl, string_bytes, subst, sym, take, drop, ◌∙◌, rules, Bool}
 use Rattle.std.specs.List.{AllPairs}
 use Rattle.std.specs.Str.{bytes_eq}
 use Rattle.std.proofs.Math.Seq.{take-length}
 use Rattle.std.proofs.lemmas.List.{drop_more, map-append, map_more, take-append-drop}
 use Rattle.edit_metadata.specs.Metadata.{is_listed}
-use Rattle.edit_metadata.specs.Reading.{holds}
 use Rattle.edit_metadata.proofs.Ids.{apart-more, holds-more, is_listed-more, listed-has}
 use Rattle.edit_metadata.proofs.folders.first_twice.Goals as goal
 

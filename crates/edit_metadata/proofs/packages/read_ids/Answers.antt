@@ -1,7 +1,7 @@
 use Rattle.std.proofs.Common.{◌∙◌, ◌∷◌, [], ◌++◌, ap, cond, sym, true, inr, refl}
 use Rattle.std.specs.Str.{bytes_eq}
 use Rattle.serde_json.specs.View.{view}
-use Rattle.edit_metadata.specs.Metadata.{IsText, is_listed}
+use Rattle.edit_metadata.specs.Metadata.{IsText}
 use Rattle.edit_metadata.proofs.Ids.{holds-more, is_listed-more}
 use Rattle.edit_metadata.proofs.Zipped.{none-zipped, zipped-more}
 use Rattle.edit_metadata.proofs.packages.read_ids.Goals as goal

@@ -1,4 +1,4 @@
-use Rattle.std.proofs.Common.{◌+◌, ◌∷◌, [], ◌++◌, map, ap, sym, ◌∙◌, subst, take, inl, inr, ⊎_elim, rules}
+use Rattle.std.proofs.Common.{◌+◌, map, ap, sym, ◌∙◌, subst, take, inl, inr, ⊎_elim, rules}
 use Rattle.std.specs.List.{AllZip}
 use Rattle.std.proofs.lemmas.List.{map_push}
 use Rattle.serde_json.specs.View.{view}

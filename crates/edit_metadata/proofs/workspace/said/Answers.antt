@@ -1,4 +1,4 @@
-use Rattle.std.proofs.Common.{◌≡◌, Result, Ok, Err, ⊎_elim, inl, inr, rules, sym, ◌∙◌, subst}
+use Rattle.std.proofs.Common.{◌≡◌, Result, Ok, Err, ⊎_elim, inl, inr, sym, ◌∙◌, subst}
 use Rattle.std.specs.Prelude.{◌⊎◌, IfErr, MatchResult}
 use Rattle.serde_json.specs.View.{view}
 use Rattle.edit_base.specs.Errors.{IsMemory}

@@ -1,6 +1,6 @@
-use Rattle.std.proofs.Common.{⊎_elim, inl, inr, map, rules, sym, ◌∙◌, subst}
+use Rattle.std.proofs.Common.{⊎_elim, inl, inr, map, rules, sym}
 use Rattle.serde_json.specs.View.{view}
-use Rattle.edit_metadata.specs.Metadata.{SaysPackage, SaysWorkspace, WorkspaceSaid, is_listed}
+use Rattle.edit_metadata.specs.Metadata.{SaysWorkspace, is_listed}
 use Rattle.edit_metadata.specs.Reading.{IsUnsaid, holds}
 use Rattle.edit_metadata.specs.Workspaces.{packages_said}
 use Rattle.edit_metadata.proofs.Sayings.{packages-as, packages-within}

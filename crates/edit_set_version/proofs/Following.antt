@@ -1,0 +1,249 @@
+-- The requirements that follow a bumped crate admit its next version, after a plan.
+use Rattle.std.proofs.Common.{◌≡◌, ℕ, true, false, List, [], ◌∷◌, ◌++◌, Option, Some, None, refl, sym, ap, ◌∙◌, subst, ◌⊎◌, inl, inr}
+use Rattle.std.specs.Prelude.{All, codes, option_and_then, option_map}
+use Rattle.std.specs.List.{AllByRecursion, filter_map}
+use Rattle.std.proofs.lemmas.Bool.{cases_Bool}
+use Rattle.std.proofs.lemmas.List.Elements.{All-cons, All-head, All-nil, All-tail}
+use Rattle.semver.specs.Parse.{Parts}
+use Rattle.edit_document.specs.Assertions.{Place, key, same_bytes, same_place}
+use Rattle.edit_document.specs.Items.{string_in}
+use Rattle.edit_document.specs.Replaces.{Edits, emptied, is_below, written}
+use Rattle.edit_document.specs.Tree.{View, string}
+use Rattle.edit_version.proofs.Outcomes.{nothing-outcome, reach-of, settled-of, text-outcome}
+use Rattle.edit_version.specs.Laws.{Admits, CanReach, IsVersion}
+use Rattle.edit_version.specs.Requirement.{Nothing, Raised, Text, Unread, Unsupported, raise}
+use Rattle.edit_manifest.specs.Tables.{Tree, is_table_like, keyed}
+use Rattle.edit_manifest.specs.Versions.{package_version, shared_version, version_member}
+use Rattle.edit_set_version.specs.Entries.{entries, path_member, points_to, requirement, text_at}
+use Rattle.edit_set_version.specs.Folders.{Folder, folder_of, reached, same_folder}
+use Rattle.edit_set_version.specs.Follows.{CanRise, Follows, RequirementsFollow}
+use Rattle.edit_set_version.specs.SetVersioned.{Bump, Following, bumps, edits, followed, following, following_at, followings, next_in, own_edit, requirement_edit, risen, shared_edits, workspace_next}
+use Rattle.edit_set_version.proofs.Clear.{IsWritten, entry_clear, last_differs, member_below, member_clear, own_apart, reaches, root_clear, table_clear, target_clear, version_at_end, whole_apart}
+use Rattle.edit_set_version.proofs.EntriesStay.{entries_same}
+use Rattle.edit_set_version.proofs.TablePlaces.{IsEntry, entries_shaped}
+use Rattle.edit_set_version.proofs.WrittenPlaces.{In, all_by_in, all_every, all_filter_map, all_in, all_then, all_written, edits_by, edits_by_entry, emptied_other, new_at, option_cases, own_at, shared_all, unreached, untouched, written_new, written_none, written_past}
+
+-- ---- lists
+
+-- what holds of all, by recursion
+by_recursion : {A : Type 0} (P : A → Type 0) (xs : List A) → All P xs → AllByRecursion P xs
+by_recursion P [] h = tt
+by_recursion P (x ∷ xs) h = (All-head P x xs h, by_recursion P xs (All-tail P x xs h))
+
+-- and back
+of_all : {A : Type 0} (P : A → Type 0) (xs : List A) → AllByRecursion P xs → All P xs
+of_all P [] h = All-nil P
+of_all P (x ∷ xs) h = All-cons P x xs h.0 (of_all P xs h.1)
+
+-- what holds of all that is made of places holds of what is made of one of them
+of_one : {B : Type 0} (Q : B → Type 0) (f : Place → Option B) (xs : List Place)
+    → AllByRecursion Q (filter_map f xs) → (q : Place) → In q xs → (y : B) → f q ≡ Some y → Q y
+of_one Q f [] h q i y e = absurd i
+of_one {B} Q f (x ∷ xs) h q (inl is) y e =
+    let k : f x ≡ Some y = sym (ap f is) ∙ e in
+    let all : AllByRecursion Q (y ∷ filter_map f xs) = rw k at h in
+    all.0
+of_one {B} Q f (x ∷ xs) h q (inr i) y e = elim (option_cases (f x)) [
+  | inl none ↦ let rest : AllByRecursion Q (filter_map f xs) = rw none at h in of_one Q f xs rest q i y e
+  | inr some ↦
+      let all : AllByRecursion Q (some.0 ∷ filter_map f xs) = rw some.1 at h in
+      of_one Q f xs all.1 q i y e
+]
+
+-- ---- what follows at an entry
+
+-- the parts of what follows
+record HasParts (o : Option (List ℕ)) (v : Option Parts) (f : Following) : Type 0 where
+  text : o ≡ Some f.text
+  next : v ≡ Some f.next
+
+-- they are both there
+following_parts : (q : Place) (o : Option (List ℕ)) (v : Option Parts) (f : Following)
+    → following_at q o v ≡ Some f → HasParts o v f
+following_parts q None v f h = cc h
+following_parts q (Some text) None f h = cc h
+following_parts q (Some text) (Some v) f h = record { text = cc h; next = cc h }
+
+-- a requirement stands in a table
+record IsRequired (t : Tree) (q : Place) (text : List ℕ) : Type 0 where
+  like : is_table_like (t q) ≡ true
+  said : text_at t (version_member q) ≡ Some text
+
+-- that is where it is told
+required : (t : Tree) (q : Place) (text : List ℕ) → requirement t q ≡ Some text → IsRequired t q text
+required t q text h = elim (cases_Bool (is_table_like (t q))) [
+  | inl like ↦ record { like = like; said = rw like at h }
+  | inr other ↦ let e = rw other at h in cc e
+]
+
+-- the next versions of bumped crates are versions
+next_is_version : (bs : List Bump) (folder : Folder) (v : Parts) → AllByRecursion (λ b. IsVersion b.next) bs
+    → next_in bs folder ≡ Some v → IsVersion v
+next_is_version [] folder v all h = cc h
+next_is_version (b ∷ bs) folder v all h = elim (cases_Bool (same_folder (folder_of b.member.path) folder)) [
+  | inl same ↦
+      let e : ◌≡◌ {A = Option Parts} (Some b.next) (Some v) = rw same at h in
+      let k : b.next ≡ v = cc e in
+      subst IsVersion k all.0
+  | inr other ↦
+      let e : next_in bs folder ≡ Some v = rw other at h in
+      next_is_version bs folder v all.1 e
+]
+
+-- so is the one that an entry follows
+followed_is_version : (bs : List Bump) (o : Option Folder) (v : Parts)
+    → AllByRecursion (λ b. IsVersion b.next) bs → option_and_then (next_in bs) o ≡ Some v → IsVersion v
+followed_is_version bs None v all h = cc h
+followed_is_version bs (Some folder) v all h = next_is_version bs folder v all h
+
+-- a requirement that is not refused stays or becomes another
+rises : (r : Raised) → CanRise r → (r ≡ Nothing) ⊎ ((s : List ℕ) × (r ≡ Text s))
+rises Nothing h = inl refl
+rises (Text s) h = inr (s, refl)
+rises Unread h = absurd h
+rises (Unsupported c) h = absurd h
+
+-- the same text
+text_is : (a b : List ℕ) → ◌≡◌ {A = Option (List ℕ)} (Some a) (Some b) → a ≡ b
+text_is a b e = cc e
+
+-- at one entry: the requirement was raised, or it stays and needs no other text
+at_entry : (bs : List Bump) (file : List ℕ) (tree base : Tree) (q : Place) (o : Option View) (text : List ℕ)
+    (v : Parts) → is_table_like (tree q) ≡ true → In q (entries tree) → followed bs file tree q ≡ Some v
+    → base (version_member q) ≡ tree (version_member q)
+    → o ≡ written (edits_by (new_at bs file tree) (entries tree)) base (version_member q)
+    → option_and_then string_in o ≡ Some text
+    → AllByRecursion (λ f. CanRise (raise f.text f.next)) (followings bs file tree)
+    → IsVersion v → CanReach text v → Admits text v
+at_entry bs file tree base q o text v like i follows kept look now all big can =
+    let asked : requirement tree q ≡ text_at tree (version_member q) = rw like refl in
+    elim (option_cases (text_at tree (version_member q))) [
+      | inl gone ↦
+          let new : new_at bs file tree q ≡ None =
+          ap (λ (x : Option (List ℕ)). option_and_then risen (following_at q x (followed bs file tree q)))
+          (asked ∙ gone) in
+          let stands : o ≡ tree (version_member q) =
+          look ∙ (written_none (new_at bs file tree) base (entries tree) q new ∙ kept) in
+          let e : ◌≡◌ {A = Option (List ℕ)} (Some text) None =
+          sym now ∙ (ap (λ x. option_and_then string_in x) stands ∙ gone) in
+          cc e
+      | inr old ↦
+          let req : requirement tree q ≡ Some old.0 = asked ∙ old.1 in
+          let f : Following = record { place = q; text = old.0; next = v } in
+          let here : following bs file tree q ≡ Some f = rw (req, follows) refl in
+          let fine : CanRise (raise old.0 v) =
+          of_one (λ g. CanRise (raise g.text g.next)) (following bs file tree) (entries tree) all q i f
+          here in
+          elim (rises (raise old.0 v) fine) [
+            | inl stays ↦
+                let new : new_at bs file tree q ≡ None = rw (here, stays) refl in
+                let stands : o ≡ tree (version_member q) =
+                look ∙ (written_none (new_at bs file tree) base (entries tree) q new ∙ kept) in
+                let e : old.0 ≡ text =
+                text_is old.0 text (sym old.1 ∙ (sym (ap (λ x. option_and_then string_in x) stands) ∙ now)) in
+                let settled : raise text v ≡ Nothing = subst (λ (x : List ℕ). raise x v ≡ Nothing) e stays in
+                reach-of text v text big (nothing-outcome text v settled) can
+            | inr goes ↦
+                let new : new_at bs file tree q ≡ Some goes.0 = rw (here, goes.1) refl in
+                let stands : o ≡ Some (string goes.0) =
+                look ∙ written_new (new_at bs file tree) base (entries tree) q goes.0 i new in
+                let e : goes.0 ≡ text =
+                text_is goes.0 text (sym (ap (λ x. option_and_then string_in x) stands) ∙ now) in
+                let raised : raise old.0 v ≡ Text text =
+                subst (λ (x : List ℕ). raise old.0 v ≡ Text x) e goes.1 in
+                let settled = settled-of old.0 v text big (text-outcome old.0 v text raised) in
+                reach-of text v text big (nothing-outcome text v settled.1) can
+          ]
+    ]
+
+-- ---- the law
+
+-- after a plan, each requirement that follows a bumped crate admits its next version
+pub follow : RequirementsFollow
+follow t a p file tree after readable rising left =
+    of_all Follows (followings bs file after)
+    (all_filter_map (λ q. In q (entries tree)) Follows (following bs file after) at_each (entries after)
+    (subst (λ (qs : List Place). AllByRecursion (λ q. In q (entries tree)) qs) (sym same)
+    (all_by_in (λ q. In q (entries tree)) (entries tree) (λ q i. i))))
+  where
+    bs : List Bump
+    bs = bumps t a p
+
+    shared : Edits
+    shared = shared_edits (same_bytes file p.path) (workspace_next t a p)
+
+    owns : Edits
+    owns = filter_map (own_edit file) bs
+
+    reqs : Edits
+    reqs = filter_map requirement_edit (followings bs file tree)
+
+    es : Edits
+    es = edits t a p file tree
+
+    -- what is written by no edit stays
+    clear : (q : Place) → ((e : Place) → IsWritten e → reaches e q ≡ false) → after q ≡ tree q
+    clear q h =
+        left q ∙ unreached es tree q
+        (all_then (λ e. IsWritten e.0) (λ e. reaches e.0 q ≡ false) (λ e w. h e.0 w) es
+        (all_written t a p file tree))
+
+    same : entries after ≡ entries tree
+    same = entries_same after tree (record {
+      root = clear [] root_clear;
+      targets = clear (keyed (codes "target" ∷ [])) (λ e w. member_clear e (codes "target") w);
+      target = λ name. clear (keyed (codes "target" ∷ name ∷ [])) (λ e w. target_clear e name w);
+      table = λ place shape. clear place (λ e w. table_clear e place w shape);
+    })
+
+    at_each : (q : Place) → In q (entries tree) → (f : Following) → following bs file after q ≡ Some f
+        → Follows f
+    at_each q i f here =
+        let is : IsEntry q = all_in IsEntry (entries tree) q (entries_shaped tree) i in
+        let away : (e : Place) → IsWritten e → reaches e q ≡ false =
+        λ e w. subst (λ (z : Place). reaches e z ≡ false) (sym is.is)
+        (entry_clear e is.table is.name w is.shape) in
+        let stays : after q ≡ tree q = clear q away in
+        let path : after (path_member q) ≡ tree (path_member q) =
+        left (path_member q) ∙ untouched es tree (path_member q)
+        (all_then (λ e. IsWritten e.0) (λ e. same_place e.0 (path_member q) ≡ false)
+        (λ e w. let m = version_at_end e.0 w in
+        subst (λ (z : Place). same_place z (path_member q) ≡ false) (sym m.is)
+        (last_differs m.front q (key (codes "version")) (key (codes "path")) refl))
+        es (all_written t a p file tree))
+        (all_then (λ e. IsWritten e.0) (λ e. is_below e.0 (path_member q) ≡ false)
+        (λ e w. member_below e.0 q (key (codes "path")) (away e.0 w))
+        es (all_written t a p file tree)) in
+        let kept : emptied es tree (version_member q) ≡ tree (version_member q) =
+        emptied_other es tree (version_member q)
+        (all_then (λ e. IsWritten e.0) (λ e. is_below e.0 (version_member q) ≡ false)
+        (λ e w. member_below e.0 q (key (codes "version")) (away e.0 w))
+        es (all_written t a p file tree)) in
+        let Other : Place × List ℕ → Type 0 = λ e. same_place e.0 (version_member q) ≡ false in
+        let look : after (version_member q)
+        ≡ written (edits_by (new_at bs file tree) (entries tree)) (emptied es tree) (version_member q) =
+        left (version_member q)
+        ∙ (written_past shared (owns ++ reqs) (emptied es tree) (version_member q)
+        (shared_all Other (λ s. subst (λ (z : Place). same_place shared_version (version_member z) ≡ false)
+        (sym is.is) (whole_apart is.table is.name is.shape)) _ _)
+        ∙ (written_past owns reqs (emptied es tree) (version_member q)
+        (all_filter_map (λ b. Unit {0}) Other (own_edit file)
+        (λ b none y e. subst (λ (z : Place). same_place z (version_member q) ≡ false) (own_at file b y e)
+        (subst (λ (z : Place). same_place package_version (version_member z) ≡ false)
+        (sym is.is) (own_apart is.table is.name is.shape)))
+        bs (all_every (λ b. Unit {0}) (λ b. tt) bs))
+        ∙ ap (λ ws. written ws (emptied es tree) (version_member q))
+        (edits_by_entry bs file tree (entries tree)))) in
+        let parts = following_parts q (requirement after q) (followed bs file after q) f here in
+        let now = required after q f.text parts.text in
+        let like : is_table_like (tree q) ≡ true = sym (ap is_table_like stays) ∙ now.like in
+        let follows : followed bs file tree q ≡ Some f.next =
+        sym (ap (λ (x : Option View). option_and_then (next_in bs) (option_map (reached file)
+        (option_and_then string_in x))) path) ∙ parts.next in
+        λ can. at_entry bs file tree (emptied es tree) q (after (version_member q)) f.text f.next like i
+        follows
+        kept look now.said
+        (by_recursion (λ g. CanRise (raise g.text g.next)) (followings bs file tree) rising)
+        (followed_is_version bs (points_to file tree q) f.next
+        (by_recursion (λ b. IsVersion b.next) bs readable) follows)
+        can

@@ -1,0 +1,33 @@
+-- The entries of a manifest's dependency tables, and the folders that they point to (Cargo reference,
+-- "Specifying Dependencies", Specifying path dependencies).
+use Rattle.std.specs.Prelude.{ℕ, List, map, Option, None, if◌then◌else◌, codes, option_map, option_and_then}
+use Rattle.std.specs.List.{flat_map}
+use Rattle.edit_document.specs.Assertions.{Place, key, at}
+use Rattle.edit_document.specs.Items.{string_in}
+use Rattle.edit_manifest.specs.Tables.{Tree, dependency_tables, is_table_like, member_names}
+use Rattle.edit_manifest.specs.Versions.{version_member}
+use Rattle.edit_set_version.specs.Folders.{Folder, reached}
+
+-- the entries of a table, in the order of their keys
+abbrev pub entries_in : Tree → Place → List Place
+entries_in t table = map (λ name. at table (key name)) (member_names (t table))
+
+-- the entries of a manifest, table by table
+abbrev pub entries : Tree → List Place
+entries t = flat_map (entries_in t) (dependency_tables t)
+
+-- the string that stands there
+abbrev pub text_at : Tree → Place → Option (List ℕ)
+text_at t place = option_and_then string_in (t place)
+
+-- the text requirement of an entry that is a table
+abbrev pub requirement : Tree → Place → Option (List ℕ)
+requirement t place = if is_table_like (t place) then text_at t (version_member place) else None
+
+-- the member `path` of an entry
+abbrev pub path_member : Place → Place
+path_member place = at place (key (codes "path"))
+
+-- the folder that an entry of the manifest at a path points to
+abbrev pub points_to : List ℕ → Tree → Place → Option Folder
+points_to file t place = option_map (reached file) (text_at t (path_member place))

@@ -1,0 +1,46 @@
+-- Folders, as the names from the root down, the last one first (own, after the rules of paths of
+-- cargo-edit).
+use Rattle.std.specs.Prelude.{ℕ, List, [], ◌∷◌, Bool, true, false, ◌||◌, ◌&&◌, codes, nat_eq, if◌then◌else◌}
+use Rattle.std.specs.List.{starts_with}
+use Rattle.edit_document.specs.Assertions.{same_bytes}
+use Rattle.edit_base.specs.Paths.{parts_of}
+
+-- a folder
+abbrev pub Folder : Type 0
+Folder = List (List ℕ)
+
+-- one up; the root stays
+abbrev pub above : Folder → Folder
+above [] = []
+above (name ∷ names) = names
+
+-- one part further: empty parts and `.` stay, `..` goes up
+abbrev pub further : Folder → List ℕ → Folder
+further folder part =
+    if same_bytes part [] || same_bytes part (codes ".") then folder
+    else (if same_bytes part (codes "..") then above folder else part ∷ folder)
+
+-- along the parts of a path
+abbrev pub along : Folder → List (List ℕ) → Folder
+along folder [] = folder
+along folder (part ∷ rest) = along (further folder part) rest
+
+-- the folder that an absolute path names
+abbrev pub names_of : List ℕ → Folder
+names_of path = along [] (parts_of path)
+
+-- the folder of a file at an absolute path
+abbrev pub folder_of : List ℕ → Folder
+folder_of path = above (names_of path)
+
+-- a path joined to the folder of a file, and made normal
+abbrev pub reached : List ℕ → List ℕ → Folder
+reached file path =
+    if starts_with nat_eq path (codes "/") then names_of path else along (folder_of file) (parts_of path)
+
+-- the two folders are the same
+abbrev pub same_folder : Folder → Folder → Bool
+same_folder [] [] = true
+same_folder [] (n ∷ ns) = false
+same_folder (m ∷ ms) [] = false
+same_folder (m ∷ ms) (n ∷ ns) = same_bytes m n && same_folder ms ns

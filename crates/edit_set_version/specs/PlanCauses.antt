@@ -1,0 +1,65 @@
+-- What stands against a set-version plan, and with which refusal it is told (own, after cargo-edit).
+use Rattle.std.specs.Prelude.{◌≡◌, ◌≢◌, ℕ, List, [], ◌++◌, Contains, false, codes, map, option_to_list, string_bytes}
+use Rattle.std.specs.List.{filter, join_by}
+use Rattle.semver.specs.Parse.{Parts}
+use Rattle.edit_base.specs.declared.errors.Error.{Error}
+use Rattle.edit_base.specs.declared.errors.Error.TheVariants as error
+use Rattle.edit_base.specs.declared.errors.details.MissingKind.TheVariants as kind
+use Rattle.edit_document.specs.Tree.{is_value_at, view_at}
+use Rattle.edit_manifest.specs.Versions.{package_version}
+use Rattle.edit_syntax.specs.Grammar.{Text}
+use Rattle.edit_version.specs.Refusals.{IsRefusal}
+use Rattle.edit_version.specs.Requirement.{raise}
+use Rattle.edit_set_version.specs.BumpCauses.{IsUnbumped}
+use Rattle.edit_set_version.specs.Bumps.{Target, bump}
+use Rattle.edit_set_version.specs.Chosen.{Asked, Member, chosen, held_back, inheriting, missing}
+use Rattle.edit_set_version.specs.SetVersioned.{Bump, Following, Project, followings, workspace_current, writes_own}
+
+-- names in a row
+abbrev pub listed : List Member → List ℕ
+listed ms = join_by (λ name. name) (codes ", ") (map (λ m. m.name) ms)
+
+-- names that no member has are told, each once
+abbrev pub IsMissing : List (List ℕ) → Error → Type 0
+IsMissing names (error.PackagesMissing told) =
+    (told.kind ≡ kind.Package) × (names ≢ []) × (map string_bytes told.names.items ≡ names)
+IsMissing names _ = ⊥
+
+-- excluded members are told that inherit, and the others that do and are asked for
+abbrev pub IsHeldBack : List Member → List Member → Error → Type 0
+IsHeldBack held others (error.CannotExclude excluded named) =
+    (held ≢ []) × (string_bytes excluded ≡ listed held) × (string_bytes named ≡ listed others)
+IsHeldBack held others _ = ⊥
+
+-- the versions that a plan bumps: the workspace's, and those of the chosen members
+abbrev pub currents : Asked → Project → List Parts
+currents a p = option_to_list (workspace_current a p) ++ map (λ m. m.version) (chosen a p.members)
+
+-- one of them is not bumped
+pub record HasUnbumped (t : Target) (a : Asked) (p : Project) (e : Error) : Type 0 where
+  pub current : Parts
+  pub among : Contains (currents a p) current
+  pub refused : IsUnbumped (bump t a.metadata current) current e
+
+-- the version of a bumped member is to be written into the manifest at a path, where no value stands
+pub record HasNoLiteral (bs : List Bump) (file : List ℕ) (form : Text) (e : Error) : Type 0 where
+  pub written : filter (writes_own file) bs ≢ []
+  pub no_value : is_value_at form package_version ≡ false
+  pub told : e ≡ error.NoVersionPlace
+
+-- a requirement that follows cannot rise
+pub record HasFixed (bs : List Bump) (file : List ℕ) (form : Text) (e : Error) : Type 0 where
+  pub following : Following
+  pub among : Contains (followings bs file (view_at form)) following
+  pub fixed : IsRefusal (raise following.text following.next) following.text e
+
+-- what stands against a plan in the choice of members and in their versions
+pub data StandsAgainst (t : Target) (a : Asked) (p : Project) (e : Error) : Type 0 where
+  no_package : IsMissing (missing a (map (λ m. m.name) p.members)) e → StandsAgainst t a p e
+  excluded : IsHeldBack (held_back a p.members) (inheriting a p.members) e → StandsAgainst t a p e
+  version : HasUnbumped t a p e → StandsAgainst t a p e
+
+-- what stands against a plan in a manifest
+pub data ManifestStandsAgainst (bs : List Bump) (file : List ℕ) (form : Text) (e : Error) : Type 0 where
+  literal : HasNoLiteral bs file form e → ManifestStandsAgainst bs file form e
+  requirement : HasFixed bs file form e → ManifestStandsAgainst bs file form e

@@ -1,0 +1,64 @@
+-- What a set-version plan tells, line by line (own, after cargo-edit).
+use Rattle.std.specs.Prelude.{ℕ, List, [], ◌∷◌, ◌++◌, not, if◌then◌else◌, Option, Some, codes, map, option_map}
+use Rattle.std.specs.List.{filter, filter_map, flat_map}
+use Rattle.semver.specs.Identifiers.{parts_text}
+use Rattle.semver.specs.Parse.{Parts}
+use Rattle.edit_document.specs.Assertions.{same_bytes}
+use Rattle.edit_manifest.specs.Tables.{Tree}
+use Rattle.edit_manifest.specs.Versions.{is_inherited}
+use Rattle.edit_set_version.specs.Bumps.{Target}
+use Rattle.edit_set_version.specs.Chosen.{Asked, Member}
+use Rattle.edit_set_version.specs.SetVersioned.{Bump, Project, bumps, followings, risen, workspace_current, workspace_next}
+
+-- an action and a text
+abbrev pub Told : Type 0
+Told = List ℕ × List ℕ
+
+-- a version that becomes another
+abbrev pub upgrading : List ℕ → Parts → Parts → List ℕ → Told
+upgrading name old new note = (
+  codes "Upgrading",
+  name ++ (codes " from " ++ (parts_text old ++ (codes " to " ++ (parts_text new
+      ++ note)))),
+)
+
+-- a requirement that becomes another
+abbrev pub updating : List ℕ → List ℕ → List ℕ → Told
+updating name old new =
+    (codes "Updating", name ++ (codes "'s dependency from " ++ (old ++ (codes " to " ++ new))))
+
+-- the line of the workspace, where its version becomes another
+abbrev pub shared_lines : Option Parts → Option Parts → List Told
+shared_lines (Some old) (Some new) = upgrading (codes "workspace version") old new [] ∷ []
+shared_lines _ _ = []
+
+-- a manifest under the name that lines give it
+pub record Named : Type 0 where
+  pub name : List ℕ
+  pub path : List ℕ
+  pub tree : Tree
+
+-- the manifests: the root, named `workspace`, and then those of the other members
+abbrev pub manifests : Project → List Named
+manifests p = record { name = codes "workspace"; path = p.path; tree = p.tree }
+    ∷ map (λ m. record { name = m.name; path = m.path; tree = m.tree })
+    (filter (λ m. not (same_bytes m.path p.path)) p.members)
+
+-- the lines of a manifest for one bump, in the order of its entries
+abbrev pub updates : Bump → Named → List Told
+updates b m =
+    filter_map (λ f. option_map (updating m.name f.text) (risen f)) (followings (b ∷ []) m.path m.tree)
+
+-- what is told of a version beside the two versions
+abbrev pub note_of : Member → List ℕ
+note_of m = if is_inherited m.tree then codes " (inherited from workspace)" else []
+
+-- the lines of a bump: its own, and then those of the requirements that follow it
+abbrev pub lines_of : Project → Bump → List Told
+lines_of p b =
+    upgrading b.member.name b.member.version b.next (note_of b.member) ∷ flat_map (updates b) (manifests p)
+
+-- the lines: the workspace's, and then those of the bumps
+abbrev pub lines : Target → Asked → Project → List Told
+lines t a p =
+    shared_lines (workspace_current a p) (workspace_next t a p) ++ flat_map (lines_of p) (bumps t a p)

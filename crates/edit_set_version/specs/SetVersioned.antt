@@ -1,0 +1,109 @@
+-- What a set-version plan writes (own, after cargo-edit).
+use Rattle.std.specs.Prelude.{ℕ, List, [], ◌∷◌, ◌++◌, ◌&&◌, Bool, true, false, not, if◌then◌else◌, Option, Some, None, map, option_map, option_and_then, option_to_list}
+use Rattle.std.specs.List.{filter_map}
+use Rattle.semver.specs.Identifiers.{parts_text}
+use Rattle.semver.specs.Parse.{Parts}
+use Rattle.edit_document.specs.Assertions.{Place, same_bytes}
+use Rattle.edit_document.specs.Replaces.{Edits}
+use Rattle.edit_manifest.specs.Tables.{Tree}
+use Rattle.edit_manifest.specs.Versions.{is_inherited, package_version, shared_version, version_member, workspace_version}
+use Rattle.edit_version.specs.Requirement.{Raised, Text, raise}
+use Rattle.edit_set_version.specs.Bumps.{Target, bump, next_of}
+use Rattle.edit_set_version.specs.Chosen.{Asked, Member, bumps_workspace, chosen}
+use Rattle.edit_set_version.specs.Entries.{entries, points_to, requirement}
+use Rattle.edit_set_version.specs.Folders.{Folder, folder_of, same_folder}
+
+-- a workspace: its root manifest, which may be a member's too, and its members
+pub record Project : Type 0 where
+  pub path : List ℕ
+  pub tree : Tree
+  pub members : List Member
+
+-- ---- versions
+
+-- a member, and its next version
+pub record Bump : Type 0 where
+  pub member : Member
+  pub next : Parts
+
+-- the member's bump, where its version becomes another
+abbrev pub bump_of : Target → Asked → Member → Option Bump
+bump_of t a m = option_map (λ v. record { member = m; next = v }) (next_of (bump t a.metadata m.version))
+
+-- the bumps of the chosen members, in their order
+abbrev pub bumps : Target → Asked → Project → List Bump
+bumps t a p = filter_map (bump_of t a) (chosen a p.members)
+
+-- the version of the workspace, where it is to be bumped and is one
+abbrev pub workspace_current : Asked → Project → Option Parts
+workspace_current a p = if bumps_workspace a p.members then workspace_version p.tree else None
+
+-- the next version of the workspace, where it becomes another
+abbrev pub workspace_next : Target → Asked → Project → Option Parts
+workspace_next t a p = option_and_then (λ v. next_of (bump t a.metadata v)) (workspace_current a p)
+
+-- ---- requirements
+
+-- the next version of the crate in a folder
+abbrev pub next_in : List Bump → Folder → Option Parts
+next_in [] folder = None
+next_in (b ∷ bs) folder =
+    if same_folder (folder_of b.member.path) folder then Some b.next else next_in bs folder
+
+-- the next version of the crate that an entry points to
+abbrev pub followed : List Bump → List ℕ → Tree → Place → Option Parts
+followed bs file t place = option_and_then (next_in bs) (points_to file t place)
+
+-- a requirement that follows a bump: where its entry stands, its text, and the next version
+pub record Following : Type 0 where
+  pub place : Place
+  pub text : List ℕ
+  pub next : Parts
+
+-- with both, where both are there
+abbrev pub following_at : Place → Option (List ℕ) → Option Parts → Option Following
+following_at place (Some text) (Some v) = Some (record { place = place; text = text; next = v })
+following_at place _ _ = None
+
+-- what follows at an entry
+abbrev pub following : List Bump → List ℕ → Tree → Place → Option Following
+following bs file t place = following_at place (requirement t place) (followed bs file t place)
+
+-- the requirements of a manifest that follow these bumps, in the order of the entries
+abbrev pub followings : List Bump → List ℕ → Tree → List Following
+followings bs file t = filter_map (following bs file t) (entries t)
+
+-- the new text, where there is one
+abbrev pub text_of : Raised → Option (List ℕ)
+text_of (Text s) = Some s
+text_of _ = None
+
+-- what a requirement that follows becomes, where that is another text
+abbrev pub risen : Following → Option (List ℕ)
+risen f = text_of (raise f.text f.next)
+
+-- ---- what is written into a manifest
+
+-- a requirement's new text
+abbrev pub requirement_edit : Following → Option (Place × List ℕ)
+requirement_edit f = option_map (λ s. (version_member f.place, s)) (risen f)
+
+-- the manifest at this path is that of the bumped member, which does not inherit its version
+abbrev pub writes_own : List ℕ → Bump → Bool
+writes_own file b = same_bytes b.member.path file && not (is_inherited b.member.tree)
+
+-- that member's version
+abbrev pub own_edit : List ℕ → Bump → Option (Place × List ℕ)
+own_edit file b = if writes_own file b then Some (package_version, parts_text b.next) else None
+
+-- the version of the workspace in the root manifest
+abbrev pub shared_edits : Bool → Option Parts → Edits
+shared_edits true next = map (λ v. (shared_version, parts_text v)) (option_to_list next)
+shared_edits false next = []
+
+-- the literals of versions and of requirements that are written into the manifest at a path
+abbrev pub edits : Target → Asked → Project → List ℕ → Tree → Edits
+edits t a p file tree =
+    shared_edits (same_bytes file p.path) (workspace_next t a p)
+    ++ (filter_map (own_edit file) (bumps t a p)
+    ++ filter_map requirement_edit (followings (bumps t a p) file tree))

@@ -1,0 +1,7 @@
+//! Tests of workspaces, by the public calls of `edit_metadata` alone.
+//!
+//! They stand in a crate of their own, since a crate with tests is proved once more with them.
+#![tactic(auto)]
+
+#[cfg(test)]
+mod workspaces;
