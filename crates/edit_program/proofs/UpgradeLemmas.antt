@@ -6,7 +6,11 @@ use Rattle.edit_sources.specs.Store.{Files, SameFiles}
 use Rattle.edit_sources.specs.declared.file_index.FileIndex.{FileIndex}
 use Rattle.edit_report.specs.declared.output.Output.{Output}
 use Rattle.edit_program.specs.Upgrading.{IsCutShort, IsIndexRead, IsManifestRead, IsPlanned, IsTorn, IsUpgraded, IsWritten}
-use Rattle.edit_program.proofs.PassedWords.{as_before, same_twice}
+use Rattle.edit_manifest.proofs.PassedWords.{as_before}
+
+-- the same files twice are the same files
+same_twice : (old mid now : Files) → SameFiles old mid → SameFiles mid now → SameFiles old now
+same_twice old mid now first second path = second path ∙ first path
 
 -- what was read, planned and written after another leaves the store as the clause says
 pub cut_short : (tells told_mid : Bool) (old mid now new : Files)

@@ -1,5 +1,6 @@
 -- What an upgrade of one manifest reads, plans and writes.
 use Rattle.std.specs.Prelude.{◌≡◌, ℕ, List, [], All, true, false, IsSome, Option, Some, None, Ok, codes, option_and_then, slice_get, string_bytes}
+use Rattle.edit_base.specs.Paths.{IsNormalOf, joined}
 use Rattle.edit_document.specs.Assertions.{at, key}
 use Rattle.edit_syntax.specs.Grammar.{Text}
 use Rattle.edit_document.specs.Items.{string_in}
@@ -19,7 +20,11 @@ use Rattle.cargo_edit.specs.Upgraded.{HasRows, IsNeededBy}
 use Rattle.cargo_edit.specs.declared.upgrade.Look.{Look}
 use Rattle.cargo_edit.specs.declared.upgrade.Options.{Options}
 use Rattle.edit_report.specs.declared.output.Output.{Output}
-use Rattle.edit_program.specs.Located.{IsAbsoluteOf, IsManifestPath}
+use Rattle.edit_manifest.specs.Located.{IsManifestPath}
+
+-- the text is the normal form of the path, which starts in the current folder where it is relative
+abbrev pub IsAbsoluteOf : List ℕ → List ℕ → List ℕ → Type 0
+IsAbsoluteOf current path text = IsNormalOf (joined current path) text
 
 -- what is read of something that stands, nothing where nothing does
 abbrev pub when_there : {A B : Type 0} → Option A → Option B → Option B
@@ -47,7 +52,7 @@ pub record HasRust (bytes : List ℕ) (rust : Option Numbers) : Type 0 where
 -- the manifest that is named was read, with its own Rust version
 pub record IsManifestRead (files : Files) (current named path bytes : List ℕ)
     (rust : Option Numbers) : Type 0 where
-  pub at : IsManifestPath files current named path
+  pub at : IsManifestPath files current (Some named) path
   pub is : files path ≡ Some bytes
   pub version : HasRust bytes rust
 

@@ -8,13 +8,13 @@ ghost use Rattle.edit_base.specs.declared.errors.DeviceCall.TheVariants as call;
 ghost use Rattle.edit_version.specs.RustVersions.{numbers_of};
 ghost use Rattle.edit_sources.specs.Store.{OnlyReads};
 ghost use Rattle.edit_sources.specs.Store.{SameFiles};
+ghost use Rattle.edit_manifest.specs.Located.{IsFault};
 ghost use Rattle.cargo_edit.specs.Causes.{IsBadManifest};
 ghost use Rattle.edit_program.specs.Causes.{IsIndexCause, IsManifestCause, IsPlanCause, IsUpgradeCause};
-ghost use Rattle.edit_program.specs.Located.{IsFault};
 ghost use Rattle.edit_program.specs.Upgrading.{HasRust, IsCutShort, IsDefault, IsIndexRead, IsManifestRead, IsPlanned, IsTorn, IsUpgraded, IsWritten, own_rust, package_text};
 
 use crate::arguments::UpgradeWords;
-use crate::locate::{absolute, find};
+use crate::locate::{absolute, manifest_path};
 use crate::refusal::{RunResult, at_byte, at_path};
 use cargo_edit::{Input, Options, Output, plan_documents};
 use edit_base::{CargoResult, Error};
@@ -132,7 +132,7 @@ fn read_manifest<S: Store>(
         ⊎ ((S.view files.old).tells ≡ true
         → IsManifestCause (S.view files.old).file_at current.now named.now r.error))) }
 {
-    let path = find(alloc, files, named, current)?;
+    let path = manifest_path(alloc, files, named, current)?;
     let bytes = match files.read(alloc, path.as_str()) {
         Ok(Some(bytes)) => bytes,
         Ok(None) => return Err(at_path(alloc, Error::NoManifest, path.as_str())),
