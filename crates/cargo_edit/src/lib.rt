@@ -19,8 +19,8 @@ pub use edit_base::{
 };
 pub use edit_document::{Document, Item, Keys, NewItem, NewValue, Place, Step};
 pub use edit_manifest::{
-    DepKind, DepTable, LocalManifest, Manifest, dependency_tables, find, get_dep_version,
-    set_dep_version,
+    DepKind, DepTable, LocalManifest, Manifest, copied_place, dependency_tables, find,
+    get_dep_version, set_dep_version,
 };
 pub use edit_metadata::Input;
 pub use edit_record::{

@@ -9,7 +9,8 @@ use Rattle.edit_sources.specs.IndexLines.{RefusesLines, lines_of}
 use Rattle.edit_sources.specs.Store.{Files, StandsAt}
 use Rattle.edit_sources.specs.declared.file_index.FileIndex.{FileIndex}
 use Rattle.edit_sources.specs.declared.store.Kind.TheVariants.{Folder}
-use Rattle.cargo_edit.specs.Causes.{HasBadEntry, IsBadManifest}
+use Rattle.cargo_edit.specs.Causes.{HasBadEntry}
+use Rattle.edit_manifest.specs.Loaded.{IsBadManifest}
 use Rattle.cargo_edit.specs.Looks.{Kept}
 use Rattle.edit_manifest.specs.Located.{HasNoManifest, IsFault, IsManifestPath}
 use Rattle.edit_program.specs.Upgrading.{IsAbsoluteOf, IsIndexRead, IsManifestRead}
