@@ -101,8 +101,10 @@ abbrev pub IsTorn : Option Output → Files → Files → Type 0
 IsTorn None old new = ⊥
 IsTorn (Some output) old new = SameBut (string_bytes output.path) old new
 
--- the manifest that is named was upgraded: its plan's output was written
-pub record IsUpgraded (current named index_named : List ℕ) (old new : Files) : Type 0 where
+-- the manifest that is named was read, and a plan made for it by the index file that is named, of whose output
+-- this holds
+pub record IsPlannedTo (Leaves : Option Output → Files → Files → Type 0) (current named index_named : List ℕ)
+    (old new : Files) : Type 0 where
   pub path : List ℕ
   pub bytes : List ℕ
   pub rust : Option Numbers
@@ -111,16 +113,12 @@ pub record IsUpgraded (current named index_named : List ℕ) (old new : Files) :
   pub manifest : IsManifestRead old current named path bytes rust
   pub indexed : IsIndexRead old current index_named index
   pub planned : IsPlanned path bytes rust index outputs
-  pub written : IsWritten (slice_get outputs 0) old new
+  pub leaves : Leaves (slice_get outputs 0) old new
+
+-- the manifest that is named was upgraded: its plan's output was written
+abbrev pub IsUpgraded : List ℕ → List ℕ → List ℕ → Files → Files → Type 0
+IsUpgraded current named index_named old new = IsPlannedTo IsWritten current named index_named old new
 
 -- the same up to the write, which was refused
-pub record IsCutShort (current named index_named : List ℕ) (old new : Files) : Type 0 where
-  pub path : List ℕ
-  pub bytes : List ℕ
-  pub rust : Option Numbers
-  pub index : FileIndex
-  pub outputs : List Output
-  pub manifest : IsManifestRead old current named path bytes rust
-  pub indexed : IsIndexRead old current index_named index
-  pub planned : IsPlanned path bytes rust index outputs
-  pub torn : IsTorn (slice_get outputs 0) old new
+abbrev pub IsCutShort : List ℕ → List ℕ → List ℕ → Files → Files → Type 0
+IsCutShort current named index_named old new = IsPlannedTo IsTorn current named index_named old new
