@@ -1,6 +1,6 @@
 -- The plan of one input, as a plan of inputs.
 use Rattle.std.proofs.Common.{◌≡◌, ◌∷◌, [], List, ℕ, Some, Bool, true, false, zero, suc, refl, ap, ◌∙◌, sym, subst, inl, inr, ◌⊎◌, append-nil, arith, get_or, length, map}
-use Rattle.std.specs.Prelude.{All, filter, if◌then◌else◌, not, slice_get, string_bytes, ◌==◌}
+use Rattle.std.specs.Prelude.{All, filter, if◌then◌else◌, not, slice_get, string_bytes, ◌==◌, IsUtf8}
 use Rattle.std.specs.Global.{Vec}
 use Rattle.std.specs.Str.{bytes_eq}
 use Rattle.std.proofs.lemmas.List.Elements.{All-head, All-tail, All-weaker}
@@ -8,10 +8,11 @@ use Rattle.edit_base.specs.Errors.{IsMemory}
 use Rattle.edit_document.specs.Replaces.{Edits}
 use Rattle.edit_document.specs.Tree.{view_at}
 use Rattle.edit_base.specs.declared.errors.Error.{Error}
+use Rattle.edit_manifest.specs.Loaded.{IsBadManifest}
 use Rattle.edit_sources.specs.Index.{Outcomes}
 use Rattle.edit_sources.specs.declared.config.Config.{Config}
 use Rattle.url.specs.Parts.{serialize}
-use Rattle.cargo_edit.specs.Causes.{FirstInput, HasBadEntry, IsBadManifest, IsCause, IsEntryCause}
+use Rattle.cargo_edit.specs.Causes.{FirstInput, HasBadEntry, IsCause, IsEntryCause}
 use Rattle.cargo_edit.specs.Inputs.{EachInput, OutputsInOrder, RowsInOrder, Setting, output_path, outputs_at, path_of, rows_of, setting_of}
 use Rattle.cargo_edit.specs.Lines.{line_of}
 use Rattle.cargo_edit.specs.Looks.{AddsNeeded, AreLooks, Kept}
@@ -230,14 +231,36 @@ first-stops inputs configs x own new Stops e f h = record {
   stops = h;
 }
 
-pub one-cause : (inputs : List Input) (configs : List (Vec Config)) (x : Input) (own : Vec Config) (here : List Config) (gives : Outcomes) (old new : Kept)
-    (before now : ℕ) (e : Error) → length inputs ≡ 1 → length configs ≡ 1 → x ≡ get_or inputs 0 x → own ≡ get_or configs 0 own → here ≡ own.items
-    → IsBadManifest x.bytes.items e ⊎ HasBadEntry here gives old new before now x.bytes.items e
-    → IsCause inputs configs gives old new before now e
-one-cause inputs configs x own here gives old new before now e n m a b q h =
-    first-stops inputs configs x own new (λ cs bytes. IsBadManifest bytes e ⊎ HasBadEntry cs gives old new before now bytes e)
-    (single inputs x n a) (single configs own m b)
-    (subst (λ (cs : List Config). IsBadManifest x.bytes.items e ⊎ HasBadEntry cs gives old new before now x.bytes.items e) q h)
+-- a list of one is its first element alone
+one-of : {A : Type 0} (xs : List A) → length xs ≡ 1 → (x : A) × (xs ≡ x ∷ [])
+one-of [] h = absurd (let bad : 0 ≡ 1 = h in omega arith)
+one-of (x ∷ []) h = (x, refl)
+one-of (x ∷ y ∷ rest) h = absurd (omega (arith, h))
+
+-- the bytes of the one input are no manifest
+pub bad-cause : (inputs : List Input) (configs : List (Vec Config)) (x : Input) (gives : Outcomes) (old new : Kept)
+    (before now : ℕ) (e : Error) → length inputs ≡ 1 → length configs ≡ 1 → x ≡ get_or inputs 0 x
+    → IsBadManifest x.bytes.items e → IsCause inputs configs gives old new before now e
+bad-cause inputs configs x gives old new before now e n m a bad =
+    let own = one-of configs m in
+    first-stops inputs configs x own.0 new (λ cs bytes. IsBadManifest bytes e ⊎ HasBadEntry cs gives old new before now bytes e)
+    (single inputs x n a) own.1 (inl bad)
+
+-- they are one, and a plan over what was read is refused
+pub read-cause : (inputs : List Input) (configs : List (Vec Config)) (x : Input) (gives : Outcomes) (old new : Kept)
+    (before now : ℕ) (e : Error) → length inputs ≡ 1 → length configs ≡ 1 → x ≡ get_or inputs 0 x → IsUtf8 x.bytes.items
+    → IsEntryCause inputs configs gives old new before now e → IsCause inputs configs gives old new before now e
+read-cause inputs configs x gives old new before now e n m a utf8 (inl memory) =
+    bad-cause inputs configs x gives old new before now e n m a (inr (inr (memory, utf8)))
+read-cause inputs configs x gives old new before now e n m a utf8 (inr first) = record {
+  i = first.i;
+  input = first.input;
+  own = first.own;
+  at = first.at;
+  configured = first.configured;
+  passed = first.passed;
+  stops = inr first.stops;
+}
 
 pub one-entry_cause : (inputs : List Input) (configs : List (Vec Config)) (x : Input) (own : Vec Config) (here : List Config) (gives : Outcomes) (old new : Kept)
     (before now : ℕ) (e : Error) → length inputs ≡ 1 → length configs ≡ 1 → x ≡ get_or inputs 0 x → own ≡ get_or configs 0 own → here ≡ own.items

@@ -1,11 +1,12 @@
 -- Why a plan is refused.
-use Rattle.std.specs.Prelude.{◌≡◌, ◌⊎◌, ◌<◌, ◌++◌, ◌∷◌, ℕ, List, All, IfSome, IsSome, IsUtf8, Some, None, slice_get}
+use Rattle.std.specs.Prelude.{◌≡◌, ◌⊎◌, ◌<◌, ◌++◌, ◌∷◌, ℕ, List, All, IfSome, IsSome, Some, None, slice_get}
 use Rattle.std.specs.Global.{Vec}
-use Rattle.edit_base.specs.Errors.{IsMemory, number_of}
+use Rattle.edit_base.specs.Errors.{IsMemory}
 use Rattle.edit_syntax.specs.Grammar.{Text}
 use Rattle.edit_document.specs.Supported.{IsManifest}
 use Rattle.edit_document.specs.Tree.{view_at}
 use Rattle.edit_base.specs.declared.errors.Error.{Error}
+use Rattle.edit_manifest.specs.Loaded.{IsBadManifest}
 use Rattle.edit_sources.specs.Configured.{HasNoUrl}
 use Rattle.edit_sources.specs.Index.{Outcomes}
 use Rattle.edit_sources.specs.declared.config.Config.{Config}
@@ -16,14 +17,6 @@ use Rattle.cargo_edit.specs.Looks.{Kept}
 use Rattle.cargo_edit.specs.Records.{Seen, seen}
 use Rattle.cargo_edit.specs.Upgraded.{Needs}
 use Rattle.edit_metadata.specs.declared.input.Input.{Input}
-
--- the bytes are not UTF-8, or they are and no form makes them a manifest; or memory ran out on bytes that
--- are UTF-8
-abbrev pub IsBadManifest : List ℕ → Error → Type 0
-IsBadManifest bytes e =
-    ((number_of e ≡ 2) × (IsUtf8 bytes → ⊥))
-    ⊎ (((number_of e ≡ 1) × IsUtf8 bytes × ((form : Text) → IsManifest bytes form → ⊥))
-    ⊎ (IsMemory e × IsUtf8 bytes))
 
 -- an entry at which a plan goes on: the answer to each look that it needs is kept
 abbrev pub IsPassed : List Config → Kept → Seen → Type 0

@@ -20,8 +20,8 @@ pub use edit_base::{
 };
 pub use edit_document::{Document, Item, Keys, NewItem, NewValue, Place, Step};
 pub use edit_manifest::{
-    DepKind, DepTable, LocalManifest, Manifest, dependency_tables, find, get_dep_version,
-    set_dep_version,
+    DepKind, DepTable, LocalManifest, Manifest, copied_place, dependency_tables, find,
+    get_dep_version, set_dep_version,
 };
 pub use edit_metadata::{Input, Package, Workspace, manifest_from_pkgid};
 pub use edit_record::{
@@ -34,6 +34,7 @@ pub use edit_report::{
     Change, Output, Reason, Row, apply, shell, shell_note, shell_print, shell_status, shell_warn,
     shell_write_stderr, shell_write_stdout, shown, table_text,
 };
+pub use edit_set_version::{BumpLevel, TargetVersion, set_version};
 pub use edit_sources::config::read_configs;
 pub use edit_sources::registry::{registry_url, resolve};
 pub use edit_sources::{

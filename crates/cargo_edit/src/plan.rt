@@ -3,7 +3,7 @@ ghost use Rattle.std.specs.Prelude.{◌≡◌, ◌≤◌, ◌⊎◌, [], All, If
 ghost use Rattle.edit_base.specs.Errors.{IsMemory};
 ghost use Rattle.edit_sources.specs.Index.{SameOutcomes};
 ghost use Rattle.edit_sources.specs.IndexCache.{index_of};
-ghost use Rattle.cargo_edit.specs.Causes.{HasBadEntry, IsBadManifest, IsCause, IsEntryCause};
+ghost use Rattle.cargo_edit.specs.Causes.{HasBadEntry, IsCause, IsEntryCause};
 ghost use Rattle.cargo_edit.specs.Headline.{IsSettled, LatestIsNotLess, Narrows, NeedsAsBefore, Reaches};
 ghost use Rattle.cargo_edit.specs.Inputs.{EachInput, OutputsInOrder, RowsInOrder, setting_of};
 ghost use Rattle.cargo_edit.specs.Lines.{line_of};
@@ -15,15 +15,17 @@ ghost use Rattle.cargo_edit.specs.PlannedView.{IsShown};
 ghost use Rattle.cargo_edit.specs.Upgraded.{HasItsOutputs, HasItsRows, HasRows, IsNeeded, IsNeededBy};
 
 use crate::lists::{has_incompatible, has_pinned, modified_names, unreadable_warnings};
-use crate::planned::{Planned, plan_input, read_manifest};
+use crate::planned::{Planned, plan_input};
 use crate::upgrade::{Options, UpgradePlan};
 use crate::writes::written;
 use edit_base::CargoResult;
 use edit_document::Document;
+use edit_manifest::Manifest;
 use edit_metadata::Input;
 use edit_report::Output;
 use edit_sources::{Config, Index, IndexCache};
 use std::alloc::Global;
+use std::slice::from_ref;
 
 /// The output at a path, where there is a new text.
 fn outputs_of(alloc: Global, path: &str, text: Option<String>) -> CargoResult<Vec<Output>>
@@ -107,36 +109,6 @@ fn plan_document<I: Index>(
 {
     let planned = plan_input(alloc, 0, options, input, document, configs, index)?;
     plan_of(alloc, input, document, planned)
-}
-
-/// The plan of one manifest, which is read first.
-fn plan_manifest<I: Index>(
-    alloc: Global,
-    options: &Options,
-    input: &Input,
-    configs: &[Config],
-    index: &mut IndexCache<I>,
-) -> CargoResult<UpgradePlan>
-    ensures rows { IfOk result (λ p. HasRows (setting_of 0 options.now input.now configs.now p.looks.items)
-        input.now.bytes.items (map line_of p.rows.items)) }
-    ensures outputs { IfOk result (λ p. HasOutputs (string_bytes input.now.path) input.now.bytes.items
-        (map line_of p.rows.items) p.outputs.items) }
-    ensures looks { IfOk result
-        (λ p. AreLooks (IsNeededBy configs.now input.now.bytes.items) (I.view (index_of index.old)).gives
-        (kept_by index.old) (kept_by index.new) p.looks.items) }
-    ensures lists { IfOk result Tells }
-    ensures left { Leaves (IsNeededBy configs.now input.now.bytes.items) (I.view (index_of index.old)).gives
-        (I.view (index_of index.new)).gives (I.view (index_of index.old)).faults (I.view
-        (index_of index.new)).faults
-        (kept_by index.old) (kept_by index.new) }
-    ensures refused { IfErr result
-        (λ e. IsBadManifest input.now.bytes.items e
-        ⊎ HasBadEntry configs.now (I.view (index_of index.old)).gives
-        (kept_by index.old) (kept_by index.new)
-        (I.view (index_of index.old)).faults (I.view (index_of index.new)).faults input.now.bytes.items e) }
-{
-    let document = read_manifest(alloc, &input.bytes)?;
-    plan_document(alloc, options, input, &document, configs, index)
 }
 
 /// What an upgrade of manifests that were read gives: as `plan_upgrade`, over the documents of their bytes.
@@ -235,8 +207,7 @@ pub fn plan_upgrade<I: Index>(
         (kept_by index.old) (kept_by index.new)
         (I.view (index_of index.old)).faults (I.view (index_of index.new)).faults) }
 {
-    let input = &inputs[0];
-    let own = &configs[0];
-    let plan = plan_manifest(alloc, options, input, own, index)?;
-    Ok(plan)
+    let manifest = Manifest::read_bytes(alloc, &inputs[0].bytes)?;
+    let documents = from_ref(&manifest.document);
+    plan_documents(alloc, options, inputs, documents, configs, index)
 }

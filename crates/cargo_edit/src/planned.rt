@@ -1,11 +1,8 @@
 //! What is planned for one manifest.
-ghost use Rattle.std.specs.Prelude.{◌≡◌, ◌⊎◌, [], IfErr, IfOk, IsUtf8, OnOk, length, map};
+ghost use Rattle.std.specs.Prelude.{◌≡◌, ◌⊎◌, [], IfErr, IfOk, length, map};
 ghost use Rattle.edit_base.specs.Errors.{IsMemory};
-ghost use Rattle.edit_syntax.specs.Grammar.{Text};
-ghost use Rattle.edit_document.specs.Shown.{ShowsTree};
-ghost use Rattle.edit_document.specs.Supported.{IsManifest};
 ghost use Rattle.edit_sources.specs.IndexCache.{index_of};
-ghost use Rattle.cargo_edit.specs.Causes.{HasBadEntry, IsBadManifest};
+ghost use Rattle.cargo_edit.specs.Causes.{HasBadEntry};
 ghost use Rattle.cargo_edit.specs.Found.{seen_of};
 ghost use Rattle.cargo_edit.specs.Inputs.{setting_of};
 ghost use Rattle.cargo_edit.specs.Lines.{line_of};
@@ -18,7 +15,7 @@ use crate::looks::look_up;
 use crate::rows::decided_rows;
 use crate::seen::{Entry, seen_entries};
 use crate::upgrade::{Look, Options};
-use edit_base::{CargoResult, Error};
+use edit_base::CargoResult;
 use edit_document::Document;
 use edit_metadata::Input;
 use edit_report::Row;
@@ -27,7 +24,6 @@ use edit_sources::cache::IndexCache;
 use edit_sources::index::Index;
 use edit_sources::registry::resolve;
 use std::alloc::Global;
-use std::str;
 
 /// The rows of a manifest, and what they rest on.
 #[derive(Drop)]
@@ -35,20 +31,6 @@ pub(crate) struct Planned {
     pub(crate) entries: Vec<Entry>,
     pub(crate) looks: Vec<Look>,
     pub(crate) rows: Vec<Row>,
-}
-
-/// Reads the bytes of a manifest.
-pub(crate) fn read_manifest(alloc: Global, bytes: &[u8]) -> CargoResult<Document>
-    ensures bytes { IfOk result (λ d. d.bytes ≡ bytes.now) }
-    ensures found { IfOk result (λ d. (form : Text) × IsManifest bytes.now form × ShowsTree d form) }
-    ensures only { IfOk result (λ d. (form : Text) → IsManifest bytes.now form → ShowsTree d form) }
-    ensures utf8 { OnOk result (IsUtf8 bytes.now) }
-    ensures refused { IfErr result (IsBadManifest bytes.now) }
-{
-    match str::from_utf8(bytes) {
-        Ok(text) => Document::read(alloc, text),
-        Err(_) => Err(Error::NotUtf8),
-    }
 }
 
 /// Plans the rows of the entries of a manifest, of which there are some, and makes the looks that they need.

@@ -17,9 +17,10 @@ ghost use Rattle.cargo_edit.specs.Rows.{AreDecided, IsDecided, case_for, line_fo
 
 use crate::decide::decide;
 use crate::offers::{Offer, offer_of};
-use crate::seen::{Entry, copied_place};
+use crate::seen::Entry;
 use crate::upgrade::Options;
 use edit_base::CargoResult;
+use edit_manifest::copied_place;
 use edit_record::Requirement;
 use edit_report::Row;
 use edit_sources::cache::IndexCache;

@@ -6,7 +6,7 @@ ghost use Rattle.edit_base.specs.Errors.{IsMemory};
 ghost use Rattle.edit_document.specs.ItemViews.{document_of, place_of, view_of};
 ghost use Rattle.edit_document.specs.Shown.{tree_of};
 ghost use Rattle.edit_document.specs.Tree.{string};
-ghost use Rattle.edit_document.specs.Items.{is_tabular, names_in, place_seen, step_seen};
+ghost use Rattle.edit_document.specs.Items.{is_tabular, names_in, place_seen};
 ghost use Rattle.edit_version.specs.Requirement.{cut};
 ghost use Rattle.cargo_edit.specs.Entries.{dependencies, entry_place};
 ghost use Rattle.cargo_edit.specs.Found.{literal_place, seen_of};
@@ -14,6 +14,7 @@ ghost use Rattle.cargo_edit.specs.Records.{is_known, seen, seen_at, seen_with, v
 
 use edit_base::CargoResult;
 use edit_document::{Document, Item, Place, Step};
+use edit_manifest::copied_place;
 use edit_version::cut;
 use std::alloc::Global;
 
@@ -189,33 +190,6 @@ pub(crate) fn literal_of(alloc: Global, entry: &Entry) -> CargoResult<Place>
     if entry.tabled {
         push_key(alloc, &mut place, "version")?;
         return Ok(place);
-    }
-    Ok(place)
-}
-
-/// The same step, on memory of its own.
-fn copied_step(alloc: Global, step: &Step) -> CargoResult<Step>
-    ensures ok { IfOk result (λ s. step_seen s ≡ step_seen step.now) }
-    ensures refused { IfErr result IsMemory }
-{
-    match step {
-        Step::Key(name) => {
-            let name = String::from_str(alloc, name.as_str())?;
-            Ok(Step::Key(name))
-        }
-        Step::Index(index) => Ok(Step::Index(*index)),
-    }
-}
-
-/// The same place, on memory of its own.
-pub(crate) fn copied_place(alloc: Global, steps: &[Step]) -> CargoResult<Place>
-    ensures ok { IfOk result (λ p. place_seen p.items ≡ place_seen steps.now) }
-    ensures refused { IfErr result IsMemory }
-{
-    let mut place = Vec::with_capacity(alloc, steps.len())?;
-    'steps: for step in steps {
-        let copy = copied_step(alloc, step)?;
-        place.push(copy)?;
     }
     Ok(place)
 }

@@ -1,10 +1,10 @@
 //! A manifest with the path of its file.
-ghost use Rattle.std.specs.Prelude.{◌≡◌, ◌⊎◌, Some, true, IfErr, IfOk, OnOk, IsUtf8, option_map, string_bytes};
+ghost use Rattle.std.specs.Prelude.{◌≡◌, ◌⊎◌, Some, true, IfErr, IfOk, OnOk, option_map, string_bytes};
 ghost use Rattle.edit_base.specs.Errors.{IsMemory};
 ghost use Rattle.edit_base.specs.declared.errors.DeviceCall.TheVariants as call;
 ghost use Rattle.edit_sources.specs.Store.{HasCause, OnlyReads, SameBut};
 ghost use Rattle.edit_manifest.specs.Finding.{IsFound, IsUnfoundOrUnread};
-ghost use Rattle.edit_manifest.specs.Loaded.{IsBadManifest, IsUnloaded, IsUnread, NamesPath, is_absolute};
+ghost use Rattle.edit_manifest.specs.Loaded.{IsUnloaded, IsUnread, NamesPath, is_absolute};
 ghost use Rattle.edit_manifest.specs.Located.{IsFault};
 
 use crate::locate::find;
@@ -31,17 +31,6 @@ fn not_absolute(alloc: Global, path: &str) -> Error
     }
 }
 
-/// The manifest that these bytes are.
-fn read_bytes(alloc: Global, bytes: &[u8]) -> CargoResult<Manifest>
-    ensures bytes { IfOk result (λ m. m.document.bytes ≡ bytes.now) }
-    ensures refused { IfErr result (IsBadManifest bytes.now) }
-{
-    let Ok(text) = str::from_utf8(bytes) else {
-        return Err(Error::NotUtf8);
-    };
-    Manifest::read(alloc, text)
-}
-
 /// Reads the manifest that stands at a path.
 fn load<S: Store>(alloc: Global, store: &mut S, path: String) -> CargoResult<LocalManifest>
     ensures store { OnlyReads (S.view store.old) (S.view store.new) }
@@ -55,7 +44,7 @@ fn load<S: Store>(alloc: Global, store: &mut S, path: String) -> CargoResult<Loc
 {
     match store.read(alloc, path.as_str()) {
         Ok(Some(bytes)) => {
-            let manifest = read_bytes(alloc, &bytes)?;
+            let manifest = Manifest::read_bytes(alloc, &bytes)?;
             Ok(LocalManifest { path, manifest })
         }
         Ok(None) => Err(Error::NoManifest),

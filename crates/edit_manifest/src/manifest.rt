@@ -1,12 +1,13 @@
 //! A manifest as a document.
-ghost use Rattle.std.specs.Prelude.{◌≡◌, Some, IfErr, IfOk, MatchResult, length};
+ghost use Rattle.std.specs.Prelude.{◌≡◌, Some, IfErr, IfOk, IsUtf8, MatchResult, OnOk, length};
 ghost use Rattle.edit_base.specs.Errors.{IsMemory};
 ghost use Rattle.edit_syntax.specs.Grammar.{Text};
 ghost use Rattle.edit_syntax.specs.Marks.{IsReadRefusal};
 ghost use Rattle.edit_document.specs.Shown.{ShowsTree};
 ghost use Rattle.edit_document.specs.Supported.{IsManifest};
+ghost use Rattle.edit_manifest.specs.Loaded.{IsBadManifest};
 
-use edit_base::errors::CargoResult;
+use edit_base::errors::{CargoResult, Error};
 use edit_document::Document;
 use std::alloc::Global;
 use std::fmt;
@@ -29,6 +30,21 @@ impl Manifest {
     {
         let document = Document::read(alloc, text)?;
         Ok(Manifest { document })
+    }
+
+    /// Reads the bytes of a file. They are refused with 2 where they are not UTF-8, and else with 1 where
+    /// they are no TOML document.
+    pub fn read_bytes(alloc: Global, bytes: &[u8]) -> CargoResult<Manifest>
+        ensures bytes { IfOk result (λ m. m.document.bytes ≡ bytes.now) }
+        ensures utf8 { OnOk result (IsUtf8 bytes.now) }
+        ensures found { IfOk result
+            (λ m. (form : Text) × IsManifest bytes.now form × ShowsTree m.document form) }
+        ensures refused { IfErr result (IsBadManifest bytes.now) }
+    {
+        let Ok(text) = str::from_utf8(bytes) else {
+            return Err(Error::NotUtf8);
+        };
+        Manifest::read(alloc, text)
     }
 
     /// A manifest of the same text, which shows the same.

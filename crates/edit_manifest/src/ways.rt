@@ -40,7 +40,7 @@ fn copied_step(alloc: Global, step: &Step) -> CargoResult<Step>
 }
 
 /// The same place, on memory of its own.
-pub(crate) fn copied_place(alloc: Global, steps: &[Step]) -> CargoResult<Place>
+pub fn copied_place(alloc: Global, steps: &[Step]) -> CargoResult<Place>
     ensures ok { IfOk result (λ p. place_seen p.items ≡ place_seen steps.now) }
     ensures refused { IfErr result IsMemory }
 {

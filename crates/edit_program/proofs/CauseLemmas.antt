@@ -1,5 +1,5 @@
 -- Why an upgrade is refused, from why a part of it is.
-use Rattle.std.proofs.Common.{◌≡◌, ◌≤◌, ℕ, List, Bool, true, false, Option, None, Result, Ok, Err, ◌∙◌, sym, subst, inl, inr, arith}
+use Rattle.std.proofs.Common.{◌≡◌, ◌≤◌, ℕ, List, Bool, true, false, Option, Some, None, Result, Ok, Err, ◌∙◌, sym, subst, inl, inr, arith}
 use Rattle.std.specs.Prelude.{◌⊎◌, IfErr, IsErrAnd, is_some}
 use Rattle.edit_base.specs.Errors.{IsMemory}
 use Rattle.edit_base.specs.declared.errors.DeviceCall.TheVariants as call
@@ -9,13 +9,14 @@ use Rattle.edit_version.specs.RustVersions.{Numbers}
 use Rattle.edit_sources.specs.Store.{Files, SameFiles, StandsAt}
 use Rattle.edit_sources.specs.declared.file_index.FileIndex.{FileIndex}
 use Rattle.edit_sources.specs.declared.store.Kind.TheVariants.{Folder}
+use Rattle.edit_manifest.specs.Located.{IsFault, IsManifestAt, IsManifestPath, IsThere, manifest_in}
+use Rattle.edit_manifest.specs.Located.IsManifestAt.{named, nearest}
+use Rattle.edit_manifest.specs.Located.IsManifestPath.{specified}
+use Rattle.edit_manifest.proofs.Faults.{fault_later}
+use Rattle.edit_manifest.proofs.PassedWords.{as_before}
 use Rattle.edit_program.specs.Causes.{IsIndexCause, IsManifestCause, IsPlanCause, IsUpgradeCause}
 use Rattle.edit_program.specs.declared.refusal.Refusal.{Refusal}
-use Rattle.edit_program.specs.Located.{IsFault, IsManifestAt, IsManifestPath, IsThere, manifest_in}
-use Rattle.edit_program.specs.Located.IsManifestAt.{named, nearest}
 use Rattle.edit_program.specs.Upgrading.{IsIndexRead, IsManifestRead}
-use Rattle.edit_program.proofs.Faults.{fault_later}
-use Rattle.edit_program.proofs.PassedWords.{as_before}
 
 no_file : (o : Option (List ℕ)) → is_some o ≡ true → None ≡ o → ⊥
 no_file o some none = let bad : false ≡ true = subst (λ (x : Option (List ℕ)). is_some x ≡ true) (sym none)
@@ -34,18 +35,22 @@ folder_at files place _ (nearest path stands near) none =
     near.there (subst (λ at. None ≡ files at) near.is none) in
     subst (λ at. StandsAt files at Folder) (sym near.is) here
 
+folder_at_path : (files : Files) (current name path : List ℕ) → IsManifestPath files current (Some name) path
+    → None ≡ files path → StandsAt files path Folder
+folder_at_path files current name path (specified _ place _ normal at) none = folder_at files place path at none
+
 -- where a manifest is found and no file is read, a folder stands
 pub folder_there : (tells told : Bool) (old now : Files) (current named_path text at : List ℕ) (e : Error)
     → e ≡ NoManifest → told ≡ tells → SameFiles old now → at ≡ text
-    → (tells ≡ true → IsManifestPath old current named_path text)
+    → (tells ≡ true → IsManifestPath old current (Some named_path) text)
     → (told ≡ true → None ≡ now at) → tells ≡ true → IsManifestCause old current named_path e
 folder_there tells told old now current named_path text at e refused same_told same is found none t =
     let missing : None ≡ old text = subst (λ path. None ≡ old path) is (none (same_told ∙ t) ∙ same at) in
-    let path : IsManifestPath old current named_path text = found t in
+    let path : IsManifestPath old current (Some named_path) text = found t in
     inr (inl (record {
       path = text;
       at = path;
-      folder = folder_at old path.place text path.at missing;
+      folder = folder_at_path old current named_path text path missing;
       is = refused;
     }))
 

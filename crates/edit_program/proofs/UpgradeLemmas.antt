@@ -5,20 +5,20 @@ use Rattle.edit_version.specs.RustVersions.{Numbers}
 use Rattle.edit_sources.specs.Store.{Files, SameFiles}
 use Rattle.edit_sources.specs.declared.file_index.FileIndex.{FileIndex}
 use Rattle.edit_report.specs.declared.output.Output.{Output}
-use Rattle.edit_program.specs.Upgrading.{IsCutShort, IsIndexRead, IsManifestRead, IsPlanned, IsTorn, IsUpgraded, IsWritten}
-use Rattle.edit_program.proofs.PassedWords.{as_before, same_twice}
+use Rattle.edit_program.specs.Upgrading.{IsIndexRead, IsManifestRead, IsPlanned, IsPlannedTo}
+use Rattle.edit_manifest.proofs.PassedWords.{as_before}
 
--- what was read, planned and written after another leaves the store as the clause says
-pub cut_short : (tells told_mid : Bool) (old mid now new : Files)
-    (current named index_named path bytes : List ℕ) (rust : Option Numbers) (index : FileIndex)
-    (outputs : List Output) (first : Option Output)
-    → told_mid ≡ tells → SameFiles old mid → SameFiles mid now
+-- what was read and planned, and holds of the output afterwards, is as the clause says
+pub planned_to : (Leaves : Option Output → Files → Files → Type 0) (tells told : Bool)
+    (old mid now new : Files) (current named index_named path bytes : List ℕ) (rust : Option Numbers)
+    (index : FileIndex) (outputs : List Output) (first : Option Output)
+    → told ≡ tells → SameFiles old mid → SameFiles mid now
     → (tells ≡ true → IsManifestRead old current named path bytes rust)
-    → (told_mid ≡ true → IsIndexRead mid current index_named index)
-    → IsPlanned path bytes rust index outputs → first ≡ slice_get outputs 0 → IsTorn first now new
-    → tells ≡ true → IsCutShort current named index_named old new
-cut_short tells told_mid old mid now new current named index_named path bytes rust index outputs first
-    same_told same1 same2 manifest indexed planned is torn t = record {
+    → (told ≡ true → IsIndexRead mid current index_named index)
+    → IsPlanned path bytes rust index outputs → first ≡ slice_get outputs 0 → Leaves first now new
+    → tells ≡ true → IsPlannedTo Leaves current named index_named old new
+planned_to Leaves tells told old mid now new current named index_named path bytes rust index outputs first
+    same_told same1 same2 manifest indexed planned is left t = record {
       path = path;
       bytes = bytes;
       rust = rust;
@@ -28,32 +28,6 @@ cut_short tells told_mid old mid now new current named index_named path bytes ru
       indexed = as_before (λ files. IsIndexRead files current index_named index) old mid same1
           (indexed (same_told ∙ t));
       planned = planned;
-      torn = subst (λ o. IsTorn o old new) is
-          (as_before (λ files. IsTorn first files new) old now (same_twice old mid now same1 same2) torn);
-    }
-
--- and so where the write is done
-pub upgraded : (tells told_mid told_now : Bool) (old mid now new : Files)
-    (current named index_named path bytes : List ℕ) (rust : Option Numbers) (index : FileIndex)
-    (outputs : List Output) (first : Option Output)
-    → told_mid ≡ tells → told_now ≡ told_mid → SameFiles old mid → SameFiles mid now
-    → (tells ≡ true → IsManifestRead old current named path bytes rust)
-    → (told_mid ≡ true → IsIndexRead mid current index_named index)
-    → IsPlanned path bytes rust index outputs → first ≡ slice_get outputs 0
-    → (told_now ≡ true → IsWritten first now new)
-    → tells ≡ true → IsUpgraded current named index_named old new
-upgraded tells told_mid told_now old mid now new current named index_named path bytes rust index outputs
-    first same_told same_told2 same1 same2 manifest indexed planned is written t = record {
-      path = path;
-      bytes = bytes;
-      rust = rust;
-      index = index;
-      outputs = outputs;
-      manifest = manifest t;
-      indexed = as_before (λ files. IsIndexRead files current index_named index) old mid same1
-          (indexed (same_told ∙ t));
-      planned = planned;
-      written = subst (λ o. IsWritten o old new) is
-          (as_before (λ files. IsWritten first files new) old now (same_twice old mid now same1 same2)
-          (written (same_told2 ∙ same_told ∙ t)));
+      leaves = subst (λ o. Leaves o old new) is
+          (as_before (λ files. Leaves first files new) old now (λ path. same2 path ∙ same1 path) left);
     }

@@ -9,15 +9,16 @@ use Rattle.edit_sources.specs.IndexLines.{RefusesLines, lines_of}
 use Rattle.edit_sources.specs.Store.{Files, StandsAt}
 use Rattle.edit_sources.specs.declared.file_index.FileIndex.{FileIndex}
 use Rattle.edit_sources.specs.declared.store.Kind.TheVariants.{Folder}
-use Rattle.cargo_edit.specs.Causes.{HasBadEntry, IsBadManifest}
+use Rattle.cargo_edit.specs.Causes.{HasBadEntry}
+use Rattle.edit_manifest.specs.Loaded.{IsBadManifest}
 use Rattle.cargo_edit.specs.Looks.{Kept}
-use Rattle.edit_program.specs.Located.{HasNoManifest, IsAbsoluteOf, IsFault, IsManifestPath}
-use Rattle.edit_program.specs.Upgrading.{IsIndexRead, IsManifestRead}
+use Rattle.edit_manifest.specs.Located.{HasNoManifest, IsFault, IsManifestPath}
+use Rattle.edit_program.specs.Upgrading.{IsAbsoluteOf, IsIndexRead, IsManifestRead}
 
 -- where the manifest that is named would be, a folder stands
 pub record IsFolderThere (files : Files) (current named : List ℕ) (e : Error) : Type 0 where
   pub path : List ℕ
-  pub at : IsManifestPath files current named path
+  pub at : IsManifestPath files current (Some named) path
   pub folder : StandsAt files path Folder
   pub is : e ≡ NoManifest
 
@@ -25,14 +26,14 @@ pub record IsFolderThere (files : Files) (current named : List ℕ) (e : Error) 
 pub record IsNoManifest (files : Files) (current named : List ℕ) (e : Error) : Type 0 where
   pub path : List ℕ
   pub bytes : List ℕ
-  pub at : IsManifestPath files current named path
+  pub at : IsManifestPath files current (Some named) path
   pub is : files path ≡ Some bytes
   pub bad : IsBadManifest bytes e
 
 -- why the manifest that is named is not read
 abbrev pub IsManifestCause : Files → List ℕ → List ℕ → Error → Type 0
 IsManifestCause files current named e =
-    HasNoManifest files current named e
+    HasNoManifest files current e (Some named)
     ⊎ (IsFolderThere files current named e ⊎ IsNoManifest files current named e)
 
 -- why no index is read: there is no file, or a line of it is refused

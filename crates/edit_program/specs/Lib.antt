@@ -1,5 +1,4 @@
 pub mod Causes
 pub mod CommandLine
-pub mod Located
 pub mod Runs
 pub mod Upgrading

@@ -1,5 +1,6 @@
 -- What an upgrade of one manifest reads, plans and writes.
 use Rattle.std.specs.Prelude.{◌≡◌, ℕ, List, [], All, true, false, IsSome, Option, Some, None, Ok, codes, option_and_then, slice_get, string_bytes}
+use Rattle.edit_base.specs.Paths.{IsNormalOf, joined}
 use Rattle.edit_document.specs.Assertions.{at, key}
 use Rattle.edit_syntax.specs.Grammar.{Text}
 use Rattle.edit_document.specs.Items.{string_in}
@@ -19,7 +20,11 @@ use Rattle.cargo_edit.specs.Upgraded.{HasRows, IsNeededBy}
 use Rattle.cargo_edit.specs.declared.upgrade.Look.{Look}
 use Rattle.cargo_edit.specs.declared.upgrade.Options.{Options}
 use Rattle.edit_report.specs.declared.output.Output.{Output}
-use Rattle.edit_program.specs.Located.{IsAbsoluteOf, IsManifestPath}
+use Rattle.edit_manifest.specs.Located.{IsManifestPath}
+
+-- the text is the normal form of the path, which starts in the current folder where it is relative
+abbrev pub IsAbsoluteOf : List ℕ → List ℕ → List ℕ → Type 0
+IsAbsoluteOf current path text = IsNormalOf (joined current path) text
 
 -- what is read of something that stands, nothing where nothing does
 abbrev pub when_there : {A B : Type 0} → Option A → Option B → Option B
@@ -47,7 +52,7 @@ pub record HasRust (bytes : List ℕ) (rust : Option Numbers) : Type 0 where
 -- the manifest that is named was read, with its own Rust version
 pub record IsManifestRead (files : Files) (current named path bytes : List ℕ)
     (rust : Option Numbers) : Type 0 where
-  pub at : IsManifestPath files current named path
+  pub at : IsManifestPath files current (Some named) path
   pub is : files path ≡ Some bytes
   pub version : HasRust bytes rust
 
@@ -96,8 +101,10 @@ abbrev pub IsTorn : Option Output → Files → Files → Type 0
 IsTorn None old new = ⊥
 IsTorn (Some output) old new = SameBut (string_bytes output.path) old new
 
--- the manifest that is named was upgraded: its plan's output was written
-pub record IsUpgraded (current named index_named : List ℕ) (old new : Files) : Type 0 where
+-- the manifest that is named was read, and a plan made for it by the index file that is named, of whose output
+-- this holds
+pub record IsPlannedTo (Leaves : Option Output → Files → Files → Type 0) (current named index_named : List ℕ)
+    (old new : Files) : Type 0 where
   pub path : List ℕ
   pub bytes : List ℕ
   pub rust : Option Numbers
@@ -106,16 +113,12 @@ pub record IsUpgraded (current named index_named : List ℕ) (old new : Files) :
   pub manifest : IsManifestRead old current named path bytes rust
   pub indexed : IsIndexRead old current index_named index
   pub planned : IsPlanned path bytes rust index outputs
-  pub written : IsWritten (slice_get outputs 0) old new
+  pub leaves : Leaves (slice_get outputs 0) old new
+
+-- the manifest that is named was upgraded: its plan's output was written
+abbrev pub IsUpgraded : List ℕ → List ℕ → List ℕ → Files → Files → Type 0
+IsUpgraded current named index_named old new = IsPlannedTo IsWritten current named index_named old new
 
 -- the same up to the write, which was refused
-pub record IsCutShort (current named index_named : List ℕ) (old new : Files) : Type 0 where
-  pub path : List ℕ
-  pub bytes : List ℕ
-  pub rust : Option Numbers
-  pub index : FileIndex
-  pub outputs : List Output
-  pub manifest : IsManifestRead old current named path bytes rust
-  pub indexed : IsIndexRead old current index_named index
-  pub planned : IsPlanned path bytes rust index outputs
-  pub torn : IsTorn (slice_get outputs 0) old new
+abbrev pub IsCutShort : List ℕ → List ℕ → List ℕ → Files → Files → Type 0
+IsCutShort current named index_named old new = IsPlannedTo IsTorn current named index_named old new

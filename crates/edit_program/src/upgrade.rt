@@ -1,24 +1,23 @@
 //! The command `upgrade`: reads, plans, then writes.
-ghost use Rattle.std.specs.Prelude.{◌≡◌, ◌⊎◌, ◌≤◌, IfErr, IfOk, IsUtf8, OnErr, OnOk, option_copied, option_map, string_bytes, true};
+ghost use Rattle.std.specs.Prelude.{◌≡◌, ◌⊎◌, ◌≤◌, IfErr, IfOk, OnErr, OnOk, option_copied, option_map, string_bytes, true};
 ghost use Rattle.edit_base.specs.Errors.{IsMemory, number_of};
-ghost use Rattle.edit_syntax.specs.Grammar.{Text};
-ghost use Rattle.edit_document.specs.Shown.{ShowsTree, tree_of};
-ghost use Rattle.edit_document.specs.Supported.{IsManifest};
+ghost use Rattle.edit_document.specs.Shown.{tree_of};
 ghost use Rattle.edit_base.specs.declared.errors.DeviceCall.TheVariants as call;
 ghost use Rattle.edit_version.specs.RustVersions.{numbers_of};
 ghost use Rattle.edit_sources.specs.Store.{OnlyReads};
 ghost use Rattle.edit_sources.specs.Store.{SameFiles};
-ghost use Rattle.cargo_edit.specs.Causes.{IsBadManifest};
+ghost use Rattle.edit_manifest.specs.Located.{IsFault};
+ghost use Rattle.edit_manifest.specs.Loaded.{IsBadManifest};
 ghost use Rattle.edit_program.specs.Causes.{IsIndexCause, IsManifestCause, IsPlanCause, IsUpgradeCause};
-ghost use Rattle.edit_program.specs.Located.{IsFault};
 ghost use Rattle.edit_program.specs.Upgrading.{HasRust, IsCutShort, IsDefault, IsIndexRead, IsManifestRead, IsPlanned, IsTorn, IsUpgraded, IsWritten, own_rust, package_text};
 
 use crate::arguments::UpgradeWords;
-use crate::locate::{absolute, find};
+use crate::locate::{absolute, manifest_path};
 use crate::refusal::{RunResult, at_byte, at_path};
 use cargo_edit::{Input, Options, Output, plan_documents};
 use edit_base::{CargoResult, Error};
 use edit_document::Document;
+use edit_manifest::Manifest;
 use edit_sources::{Config, FileIndex, IndexCache, Store};
 use edit_version::RustVersion;
 use std::alloc::Global;
@@ -26,7 +25,7 @@ use std::slice::from_ref;
 
 /// A manifest that was read: what is to be planned, and the document that its bytes are.
 #[derive(Drop)]
-struct Manifest {
+struct ReadManifest {
     input: Input,
     document: Document,
 }
@@ -78,29 +77,16 @@ fn own_name(alloc: Global, document: &Document) -> CargoResult<String>
     Ok(String::from_str(alloc, name)?)
 }
 
-/// Reads the bytes of a manifest.
-fn read_document(alloc: Global, bytes: &[u8]) -> CargoResult<Document>
-    ensures bytes { IfOk result (λ d. d.bytes ≡ bytes.now) }
-    ensures read { IfOk result (λ d. (form : Text) × IsManifest bytes.now form × ShowsTree d form) }
-    ensures utf8 { OnOk result (IsUtf8 bytes.now) }
-    ensures refused { IfErr result (IsBadManifest bytes.now) }
-{
-    let Ok(text) = str::from_utf8(bytes) else {
-        return Err(Error::NotUtf8);
-    };
-    Document::read(alloc, text)
-}
-
 /// The manifest to plan for, by its own name and Rust version. Its bytes are read once.
-fn manifest_of(alloc: Global, path: String, bytes: Vec<u8>) -> RunResult<Manifest>
+fn manifest_of(alloc: Global, path: String, bytes: Vec<u8>) -> RunResult<ReadManifest>
     ensures path { IfOk result (λ m. m.input.path ≡ path) }
     ensures bytes { IfOk result (λ m. m.input.bytes ≡ bytes) }
     ensures document { IfOk result (λ m. m.document.bytes ≡ bytes.items) }
     ensures version { IfOk result (λ m. HasRust bytes.items (option_map numbers_of m.input.rust_version)) }
     ensures refused { IfErr result (λ r. IsBadManifest bytes.items r.error) }
 {
-    let document = match read_document(alloc, &bytes) {
-        Ok(document) => document,
+    let Manifest { document } = match Manifest::read_bytes(alloc, &bytes) {
+        Ok(manifest) => manifest,
         Err(error) => return Err(at_byte(alloc, error, path.as_str(), &bytes)),
     };
     let name = own_name(alloc, &document)?;
@@ -111,7 +97,7 @@ fn manifest_of(alloc: Global, path: String, bytes: Vec<u8>) -> RunResult<Manifes
         bytes,
         rust_version,
     };
-    Ok(Manifest { input, document })
+    Ok(ReadManifest { input, document })
 }
 
 /// Reads the manifest that is named.
@@ -120,7 +106,7 @@ fn read_manifest<S: Store>(
     named: &str,
     current: &str,
     files: &mut S,
-) -> RunResult<Manifest>
+) -> RunResult<ReadManifest>
     ensures store { OnlyReads (S.view files.old) (S.view files.new) }
     ensures read { IfOk result (λ m. (S.view files.old).tells ≡ true
         → IsManifestRead (S.view files.old).file_at current.now named.now
@@ -132,7 +118,7 @@ fn read_manifest<S: Store>(
         ⊎ ((S.view files.old).tells ≡ true
         → IsManifestCause (S.view files.old).file_at current.now named.now r.error))) }
 {
-    let path = find(alloc, files, named, current)?;
+    let path = manifest_path(alloc, files, named, current)?;
     let bytes = match files.read(alloc, path.as_str()) {
         Ok(Some(bytes)) => bytes,
         Ok(None) => return Err(at_path(alloc, Error::NoManifest, path.as_str())),
@@ -186,7 +172,7 @@ fn default_options(alloc: Global) -> Options
 }
 
 /// The outputs of the plan for a manifest over an index. It has no configurations.
-fn outputs_for(alloc: Global, manifest: &Manifest, index: FileIndex) -> CargoResult<Vec<Output>>
+fn outputs_for(alloc: Global, manifest: &ReadManifest, index: FileIndex) -> CargoResult<Vec<Output>>
     requires { manifest.now.document.bytes ≡ manifest.now.input.bytes.items }
     ensures ok { IfOk result (λ v.
         IsPlanned (string_bytes manifest.now.input.path) manifest.now.input.bytes.items

@@ -71,7 +71,7 @@ raises one manifest|mi|9|-|0 raised \
 @the look fails|mi|0|-|1 manifest Error: Failed to look at a path
   at /w/Cargo.toml
 @the look above fails|snm|1|upgrade --manifest-path a/b --index-file index.json|1 manifest Error: Failed to look at a path
-  at /w/a/b/Cargo.toml
+  at /w/a/b
 @the manifest's read fails|mi|1|-|1 manifest Error: Failed to read a file
   at /w/Cargo.toml
 @the index file's read fails|mi|2|-|1 manifest Error: Failed to read a file

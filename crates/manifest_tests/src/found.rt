@@ -1,5 +1,5 @@
 //! Rows of manifests that are found, read and written.
-use edit_manifest::{LocalManifest, find};
+use edit_manifest::{LocalManifest, Manifest, find};
 use edit_sources::{FaultStore, MemoryStore, Store};
 use semver::Version;
 use std::alloc::Global;
@@ -56,8 +56,16 @@ fn opened<S: Store>(alloc: Global, store: &mut S, row: &str) -> Result<String, F
     }
 }
 
-/// What is wanted; whether the manifest is found, loaded or opened; the path that is specified, `-` for none;
-/// the current folder.
+/// The text of the manifest that these bytes are.
+fn read(alloc: Global, bytes: &[u8]) -> Result<String, Fail> {
+    match Manifest::read_bytes(alloc, bytes) {
+        Ok(manifest) => Ok(format!(in alloc; "{manifest}")?),
+        Err(error) => told(alloc, error),
+    }
+}
+
+/// What is wanted; whether the manifest is found, loaded, opened or read; the path that is specified, `-` for
+/// none, or the bytes; the current folder.
 const ROWS: &str = "\
 /w/Cargo.toml|find|-|/w/a
 /w/Cargo.toml|find|-|/w/a/src
@@ -80,13 +88,16 @@ const ROWS: &str = "\
 4 can only edit absolute paths, got w/Cargo.toml|open|w/Cargo.toml|
 5 Failed to read manifest contents|open|/w/nothing|
 5 Failed to read manifest contents|open|/w|
-1 Unable to parse Cargo.toml|open|/w/d/Cargo.toml|";
+1 Unable to parse Cargo.toml|open|/w/d/Cargo.toml|
+[package] # é|read|[package] # é|
+1 Unable to parse Cargo.toml|read|[package|";
 
 /// What becomes of a row.
 fn answer<S: Store>(alloc: Global, store: &mut S, row: &str) -> Result<String, Fail> {
     match field(row, 1) {
         "find" => found(alloc, store, row),
         "load" => loaded(alloc, store, row),
+        "read" => read(alloc, field(row, 2).as_bytes()),
         _ => opened(alloc, store, row),
     }
 }

@@ -1,9 +1,9 @@
 //! Rows of dependency tables.
 use edit_document::{Place, Step};
-use edit_manifest::Manifest;
+use edit_manifest::{Manifest, copied_place};
 use std::alloc::Global;
 use std::test::Fail;
-use test_rows::{TILDES, rows_hold, text, told};
+use test_rows::{TILDES, rows_hold, same, text, told};
 
 /// Adds the steps of a place, with a slash between them.
 fn push_place(seen: &mut String, place: &[Step]) -> Result<(), Fail> {
@@ -85,4 +85,14 @@ none|shared|[[workspace]]\n[workspace.dependencies]\n";
 #[test]
 fn tells_the_dependency_tables(rt: HostRuntime) -> Result<(), Fail> {
     rows_hold(rt.alloc(), TABLES, TILDES, answer)
+}
+
+#[test]
+fn copies_a_place(rt: HostRuntime) -> Result<(), Fail> {
+    let alloc = rt.alloc();
+    let mut steps = Vec::new(alloc);
+    steps.push(Step::Key(text(alloc, "bin")?))?;
+    steps.push(Step::Index(2))?;
+    let copy = copied_place(alloc, &steps)?;
+    same("a place", place(alloc, Some(copy))?.as_str(), "bin/#2")
 }

@@ -1,30 +1,31 @@
-use Rattle.std.proofs.Common.{◌≡◌, inr, rules, string_bytes}
+use Rattle.std.proofs.Common.{◌≡◌, ◌∙◌, inr, rules, string_bytes}
 use Rattle.std.proofs.lemmas.Result.{IfErr-weaker, on_err_weaker, on_ok_weaker}
 use Rattle.std.specs.Prelude.{option_copied, option_map, slice_get}
 use Rattle.edit_version.specs.RustVersions.{numbers_of}
 use Rattle.edit_program.proofs.CauseLemmas.{index_cause, manifest_cause, plan_cause, refusal_has, refusal_made, write_cause}
-use Rattle.edit_program.proofs.UpgradeLemmas.{cut_short, upgraded}
+use Rattle.edit_program.specs.Upgrading.{IsTorn, IsWritten}
+use Rattle.edit_program.proofs.UpgradeLemmas.{planned_to}
 use Rattle.edit_program.proofs.upgrade.upgrade.Goals as goal
 
 pub returns-clause-done : goal.returns-clause-done
 returns-clause-done g c =
     let first : option_copied c.first.result ≡ slice_get c.in_ok-outputs.outputs.items 0 = search rules in
     on_ok_weaker c.write_output.result
-    (λ written t. upgraded _ _ _ _ (g.S.Store.view c.read_manifest.new.files).file_at
+    (λ written t. planned_to IsWritten _ _ _ (g.S.Store.view c.read_manifest.new.files).file_at
     (g.S.Store.view c.read_index.new.files).file_at _ c.args.current.now _ _
     (string_bytes c.in_ok-manifest.manifest.input.path) c.in_ok-manifest.manifest.input.bytes.items
     (option_map numbers_of c.in_ok-manifest.manifest.input.rust_version)
     c.in_ok-index.index c.in_ok-outputs.outputs.items _ c.in_ok-manifest.ensures.store.tells
-    c.in_ok-index.ensures.store.tells c.in_ok-manifest.ensures.store.files
-    c.in_ok-index.ensures.store.files
-    c.in_ok-manifest.ensures.read c.in_ok-index.ensures.read c.in_ok-outputs.ensures.ok first written t)
+    c.in_ok-manifest.ensures.store.files c.in_ok-index.ensures.store.files
+    c.in_ok-manifest.ensures.read c.in_ok-index.ensures.read c.in_ok-outputs.ensures.ok first
+    (written (c.in_ok-index.ensures.store.tells ∙ c.in_ok-manifest.ensures.store.tells ∙ t)) t)
     c.write_output.ensures.written
 
 pub returns-clause-refused : goal.returns-clause-refused
 returns-clause-refused g c =
     let first : option_copied c.first.result ≡ slice_get c.in_ok-outputs.outputs.items 0 = search rules in
     on_err_weaker c.write_output.result
-    (λ torn t. inr (cut_short _ _ _ (g.S.Store.view c.read_manifest.new.files).file_at
+    (λ torn t. inr (planned_to IsTorn _ _ _ (g.S.Store.view c.read_manifest.new.files).file_at
     (g.S.Store.view c.read_index.new.files).file_at _ c.args.current.now _ _
     (string_bytes c.in_ok-manifest.manifest.input.path) c.in_ok-manifest.manifest.input.bytes.items
     (option_map numbers_of c.in_ok-manifest.manifest.input.rust_version)
