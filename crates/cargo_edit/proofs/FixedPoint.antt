@@ -25,12 +25,14 @@ use Rattle.cargo_edit.specs.Decision.{Outcome, compatible_text, decision, first_
 use Rattle.cargo_edit.specs.Headline.{HasNoChange}
 use Rattle.cargo_edit.specs.Inputs.{Setting}
 use Rattle.cargo_edit.specs.Looks.{told}
-use Rattle.cargo_edit.specs.Records.{Seen}
-use Rattle.cargo_edit.specs.Rows.{IsDecided, Line, case_for, line_for, write_at}
-use Rattle.cargo_edit.specs.Upgraded.{AreVersionsFor, IsRow}
+use Rattle.cargo_edit.specs.Records.{Seen, at_registry}
+use Rattle.edit_sources.specs.Configured.{HasAddress}
+use Rattle.edit_sources.specs.declared.config.Config.{Config}
+use Rattle.cargo_edit.specs.Rows.{AreVersionsFor, Basis, IsDecided, IsRowOver, Line, Needs, case_for, dashes, elsewhere, is_elsewhere, line_for, told_there, write_at, write_on}
+use Rattle.cargo_edit.specs.Upgraded.{IsRow, basis_of}
 use Rattle.edit_report.specs.declared.row.Change.{Change}
 use Rattle.cargo_edit.specs.declared.upgrade.Options.{Options}
-use Rattle.cargo_edit.proofs.DecidedAgain.{again}
+use Rattle.cargo_edit.proofs.DecidedAgain.{again, case_of}
 use Rattle.cargo_edit.proofs.HeadlineRows.{offered-valid}
 use Rattle.cargo_edit.proofs.TakenVersions.{far-some, near-some, newer-latest, when-some}
 use Rattle.cargo_edit.proofs.WrittenEntries.{old_after, renew, renewed}
@@ -49,14 +51,27 @@ some-after keep (x ∷ back) front o h =
 some-greatest : (keep : Parts → Bool) (xs : List Parts) → (best : Option Parts) × IsGreatest keep full_order xs best
 some-greatest keep xs = some-after keep xs [] None (All-nil (λ x. keep x ≡ false))
 
--- each entry has a row
-some-line : (i : ℕ) (o : Options) (xs : List Parts) (e : Seen) → (line : Line) × IsDecided i o xs e line
-some-line i o xs e =
-    let near = some-greatest (is_admitted e.old) xs in
-    let far = some-greatest (is_offered e.old) xs in (
-      line_for i e near.0 far.0 (decision o (case_for e near.0 far.0)),
+-- each entry with a requirement has a row
+some-line : (i : ℕ) (o : Options) (xs : List Parts) (e : Seen) (old : List ℕ) → (line : Line) × IsDecided i o xs e old line
+some-line i o xs e old =
+    let near = some-greatest (is_admitted old) xs in
+    let far = some-greatest (is_offered old) xs in (
+      line_for i e old near.0 far.0 (decision o (case_for e old near.0 far.0)),
       record { near = near.0; far = far.0; compatible = near.1; latest = far.1; is = refl },
     )
+
+-- so has each
+some-row : (i : ℕ) (o : Options) (xs : List Parts) (e : Seen) (old : Option (List ℕ)) → (line : Line) × IsRowOver i o xs e old line
+some-row i o xs e None = (dashes i e, refl)
+some-row i o xs e (Some old) = some-line i o xs e old
+
+-- an entry with another requirement takes the same versions
+pub other-versions : (b : Basis) (e f : Seen) (xs : List Parts) → f.name ≡ e.name → f.source ≡ e.source → AreVersionsFor b e xs → AreVersionsFor b f xs
+other-versions b e f xs name source (told_there address needs are) =
+    told_there address
+    (record { named = needs.named; source = source ∙ needs.source; has = needs.has; crate_name = refl })
+    (are ∙ ap (b.versions (serialize address)) (sym name))
+other-versions b e f xs name source (elsewhere other none) = elsewhere (ap is_elsewhere source ∙ other) none
 
 -- the entries that rows leave have rows
 pub some-again : (s : Setting) (es : List Seen) (ls : List Line) → AllZip (IsRow s) es ls
@@ -66,13 +81,12 @@ some-again s [] (l ∷ ls) h = absurd h
 some-again s (e ∷ es) [] h = absurd h
 some-again s (e ∷ es) (l ∷ ls) h =
     let next = renew e l in
-    let offered : AreVersionsFor s next h.0.versions = record {
-      address = h.0.offered.address;
-      needed = record { has = h.0.offered.needed.has; named = refl };
-      are = h.0.offered.are;
+    let first = some-row s.input s.options h.0.versions next next.old in
+    let row : IsRow s next first.0 = record {
+      versions = h.0.versions;
+      offered = other-versions (basis_of s) e next h.0.versions refl refl h.0.offered;
+      decided = first.1;
     } in
-    let first = some-line s.input s.options h.0.versions next in
-    let row : IsRow s next first.0 = record { versions = h.0.versions; offered = offered; decided = first.1 } in
     let rest = some-again s es ls h.1 in
     (first.0 ∷ rest.0, (row, rest.1))
 
@@ -113,19 +127,19 @@ whole-row true old None (Some t) h f g = g t refl
 whole-row true old None None h f g = h
 
 -- so is the requirement of a decided row
-decided-whole : (o : Options) (xs : List Parts) (e : Seen) (near far : Option Parts) → All IsValid xs → cut e.old ≡ e.old
-    → IsCompatible e.old xs near → IsLatest e.old xs far → cut (decision o (case_for e near far)).new ≡ (decision o (case_for e near far)).new
-decided-whole o xs e near far all h ic il =
-    let k = case_for e near far in
-    whole-row (is_ok (req_of e.old)) e.old (when (may_jump o k) (latest_text k)) (when o.compatible (compatible_text k)) h
+decided-whole : (o : Options) (xs : List Parts) (e : Seen) (old : List ℕ) (near far : Option Parts) → All IsValid xs → cut old ≡ old
+    → IsCompatible old xs near → IsLatest old xs far → cut (decision o (case_for e old near far)).new ≡ (decision o (case_for e old near far)).new
+decided-whole o xs e old near far all h ic il =
+    let k = case_for e old near far in
+    whole-row (is_ok (req_of old)) old (when (may_jump o k) (latest_text k)) (when o.compatible (compatible_text k)) h
     (λ t q.
-    let f = far-some e.old t far near (when-some (may_jump o k) (latest_text k) t q) in
-    let valid = greatest-has IsValid (is_offered e.old) xs f.0 all (subst (λ (y : Option Parts). IsLatest e.old xs y) (newer-latest far near f.0 f.1) il) in
-    whole-of e.old (plain_text f.0) f.0 t (raise e.old f.0) valid (plain-whole f.0 valid) refl f.2)
+    let f = far-some old t far near (when-some (may_jump o k) (latest_text k) t q) in
+    let valid = greatest-has IsValid (is_offered old) xs f.0 all (subst (λ (y : Option Parts). IsLatest old xs y) (newer-latest far near f.0 f.1) il) in
+    whole-of old (plain_text f.0) f.0 t (raise old f.0) valid (plain-whole f.0 valid) refl f.2)
     (λ t q.
-    let n = near-some o e.old t near q in
-    let valid = greatest-has IsValid (is_admitted e.old) xs n.0 all (subst (λ (y : Option Parts). IsCompatible e.old xs y) n.1 ic) in
-    whole-of e.old e.old n.0 t (raise e.old n.0) valid h refl n.2)
+    let n = near-some o old t near q in
+    let valid = greatest-has IsValid (is_admitted old) xs n.0 all (subst (λ (y : Option Parts). IsCompatible old xs y) n.1 ic) in
+    whole-of old old n.0 t (raise old n.0) valid h refl n.2)
 
 -- ---- the requirement that a row leaves
 
@@ -146,36 +160,45 @@ old-stays old (to_compatible text) h = same-stays old text _ h
 old-stays old kept h = refl
 
 -- so the row tells the old requirement
-line-stays : (i : ℕ) (o : Options) (xs : List Parts) (e : Seen) (line : Line) → IsDecided i o xs e line → line.change ≡ None → line.new ≡ Some e.old
-line-stays i o xs e line d h =
-    let k = case_for e d.near d.far in
-    let q : row_change e.old (row_of o k) ≡ None = sym (ap (λ (l : Line). l.change) d.is) ∙ h in
-    ap (λ (l : Line). l.new) d.is ∙ ap (λ (x : List ℕ). Some x) (old-stays e.old (row_of o k) q)
+line-stays : (i : ℕ) (o : Options) (xs : List Parts) (e : Seen) (old : List ℕ) (line : Line) → IsDecided i o xs e old line → line.change ≡ None → line.new ≡ Some old
+line-stays i o xs e old line d h =
+    let k = case_for e old d.near d.far in
+    let q : row_change old (row_of o k) ≡ None = sym (ap (λ (l : Line). l.change) d.is) ∙ h in
+    ap (λ (l : Line). l.new) d.is ∙ ap (λ (x : List ℕ). Some x) (old-stays old (row_of o k) q)
 
 -- a row without a change writes nothing
-pub none-written : (l : Place) (line : Line) → line.change ≡ None → write_at l line ≡ None
-none-written l line h = rw h refl
+pub none-written : (e : Seen) (line : Line) → line.change ≡ None → write_on e line ≡ None
+none-written e line h = by-old e.old
+  where
+    by-old : (o : Option (List ℕ)) → when (is_some o) (write_at e.literal line) ≡ None
+    by-old None = refl
+    by-old (Some old) = rw h refl
 
 -- a row with a change writes its requirement
-some-written : (l : Place) (line : Line) (kind : Change) (new : List ℕ) → line.change ≡ Some kind → line.new ≡ Some new → write_at l line ≡ Some (l, new)
-some-written l line kind new h n = rw (h, n) refl
+some-written : (e : Seen) (old : List ℕ) (line : Line) (kind : Change) (new : List ℕ) → e.old ≡ Some old → line.change ≡ Some kind → line.new ≡ Some new
+    → write_on e line ≡ Some (e.literal, new)
+some-written e old line kind new q h n = rw (q, h, n) refl
 
 -- the entry after its row was written is the old one with the row's requirement
 abbrev HasNew : Seen → Line → Type 0
-HasNew e line = (new : List ℕ) × (line.new ≡ Some new) × (renew e line ≡ record e { old = new })
+HasNew e line = (new : List ℕ) × (line.new ≡ Some new) × (renew e line ≡ record e { old = Some new })
 
 -- by whether the row has a change
-new-by : (i : ℕ) (o : Options) (xs : List Parts) (e : Seen) (line : Line) (c : Option Change) → All IsValid xs → cut e.old ≡ e.old → IsDecided i o xs e line
-    → line.change ≡ c → HasNew e line
-new-by i o xs e line None all h d q =
-    (e.old, line-stays i o xs e line d q, ap (λ (w : Option (Place × List ℕ)). record e { old = old_after w e.old }) (none-written e.literal line q))
-new-by i o xs e line (Some kind) all h d q =
-    let new = (decision o (case_for e d.near d.far)).new in
+new-by : (i : ℕ) (o : Options) (xs : List Parts) (e : Seen) (old : List ℕ) (line : Line) (c : Option Change) → All IsValid xs → e.old ≡ Some old → cut old ≡ old
+    → IsDecided i o xs e old line → line.change ≡ c → HasNew e line
+new-by i o xs e old line None all g h d q = (
+  old,
+  line-stays i o xs e old line d q,
+  ap (λ (w : Option (Place × List ℕ)). record e { old = old_after w e.old }) (none-written e line q)
+      ∙ ap (λ (x : Option (List ℕ)). record e { old = x }) g,
+)
+new-by i o xs e old line (Some kind) all g h d q =
+    let new = (decision o (case_for e old d.near d.far)).new in
     let told : line.new ≡ Some new = ap (λ (l : Line). l.new) d.is in (
       new,
       told,
-      ap (λ (w : Option (Place × List ℕ)). record e { old = old_after w e.old }) (some-written e.literal line kind new q told)
-          ∙ ap (λ (x : List ℕ). record e { old = x }) (decided-whole o xs e d.near d.far all h d.compatible d.latest),
+      ap (λ (w : Option (Place × List ℕ)). record e { old = old_after w e.old }) (some-written e old line kind new g q told)
+          ∙ ap (λ (x : List ℕ). record e { old = Some x }) (decided-whole o xs e old d.near d.far all h d.compatible d.latest),
     )
 
 -- ---- decided again
@@ -185,26 +208,62 @@ some-same : (a b : List ℕ) → Some a ≡ Some b → a ≡ b
 some-same a b h = cc h
 
 -- one entry, decided on the requirement that its row left
-entry-again : (i : ℕ) (o : Options) (xs : List Parts) (e : Seen) (line next : Line) (new : List ℕ) → All IsValid xs → IsDecided i o xs e line
-    → line.new ≡ Some new → IsDecided i o xs (record e { old = new }) next → next.change ≡ None
-entry-again i o xs e line next new all d n g =
-    let first = decision o (case_for e d.near d.far) in
+entry-again : (i : ℕ) (o : Options) (xs : List Parts) (e f : Seen) (old : List ℕ) (line next : Line) (new : List ℕ) → All IsValid xs → f.rename ≡ e.rename
+    → IsDecided i o xs e old line → line.new ≡ Some new → IsDecided i o xs f new next → next.change ≡ None
+entry-again i o xs e f old line next new all same d n g =
+    let first = decision o (case_for e old d.near d.far) in
     let text : new ≡ first.new = some-same new first.new (sym n ∙ ap (λ (l : Line). l.new) d.is) in
     let near = subst (λ (x : List ℕ). IsCompatible x xs g.near) text g.compatible in
     let far = subst (λ (x : List ℕ). IsLatest x xs g.far) text g.latest in
     ap (λ (l : Line). l.change) g.is
-    ∙ ap (λ (x : List ℕ). (decision o (case_for (record e { old = x }) g.near g.far)).change) text
-    ∙ again o false (is_some e.rename) xs e.old d.near d.far g.near g.far all d.compatible d.latest near far
+    ∙ ap (λ (r : Option (List ℕ)). (decision o (case_of false (is_some r) new g.near g.far)).change) same
+    ∙ ap (λ (x : List ℕ). (decision o (case_of false (is_some e.rename) x g.near g.far)).change) text
+    ∙ again o false (is_some e.rename) xs old d.near d.far g.near g.far all d.compatible d.latest near far
 
--- the versions that may be taken for entries of one name are the same
-same-versions : (s : Setting) (e f : Seen) (xs ys : List Parts) → e.name ≡ f.name → AreVersionsFor s e xs → AreVersionsFor s f ys → xs ≡ ys
-same-versions s e f xs ys q a b =
-    a.are ∙ ap (λ (n : List ℕ). told s.rust s.looks (serialize a.address) n) q
-    ∙ ap (λ (u : url.Parts). told s.rust s.looks (serialize u) f.name) (one_url s.configs None a.address b.address a.needed.has b.needed.has)
-    ∙ sym b.are
+pub one-named : (e : Seen) (named other : Option (List ℕ)) → e.source ≡ at_registry named → e.source ≡ at_registry other → named ≡ other
+one-named e named other p q = source-inj named other (sym p ∙ q)
+  where
+    source-inj : (a b : Option (List ℕ)) → at_registry a ≡ at_registry b → a ≡ b
+    source-inj a b h = cc h
+
+-- the address that an entry needs is one
+pub one-address : (configs : List Config) (e : Seen) (a b : url.Parts) (n m : List ℕ) → Needs configs e a n → Needs configs e b m → a ≡ b
+one-address configs e a b n m x y =
+    let has = subst (λ (r : Option (List ℕ)). HasAddress configs r b) (one-named e y.named x.named y.source x.source) y.has in
+    one_url configs x.named a b x.has has
+
+-- an entry of a registry is not one from elsewhere
+pub not-both : (e : Seen) (named : Option (List ℕ)) → e.source ≡ at_registry named → is_elsewhere e.source ≡ true → ⊥
+not-both e named p q = cc (sym (ap is_elsewhere p) ∙ q)
+
+-- the versions that may be taken for an entry are the same
+same-versions : (s : Setting) (e : Seen) (xs ys : List Parts) → AreVersionsFor (basis_of s) e xs → AreVersionsFor (basis_of s) e ys → xs ≡ ys
+same-versions s e xs ys (told_there a needs are) (told_there b need is) =
+    are ∙ ap (λ (u : url.Parts). told s.rust s.looks (serialize u) e.name) (one-address s.configs e a b e.name e.name needs need) ∙ sym is
+same-versions s e xs ys (told_there a needs are) (elsewhere other none) = absurd (not-both e needs.named needs.source other)
+same-versions s e xs ys (elsewhere other none) (told_there b need is) = absurd (not-both e need.named need.source other)
+same-versions s e xs ys (elsewhere other none) (elsewhere more nothing) = none ∙ sym nothing
+
+-- one entry by its requirement, where it has one
+row-again : (s : Setting) (e : Seen) (o : Option (List ℕ)) (l m : Line) → ((old : List ℕ) → e.old ≡ Some old → cut old ≡ old) → e.old ≡ o → IsRow s e l
+    → IsRow s (renew e l) m → m.change ≡ None
+row-again s e None l m h q d g =
+    let quiet : l.change ≡ None = ap (λ (x : Line). x.change)
+    (subst (λ (x : Option (List ℕ)). IsRowOver s.input s.options d.versions e x l) q d.decided) in
+    let old : (renew e l).old ≡ None = ap (λ (w : Option (Place × List ℕ)). old_after w e.old) (none-written e l quiet) ∙ q in
+    ap (λ (x : Line). x.change) (subst (λ (x : Option (List ℕ)). IsRowOver s.input s.options g.versions (renew e l) x m) old g.decided)
+row-again s e (Some old) l m h q d g =
+    let first = subst (λ (x : Option (List ℕ)). IsRowOver s.input s.options d.versions e x l) q d.decided in
+    let valid = offered-valid s e d.versions d.offered in
+    let n = new-by s.input s.options d.versions e old l l.change valid q (h old q) first refl in
+    let next : Seen = record e { old = Some n.0 } in
+    let row = subst (λ (x : Seen). IsRow s x m) n.2 g in
+    let same = same-versions s next row.versions d.versions row.offered (other-versions (basis_of s) e next d.versions refl refl d.offered) in
+    let again = subst (λ (ys : List Parts). IsDecided s.input s.options ys next n.0 m) same row.decided in
+    entry-again s.input s.options d.versions e next old l m n.0 valid refl first n.1 again
 
 -- all entries, decided on the requirements that their rows left
-pub all-again : (s : Setting) (es : List Seen) (ls ms : List Line) → AllByRecursion (λ e. cut e.old ≡ e.old) es
+pub all-again : (s : Setting) (es : List Seen) (ls ms : List Line) → AllByRecursion (λ e. (old : List ℕ) → e.old ≡ Some old → cut old ≡ old) es
     → AllZip (IsRow s) es ls → AllZip (IsRow s) (renewed es ls) ms → All HasNoChange ms
 all-again s [] [] [] h d g = All-nil HasNoChange
 all-again s [] [] (m ∷ ms) h d g = absurd g
@@ -212,12 +271,4 @@ all-again s [] (l ∷ ls) ms h d g = absurd d
 all-again s (e ∷ es) [] ms h d g = absurd d
 all-again s (e ∷ es) (l ∷ ls) [] h d g = absurd g
 all-again s (e ∷ es) (l ∷ ls) (m ∷ ms) h d g =
-    let xs = d.0.versions in
-    let valid = offered-valid s e xs d.0.offered in
-    let n = new-by s.input s.options xs e l l.change valid h.0 d.0.decided refl in
-    let next : Seen = record e { old = n.0 } in
-    let row = subst (λ (x : Seen). IsRow s x m) n.2 g.0 in
-    let same = same-versions s next e row.versions xs refl row.offered d.0.offered in
-    let first = subst (λ (ys : List Parts). IsDecided s.input s.options ys next m) same row.decided in
-    All-cons HasNoChange m ms (entry-again s.input s.options xs e l m n.0 valid d.0.decided n.1 first)
-    (all-again s es ls ms h.1 d.1 g.1)
+    All-cons HasNoChange m ms (row-again s e e.old l m h.0 refl d.0 g.0) (all-again s es ls ms h.1 d.1 g.1)

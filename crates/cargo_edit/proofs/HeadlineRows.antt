@@ -26,8 +26,8 @@ use Rattle.cargo_edit.specs.Headline.{IsVersionTold, LatestIsNotLess, Narrows, R
 use Rattle.cargo_edit.specs.Inputs.{Setting}
 use Rattle.cargo_edit.specs.Looks.{Answer, look_at, versions_in}
 use Rattle.cargo_edit.specs.Records.{Seen, seen}
-use Rattle.cargo_edit.specs.Rows.{IsDecided, Line, case_for, line_for}
-use Rattle.cargo_edit.specs.Upgraded.{AreVersionsFor, HasRows, IsRow}
+use Rattle.cargo_edit.specs.Rows.{AreVersionsFor, IsDecided, IsRowOver, Line, case_for, dashes, elsewhere, line_for, told_there}
+use Rattle.cargo_edit.specs.Upgraded.{HasRows, IsRow, basis_of}
 use Rattle.cargo_edit.specs.declared.upgrade.Options.{Options}
 use Rattle.cargo_edit.proofs.Narrowing.{latest-not-less, narrowing, reach}
 
@@ -40,10 +40,11 @@ versions-valid rust (Some None) = All-nil IsValid
 versions-valid rust (Some (Some entries)) = all-valid rust entries
 
 -- so is each that may be taken for an entry
-pub offered-valid : (s : Setting) (e : Seen) (xs : List Parts) → AreVersionsFor s e xs → All IsValid xs
-offered-valid s e xs v =
-    subst (λ (ys : List Parts). All IsValid ys) (sym v.are)
-    (versions-valid s.rust (option_map (λ look. answer_of look.answer) (look_at s.looks (serialize v.address) e.name)))
+pub offered-valid : (s : Setting) (e : Seen) (xs : List Parts) → AreVersionsFor (basis_of s) e xs → All IsValid xs
+offered-valid s e xs (told_there address needs are) =
+    subst (λ (ys : List Parts). All IsValid ys) (sym are)
+    (versions-valid s.rust (option_map (λ look. answer_of look.answer) (look_at s.looks (serialize address) e.name)))
+offered-valid s e xs (elsewhere other none) = subst (λ (ys : List Parts). All IsValid ys) (sym none) (All-nil IsValid)
 
 -- a requirement admits a version without its build metadata
 admits-plain : (text : List ℕ) (v : Parts) → Admits text v → Admits text (without_build v)
@@ -80,21 +81,21 @@ read-admits : (text : List ℕ) (v : Parts) → Admits text v → IsOk (req_of t
 read-admits text v a = rw a.1 refl
 
 -- a decided row narrows
-pub line-narrows : (i : ℕ) (o : Options) (xs : List Parts) (e : Seen) (line : Line) → All IsValid xs → IsDecided i o xs e line → Narrows line
-line-narrows i o xs e line all d =
+pub line-narrows : (i : ℕ) (o : Options) (xs : List Parts) (e : Seen) (old : List ℕ) (line : Line) → All IsValid xs → IsDecided i o xs e old line → Narrows line
+line-narrows i o xs e old line all d =
     subst Narrows (sym d.is) (λ h.
-    let n = narrowing o xs (case_for e d.near d.far) all d.compatible h in
-    (read-admits (decision o (case_for e d.near d.far)).new n.0 n.2.0, λ v a. n.2.1 v a))
+    let n = narrowing o xs (case_for e old d.near d.far) all d.compatible h in
+    (read-admits (decision o (case_for e old d.near d.far)).new n.0 n.2.0, λ v a. n.2.1 v a))
 
 -- a decided row reaches its version
-pub line-reaches : (i : ℕ) (o : Options) (xs : List Parts) (e : Seen) (line : Line) → All IsValid xs → IsDecided i o xs e line → Reaches line
-line-reaches i o xs e line all d =
-    let c = case_for e d.near d.far in
-    let there : Reaches (line_for i e d.near d.far (decision o c)) = record {
+pub line-reaches : (i : ℕ) (o : Options) (xs : List Parts) (e : Seen) (old : List ℕ) (line : Line) → All IsValid xs → IsDecided i o xs e old line → Reaches line
+line-reaches i o xs e old line all d =
+    let c = case_for e old d.near d.far in
+    let there : Reaches (line_for i e old d.near d.far (decision o c)) = record {
       compatible = λ h.
           let n = narrowing o xs c all d.compatible h in
-          let near = subst (λ (x : Option Parts). IsCompatible e.old xs x) n.1 d.compatible in
-          let valid = greatest-has IsValid (is_admitted e.old) xs n.0 all near in (
+          let near = subst (λ (x : Option Parts). IsCompatible old xs x) n.1 d.compatible in
+          let valid = greatest-has IsValid (is_admitted old) xs n.0 all near in (
             without_build n.0,
             subst (λ (x : Option Parts). IsVersionTold (option_map plain_text x) (without_build n.0)) (sym n.1) (told-plain n.0 valid),
             admits-plain (decision o c).new n.0 n.2.0,
@@ -135,37 +136,57 @@ latest-of xs old (Some u) far all a b h =
     )
 
 -- a decided row's latest version is not less
-pub line-latest : (i : ℕ) (o : Options) (xs : List Parts) (e : Seen) (line : Line) → All IsValid xs → IsDecided i o xs e line → LatestIsNotLess line
-line-latest i o xs e line all d = subst LatestIsNotLess (sym d.is) (latest-of xs e.old d.near d.far all d.compatible d.latest)
+pub line-latest : (i : ℕ) (o : Options) (xs : List Parts) (e : Seen) (old : List ℕ) (line : Line) → All IsValid xs → IsDecided i o xs e old line → LatestIsNotLess line
+line-latest i o xs e old line all d = subst LatestIsNotLess (sym d.is) (latest-of xs old d.near d.far all d.compatible d.latest)
+
+-- a row of dashes narrows nothing, reaches nothing and tells no version
+dashes-narrow : (i : ℕ) (e : Seen) → Narrows (dashes i e)
+dashes-narrow i e h = cc h
+
+dashes-reach : (i : ℕ) (e : Seen) → Reaches (dashes i e)
+dashes-reach i e = record { compatible = λ h. cc h; latest = λ h. cc h }
+
+dashes-latest : (i : ℕ) (e : Seen) → LatestIsNotLess (dashes i e)
+dashes-latest i e h = cc h
 
 -- ---- all rows
 
--- what holds of each decided row holds of all rows
-all-rows : (s : Setting) (P : Line → Type 0)
-    → ((xs : List Parts) (e : Seen) (line : Line) → All IsValid xs → IsDecided s.input s.options xs e line → P line)
+-- what holds of each decided row and of each row of dashes holds of a row
+row-has : (i : ℕ) (o : Options) (P : Line → Type 0) → ((e : Seen) → P (dashes i e))
+    → ((xs : List Parts) (e : Seen) (old : List ℕ) (line : Line) → All IsValid xs → IsDecided i o xs e old line → P line)
+    → (xs : List Parts) (e : Seen) (old : Option (List ℕ)) (line : Line) → All IsValid xs → IsRowOver i o xs e old line → P line
+row-has i o P d f xs e None line all h = subst P (sym h) (d e)
+row-has i o P d f xs e (Some old) line all h = f xs e old line all h
+
+-- so it holds of all rows
+all-rows : (s : Setting) (P : Line → Type 0) → ((e : Seen) → P (dashes s.input e))
+    → ((xs : List Parts) (e : Seen) (old : List ℕ) (line : Line) → All IsValid xs → IsDecided s.input s.options xs e old line → P line)
     → (es : List Seen) (ls : List Line) → AllZip (IsRow s) es ls → All P ls
-all-rows s P f [] [] h = All-nil P
-all-rows s P f [] (l ∷ ls) h = absurd h
-all-rows s P f (e ∷ es) [] h = absurd h
-all-rows s P f (e ∷ es) (l ∷ ls) h =
-    All-cons P l ls (f h.0.versions e l (offered-valid s e h.0.versions h.0.offered) h.0.decided) (all-rows s P f es ls h.1)
+all-rows s P d f [] [] h = All-nil P
+all-rows s P d f [] (l ∷ ls) h = absurd h
+all-rows s P d f (e ∷ es) [] h = absurd h
+all-rows s P d f (e ∷ es) (l ∷ ls) h =
+    All-cons P l ls (row-has s.input s.options P d f h.0.versions e e.old l (offered-valid s e h.0.versions h.0.offered) h.0.decided)
+    (all-rows s P d f es ls h.1)
 
 -- the rows of a manifest narrow
 pub rows-narrow : (s : Setting) (bytes : List ℕ) (lines : List Line) → HasRows s bytes lines → All Narrows lines
 rows-narrow s bytes lines h =
-    all-rows s Narrows (λ xs e line all d. line-narrows s.input s.options xs e line all d) (seen (view_at h.form)) lines h.decided
+    all-rows s Narrows (dashes-narrow s.input) (λ xs e old line all d. line-narrows s.input s.options xs e old line all d) (seen (view_at h.form)) lines h.decided
 
 -- they reach their versions
 pub rows-reach : (s : Setting) (bytes : List ℕ) (lines : List Line) → HasRows s bytes lines → All Reaches lines
 rows-reach s bytes lines h =
-    all-rows s Reaches (λ xs e line all d. line-reaches s.input s.options xs e line all d) (seen (view_at h.form)) lines h.decided
+    all-rows s Reaches (dashes-reach s.input) (λ xs e old line all d. line-reaches s.input s.options xs e old line all d) (seen (view_at h.form)) lines h.decided
 
 -- their latest versions are not less
 pub rows-latest : (s : Setting) (bytes : List ℕ) (lines : List Line) → HasRows s bytes lines → All LatestIsNotLess lines
 rows-latest s bytes lines h =
-    all-rows s LatestIsNotLess (λ xs e line all d. line-latest s.input s.options xs e line all d) (seen (view_at h.form)) lines h.decided
+    all-rows s LatestIsNotLess (dashes-latest s.input) (λ xs e old line all d. line-latest s.input s.options xs e old line all d)
+    (seen (view_at h.form)) lines h.decided
 
 -- each is a row of its input
 pub rows-inputs : (s : Setting) (bytes : List ℕ) (lines : List Line) → HasRows s bytes lines → All (λ (line : Line). line.input ≡ s.input) lines
 rows-inputs s bytes lines h =
-    all-rows s (λ (line : Line). line.input ≡ s.input) (λ xs e line all d. ap (λ (l : Line). l.input) d.is) (seen (view_at h.form)) lines h.decided
+    all-rows s (λ (line : Line). line.input ≡ s.input) (λ e. refl) (λ xs e old line all d. ap (λ (l : Line). l.input) d.is)
+    (seen (view_at h.form)) lines h.decided

@@ -1,9 +1,10 @@
 -- The plan of one input, as a plan of inputs.
-use Rattle.std.proofs.Common.{◌≡◌, ◌∷◌, [], List, ℕ, Some, Bool, true, false, zero, suc, refl, ap, ◌∙◌, sym, subst, inl, inr, ◌⊎◌, append-nil, arith, get_or, length, map}
-use Rattle.std.specs.Prelude.{All, filter, if◌then◌else◌, not, slice_get, string_bytes, ◌==◌, IsUtf8}
+use Rattle.std.proofs.Common.{◌≡◌, ◌∷◌, [], List, ℕ, Option, Some, None, Bool, true, false, zero, suc, refl, ap, ◌∙◌, sym, subst, inl, inr, ◌⊎◌, append-nil, arith, get_or, length, map}
+use Rattle.std.specs.Prelude.{All, filter, if◌then◌else◌, not, option_and_then, option_map, slice_get, string_bytes, ◌==◌, IsUtf8}
+use Rattle.std.specs.List.{AllZip, cons_option, filter_map}
 use Rattle.std.specs.Global.{Vec}
 use Rattle.std.specs.Str.{bytes_eq}
-use Rattle.std.proofs.lemmas.List.Elements.{All-head, All-tail, All-weaker}
+use Rattle.std.proofs.lemmas.List.Elements.{All-cons, All-head, All-nil, All-tail, All-weaker}
 use Rattle.edit_base.specs.Errors.{IsMemory}
 use Rattle.edit_document.specs.Replaces.{Edits}
 use Rattle.edit_document.specs.Tree.{view_at}
@@ -17,9 +18,13 @@ use Rattle.cargo_edit.specs.Inputs.{EachInput, OutputsInOrder, RowsInOrder, Sett
 use Rattle.cargo_edit.specs.Lines.{line_of}
 use Rattle.cargo_edit.specs.Looks.{AddsNeeded, AreLooks, Kept}
 use Rattle.cargo_edit.specs.Outputs.{AreOutputs, HasOutputs, changed, unchanged}
-use Rattle.cargo_edit.specs.Records.{seen}
+use Rattle.cargo_edit.specs.Lists.{IsWarningBy, IsWarningOn, Told, unread, unreadable_text, warned, warning_by, warning_view}
+use Rattle.cargo_edit.specs.Records.{Source, seen, source_of, version_of}
+use Rattle.edit_entries.specs.Entries as found
+use Rattle.edit_entries.specs.Entries.{entries}
+use Rattle.edit_record.specs.EntryRecords.{EntryRecord}
 use Rattle.cargo_edit.specs.Rows.{Line, writes}
-use Rattle.cargo_edit.specs.Upgraded.{HasItsOutputs, HasItsRows, HasRows, IsNeeded, IsNeededBy}
+use Rattle.cargo_edit.specs.Upgraded.{HasItsOutputs, HasItsRows, HasItsWarnings, HasRows, HasWarnings, IsNeeded, IsNeededBy, warnings_of}
 use Rattle.cargo_edit.specs.Headline.{IsFixedPoint, IsSettled, NeedSame, NeedsAsBefore, bytes_after}
 use Rattle.edit_metadata.specs.declared.input.Input.{Input}
 use Rattle.cargo_edit.specs.declared.upgrade.Look.{Look}
@@ -137,6 +142,64 @@ one-needs o inputs configs x own p h =
     each-one o inputs configs NeedsAsBefore p x own h.input h.config
     (subst (λ (os : List Output). NeedSame own.items x.bytes.items (bytes_after x.bytes.items os)) (sym (its-all o inputs configs x own p h).1)
     (need-same s (path_of x) x.bytes.items (map line_of p.rows.items) p.outputs.items h.rows h.outputs))
+
+-- the warnings of the first input
+first-warnings : (ts : List Told) → All (λ (t : Told). t.input ≡ 0) ts → filter (λ t. t.input == 0) ts ≡ ts
+first-warnings [] h = refl
+first-warnings (t ∷ ts) h =
+    let here : (t.input == 0) ≡ true = ap (λ (n : ℕ). n == 0) (All-head (λ (x : Told). x.input ≡ 0) t ts h) in
+    rw here (ap (λ (rest : List Told). t ∷ rest) (first-warnings ts (All-tail (λ (x : Told). x.input ≡ 0) t ts h)))
+
+-- each warning is on its input
+warned-input : (i : ℕ) (name : List ℕ) (o : Option (List ℕ)) (w : Told) → option_map (λ old. warned i false (unreadable_text name old)) o ≡ Some w → w.input ≡ i
+warned-input i name None w h = cc h
+warned-input i name (Some old) w h = sym (ap told-input h)
+  where
+    told-input : Option Told → ℕ
+    told-input None = i
+    told-input (Some t) = t.input
+
+by-source : (i : ℕ) (name : List ℕ) (o : Option Source) (version : Option (List ℕ)) (w : Told) → warning_by i name o version ≡ Some w → w.input ≡ i
+by-source i name None version w h = sym (ap told-input h)
+  where
+    told-input : Option Told → ℕ
+    told-input None = i
+    told-input (Some t) = t.input
+by-source i name (Some source) version w h = warned-input i name (option_and_then unread version) w h
+
+by-record : (i : ℕ) (name : List ℕ) (o : Option EntryRecord) (told : Option Told) (w : Told) → IsWarningBy i name o told → told ≡ Some w → w.input ≡ i
+by-record i name None told w h q = sym (ap told-input (sym h.1 ∙ q))
+  where
+    told-input : Option Told → ℕ
+    told-input None = i
+    told-input (Some t) = t.input
+by-record i name (Some r) told w h q = by-source i name (source_of r) (version_of r) w (sym h ∙ q)
+
+cons-input : (i : ℕ) (told : Option Told) (ts : List Told) → ((w : Told) → told ≡ Some w → w.input ≡ i) → All (λ (t : Told). t.input ≡ i) ts
+    → All (λ (t : Told). t.input ≡ i) (cons_option told ts)
+cons-input i None ts h g = g
+cons-input i (Some w) ts h g = All-cons (λ (t : Told). t.input ≡ i) w ts (h w refl) g
+
+warnings-input : (i : ℕ) (es : List found.Entry) (each : List (Option Told)) → AllZip (IsWarningOn i) es each
+    → All (λ (t : Told). t.input ≡ i) (filter_map (λ told. told) each)
+warnings-input i [] [] h = All-nil (λ (t : Told). t.input ≡ i)
+warnings-input i [] (t ∷ ts) h = absurd h
+warnings-input i (e ∷ es) [] h = absurd h
+warnings-input i (e ∷ es) (t ∷ ts) h =
+    cons-input i t (filter_map (λ told. told) ts) (λ w q. by-record i e.name e.said t w h.0 q) (warnings-input i es ts h.1)
+
+-- the warnings of the one input are all warnings
+its-warnings : (p : UpgradePlan) (bytes : List ℕ) → HasWarnings 0 bytes (map warning_view p.warnings.items) → warnings_of 0 p ≡ map warning_view p.warnings.items
+its-warnings p bytes h =
+    first-warnings (map warning_view p.warnings.items)
+    (subst (λ (ts : List Told). All (λ (t : Told). t.input ≡ 0) ts) (sym h.are.all)
+    (warnings-input 0 (entries (view_at h.form) []) h.are.each h.are.on))
+
+pub one-warnings : (o : Options) (inputs : List Input) (configs : List (Vec Config)) (x : Input) (own : Vec Config) (p : UpgradePlan) → IsPlannedOne o inputs configs x own p
+    → HasWarnings 0 x.bytes.items (map warning_view p.warnings.items) → EachInput o inputs configs HasItsWarnings p
+one-warnings o inputs configs x own p h w =
+    each-one o inputs configs HasItsWarnings p x own h.input h.config
+    (subst (λ (ts : List Told). HasWarnings 0 x.bytes.items ts) (sym (its-warnings p x.bytes.items w)) w)
 
 pub one-rows_in_order : (o : Options) (inputs : List Input) (configs : List (Vec Config)) (x : Input) (own : Vec Config) (p : UpgradePlan)
     → IsPlannedOne o inputs configs x own p → RowsInOrder inputs p

@@ -1,14 +1,11 @@
 pub mod Pins
-pub mod SeenLemmas
 pub mod Steps
 pub mod Bytes
 pub mod FetchLemmas
 pub mod LookedLemmas
 pub mod LookUpLemmas
-pub mod NamedLemmas
 pub mod PlannedLemmas
 pub mod WriteLemmas
-pub mod Literals
 pub mod ListLemmas
 pub mod PlanLemmas
 pub mod TakenVersions
@@ -16,10 +13,11 @@ pub mod Narrowing
 pub mod HeadlineRows
 pub mod RaisedAgain
 pub mod DecidedAgain
-pub mod SeenCases
 pub mod WrittenEntries
 pub mod FixedPoint
 pub mod PlannedAgain
 pub mod InputLemmas
 mod DecisionFacts
 pub mod RankedLemmas
+pub mod SeenFacts
+pub mod WalkLemmas

@@ -12,23 +12,17 @@ use Rattle.edit_sources.specs.Index.{Outcomes, SameOutcomes, answer_of}
 use Rattle.edit_sources.specs.Store.{raised}
 use Rattle.url.specs.Parts as url
 use Rattle.url.specs.Parts.{serialize}
-use Rattle.cargo_edit.specs.Looked.{IsAmong, IsAt, IsFailedLook, IsLook, IsRefusedAt, IsSoFar, Leaves, Looked, start, again, more, Stays}
-use Rattle.cargo_edit.specs.Looks.{AddsNeeded, Answer, IsGiven, Kept, is_look_at, look_at}
+use Rattle.cargo_edit.specs.Looked.{IsLook, IsRefusedAt, IsSoFar, IsStep, Leaves, Pairs}
+use Rattle.cargo_edit.specs.Looks.{AddsNeeded, Answer, AreLooks, IsGiven, Kept, is_look_at, look_at}
 use Rattle.cargo_edit.specs.declared.upgrade.Look.{Look}
 use Rattle.cargo_edit.proofs.Bytes.{both-true, same-eq, same-refl}
-use Rattle.cargo_edit.proofs.LookedLemmas.{at-pair, find-one, look_at-more, made}
+use Rattle.cargo_edit.proofs.LookedLemmas.{at-pair, find-one, look_at-more, looks-again, looks-more, looks-start}
 
 pub gives-trans : (a b c : Outcomes) → SameOutcomes a b → SameOutcomes b c → SameOutcomes a c
 gives-trans a b c h g address name outcome =
     let x = h address name outcome in
     let y = g address name outcome in
     (λ k. x.0 (y.0 k), λ k. y.1 (x.1 k))
-
--- what a function gives of an item of a list is among what it gives of the list
-contains-mapped : {A : Type 0} (f : A → List ℕ) (xs : List A) (i : ℕ) (d : A) → i < length xs → Contains (map f xs) (f (get_or xs i d))
-contains-mapped {A} f xs i d h =
-    subst (λ (y : List ℕ). Contains (map f xs) y) (get_or-map f xs i d (f d) h)
-    (Contains-get_or (map f xs) i (f d) (subst (λ (m : ℕ). i < m) (sym (length-map xs f)) h))
 
 -- ---- what a call leaves
 
@@ -90,27 +84,12 @@ pub leaves-wider : (Needed More : List ℕ → List ℕ → Type 0) (first last 
 leaves-wider Needed More first last a b old new h m =
     record { adds = adds-wider Needed More first old new h m.adds; same = m.same; later = m.later }
 
--- a look for an item's name is one for a name among those of all items
-pub at-among : {A : Type 0} (f : A → List ℕ) (xs : List A) (i : ℕ) (x : A) (name address : List ℕ) → i < length xs → x ≡ get_or xs i x → name ≡ f x
-    → (a n : List ℕ) → IsAt address name a n → IsAmong address (map f xs) a n
-at-among {A} f xs i x name address h e same a n p =
-    (p.0, subst (λ (y : List ℕ). Contains (map f xs) y) (ap f (sym e) ∙ sym same ∙ sym p.1) (contains-mapped f xs i x h))
-
--- ---- one name more
+-- ---- one step more
 
 -- a name more, where it was among them
 added-again : (b a : Bool) → (b ≡ true → a ≡ true) → (if b then true else a) ≡ a
 added-again true a h = sym (h refl)
 added-again false a h = refl
-
--- a name that was looked up before
-pub so-far-again : (address : List ℕ) (first : Outcomes) (old now : Kept) (names : List (List ℕ)) (looks : List Look) (among then_among : List ℕ → Bool)
-    (name : List ℕ) → IsSoFar address first old now names looks among → among name ≡ true
-    → ((q : List ℕ) → then_among q ≡ (if bytes_eq name q then true else among q)) → IsSoFar address first old now (names ++ name ∷ []) looks then_among
-so-far-again address first old now names looks among then_among name s h u = record {
-  looked = again names looks now name s.looked (sym (s.set name) ∙ h);
-  set = λ q. u q ∙ added-again (bytes_eq name q) (among q) (λ e. ap among (sym (same-eq name q e)) ∙ h) ∙ s.set q;
-}
 
 none-of : (o : Option Look) → is_some o ≡ false → o ≡ None
 none-of None h = refl
@@ -134,25 +113,64 @@ some-over (Some x) look true = refl
 some-over (Some x) look false = refl
 
 -- which pairs are found with one look more
-found-by : (address name : List ℕ) (looks : List Look) (look : Look) → serialize look.registry ≡ address → string_bytes look.name ≡ name → (q : List ℕ)
-    → is_some (look_at (looks ++ look ∷ []) address q) ≡ (if bytes_eq name q then true else is_some (look_at looks address q))
-found-by address name looks look p n q =
-    let at : is_look_at address q look ≡ bytes_eq name q =
-    at-pair address name look p n address q ∙ ap (λ (b : Bool). b && bytes_eq name q) (same-refl address) in
-    ap is_some (look_at-more looks look address q ∙ ap (λ (o : Option Look). option_or (look_at looks address q) o) (find-one address q look (bytes_eq name q) at))
-    ∙ some-over (look_at looks address q) look (bytes_eq name q)
+found-by : (address name : List ℕ) (looks : List Look) (look : Look) → serialize look.registry ≡ address → string_bytes look.name ≡ name → (a n : List ℕ)
+    → is_some (look_at (looks ++ look ∷ []) a n) ≡ (if bytes_eq address a && bytes_eq name n then true else is_some (look_at looks a n))
+found-by address name looks look p q a n =
+    ap is_some (look_at-more looks look a n
+    ∙ ap (λ (o : Option Look). option_or (look_at looks a n) o) (find-one a n look (bytes_eq address a && bytes_eq name n) (at-pair address name look p q a n)))
+    ∙ some-over (look_at looks a n) look (bytes_eq address a && bytes_eq name n)
 
--- a name that is looked up now
-pub so-far-more : (address : List ℕ) (first last : Outcomes) (old now next : Kept) (names : List (List ℕ)) (looks : List Look) (look : Look)
-    (among then_among : List ℕ → Bool) (name : List ℕ) → IsSoFar address first old now names looks among → among name ≡ false
-    → SameOutcomes first last → IsLook address name last now next look → ((q : List ℕ) → then_among q ≡ (if bytes_eq name q then true else among q))
-    → IsSoFar address first old next (names ++ name ∷ []) (looks ++ look ∷ []) then_among
-so-far-more address first last old now next names looks look among then_among name s h g l u =
-    let none = none-of (look_at looks address name) (sym (s.set name) ∙ h) in
-    record {
-      looked = more names looks now next name look s.looked none (look-with address name first last now next look g l);
-      set = λ q. u q ∙ ap (λ (b : Bool). if bytes_eq name q then true else b) (s.set q) ∙ sym (found-by address name looks look l.at l.of_name q);
-    }
+-- a walk of which nothing was done
+pub so-far-start : (Needed : List ℕ → List ℕ → Type 0) (first : Outcomes) (old : Kept) (looks : List Look) (pairs : Pairs) → looks ≡ []
+    → ((a n : List ℕ) → Needed a n → ⊥) → ((a n : List ℕ) → pairs a n ≡ false) → IsSoFar Needed first old old looks pairs
+so-far-start Needed first old looks pairs none nothing h =
+    subst (λ (l : List Look). IsSoFar Needed first old old l pairs) (sym none) (record { looked = looks-start Needed first old nothing; set = h })
+
+-- a pair that the test tells is the pair
+pair-is : (address name a n : List ℕ) (pairs : Pairs) → pairs address name ≡ true → (bytes_eq address a && bytes_eq name n) ≡ true → pairs a n ≡ true
+pair-is address name a n pairs h e =
+    let b = both-true (bytes_eq address a) (bytes_eq name n) e in
+    ap (λ (x : List ℕ). pairs x n) (sym (same-eq address a b.0)) ∙ ap (pairs address) (sym (same-eq name n b.1)) ∙ h
+
+-- a step for a pair that is needed
+pub so-far-step : (P Q : List ℕ → List ℕ → Type 0) (first last : Outcomes) (old now next : Kept) (looks more : List Look) (pairs then_pairs : Pairs)
+    (address name : List ℕ) → ((a n : List ℕ) → P a n → Q a n) → ((a n : List ℕ) → Q a n → P a n ⊎ ((a ≡ address) × (n ≡ name))) → Q address name
+    → SameOutcomes first last → IsSoFar P first old now looks pairs → IsStep address name last now next looks more pairs then_pairs
+    → IsSoFar Q first old next more then_pairs
+so-far-step P Q first last old now next looks more pairs then_pairs address name wider cases pair same s step = by step.done
+  where
+    by : ((pairs address name ≡ true) × (more ≡ looks) × (next ≡ now))
+        ⊎ ((look : Look) × (pairs address name ≡ false) × (more ≡ looks ++ look ∷ []) × IsLook address name last now next look)
+        → IsSoFar Q first old next more then_pairs
+    by (inl done) =
+        let here : IsSome (look_at looks address name) = sym (s.set address name) ∙ done.0 in
+        let found : (a n : List ℕ) → Q a n → IsSome (look_at looks a n) = λ a n h. elim (cases a n h) [
+          | inl before ↦ s.looked.complete a n before
+          | inr it ↦ subst (λ (x : List ℕ). IsSome (look_at looks x n)) (sym it.0) (subst (λ (x : List ℕ). IsSome (look_at looks address x)) (sym it.1) here)
+        ] in
+        let set : (a n : List ℕ) → then_pairs a n ≡ is_some (look_at looks a n) = λ a n.
+        step.set a n ∙ added-again (bytes_eq address a && bytes_eq name n) (pairs a n) (pair-is address name a n pairs done.0) ∙ s.set a n in
+        subst (λ (k : Kept). IsSoFar Q first old k more then_pairs) (sym done.2)
+        (subst (λ (l : List Look). IsSoFar Q first old now l then_pairs) (sym done.1)
+        (record { looked = looks-again P Q first old now looks wider found s.looked; set = set }))
+    by (inr one) =
+        let none = none-of (look_at looks address name) (sym (s.set address name) ∙ one.1) in
+        let look = look-with address name first last now next one.0 same one.3 in
+        let set : (a n : List ℕ) → then_pairs a n ≡ is_some (look_at (looks ++ one.0 ∷ []) a n) = λ a n.
+        step.set a n ∙ ap (λ (b : Bool). if bytes_eq address a && bytes_eq name n then true else b) (s.set a n)
+        ∙ sym (found-by address name looks one.0 look.at look.of_name a n) in
+        subst (λ (l : List Look). IsSoFar Q first old next l then_pairs) (sym one.2)
+        (record { looked = looks-more P Q first old now next looks one.0 address name wider cases pair none look s.looked; set = set })
+
+-- a step of which nothing is needed
+pub so-far-idle : (P Q : List ℕ → List ℕ → Type 0) (first : Outcomes) (old now next : Kept) (looks more : List Look) (pairs then_pairs : Pairs)
+    → ((a n : List ℕ) → P a n → Q a n) → ((a n : List ℕ) → Q a n → P a n) → more ≡ looks → then_pairs ≡ pairs → next ≡ now
+    → IsSoFar P first old now looks pairs → IsSoFar Q first old next more then_pairs
+so-far-idle P Q first old now next looks more pairs then_pairs wider same a b c s =
+    subst (λ (k : Kept). IsSoFar Q first old k more then_pairs) (sym c)
+    (subst (λ (l : List Look). IsSoFar Q first old now l then_pairs) (sym a)
+    (subst (λ (p : Pairs). IsSoFar Q first old now looks p) (sym b)
+    (record { looked = looks-again P Q first old now looks wider (λ x n h. s.looked.complete x n (same x n h)) s.looked; set = s.set })))
 
 -- ---- the first look that is refused
 
@@ -165,12 +183,11 @@ find-some p (y ∷ ys) h = elim (cases_Bool (p y)) [
       (r.0, rw other r.1, r.2, Contains-append_right (y ∷ []) ys r.0 r.3)
 ]
 
--- each name that was looked up has an answer
-pub answered : (address : List ℕ) (first : Outcomes) (old now : Kept) (names : List (List ℕ)) (looks : List Look) (n : List ℕ)
-    → Looked address first old names looks now → Contains names n → (x : Look) × (look_at looks address n ≡ Some x) × (now address n ≡ Some (answer_of x.answer))
-answered address first old now names looks n h c =
-    let m = made address first old names looks now h in
-    let f = find-some (is_look_at address n) looks (m.complete n c) in
+-- each pair that is needed has an answer
+pub answered : (Needed : List ℕ → List ℕ → Type 0) (first : Outcomes) (old now : Kept) (looks : List Look) (address n : List ℕ)
+    → AreLooks Needed first old now looks → Needed address n → (x : Look) × (look_at looks address n ≡ Some x) × (now address n ≡ Some (answer_of x.answer))
+answered Needed first old now looks address n m need =
+    let f = find-some (is_look_at address n) looks (m.complete address n need) in
     let b = both-true (bytes_eq (serialize f.0.registry) address) (bytes_eq (string_bytes f.0.name) n) f.2 in
     let kept = All-contains (λ look. now (serialize look.registry) (string_bytes look.name) ≡ Some (answer_of look.answer)) looks f.0 m.as_kept f.3 in (
       f.0,
@@ -183,41 +200,7 @@ later : (a b c d : ℕ) → a ≤ b → raised b c → raised a c
 later a b c d h (inl up) = inl (omega arith)
 later a b c d h (inr end) = elim (cases_lt a c) [ inl up ↦ inl up | inr down ↦ inr (omega arith, end.1) ]
 
-refused-with : (first last : Outcomes) (address : url.Parts) (name : List ℕ) (a b c : ℕ) (e : Error) → SameOutcomes first last → a ≤ b
+pub refused-with : (first last : Outcomes) (address : url.Parts) (name : List ℕ) (a b c : ℕ) (e : Error) → SameOutcomes first last → a ≤ b
     → IsRefusedAt last address name b c e → IsRefusedAt first address name a c e
 refused-with first last address name a b c e h l (inr device) = inr (device.0, later a b c 0 l device.1)
 refused-with first last address name a b c e h l (inl refusal) = inl (refusal.0, (h address name (Err (number_of e))).0 refusal.1)
-
--- the look at a name is refused
-pub failed : (address : url.Parts) (first last : Outcomes) (old now next : Kept) (names front : List (List ℕ)) (looks : List Look) (among : List ℕ → Bool)
-    (name : List ℕ) (rest : List (List ℕ)) (a b c : ℕ) (e : Error) → names ≡ front ++ name ∷ rest
-    → IsSoFar (serialize address) first old now front looks among → among name ≡ false → SameOutcomes first last → a ≤ b → Stays now next
-    → now (serialize address) name ≡ None → IsRefusedAt last address name b c e → IsFailedLook address first old next names a c e
-failed address first last old now next names front looks among name rest a b c e split s h g l st none r = record {
-  front = front;
-  name = name;
-  rest = rest;
-  split = split;
-  answered = All-weaker (Contains front) (λ n. IsSome (next (serialize address) n))
-      (λ n k.
-      let f = answered (serialize address) first old now front looks n s.looked k in
-      let here : IsSome (now (serialize address) n) = subst (λ (o : Option Answer). IsSome o) (sym f.2) refl in
-      subst (λ (o : Option Answer). IsSome o) (sym (st (serialize address) n here)) here) front (All-contains_itself front);
-  absent = sym ((made (serialize address) first old front looks now s.looked).others (serialize address) name
-      (none-of (look_at looks (serialize address) name) (sym (s.set name) ∙ h))) ∙ none;
-  cause = refused-with first last address name a b c e g l r;
-}
-
-pub so-far-start : (address : List ℕ) (first : Outcomes) (old : Kept) (looks : List Look) (among : List ℕ → Bool) → looks ≡ []
-    → ((q : List ℕ) → among q ≡ false) → IsSoFar address first old old [] looks among
-so-far-start address first old looks among none h =
-    subst (λ (l : List Look). IsSoFar address first old old [] l among) (sym none) (record { looked = start; set = h })
-
-pub failed-or : (address : url.Parts) (first last : Outcomes) (old now next : Kept) (names front : List (List ℕ)) (looks : List Look) (among : List ℕ → Bool)
-    (name : List ℕ) (rest : List (List ℕ)) (a b c : ℕ) (e : Error) → names ≡ front ++ name ∷ rest
-    → IsSoFar (serialize address) first old now front looks among → among name ≡ false → SameOutcomes first last → a ≤ b → Stays now next
-    → (IsMemory e ⊎ ((now (serialize address) name ≡ None) × IsRefusedAt last address name b c e))
-    → IsMemory e ⊎ IsFailedLook address first old next names a c e
-failed-or address first last old now next names front looks among name rest a b c e split s h g l st (inl memory) = inl memory
-failed-or address first last old now next names front looks among name rest a b c e split s h g l st (inr r) =
-    inr (failed address first last old now next names front looks among name rest a b c e split s h g l st r.0 r.1)

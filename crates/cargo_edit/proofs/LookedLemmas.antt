@@ -8,8 +8,8 @@ use Rattle.std.proofs.lemmas.List.Folds.{find-append}
 use Rattle.std.proofs.lemmas.List.Elements.{All-cons, All-head, All-nil, All-push, All-tail, All-weaker, Contains-append_left, Contains-push, Contains-push_cases}
 use Rattle.edit_sources.specs.Index.{Outcomes, answer_of}
 use Rattle.url.specs.Parts.{serialize}
-use Rattle.cargo_edit.specs.Looked.{IsLook, Looked, start, again, more}
-use Rattle.cargo_edit.specs.Looks.{AreApart, Kept, is_look_at, look_at}
+use Rattle.cargo_edit.specs.Looked.{IsLook}
+use Rattle.cargo_edit.specs.Looks.{AreApart, AreLooks, Kept, is_look_at, look_at}
 use Rattle.cargo_edit.specs.declared.upgrade.Look.{Look}
 use Rattle.cargo_edit.proofs.Bytes.{same-refl, same-swap}
 
@@ -86,37 +86,24 @@ registry_of look = serialize look.registry
 abbrev name_in : Look → List ℕ
 name_in look = string_bytes look.name
 
-pub record Made (address : List ℕ) (gives : Outcomes) (old : Kept) (names : List (List ℕ)) (looks : List Look) (now : Kept) : Type 0 where
-  pub complete : (n : List ℕ) → Contains names n → IsSome (look_at looks address n)
-  pub places : All (λ look. (registry_of look ≡ address) × Contains names (name_in look)) looks
-  pub once : AreApart looks
-  pub as_kept : All (λ look. now (registry_of look) (name_in look) ≡ Some (answer_of look.answer)) looks
-  pub given : All (λ look. (old (registry_of look) (name_in look) ≡ Some (answer_of look.answer)) ⊎ gives look.registry (name_in look) (Ok (answer_of look.answer))) looks
-  pub others : (a n : List ℕ) → look_at looks a n ≡ None → now a n ≡ old a n
-
-made-start : (address : List ℕ) (gives : Outcomes) (old : Kept) → Made address gives old [] [] old
-made-start address gives old = record {
-  complete = λ n h. absurd (none-below h.0 h.1);
-  places = All-nil (λ look. (registry_of look ≡ address) × Contains [] (name_in look));
+-- where nothing is needed, no look was made
+pub looks-start : (Needed : List ℕ → List ℕ → Type 0) (gives : Outcomes) (old : Kept) → ((a n : List ℕ) → Needed a n → ⊥) → AreLooks Needed gives old old []
+looks-start Needed gives old nothing = record {
+  complete = λ a n h. absurd (nothing a n h);
+  needed = All-nil (λ look. Needed (registry_of look) (name_in look));
   once = tt;
   as_kept = All-nil (λ look. old (registry_of look) (name_in look) ≡ Some (answer_of look.answer));
   given = All-nil (λ look. (old (registry_of look) (name_in look) ≡ Some (answer_of look.answer)) ⊎ gives look.registry (name_in look) (Ok (answer_of look.answer)));
   others = λ a n h. refl;
 }
-  where
-    none-below : (k : ℕ) → k < 0 → ⊥
-    none-below k h = omega arith
 
-made-again : (address : List ℕ) (gives : Outcomes) (old : Kept) (names : List (List ℕ)) (looks : List Look) (now : Kept) (name : List ℕ)
-    → Made address gives old names looks now → IsSome (look_at looks address name) → Made address gives old (names ++ name ∷ []) looks now
-made-again address gives old names looks now name m some = record {
-  complete = λ n h. elim (Contains-push_cases names name n h) [
-    | inl before ↦ m.complete n before
-    | inr last ↦ subst (λ (x : List ℕ). IsSome (look_at looks address x)) last some
-  ];
-  places = All-weaker (λ look. (registry_of look ≡ address) × Contains names (name_in look))
-      (λ look. (registry_of look ≡ address) × Contains (names ++ name ∷ []) (name_in look))
-      (λ x p. (p.0, Contains-append_left names (name ∷ []) (name_in x) p.1)) looks m.places;
+-- where all that is needed more was looked up, the looks stay
+pub looks-again : (P Q : List ℕ → List ℕ → Type 0) (gives : Outcomes) (old now : Kept) (looks : List Look) → ((a n : List ℕ) → P a n → Q a n)
+    → ((a n : List ℕ) → Q a n → IsSome (look_at looks a n)) → AreLooks P gives old now looks → AreLooks Q gives old now looks
+looks-again P Q gives old now looks wider found m = record {
+  complete = found;
+  needed = All-weaker (λ look. P (registry_of look) (name_in look)) (λ look. Q (registry_of look) (name_in look))
+      (λ look h. wider (registry_of look) (name_in look) h) looks m.needed;
   once = m.once;
   as_kept = m.as_kept;
   given = m.given;
@@ -141,24 +128,26 @@ apart-more address name look p q (x ∷ xs) far h = (
   apart-more address name look p q xs (All-tail (Far address name) x xs far) h.1,
 )
 
-made-more : (address : List ℕ) (gives : Outcomes) (old : Kept) (names : List (List ℕ)) (looks : List Look) (now next : Kept) (name : List ℕ) (look : Look)
-    → Made address gives old names looks now → look_at looks address name ≡ None → IsLook address name gives now next look
-    → Made address gives old (names ++ name ∷ []) (looks ++ look ∷ []) next
-made-more address gives old names looks now next name look m none l =
+-- one look more, at a pair that is needed
+pub looks-more : (P Q : List ℕ → List ℕ → Type 0) (gives : Outcomes) (old now next : Kept) (looks : List Look) (look : Look) (address name : List ℕ)
+    → ((a n : List ℕ) → P a n → Q a n) → ((a n : List ℕ) → Q a n → P a n ⊎ ((a ≡ address) × (n ≡ name))) → Q address name
+    → look_at looks address name ≡ None → IsLook address name gives now next look → AreLooks P gives old now looks
+    → AreLooks Q gives old next (looks ++ look ∷ [])
+looks-more P Q gives old now next looks look address name wider cases pair none l m =
     let far = far-from address name looks none in
     let here : is_look_at address name look ≡ true =
     at-pair address name look l.at l.of_name address name ∙ rw (same-refl address, same-refl name) refl in
+    let found : IsSome (look_at (looks ++ look ∷ []) address name) =
+    subst (λ (o : Option Look). IsSome o) (sym (found-new looks look address name none here)) refl in
     record {
-      complete = λ n h. elim (Contains-push_cases names name n h) [
-        | inl before ↦ found-stays looks look address n (m.complete n before)
-        | inr last ↦ subst (λ (x : List ℕ). IsSome (look_at (looks ++ look ∷ []) address x)) last
-            (subst (λ (o : Option Look). IsSome o) (sym (found-new looks look address name none here)) refl)
+      complete = λ a n h. elim (cases a n h) [
+        | inl before ↦ found-stays looks look a n (m.complete a n before)
+        | inr same ↦ subst (λ (x : List ℕ). IsSome (look_at (looks ++ look ∷ []) x n)) (sym same.0)
+            (subst (λ (x : List ℕ). IsSome (look_at (looks ++ look ∷ []) address x)) (sym same.1) found)
       ];
-      places = All-push (λ x. (registry_of x ≡ address) × Contains (names ++ name ∷ []) (name_in x)) looks look
-          (All-weaker (λ x. (registry_of x ≡ address) × Contains names (name_in x))
-          (λ x. (registry_of x ≡ address) × Contains (names ++ name ∷ []) (name_in x))
-          (λ x p. (p.0, Contains-append_left names (name ∷ []) (name_in x) p.1)) looks m.places)
-          (l.at, subst (λ (n : List ℕ). Contains (names ++ name ∷ []) n) (sym l.of_name) (Contains-push names name));
+      needed = All-push (λ x. Q (registry_of x) (name_in x)) looks look
+          (All-weaker (λ x. P (registry_of x) (name_in x)) (λ x. Q (registry_of x) (name_in x)) (λ x h. wider (registry_of x) (name_in x) h) looks m.needed)
+          (subst (λ (a : List ℕ). Q a (name_in look)) (sym l.at) (subst (λ (n : List ℕ). Q address n) (sym l.of_name) pair));
       once = apart-more address name look l.at l.of_name looks far m.once;
       as_kept = All-push (λ x. next (registry_of x) (name_in x) ≡ Some (answer_of x.answer)) looks look
           (λ k d h. l.others _ _ (far k d h) ∙ m.as_kept k d h)
@@ -172,12 +161,3 @@ made-more address gives old names looks now next name look m none l =
           let b = unfound-cases looks look a n h in
           l.others a n (sym (at-pair address name look l.at l.of_name a n) ∙ b.1) ∙ m.others a n b.0;
     }
-
--- what the looks are that were made one after another
-pub made : (address : List ℕ) (gives : Outcomes) (old : Kept) (names : List (List ℕ)) (looks : List Look) (now : Kept)
-    → Looked address gives old names looks now → Made address gives old names looks now
-made address gives old _ _ _ start = made-start address gives old
-made address gives old _ _ _ (again names looks now name h some) =
-    made-again address gives old names looks now name (made address gives old names looks now h) some
-made address gives old _ _ _ (more names looks now next name look h none l) =
-    made-more address gives old names looks now next name look (made address gives old names looks now h) none l

@@ -1,8 +1,8 @@
 -- What a plan wrote stays, planned again over the same looks.
-use Rattle.std.proofs.Common.{◌≡◌, ◌∷◌, [], List, ℕ, Option, map, refl, ap, ◌∙◌, sym, subst}
+use Rattle.std.proofs.Common.{◌≡◌, ◌∷◌, [], List, ℕ, Option, Some, refl, ap, ◌∙◌, sym, subst, inl, inr, ◌⊎◌}
 use Rattle.std.specs.Prelude.{All, Contains}
 use Rattle.std.specs.List.{AllByRecursion, AllZip}
-use Rattle.std.proofs.lemmas.List.Elements.{All-head, All-tail}
+use Rattle.std.proofs.lemmas.List.Elements.{All-cons, All-contains, All-contains_itself, All-head, All-tail, All-weaker, Contains-append_right}
 use Rattle.edit_document.specs.Assertions.{Place}
 use Rattle.edit_syntax.specs.Grammar.{Text}
 use Rattle.edit_document.specs.Replaces.{Edits, replaced, written}
@@ -12,32 +12,30 @@ use Rattle.edit_document.proofs.Shallow.{one_form}
 use Rattle.edit_document.proofs.ReplacedStrings.{strings_view}
 use Rattle.edit_version.specs.Requirement.{cut}
 use Rattle.edit_sources.specs.declared.config.Config.{Config}
-use Rattle.cargo_edit.specs.Entries.{Tree, entry_names}
+use Rattle.edit_manifest.specs.Tables.{Tree}
 use Rattle.cargo_edit.specs.Headline.{HasNoChange, IsFixedPoint, NeedSame, bytes_after}
 use Rattle.cargo_edit.specs.Inputs.{Setting}
 use Rattle.cargo_edit.specs.Outputs.{AreOutputs, HasOutputs, changed, unchanged}
-use Rattle.cargo_edit.specs.Records.{Seen, seen, seen_at}
+use Rattle.cargo_edit.specs.Records.{Seen, seen}
 use Rattle.cargo_edit.specs.Rows.{Line, with_write, writes}
-use Rattle.cargo_edit.specs.Upgraded.{HasRows, IsNeededBy, IsRow}
+use Rattle.cargo_edit.specs.Upgraded.{HasRows, IsNeededFor, IsNeededIn, IsRow}
 use Rattle.edit_report.specs.declared.output.Output.{Output}
 use Rattle.cargo_edit.proofs.FixedPoint.{all-again, cut-whole, none-written, some-again}
-use Rattle.cargo_edit.proofs.Literals.{any-all, entries-apart, kept-all, writes-strings}
-use Rattle.cargo_edit.proofs.NamedLemmas.{entry-named, name-among}
-use Rattle.cargo_edit.proofs.SeenCases.{seen-cut}
-use Rattle.cargo_edit.proofs.WrittenEntries.{renewed, written-seen}
+use Rattle.cargo_edit.proofs.SeenFacts.{Stands, mapped-all, seen-apart, seen-stands, writes-strings}
+use Rattle.cargo_edit.proofs.WrittenEntries.{renew, renewed, written-seen}
 
 -- the requirement of each seen entry is cut already
-seen-whole : (t : Tree) → AllByRecursion (λ e. cut e.old ≡ e.old) (seen t)
+seen-whole : (t : Tree) → AllByRecursion (λ e. (old : List ℕ) → e.old ≡ Some old → cut old ≡ old) (seen t)
 seen-whole t =
-    kept-all (λ n. Unit {0}) (λ e. cut e.old ≡ e.old) (seen_at t) (entry_names t) (any-all (entry_names t))
-    (λ n e u k. let c = seen-cut t n e k in ap cut c.1 ∙ cut-whole c.0 ∙ sym c.1)
+    mapped-all (Stands t) (λ e. (old : List ℕ) → e.old ≡ Some old → cut old ≡ old) (seen t)
+    (λ e k old q. let c = k.there old q in ap cut c.2 ∙ cut-whole c.0 ∙ sym c.2) (seen-stands t)
 
 -- rows without a change write nothing
 quiet-writes : (es : List Seen) (ls : List Line) → All HasNoChange ls → writes es ls ≡ []
 quiet-writes [] ls h = refl
 quiet-writes (e ∷ es) [] h = refl
 quiet-writes (e ∷ es) (l ∷ ls) h =
-    ap (λ (o : Option (Place × List ℕ)). with_write o (writes es ls)) (none-written e.literal l (All-head HasNoChange l ls h))
+    ap (λ (o : Option (Place × List ℕ)). with_write o (writes es ls)) (none-written e l (All-head HasNoChange l ls h))
     ∙ quiet-writes es ls (All-tail HasNoChange l ls h)
 
 -- an input of which nothing is written has no output
@@ -80,7 +78,7 @@ read-back path bytes form lines outputs m g =
 seen-back : (s : Setting) (new : List ℕ) (form : Text) (lines : List Line) → AllZip (IsRow s) (seen (view_at form)) lines → (b : IsReadBack new form lines)
     → seen (view_at b.after) ≡ renewed (seen (view_at form)) lines
 seen-back s new form lines d b =
-    written-seen (IsRow s) (view_at form) (view_at b.after) lines (entries-apart form) d b.tree
+    written-seen (IsRow s) (view_at form) (view_at b.after) lines (seen-apart form) d b.tree
 
 -- whatever form the bytes are read to, these entries are seen
 seen-always : (new : List ℕ) (form : Text) (lines : List Line) (es : List Seen) → (b : IsReadBack new form lines) → seen (view_at b.after) ≡ es
@@ -119,30 +117,55 @@ settled s path bytes lines outputs h g =
 
 -- ---- the looks that are needed
 
--- entries keep their names
-names-same : (es : List Seen) (ls : List Line) → map (λ (e : Seen). e.name) (renewed es ls) ≡ map (λ (e : Seen). e.name) es
-names-same [] ls = refl
-names-same (e ∷ es) [] = refl
-names-same (e ∷ es) (l ∷ ls) = ap (λ (ns : List (List ℕ)). e.name ∷ ns) (names-same es ls)
+-- an entry after its row was written needs the same look
+renewed-needs : (configs : List Config) (e : Seen) (l : Line) (address name : List ℕ) → IsNeededFor configs e address name → IsNeededFor configs (renew e l) address name
+renewed-needs configs e l address name h = record {
+  registry = h.registry;
+  needs = record { named = h.needs.named; source = h.needs.source; has = h.needs.has; crate_name = h.needs.crate_name };
+  at = h.at;
+}
 
--- manifests whose seen entries have the same names need the same looks
-needed-along : (configs : List Config) (bytes other : List ℕ) (form : Text) (ns : List (List ℕ)) → IsManifest other form
-    → map (λ (e : Seen). e.name) (seen (view_at form)) ≡ ns → ((f : Text) → IsManifest bytes f → map (λ (e : Seen). e.name) (seen (view_at f)) ≡ ns)
-    → (address name : List ℕ) → IsNeededBy configs bytes address name → IsNeededBy configs other address name
-needed-along configs bytes other form ns m here there address name need =
-    let named = subst (λ (n : List ℕ). Contains (map (λ (e : Seen). e.name) (seen (view_at need.form))) n) need.needs.named
-    (name-among (seen (view_at need.form)) need.entry need.among) in
-    let found = entry-named (seen (view_at form)) name
-    (subst (λ (xs : List (List ℕ)). Contains xs name) (there need.form need.manifest ∙ sym here) named) in
-    record {
-      form = form;
-      manifest = m;
-      entry = found.0;
-      among = found.1;
-      registry = need.registry;
-      needs = record { has = need.needs.has; named = found.2 };
-      at = need.at;
-    }
+needs-renewed : (configs : List Config) (e : Seen) (l : Line) (address name : List ℕ) → IsNeededFor configs (renew e l) address name → IsNeededFor configs e address name
+needs-renewed configs e l address name h = record {
+  registry = h.registry;
+  needs = record { named = h.needs.named; source = h.needs.source; has = h.needs.has; crate_name = h.needs.crate_name };
+  at = h.at;
+}
+
+-- what one of the entries needs, as recursion tells it
+pub among-first : (configs : List Config) (e : Seen) (es : List Seen) (address name : List ℕ) → IsNeededFor configs e address name
+    → IsNeededIn configs (e ∷ es) address name
+among-first configs e es address name h = record { entry = e; among = All-head (Contains (e ∷ es)) e es (All-contains_itself (e ∷ es)); needs = h }
+
+pub among-rest : (configs : List Config) (e : Seen) (es : List Seen) (address name : List ℕ) → IsNeededIn configs es address name
+    → IsNeededIn configs (e ∷ es) address name
+among-rest configs e es address name h = record { entry = h.entry; among = Contains-append_right (e ∷ []) es h.entry h.among; needs = h.needs }
+
+pub among-cases : (configs : List Config) (e : Seen) (es : List Seen) (address name : List ℕ) → IsNeededIn configs (e ∷ es) address name
+    → IsNeededFor configs e address name ⊎ IsNeededIn configs es address name
+among-cases configs e es address name h =
+    All-contains (λ (x : Seen). IsNeededFor configs x address name → IsNeededFor configs e address name ⊎ IsNeededIn configs es address name) (e ∷ es) h.entry
+    (All-cons (λ (x : Seen). IsNeededFor configs x address name → IsNeededFor configs e address name ⊎ IsNeededIn configs es address name) e es (λ n. inl n)
+    (All-weaker (Contains es) (λ (x : Seen). IsNeededFor configs x address name → IsNeededFor configs e address name ⊎ IsNeededIn configs es address name)
+    (λ x c n. inr (record { entry = x; among = c; needs = n })) es (All-contains_itself es))) h.among h.needs
+
+needed-renewed : (configs : List Config) (es : List Seen) (ls : List Line) (address name : List ℕ) → IsNeededIn configs es address name
+    → IsNeededIn configs (renewed es ls) address name
+needed-renewed configs [] ls address name h = h
+needed-renewed configs (e ∷ es) [] address name h = h
+needed-renewed configs (e ∷ es) (l ∷ ls) address name h = elim (among-cases configs e es address name h) [
+  | inl here ↦ among-first configs (renew e l) (renewed es ls) address name (renewed-needs configs e l address name here)
+  | inr more ↦ among-rest configs (renew e l) (renewed es ls) address name (needed-renewed configs es ls address name more)
+]
+
+renewed-needed : (configs : List Config) (es : List Seen) (ls : List Line) (address name : List ℕ) → IsNeededIn configs (renewed es ls) address name
+    → IsNeededIn configs es address name
+renewed-needed configs [] ls address name h = h
+renewed-needed configs (e ∷ es) [] address name h = h
+renewed-needed configs (e ∷ es) (l ∷ ls) address name h = elim (among-cases configs (renew e l) (renewed es ls) address name h) [
+  | inl here ↦ among-first configs e es address name (needs-renewed configs e l address name here)
+  | inr more ↦ among-rest configs e es address name (renewed-needed configs es ls address name more)
+]
 
 -- the looks that are needed after a plan
 pub need-same : (s : Setting) (path bytes : List ℕ) (lines : List Line) (outputs : List Output) → HasRows s bytes lines → HasOutputs path bytes lines outputs
@@ -150,13 +173,22 @@ pub need-same : (s : Setting) (path bytes : List ℕ) (lines : List Line) (outpu
 need-same s path bytes lines outputs h g =
     let new = bytes_after bytes outputs in
     let es = seen (view_at h.form) in
-    let ns = map (λ (e : Seen). e.name) es in
     let b = read-back path bytes h.form lines outputs h.manifest g in
-    let same : (f : Text) → IsManifest new f → map (λ (e : Seen). e.name) (seen (view_at f)) ≡ ns = λ f m.
-    ap (map (λ (e : Seen). e.name)) (seen-always new h.form lines (renewed es lines) b (seen-back s new h.form lines h.decided b) f m) ∙ names-same es lines in
-    let first : (f : Text) → IsManifest bytes f → map (λ (e : Seen). e.name) (seen (view_at f)) ≡ ns = λ f m.
-    ap (λ (x : Text). map (λ (e : Seen). e.name) (seen (view_at x))) (one_form bytes f h.form m h.manifest) in
+    let back = seen-back s new h.form lines h.decided b in
+    let same = seen-always new h.form lines (renewed es lines) b back in
+    let first : (f : Text) → IsManifest bytes f → seen (view_at f) ≡ es = λ f m. ap (λ (x : Text). seen (view_at x)) (one_form bytes f h.form m h.manifest) in
     λ address name. (
-      λ need. needed-along s.configs new bytes h.form ns h.manifest refl same address name need,
-      λ need. needed-along s.configs bytes new b.after ns b.manifest (same b.after b.manifest) first address name need,
+      λ need. record {
+        form = h.form;
+        manifest = h.manifest;
+        needed = renewed-needed s.configs es lines address name
+            (subst (λ (xs : List Seen). IsNeededIn s.configs xs address name) (same need.form need.manifest) need.needed);
+      },
+      λ need. record {
+        form = b.after;
+        manifest = b.manifest;
+        needed = subst (λ (xs : List Seen). IsNeededIn s.configs xs address name) (sym back)
+            (needed-renewed s.configs es lines address name
+            (subst (λ (xs : List Seen). IsNeededIn s.configs xs address name) (first need.form need.manifest) need.needed));
+      },
     )

@@ -3,7 +3,7 @@ use Rattle.std.proofs.Common.{◌≡◌, ◌∷◌, ◌++◌, [], List, ℕ, Opt
 use Rattle.std.proofs.lemmas.List.{length-map, length-take}
 use Rattle.edit_document.specs.Assertions.{Place}
 use Rattle.cargo_edit.specs.Records.{Seen}
-use Rattle.cargo_edit.specs.Rows.{Line, with_write, write_at, writes}
+use Rattle.cargo_edit.specs.Rows.{Line, with_write, write_on, writes}
 use Rattle.cargo_edit.proofs.Steps.{names-more}
 
 with-append : (w : Option (Place × List ℕ)) (xs ys : List (Place × List ℕ)) → with_write w (xs ++ ys) ≡ with_write w xs ++ ys
@@ -11,13 +11,13 @@ with-append None xs ys = refl
 with-append (Some w) xs ys = refl
 
 pub writes-more : (es : List Seen) (ls : List Line) (e : Seen) (l : Line) → length es ≡ length ls
-    → writes (es ++ e ∷ []) (ls ++ l ∷ []) ≡ writes es ls ++ with_write (write_at e.literal l) []
+    → writes (es ++ e ∷ []) (ls ++ l ∷ []) ≡ writes es ls ++ with_write (write_on e l) []
 writes-more [] [] e l h = refl
 writes-more [] (m ∷ ms) e l h = cc h
 writes-more (d ∷ ds) [] e l h = cc h
 writes-more (d ∷ ds) (m ∷ ms) e l h =
-    ap (λ (ws : List (Place × List ℕ)). with_write (write_at d.literal m) ws) (writes-more ds ms e l (cc h))
-    ∙ with-append (write_at d.literal m) (writes ds ms) (with_write (write_at e.literal l) [])
+    ap (λ (ws : List (Place × List ℕ)). with_write (write_on d m) ws) (writes-more ds ms e l (cc h))
+    ∙ with-append (write_on d m) (writes ds ms) (with_write (write_on e l) [])
 
 -- two lists of one length have fronts of one length
 pub fronts-same : {A B C D : Type 0} (f : A → C) (g : B → D) (xs : List A) (ys : List B) (i : ℕ) → length ys ≡ length xs
@@ -32,9 +32,9 @@ fronts-same f g xs ys i h =
 -- what rows write with the next row
 pub written-more : {A B : Type 0} (f : A → Seen) (g : B → Line) (xs : List A) (ys : List B) (i : ℕ) (x : A) (y : B) (old new : List (Place × List ℕ))
     → length ys ≡ length xs → i < length ys → i < length xs → x ≡ get_or xs i x → y ≡ get_or ys i y → old ≡ writes (map f (take i xs)) (map g (take i ys))
-    → new ≡ old ++ with_write (write_at (f x).literal (g y)) [] → new ≡ writes (map f (take (i + 1) xs)) (map g (take (i + 1) ys))
+    → new ≡ old ++ with_write (write_on (f x) (g y)) [] → new ≡ writes (map f (take (i + 1) xs)) (map g (take (i + 1) ys))
 written-more f g xs ys i x y old new h l m p q e n =
-    n ∙ ap (λ (ws : List (Place × List ℕ)). ws ++ with_write (write_at (f x).literal (g y)) []) e
+    n ∙ ap (λ (ws : List (Place × List ℕ)). ws ++ with_write (write_on (f x) (g y)) []) e
     ∙ sym (writes-more (map f (take i xs)) (map g (take i ys)) (f x) (g y) (fronts-same f g xs ys i h))
     ∙ ap (λ (es : List Seen). writes es (map g (take i ys) ++ g y ∷ [])) (sym (names-more f xs i x m p))
     ∙ ap (λ (ls : List Line). writes (map f (take (i + 1) xs)) ls) (sym (names-more g ys i y l q))

@@ -1,5 +1,5 @@
 -- Why a plan is refused.
-use Rattle.std.specs.Prelude.{◌≡◌, ◌⊎◌, ◌<◌, ◌++◌, ◌∷◌, ℕ, List, All, IfSome, IsSome, Some, None, slice_get}
+use Rattle.std.specs.Prelude.{◌≡◌, ◌⊎◌, ◌<◌, ◌++◌, ◌∷◌, ℕ, List, All, IfSome, IsSome, Option, Some, None, slice_get}
 use Rattle.std.specs.Global.{Vec}
 use Rattle.edit_base.specs.Errors.{IsMemory}
 use Rattle.edit_syntax.specs.Grammar.{Text}
@@ -14,8 +14,8 @@ use Rattle.url.specs.Parts as url
 use Rattle.url.specs.Parts.{serialize}
 use Rattle.cargo_edit.specs.Looked.{IsRefusedAt}
 use Rattle.cargo_edit.specs.Looks.{Kept}
-use Rattle.cargo_edit.specs.Records.{Seen, seen}
-use Rattle.cargo_edit.specs.Upgraded.{Needs}
+use Rattle.cargo_edit.specs.Records.{Seen, at_registry, seen}
+use Rattle.cargo_edit.specs.Rows.{Needs}
 use Rattle.edit_metadata.specs.declared.input.Input.{Input}
 
 -- an entry at which a plan goes on: the answer to each look that it needs is kept
@@ -27,7 +27,8 @@ IsPassed configs new e = (address : url.Parts) (name : List ℕ) → Needs confi
 -- was kept
 pub data StopsAt (configs : List Config) (gives : Outcomes) (old : Kept) (before now : ℕ) (e : Seen)
     (error : Error) : Type 0 where
-  no_address : HasNoUrl configs None error → StopsAt configs gives old before now e error
+  no_address : (named : Option (List ℕ)) → e.source ≡ at_registry named → HasNoUrl configs named error
+      → StopsAt configs gives old before now e error
   no_answer : (address : url.Parts) (name : List ℕ) → Needs configs e address name
       → old (serialize address) name ≡ None
       → IsRefusedAt gives address name before now error → StopsAt configs gives old before now e error

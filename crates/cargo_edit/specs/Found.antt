@@ -1,25 +1,26 @@
 -- The entries that were found, as the program has them.
-use Rattle.std.specs.Prelude.{ℕ, List, Bool, true, false, None, string_bytes}
-use Rattle.edit_document.specs.Assertions.{Place}
+use Rattle.std.specs.Prelude.{option_map, string_bytes}
 use Rattle.edit_document.specs.Items.{place_seen}
-use Rattle.cargo_edit.specs.Records.{Seen, version_place}
+use Rattle.edit_entries.specs.EntryViews.{literal_by}
+use Rattle.cargo_edit.specs.Records as entry
+use Rattle.cargo_edit.specs.Records.{Seen, at_folder, at_registry, at_repository}
 use Rattle.cargo_edit.specs.declared.seen.Entry.{Entry}
+use Rattle.cargo_edit.specs.declared.seen.Source.{Source}
+use Rattle.cargo_edit.specs.declared.seen.Source.TheVariants.{Git, Path, Registry}
 
--- where the version literal of an entry stands: at its member `version`, where it is a table (own)
-abbrev pub literal_place : Bool → Place → Place
-literal_place true place = version_place place
-literal_place false place = place
+-- where the crate of an entry comes from, by its texts (own)
+abbrev pub source_view : Source → entry.Source
+source_view (Registry named) = at_registry (option_map string_bytes named)
+source_view Git = at_repository
+source_view Path = at_folder
 
 -- what an entry says, by its texts (own)
 abbrev pub seen_of : Entry → Seen
 seen_of e = record {
   name = string_bytes e.name;
-  rename = None;
+  rename = option_map string_bytes e.rename;
   place = place_seen e.place.items;
-  literal = literal_place e.tabled (place_seen e.place.items);
-  old = string_bytes e.old;
+  literal = literal_by e.bare (place_seen e.place.items);
+  source = source_view e.source;
+  old = option_map string_bytes e.old;
 }
-
--- the crate's name of an entry (own)
-abbrev pub name_of : Entry → List ℕ
-name_of e = string_bytes e.name

@@ -1,7 +1,6 @@
 pub mod Decision
 pub mod Decided
 pub mod Rankings
-pub mod Entries
 pub mod Records
 pub mod Rows
 pub mod Lines
@@ -16,3 +15,5 @@ pub mod Lists
 pub mod Outputs
 pub mod PlannedView
 pub mod Headline
+pub mod Addresses
+pub mod PairSets

@@ -1,13 +1,17 @@
 -- How looks are made, one after another.
-use Rattle.std.specs.Prelude.{◌≡◌, ◌≤◌, ◌⊎◌, ℕ, List, [], ◌∷◌, ◌++◌, Bool, false, ◌&&◌, IsSome, Some, None, Ok, Err, All, Contains, is_some, string_bytes}
+use Rattle.std.specs.Prelude.{◌≡◌, ◌≤◌, ◌⊎◌, ℕ, List, [], ◌∷◌, ◌++◌, Bool, true, false, ◌&&◌, if◌then◌else◌, Option, IsSome, Some, None, Ok, Err, is_some, string_bytes}
 use Rattle.std.specs.Str.{bytes_eq}
 use Rattle.edit_base.specs.Errors.{number_of}
 use Rattle.edit_base.specs.declared.errors.Error.{Error}
+use Rattle.edit_sources.specs.Configured.{HasAddress}
 use Rattle.edit_sources.specs.Index.{IsLookRefusal, Outcomes, SameOutcomes, answer_of}
 use Rattle.edit_sources.specs.Store.{raised}
+use Rattle.edit_sources.specs.declared.config.Config.{Config}
 use Rattle.url.specs.Parts as url
 use Rattle.url.specs.Parts.{serialize}
-use Rattle.cargo_edit.specs.Looks.{AddsNeeded, Kept, look_at}
+use Rattle.cargo_edit.specs.Looks.{AddsNeeded, AreLooks, Kept, look_at}
+use Rattle.cargo_edit.specs.Records.{Seen, at_registry}
+use Rattle.cargo_edit.specs.Rows.{is_elsewhere}
 use Rattle.cargo_edit.specs.declared.upgrade.Look.{Look}
 
 -- an answer that was kept stays
@@ -24,43 +28,15 @@ pub record IsLook (address name : List ℕ) (gives : Outcomes) (old new : Kept) 
   pub others : (a n : List ℕ) → (bytes_eq address a && bytes_eq name n) ≡ false → new a n ≡ old a n
   pub stays : Stays old new
 
--- the looks that were made for some names, each once, from the answers that were kept first to those that
--- are kept now
-pub data Looked (address : List ℕ) (gives : Outcomes) (old : Kept) : List (List ℕ) → List Look → Kept
-    → Type 0 where
-  start : Looked address gives old [] [] old
-  again : (names : List (List ℕ)) (looks : List Look) (now : Kept) (name : List ℕ)
-      → Looked address gives old names looks now
-      → IsSome (look_at looks address name) → Looked address gives old (names ++ name ∷ []) looks now
-  more : (names : List (List ℕ)) (looks : List Look) (now next : Kept) (name : List ℕ) (look : Look)
-      → Looked address gives old names looks now
-      → look_at looks address name ≡ None → IsLook address name gives now next look
-      → Looked address gives old (names ++ name ∷ []) (looks ++ look ∷ []) next
-
 -- why a look is refused: the index gives this refusal, or its device failed and the count of faults rose
 abbrev pub IsRefusedAt : Outcomes → url.Parts → List ℕ → ℕ → ℕ → Error → Type 0
 IsRefusedAt gives address name before now e =
     (IsLookRefusal (number_of e) × gives address name (Err (number_of e)))
     ⊎ ((number_of e ≡ 3) × raised before now)
 
--- the first look that is refused: no answer was kept, and each name before it has one
-pub record IsFailedLook (address : url.Parts) (gives : Outcomes) (old new : Kept) (names : List (List ℕ))
-    (before now : ℕ) (e : Error) : Type 0 where
-  pub front : List (List ℕ)
-  pub name : List ℕ
-  pub rest : List (List ℕ)
-  pub split : names ≡ front ++ name ∷ rest
-  pub answered : All (λ n. IsSome (new (serialize address) n)) front
-  pub absent : old (serialize address) name ≡ None
-  pub cause : IsRefusedAt gives address name before now e
-
 -- a look at this address for this name
 abbrev pub IsAt : List ℕ → List ℕ → List ℕ → List ℕ → Type 0
 IsAt address of at name = (at ≡ address) × (name ≡ of)
-
--- a look at this address for one of these names
-abbrev pub IsAmong : List ℕ → List (List ℕ) → List ℕ → List ℕ → Type 0
-IsAmong address names at name = (at ≡ address) × Contains names name
 
 -- what a call leaves, also where it is refused: of the answers that are kept; of the index, the outcomes
 -- that it had; and a count of faults that has not fallen (own)
@@ -70,8 +46,30 @@ pub record Leaves (Needed : List ℕ → List ℕ → Type 0) (gives after : Out
   pub same : SameOutcomes gives after
   pub later : before ≤ now
 
--- where a walk over names stands: the looks that were made, and the set of their names
-pub record IsSoFar (address : List ℕ) (gives : Outcomes) (old now : Kept) (names : List (List ℕ))
-    (looks : List Look) (among : List ℕ → Bool) : Type 0 where
-  pub looked : Looked address gives old names looks now
-  pub set : (q : List ℕ) → among q ≡ is_some (look_at looks address q)
+-- the pairs of address and name that a set holds
+abbrev pub Pairs : Type 0
+Pairs = List ℕ → List ℕ → Bool
+
+-- where a walk over entries stands: the looks that were made, and the set of their addresses and names
+pub record IsSoFar (Needed : List ℕ → List ℕ → Type 0) (gives : Outcomes) (old now : Kept) (looks : List Look)
+    (pairs : Pairs) : Type 0 where
+  pub looked : AreLooks Needed gives old now looks
+  pub set : (a n : List ℕ) → pairs a n ≡ is_some (look_at looks a n)
+
+-- what a step does for an address and a name: nothing where they are among the pairs, else a look more; they
+-- are among the pairs then
+pub record IsStep (address name : List ℕ) (gives : Outcomes) (old new : Kept) (looks more : List Look)
+    (pairs now : Pairs) : Type 0 where
+  pub set : (a n : List ℕ) → now a n ≡ (if bytes_eq address a && bytes_eq name n then true else pairs a n)
+  pub done : ((pairs address name ≡ true) × (more ≡ looks) × (new ≡ old))
+      ⊎ ((look : Look) × (pairs address name ≡ false) × (more ≡ looks ++ look ∷ [])
+      × IsLook address name gives old new look)
+
+-- what a step does for an entry: that for the address of its registry and its name, where it has one, else
+-- nothing
+pub record IsEntryStep (configs : List Config) (e : Seen) (gives : Outcomes) (old new : Kept)
+    (looks more : List Look) (pairs now : Pairs) : Type 0 where
+  pub looked : (named : Option (List ℕ)) → e.source ≡ at_registry named
+      → (address : url.Parts) × HasAddress configs named address
+      × IsStep (serialize address) e.name gives old new looks more pairs now
+  pub idle : is_elsewhere e.source ≡ true → (more ≡ looks) × (now ≡ pairs) × (new ≡ old)

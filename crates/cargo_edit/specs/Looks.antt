@@ -7,6 +7,7 @@ use Rattle.edit_version.specs.RustVersions.{Numbers}
 use Rattle.edit_sources.specs.IndexCache.{kept_at}
 use Rattle.edit_sources.specs.Index.{Outcomes, answer_of}
 use Rattle.edit_sources.specs.declared.cache.IndexCache.{IndexCache}
+use Rattle.edit_sources.specs.declared.config.Config.{Config}
 use Rattle.semver.specs.Parse.{Parts}
 use Rattle.url.specs.Parts as url
 use Rattle.url.specs.Parts.{serialize}
@@ -80,10 +81,11 @@ pub record AddsNeeded (Needed : List ℕ → List ℕ → Type 0) (gives : Outco
   pub added : (address name : List ℕ) → old address name ≡ None
       → IfSome (new address name) (λ answer. Needed address name × IsGiven gives address name answer)
 
--- what rows are decided by, where the versions are those of the answers that are kept for names
-abbrev pub kept_setting : ℕ → Options → Option Numbers → (List ℕ → Option Answer) → Basis
-kept_setting input o rust kept = record {
+-- what rows are decided by, where the versions are those of the answers that are kept (own)
+abbrev pub kept_basis : ℕ → Options → Option Numbers → List Config → Kept → Basis
+kept_basis input o rust configs kept = record {
   input = input;
   options = o;
-  versions = λ name. versions_in rust (kept name);
+  configs = configs;
+  versions = λ address name. versions_in rust (kept address name);
 }

@@ -1,14 +1,20 @@
--- Which entries a plan sees, and what they say. An entry that is a string gives its requirement; an entry
--- that is a table has it as its member `version` (Cargo reference, "Specifying Dependencies").
-use Rattle.std.specs.Prelude.{ℕ, List, Bool, ◌||◌, if◌then◌else◌, Option, Some, None, codes}
-use Rattle.std.specs.List.{filter_map, list_all}
-use Rattle.edit_document.specs.Assertions.{key, Place, at, same_bytes}
-use Rattle.edit_document.specs.Tree.{View, string, inline_table, table}
-use Rattle.edit_document.specs.Items.{names_in}
-use Rattle.edit_version.specs.Requirement.{cut}
-use Rattle.cargo_edit.specs.Entries.{Tree, entry_names, entry_place}
+-- Which entries get a row, and what they say: those that have a record, but for one that takes all from its
+-- workspace (Cargo reference, "Specifying Dependencies").
+use Rattle.std.specs.Prelude.{ℕ, List, [], Bool, true, false, Option, Some, None, option_and_then, option_map}
+use Rattle.std.specs.List.{filter_map}
+use Rattle.edit_document.specs.Assertions.{Place}
+use Rattle.edit_record.specs.EntryRecords.{EntryRecord, Origin, from_git, from_path, from_registry, from_workspace, origin_version}
+use Rattle.edit_manifest.specs.Tables.{Tree}
+use Rattle.edit_entries.specs.Entries.{Entry, entries}
 
--- an entry that a plan sees
+-- where the crate of an entry comes from
+pub data Source : Type 0 where
+  -- a registry, by its name where one is given
+  at_registry : Option (List ℕ) → Source
+  at_repository : Source
+  at_folder : Source
+
+-- an entry that gets a row
 pub record Seen : Type 0 where
   -- the crate's name, and the other name that the manifest gives it
   pub name : List ℕ
@@ -16,40 +22,44 @@ pub record Seen : Type 0 where
   -- where the entry stands, and where its version literal does
   pub place : Place
   pub literal : Place
+  pub source : Source
   -- the requirement, cut before the first `+`
-  pub old : List ℕ
+  pub old : Option (List ℕ)
 
--- the member that holds the requirement of an entry that is a table
-abbrev pub version_place : Place → Place
-version_place p = at p (key (codes "version"))
+-- where the crate of an entry comes from; nowhere by itself, where that is said in its workspace
+abbrev pub source_by : Option (List ℕ) → Origin → Option Source
+source_by named (from_registry version) = Some (at_registry named)
+source_by named (from_path path version) = Some at_folder
+source_by named (from_git g) = Some at_repository
+source_by named from_workspace = None
 
--- a member that an entry may have to be seen so far: `version`, `optional` or `default-features`
-abbrev pub is_known : List ℕ → Bool
-is_known name = same_bytes name (codes "version")
-    || (same_bytes name (codes "optional") || same_bytes name (codes "default-features"))
+-- the same of a record
+abbrev pub source_of : EntryRecord → Option Source
+source_of r = option_and_then (source_by r.registry) r.origin
 
--- an entry of this name with a requirement at this place, where that is a string
-abbrev pub seen_with : List ℕ → Place → Place → Option View → Option Seen
-seen_with name place literal (Some (string text)) =
-    Some (record { name = name; rename = None; place = place; literal = literal; old = cut text })
-seen_with name place literal other = None
+-- the requirement of a record
+abbrev pub version_of : EntryRecord → Option (List ℕ)
+version_of r = option_and_then origin_version r.origin
 
--- a table is seen where each of its members is known and its `version` is a string
-abbrev pub seen_table : Tree → List ℕ → Place → View → Option Seen
-seen_table t name place view = if list_all is_known (names_in view)
-    then seen_with name place (version_place place) (t (version_place place)) else None
+-- the entry that has this source
+abbrev pub seen_at : Entry → EntryRecord → Source → Seen
+seen_at e r source = record {
+  name = r.name;
+  rename = r.rename;
+  place = e.place;
+  literal = e.literal;
+  source = source;
+  old = version_of r;
+}
 
--- a string is seen; a table is seen as above; nothing else is
-abbrev pub seen_view : Tree → List ℕ → Place → Option View → Option Seen
-seen_view t name place (Some (string text)) = seen_with name place place (Some (string text))
-seen_view t name place (Some (table steps)) = seen_table t name place (table steps)
-seen_view t name place (Some (inline_table steps)) = seen_table t name place (inline_table steps)
-seen_view t name place other = None
+-- the entry of this record, where it gets a row
+abbrev pub seen_by : Entry → EntryRecord → Option Seen
+seen_by e r = option_map (seen_at e r) (source_of r)
 
--- the entry of this name, where it is seen
-abbrev pub seen_at : Tree → List ℕ → Option Seen
-seen_at t name = seen_view t name (entry_place name) (t (entry_place name))
+-- the entry, where it gets a row
+abbrev pub with_row : Entry → Option Seen
+with_row e = option_and_then (seen_by e) e.said
 
--- the entries that are seen, in order
+-- the entries that get a row, in order; from which folder their paths are meant plays no part in it
 abbrev pub seen : Tree → List Seen
-seen t = filter_map (seen_at t) (entry_names t)
+seen t = filter_map with_row (entries t [])

@@ -1,40 +1,35 @@
 -- What a plan gives for a manifest: its rows, and the looks that they rest on.
-use Rattle.std.specs.Prelude.{◌≡◌, ℕ, List, Some, None, Contains, slice_get}
+use Rattle.std.specs.Prelude.{◌≡◌, ◌==◌, ℕ, List, [], Some, Contains, filter, map, slice_get}
 use Rattle.std.specs.Global.{Vec}
 use Rattle.std.specs.List.{AllZip}
 use Rattle.edit_syntax.specs.Grammar.{Text}
 use Rattle.edit_document.specs.Supported.{IsManifest}
 use Rattle.edit_document.specs.Tree.{view_at}
-use Rattle.edit_sources.specs.Configured.{HasAddress}
+use Rattle.edit_entries.specs.Entries.{entries}
 use Rattle.edit_sources.specs.declared.config.Config.{Config}
-use Rattle.semver.specs.Parse.{Parts}
 use Rattle.url.specs.Parts as url
 use Rattle.url.specs.Parts.{serialize}
 use Rattle.cargo_edit.specs.Inputs.{Setting, path_of, outputs_at, rows_of}
+use Rattle.cargo_edit.specs.Lists.{AreWarnings, Told, warning_view}
 use Rattle.cargo_edit.specs.Looks.{told}
 use Rattle.cargo_edit.specs.Outputs.{HasOutputs}
 use Rattle.cargo_edit.specs.Records.{Seen, seen}
-use Rattle.cargo_edit.specs.Rows.{IsDecided, Line}
+use Rattle.cargo_edit.specs.Rows.{Basis, IsRowBy, Line, Needs}
 use Rattle.edit_metadata.specs.declared.input.Input.{Input}
 use Rattle.cargo_edit.specs.declared.upgrade.UpgradePlan.{UpgradePlan}
 
--- the look that an entry needs: at the address of its registry, for its name; the entries that are seen so
--- far name no registry
-pub record Needs (configs : List Config) (e : Seen) (address : url.Parts) (name : List ℕ) : Type 0 where
-  pub has : HasAddress configs None address
-  pub named : e.name ≡ name
+-- what the rows of an input are decided by: the versions are those that the looks tell of
+abbrev pub basis_of : Setting → Basis
+basis_of s = record {
+  input = s.input;
+  options = s.options;
+  configs = s.configs;
+  versions = told s.rust s.looks;
+}
 
--- the versions that may be taken for an entry: those that the look that it needs tells of
-pub record AreVersionsFor (s : Setting) (e : Seen) (versions : List Parts) : Type 0 where
-  pub address : url.Parts
-  pub needed : Needs s.configs e address e.name
-  pub are : versions ≡ told s.rust s.looks (serialize address) e.name
-
--- the row of an entry: what the decision gives over the greatest of these versions
-pub record IsRow (s : Setting) (e : Seen) (line : Line) : Type 0 where
-  pub versions : List Parts
-  pub offered : AreVersionsFor s e versions
-  pub decided : IsDecided s.input s.options versions e line
+-- the row of an entry, over the versions that the looks tell of
+abbrev pub IsRow : Setting → Seen → Line → Type 0
+IsRow s e line = IsRowBy (basis_of s) e line
 
 -- the bytes are a manifest, and these are the rows of its seen entries
 pub record HasRows (s : Setting) (bytes : List ℕ) (lines : List Line) : Type 0 where
@@ -42,15 +37,23 @@ pub record HasRows (s : Setting) (bytes : List ℕ) (lines : List Line) : Type 0
   pub manifest : IsManifest bytes form
   pub decided : AllZip (IsRow s) (seen (view_at form)) lines
 
+-- the entry needs this look
+pub record IsNeededFor (configs : List Config) (e : Seen) (address name : List ℕ) : Type 0 where
+  pub registry : url.Parts
+  pub needs : Needs configs e registry name
+  pub at : address ≡ serialize registry
+
+-- one of the entries needs this look
+pub record IsNeededIn (configs : List Config) (es : List Seen) (address name : List ℕ) : Type 0 where
+  pub entry : Seen
+  pub among : Contains es entry
+  pub needs : IsNeededFor configs entry address name
+
 -- a seen entry of the manifest needs this look
 pub record IsNeededBy (configs : List Config) (bytes address name : List ℕ) : Type 0 where
   pub form : Text
   pub manifest : IsManifest bytes form
-  pub entry : Seen
-  pub among : Contains (seen (view_at form)) entry
-  pub registry : url.Parts
-  pub needs : Needs configs entry registry name
-  pub at : address ≡ serialize registry
+  pub needed : IsNeededIn configs (seen (view_at form)) address name
 
 -- one of the inputs needs this look
 pub record IsNeeded (inputs : List Input) (configs : List (Vec Config))
@@ -70,3 +73,17 @@ HasItsRows s input p = HasRows s input.bytes.items (rows_of s.input p)
 abbrev pub HasItsOutputs : Setting → Input → UpgradePlan → Type 0
 HasItsOutputs s input p =
     HasOutputs (path_of input) input.bytes.items (rows_of s.input p) (outputs_at (path_of input) p)
+
+-- the warnings of an input
+abbrev pub warnings_of : ℕ → UpgradePlan → List Told
+warnings_of i p = filter (λ told. told.input == i) (map warning_view p.warnings.items)
+
+-- the bytes are a manifest, and these are the warnings on its entries
+pub record HasWarnings (input : ℕ) (bytes : List ℕ) (told : List Told) : Type 0 where
+  pub form : Text
+  pub manifest : IsManifest bytes form
+  pub are : AreWarnings input (entries (view_at form) []) told
+
+-- the warnings of an input are those on the entries of its manifest
+abbrev pub HasItsWarnings : Setting → Input → UpgradePlan → Type 0
+HasItsWarnings s input p = HasWarnings s.input input.bytes.items (warnings_of s.input p)

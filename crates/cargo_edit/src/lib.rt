@@ -1,6 +1,7 @@
 //! The upgrade of a manifest: what is planned for its entries.
 #![tactic(auto)]
 
+mod addresses;
 mod decide;
 mod lists;
 mod looks;
@@ -12,6 +13,7 @@ mod requirement;
 mod rows;
 mod seen;
 pub mod upgrade;
+mod walk;
 mod writes;
 
 pub use edit_base::{
@@ -19,6 +21,7 @@ pub use edit_base::{
     errors, paths,
 };
 pub use edit_document::{Document, Item, Keys, NewItem, NewValue, Place, Step};
+pub use edit_entries::{Entry, Said, entries};
 pub use edit_manifest::{
     DepKind, DepTable, LocalManifest, Manifest, copied_place, dependency_tables, find,
     get_dep_version, set_dep_version,

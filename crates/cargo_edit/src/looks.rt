@@ -1,22 +1,25 @@
 //! The looks of a plan.
-ghost use Rattle.std.specs.Prelude.{◌≡◌, ◌⊎◌, ◌&&◌, ℕ, List, Some, None, Ok, false, IfErr, IfOk, IfSome, IsSome, OnOk, map, option_copied, option_map, string_bytes};
+ghost use Rattle.std.specs.Prelude.{◌≡◌, ◌⊎◌, ◌&&◌, if◌then◌else◌, ℕ, List, Some, None, Ok, true, false, IfErr, IfOk, IfSome, IsSome, OnOk, option_copied, string_bytes};
 ghost use Rattle.std.specs.Str.{bytes_eq};
 ghost use Rattle.edit_base.specs.Errors.{IsMemory};
 ghost use Rattle.edit_sources.specs.Index.{answer_of};
 ghost use Rattle.edit_sources.specs.IndexCache.{index_of};
 ghost use Rattle.url.specs.Parts.{serialize};
-ghost use Rattle.cargo_edit.specs.Found.{name_of};
-ghost use Rattle.cargo_edit.specs.Looked.{IsAmong, IsAt, IsFailedLook, IsLook, IsRefusedAt, Leaves, Looked};
+ghost use Rattle.cargo_edit.specs.Looked.{IsAt, IsLook, IsRefusedAt, IsStep, Leaves};
 ghost use Rattle.cargo_edit.specs.Looks.{kept_by};
+ghost use Rattle.cargo_edit.specs.PairSets.{holds_pair};
 
 use crate::names::{Names, add_name};
-use crate::seen::Entry;
 use crate::upgrade::Look;
 use edit_base::CargoResult;
 use edit_sources::cache::IndexCache;
 use edit_sources::index::{Index, IndexKrate};
 use std::alloc::Global;
+use std::collections::BTreeMap;
 use url::Url;
+
+/// Pairs of address and name, each once.
+pub(crate) type Pairs = BTreeMap<String, Names>;
 
 /// The same answer, on memory of its own.
 fn copied_answer(alloc: Global, answer: Option<&IndexKrate>) -> CargoResult<Option<IndexKrate>>
@@ -102,36 +105,50 @@ fn one_look<I: Index>(
     look_of(alloc, registry, name, index)
 }
 
-/// Looks up each name that entries have, once, and records the answers.
-pub(crate) fn look_up<I: Index>(
+/// Adds a pair of address and name, and says whether it was among them.
+fn add_pair(alloc: Global, pairs: &mut Pairs, address: &str, name: &str) -> CargoResult<bool>
+    ensures had { IfOk result (λ b. b ≡ holds_pair pairs.old address.now name.now) }
+    ensures ok { OnOk result ((a n : List ℕ) → holds_pair pairs.new a n
+        ≡ (if bytes_eq address.now a && bytes_eq name.now n then true else holds_pair pairs.old a n)) }
+    ensures refused { IfErr result IsMemory }
+{
+    if let Some(names) = pairs.get_mut(address) {
+        let had = add_name(alloc, names, name)?;
+        return Ok(had);
+    }
+    let address = String::from_str(alloc, address)?;
+    let mut names = Names::new(alloc);
+    add_name(alloc, &mut names, name)?;
+    pairs.insert(address, names)?;
+    Ok(false)
+}
+
+/// Looks a name up at an address, and records the answer, unless that was done.
+pub(crate) fn look_once<I: Index>(
     alloc: Global,
     registry: &Url,
-    entries: &[Entry],
+    name: &str,
+    pairs: &mut Pairs,
+    looks: &mut Vec<Look>,
     index: &mut IndexCache<I>,
-) -> CargoResult<Vec<Look>>
-    ensures looked { IfOk result
-        (λ looks. Looked (serialize registry.now) (I.view (index_of index.old)).gives (kept_by index.old)
-        (map name_of entries.now) looks.items (kept_by index.new)) }
-    ensures left { Leaves (IsAmong (serialize registry.now) (map name_of entries.now))
-        (I.view (index_of index.old)).gives
-        (I.view (index_of index.new)).gives (I.view (index_of index.old)).faults
-        (I.view (index_of index.new)).faults
+) -> CargoResult<()>
+    ensures step { OnOk result (IsStep (serialize registry.now) name.now (I.view (index_of index.old)).gives
+        (kept_by index.old) (kept_by index.new) looks.old.items looks.new.items
+        (holds_pair pairs.old) (holds_pair pairs.new)) }
+    ensures left { Leaves (IsAt (serialize registry.now) name.now)
+        (I.view (index_of index.old)).gives (I.view (index_of index.new)).gives
+        (I.view (index_of index.old)).faults (I.view (index_of index.new)).faults
         (kept_by index.old) (kept_by index.new) }
     ensures refused { IfErr result
-        (λ e. IsMemory e ⊎ IsFailedLook registry.now (I.view (index_of index.old)).gives
-        (kept_by index.old) (kept_by index.new) (map name_of entries.now)
-        (I.view (index_of index.old)).faults (I.view (index_of index.new)).faults e) }
+        (λ e. IsMemory e ⊎ ((kept_by index.old (serialize registry.now) name.now ≡ None)
+        × IsRefusedAt (I.view (index_of index.old)).gives registry.now name.now
+        (I.view (index_of index.old)).faults (I.view (index_of index.new)).faults e)) }
 {
-    let mut looked = Names::new(alloc);
-    let mut looks = Vec::new(alloc);
-    'entries: for entry in entries {
-        let name = entry.name.as_str();
-        let had = add_name(alloc, &mut looked, name)?;
-        if had {
-            continue;
-        }
-        let look = one_look(alloc, registry, name, index)?;
-        looks.push(look)?;
+    let had = add_pair(alloc, pairs, registry.as_str(), name)?;
+    if had {
+        return Ok(());
     }
-    Ok(looks)
+    let look = one_look(alloc, registry, name, index)?;
+    looks.push(look)?;
+    Ok(())
 }

@@ -7,14 +7,14 @@ ghost use Rattle.cargo_edit.specs.Causes.{HasBadEntry, IsCause, IsEntryCause};
 ghost use Rattle.cargo_edit.specs.Headline.{IsSettled, LatestIsNotLess, Narrows, NeedsAsBefore, Reaches};
 ghost use Rattle.cargo_edit.specs.Inputs.{EachInput, OutputsInOrder, RowsInOrder, setting_of};
 ghost use Rattle.cargo_edit.specs.Lines.{line_of};
-ghost use Rattle.cargo_edit.specs.Lists.{Tells};
+ghost use Rattle.cargo_edit.specs.Lists.{Tells, warning_view};
 ghost use Rattle.cargo_edit.specs.Looked.{Leaves};
 ghost use Rattle.cargo_edit.specs.Looks.{AddsNeeded, AreLooks, kept_by};
 ghost use Rattle.cargo_edit.specs.Outputs.{HasOutputs, IsOnlyOutput};
 ghost use Rattle.cargo_edit.specs.PlannedView.{IsShown};
-ghost use Rattle.cargo_edit.specs.Upgraded.{HasItsOutputs, HasItsRows, HasRows, IsNeeded, IsNeededBy};
+ghost use Rattle.cargo_edit.specs.Upgraded.{HasItsOutputs, HasItsRows, HasItsWarnings, HasRows, HasWarnings, IsNeeded, IsNeededBy};
 
-use crate::lists::{has_incompatible, has_pinned, modified_names, unreadable_warnings};
+use crate::lists::{git_crates, has_incompatible, has_pinned, modified_names};
 use crate::planned::{Planned, plan_input};
 use crate::upgrade::{Options, UpgradePlan};
 use crate::writes::written;
@@ -56,6 +56,7 @@ fn plan_of(
 ) -> CargoResult<UpgradePlan>
     requires { IsShown input.now.bytes.items document.now planned }
     ensures rows { IfOk result (λ p. (p.rows ≡ planned.rows) × (p.looks ≡ planned.looks)) }
+    ensures warnings { IfOk result (λ p. p.warnings ≡ planned.warnings) }
     ensures outputs { IfOk result (λ p. HasOutputs (string_bytes input.now.path) input.now.bytes.items
         (map line_of p.rows.items) p.outputs.items) }
     ensures lists { IfOk result Tells }
@@ -63,18 +64,18 @@ fn plan_of(
 {
     let text = written(alloc, document, &planned.entries, &planned.rows)?;
     let outputs = outputs_of(alloc, input.path.as_str(), text)?;
-    let warnings = unreadable_warnings(alloc, &planned.rows)?;
     let modified = modified_names(alloc, &planned.rows)?;
+    let git_crates = git_crates(alloc, &planned.rows)?;
     let pinned_present = has_pinned(&planned.rows);
     let incompatible_present = has_incompatible(&planned.rows);
     Ok(UpgradePlan {
         outputs,
         rows: planned.rows,
         looks: planned.looks,
-        warnings,
+        warnings: planned.warnings,
         missing: Vec::new(alloc),
         modified,
-        git_crates: Vec::new(alloc),
+        git_crates,
         pinned_present,
         incompatible_present,
     })
@@ -94,6 +95,8 @@ fn plan_document<I: Index>(
         input.now.bytes.items (map line_of p.rows.items)) }
     ensures outputs { IfOk result (λ p. HasOutputs (string_bytes input.now.path) input.now.bytes.items
         (map line_of p.rows.items) p.outputs.items) }
+    ensures warnings { IfOk result
+        (λ p. HasWarnings 0 input.now.bytes.items (map warning_view p.warnings.items)) }
     ensures looks { IfOk result
         (λ p. AreLooks (IsNeededBy configs.now input.now.bytes.items) (I.view (index_of index.old)).gives
         (kept_by index.old) (kept_by index.new) p.looks.items) }
@@ -122,7 +125,7 @@ pub fn plan_documents<I: Index>(
 ) -> CargoResult<UpgradePlan>
     requires one_input { length inputs.now ≡ 1 }
     requires documents { map (λ d. d.bytes) documents.now ≡ map (λ input. input.bytes.items) inputs.now }
-    requires configurations { (length configs.now ≡ 1) × All (λ c. c.items ≡ []) configs.now }
+    requires configurations { length configs.now ≡ 1 }
     requires no_words { options.now.package.items ≡ [] }
     requires no_exclusions { options.now.exclude.items ≡ [] }
     // each seen entry has one row: the decision over the greatest admissible versions that the looks tell of
@@ -131,6 +134,8 @@ pub fn plan_documents<I: Index>(
     // the literals of the rows with a change, and no other byte
     ensures outputs { IfOk result (EachInput options.now inputs.now configs.now HasItsOutputs) }
     ensures outputs_in_order { IfOk result (OutputsInOrder inputs.now) }
+    // on each entry that has no record, takes all from its workspace, or has a requirement that is not read
+    ensures warnings { IfOk result (EachInput options.now inputs.now configs.now HasItsWarnings) }
     // a compatible change leaves a requirement that is read and admits nothing that the old one did not
     ensures narrowing { IfOk result (λ p. All Narrows (map line_of p.rows.items)) }
     // a change admits the version that it was made for
@@ -163,9 +168,10 @@ pub fn plan_documents<I: Index>(
 
 /// What an upgrade of manifests gives: their new bytes, a row for each entry that is seen, and the looks.
 ///
-/// So far one manifest is planned, with an empty list of configurations, and no words or exclusions select
-/// its entries. Seen are the entries of the table `dependencies` at the root that are strings, or tables
-/// with a text `version` whose other members are among `optional` and `default-features`.
+/// So far one manifest is planned, and no words or exclusions select its entries. Seen are the entries of all
+/// its dependency tables that `Dependency::from_toml` reads, but for those that take all from their workspace;
+/// on the others there are warnings. An entry of a registry is looked up at the registry's address, once for
+/// each address and name; one of a repository or a folder has its requirement alone, or a row without any.
 pub fn plan_upgrade<I: Index>(
     alloc: Global,
     options: &Options,
@@ -174,7 +180,7 @@ pub fn plan_upgrade<I: Index>(
     index: &mut IndexCache<I>,
 ) -> CargoResult<UpgradePlan>
     requires one_input { length inputs.now ≡ 1 }
-    requires configurations { (length configs.now ≡ 1) × All (λ c. c.items ≡ []) configs.now }
+    requires configurations { length configs.now ≡ 1 }
     requires no_words { options.now.package.items ≡ [] }
     requires no_exclusions { options.now.exclude.items ≡ [] }
     // each seen entry has one row: the decision over the greatest admissible versions that the looks tell of
@@ -183,6 +189,8 @@ pub fn plan_upgrade<I: Index>(
     // the literals of the rows with a change, and no other byte
     ensures outputs { IfOk result (EachInput options.now inputs.now configs.now HasItsOutputs) }
     ensures outputs_in_order { IfOk result (OutputsInOrder inputs.now) }
+    // on each entry that has no record, takes all from its workspace, or has a requirement that is not read
+    ensures warnings { IfOk result (EachInput options.now inputs.now configs.now HasItsWarnings) }
     // a compatible change leaves a requirement that is read and admits nothing that the old one did not
     ensures narrowing { IfOk result (λ p. All Narrows (map line_of p.rows.items)) }
     // a change admits the version that it was made for

@@ -9,7 +9,7 @@ ghost use Rattle.edit_document.specs.Tree.{view_at};
 ghost use Rattle.cargo_edit.specs.Found.{seen_of};
 ghost use Rattle.cargo_edit.specs.Lines.{line_of};
 ghost use Rattle.cargo_edit.specs.Records.{seen};
-ghost use Rattle.cargo_edit.specs.Rows.{with_write, write_at, writes};
+ghost use Rattle.cargo_edit.specs.Rows.{with_write, write_on, writes};
 
 use crate::seen::{Entry, literal_of};
 use edit_base::CargoResult;
@@ -20,10 +20,10 @@ use std::alloc::Global;
 /// What a row writes at the version literal of its entry, where it has a change.
 fn edit_for(alloc: Global, entry: &Entry, row: &Row) -> CargoResult<Option<(Place, String)>>
     ensures ok { IfOk result (λ o. edits_seen (option_to_list o)
-        ≡ with_write (write_at (seen_of entry.now).literal (line_of row.now)) []) }
+        ≡ with_write (write_on (seen_of entry.now) (line_of row.now)) []) }
     ensures refused { IfErr result IsMemory }
 {
-    if row.change.is_none() {
+    if entry.old.is_none() || row.change.is_none() {
         return Ok(None);
     }
     match &row.new {
@@ -45,7 +45,7 @@ fn push_edit(
 ) -> CargoResult<()>
     ensures ok { OnOk result (edits_seen edits.new.items
         ≡ edits_seen edits.old.items
-        ++ with_write (write_at (seen_of entry.now).literal (line_of row.now)) []) }
+        ++ with_write (write_on (seen_of entry.now) (line_of row.now)) []) }
     ensures refused { IfErr result IsMemory }
 {
     let edit = edit_for(alloc, entry, row)?;

@@ -11,7 +11,7 @@ use Rattle.edit_sources.specs.FileIndex.{FileGives, HoldsLines}
 use Rattle.edit_sources.specs.Index.{answer_of}
 use Rattle.edit_sources.specs.Store.{Files, SameBut, SameFiles}
 use Rattle.edit_sources.specs.declared.file_index.FileIndex.{FileIndex}
-use Rattle.cargo_edit.specs.Entries.{Tree}
+use Rattle.edit_manifest.specs.Tables.{Tree}
 use Rattle.cargo_edit.specs.Inputs.{Setting}
 use Rattle.cargo_edit.specs.Looks.{look_at}
 use Rattle.cargo_edit.specs.Outputs.{HasOutputs}

@@ -1,4 +1,5 @@
 //! Tests of plans.
+mod entries;
 mod forms;
 mod inline_lines;
 mod refused;

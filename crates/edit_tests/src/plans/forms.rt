@@ -76,10 +76,10 @@ date = 1979-05-27T07:32:00Z
 a = "1.0"
 
 [dev-dependencies]
-a = "1.0"
+a = "1.2"
 
 [target.'cfg(unix)'.dependencies]
-a = "1.0"
+a = "1.2"
 ===
 # dotted keys from the root on
 times = [1979-05-27, 07:32:00, 1979-05-27 07:32:00.5]
@@ -116,7 +116,7 @@ dependencies.e = "1.2"
 dependencies.a = "1.0"
 
 [workspace.dependencies]
-a = "1.0"
+a = "1.2"
 ===
 # one inline table
 dependencies = { a = "1.0", b = { version = "1.0" }, c.version = "1.0", d = { optional = true, version = "1.0" }, e = '1.0' }

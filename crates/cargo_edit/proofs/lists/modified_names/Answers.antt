@@ -5,7 +5,10 @@ use Rattle.std.specs.Str.{bytes_eq}
 use Rattle.cargo_edit.proofs.ListLemmas.{text-any}
 use Rattle.cargo_edit.proofs.lists.modified_names.Goals as goal
 
-pub returns-clause-names : goal.returns-clause-names
-returns-clause-names c = λ name.
-    let same : c.in_ok-names.names.items ≡ c.in_ok-set.set.keys = search rules in
-    ap (λ ks. list_any (bytes_eq name) (map string_bytes ks)) same ∙ text-any name c.in_ok-set.set.keys ∙ c.in_ok-set.ensures.names name
+pub returns-clause-ok : goal.returns-clause-ok
+returns-clause-ok c = record {
+  ordered = search rules;
+  each = λ name.
+      let same : c.in_ok-names.names.items ≡ c.in_ok-set.set.keys = search rules in
+      ap (λ ks. list_any (bytes_eq name) (map string_bytes ks)) same ∙ text-any name c.in_ok-set.set.keys ∙ c.in_ok-set.ensures.names name;
+}

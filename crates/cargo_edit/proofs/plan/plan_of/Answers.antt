@@ -1,9 +1,8 @@
-use Rattle.std.proofs.Common.{List, ap, map, ◌∙◌}
+use Rattle.std.proofs.Common.{List, ap, map, subst, ◌∙◌}
 use Rattle.std.specs.List.{list_any}
 use Rattle.std.specs.Prelude.{string_bytes}
-use Rattle.std.specs.Str.{bytes_eq}
 use Rattle.cargo_edit.specs.Lines.{line_of}
-use Rattle.cargo_edit.specs.Lists.{changed_names, is_held_incompatible, is_held_pinned, warnings_of}
+use Rattle.cargo_edit.specs.Lists.{AreNames, changed_names, git_names, is_held_incompatible, is_held_pinned}
 use Rattle.edit_report.specs.declared.row.Row.{Row}
 use Rattle.cargo_edit.proofs.PlanLemmas.{outputs-of}
 use Rattle.cargo_edit.proofs.plan.plan_of.Goals as goal
@@ -16,12 +15,9 @@ returns-clause-outputs c =
 
 pub returns-clause-lists : goal.returns-clause-lists
 returns-clause-lists c = record {
-  ordered = c.in_ok-modified.ensures.ordered;
-  modified = λ name. c.in_ok-modified.ensures.names name
-      ∙ ap (λ (rs : List Row). list_any (bytes_eq name) (changed_names (map line_of rs))) c.deref-4.ensures.value;
-  warnings = c.in_ok-warnings.ensures.texts ∙ ap (λ (rs : List Row). warnings_of (map line_of rs)) c.deref-3.ensures.value;
+  modified = subst (λ (rs : List Row). AreNames (changed_names (map line_of rs)) c.in_ok-modified.modified.items) c.deref-3.ensures.value c.in_ok-modified.ensures.ok;
+  git_crates = subst (λ (rs : List Row). AreNames (git_names (map line_of rs)) c.in_ok-git_crates.git_crates.items) c.deref-4.ensures.value c.in_ok-git_crates.ensures.ok;
   missing = c.new.ensures.items;
-  git_crates = c.new-2.ensures.items;
   pinned = c.has_pinned-pinned_present.ensures ∙ ap (list_any (λ r. is_held_pinned r.reason)) c.deref-5.ensures.value;
   incompatible = c.has_incompatible-incompatible_present.ensures ∙ ap (list_any (λ r. is_held_incompatible r.reason)) c.deref-6.ensures.value;
 }

@@ -15,7 +15,7 @@ returns-in_err-manifest-clause-refused g c =
     (bad-cause c.args.inputs.now c.args.configs.now c.index-inputs-0.result
     (g.I.Index.view (index_of c.args.index.now)).gives (kept_by c.args.index.now) (kept_by c.args.index.now)
     (g.I.Index.view (index_of c.args.index.now)).faults (g.I.Index.view (index_of c.args.index.now)).faults
-    c.in_err-manifest.field-0.0 c.requires.one_input c.requires.configurations.0 c.index-inputs-0.is
+    c.in_err-manifest.field-0.0 c.requires.one_input c.requires.configurations c.index-inputs-0.is
     (subst (λ (bytes : List ℕ). IsBadManifest bytes c.in_err-manifest.field-0.0)
     (c.deref.ensures.value ∙ ap (λ (x : Input). x.bytes.items) (sym c.index-inputs-0.is))
     c.in_err-manifest.ensures.refused))
@@ -24,7 +24,7 @@ pub returns-clause-refused : goal.returns-clause-refused
 returns-clause-refused g c =
     IfErr-weaker c.plan_documents.result _ _
     (λ e cause. read-cause c.args.inputs.now c.args.configs.now c.index-inputs-0.result _ _ _ _ _ e
-    c.requires.one_input c.requires.configurations.0 c.index-inputs-0.is
+    c.requires.one_input c.requires.configurations c.index-inputs-0.is
     (subst (λ (bytes : List ℕ). IsUtf8 bytes)
     (c.deref.ensures.value ∙ ap (λ (x : Input). x.bytes.items) (sym c.index-inputs-0.is))
     c.in_ok-manifest.ensures.utf8) cause)

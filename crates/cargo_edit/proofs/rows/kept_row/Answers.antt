@@ -9,7 +9,7 @@ use Rattle.cargo_edit.specs.Found.{seen_of}
 use Rattle.cargo_edit.specs.Lines.{line_of}
 use Rattle.cargo_edit.specs.Looks.{Answer, kept_by, versions_in}
 use Rattle.cargo_edit.specs.Rankings.{IsRankingOf}
-use Rattle.cargo_edit.specs.Rows.{IsDecided}
+use Rattle.cargo_edit.specs.Rows.{IsRowOver}
 use Rattle.cargo_edit.proofs.RankedLemmas.{kept-same, ranking-kept}
 use Rattle.cargo_edit.proofs.rows.kept_row.Goals as goal
 
@@ -23,8 +23,8 @@ returns-clause-ok g c =
     subst (λ (r : Option Ranked). IsRankingOf answer r) (sym c.shown_ranking-ranked.ensures)
     (ranking-kept (kept_at index address name) (ranking_at index address name) c.in_ok-rank_kept.ensures.ranked) in
     let named = ap (λ (n : List ℕ). kept_by index address n) c.as_str-name.ensures.value in
-    IfOk-weaker _ _ _ (λ r h. subst (λ (a : Option Answer). IsDecided c.args.input c.args.options.now (versions_in (option_map numbers_of c.args.rust_version) a)
-    (seen_of c.args.entry.now) (line_of r)) named (h answer ranking)) c.row_for.ensures.ok
+    IfOk-weaker _ _ _ (λ r h. subst (λ (a : Option Answer). IsRowOver c.args.job.number c.args.job.options.now (versions_in (option_map numbers_of c.args.job.rust_version) a)
+    (seen_of c.args.entry.now) (seen_of c.args.entry.now).old (line_of r)) named (h answer ranking)) c.row_for.ensures.ok
 
 pub returns-clause-kept : goal.returns-clause-kept
 returns-clause-kept g c = kept-same c.args.index.now c.rank_kept.new.self c.in_ok-rank_kept.ensures.kept

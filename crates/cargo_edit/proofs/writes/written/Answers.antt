@@ -11,7 +11,7 @@ use Rattle.cargo_edit.specs.Found.{seen_of}
 use Rattle.cargo_edit.specs.Lines.{line_of}
 use Rattle.cargo_edit.specs.Outputs.{IsRewritten}
 use Rattle.cargo_edit.specs.Rows.{writes}
-use Rattle.cargo_edit.proofs.Literals.{shown-distinct, shown-strings}
+use Rattle.cargo_edit.proofs.SeenFacts.{shown-distinct, shown-strings}
 use Rattle.cargo_edit.proofs.writes.written.Goals as goal
 
 -- the rows write strings in the place of strings
