@@ -14,7 +14,7 @@ a folder|workspace = 1@[dependencies]@x = { path = \"../x\" }@|-@- - - - Some(Pa
 a folder, with a requirement|[dependencies]@x = { path = \"../x\", version = \"1.0\" }@|-@1.0 - - 1.0 Some(Latest) None@looks: 0@
 the workspace's|[dependencies]@x = { workspace = true }@|-@ignoring x, source is workspace@looks: 0@
 a number|[dependencies]@x = 1@|-@ignoring x, unsupported entry: Unrecognized dependency entry format for `x`@looks: 0@
-another name|[dependencies]@y = { package = \"x\", version = \"1.0\" }@|-@1.0 1.2.3 2.0.0 1.0 Some(Pinned) None@looks: 1@
+another name|[dependencies]@y = { package = \"x\", version = \"1.0\" }@|[dependencies]@y = { package = \"x\", version = \"1.2\" }@@1.0 1.2.3 2.0.0 1.2 Some(Pinned) Some(Compatible)@looks: 1@
 features|[dependencies]@x = { version = \"1.0\", features = [\"a\"] }@|[dependencies]@x = { version = \"1.2\", features = [\"a\"] }@@1.0 1.2.3 2.0.0 1.2 Some(Incompatible) Some(Compatible)@looks: 1@
 development|[dev-dependencies]@x = \"1.0\"@|[dev-dependencies]@x = \"1.2\"@@1.0 1.2.3 2.0.0 1.2 Some(Incompatible) Some(Compatible)@looks: 1@
 of a workspace and a target|[workspace.dependencies]@x = \"1.0\"@[target.'cfg(unix)'.build-dependencies]@x.version = \"1.1\"@|[workspace.dependencies]@x = \"1.2\"@[target.'cfg(unix)'.build-dependencies]@x.version = \"1.2\"@@1.0 1.2.3 2.0.0 1.2 Some(Incompatible) Some(Compatible)@1.1 1.2.3 2.0.0 1.2 Some(Incompatible) Some(Compatible)@looks: 1@

@@ -1,11 +1,12 @@
-//! The forms in which an entry of the root table `dependencies` may be written.
+//! The forms in which an entry may be written.
 use super::upgrade::{index_of, outcome};
 use std::alloc::Global;
 use std::test::Fail;
 use test_rows::same;
 
-/// A manifest, `>>>`, and the manifest afterwards; between two rows stands `===`. The first line of a row
-/// says what it shows. Of each name that is looked up there are 1.0.0 and 1.2.3.
+/// A manifest, `>>>`, the manifest afterwards, and behind a blank line what is told of each entry and of the
+/// looks; between two rows stands `===`. The first line of a row says what it shows. Of each name that is
+/// looked up there are 1.0.0 and 1.2.3.
 const ROWS: &str =
     r#"# below a header: a pair, dotted keys and an inline table; and headers of their own
 [package]
@@ -80,6 +81,16 @@ a = "1.2"
 
 [target.'cfg(unix)'.dependencies]
 a = "1.2"
+
+1.0 1.2.3 1.2.3 1.2 None Some(Compatible)
+1.0 1.2.3 1.2.3 1.2 None Some(Compatible)
+1.0 1.2.3 1.2.3 1.2 None Some(Compatible)
+1.0 1.2.3 1.2.3 1.2 None Some(Compatible)
+1.0 - - 1.0 Some(Latest) None
+1.0 1.2.3 1.2.3 1.2 None Some(Compatible)
+1.0 1.2.3 1.2.3 1.2 None Some(Compatible)
+1.0 1.2.3 1.2.3 1.2 None Some(Compatible)
+looks: 5
 ===
 # dotted keys from the root on
 times = [1979-05-27, 07:32:00, 1979-05-27 07:32:00.5]
@@ -117,6 +128,14 @@ dependencies.a = "1.0"
 
 [workspace.dependencies]
 a = "1.2"
+
+1.0 1.2.3 1.2.3 1.2 None Some(Compatible)
+1.0 1.2.3 1.2.3 1.2 None Some(Compatible)
+1.0 1.2.3 1.2.3 1.2 None Some(Compatible)
+1.0 1.2.3 1.2.3 1.2 None Some(Compatible)
+1.0 1.2.3 1.2.3 1.2 None Some(Compatible)
+1.0 1.2.3 1.2.3 1.2 None Some(Compatible)
+looks: 5
 ===
 # one inline table
 dependencies = { a = "1.0", b = { version = "1.0" }, c.version = "1.0", d = { optional = true, version = "1.0" }, e = '1.0' }
@@ -135,6 +154,13 @@ a = "1.0"
 [[test]]
 a = """
 1.0"""
+
+1.0 1.2.3 1.2.3 1.2 None Some(Compatible)
+1.0 1.2.3 1.2.3 1.2 None Some(Compatible)
+1.0 1.2.3 1.2.3 1.2 None Some(Compatible)
+1.0 1.2.3 1.2.3 1.2 None Some(Compatible)
+1.0 1.2.3 1.2.3 1.2 None Some(Compatible)
+looks: 5
 ===
 # headers alone, in any order
 [dependencies.a]
@@ -169,19 +195,16 @@ version = "1.2"
 e = "1.2"
 [[bin]]
 version = 1.0
-"#;
 
-/// What is told of each of the five entries, and of the looks.
-const TOLD: &str = "
 1.0 1.2.3 1.2.3 1.2 None Some(Compatible)
 1.0 1.2.3 1.2.3 1.2 None Some(Compatible)
 1.0 1.2.3 1.2.3 1.2 None Some(Compatible)
 1.0 1.2.3 1.2.3 1.2 None Some(Compatible)
 1.0 1.2.3 1.2.3 1.2 None Some(Compatible)
 looks: 5
-";
+"#;
 
-/// A row's manifest, and the manifest afterwards.
+/// A row's manifest, and what is told of its plan.
 fn cut(row: &str) -> (&str, &str) {
     row.split_once(">>>\n").unwrap_or((row, ""))
 }
@@ -192,17 +215,12 @@ fn seen_of(alloc: Global, row: &str) -> Result<String, Fail> {
     outcome(alloc, "", cut(row).0.as_bytes(), &mut index)
 }
 
-/// What a row wants.
-fn want_of(alloc: Global, row: &str) -> Result<String, Fail> {
-    Ok(format!(in alloc; "{}{TOLD}", cut(row).1)?)
-}
-
 #[test]
 fn forms_of_an_entry(rt: HostRuntime) -> Result<(), Fail> {
     for row in ROWS.split("===\n") {
         let seen = seen_of(rt.alloc(), row)?;
-        let want = want_of(rt.alloc(), row)?;
-        same(cut(row).0, seen.as_str(), want.as_str())?;
+        let (manifest, want) = cut(row);
+        same(manifest, seen.as_str(), want)?;
     }
     Ok(())
 }
