@@ -26,7 +26,7 @@ pub use edit_manifest::{
     DepKind, DepTable, LocalManifest, Manifest, copied_place, dependency_tables, find,
     get_dep_version, set_dep_version,
 };
-pub use edit_metadata::{Input, Package, Workspace, manifest_from_pkgid};
+pub use edit_metadata::{Input, Package, Workspace, manifest_from_pkgid, workspace_inputs};
 pub use edit_record::{
     Candidate, CrateSpec, Dependency, GitSource, IndexVersion, PathSource, RegistrySource,
     RustVersion, Source, VersionExt, WorkspaceSource, admits, allows_prerelease, cut,

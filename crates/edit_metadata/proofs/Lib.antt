@@ -1,5 +1,7 @@
 pub mod FirstMember
 pub mod Ids
+pub mod InputLemmas
+mod InputRows
 pub mod MemberPaths
 pub mod Sayings
 pub mod Values

@@ -10,7 +10,7 @@ one : (p : PackageSaid) (b : Bool) → p.member ≡ b → members (p ∷ []) ≡
 one p b is = ap (λ x. cond x (p ∷ []) []) is
 
 -- the members among packages with one more
-members-more : (ps : List Package) (i : ℕ) (p : Package) (b : Bool) → i < length ps → p ≡ get_or ps i p → p.member ≡ b
+pub members-more : (ps : List Package) (i : ℕ) (p : Package) (b : Bool) → i < length ps → p ≡ get_or ps i p → p.member ≡ b
     → members (packages_said (take (i + 1) ps)) ≡ members (packages_said (take i ps)) ++ cond b (package_said p ∷ []) []
 members-more ps i p b within is member =
     ap (λ xs. members (packages_said xs)) (take_more ps i p within ∙ ap (λ x. take i ps ++ x ∷ []) (sym is))

@@ -1,4 +1,5 @@
 pub mod Folders
+pub mod Inputs
 pub mod Metadata
 pub mod Reading
 pub mod Workspaces

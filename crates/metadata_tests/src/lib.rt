@@ -4,4 +4,6 @@
 #![tactic(auto)]
 
 #[cfg(test)]
+mod inputs;
+#[cfg(test)]
 mod workspaces;

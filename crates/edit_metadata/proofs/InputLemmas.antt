@@ -1,0 +1,170 @@
+-- The manifests of members among packages, and why one of them is not read.
+use Rattle.std.proofs.Common.{◌≡◌, ℕ, zero, suc, ◌+◌, ◌<◌, ◌≤◌, List, [], ◌∷◌, ◌++◌, true, false, Option, length, map, take, drop, get_or, string_bytes, option_map, arith, refl, ap, sym, ◌∙◌, subst, inl, inr, ⊎_elim}
+use Rattle.std.specs.Prelude.{Contains, All}
+use Rattle.std.proofs.Math.Nat.{eq-or-lt_of_le}
+use Rattle.std.proofs.lemmas.List.{append-nil, map-append, map_more, take-append-drop}
+use Rattle.std.proofs.lemmas.List.Elements.{All-append, All-push, Contains-append_cases, Contains-append_left, Contains-append_right, filter-append}
+use Rattle.std.proofs.lemmas.List.Sums.{fold-append}
+use Rattle.edit_base.specs.declared.errors.DeviceCall.TheVariants as call
+use Rattle.edit_base.specs.declared.errors.Error.{Error}
+use Rattle.edit_sources.specs.Store.{RefusesCall, StoreView, OnlyReads, raised}
+use Rattle.edit_version.specs.RustVersions.{Numbers, numbers_of}
+use Rattle.edit_metadata.specs.Inputs.{IsNoInput, ManifestSaid, input_paths, least, lesser, manifest_of, member_manifests}
+use Rattle.edit_metadata.specs.Metadata.{PackageSaid, members}
+use Rattle.edit_metadata.specs.Workspaces.{package_said, packages_said}
+use Rattle.edit_metadata.specs.declared.input.Input.{Input}
+use Rattle.edit_metadata.specs.declared.workspace.Package.{Package}
+use Rattle.edit_metadata.proofs.MemberPaths.{members-more}
+
+-- ---- Rust versions of members
+
+-- those of the members among packages
+abbrev pub member_versions : List PackageSaid → List (Option Numbers)
+member_versions ps = map (λ (p : PackageSaid). p.rust_version) (members ps)
+
+-- the least one, with a member more
+pub least-more : (ps : List Package) (i : ℕ) (p : Package) → i < length ps → p ≡ get_or ps i p
+    → p.member ≡ true
+    → least (member_versions (packages_said (take (i + 1) ps)))
+    ≡ lesser (least (member_versions (packages_said (take i ps)))) (option_map numbers_of p.rust_version)
+least-more ps i p within is member =
+    ap (λ xs. least (map (λ (x : PackageSaid). x.rust_version) xs)) (members-more ps i p true within is member)
+    ∙ ap least (map-append (λ (x : PackageSaid). x.rust_version) (members (packages_said (take i ps)))
+    (package_said p ∷ []))
+    ∙ fold-append lesser _ (member_versions (packages_said (take i ps)))
+    (option_map numbers_of p.rust_version ∷ [])
+
+-- with a package more that is no member
+pub least-kept : (ps : List Package) (i : ℕ) (p : Package) → i < length ps → p ≡ get_or ps i p
+    → p.member ≡ false
+    → least (member_versions (packages_said (take (i + 1) ps)))
+    ≡ least (member_versions (packages_said (take i ps)))
+least-kept ps i p within is member =
+    ap (λ xs. least (map (λ (x : PackageSaid). x.rust_version) xs))
+    (members-more ps i p false within is member ∙ append-nil (members (packages_said (take i ps))))
+
+-- ---- manifests of members
+
+-- with a member more
+pub manifests-more : (ps : List Package) (i : ℕ) (p : Package) → i < length ps → p ≡ get_or ps i p
+    → p.member ≡ true
+    → member_manifests (packages_said (take (i + 1) ps))
+    ≡ member_manifests (packages_said (take i ps)) ++ manifest_of (package_said p) ∷ []
+manifests-more ps i p within is member =
+    ap (map manifest_of) (members-more ps i p true within is member)
+    ∙ map-append manifest_of (members (packages_said (take i ps))) (package_said p ∷ [])
+
+-- with a package more that is no member
+pub manifests-kept : (ps : List Package) (i : ℕ) (p : Package) → i < length ps → p ≡ get_or ps i p
+    → p.member ≡ false
+    → member_manifests (packages_said (take (i + 1) ps)) ≡ member_manifests (packages_said (take i ps))
+manifests-kept ps i p within is member =
+    ap (map manifest_of)
+    (members-more ps i p false within is member ∙ append-nil (members (packages_said (take i ps))))
+
+-- the manifests of two lists of packages
+manifests-append : (ps qs : List Package)
+    → member_manifests (packages_said (ps ++ qs))
+    ≡ member_manifests (packages_said ps) ++ member_manifests (packages_said qs)
+manifests-append ps qs =
+    ap member_manifests (map-append package_said ps qs)
+    ∙ ap (map manifest_of) (filter-append (λ (x : PackageSaid). x.member) (packages_said ps) (packages_said qs))
+    ∙ map-append manifest_of (members (packages_said ps)) (members (packages_said qs))
+
+-- the manifest of a member is among them
+pub among-members : (ps : List Package) (i : ℕ) (p : Package) → i < length ps → p ≡ get_or ps i p
+    → p.member ≡ true → (m : ManifestSaid) → Contains (manifest_of (package_said p) ∷ []) m
+    → Contains (member_manifests (packages_said ps)) m
+among-members ps i p within is member m here =
+    let front = member_manifests (packages_said (take i ps)) in
+    let back = member_manifests (packages_said (drop (i + 1) ps)) in
+    let one = manifest_of (package_said p) ∷ [] in
+    subst (λ xs. Contains xs m)
+    (sym (ap (λ xs. member_manifests (packages_said xs)) (sym (take-append-drop (i + 1) ps))
+    ∙ manifests-append (take (i + 1) ps) (drop (i + 1) ps)
+    ∙ ap (λ xs. xs ++ back) (manifests-more ps i p within is member)))
+    (Contains-append_left (front ++ one) back m (Contains-append_right front one m here))
+
+-- ---- paths of inputs
+
+-- what a list of one has
+has-one : (x y : List ℕ) → Contains (x ∷ []) y → x ≡ y
+has-one x y (zero, within, is) = is
+has-one x y (suc k, within, is) = absurd (omega (arith, within))
+
+-- one input more that has another path
+pub none-more : (is : List Input) (i : ℕ) (input : Input) (path : List ℕ) → i < length is
+    → input ≡ get_or is i input → (Contains (input_paths (take i is)) path → ⊥)
+    → (string_bytes input.path ≡ path → ⊥) → Contains (input_paths (take (i + 1) is)) path → ⊥
+none-more is i input path within at none other has =
+    let f = λ (x : Input). string_bytes x.path in
+    let more = map_more f is i input within ∙ ap (λ z. map f (take i is) ++ f z ∷ []) (sym at) in
+    ⊎_elim none (λ one. other (has-one _ path one))
+    (Contains-append_cases (map f (take i is)) (string_bytes input.path ∷ []) path
+    (subst (λ xs. Contains xs path) more has))
+
+-- an input that has the path
+pub has-path : (is : List Input) (i : ℕ) (input : Input) (path : List ℕ) → i < length is
+    → input ≡ get_or is i input → string_bytes input.path ≡ path → Contains (input_paths is) path
+has-path is i input path within at same =
+    let f = λ (x : Input). string_bytes x.path in
+    let more = map_more f is i input within ∙ ap (λ z. map f (take i is) ++ f z ∷ []) (sym at) in
+    let here = Contains-append_right (map f (take i is)) (f input ∷ []) path
+    (subst (λ p. Contains (p ∷ []) path) (sym same) (zero, omega arith, refl)) in
+    subst (λ xs. Contains xs path)
+    (sym (map-append f (take (i + 1) is) (drop (i + 1) is)) ∙ ap (map f) (take-append-drop (i + 1) is))
+    (Contains-append_left (map f (take (i + 1) is)) (map f (drop (i + 1) is)) path
+    (subst (λ xs. Contains xs path) (sym more) here))
+
+-- ---- refusals
+
+raised_later : (a b c : ℕ) → a ≤ b → raised b c → raised a c
+raised_later a b c le (inl lt) = inl (omega arith)
+raised_later a b c le (inr ends) = ⊎_elim (λ same. inr (same ∙ ends.0, ends.1)) (λ lt. inl (omega arith))
+    (eq-or-lt_of_le le)
+
+-- a refusal of a call is one from an earlier count on
+pub refused-later : (first old new : StoreView) (e : Error) → OnlyReads first old
+    → RefusesCall call.Read old new e → RefusesCall call.Read first new e
+refused-later first old new e reads (inl memory) = inl memory
+refused-later first old new e reads (inr failed) =
+    inr (failed.0, raised_later _ _ _ reads.later failed.1)
+
+-- what is not there among some manifests is not there among more, and was not there earlier on
+pub no-input-later : (first old new : StoreView) (ms ns : List ManifestSaid) (e : Error)
+    → OnlyReads first old → ((m : ManifestSaid) → Contains ms m → Contains ns m)
+    → IsNoInput old new ms e → IsNoInput first new ns e
+no-input-later first old new ms ns e reads within (inl refused) =
+    inl (refused-later first old new e reads refused)
+no-input-later first old new ms ns e reads within (inr none) = inr (
+  none.0,
+  λ tells.
+      let lack = none.1 (reads.tells ∙ tells) in
+      record {
+        manifest = lack.manifest;
+        among = within lack.manifest lack.among;
+        path = lack.path;
+        is_normal = lack.is_normal;
+        absent = sym (reads.files lack.path) ∙ lack.absent;
+      },
+)
+
+-- one input more before others
+pub all-before : (P : Input → Type 0) (i : Input) (is : List Input) → P i → All P is → All P (i ∷ is)
+all-before P i is one others =
+    All-append P (i ∷ []) is (All-push P [] i (λ k d within. absurd (omega (arith, within))) one) others
+
+-- what is there among some manifests is there among more
+pub no-input-among : (old new : StoreView) (ms ns : List ManifestSaid) (e : Error)
+    → ((m : ManifestSaid) → Contains ms m → Contains ns m) → IsNoInput old new ms e → IsNoInput old new ns e
+no-input-among old new ms ns e =
+    no-input-later old old new ms ns e
+    (record { tells = refl; files = λ path. refl; later = omega arith })
+
+-- reading on
+pub reads-on : (first old new : StoreView) → OnlyReads first old → OnlyReads old new → OnlyReads first new
+reads-on first old new before after = record {
+  tells = after.tells ∙ before.tells;
+  files = λ path. after.files path ∙ before.files path;
+  later = omega (arith, before.later, after.later);
+}

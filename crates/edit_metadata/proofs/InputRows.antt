@@ -1,0 +1,83 @@
+-- The inputs of a workspace: rows worked out.
+use Rattle.std.proofs.Common.{◌≡◌, true, false, [], ◌∷◌, Some, None, refl}
+use Rattle.std.specs.Prelude.{codes}
+use Rattle.semver.specs.Parse.{Parts}
+use Rattle.edit_metadata.specs.Inputs.{least, member_manifests, root_manifest, rust_version_for}
+use Rattle.edit_metadata.specs.Metadata.{PackageSaid, WorkspaceSaid}
+
+-- a version
+abbrev first : Parts
+first = (1, 0, 0, [], [])
+
+-- members of two Rust versions, and a package of a lesser one that is no member
+abbrev one : PackageSaid
+one = record {
+  name = codes "a";
+  id = codes "A";
+  manifest_path = codes "/w/a/Cargo.toml";
+  version = first;
+  source = None;
+  rust_version = Some (1, 71, 0);
+  member = true;
+}
+
+abbrev two : PackageSaid
+two = record {
+  name = codes "b";
+  id = codes "B";
+  manifest_path = codes "/w/b/Cargo.toml";
+  version = first;
+  source = None;
+  rust_version = Some (1, 70, 2);
+  member = true;
+}
+
+abbrev other : PackageSaid
+other = record {
+  name = codes "c";
+  id = codes "C";
+  manifest_path = codes "/c/Cargo.toml";
+  version = first;
+  source = None;
+  rust_version = Some (1, 1, 0);
+  member = false;
+}
+
+abbrev workspace : WorkspaceSaid
+workspace = record { root = codes "/w"; packages = one ∷ other ∷ two ∷ [] }
+
+-- the root's manifest has the least Rust version of the members'
+root_of_two : root_manifest workspace ≡ record {
+  name = codes "virtual workspace";
+  path = codes "/w/Cargo.toml";
+  rust_version = Some (1, 70, 2);
+}
+root_of_two = refl
+
+-- the members in their order
+members_of_two : member_manifests workspace.packages ≡
+    record { name = codes "a"; path = codes "/w/a/Cargo.toml"; rust_version = Some (1, 71, 0) }
+    ∷ record { name = codes "b"; path = codes "/w/b/Cargo.toml"; rust_version = Some (1, 70, 2) } ∷ []
+members_of_two = refl
+
+-- a member without one counts for nothing
+least_of_some : least (None ∷ Some (1, 71, 0) ∷ None ∷ Some (1, 70, 9) ∷ Some (2, 0, 0) ∷ []) ≡ Some (1, 70, 9)
+least_of_some = refl
+
+least_of_none : least (None ∷ None ∷ []) ≡ None
+least_of_none = refl
+
+-- the given one stands before all, also where they are ignored
+given_first : rust_version_for (record { given = Some (1, 2, 3); ignored = false }) (Some (1, 71, 0))
+    ≡ Some (1, 2, 3)
+given_first = refl
+
+ignored_given : rust_version_for (record { given = Some (1, 2, 3); ignored = true }) (Some (1, 71, 0))
+    ≡ Some (1, 2, 3)
+ignored_given = refl
+
+ignored : rust_version_for (record { given = None; ignored = true }) (Some (1, 71, 0)) ≡ None
+ignored = refl
+
+own : rust_version_for (record { given = None; ignored = false }) (Some (1, 71, 0)) ≡ Some (1, 71, 0)
+own = refl

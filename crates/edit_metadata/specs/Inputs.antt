@@ -1,0 +1,101 @@
+-- The manifests of a workspace that plans are made for (own).
+use Rattle.std.specs.Prelude.{◌≡◌, ◌⊎◌, ℕ, List, ◌∷◌, Bool, true, Option, Some, None, codes, Contains, if◌then◌else◌, map, option_map, string_bytes}
+use Rattle.std.specs.List.{AllZip, fold}
+use Rattle.std.specs.Option.{option_or}
+use Rattle.edit_base.specs.Paths.{IsNormalOf, joined}
+use Rattle.edit_base.specs.declared.errors.DeviceCall.TheVariants as call
+use Rattle.edit_base.specs.declared.errors.Error.{Error}
+use Rattle.edit_base.specs.declared.errors.Error.TheVariants.{NoManifest}
+use Rattle.edit_sources.specs.Store.{Files, RefusesCall, StoreView}
+use Rattle.edit_version.specs.RustVersions.{Numbers, is_above, numbers_of}
+use Rattle.edit_metadata.specs.Metadata.{PackageSaid, WorkspaceSaid, members}
+use Rattle.edit_metadata.specs.declared.input.Input.{Input}
+
+-- ---- Rust versions
+
+-- the lesser of two Rust versions; where one is none, the other
+abbrev pub lesser : Option Numbers → Option Numbers → Option Numbers
+lesser None b = b
+lesser (Some a) None = Some a
+lesser (Some a) (Some b) = if is_above a b then Some b else Some a
+
+-- the least of these Rust versions, none where each is none
+abbrev pub least : List (Option Numbers) → Option Numbers
+least versions = fold lesser None versions
+
+-- the Rust version that is asked for, and whether Rust versions are ignored
+pub record RustAsked : Type 0 where
+  pub given : Option Numbers
+  pub ignored : Bool
+
+-- the Rust version to plan for: the given one; none where they are ignored; else the manifest's own
+abbrev pub rust_version_for : RustAsked → Option Numbers → Option Numbers
+rust_version_for asked own = option_or asked.given (if asked.ignored then None else own)
+
+-- ---- manifests
+
+-- a manifest of a workspace: what reports call it, its path as it is written, and its own Rust version
+pub record ManifestSaid : Type 0 where
+  pub name : List ℕ
+  pub path : List ℕ
+  pub rust_version : Option Numbers
+
+-- the manifest of a package
+abbrev pub manifest_of : PackageSaid → ManifestSaid
+manifest_of p = record { name = p.name; path = p.manifest_path; rust_version = p.rust_version }
+
+-- the manifests of the members among packages, in order
+abbrev pub member_manifests : List PackageSaid → List ManifestSaid
+member_manifests ps = map manifest_of (members ps)
+
+-- the manifest of the workspace itself; its Rust version is the least of the members'
+abbrev pub root_manifest : WorkspaceSaid → ManifestSaid
+root_manifest w = record {
+  name = codes "virtual workspace";
+  path = joined w.root (codes "Cargo.toml");
+  rust_version = least (map (λ p. p.rust_version) (members w.packages));
+}
+
+-- the manifests of a workspace, the root's first
+abbrev pub manifests : WorkspaceSaid → List ManifestSaid
+manifests w = root_manifest w ∷ member_manifests w.packages
+
+-- ---- inputs
+
+-- an input is made of this manifest, but for its bytes
+pub record IsInputOf (asked : RustAsked) (m : ManifestSaid) (i : Input) : Type 0 where
+  pub name : string_bytes i.name ≡ m.name
+  pub path : IsNormalOf m.path (string_bytes i.path)
+  pub rust_version : option_map numbers_of i.rust_version ≡ rust_version_for asked m.rust_version
+
+-- the paths of inputs
+abbrev pub input_paths : List Input → List (List ℕ)
+input_paths is = map (λ i. string_bytes i.path) is
+
+-- the inputs of a workspace: the members' in order, and before them the root's where no member has its path
+pub data AreInputs (asked : RustAsked) (w : WorkspaceSaid) : List Input → Type 0 where
+  of_members : (root : List ℕ) (is : List Input) → AllZip (IsInputOf asked) (member_manifests w.packages) is
+      → IsNormalOf (root_manifest w).path root → Contains (input_paths is) root → AreInputs asked w is
+  with_root : (i : Input) (is : List Input) → AllZip (IsInputOf asked) (member_manifests w.packages) is
+      → IsInputOf asked (root_manifest w) i → (Contains (input_paths is) (string_bytes i.path) → ⊥)
+      → AreInputs asked w (i ∷ is)
+
+-- an input has the bytes of the file at its path
+abbrev pub IsReadFrom : Files → Input → Type 0
+IsReadFrom files i = files (string_bytes i.path) ≡ Some i.bytes.items
+
+-- ---- refusals
+
+-- no file stands at the normal path of one of these manifests
+pub record LackFile (files : Files) (ms : List ManifestSaid) : Type 0 where
+  pub manifest : ManifestSaid
+  pub among : Contains ms manifest
+  pub path : List ℕ
+  pub is_normal : IsNormalOf manifest.path path
+  pub absent : files path ≡ None
+
+-- why no inputs are made of manifests: memory ran out or the device failed, or a file is not there
+abbrev pub IsNoInput : StoreView → StoreView → List ManifestSaid → Error → Type 0
+IsNoInput old new ms e =
+    RefusesCall call.Read old new e
+    ⊎ ((e ≡ NoManifest) × (old.tells ≡ true → LackFile old.file_at ms))
