@@ -75,7 +75,11 @@ fn replace_entry(
 }
 
 /// Makes the edit that the words name.
-pub(crate) fn edit(alloc: Global, document: &mut Document, words: &mut Words<'_>) -> CargoResult<bool> {
+pub(crate) fn edit(
+    alloc: Global,
+    document: &mut Document,
+    words: &mut Words<'_>,
+) -> CargoResult<bool> {
     let call = words.take();
     let place = words.take_place(alloc)?;
     match call {
