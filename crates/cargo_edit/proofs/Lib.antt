@@ -20,4 +20,11 @@ pub mod InputLemmas
 mod DecisionFacts
 pub mod RankedLemmas
 pub mod SeenFacts
+pub mod StepLemmas
 pub mod WalkLemmas
+pub mod EndLemmas
+pub mod InputRows
+pub mod DraftLemmas
+pub mod FurtherInputs
+pub mod DraftedInputs
+pub mod CauseLemmas

@@ -1,6 +1,6 @@
 -- What is known of the entries that get a row: where their version literals stand, and what they say.
-use Rattle.std.proofs.Common.{◌≡◌, ◌∷◌, [], List, ℕ, Option, Some, None, Bool, true, false, refl, ap, ◌∙◌, sym, subst, inl, inr, ◌⊎◌}
-use Rattle.std.specs.Prelude.{is_some, option_and_then, option_map}
+use Rattle.std.proofs.Common.{◌≡◌, ◌∷◌, [], List, ℕ, Option, Some, None, true, false, refl, ap, ◌∙◌, sym, subst, inl, inr, ◌⊎◌}
+use Rattle.std.specs.Prelude.{option_and_then, option_map}
 use Rattle.std.specs.List.{AllByRecursion, cons_option, filter_map}
 use Rattle.edit_syntax.specs.Grammar.{Text}
 use Rattle.edit_document.specs.Assertions.{Place, same_place}
@@ -14,7 +14,7 @@ use Rattle.edit_entries.specs.Entries.{Entry, entries, entry_at}
 use Rattle.edit_entries.proofs.EntriesApart.{Differ, IsEntryOf, entries-apart, entries-of, entry-literal, same_literal}
 use Rattle.edit_entries.proofs.EntryPlaces.{IsLiteral}
 use Rattle.edit_entries.proofs.RecordVersions.{version-stands}
-use Rattle.cargo_edit.specs.Records.{Seen, Source, seen, seen_at, seen_by, source_of, version_of, with_row}
+use Rattle.cargo_edit.specs.Records.{Seen, Source, seen, seen_at, seen_by, source_of, with_row}
 use Rattle.cargo_edit.specs.Rows.{Line, with_write, write_at, write_on, writes}
 use Rattle.edit_report.specs.declared.row.Change.{Change}
 

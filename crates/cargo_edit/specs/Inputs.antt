@@ -1,7 +1,7 @@
 -- What is said of a plan for each of its inputs, with what the rows of the input rest on.
-use Rattle.std.specs.Prelude.{◌≡◌, ◌==◌, ℕ, zero, suc, List, [], ◌∷◌, ◌++◌, IfSome, Option, filter, length, map, not, option_map, slice_get, string_bytes}
+use Rattle.std.specs.Prelude.{◌≡◌, ◌≢◌, ◌==◌, ℕ, zero, suc, List, [], ◌∷◌, ◌++◌, IfSome, Option, filter, length, map, not, option_map, slice_get, string_bytes}
 use Rattle.std.specs.Global.{Vec}
-use Rattle.std.specs.List.{flat_map}
+use Rattle.std.specs.List.{AllPairs, flat_map}
 use Rattle.std.specs.Str.{bytes_eq}
 use Rattle.edit_version.specs.RustVersions.{Numbers, numbers_of}
 use Rattle.edit_sources.specs.declared.config.Config.{Config}
@@ -69,3 +69,7 @@ abbrev pub OutputsInOrder : List Input → UpgradePlan → Type 0
 OutputsInOrder inputs p =
     map output_path p.outputs.items
     ≡ filter (λ path. not (length (outputs_at path p) == 0)) (map path_of inputs)
+
+-- no two of the inputs have one path
+abbrev pub HaveDistinctPaths : List Input → Type 0
+HaveDistinctPaths inputs = AllPairs (λ a b. path_of a ≢ path_of b) inputs

@@ -17,3 +17,4 @@ pub mod PlannedView
 pub mod Headline
 pub mod Addresses
 pub mod PairSets
+pub mod Drafts

@@ -1,5 +1,5 @@
 -- How looks are made, one after another.
-use Rattle.std.specs.Prelude.{◌≡◌, ◌≤◌, ◌⊎◌, ℕ, List, [], ◌∷◌, ◌++◌, Bool, true, false, ◌&&◌, if◌then◌else◌, Option, IsSome, Some, None, Ok, Err, is_some, string_bytes}
+use Rattle.std.specs.Prelude.{◌≡◌, ◌≤◌, ◌⊎◌, ℕ, List, [], ◌∷◌, ◌++◌, Bool, true, false, ◌&&◌, if◌then◌else◌, Option, IsSome, Some, Ok, Err, is_some, string_bytes}
 use Rattle.std.specs.Str.{bytes_eq}
 use Rattle.edit_base.specs.Errors.{number_of}
 use Rattle.edit_base.specs.declared.errors.Error.{Error}
@@ -51,7 +51,8 @@ abbrev pub Pairs : Type 0
 Pairs = List ℕ → List ℕ → Bool
 
 -- where a walk over entries stands: the looks that were made, and the set of their addresses and names
-pub record IsSoFar (Needed : List ℕ → List ℕ → Type 0) (gives : Outcomes) (old now : Kept) (looks : List Look)
+pub record IsSoFar (Needed : List ℕ → List ℕ → Type 0) (gives : Outcomes) (old now : Kept)
+    (looks : List Look)
     (pairs : Pairs) : Type 0 where
   pub looked : AreLooks Needed gives old now looks
   pub set : (a n : List ℕ) → pairs a n ≡ is_some (look_at looks a n)
@@ -73,3 +74,17 @@ pub record IsEntryStep (configs : List Config) (e : Seen) (gives : Outcomes) (ol
       → (address : url.Parts) × HasAddress configs named address
       × IsStep (serialize address) e.name gives old new looks more pairs now
   pub idle : is_elsewhere e.source ≡ true → (more ≡ looks) × (now ≡ pairs) × (new ≡ old)
+
+-- each pair of the set has an answer that is kept (own)
+abbrev pub AreKept : Pairs → Kept → Type 0
+AreKept pairs kept = (address name : List ℕ) → pairs address name ≡ true → IsSome (kept address name)
+
+-- what a walk does for entries: a step for each, one after another (own)
+pub data AreSteps (configs : List Config) (gives : Outcomes)
+    : List Seen → Kept → Kept → List Look → List Look → Pairs → Pairs → Type 0 where
+  start : (kept : Kept) (looks : List Look) (pairs : Pairs) → AreSteps configs gives [] kept kept looks
+      looks pairs pairs
+  further : (front : List Seen) (e : Seen) (old mid new : Kept) (looks between more : List Look)
+      (pairs then_pairs now : Pairs) → AreSteps configs gives front old mid looks between pairs then_pairs
+      → IsEntryStep configs e gives mid new between more then_pairs now
+      → AreSteps configs gives (front ++ e ∷ []) old new looks more pairs now

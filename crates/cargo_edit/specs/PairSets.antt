@@ -12,5 +12,6 @@ holds_name None name = false
 holds_name (Some names) name = contains_text names name
 
 -- whether a pair is among these (own)
-abbrev pub holds_pair : BTreeMap (String Global) (BTreeSet (String Global) Global) Global → List ℕ → List ℕ → Bool
+abbrev pub holds_pair : BTreeMap (String Global) (BTreeSet (String Global) Global) Global
+    → List ℕ → List ℕ → Bool
 holds_pair pairs address name = holds_name (get_by_text pairs address) name

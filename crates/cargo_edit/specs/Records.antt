@@ -1,6 +1,6 @@
 -- Which entries get a row, and what they say: those that have a record, but for one that takes all from its
 -- workspace (Cargo reference, "Specifying Dependencies").
-use Rattle.std.specs.Prelude.{ℕ, List, [], Bool, true, false, Option, Some, None, option_and_then, option_map}
+use Rattle.std.specs.Prelude.{ℕ, List, [], Option, Some, None, option_and_then, option_map}
 use Rattle.std.specs.List.{filter_map}
 use Rattle.edit_document.specs.Assertions.{Place}
 use Rattle.edit_record.specs.EntryRecords.{EntryRecord, Origin, from_git, from_path, from_registry, from_workspace, origin_version}

@@ -3,6 +3,7 @@
 
 mod addresses;
 mod decide;
+mod draft;
 mod lists;
 mod looks;
 mod names;
@@ -20,11 +21,13 @@ pub use edit_base::{
     CargoResult, CliError, CliResult, DeviceCall, Error, MergedCommand, MissingKind, MissingNames,
     errors, paths,
 };
-pub use edit_document::{Document, Item, Keys, NewItem, NewValue, Place, Step};
+pub use edit_document::{
+    Document, Item, Keys, NewItem, NewValue, Place, Step, copied_place, member_place,
+};
 pub use edit_entries::{Entry, Said, entries};
 pub use edit_manifest::{
-    DepKind, DepTable, LocalManifest, Manifest, copied_place, dependency_tables, find,
-    get_dep_version, set_dep_version,
+    DepKind, DepTable, LocalManifest, Manifest, dependency_tables, find, get_dep_version,
+    set_dep_version,
 };
 pub use edit_metadata::{Input, Package, Workspace, manifest_from_pkgid, workspace_inputs};
 pub use edit_record::{
@@ -34,8 +37,8 @@ pub use edit_record::{
     read_requirement, upgrade_requirement,
 };
 pub use edit_report::{
-    Change, Output, Reason, Row, apply, shell, shell_note, shell_print, shell_status, shell_warn,
-    shell_write_stderr, shell_write_stdout, shown, table_text,
+    Change, Output, Reason, Row, apply, name_text, reason_text, shell, shell_note, shell_print,
+    shell_status, shell_warn, shell_write_stderr, shell_write_stdout, shown, table_text,
 };
 pub use edit_set_version::{BumpLevel, TargetVersion, set_version};
 pub use edit_sources::config::read_configs;

@@ -1,117 +1,163 @@
 //! The plan of an upgrade.
-ghost use Rattle.std.specs.Prelude.{◌≡◌, ◌≤◌, ◌⊎◌, [], All, IfErr, IfOk, MatchOption, length, map, string_bytes};
+ghost use Rattle.std.specs.Prelude.{◌≡◌, ◌≤◌, ◌⊎◌, [], All, IfErr, IfOk, IfSome, IsSome, IsUtf8, None, OnOk, length, map, option_copied, slice_get};
 ghost use Rattle.edit_base.specs.Errors.{IsMemory};
+ghost use Rattle.edit_manifest.specs.Loaded.{IsBadManifest};
 ghost use Rattle.edit_sources.specs.Index.{SameOutcomes};
 ghost use Rattle.edit_sources.specs.IndexCache.{index_of};
 ghost use Rattle.cargo_edit.specs.Causes.{HasBadEntry, IsCause, IsEntryCause};
+ghost use Rattle.cargo_edit.specs.Drafts.{AddsInput, AreGiven, IsDraft};
 ghost use Rattle.cargo_edit.specs.Headline.{IsSettled, LatestIsNotLess, Narrows, NeedsAsBefore, Reaches};
-ghost use Rattle.cargo_edit.specs.Inputs.{EachInput, OutputsInOrder, RowsInOrder, setting_of};
+ghost use Rattle.cargo_edit.specs.Inputs.{EachInput, HaveDistinctPaths, OutputsInOrder, RowsInOrder};
 ghost use Rattle.cargo_edit.specs.Lines.{line_of};
-ghost use Rattle.cargo_edit.specs.Lists.{Tells, warning_view};
-ghost use Rattle.cargo_edit.specs.Looked.{Leaves};
+ghost use Rattle.cargo_edit.specs.Lists.{Tells};
+ghost use Rattle.cargo_edit.specs.Looked.{AreKept, Leaves};
 ghost use Rattle.cargo_edit.specs.Looks.{AddsNeeded, AreLooks, kept_by};
-ghost use Rattle.cargo_edit.specs.Outputs.{HasOutputs, IsOnlyOutput};
-ghost use Rattle.cargo_edit.specs.PlannedView.{IsShown};
-ghost use Rattle.cargo_edit.specs.Upgraded.{HasItsOutputs, HasItsRows, HasItsWarnings, HasRows, HasWarnings, IsNeeded, IsNeededBy};
+ghost use Rattle.cargo_edit.specs.PairSets.{holds_pair};
+ghost use Rattle.cargo_edit.specs.Upgraded.{HasItsOutputs, HasItsRows, HasItsWarnings, IsNeeded, IsNeededBy};
 
-use crate::lists::{git_crates, has_incompatible, has_pinned, modified_names};
-use crate::planned::{Planned, plan_input};
+use crate::draft::{Draft, add_input, finished};
 use crate::upgrade::{Options, UpgradePlan};
-use crate::writes::written;
 use edit_base::CargoResult;
 use edit_document::Document;
 use edit_manifest::Manifest;
 use edit_metadata::Input;
-use edit_report::Output;
 use edit_sources::{Config, Index, IndexCache};
 use std::alloc::Global;
-use std::slice::from_ref;
 
-/// The output at a path, where there is a new text.
-fn outputs_of(alloc: Global, path: &str, text: Option<String>) -> CargoResult<Vec<Output>>
-    ensures ok { IfOk result (λ v. MatchOption text (v.items ≡ [])
-        (λ s. IsOnlyOutput path.now (string_bytes s) v.items)) }
-    ensures refused { IfErr result IsMemory }
-{
-    let mut outputs = Vec::new(alloc);
-    match text {
-        Some(text) => {
-            let path = String::from_str(alloc, path)?;
-            outputs.push(Output {
-                path,
-                bytes: text.into_bytes(),
-            })?;
-            Ok(outputs)
-        }
-        None => Ok(outputs),
-    }
-}
-
-/// The plan of one manifest, from its rows.
-fn plan_of(
+/// Plans one more input: over its document where that was read, else over that of its bytes.
+fn add_read<I: Index>(
     alloc: Global,
-    input: &Input,
-    document: &Document,
-    planned: Planned,
-) -> CargoResult<UpgradePlan>
-    requires { IsShown input.now.bytes.items document.now planned }
-    ensures rows { IfOk result (λ p. (p.rows ≡ planned.rows) × (p.looks ≡ planned.looks)) }
-    ensures warnings { IfOk result (λ p. p.warnings ≡ planned.warnings) }
-    ensures outputs { IfOk result (λ p. HasOutputs (string_bytes input.now.path) input.now.bytes.items
-        (map line_of p.rows.items) p.outputs.items) }
-    ensures lists { IfOk result Tells }
-    ensures refused { IfErr result IsMemory }
-{
-    let text = written(alloc, document, &planned.entries, &planned.rows)?;
-    let outputs = outputs_of(alloc, input.path.as_str(), text)?;
-    let modified = modified_names(alloc, &planned.rows)?;
-    let git_crates = git_crates(alloc, &planned.rows)?;
-    let pinned_present = has_pinned(&planned.rows);
-    let incompatible_present = has_incompatible(&planned.rows);
-    Ok(UpgradePlan {
-        outputs,
-        rows: planned.rows,
-        looks: planned.looks,
-        warnings: planned.warnings,
-        missing: Vec::new(alloc),
-        modified,
-        git_crates,
-        pinned_present,
-        incompatible_present,
-    })
-}
-
-/// The plan of one manifest that was read, over the answers of an index.
-fn plan_document<I: Index>(
-    alloc: Global,
+    number: usize,
     options: &Options,
     input: &Input,
-    document: &Document,
+    document: Option<&Document>,
     configs: &[Config],
+    draft: &mut Draft,
     index: &mut IndexCache<I>,
-) -> CargoResult<UpgradePlan>
-    requires { document.now.bytes ≡ input.now.bytes.items }
-    ensures rows { IfOk result (λ p. HasRows (setting_of 0 options.now input.now configs.now p.looks.items)
-        input.now.bytes.items (map line_of p.rows.items)) }
-    ensures outputs { IfOk result (λ p. HasOutputs (string_bytes input.now.path) input.now.bytes.items
-        (map line_of p.rows.items) p.outputs.items) }
-    ensures warnings { IfOk result
-        (λ p. HasWarnings 0 input.now.bytes.items (map warning_view p.warnings.items)) }
-    ensures looks { IfOk result
-        (λ p. AreLooks (IsNeededBy configs.now input.now.bytes.items) (I.view (index_of index.old)).gives
-        (kept_by index.old) (kept_by index.new) p.looks.items) }
-    ensures lists { IfOk result Tells }
+) -> CargoResult<()>
+    requires document { IfSome (option_copied document) (λ d. d.bytes ≡ input.now.bytes.items) }
+    requires kept { AreKept (holds_pair draft.old.books.pairs) (kept_by index.old) }
+    ensures kept { OnOk result (AreKept (holds_pair draft.new.books.pairs) (kept_by index.new)) }
+    ensures adds { OnOk result (AddsInput number options.now input.now configs.now
+        (I.view (index_of index.old)).gives (kept_by index.old) (kept_by index.new) draft.old draft.new) }
+    ensures utf8 { OnOk result (option_copied document.entry ≡ None → IsUtf8 input.now.bytes.items) }
     ensures left { Leaves (IsNeededBy configs.now input.now.bytes.items) (I.view (index_of index.old)).gives
-        (I.view (index_of index.new)).gives (I.view (index_of index.old)).faults (I.view
-        (index_of index.new)).faults
-        (kept_by index.old) (kept_by index.new) }
-    ensures refused { IfErr result (λ e. IsMemory e
+        (I.view (index_of index.new)).gives (I.view (index_of index.old)).faults
+        (I.view (index_of index.new)).faults (kept_by index.old) (kept_by index.new) }
+    ensures given { IfErr result (λ e. IsSome (option_copied document.entry) → IsMemory e
+        ⊎ HasBadEntry configs.now (I.view (index_of index.old)).gives
+        (kept_by index.old) (kept_by index.new)
+        (I.view (index_of index.old)).faults (I.view (index_of index.new)).faults input.now.bytes.items e) }
+    ensures read { IfErr result (λ e. option_copied document.entry ≡ None
+        → IsBadManifest input.now.bytes.items e
         ⊎ HasBadEntry configs.now (I.view (index_of index.old)).gives
         (kept_by index.old) (kept_by index.new)
         (I.view (index_of index.old)).faults (I.view (index_of index.new)).faults input.now.bytes.items e) }
 {
-    let planned = plan_input(alloc, 0, options, input, document, configs, index)?;
-    plan_of(alloc, input, document, planned)
+    match document {
+        Some(document) => {
+            add_input(
+                alloc, number, options, input, document, configs, draft, index,
+            )?;
+            Ok(())
+        }
+        None => {
+            let manifest = Manifest::read_bytes(alloc, &input.bytes)?;
+            let document = &manifest.document;
+            add_input(
+                alloc, number, options, input, document, configs, draft, index,
+            )?;
+            Ok(())
+        }
+    }
+}
+
+/// The document at a place in a list.
+fn document_at(documents: &[Document], i: usize) -> Option<&Document>
+    ensures { option_copied result ≡ slice_get documents.now i }
+{
+    documents.get(i)
+}
+
+/// What is planned of inputs: over their documents, or over those of their bytes where none is given.
+fn drafted<I: Index>(
+    alloc: Global,
+    options: &Options,
+    inputs: &[Input],
+    documents: &[Document],
+    configs: &[Vec<Config>],
+    index: &mut IndexCache<I>,
+) -> CargoResult<Draft>
+    requires documents { AreGiven inputs.now documents.now }
+    requires configurations { length configs.now ≡ length inputs.now }
+    requires paths { HaveDistinctPaths inputs.now }
+    ensures drafted { IfOk result (IsDraft options.now inputs.now configs.now
+        (I.view (index_of index.old)).gives
+        (kept_by index.old) (kept_by index.new)) }
+    ensures utf8 { OnOk result (documents.now ≡ [] → All (λ x. IsUtf8 x.bytes.items) inputs.now) }
+    ensures left { Leaves (IsNeeded inputs.now configs.now) (I.view (index_of index.old)).gives
+        (I.view (index_of index.new)).gives (I.view (index_of index.old)).faults
+        (I.view (index_of index.new)).faults (kept_by index.old) (kept_by index.new) }
+    ensures given { IfErr result (λ e. length documents.now ≡ length inputs.now
+        → IsEntryCause inputs.now configs.now (I.view (index_of index.old)).gives
+        (kept_by index.old) (kept_by index.new)
+        (I.view (index_of index.old)).faults (I.view (index_of index.new)).faults e) }
+    ensures read { IfErr result (λ e. documents.now ≡ []
+        → IsCause inputs.now configs.now (I.view (index_of index.old)).gives
+        (kept_by index.old) (kept_by index.new)
+        (I.view (index_of index.old)).faults (I.view (index_of index.new)).faults e) }
+{
+    let mut draft = Draft::new(alloc);
+    'inputs: for (i, input) in inputs.iter().enumerate() {
+        let document = document_at(documents, i);
+        let own = &configs[i];
+        add_read(alloc, i, options, input, document, own, &mut draft, index)?;
+    }
+    Ok(draft)
+}
+
+/// The plan of inputs: over their documents, or over those of their bytes where none is given.
+fn plan_all<I: Index>(
+    alloc: Global,
+    options: &Options,
+    inputs: &[Input],
+    documents: &[Document],
+    configs: &[Vec<Config>],
+    index: &mut IndexCache<I>,
+) -> CargoResult<UpgradePlan>
+    requires documents { AreGiven inputs.now documents.now }
+    requires configurations { length configs.now ≡ length inputs.now }
+    requires paths { HaveDistinctPaths inputs.now }
+    ensures rows { IfOk result (EachInput options.now inputs.now configs.now HasItsRows) }
+    ensures rows_in_order { IfOk result (RowsInOrder inputs.now) }
+    ensures outputs { IfOk result (EachInput options.now inputs.now configs.now HasItsOutputs) }
+    ensures outputs_in_order { IfOk result (OutputsInOrder inputs.now) }
+    ensures warnings { IfOk result (EachInput options.now inputs.now configs.now HasItsWarnings) }
+    ensures narrowing { IfOk result (λ p. All Narrows (map line_of p.rows.items)) }
+    ensures reach { IfOk result (λ p. All Reaches (map line_of p.rows.items)) }
+    ensures latest { IfOk result (λ p. All LatestIsNotLess (map line_of p.rows.items)) }
+    ensures fixed_point { IfOk result (EachInput options.now inputs.now configs.now IsSettled) }
+    ensures needs { IfOk result (EachInput options.now inputs.now configs.now NeedsAsBefore) }
+    ensures looks { IfOk result
+        (λ p. AreLooks (IsNeeded inputs.now configs.now) (I.view (index_of index.old)).gives
+        (kept_by index.old) (kept_by index.new) p.looks.items) }
+    ensures lists { IfOk result Tells }
+    ensures kept { AddsNeeded (IsNeeded inputs.now configs.now) (I.view (index_of index.old)).gives
+        (kept_by index.old) (kept_by index.new) }
+    ensures index { SameOutcomes (I.view (index_of index.old)).gives (I.view (index_of index.new)).gives }
+    ensures faults { (I.view (index_of index.old)).faults ≤ (I.view (index_of index.new)).faults }
+    ensures given { IfErr result (λ e. length documents.now ≡ length inputs.now
+        → IsEntryCause inputs.now configs.now (I.view (index_of index.old)).gives
+        (kept_by index.old) (kept_by index.new)
+        (I.view (index_of index.old)).faults (I.view (index_of index.new)).faults e) }
+    ensures read { IfErr result (λ e. documents.now ≡ []
+        → IsCause inputs.now configs.now (I.view (index_of index.old)).gives
+        (kept_by index.old) (kept_by index.new)
+        (I.view (index_of index.old)).faults (I.view (index_of index.new)).faults e) }
+{
+    let draft = drafted(alloc, options, inputs, documents, configs, index)?;
+    let plan = finished(alloc, draft)?;
+    Ok(plan)
 }
 
 /// What an upgrade of manifests that were read gives: as `plan_upgrade`, over the documents of their bytes.
@@ -123,9 +169,9 @@ pub fn plan_documents<I: Index>(
     configs: &[Vec<Config>],
     index: &mut IndexCache<I>,
 ) -> CargoResult<UpgradePlan>
-    requires one_input { length inputs.now ≡ 1 }
     requires documents { map (λ d. d.bytes) documents.now ≡ map (λ input. input.bytes.items) inputs.now }
-    requires configurations { length configs.now ≡ 1 }
+    requires configurations { length configs.now ≡ length inputs.now }
+    requires paths { HaveDistinctPaths inputs.now }
     requires no_words { options.now.package.items ≡ [] }
     requires no_exclusions { options.now.exclude.items ≡ [] }
     // each seen entry has one row: the decision over the greatest admissible versions that the looks tell of
@@ -160,16 +206,14 @@ pub fn plan_documents<I: Index>(
         (kept_by index.old) (kept_by index.new)
         (I.view (index_of index.old)).faults (I.view (index_of index.new)).faults) }
 {
-    let input = &inputs[0];
-    let own = &configs[0];
-    let plan = plan_document(alloc, options, input, &documents[0], own, index)?;
-    Ok(plan)
+    plan_all(alloc, options, inputs, documents, configs, index)
 }
 
 /// What an upgrade of manifests gives: their new bytes, a row for each entry that is seen, and the looks.
 ///
-/// So far one manifest is planned, and no words or exclusions select its entries. Seen are the entries of all
-/// its dependency tables that `Dependency::from_toml` reads, but for those that take all from their workspace;
+/// So far no words or exclusions select entries. The inputs are planned one after another, each over its own
+/// configurations, and the looks are made once over all of them. Seen are the entries of all dependency
+/// tables of a manifest that `Dependency::from_toml` reads, but for those that take all from their workspace;
 /// on the others there are warnings. An entry of a registry is looked up at the registry's address, once for
 /// each address and name; one of a repository or a folder has its requirement alone, or a row without any.
 pub fn plan_upgrade<I: Index>(
@@ -179,8 +223,8 @@ pub fn plan_upgrade<I: Index>(
     configs: &[Vec<Config>],
     index: &mut IndexCache<I>,
 ) -> CargoResult<UpgradePlan>
-    requires one_input { length inputs.now ≡ 1 }
-    requires configurations { length configs.now ≡ 1 }
+    requires configurations { length configs.now ≡ length inputs.now }
+    requires paths { HaveDistinctPaths inputs.now }
     requires no_words { options.now.package.items ≡ [] }
     requires no_exclusions { options.now.exclude.items ≡ [] }
     // each seen entry has one row: the decision over the greatest admissible versions that the looks tell of
@@ -215,7 +259,6 @@ pub fn plan_upgrade<I: Index>(
         (kept_by index.old) (kept_by index.new)
         (I.view (index_of index.old)).faults (I.view (index_of index.new)).faults) }
 {
-    let manifest = Manifest::read_bytes(alloc, &inputs[0].bytes)?;
-    let documents = from_ref(&manifest.document);
-    plan_documents(alloc, options, inputs, documents, configs, index)
+    let documents = Vec::new(alloc);
+    plan_all(alloc, options, inputs, &documents, configs, index)
 }

@@ -1,22 +1,22 @@
 //! What is planned for one manifest.
-ghost use Rattle.std.specs.Prelude.{◌≡◌, ◌⊎◌, IfErr, IfOk, length, map};
+ghost use Rattle.std.specs.Prelude.{◌≡◌, ◌⊎◌, IfErr, IfOk, OnOk, length, map};
 ghost use Rattle.edit_base.specs.Errors.{IsMemory};
 ghost use Rattle.edit_sources.specs.IndexCache.{index_of};
 ghost use Rattle.cargo_edit.specs.Causes.{HasBadEntry};
 ghost use Rattle.cargo_edit.specs.Found.{seen_of};
-ghost use Rattle.cargo_edit.specs.Inputs.{setting_of};
 ghost use Rattle.cargo_edit.specs.Lines.{line_of};
 ghost use Rattle.cargo_edit.specs.Lists.{warning_view};
-ghost use Rattle.cargo_edit.specs.Looked.{Leaves};
-ghost use Rattle.cargo_edit.specs.Looks.{AreLooks, kept_by};
-ghost use Rattle.cargo_edit.specs.PlannedView.{AreSeen, IsShown};
-ghost use Rattle.cargo_edit.specs.Upgraded.{HasRows, HasWarnings, IsNeededBy};
+ghost use Rattle.cargo_edit.specs.Looked.{AreKept, Leaves};
+ghost use Rattle.cargo_edit.specs.Looks.{kept_by};
+ghost use Rattle.cargo_edit.specs.PairSets.{holds_pair};
+ghost use Rattle.cargo_edit.specs.PlannedView.{AreSeen, IsShown, IsWalked};
+ghost use Rattle.cargo_edit.specs.Upgraded.{HasWarnings, IsNeededBy};
 
 use crate::lists::warnings_on;
 use crate::rows::Job;
 use crate::seen::{Entry, with_rows};
-use crate::upgrade::{Look, Options, Warning};
-use crate::walk::walk;
+use crate::upgrade::{Options, Warning};
+use crate::walk::{Books, walk};
 use edit_base::CargoResult;
 use edit_document::Document;
 use edit_entries::entries;
@@ -31,7 +31,6 @@ use std::alloc::Global;
 #[derive(Drop)]
 pub(crate) struct Planned {
     pub(crate) entries: Vec<Entry>,
-    pub(crate) looks: Vec<Look>,
     pub(crate) rows: Vec<Row>,
     pub(crate) warnings: Vec<Warning>,
 }
@@ -44,16 +43,16 @@ fn plan_entries<I: Index>(
     input: &Input,
     entries: &[Entry],
     configs: &[Config],
+    books: &mut Books,
     index: &mut IndexCache<I>,
-) -> CargoResult<(Vec<Look>, Vec<Row>)>
+) -> CargoResult<Vec<Row>>
     requires seen { AreSeen input.now.bytes.items (map seen_of entries.now) }
-    ensures long { IfOk result (λ p. length p.1.items ≡ length entries.now) }
-    ensures rows { IfOk result
-        (λ p. HasRows (setting_of number options.now input.now configs.now p.0.items)
-        input.now.bytes.items (map line_of p.1.items)) }
-    ensures looks { IfOk result
-        (λ p. AreLooks (IsNeededBy configs.now input.now.bytes.items) (I.view (index_of index.old)).gives
-        (kept_by index.old) (kept_by index.new) p.0.items) }
+    requires kept { AreKept (holds_pair books.old.pairs) (kept_by index.old) }
+    ensures kept { OnOk result (AreKept (holds_pair books.new.pairs) (kept_by index.new)) }
+    ensures long { IfOk result (λ v. length v.items ≡ length entries.now) }
+    ensures walked { IfOk result (λ v. IsWalked number options.now input.now configs.now
+        (I.view (index_of index.old)).gives (kept_by index.old) (kept_by index.new)
+        books.old books.new (map line_of v.items)) }
     ensures left { Leaves (IsNeededBy configs.now input.now.bytes.items) (I.view (index_of index.old)).gives
         (I.view (index_of index.new)).gives (I.view (index_of index.old)).faults (I.view
         (index_of index.new)).faults
@@ -70,11 +69,11 @@ fn plan_entries<I: Index>(
         rust_version,
         configs,
     };
-    let (looks, rows) = walk(alloc, job, entries, index)?;
-    Ok((looks, rows))
+    let rows = walk(alloc, job, entries, books, index)?;
+    Ok(rows)
 }
 
-/// Plans the rows of a manifest that was read, and makes the looks that they need.
+/// Plans the rows of a manifest that was read, and makes the looks that they need and that were not made.
 pub(crate) fn plan_input<I: Index>(
     alloc: Global,
     number: usize,
@@ -82,18 +81,18 @@ pub(crate) fn plan_input<I: Index>(
     input: &Input,
     document: &Document,
     configs: &[Config],
+    books: &mut Books,
     index: &mut IndexCache<I>,
 ) -> CargoResult<Planned>
-    requires { document.now.bytes ≡ input.now.bytes.items }
+    requires document { document.now.bytes ≡ input.now.bytes.items }
+    requires kept { AreKept (holds_pair books.old.pairs) (kept_by index.old) }
+    ensures kept { OnOk result (AreKept (holds_pair books.new.pairs) (kept_by index.new)) }
     ensures shown { IfOk result (IsShown input.now.bytes.items document.now) }
-    ensures rows { IfOk result
-        (λ p. HasRows (setting_of number options.now input.now configs.now p.looks.items)
-        input.now.bytes.items (map line_of p.rows.items)) }
+    ensures walked { IfOk result (λ p. IsWalked number options.now input.now configs.now
+        (I.view (index_of index.old)).gives (kept_by index.old) (kept_by index.new)
+        books.old books.new (map line_of p.rows.items)) }
     ensures warnings { IfOk result (λ p. HasWarnings number input.now.bytes.items
         (map warning_view p.warnings.items)) }
-    ensures looks { IfOk result
-        (λ p. AreLooks (IsNeededBy configs.now input.now.bytes.items) (I.view (index_of index.old)).gives
-        (kept_by index.old) (kept_by index.new) p.looks.items) }
     ensures left { Leaves (IsNeededBy configs.now input.now.bytes.items) (I.view (index_of index.old)).gives
         (I.view (index_of index.new)).gives (I.view (index_of index.old)).faults (I.view
         (index_of index.new)).faults
@@ -108,10 +107,11 @@ pub(crate) fn plan_input<I: Index>(
     let found = entries(alloc, "", document)?;
     let warnings = warnings_on(alloc, number, &found)?;
     let entries = with_rows(alloc, found)?;
-    let (looks, rows) = plan_entries(alloc, number, options, input, &entries, configs, index)?;
+    let rows = plan_entries(
+        alloc, number, options, input, &entries, configs, books, index,
+    )?;
     Ok(Planned {
         entries,
-        looks,
         rows,
         warnings,
     })

@@ -20,7 +20,7 @@ use crate::offers::{Offer, offer_of};
 use crate::seen::{Entry, Source};
 use crate::upgrade::Options;
 use edit_base::CargoResult;
-use edit_manifest::copied_place;
+use edit_document::copied_place;
 use edit_record::Requirement;
 use edit_report::{Reason, Row};
 use edit_sources::Config;
@@ -124,7 +124,8 @@ fn row_over(
     compatible: Option<&Version>,
     latest: Option<&Version>,
 ) -> CargoResult<Row>
-    ensures ok { IfOk result (λ r. line_of r ≡ line_for job.entry.number (seen_of entry.now) (text_in old.now)
+    ensures ok { IfOk result (λ r. line_of r ≡ line_for job.entry.number (seen_of entry.now)
+        (text_in old.now)
         (parts_in compatible.entry) (parts_in latest.entry)
         (decision job.entry.options.now (case_for (seen_of entry.now) (text_in old.now)
         (parts_in compatible.entry) (parts_in latest.entry)))) }
@@ -167,7 +168,8 @@ fn row_with(
     ranked: Option<&Ranked>,
 ) -> CargoResult<Row>
     ensures ok { IfOk result (λ r. (answer : Option Answer) → IsRankingOf answer (option_copied ranked.entry)
-        → IsDecided job.entry.number job.entry.options.now (versions_in (numbers_in job.entry.rust_version) answer)
+        → IsDecided job.entry.number job.entry.options.now
+        (versions_in (numbers_in job.entry.rust_version) answer)
         (seen_of entry.now) old.now (line_of r)) }
     ensures refused { IfErr result IsMemory }
 {
@@ -215,7 +217,8 @@ pub(crate) fn row_for(
     ranked: Option<&Ranked>,
 ) -> CargoResult<Row>
     ensures ok { IfOk result (λ r. (answer : Option Answer) → IsRankingOf answer (option_copied ranked.entry)
-        → IsRowOver job.entry.number job.entry.options.now (versions_in (numbers_in job.entry.rust_version) answer)
+        → IsRowOver job.entry.number job.entry.options.now
+        (versions_in (numbers_in job.entry.rust_version) answer)
         (seen_of entry.now) (seen_of entry.now).old (line_of r)) }
     ensures refused { IfErr result IsMemory }
 {

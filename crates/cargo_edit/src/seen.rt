@@ -39,7 +39,8 @@ pub(crate) struct Entry {
 
 /// The entry of a record at a place, where it gets a row.
 fn with_record(place: Place, bare: bool, dependency: Dependency) -> Option<Entry>
-    ensures { (e : Found) → e.place ≡ place_seen place.items → e.literal ≡ literal_by bare (place_seen place.items)
+    ensures { (e : Found) → e.place ≡ place_seen place.items → e.literal
+        ≡ literal_by bare (place_seen place.items)
         → option_map seen_of result ≡ seen_by e (record_view dependency) }
 {
     let Dependency {

@@ -1,16 +1,16 @@
 //! A walk over the entries of an input: their looks, each once, and their rows.
-ghost use Rattle.std.specs.Prelude.{◌≡◌, ◌⊎◌, IfErr, IfOk, None, OnOk, Some, map, option_map, string_bytes};
+ghost use Rattle.std.specs.Prelude.{◌≡◌, ◌⊎◌, All, IfErr, IfOk, None, OnOk, Some, map, option_map, string_bytes};
 ghost use Rattle.edit_base.specs.Errors.{IsMemory};
 ghost use Rattle.edit_record.specs.Candidates.{numbers_in};
 ghost use Rattle.edit_sources.specs.Configured.{given};
 ghost use Rattle.edit_sources.specs.IndexCache.{index_of};
 ghost use Rattle.url.specs.Parts.{serialize};
 ghost use Rattle.cargo_edit.specs.Addresses.{AreAddresses};
-ghost use Rattle.cargo_edit.specs.Causes.{StopsAt, StopsFirst};
+ghost use Rattle.cargo_edit.specs.Causes.{IsPassed, StopsAt, StopsFirst};
 ghost use Rattle.cargo_edit.specs.Found.{seen_of};
 ghost use Rattle.cargo_edit.specs.Lines.{line_of};
-ghost use Rattle.cargo_edit.specs.Looked.{IsEntryStep, Leaves};
-ghost use Rattle.cargo_edit.specs.Looks.{AreLooks, kept_basis, kept_by};
+ghost use Rattle.cargo_edit.specs.Looked.{AreKept, AreSteps, IsEntryStep, Leaves};
+ghost use Rattle.cargo_edit.specs.Looks.{kept_basis, kept_by};
 ghost use Rattle.cargo_edit.specs.PairSets.{holds_pair};
 ghost use Rattle.cargo_edit.specs.Records.{at_registry};
 ghost use Rattle.cargo_edit.specs.Rows.{AreDecided, IsRowBy};
@@ -27,13 +27,11 @@ use edit_sources::cache::IndexCache;
 use edit_sources::index::Index;
 use std::alloc::Global;
 
-/// What a walk keeps: the addresses that were resolved, and the looks that were made, with the set of their
-/// addresses and names.
+/// The looks that were made for a plan, with the set of their addresses and names.
 #[derive(Drop)]
-struct Books {
-    addresses: Addresses,
-    pairs: Pairs,
-    looks: Vec<Look>,
+pub(crate) struct Books {
+    pub(crate) pairs: Pairs,
+    pub(crate) looks: Vec<Look>,
 }
 
 /// The row of an entry of a registry, for whose name a look is made there, unless that was done.
@@ -42,27 +40,30 @@ fn registry_row<I: Index>(
     job: Job<'_>,
     entry: &Entry,
     registry: Option<&str>,
+    addresses: &mut Addresses,
     books: &mut Books,
     index: &mut IndexCache<I>,
 ) -> CargoResult<Row>
     requires source { (seen_of entry.now).source ≡ at_registry (given registry) }
-    requires addresses { AreAddresses job.configs.now books.old.addresses }
-    ensures addresses { OnOk result (AreAddresses job.entry.configs.now books.new.addresses) }
+    requires addresses { AreAddresses job.configs.now addresses.old }
+    ensures addresses { OnOk result (AreAddresses job.entry.configs.now addresses.new) }
     ensures step { OnOk result (IsEntryStep job.entry.configs.now (seen_of entry.now)
         (I.view (index_of index.old)).gives (kept_by index.old) (kept_by index.new)
         books.old.looks.items books.new.looks.items
         (holds_pair books.old.pairs) (holds_pair books.new.pairs)) }
     ensures row { IfOk result (λ r. IsRowBy (kept_basis job.entry.number job.entry.options.now
-        (numbers_in job.entry.rust_version) job.entry.configs.now (kept_by index.new)) (seen_of entry.now) (line_of r)) }
-    ensures left { Leaves (IsNeededFor job.entry.configs.now (seen_of entry.now)) (I.view (index_of index.old)).gives
+        (numbers_in job.entry.rust_version) job.entry.configs.now (kept_by index.new))
+        (seen_of entry.now) (line_of r)) }
+    ensures left { Leaves (IsNeededFor job.entry.configs.now (seen_of entry.now))
+        (I.view (index_of index.old)).gives
         (I.view (index_of index.new)).gives (I.view (index_of index.old)).faults
         (I.view (index_of index.new)).faults (kept_by index.old) (kept_by index.new) }
     ensures refused { IfErr result (λ e. IsMemory e
         ⊎ StopsAt job.entry.configs.now (I.view (index_of index.old)).gives (kept_by index.old)
         (I.view (index_of index.old)).faults (I.view (index_of index.new)).faults (seen_of entry.now) e) }
 {
-    books.addresses.see(alloc, job.configs, registry)?;
-    let Some(url) = books.addresses.url(registry) else {
+    addresses.see(alloc, job.configs, registry)?;
+    let Some(url) = addresses.url(registry) else {
         unreachable!()
     };
     let name = entry.name.as_str();
@@ -76,18 +77,21 @@ fn entry_row<I: Index>(
     alloc: Global,
     job: Job<'_>,
     entry: &Entry,
+    addresses: &mut Addresses,
     books: &mut Books,
     index: &mut IndexCache<I>,
 ) -> CargoResult<Row>
-    requires addresses { AreAddresses job.configs.now books.old.addresses }
-    ensures addresses { OnOk result (AreAddresses job.entry.configs.now books.new.addresses) }
+    requires addresses { AreAddresses job.configs.now addresses.old }
+    ensures addresses { OnOk result (AreAddresses job.entry.configs.now addresses.new) }
     ensures step { OnOk result (IsEntryStep job.entry.configs.now (seen_of entry.now)
         (I.view (index_of index.old)).gives (kept_by index.old) (kept_by index.new)
         books.old.looks.items books.new.looks.items
         (holds_pair books.old.pairs) (holds_pair books.new.pairs)) }
     ensures row { IfOk result (λ r. IsRowBy (kept_basis job.entry.number job.entry.options.now
-        (numbers_in job.entry.rust_version) job.entry.configs.now (kept_by index.new)) (seen_of entry.now) (line_of r)) }
-    ensures left { Leaves (IsNeededFor job.entry.configs.now (seen_of entry.now)) (I.view (index_of index.old)).gives
+        (numbers_in job.entry.rust_version) job.entry.configs.now (kept_by index.new))
+        (seen_of entry.now) (line_of r)) }
+    ensures left { Leaves (IsNeededFor job.entry.configs.now (seen_of entry.now))
+        (I.view (index_of index.old)).gives
         (I.view (index_of index.new)).gives (I.view (index_of index.old)).faults
         (I.view (index_of index.new)).faults (kept_by index.old) (kept_by index.new) }
     ensures refused { IfErr result (λ e. IsMemory e
@@ -96,9 +100,17 @@ fn entry_row<I: Index>(
 {
     match &entry.source {
         Source::Registry(Some(named)) => {
-            registry_row(alloc, job, entry, Some(named.as_str()), books, index)
+            registry_row(
+                alloc,
+                job,
+                entry,
+                Some(named.as_str()),
+                addresses,
+                books,
+                index,
+            )
         }
-        Source::Registry(None) => registry_row(alloc, job, entry, None, books, index),
+        Source::Registry(None) => registry_row(alloc, job, entry, None, addresses, books, index),
         Source::Git | Source::Path => {
             let row = row_for(alloc, job, entry, None)?;
             Ok(row)
@@ -106,18 +118,27 @@ fn entry_row<I: Index>(
     }
 }
 
-/// The looks that entries need, each once, and their rows over the answers that are kept.
+/// The looks that entries need, each once, added to those that were made; and the rows of the entries over
+/// the
+/// answers that are kept.
 pub(crate) fn walk<I: Index>(
     alloc: Global,
     job: Job<'_>,
     entries: &[Entry],
+    books: &mut Books,
     index: &mut IndexCache<I>,
-) -> CargoResult<(Vec<Look>, Vec<Row>)>
-    ensures looks { IfOk result (λ p. AreLooks (IsNeededIn job.entry.configs.now (map seen_of entries.now))
-        (I.view (index_of index.old)).gives (kept_by index.old) (kept_by index.new) p.0.items) }
-    ensures rows { IfOk result (λ p. AreDecided (kept_basis job.entry.number job.entry.options.now
+) -> CargoResult<Vec<Row>>
+    requires kept { AreKept (holds_pair books.old.pairs) (kept_by index.old) }
+    ensures kept { OnOk result (AreKept (holds_pair books.new.pairs) (kept_by index.new)) }
+    ensures steps { OnOk result (AreSteps job.entry.configs.now (I.view (index_of index.old)).gives
+        (map seen_of entries.now) (kept_by index.old) (kept_by index.new)
+        books.old.looks.items books.new.looks.items
+        (holds_pair books.old.pairs) (holds_pair books.new.pairs)) }
+    ensures passed { OnOk result
+        (All (IsPassed job.entry.configs.now (kept_by index.new)) (map seen_of entries.now)) }
+    ensures rows { IfOk result (λ v. AreDecided (kept_basis job.entry.number job.entry.options.now
         (numbers_in job.entry.rust_version) job.entry.configs.now (kept_by index.new))
-        (map seen_of entries.now) (map line_of p.1.items)) }
+        (map seen_of entries.now) (map line_of v.items)) }
     ensures left { Leaves (IsNeededIn job.entry.configs.now (map seen_of entries.now))
         (I.view (index_of index.old)).gives (I.view (index_of index.new)).gives
         (I.view (index_of index.old)).faults (I.view (index_of index.new)).faults
@@ -128,15 +149,11 @@ pub(crate) fn walk<I: Index>(
         (I.view (index_of index.old)).faults (I.view (index_of index.new)).faults
         (map seen_of entries.now) e) }
 {
-    let mut books = Books {
-        addresses: Addresses::new(alloc),
-        pairs: Pairs::new(alloc),
-        looks: Vec::new(alloc),
-    };
+    let mut addresses = Addresses::new(alloc);
     let mut rows = Vec::with_capacity(alloc, entries.len())?;
     'entries: for entry in entries {
-        let row = entry_row(alloc, job, entry, &mut books, index)?;
+        let row = entry_row(alloc, job, entry, &mut addresses, books, index)?;
         rows.push(row)?;
     }
-    Ok((books.looks, rows))
+    Ok(rows)
 }

@@ -115,9 +115,11 @@ y|string x/b|x = { # one\r\n  a = 1, # two\r\n  b = 'y'\r\n  , # three\r\n}\r\n~
 inline table|type x|x = { # a = 1\n}~\
 2|len x/a|x = {\n  a = [\n    1, # one\n    { b = 'c', },\n  ],\n}~\
 c|string x/a/#1/b|x = {\n  a = [\n    1, # one\n    { b = 'c', },\n  ],\n}~\
-x = { # one\r\n  a = 1, # two\r\n  b = \"z\"\r\n  , # three\r\n}\r\n|set x/b z|x = { # one\r\n  a = 1, # two\r\n  b = 'y'\r\n  , # three\r\n}\r\n~\
+x = { # one\r\n  a = 1, # two\r\n  b = \"z\"\r\n  , # three\r\n}\r\n|set x/b z|\
+x = { # one\r\n  a = 1, # two\r\n  b = 'y'\r\n  , # three\r\n}\r\n~\
 x = {\n  a = [\n    \"z\", # one\n  ],\n}|set x/a/#0 z|x = {\n  a = [\n    '''\n1''', # one\n  ],\n}~\
-x = {\n  a = [\n    1, # one\n    { b = \"z\", },\n  ],\n}|set x/a/#1/b z|x = {\n  a = [\n    1, # one\n    { b = 'c', },\n  ],\n}";
+x = {\n  a = [\n    1, # one\n    { b = \"z\", },\n  ],\n}|set x/a/#1/b z|\
+x = {\n  a = [\n    1, # one\n    { b = 'c', },\n  ],\n}";
 
 #[test]
 fn shows_and_sets_inline_tables_over_lines(rt: HostRuntime) -> Result<(), Fail> {

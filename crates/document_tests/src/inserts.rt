@@ -1,5 +1,6 @@
 //! Rows of members inserted: what the text is afterwards, the kind of value, the place, the name and the
 //! value, and the text before; a row ends at `~`.
+use super::pieces::pieces_hold;
 use super::shown::place_of;
 use edit_document::{CargoResult, Document, NewValue, Step};
 use std::alloc::Global;
@@ -92,7 +93,7 @@ fn value_of(alloc: Global, kind: &str, value: &str) -> Result<NewValue, Fail> {
 }
 
 /// Inserts a member where something without one of this name stands, and does nothing elsewhere.
-fn insert(
+pub(crate) fn insert(
     alloc: Global,
     document: &mut Document,
     place: &[Step],
@@ -108,7 +109,8 @@ fn insert(
     document.insert(alloc, place, key, value)
 }
 
-/// The text of a document with a member more, or the refusal, after which it has the text that it had.
+/// The text of a document with a member more, of which the pieces hold, or the refusal, after which it has
+/// the text that it had.
 fn inserted(alloc: Global, call: &str, source: &str) -> Result<String, Fail> {
     let (kind, rest) = call.split_once(' ').unwrap_or((call, ""));
     let (place, rest) = rest.split_once(' ').unwrap_or((rest, ""));
@@ -118,8 +120,12 @@ fn inserted(alloc: Global, call: &str, source: &str) -> Result<String, Fail> {
     let Ok(mut document) = Document::read(alloc, source) else {
         return text(alloc, "no document");
     };
+    let before = document.pieces();
     match insert(alloc, &mut document, &place, key, &value) {
-        Ok(()) => made(alloc, document.text(alloc)),
+        Ok(()) => {
+            pieces_hold(alloc, &document, before)?;
+            made(alloc, document.text(alloc))
+        }
         Err(_) if document.as_str() != source => text(alloc, "another text"),
         Err(error) => told(alloc, error),
     }

@@ -8,12 +8,27 @@ use test_rows::{TILDES, rows_hold};
 
 /// A member of an inline table, an array over several lines, a boolean, an element, and texts with quotes.
 const SET: &str = "\
-serde = { version = \"1\", features = [\"a\", \"b\"] }|list serde/features a,b|serde = { version = \"1\", features = [\"a\"] }~\
+serde = { version = \"1\", features = [\"a\", \"b\"] }|list serde/features a,b|\
+serde = { version = \"1\", features = [\"a\"] }~\
 [features]\nx = [\"other\"]\n|list features/x other|[features]\nx = [ # all\n 'dep', # one\n { y = 1 },\n]\n~\
 a = true # keep\r\n|flag a true|a = [1, 2] # keep\r\n~\
 [[p]]\nq.r = [1, [\"x\", \"y\"]]\n|list p/#0/q/r/#1 x,y|[[p]]\nq.r = [1, { z = 2 }]\n~\
 a = [\"x\\\"y\"]|list a x\"y|a = \"\"~\
 a = { b = \"say \\\"x\\\"\" }|text a/b say \"x\"|a = { b = false }";
+
+/// Each form of a value: the escapes of a string, the other control characters, what stays as it is, the
+/// empty string, both truths, and lists, an empty one too.
+const FORMS: &str = "\
+a = \"\\b\\t\\n\\f\\r\\\"\\\\\"|text a \u{8}\t\n\u{c}\r\"\\|a = 1~\
+a = \"\\u0000\\u0007\\u000B\\u001B\\u001F\\u007F\" # c|text a \0\u{7}\u{b}\u{1b}\u{1f}\u{7f}|\
+a = 1979-05-27 # c~\
+a = \"é '/\u{80}\"|text a é '/\u{80}|a = 1.5~\
+a = \"\"|text a |a = 'x'~\
+a = true|flag a true|a = false~\
+a = false # c\n|flag a false|a = { b = 1 } # c\n~\
+a = []|list a |a = [ 1, # c\n ]~\
+a = [\"a\"]|list a a|a = inf~\
+a = [\"a\", \"\", \"\\n\\u001B\", \"é\"]|list a a,,\n\u{1b},é|a = 0";
 
 /// A string, a boolean, lists, tables, keys that are not bare, and a dotted entry.
 const WRITTEN: &str = "\
@@ -24,7 +39,11 @@ true|flag true~\
 {}|table ~\
 { path = \"../bar\" }|table path=../bar~\
 { version = \"1.2\", \"a b\" = \"c\", \"\" = \"\" }|table version=1.2,a b=c,=~\
-{ workspace = true }|dotted";
+{ workspace = true }|dotted~\
+\"\\b\\t\\n\\f\\r\\\"\\\\\\u007F\"|text \u{8}\t\n\u{c}\r\"\\\u{7f}~\
+false|flag false~\
+[\"\", \"\\u001F\"]|list ,\u{1f}~\
+{ a-B_1 = \"\", \"é\" = \"\\u0000\", \"\\\"\" = \"'\" }|table a-B_1=,é=\0,\"='";
 
 /// The parts of a text between commas; the empty text has none.
 pub(crate) fn listed(alloc: Global, text: &str) -> Result<Vec<String>, AllocError> {
@@ -135,6 +154,11 @@ fn written(alloc: Global, kind: &str, value: &str) -> Result<String, Fail> {
 #[test]
 fn sets_values(rt: HostRuntime) -> Result<(), Fail> {
     rows_hold(rt.alloc(), SET, TILDES, set)
+}
+
+#[test]
+fn sets_each_form(rt: HostRuntime) -> Result<(), Fail> {
+    rows_hold(rt.alloc(), FORMS, TILDES, set)
 }
 
 #[test]

@@ -48,7 +48,8 @@ const REFUSALS: &str = "\
 35 invalid `registry` field|35|~\
 36 Invalid workspace metadata|36|~\
 37 Two members share the folder /w/a|37|/w/a~\
-38 Found virtual manifest, but this command requires running against an actual package in this workspace. Try adding `--workspace`.|38|~\
+38 Found virtual manifest, but this command requires running against an actual package in this workspace. \
+Try adding `--workspace`.|38|~\
 39 package a doesn't exist|39|a~\
 39 packages a, b don't exist|39|a@b~\
 40 Cannot exclude a, b package(s) when c, d package(s) modify `workspace.package.version`|40|a, b@c, d~\
@@ -56,8 +57,12 @@ const REFUSALS: &str = "\
 42 cannot upgrade due to `--locked`|42|~\
 43 dependency a doesn't exist|43|a~\
 43 dependencies a, b, c don't exist|43|a@b@c~\
-44 `cargo add` has been merged into cargo 1.62+ as of cargo-edit 0.10, either\n- Upgrade cargo, like with `rustup update`\n- Downgrade `cargo-edit`, like with `cargo install cargo-edit --version 0.9.1`|44|add~\
-44 `cargo rm` has been merged into cargo 1.66+ as of cargo-edit 0.12, either\n- Upgrade cargo, like with `rustup update`\n- Downgrade `cargo-edit`, like with `cargo install cargo-edit --version 0.11`|44|rm~\
+44 `cargo add` has been merged into cargo 1.62+ as of cargo-edit 0.10, either\n\
+- Upgrade cargo, like with `rustup update`\n\
+- Downgrade `cargo-edit`, like with `cargo install cargo-edit --version 0.9.1`|44|add~\
+44 `cargo rm` has been merged into cargo 1.66+ as of cargo-edit 0.12, either\n\
+- Upgrade cargo, like with `rustup update`\n\
+- Downgrade `cargo-edit`, like with `cargo install cargo-edit --version 0.11`|44|rm~\
 45 Failed to write message|45|~\
 46 out of memory|46|~\
 47 error: unexpected argument '--x' found\n\nUsage: edit\n\nFor more information, try '--help'.\n|47|~\

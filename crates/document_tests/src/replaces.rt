@@ -4,6 +4,8 @@ ghost use Rattle.std.specs.Prelude.{IfOk};
 ghost use Rattle.edit_document.specs.NewItems.{IsEntry};
 ghost use Rattle.edit_document.specs.NewItemViews.{item_seen};
 
+use super::new_items::listed;
+use super::pieces::pieces_hold;
 use super::shown::place_of;
 use edit_document::{CargoResult, Document, NewItem, NewValue, Step};
 use std::alloc::{AllocError, Global};
@@ -25,6 +27,25 @@ x = \"2\"\r\ny = 2|x text 2|x = \"\"\"\r\na\r\n\"\"\"\r\ny = 2~\
 x.workspace = true|x dotted|x = \"1\"~\
 x.workspace = true # c\r\n|x dotted|x = { version = \"1\" } # c\r\n~\
 x = \"say \\\"x\\\"\"|x text say \"x\"|x = true";
+
+/// What is written, each form of it: the escapes of a string, the other control characters, what stays as it
+/// is, truths, lists, an empty one too, a table with members and without, keys that are bare and that are
+/// not, and a dotted entry.
+const FORMS: &str = "\
+x = \"\\b\\t\\n\\f\\r\\\"\\\\\"|x text \u{8}\t\n\u{c}\r\"\\|x = 1~\
+x = \"\\u0000\\u0007\\u000B\\u001B\\u001F\\u007F\" # c|x text \0\u{7}\u{b}\u{1b}\u{1f}\u{7f}|x = 1 # c~\
+x = \"é '/\u{80}\"|x text é '/\u{80}|x = [1]~\
+x = \"\"\n|x text |x = 1\n~\
+x = true|x flag true|x = false~\
+x = false # c\n|x flag false|x = [ 1 ] # c\n~\
+x = []|x list |x = \"1\"~\
+x = [\"a\"]|x list a|x = {}~\
+x = [\"a\", \"\", \"\\n\\u001B\"] # c\n|x list a,,\n\u{1b}|x = 1 # c\n~\
+x = {}|x table |x = { a = 1 }~\
+x = { a-B_1 = \"2\", optional = true, default = false }|x table a-B_1=2,optional=true,default=false|x = 1~\
+x = { \"a b\" = \"1\", \"é\" = \"2\", \"\" = \"3\", \"a.b\" = \"4\" }|x table a b=1,é=2,=3,a.b=4|x = 1~\
+x = { \"\\\"\\u001F\\\\\" = \"\\t\" }|x table \"\u{1f}\\=\t|x = 1~\
+x.workspace = true|x dotted|x = true";
 
 /// Keys: up to the part that names the place all stays as it is written, and the parts behind it go. Keys are
 /// quoted or literal, have white space about their dots, and have parts with dots in them.
@@ -62,10 +83,11 @@ const REFUSED: &str = "\
 49 Edit would change more than its place|x table a=1,a=2|x = 1\n~\
 49 Edit would change more than its place|x/y table a=1,b=2,a=3|x = { y = 1 }";
 
-/// A string, or a truth for the word.
+/// A string, or a truth for its word.
 fn value_of(alloc: Global, word: &str) -> Result<NewValue, AllocError> {
-    if word == "true" {
-        return Ok(NewValue::Bool(true));
+    let is_true = word == "true";
+    if is_true || word == "false" {
+        return Ok(NewValue::Bool(is_true));
     }
     Ok(NewValue::Str(String::from_str(alloc, word)?))
 }
@@ -92,7 +114,7 @@ fn dotted_item(alloc: Global) -> Result<NewItem, AllocError>
     })
 }
 
-/// The entry of a kind: a table, a list of one string, a dotted one, or else a string or a truth.
+/// The entry of a kind: a table, a list of strings, a dotted one, or else a string or a truth.
 fn item_of(alloc: Global, kind: &str, value: &str) -> Result<NewItem, AllocError>
     ensures { IfOk result (λ item. IsEntry (item_seen item)) }
 {
@@ -101,18 +123,14 @@ fn item_of(alloc: Global, kind: &str, value: &str) -> Result<NewItem, AllocError
             members: members_of(alloc, value)?,
             dotted: false,
         }),
-        "list" => {
-            let mut list = Vec::new(alloc);
-            list.push(String::from_str(alloc, value)?)?;
-            Ok(NewItem::Value(NewValue::Strings(list)))
-        }
+        "list" => Ok(NewItem::Value(NewValue::Strings(listed(alloc, value)?))),
         "dotted" => dotted_item(alloc),
         _ => Ok(NewItem::Value(value_of(alloc, value)?)),
     }
 }
 
 /// Replaces the entry at a place that one statement names, and of at most 70 steps.
-fn replace(
+pub(crate) fn replace(
     alloc: Global,
     document: &mut Document,
     place: &[Step],
@@ -127,8 +145,8 @@ fn replace(
     Ok(true)
 }
 
-/// The text of a document with another entry at a place, or what the refusal says; then the document is as it
-/// was.
+/// The text of a document with another entry at a place, of which the pieces hold, or what the refusal says;
+/// then the document is as it was.
 fn replaced(alloc: Global, call: &str, text: &str) -> Result<String, Fail> {
     let (place, rest) = call.split_once(' ').unwrap_or((call, ""));
     let (kind, value) = rest.split_once(' ').unwrap_or((rest, ""));
@@ -136,8 +154,12 @@ fn replaced(alloc: Global, call: &str, text: &str) -> Result<String, Fail> {
     let Ok(mut document) = Document::read(alloc, text) else {
         return Ok(String::from_str(alloc, "no document")?);
     };
+    let before = document.pieces();
     match replace(alloc, &mut document, &place, kind, value) {
-        Ok(true) => Ok(String::from_str(alloc, document.as_str())?),
+        Ok(true) => {
+            pieces_hold(alloc, &document, before)?;
+            Ok(String::from_str(alloc, document.as_str())?)
+        }
         Ok(false) => Ok(String::from_str(alloc, "not one statement")?),
         Err(error) if document.as_str() == text => told(alloc, error),
         Err(_) => Ok(String::from_str(alloc, "changed")?),
@@ -147,6 +169,11 @@ fn replaced(alloc: Global, call: &str, text: &str) -> Result<String, Fail> {
 #[test]
 fn replaces_entries_in_lines(rt: HostRuntime) -> Result<(), Fail> {
     rows_hold(rt.alloc(), IN_LINES, TILDES, replaced)
+}
+
+#[test]
+fn replaces_by_each_form(rt: HostRuntime) -> Result<(), Fail> {
+    rows_hold(rt.alloc(), FORMS, TILDES, replaced)
 }
 
 #[test]

@@ -33,8 +33,11 @@ no|read two digits|a = \"\\u12\"~\
 no|read a basic string on two lines|a = \"b\nc\"~\
 no|read a literal string on two lines|a = 'b\nc'~\
 no|read an apostrophe in a literal string|a = 'b'c'~\
-yes|read literal strings|winpath = 'C:\\Users\\nodejs\\templates'\nquoted = 'Tom \"Dubs\" Preston-Werner'\nregex = '<\\i\\c*\\s*>'\n~\
-yes|read comments|# This is a full-line comment\nkey = \"value\"  # This is a comment at the end of a line\nanother = \"# This is not a comment\"\n~\
+yes|read literal strings|\
+winpath = 'C:\\Users\\nodejs\\templates'\nquoted = 'Tom \"Dubs\" Preston-Werner'\nregex = '<\\i\\c*\\s*>'\n~\
+yes|read comments|\
+# This is a full-line comment\nkey = \"value\"  # This is a comment at the end of a line\n\
+another = \"# This is not a comment\"\n~\
 yes|read a tab in a comment|#\ta\n~\
 no|read a control character in a comment|# \u{1}\n~\
 no|read a deleted character in a comment|# \u{7f}\n~\

@@ -75,7 +75,8 @@ no|string a|a = \"\"\"b\rc\"\"\"~\
 no|string a|a = \"\"\"b\\ c\"\"\"~\
 no|string a|a = \"\"\"b\\q\"\"\"~\
 no|string a|a = '''\u{7}'''~\
-\u{8}\t\n\u{c}\r\"\\\u{e9}\u{1f600}|string \"a\"|\"\\\"a\\\"\" = \"\\b\\t\\n\\f\\r\\\"\\\\\\u00e9\\U0001F600\"\n";
+\u{8}\t\n\u{c}\r\"\\\u{e9}\u{1f600}|string \"a\"|\
+\"\\\"a\\\"\" = \"\\b\\t\\n\\f\\r\\\"\\\\\\u00e9\\U0001F600\"\n";
 
 #[test]
 fn reads_strings(rt: HostRuntime) -> Result<(), Fail> {

@@ -1,9 +1,11 @@
 //! The program `cargo-edit`.
 #![tactic(auto)]
 
+use edit_base::paths::join;
 use edit_base::{CargoResult, Error};
 use edit_program::run;
 use edit_sources::HostStore;
+use std::env::VarError;
 use std::io::{ErrorKind, Write};
 use std::process::ExitCode;
 use std::{env, io};
@@ -28,18 +30,41 @@ fn start(rt: &HostRuntime) -> CargoResult<u8> {
     let Some(current) = current.as_path().to_str() else {
         return Err(Error::NotUtf8);
     };
+    let home = cargo_home(rt)?;
     let mut files = HostStore::new(rt.clone()?);
     let index_files = HostStore::new(rt.clone()?);
     Ok(run(
         alloc,
         texts.as_slice(),
         current,
-        None,
+        home.as_deref(),
         &mut files,
         index_files,
         &mut rt.stdout(),
         &mut rt.stderr(),
     ))
+}
+
+/// The home of cargo: `CARGO_HOME`, else `.cargo` in `HOME`, else none. An empty variable counts as absent.
+fn cargo_home(rt: &HostRuntime) -> CargoResult<Option<String>> {
+    if let Some(home) = variable(rt, "CARGO_HOME")? {
+        return Ok(Some(home));
+    }
+    match variable(rt, "HOME")? {
+        Some(home) => Ok(Some(join(rt.alloc(), home.as_str(), ".cargo")?)),
+        None => Ok(None),
+    }
+}
+
+/// A variable of the environment, where it is there and not empty.
+fn variable(rt: &HostRuntime, name: &str) -> CargoResult<Option<String>> {
+    match env::var(rt, name) {
+        Ok(text) if text.is_empty() => Ok(None),
+        Ok(text) => Ok(Some(text)),
+        Err(VarError::NotPresent) => Ok(None),
+        Err(VarError::NotUnicode) => Err(Error::NotUtf8),
+        Err(VarError::OutOfMemory) => Err(Error::Memory),
+    }
 }
 
 /// A fault of the machine, as a refusal.

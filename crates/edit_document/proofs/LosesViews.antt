@@ -112,34 +112,29 @@ but_steps t ms ns size there back none = record {
       any_at s ns b.0 b.1));
 }
 
+-- the second shows the first without the part t
+abbrev ShowsBut : Step → View → View → Type 0
+ShowsBut t v w = (kind_of v ≡ kind_of w) × (count_in v ≡ suc (count_in w)) × (8 ≤ kind_of v → PartsBut t v w)
+
+shows_but : (t : Step) (a b v w : View) → a ≡ v → b ≡ w → ShowsBut t a b → ShowsBut t v w
+shows_but t a b v w e f h = subst (λ x. ShowsBut t x w) e (subst (ShowsBut t a) f h)
+
 loses_any : (t : Step) (o p : Option View) (v w : View) → Loses t o p → o ≡ Some v → p ≡ Some w
-    → (kind_of v ≡ kind_of w) × (count_in v ≡ suc (count_in w)) × (8 ≤ kind_of v → PartsBut t v w)
+    → ShowsBut t v w
 loses_any t _ _ v w (from_table ms ns h) e f =
     let r = steps_but t ms ns h in
-    subst (λ x. (kind_of x ≡ kind_of w) × (count_in x ≡ suc (count_in w)) × (8 ≤ kind_of x → PartsBut t x w))
-    (same_Some (table ms) v e)
-    (subst (λ y. (9 ≡ kind_of y) × (length ms ≡ suc (count_in y)) × (8 ≤ 9 → PartsBut t (table ms) y))
-    (same_Some (table ns) w f)
-    (refl, h.count, λ big. record { there = r.0; back = r.1; none = r.2 }))
+    shows_but t (table ms) (table ns) v w (same_Some (table ms) v e) (same_Some (table ns) w f)
+    (refl, h.count, λ big. record { there = r.0; back = r.1; none = r.2 })
 loses_any t _ _ v w (from_inline_table ms ns h) e f =
     let r = steps_but t ms ns h in
-    subst (λ x. (kind_of x ≡ kind_of w) × (count_in x ≡ suc (count_in w)) × (8 ≤ kind_of x → PartsBut t x w))
-    (same_Some (inline_table ms) v e)
-    (subst (λ y. (8 ≡ kind_of y) × (length ms ≡ suc (count_in y)) × (8 ≤ 8 → PartsBut t (inline_table ms) y))
-    (same_Some (inline_table ns) w f)
-    (refl, h.count, λ big. record { there = r.0; back = r.1; none = r.2 }))
+    shows_but t (inline_table ms) (inline_table ns) v w (same_Some (inline_table ms) v e)
+    (same_Some (inline_table ns) w f) (refl, h.count, λ big. record { there = r.0; back = r.1; none = r.2 })
 loses_any t _ _ v w (from_array n) e f =
-    subst (λ x. (kind_of x ≡ kind_of w) × (count_in x ≡ suc (count_in w)) × (8 ≤ kind_of x → PartsBut t x w))
-    (same_Some (static_array (suc n)) v e)
-    (subst (λ y. (6 ≡ kind_of y) × (suc n ≡ suc (count_in y)) × (8 ≤ 6 → PartsBut t (static_array (suc n)) y))
-    (same_Some (static_array n) w f)
-    (refl, refl, λ big. absurd (omega (arith, big))))
+    shows_but t (static_array (suc n)) (static_array n) v w (same_Some (static_array (suc n)) v e)
+    (same_Some (static_array n) w f) (refl, refl, λ big. absurd (omega (arith, big)))
 loses_any t _ _ v w (from_table_array n) e f =
-    subst (λ x. (kind_of x ≡ kind_of w) × (count_in x ≡ suc (count_in w)) × (8 ≤ kind_of x → PartsBut t x w))
-    (same_Some (table_array (suc n)) v e)
-    (subst (λ y. (7 ≡ kind_of y) × (suc n ≡ suc (count_in y)) × (8 ≤ 7 → PartsBut t (table_array (suc n)) y))
-    (same_Some (table_array n) w f)
-    (refl, refl, λ big. absurd (omega (arith, big))))
+    shows_but t (table_array (suc n)) (table_array n) v w (same_Some (table_array (suc n)) v e)
+    (same_Some (table_array n) w f) (refl, refl, λ big. absurd (omega (arith, big)))
 
 pub loses_kind : (t : Step) (v w : View) → Loses t (Some v) (Some w) → kind_of v ≡ kind_of w
 loses_kind t v w h = (loses_any t (Some v) (Some w) v w h refl refl).0

@@ -10,10 +10,11 @@ use Rattle.edit_syntax.specs.Grammar.{Value, integer, float, datetime, value, Is
 use Rattle.edit_syntax.specs.Reading.{◌>>=◌}
 use Rattle.edit_document.specs.Nodes.{shape_said}
 use Rattle.edit_document.specs.DocumentLayout.{span_of, shape_of_value}
+use Rattle.edit_syntax.specs.Decoding.{Says, delimited}
 use Rattle.edit_syntax.specs.Noting.{value_kind}
 use Rattle.edit_syntax.specs.Marks.{mark}
 use Rattle.edit_document.specs.Walk.{said, suffix, as_text, State, entered, step}
-use Rattle.edit_document.specs.WalkState.{IsToken}
+use Rattle.edit_document.specs.WalkState.{IsToken, SaysAt}
 use Rattle.edit_syntax.proofs.DigitLaws.{IsNumber}
 use Rattle.edit_syntax.proofs.ValueEdges.{value_rest, integer_ascii, float_ascii, datetime_ascii}
 use Rattle.edit_document.proofs.Ends.{Ends, Small, ascii_text}
@@ -62,54 +63,31 @@ number_said bytes (datetime d) rest h s ends = plain_told kinds.DateTime bytes (
     (value (datetime d) []) (value_rest (datetime d) rest) (number_plain (datetime d) h s) ends
 number_said bytes _ rest h s ends = absurd s
 
+-- a token that nothing delimits stands in the text with this meaning
+token_at : (k : MarkKind) (bytes text word rest : List ℕ) → text ≡ word ++ rest
+    → delimited k word rest ≡ word ++ rest → Says k word word → (ends : Ends bytes text)
+    → said bytes (mark k text rest) ≡ Some word
+    → (name : List ℕ) × (said bytes (mark k text rest) ≡ Some name) × SaysAt bytes (mark k text rest) name
+token_at k bytes text word rest e d says ends is =
+    let whole = e ∙ sym d in
+    let at = ends.1 ∙ ap (λ (t : List ℕ). ends.0 ++ t) whole in
+    (word, is, (ends.0, word, rest, at, ap length whole, refl, says))
+
 -- the mark of a number is the mark of a token
 pub number_token : (bytes : List ℕ) (v : Value) (rest : List ℕ) → IsValue v → IsNumber v
     → Ends bytes (value v rest) → IsToken bytes (number_mark v rest)
 number_token bytes (integer n) rest h s ends e =
-    let w = value_rest (integer n) rest in
-    let a = number_plain (integer n) h s in (
-      value (integer n) [],
-      number_said bytes (integer n) rest h s ends,
-      (
-        ends.0,
-        value (integer n) [],
-        rest,
-        ends.1 ∙ ap (λ (t : List ℕ). ends.0 ++ t) w,
-        ap length w,
-        refl,
-        (a.0, a.1, refl),
-      ),
-    )
+    let a = number_plain (integer n) h s in
+    token_at kinds.Integer bytes (value (integer n) rest) (value (integer n) []) rest
+    (value_rest (integer n) rest) refl (a.0, a.1, refl) ends (number_said bytes (integer n) rest h s ends)
 number_token bytes (float f) rest h s ends e =
-    let w = value_rest (float f) rest in
-    let a = number_plain (float f) h s in (
-      value (float f) [],
-      number_said bytes (float f) rest h s ends,
-      (
-        ends.0,
-        value (float f) [],
-        rest,
-        ends.1 ∙ ap (λ (t : List ℕ). ends.0 ++ t) w,
-        ap length w,
-        refl,
-        (a.0, a.1, refl),
-      ),
-    )
+    let a = number_plain (float f) h s in
+    token_at kinds.Float bytes (value (float f) rest) (value (float f) []) rest
+    (value_rest (float f) rest) refl (a.0, a.1, refl) ends (number_said bytes (float f) rest h s ends)
 number_token bytes (datetime d) rest h s ends e =
-    let w = value_rest (datetime d) rest in
-    let a = number_plain (datetime d) h s in (
-      value (datetime d) [],
-      number_said bytes (datetime d) rest h s ends,
-      (
-        ends.0,
-        value (datetime d) [],
-        rest,
-        ends.1 ∙ ap (λ (t : List ℕ). ends.0 ++ t) w,
-        ap length w,
-        refl,
-        (a.0, a.1, refl),
-      ),
-    )
+    let a = number_plain (datetime d) h s in
+    token_at kinds.DateTime bytes (value (datetime d) rest) (value (datetime d) []) rest
+    (value_rest (datetime d) rest) refl (a.0, a.1, refl) ends (number_said bytes (datetime d) rest h s ends)
 number_token bytes _ rest h s ends e = absurd s
 
 -- the walk takes the mark of a number for what it shows

@@ -11,7 +11,7 @@ use Rattle.edit_document.specs.DocumentLayout.{placed, Placed, IsRead}
 use Rattle.edit_document.specs.Nodes.{Shape, listed, inline as inlined, section, sections, Spot, names_of, view_of_shape, below, IsTree}
 use Rattle.edit_document.specs.Items.{place_numbered, view_numbered}
 use Rattle.edit_document.specs.Shown.{Shown, tree_of, node_at}
-use Rattle.edit_document.specs.Compared.{nth_part, AreSteps, AreNames, AreKeys}
+use Rattle.edit_document.specs.Compared.{nth_part, AreSteps, AreNames, AreKeys, IsWhole}
 use Rattle.edit_document.proofs.SamePlace.{not_root, last_same}
 use Rattle.edit_syntax.proofs.ListElements.{slice_get_same}
 use Rattle.edit_document.proofs.Views.{view_of_spot, Opened, opened, Found, view_spot, tree_spot, node_none}
@@ -135,19 +135,9 @@ short_spot made written spots n s st here = go s.place refl
 
 -- ---- what a document tells of a node
 
-pub record Whole (d : Shown) (number : ℕ) : Type 0 where
-  pub parts : (step : Step) → ((i : ℕ) → nth_part (view_numbered d number) i ≡ Some step → ⊥)
-      → tree_of d (at (place_numbered d number) step) ≡ None
-  pub stands : (step : Step) (i : ℕ) → nth_part (view_numbered d number) i ≡ Some step
-      → tree_of d (at (place_numbered d number) step) ≡ None → ⊥
-  pub steps : AreSteps (view_numbered d number)
-  pub names : AreNames (view_numbered d number)
-  pub keys : AreKeys (view_numbered d number)
-  pub short : length (place_numbered d number) ≤ 80
-
 whole_of : (d : Shown) (nodes : List Node) (made : List Assertion) (written : List Placed) (n : ℕ)
     (node : Node) (opens : Opened d nodes) → Found d nodes opens.spots n node → AreUnder made made
-    → Stands made written opens.spots → Whole d n
+    → Stands made written opens.spots → IsWhole d n
 whole_of d nodes made written n node opens f under st = record {
   parts = λ step none.
       ap (λ (p : Place). tree_of d (at p step)) f.place
@@ -176,7 +166,7 @@ whole_of d nodes made written n node opens f under st = record {
 
 pub whole : (inside : Inside) (d : Shown) (n : ℕ) (node : Node) (read : IsRead inside)
     (view : shown_of inside ≡ d) → IsUtf8 (string_bytes inside.text)
-    → Found d inside.nodes.items (opened inside d read view).spots n node → Whole d n
+    → Found d inside.nodes.items (opened inside d read view).spots n node → IsWhole d n
 unfolding opened
 whole inside d n node read view u f = whole_of d inside.nodes.items (assertions read.form)
     (map placed (values read.form)) n node (opened inside d read view) f (under_tables read.form)

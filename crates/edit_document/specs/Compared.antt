@@ -1,5 +1,5 @@
 -- When two documents show the same at a place and below it.
-use Rattle.std.specs.Prelude.{Bool, ◌≡◌, ℕ, ◌<◌, true, false, nat_lt, if◌then◌else◌, List, ◌∷◌, [], ◌++◌, length, slice_get, Option, Some, None, MatchOption, ◌⊎◌, map, ⊤}
+use Rattle.std.specs.Prelude.{Bool, ◌≡◌, ℕ, ◌<◌, ◌≤◌, true, false, nat_lt, if◌then◌else◌, List, ◌∷◌, [], ◌++◌, length, slice_get, Option, Some, None, MatchOption, ◌⊎◌, map, ⊤}
 use Rattle.edit_document.specs.Assertions.{Step, key, index, Place, at}
 use Rattle.edit_document.specs.Tree.{View, string, truth, whole, fractional, moment, static_array, table_array, inline_table, table}
 use Rattle.edit_document.specs.Shown.{Shown, tree_of}
@@ -109,6 +109,17 @@ abbrev pub AreKeys : View → Type 0
 AreKeys (inline_table ms) = ms ≡ map key (key_names ms)
 AreKeys (table ms) = ms ≡ map key (key_names ms)
 AreKeys v = ⊤
+
+-- members and elements stand below a node, and nothing else; it has at most 80 steps from the root
+pub record IsWhole (d : Shown) (number : ℕ) : Type 0 where
+  pub parts : (step : Step) → ((i : ℕ) → nth_part (view_numbered d number) i ≡ Some step → ⊥)
+      → tree_of d (at (place_numbered d number) step) ≡ None
+  pub stands : (step : Step) (i : ℕ) → nth_part (view_numbered d number) i ≡ Some step
+      → tree_of d (at (place_numbered d number) step) ≡ None → ⊥
+  pub steps : AreSteps (view_numbered d number)
+  pub names : AreNames (view_numbered d number)
+  pub keys : AreKeys (view_numbered d number)
+  pub short : length (place_numbered d number) ≤ 80
 
 -- at a part of this number the same stands as where its step leads to from another node
 abbrev pub SamePart : Shown → ℕ → Shown → ℕ → ℕ → Type 0

@@ -1,10 +1,8 @@
 //! Whether two documents show the same at a place and below it.
-ghost use Rattle.std.specs.Prelude.{◌≡◌, ◌<◌, ◌≤◌, ◌+◌, ℕ, Some, None, length, option_map};
+ghost use Rattle.std.specs.Prelude.{◌≡◌, ◌<◌, ◌≤◌, ◌+◌, length, option_map};
 ghost use Rattle.std.specs.Bool.{Decides};
-ghost use Rattle.edit_document.specs.Assertions.{Step as StepSeen, at};
-ghost use Rattle.edit_document.specs.Compared.{SameBelow, kind_of, word_of, nth_part, AreSteps, AreNames, AreKeys, NumbersPart};
+ghost use Rattle.edit_document.specs.Compared.{IsWhole, NumbersPart, SameBelow, kind_of, word_of};
 ghost use Rattle.edit_document.specs.Items.{place_numbered, view_numbered, names_in};
-ghost use Rattle.edit_document.specs.Shown.{tree_of};
 
 use crate::document::Document;
 use crate::nodes::{Content, cut, words_in};
@@ -65,15 +63,7 @@ impl Document {
     /// the root. It does nothing.
     pub(crate) fn is_whole(&self, number: usize)
         requires { number < length self.now.nodes }
-        ensures parts { (step : StepSeen)
-            → ((i : ℕ) → nth_part (view_numbered self.now number) i ≡ Some step → ⊥)
-            → tree_of self.now (at (place_numbered self.now number) step) ≡ None }
-        ensures stands { (step : StepSeen) → (i : ℕ) → nth_part (view_numbered self.now number) i ≡ Some step
-            → tree_of self.now (at (place_numbered self.now number) step) ≡ None → ⊥ }
-        ensures steps { AreSteps (view_numbered self.now number) }
-        ensures names { AreNames (view_numbered self.now number) }
-        ensures keys { AreKeys (view_numbered self.now number) }
-        ensures short { length (place_numbered self.now number) ≤ 80 }
+        ensures { IsWhole self.now number }
     {
         let _text = self.text.as_str();
         let _node = &self.nodes[number];

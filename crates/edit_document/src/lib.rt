@@ -44,4 +44,4 @@ pub use edit_base::{
 };
 pub use item::{Item, Keys};
 pub use new_item::{NewItem, NewValue};
-pub use place::{Place, Step};
+pub use place::{Place, Step, copied_place, member_place};

@@ -1,11 +1,11 @@
 -- The places of entries: each is the front of every place at or below it, so that no entry stands in another.
-use Rattle.std.proofs.Common.{◌≡◌, ℕ, List, [], ◌∷◌, ◌++◌, Bool, true, false, refl, ap, sym, ◌∙◌, subst, inl, inr, ◌⊎◌, take, append-nil}
-use Rattle.std.specs.Prelude.{◌||◌, codes, if◌then◌else◌, option_to_list}
+use Rattle.std.proofs.Common.{◌≡◌, ℕ, List, [], ◌∷◌, ◌++◌, Bool, true, false, refl, ap, sym, ◌∙◌, inl, inr, ◌⊎◌, take, append-nil}
+use Rattle.std.specs.Prelude.{◌||◌, codes}
 use Rattle.std.specs.List.{AllByRecursion, flat_map}
 use Rattle.std.specs.Str.{bytes_eq}
 use Rattle.std.proofs.lemmas.Bool.{cases_Bool}
-use Rattle.edit_document.specs.Assertions.{Place, Step, at, key, index, same_bytes, same_place, same_step}
-use Rattle.edit_document.proofs.SamePlace.{other_place, same_place_is, same_place_self, same_step_self}
+use Rattle.edit_document.specs.Assertions.{Place, Step, at, key, index, same_bytes, same_place}
+use Rattle.edit_document.proofs.SamePlace.{same_place_is, same_step_self}
 use Rattle.edit_manifest.specs.Kinds.{is_kind, kind_name}
 use Rattle.edit_manifest.specs.Tables.{Tree, dependency_tables, is_table_like, keyed, member_names, shared, tables_at, tables_of_target, tables_under, target_table, target_tables}
 use Rattle.edit_manifest.specs.declared.dep_table.DepKind.TheVariants.{Build, Development, Normal}
@@ -37,19 +37,22 @@ front (key name ∷ rest) = take (steps_below name) (key name ∷ rest)
 
 -- each kind's name is another one than these two
 kind-steps : (k : List ℕ) → is_kind k ≡ true → steps_below k ≡ 2
-kind-steps k h = elim (or-cases (bytes_eq k (kind_name Normal)) (bytes_eq k (kind_name Development) || bytes_eq k (kind_name Build)) h) [
-  | inl normal ↦ ap steps_below (bytes-is k (kind_name Normal) normal)
-  | inr more ↦ elim (or-cases (bytes_eq k (kind_name Development)) (bytes_eq k (kind_name Build)) more) [
-    | inl dev ↦ ap steps_below (bytes-is k (kind_name Development) dev)
-    | inr build ↦ ap steps_below (bytes-is k (kind_name Build) build)
-  ]
-]
+kind-steps k h =
+    elim (or-cases (bytes_eq k (kind_name Normal))
+    (bytes_eq k (kind_name Development) || bytes_eq k (kind_name Build)) h) [
+      | inl normal ↦ ap steps_below (bytes-is k (kind_name Normal) normal)
+      | inr more ↦ elim (or-cases (bytes_eq k (kind_name Development)) (bytes_eq k (kind_name Build)) more) [
+        | inl dev ↦ ap steps_below (bytes-is k (kind_name Development) dev)
+        | inr build ↦ ap steps_below (bytes-is k (kind_name Build) build)
+      ]
+    ]
 
 take-two : (n : ℕ) (a b : Step) (rest : Place) → n ≡ 2 → take n (a ∷ b ∷ rest) ≡ a ∷ b ∷ []
 take-two n a b rest h = ap (λ (m : ℕ). take m (a ∷ b ∷ rest)) h
 
 -- the front of a place at or below an entry is the entry's
-pub front-of : (table : Place) (name : List ℕ) (rest : Place) → IsTable table → front (at table (key name) ++ rest) ≡ at table (key name)
+pub front-of : (table : Place) (name : List ℕ) (rest : Place) → IsTable table
+    → front (at table (key name) ++ rest) ≡ at table (key name)
 front-of _ name rest (of_kind k h) = take-two (steps_below k) (key k) (key name) rest (kind-steps k h)
 front-of _ name rest of_workspace = refl
 front-of _ name rest (of_target x k h) = refl
@@ -84,16 +87,20 @@ other-by : (p table : Place) (name : List ℕ) (rest : Place) (l : IsLiteral p) 
     → p ≡ at table (key name) ++ rest → same_place p (at table (key name) ++ rest) ≡ false
 other-by p table name rest l is o e =
     let entry = at table (key name) in
-    let same : at l.table (key l.name) ≡ entry = sym (literal-front p l.table l.name l.is l.at) ∙ ap front e ∙ front-of table name rest is in
+    let same : at l.table (key l.name) ≡ entry = sym (literal-front p l.table l.name l.is l.at) ∙ ap front e
+    ∙ front-of table name rest is in
     elim l.at [
       | inl here ↦
-          ap (λ (q : Place). same_place q (entry ++ rest)) (here ∙ same ∙ sym (append-nil entry)) ∙ same-front entry [] rest ∙ o.whole
+          ap (λ (q : Place). same_place q (entry ++ rest)) (here ∙ same ∙ sym (append-nil entry))
+          ∙ same-front entry [] rest ∙ o.whole
       | inr below ↦
-          ap (λ (q : Place). same_place q (entry ++ rest)) (below ∙ ap version_place same) ∙ same-front entry (key (codes "version") ∷ []) rest ∙ o.version
+          ap (λ (q : Place). same_place q (entry ++ rest)) (below ∙ ap version_place same)
+          ∙ same-front entry (key (codes "version") ∷ []) rest ∙ o.version
     ]
 
 -- no literal stands there
-pub literal-other : (p table : Place) (name : List ℕ) (rest : Place) → IsLiteral p → IsTable table → IsOther rest
+pub literal-other : (p table : Place) (name : List ℕ) (rest : Place) → IsLiteral p → IsTable table
+    → IsOther rest
     → same_place p (at table (key name) ++ rest) ≡ false
 literal-other p table name rest l is o = elim (cases_Bool (same_place p (at table (key name) ++ rest))) [
   | inl same ↦ other-by p table name rest l is o (same_place_is p (at table (key name) ++ rest) same)
@@ -102,16 +109,19 @@ literal-other p table name rest l is o = elim (cases_Bool (same_place p (at tabl
 
 -- ---- the tables of a tree
 
-all-append : {A : Type 0} (P : A → Type 0) (xs ys : List A) → AllByRecursion P xs → AllByRecursion P ys → AllByRecursion P (xs ++ ys)
+all-append : {A : Type 0} (P : A → Type 0) (xs ys : List A) → AllByRecursion P xs → AllByRecursion P ys
+    → AllByRecursion P (xs ++ ys)
 all-append P [] ys h g = g
 all-append P (x ∷ xs) ys h g = (h.0, all-append P xs ys h.1 g)
 
-pub flat-all : {A B : Type 0} (P : B → Type 0) (f : A → List B) (xs : List A) → ((x : A) → AllByRecursion P (f x)) → AllByRecursion P (flat_map f xs)
+pub flat-all : {A B : Type 0} (P : B → Type 0) (f : A → List B) (xs : List A)
+    → ((x : A) → AllByRecursion P (f x)) → AllByRecursion P (flat_map f xs)
 flat-all P f [] h = tt
 flat-all P f (x ∷ xs) h = all-append P (f x) (flat_map f xs) (h x) (flat-all P f xs h)
 
 -- what may stand at most once
-pub at-all : (P : Place → Type 0) (t : Tree) (names : List (List ℕ)) → P (keyed names) → AllByRecursion P (tables_at t names)
+pub at-all : (P : Place → Type 0) (t : Tree) (names : List (List ℕ)) → P (keyed names)
+    → AllByRecursion P (tables_at t names)
 at-all P t names h = elim (cases_Bool (is_table_like (t (keyed names)))) [
   | inl holds ↦ rw holds (h, tt)
   | inr fails ↦ rw fails tt
@@ -126,7 +136,8 @@ target-all t x name = elim (cases_Bool (is_kind name)) [
 targets-all : (t : Tree) → AllByRecursion IsTable (target_tables t)
 targets-all t =
     flat-all IsTable (tables_of_target t) (member_names (t (keyed (codes "target" ∷ []))))
-    (λ x. flat-all IsTable (target_table t x) (member_names (t (keyed (codes "target" ∷ x ∷ [])))) (target-all t x))
+    (λ x. flat-all IsTable (target_table t x) (member_names (t (keyed (codes "target" ∷ x ∷ []))))
+    (target-all t x))
 
 under-all : (t : Tree) (name : List ℕ) → AllByRecursion IsTable (tables_under t name)
 under-all t name = elim (cases_Bool (is_kind name)) [

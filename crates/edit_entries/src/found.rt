@@ -9,9 +9,8 @@ ghost use Rattle.edit_record.specs.ReadEntries.{record_of};
 ghost use Rattle.edit_entries.specs.Entries.{entries, entries_of, entry_at};
 ghost use Rattle.edit_entries.specs.EntryViews.{entry_view, said_view};
 
-use crate::places::member_place;
 use edit_base::{CargoResult, Error};
-use edit_document::{Document, Item, Place, Step};
+use edit_document::{Document, Item, Place, Step, member_place};
 use edit_manifest::dependency_tables;
 use edit_record::Dependency;
 use std::alloc::Global;

@@ -5,4 +5,4 @@ mod found;
 mod places;
 
 pub use found::{Entry, Said, entries};
-pub use places::{literal_place, member_place};
+pub use places::literal_place;

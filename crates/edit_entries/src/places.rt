@@ -1,25 +1,12 @@
 //! Places of entries and of their version literals.
 ghost use Rattle.std.specs.Prelude.{◌≡◌, IfErr, IfOk};
 ghost use Rattle.edit_base.specs.Errors.{IsMemory};
-ghost use Rattle.edit_document.specs.Assertions.{at, key};
 ghost use Rattle.edit_document.specs.Items.{place_seen};
 ghost use Rattle.edit_entries.specs.EntryViews.{literal_by};
 
 use edit_base::CargoResult;
-use edit_document::{Place, Step};
-use edit_manifest::copied_place;
+use edit_document::{Place, Step, copied_place, member_place};
 use std::alloc::Global;
-
-/// The place of a member of what stands at a place.
-pub fn member_place(alloc: Global, steps: &[Step], name: &str) -> CargoResult<Place>
-    ensures ok { IfOk result (λ p. place_seen p.items ≡ at (place_seen steps.now) (key name.now)) }
-    ensures refused { IfErr result IsMemory }
-{
-    let mut place = copied_place(alloc, steps)?;
-    let name = String::from_str(alloc, name)?;
-    place.push(Step::Key(name))?;
-    Ok(place)
-}
 
 /// The place of the version literal of the entry at a place, which is a string or not: the entry itself, or
 /// its member `version`.

@@ -1,7 +1,6 @@
 -- The versions that a manifest names, and where their literals stand (Cargo reference, "The Manifest Format",
 -- The version field, and "Workspaces", The package table; "Specifying Dependencies").
 use Rattle.std.specs.Prelude.{◌≡◌, ◌⊎◌, ℕ, Bool, false, List, [], ◌∷◌, Option, Some, None, Result, Ok, Err, codes, option_and_then, unwrap_or}
-use Rattle.std.specs.Result.{result_ok}
 use Rattle.edit_base.specs.declared.errors.Error.{Error}
 use Rattle.edit_base.specs.declared.errors.Error.TheVariants.{MissingVersion, VersionNotString, InvalidDependency, NoVersionPlace}
 use Rattle.edit_base.specs.Errors.{IsMemory}
@@ -13,7 +12,8 @@ use Rattle.edit_document.specs.Shown.{Shown, tree_of}
 use Rattle.edit_document.specs.Supported.{IsManifest}
 use Rattle.edit_document.specs.Tree.{View, string, table, inline_table, is_value_at}
 use Rattle.edit_syntax.specs.Grammar.{Text}
-use Rattle.semver.specs.Parse.{Parts, version_parts}
+use Rattle.edit_version.specs.ReadVersion.{version_read}
+use Rattle.semver.specs.Parse.{Parts}
 use Rattle.edit_manifest.specs.Tables.{Tree, keyed}
 
 -- ---- the versions of a package and of a workspace
@@ -33,10 +33,6 @@ inherited = keyed (codes "package" ∷ codes "version" ∷ codes "workspace" ∷
 -- the package takes its version from the workspace: the boolean true stands there
 abbrev pub is_inherited : Tree → Bool
 is_inherited t = unwrap_or (option_and_then truth_in (t inherited)) false
-
--- the version that a text is, none where it is none (SemVer 2.0.0)
-abbrev pub version_read : List ℕ → Option Parts
-version_read text = result_ok (version_parts text)
 
 -- the version of the workspace, where a string stands there that is a version
 abbrev pub workspace_version : Tree → Option Parts

@@ -13,9 +13,9 @@ ghost use Rattle.edit_manifest.specs.Tables.{dependency_tables};
 
 use crate::manifest::Manifest;
 use crate::tables::dependency_tables;
-use crate::ways::{copied_place, item_below, member_place, place_of};
+use crate::ways::{item_below, place_of};
 use edit_base::errors::CargoResult;
-use edit_document::{Document, Item, Place, Step};
+use edit_document::{Document, Item, Place, Step, copied_place, member_place};
 use std::alloc::Global;
 
 /// Whether this is a table that is not written inline.
@@ -224,9 +224,9 @@ fn cleared(alloc: Global, document: &Document, name: &str) -> CargoResult<Docume
 
 impl Manifest {
     /// Removes the strings of the features that name a dependency which is gone. Where a section of the
-    /// package's own has an optional entry of this key, there are none. Else they are the strings equal to the
-    /// key, and where no section has an entry of it, those that begin with it and a slash; `dep:` and the key
-    /// stays. It is refused where the document refuses a removal (49).
+    /// package's own has an optional entry of this key, there are none. Else they are the strings equal to
+    /// the key, and where no section has an entry of it, those that begin with it and a slash; `dep:` and
+    /// the key stays. It is refused where the document refuses a removal (49).
     pub fn gc_dep(&mut self, alloc: Global, dep_key: &str) -> CargoResult<()>
         ensures text { OnOk result (Without (stale_strings (tree_of self.old.document) dep_key.now)
             self.old.document.bytes self.new.document.bytes) }

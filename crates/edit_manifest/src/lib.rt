@@ -20,4 +20,3 @@ pub use locate::find;
 pub use manifest::Manifest;
 pub use tables::dependency_tables;
 pub use versions::{get_dep_version, set_dep_version};
-pub use ways::copied_place;

@@ -11,9 +11,9 @@ ghost use Rattle.edit_manifest.specs.RemovedEntries.{IsNotTakenOut, NamesEntry, 
 ghost use Rattle.edit_manifest.specs.Tables.{is_table_like, keyed};
 
 use crate::manifest::Manifest;
-use crate::ways::{item_below, member_place};
+use crate::ways::item_below;
 use edit_base::errors::{CargoResult, Error};
-use edit_document::{Document, Item, Place, Step};
+use edit_document::{Document, Item, Place, Step, member_place};
 use std::alloc::Global;
 
 /// Whether this is a table or an inline table.
@@ -141,9 +141,9 @@ fn taken_out(
 }
 
 impl Manifest {
-    /// Removes the entry of a name from the table at a path of names, and the table too where it has no member
-    /// left, but not the root. It is refused where one of the names leads to no table (8), where the table has
-    /// no such entry (9), and where the document refuses a removal (49).
+    /// Removes the entry of a name from the table at a path of names, and the table too where it has no
+    /// member left, but not the root. It is refused where one of the names leads to no table (8), where the
+    /// table has no such entry (9), and where the document refuses a removal (49).
     pub fn remove_from_table(
         &mut self,
         alloc: Global,

@@ -6,31 +6,16 @@ ghost use Rattle.edit_document.specs.ItemViews.{document_of, place_of as item_pl
 ghost use Rattle.edit_document.specs.Items.{place_seen};
 ghost use Rattle.edit_document.specs.Shown.{tree_of};
 ghost use Rattle.edit_manifest.specs.Tables.{keyed};
-ghost use Rattle.edit_manifest.specs.Versions.{IsUnset, IsUnsetDependency, SetsDependency, SetsVersion, dep_version, is_inherited, package_version, shared_version, version_place, version_read, workspace_version};
+ghost use Rattle.edit_manifest.specs.Versions.{IsUnset, IsUnsetDependency, SetsDependency, SetsVersion, dep_version, is_inherited, package_version, shared_version, version_place, workspace_version};
 ghost use Rattle.semver.specs.Identifiers.{parts_of, version_text};
 
 use crate::manifest::Manifest;
-use crate::ways::{copied_place, member_place, place_of, string_at, truth_at};
+use crate::ways::{place_of, string_at, truth_at};
 use edit_base::errors::{CargoResult, Error};
-use edit_document::{Document, Item, Place, Step};
+use edit_document::{Document, Item, Place, Step, copied_place, member_place};
+use edit_version::read_version;
 use semver::Version;
-use std::alloc::{AllocError, Global};
-
-/// The version that a text is, none where it is none.
-fn read_version(alloc: Global, text: &str) -> CargoResult<Option<Version>>
-    ensures ok { IfOk result (λ o. option_map parts_of o ≡ version_read text.now) }
-    ensures refused { IfErr result IsMemory }
-{
-    match Version::parse(alloc, text) {
-        Ok(version) => Ok(Some(version)),
-        Err(error) => {
-            if error == semver::Error::from(AllocError) {
-                return Err(Error::Memory);
-            }
-            Ok(None)
-        }
-    }
-}
+use std::alloc::Global;
 
 /// Writes a version in the place of the value at the place of these names.
 fn set_version_at(

@@ -4,7 +4,7 @@ ghost use Rattle.edit_base.specs.Errors.{IsMemory};
 ghost use Rattle.edit_base.specs.Paths.{texts};
 ghost use Rattle.edit_document.specs.Assertions.{Place as PlaceSeen, at, key};
 ghost use Rattle.edit_document.specs.ItemViews.{Finds};
-ghost use Rattle.edit_document.specs.Items.{place_seen, step_seen, string_in, truth_in};
+ghost use Rattle.edit_document.specs.Items.{place_seen, string_in, truth_in};
 ghost use Rattle.edit_document.specs.Shown.{tree_of};
 ghost use Rattle.edit_manifest.specs.Tables.{keyed};
 
@@ -22,44 +22,6 @@ pub(crate) fn place_of(alloc: Global, names: &[&str]) -> CargoResult<Place>
         let name = String::from_str(alloc, name)?;
         place.push(Step::Key(name))?;
     }
-    Ok(place)
-}
-
-/// The same step, on memory of its own.
-fn copied_step(alloc: Global, step: &Step) -> CargoResult<Step>
-    ensures ok { IfOk result (λ s. step_seen s ≡ step_seen step.now) }
-    ensures refused { IfErr result IsMemory }
-{
-    match step {
-        Step::Key(name) => {
-            let name = String::from_str(alloc, name.as_str())?;
-            Ok(Step::Key(name))
-        }
-        Step::Index(index) => Ok(Step::Index(*index)),
-    }
-}
-
-/// The same place, on memory of its own.
-pub fn copied_place(alloc: Global, steps: &[Step]) -> CargoResult<Place>
-    ensures ok { IfOk result (λ p. place_seen p.items ≡ place_seen steps.now) }
-    ensures refused { IfErr result IsMemory }
-{
-    let mut place = Vec::with_capacity(alloc, steps.len())?;
-    'steps: for step in steps {
-        let copy = copied_step(alloc, step)?;
-        place.push(copy)?;
-    }
-    Ok(place)
-}
-
-/// The place of a member of what stands at a place.
-pub(crate) fn member_place(alloc: Global, steps: &[Step], name: &str) -> CargoResult<Place>
-    ensures ok { IfOk result (λ p. place_seen p.items ≡ at (place_seen steps.now) (key name.now)) }
-    ensures refused { IfErr result IsMemory }
-{
-    let mut place = copied_place(alloc, steps)?;
-    let name = String::from_str(alloc, name)?;
-    place.push(Step::Key(name))?;
     Ok(place)
 }
 

@@ -1,7 +1,8 @@
 -- The inputs of a workspace: rows worked out.
-use Rattle.std.proofs.Common.{◌≡◌, true, false, [], ◌∷◌, Some, None, refl}
+use Rattle.std.proofs.Common.{◌≡◌, ℕ, Bool, List, true, false, [], ◌∷◌, Some, None, refl}
 use Rattle.std.specs.Prelude.{codes}
 use Rattle.semver.specs.Parse.{Parts}
+use Rattle.edit_version.specs.RustVersions.{Numbers}
 use Rattle.edit_metadata.specs.Inputs.{least, member_manifests, root_manifest, rust_version_for}
 use Rattle.edit_metadata.specs.Metadata.{PackageSaid, WorkspaceSaid}
 
@@ -9,39 +10,27 @@ use Rattle.edit_metadata.specs.Metadata.{PackageSaid, WorkspaceSaid}
 abbrev first : Parts
 first = (1, 0, 0, [], [])
 
+-- what is said of a package: its name, its manifest, its Rust version, and whether it is a member
+abbrev said : List ℕ → List ℕ → Numbers → Bool → PackageSaid
+said name manifest_path rust_version member = record {
+  name = name;
+  id = name;
+  manifest_path = manifest_path;
+  version = first;
+  source = None;
+  rust_version = Some rust_version;
+  member = member;
+}
+
 -- members of two Rust versions, and a package of a lesser one that is no member
 abbrev one : PackageSaid
-one = record {
-  name = codes "a";
-  id = codes "A";
-  manifest_path = codes "/w/a/Cargo.toml";
-  version = first;
-  source = None;
-  rust_version = Some (1, 71, 0);
-  member = true;
-}
+one = said (codes "a") (codes "/w/a/Cargo.toml") (1, 71, 0) true
 
 abbrev two : PackageSaid
-two = record {
-  name = codes "b";
-  id = codes "B";
-  manifest_path = codes "/w/b/Cargo.toml";
-  version = first;
-  source = None;
-  rust_version = Some (1, 70, 2);
-  member = true;
-}
+two = said (codes "b") (codes "/w/b/Cargo.toml") (1, 70, 2) true
 
 abbrev other : PackageSaid
-other = record {
-  name = codes "c";
-  id = codes "C";
-  manifest_path = codes "/c/Cargo.toml";
-  version = first;
-  source = None;
-  rust_version = Some (1, 1, 0);
-  member = false;
-}
+other = said (codes "c") (codes "/c/Cargo.toml") (1, 1, 0) false
 
 abbrev workspace : WorkspaceSaid
 workspace = record { root = codes "/w"; packages = one ∷ other ∷ two ∷ [] }

@@ -8,6 +8,7 @@ use Rattle.semver.specs.Parse.{Parts, version_parts}
 use Rattle.semver.specs.declared.error.Error as semver_error
 use Rattle.serde_json.specs.Data.{Data}
 use Rattle.edit_version.specs.Laws.{IsReadable}
+use Rattle.edit_version.specs.ReadVersion.{version_read}
 use Rattle.edit_version.proofs.Outcomes.{readable-read}
 use Rattle.edit_metadata.specs.Metadata.{IsText, PackageSaid, SaysPackage, SaysWorkspace, WorkspaceSaid, is_listed, text_at, values_at}
 use Rattle.edit_metadata.specs.Workspaces.{package_said}
@@ -21,7 +22,7 @@ read-ok : (text : List ℕ) (r : Result Parts semver_error.Error) (v : Parts) �
 read-ok text (Ok p) v read is = readable-read text v (read ∙ ap Ok (some-same p v is))
 read-ok text (Err e) v read is = cc is
 
-read-some : (text : Option (List ℕ)) (v : Parts) → option_and_then (λ t. result_ok (version_parts t)) text ≡ Some v → IsReadable v
+read-some : (text : Option (List ℕ)) (v : Parts) → option_and_then version_read text ≡ Some v → IsReadable v
 read-some None v is = cc is
 read-some (Some text) v is = read-ok text (version_parts text) v refl is
 

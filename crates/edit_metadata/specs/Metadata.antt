@@ -2,12 +2,12 @@
 -- JSON format).
 use Rattle.std.specs.Prelude.{◌≡◌, ℕ, List, [], ◌∷◌, Option, Some, None, option_map, option_and_then, Bool, true, codes, nat_eq}
 use Rattle.std.specs.List.{AllZip, filter, list_any, starts_with}
-use Rattle.std.specs.Result.{result_ok}
 use Rattle.std.specs.Str.{IsUtf8, bytes_eq}
-use Rattle.semver.specs.Parse.{Parts, version_parts}
+use Rattle.semver.specs.Parse.{Parts}
 use Rattle.serde_json.specs.Data.{Data, null, string, Items, no_items, item}
 use Rattle.serde_json.specs.Find.{get, as_array, as_str}
 use Rattle.serde_json.specs.Read.{read}
+use Rattle.edit_version.specs.ReadVersion.{version_read}
 use Rattle.edit_version.specs.RustVersions.{Numbers, rust_of}
 
 -- ---- what a member of an object says
@@ -58,7 +58,7 @@ pub record PackageSaid : Type 0 where
 
 -- the version of a package, where a text stands there that is one (SemVer 2.0.0)
 abbrev pub version_said : Data → Option Parts
-version_said d = option_and_then (λ text. result_ok (version_parts text)) (text_at (codes "version") d)
+version_said d = option_and_then version_read (text_at (codes "version") d)
 
 -- the Rust version of a package; a text that names none counts as left out (own)
 abbrev pub rust_version_said : Data → Option (Option Numbers)

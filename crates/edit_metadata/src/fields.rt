@@ -1,21 +1,18 @@
 //! The fields of a package, on memory of their own.
 ghost use Rattle.std.specs.Prelude.{◌≡◌, None, Some, true, IfErr, IfOk, MatchResult, option_map, string_bytes};
-ghost use Rattle.std.specs.Result.{result_ok};
 ghost use Rattle.edit_base.specs.Errors.{IsMemory};
 ghost use Rattle.edit_metadata.specs.Metadata.{is_absolute, maybe_text_at, rust_version_said, text_at, version_said};
 ghost use Rattle.edit_metadata.specs.Reading.{IsUnsaid};
-ghost use Rattle.edit_version.specs.RustVersions.{numbers_of, rust_of};
+ghost use Rattle.edit_version.specs.RustVersions.{numbers_of};
 ghost use Rattle.semver.specs.Identifiers.{parts_of};
-ghost use Rattle.semver.specs.Parse.{version_parts};
 ghost use Rattle.serde_json.specs.View.{view};
 
 use crate::members::{is_absolute, maybe_text_at, text_at};
 use edit_base::{CargoResult, Error};
-use edit_version::rust_version::rust_version_of;
-use edit_version::{RustVersion, read_requirement};
+use edit_version::{RustVersion, read_rust_version, read_version};
 use semver::Version;
 use serde_json::Value;
-use std::alloc::{AllocError, Global};
+use std::alloc::Global;
 
 /// The text of a member.
 pub(crate) fn text(alloc: Global, value: &Value, name: &str) -> CargoResult<String>
@@ -54,22 +51,6 @@ pub(crate) fn maybe_text(alloc: Global, value: &Value, name: &str) -> CargoResul
     }
 }
 
-/// The version that a text is.
-fn read_version(alloc: Global, text: &str) -> CargoResult<Option<Version>>
-    ensures ok { IfOk result (λ o. option_map parts_of o ≡ result_ok (version_parts text.now)) }
-    ensures refused { IfErr result IsMemory }
-{
-    match Version::parse(alloc, text) {
-        Ok(version) => Ok(Some(version)),
-        Err(error) => {
-            if error == semver::Error::from(AllocError) {
-                return Err(Error::Memory);
-            }
-            Ok(None)
-        }
-    }
-}
-
 /// The version of a package.
 pub(crate) fn version(alloc: Global, value: &Value) -> CargoResult<Version>
     ensures { MatchResult result (λ v. version_said (view value.now) ≡ Some (parts_of v))
@@ -81,17 +62,6 @@ pub(crate) fn version(alloc: Global, value: &Value) -> CargoResult<Version>
     match read_version(alloc, text)? {
         Some(version) => Ok(version),
         None => Err(Error::Metadata),
-    }
-}
-
-/// The Rust version that a text names, none where it names none.
-fn read_rust_version(alloc: Global, text: &str) -> CargoResult<Option<RustVersion>>
-    ensures ok { IfOk result (λ o. option_map numbers_of o ≡ rust_of text.now) }
-    ensures refused { IfErr result IsMemory }
-{
-    match read_requirement(alloc, text)? {
-        Some(req) => Ok(rust_version_of(&req.comparators)),
-        None => Ok(None),
     }
 }
 

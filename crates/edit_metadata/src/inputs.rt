@@ -184,9 +184,9 @@ fn root_input<S: Store>(
 /// The manifests that plans over a workspace are made for, read from a store.
 ///
 /// Paths are made normal. Members stand in their order; where none of them has the path of the root's
-/// `Cargo.toml`, that one stands before them and is called `virtual workspace`. The Rust version of each is the
-/// given one; none where they are to be ignored (`ignore`); else the member's own, and of the root the least
-/// of the members'. Refused with 3 where the device fails, and with 5 where no file stands at a path.
+/// `Cargo.toml`, that one stands before them and is called `virtual workspace`. The Rust version of each is
+/// the given one; none where they are to be ignored (`ignore`); else the member's own, and of the root the
+/// least of the members'. Refused with 3 where the device fails, and with 5 where no file stands at a path.
 pub fn workspace_inputs<S: Store>(
     alloc: Global,
     store: &mut S,

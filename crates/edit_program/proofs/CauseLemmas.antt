@@ -4,9 +4,11 @@ use Rattle.std.specs.Prelude.{◌⊎◌, IfErr, IsErrAnd, is_some}
 use Rattle.edit_base.specs.Errors.{IsMemory}
 use Rattle.edit_base.specs.declared.errors.DeviceCall.TheVariants as call
 use Rattle.edit_base.specs.declared.errors.Error.{Error}
-use Rattle.edit_base.specs.declared.errors.Error.TheVariants.{NoManifest}
+use Rattle.edit_base.specs.declared.errors.Error.TheVariants.{NoManifest, Output}
 use Rattle.edit_version.specs.RustVersions.{Numbers}
+use Rattle.edit_sources.specs.ConfigurationFiles.{AreConfigs, ConfigsFail, HasFailed}
 use Rattle.edit_sources.specs.Store.{Files, SameFiles, StandsAt}
+use Rattle.edit_sources.specs.declared.config.Config.{Config}
 use Rattle.edit_sources.specs.declared.file_index.FileIndex.{FileIndex}
 use Rattle.edit_sources.specs.declared.store.Kind.TheVariants.{Folder}
 use Rattle.edit_manifest.specs.Located.{IsFault, IsManifestAt, IsManifestPath, IsThere, manifest_in}
@@ -16,7 +18,7 @@ use Rattle.edit_manifest.proofs.Faults.{fault_later}
 use Rattle.edit_manifest.proofs.PassedWords.{as_before}
 use Rattle.edit_program.specs.Causes.{IsIndexCause, IsManifestCause, IsPlanCause, IsUpgradeCause}
 use Rattle.edit_program.specs.declared.refusal.Refusal.{Refusal}
-use Rattle.edit_program.specs.Upgrading.{IsIndexRead, IsManifestRead}
+use Rattle.edit_program.specs.Upgrading.{AreRead, IsIndexRead, IsManifestRead}
 
 no_file : (o : Option (List ℕ)) → is_some o ≡ true → None ≡ o → ⊥
 no_file o some none = let bad : false ≡ true = subst (λ (x : Option (List ℕ)). is_some x ≡ true) (sym none)
@@ -37,7 +39,8 @@ folder_at files place _ (nearest path stands near) none =
 
 folder_at_path : (files : Files) (current name path : List ℕ) → IsManifestPath files current (Some name) path
     → None ≡ files path → StandsAt files path Folder
-folder_at_path files current name path (specified _ place _ normal at) none = folder_at files place path at none
+folder_at_path files current name path (specified _ place _ normal at) none =
+    folder_at files place path at none
 
 -- where a manifest is found and no file is read, a folder stands
 pub folder_there : (tells told : Bool) (old now : Files) (current named_path text at : List ℕ) (e : Error)
@@ -71,57 +74,117 @@ pub refusal_made : {T : Type 0} (r : Result T Refusal) (e : Error) (P : Error �
 refusal_made (Ok x) e P same h = tt
 refusal_made (Err other) e P same h = subst P (sym same) h
 
+configured_before : (old mid : Files) (home : Option (List ℕ)) (path at : List ℕ) (configs : List Config)
+    → SameFiles old mid → at ≡ path → AreConfigs mid at home configs → AreConfigs old path home configs
+configured_before old mid home path at configs same here configured =
+    as_before (λ files. AreConfigs files path home configs) old mid same
+    (subst (λ place. AreConfigs mid place home configs) here configured)
+
 -- a manifest that is not read
-pub manifest_cause : (tells : Bool) (files : Files) (current named_path index_named : List ℕ) (a b : ℕ)
-    (e : Error)
+pub manifest_cause : (tells : Bool) (files : Files) (current : List ℕ) (home : Option (List ℕ))
+    (named_path index_named : List ℕ) (a b : ℕ) (e : Error)
     → IsFault call.Kind a b e ⊎ (IsFault call.Read a b e
     ⊎ (tells ≡ true → IsManifestCause files current named_path e))
-    → IsUpgradeCause tells files current named_path index_named a b e
-manifest_cause tells files current named_path index_named a b e (inl fault) = inl (inl fault)
-manifest_cause tells files current named_path index_named a b e (inr (inl fault)) = inl (inr (inl fault))
-manifest_cause tells files current named_path index_named a b e (inr (inr wrong)) = inr (λ t. inl (wrong t))
+    → IsUpgradeCause tells files current home named_path index_named a b e
+manifest_cause tells files current home named_path index_named a b e (inl fault) = inl (inl fault)
+manifest_cause tells files current home named_path index_named a b e (inr (inl fault)) = inl (inr (inl fault))
+manifest_cause tells files current home named_path index_named a b e (inr (inr wrong)) =
+    inr (inr (λ t. inl (wrong t)))
 
--- an index file that is not read behind the manifest
-pub index_cause : (tells told : Bool) (old mid : Files) (current named_path index_named path bytes : List ℕ)
-    (rust : Option Numbers) (a b c : ℕ) (e : Error) → told ≡ tells → SameFiles old mid → a ≤ b
-    → (tells ≡ true → IsManifestRead old current named_path path bytes rust) → IsFault call.Read b c e
-    ⊎ (told ≡ true → IsIndexCause mid current index_named e)
-    → IsUpgradeCause tells old current named_path index_named a c e
-index_cause tells told old mid current named_path index_named path bytes rust a b c e same_told same le
-    manifest (inl fault) = inl (inr (inl (fault_later call.Read a b c e le fault)))
-index_cause tells told old mid current named_path index_named path bytes rust a b c e same_told same le
-    manifest (inr wrong) = inr (λ t. inr (inl (record {
-      path = path;
-      bytes = bytes;
-      rust = rust;
-      manifest = manifest t;
-      cause = as_before (λ files. IsIndexCause files current index_named e) old mid same
-          (wrong (same_told ∙ t));
-    })))
-
--- a plan that is not made behind both
-pub plan_cause : (tells told : Bool) (old mid : Files) (current named_path index_named path bytes : List ℕ)
-    (rust : Option Numbers) (index : FileIndex) (a c : ℕ) (e : Error) → told ≡ tells → SameFiles old mid
+-- a configuration that is not read behind the manifest
+pub config_cause : (tells told : Bool) (old mid : Files) (current : List ℕ) (home : Option (List ℕ))
+    (named_path index_named path at bytes : List ℕ) (rust : Option Numbers) (a b c : ℕ) (e : Error)
+    → told ≡ tells → SameFiles old mid → a ≤ b → at ≡ path
     → (tells ≡ true → IsManifestRead old current named_path path bytes rust)
-    → (told ≡ true → IsIndexRead mid current index_named index) → IsMemory e ⊎ IsPlanCause bytes index e
-    → IsUpgradeCause tells old current named_path index_named a c e
-plan_cause tells told old mid current named_path index_named path bytes rust index a c e same_told same
-    manifest indexed (inl memory) = inl (inl (inl memory))
-plan_cause tells told old mid current named_path index_named path bytes rust index a c e same_told same
-    manifest indexed (inr wrong) = inr (λ t. inr (inr (record {
+    → IsMemory e ⊎ (HasFailed b c e ⊎ ConfigsFail told mid at home e)
+    → IsUpgradeCause tells old current home named_path index_named a c e
+config_cause tells told old mid current home named_path index_named path at bytes rust a b c e same_told same
+    le here manifest (inl memory) = inl (inl (inl memory))
+config_cause tells told old mid current home named_path index_named path at bytes rust a b c e same_told same
+    le here manifest (inr (inl failed)) =
+    inl (inr (inl (fault_later call.Read a b c e le (inr (failed.is, failed.counted)))))
+config_cause tells told old mid current home named_path index_named path at bytes rust a b c e same_told same
+    le here manifest (inr (inr wrong)) = inr (inr (λ t. inr (inl (record {
       path = path;
       bytes = bytes;
       rust = rust;
-      index = index;
       manifest = manifest t;
-      indexed = as_before (λ files. IsIndexRead files current index_named index) old mid same
-          (indexed (same_told ∙ t));
-      cause = wrong;
-    })))
+      cause = as_before (λ files. ConfigsFail true files path home e) old mid same
+          (subst (λ place. ConfigsFail true mid place home e) here
+          (subst (λ (b : Bool). ConfigsFail b mid at home e) (same_told ∙ t) wrong));
+    }))))
 
--- a write that failed behind all
-pub write_cause : (tells : Bool) (files : Files) (current named_path index_named : List ℕ) (a b c d : ℕ)
-    (e : Error) → a ≤ b → b ≤ c → IsFault call.Write c d e
-    → IsUpgradeCause tells files current named_path index_named a d e
-write_cause tells files current named_path index_named a b c d e first second fault =
-    inl (inr (inr (fault_later call.Write a c d e (omega (arith, first, second)) fault)))
+-- an index file that is not read behind both
+pub index_cause : (tells told telling : Bool) (old mid now : Files) (current : List ℕ)
+    (home : Option (List ℕ)) (named_path index_named path at bytes : List ℕ) (rust : Option Numbers)
+    (configs : List Config) (a b c d : ℕ) (e : Error) → told ≡ tells → telling ≡ told → SameFiles old mid
+    → SameFiles mid now → a ≤ b → b ≤ c → at ≡ path
+    → (tells ≡ true → IsManifestRead old current named_path path bytes rust)
+    → (told ≡ true → AreConfigs mid at home configs)
+    → IsFault call.Read c d e ⊎ (telling ≡ true → IsIndexCause now current index_named e)
+    → IsUpgradeCause tells old current home named_path index_named a d e
+index_cause tells told telling old mid now current home named_path index_named path at bytes rust configs a b
+    c d e same_told same_telling same1 same2 le1 le2 here manifest configured (inl fault) =
+    inl (inr (inl (fault_later call.Read a c d e (omega (arith, le1, le2)) fault)))
+index_cause tells told telling old mid now current home named_path index_named path at bytes rust configs a b
+    c d e same_told same_telling same1 same2 le1 le2 here manifest configured (inr wrong) =
+    inr (inr (λ t. inr (inr (inl (record {
+      path = path;
+      bytes = bytes;
+      rust = rust;
+      configs = configs;
+      manifest = manifest t;
+      configured = configured_before old mid home path at configs same1 here (configured (same_told ∙ t));
+      cause = as_before (λ files. IsIndexCause files current index_named e) old now
+          (λ place. same2 place ∙ same1 place) (wrong (same_telling ∙ (same_told ∙ t)));
+    })))))
+
+-- what was read, one file after another, was read
+pub are_read : (tells told telling : Bool) (old mid now : Files) (current : List ℕ) (home : Option (List ℕ))
+    (named_path index_named path at bytes : List ℕ) (rust : Option Numbers) (configs : List Config)
+    (index : FileIndex) → told ≡ tells → telling ≡ told → SameFiles old mid → SameFiles mid now → at ≡ path
+    → (tells ≡ true → IsManifestRead old current named_path path bytes rust)
+    → (told ≡ true → AreConfigs mid at home configs)
+    → (telling ≡ true → IsIndexRead now current index_named index)
+    → tells ≡ true → AreRead old current home named_path index_named path bytes rust configs index
+are_read tells told telling old mid now current home named_path index_named path at bytes rust configs index
+    same_told same_telling same1 same2 here manifest configured indexed t = record {
+      manifest = manifest t;
+      configured = configured_before old mid home path at configs same1 here (configured (same_told ∙ t));
+      indexed = as_before (λ files. IsIndexRead files current index_named index) old now
+          (λ place. same2 place ∙ same1 place) (indexed (same_telling ∙ (same_told ∙ t)));
+    }
+
+-- a plan that is not made behind all
+pub plan_cause : (tells : Bool) (old : Files) (current : List ℕ) (home : Option (List ℕ))
+    (named_path index_named path bytes : List ℕ) (rust : Option Numbers) (configs : List Config)
+    (index : FileIndex) (a c : ℕ) (e : Error)
+    → (tells ≡ true → AreRead old current home named_path index_named path bytes rust configs index)
+    → IsMemory e ⊎ IsPlanCause bytes configs index e
+    → IsUpgradeCause tells old current home named_path index_named a c e
+plan_cause tells old current home named_path index_named path bytes rust configs index a c e read
+    (inl memory) = inl (inl (inl memory))
+plan_cause tells old current home named_path index_named path bytes rust configs index a c e read
+    (inr wrong) = inr (inr (λ t. inr (inr (inr (record {
+      path = path;
+      bytes = bytes;
+      rust = rust;
+      configs = configs;
+      index = index;
+      read = read t;
+      cause = wrong;
+    })))))
+
+-- memory ran out at what is printed, or it was not taken
+pub stream_cause : (b c : ℕ) (e : Error) → IsMemory e ⊎ (e ≡ Output) → (e ≡ Output) ⊎ IsFault call.Write b c e
+stream_cause b c e (inl memory) = inr (inl memory)
+stream_cause b c e (inr unwritten) = inl unwritten
+
+-- what is printed was not taken, or a write failed behind all
+pub deliver_cause : (tells : Bool) (files : Files) (current : List ℕ) (home : Option (List ℕ))
+    (named_path index_named : List ℕ) (a b c : ℕ) (e : Error) → a ≤ b
+    → (e ≡ Output) ⊎ IsFault call.Write b c e
+    → IsUpgradeCause tells files current home named_path index_named a c e
+deliver_cause tells files current home named_path index_named a b c e le (inl unwritten) = inr (inl unwritten)
+deliver_cause tells files current home named_path index_named a b c e le (inr fault) =
+    inl (inr (inr (fault_later call.Write a b c e le fault)))

@@ -13,7 +13,7 @@ use Rattle.edit_base.specs.declared.errors.Error.{Error as CargoError}
 use Rattle.edit_base.specs.declared.errors.Error.TheVariants.{Output}
 use Rattle.edit_sources.specs.Store.{Files, SameFiles}
 use Rattle.edit_program.specs.Causes.{IsUpgradeCause}
-use Rattle.edit_program.specs.Upgrading.{IsCutShort}
+use Rattle.edit_program.specs.Upgrading.{IsBroken}
 use Rattle.edit_program.specs.Runs.{AreAtFault, AreNotTaken, IsAnswered, IsDone, IsRefused, IsRunCause, status_of}
 use Rattle.edit_program.specs.declared.refusal.Refusal.{Refusal}
 
@@ -122,33 +122,34 @@ pub shown_fault : (app : App) (words : List Text) (e : Error) (r : Result ℕ Re
 shown_fault app words e r is passes kinds memory same small =
     fault_in words r (shown_is app words e r is passes kinds memory same) small
 
-done_in : (words : List Text) (r : Result ℕ Refusal) (Q : Type 0) (current : List ℕ) (files : Files)
+done_in : (words : List Text) (r : Result ℕ Refusal) (Q : Type 0)
+    (Shows : List ℕ → Type 0) (current : List ℕ) (home : Option (List ℕ)) (files : Files)
     → IfOk r (IsAnswered words)
-    → IfOk r (λ s. s ≡ 0 → Q → IsDone words current files files)
-done_in words (Ok s) Q current files by =
+    → IfOk r (λ s. s ≡ 0 → Q → IsDone words Shows current home files files)
+done_in words (Ok s) Q Shows current home files by =
     λ zero q. inl (subst (λ n. IsAnswered words n) zero by, λ path. refl)
-done_in words (Err x) Q current files by = tt
+done_in words (Err x) Q Shows current home files by = tt
 
 -- and 0 says that help or the version was shown
 pub shown_done : (app : App) (words : List Text) (e : Error) (r : Result ℕ Refusal) (Q : Type 0)
-    (current : List ℕ) (files : Files) → app ≡ edit_app
+    (Shows : List ℕ → Type 0) (current : List ℕ) (home : Option (List ℕ)) (files : Files) → app ≡ edit_app
     → (takes app words ≡ true → kind_of e ≡ OutOfMemory)
     → (is_simple_and_free app ≡ true → HasKind (fault_of app words) e)
     → (kind_of e ≡ OutOfMemory → IsErrAnd r (λ x. IsMemory x.error)) → IfOk r (λ s. s ≡ status_of (kind_of e))
-    → IfOk r (λ s. s ≡ 0 → Q → IsDone words current files files)
-shown_done app words e r Q current files is passes kinds memory same =
-    done_in words r Q current files (shown_is app words e r is passes kinds memory same)
+    → IfOk r (λ s. s ≡ 0 → Q → IsDone words Shows current home files files)
+shown_done app words e r Q Shows current home files is passes kinds memory same =
+    done_in words r Q Shows current home files (shown_is app words e r is passes kinds memory same)
 
 -- what could not be printed, but for want of memory, is help or the version
 pub shown_why : (app : App) (words : List Text) (e : Error) (r : Result ℕ Refusal) (current : List ℕ)
-    (tells : Bool) (files : Files) (before now : ℕ) → app ≡ edit_app
+    (home : Option (List ℕ)) (tells : Bool) (files : Files) (before now : ℕ) → app ≡ edit_app
     → (takes app words ≡ true → kind_of e ≡ OutOfMemory)
     → (is_simple_and_free app ≡ true → HasKind (fault_of app words) e)
     → IfErr r (λ x. IsMemory x.error ⊎ ((x.error ≡ Output) × (status_of (kind_of e) ≡ 0)))
-    → IfErr r (λ x. IsRunCause words current tells files before now x.error)
-shown_why app words e (Ok s) current tells files before now is passes kinds why = tt
-shown_why app words e (Err x) current tells files before now is passes kinds (inl memory) = inl memory
-shown_why app words e (Err x) current tells files before now is passes kinds (inr unwritten) =
+    → IfErr r (λ x. IsRunCause words current home tells files before now x.error)
+shown_why app words e (Ok s) current home tells files before now is passes kinds why = tt
+shown_why app words e (Err x) current home tells files before now is passes kinds (inl memory) = inl memory
+shown_why app words e (Err x) current home tells files before now is passes kinds (inr unwritten) =
     inr (inl (
       unwritten.0,
       answered app words e 0 is passes kinds
@@ -158,20 +159,21 @@ shown_why app words e (Err x) current tells files before now is passes kinds (in
     ))
 
 -- why an upgrade that the words ask for is refused is why the run is
-pub upgrade_why : (words : List Text) (current : List ℕ) (tells : Bool) (files : Files) (before now : ℕ)
-    (e : CargoError) (manifest index : Text)
-    → AsksFor words manifest index → IsUpgradeCause tells files current manifest index before now e
-    → IsRunCause words current tells files before now e
-upgrade_why words current tells files before now e manifest index asks cause =
+pub upgrade_why : (words : List Text) (current : List ℕ) (home : Option (List ℕ)) (tells : Bool)
+    (files : Files) (before now : ℕ) (e : CargoError) (manifest index : Text)
+    → AsksFor words manifest index → IsUpgradeCause tells files current home manifest index before now e
+    → IsRunCause words current home tells files before now e
+upgrade_why words current home tells files before now e manifest index asks cause =
     inr (inr (record { manifest = manifest; index = index; asks = asks; cause = cause }))
 
--- a write that was refused is one for what the words ask
-pub upgrade_refused : (words : List Text) (current : List ℕ) (old new : Files) (manifest index : Text)
-    → AsksFor words manifest index
-    → SameFiles old new ⊎ IsCutShort current manifest index old new → IsRefused words current old new
-upgrade_refused words current old new manifest index asks (inl same) = inl same
-upgrade_refused words current old new manifest index asks (inr cut) =
-    inr (record { manifest = manifest; index = index; asks = asks; cut_short = cut })
+-- an upgrade that was refused at its write or behind it is one for what the words ask
+pub upgrade_refused : (words : List Text) (Shows : List ℕ → Type 0) (current : List ℕ)
+    (home : Option (List ℕ)) (old new : Files) (manifest index : Text) → AsksFor words manifest index
+    → SameFiles old new ⊎ IsBroken Shows current home manifest index old new
+    → IsRefused words Shows current home old new
+upgrade_refused words Shows current home old new manifest index asks (inl same) = inl same
+upgrade_refused words Shows current home old new manifest index asks (inr broken) =
+    inr (record { manifest = manifest; index = index; asks = asks; broken = broken })
 
 -- what holds in any case holds of a refusal
 pub on_any : {T E : Type 0} (r : Result T E) (P : Type 0) → P → OnErr r P

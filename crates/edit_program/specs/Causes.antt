@@ -1,19 +1,21 @@
 -- Why an upgrade is refused.
-use Rattle.std.specs.Prelude.{◌≡◌, ◌⊎◌, ℕ, List, [], Bool, true, Option, Some, None}
+use Rattle.std.specs.Prelude.{◌≡◌, ◌⊎◌, ℕ, List, Bool, true, Option, Some, None}
 use Rattle.edit_base.specs.declared.errors.DeviceCall.TheVariants as call
 use Rattle.edit_base.specs.declared.errors.Error.{Error}
-use Rattle.edit_base.specs.declared.errors.Error.TheVariants.{NoManifest, NoPath}
+use Rattle.edit_base.specs.declared.errors.Error.TheVariants.{NoManifest, NoPath, Output}
 use Rattle.edit_version.specs.RustVersions.{Numbers}
+use Rattle.edit_sources.specs.ConfigurationFiles.{AreConfigs, ConfigsFail}
 use Rattle.edit_sources.specs.FileIndex.{FileGives}
 use Rattle.edit_sources.specs.IndexLines.{RefusesLines, lines_of}
 use Rattle.edit_sources.specs.Store.{Files, StandsAt}
+use Rattle.edit_sources.specs.declared.config.Config.{Config}
 use Rattle.edit_sources.specs.declared.file_index.FileIndex.{FileIndex}
 use Rattle.edit_sources.specs.declared.store.Kind.TheVariants.{Folder}
 use Rattle.cargo_edit.specs.Causes.{HasBadEntry}
 use Rattle.edit_manifest.specs.Loaded.{IsBadManifest}
 use Rattle.cargo_edit.specs.Looks.{Kept}
 use Rattle.edit_manifest.specs.Located.{HasNoManifest, IsFault, IsManifestPath}
-use Rattle.edit_program.specs.Upgrading.{IsAbsoluteOf, IsIndexRead, IsManifestRead}
+use Rattle.edit_program.specs.Upgrading.{AreRead, IsAbsoluteOf, IsManifestRead}
 
 -- where the manifest that is named would be, a folder stands
 pub record IsFolderThere (files : Files) (current named : List ℕ) (e : Error) : Type 0 where
@@ -47,43 +49,60 @@ pub record IsIndexCause (files : Files) (current named : List ℕ) (e : Error) :
   pub at : IsAbsoluteOf current named path
   pub unindexed : IsUnindexed (files path) e
 
--- why there is no plan for a manifest that was read: a look in the index is refused, and no answer was known
--- before
-pub record IsPlanCause (bytes : List ℕ) (index : FileIndex) (e : Error) : Type 0 where
-  pub kept : Kept
-  pub cause : HasBadEntry [] (λ address name outcome. FileGives index name outcome) (λ address name. None)
-      kept 0 0 bytes e
-
--- the manifest was read, and the index file is not
-pub record HasNoIndex (files : Files) (current named index_named : List ℕ) (e : Error) : Type 0 where
+-- the manifest was read, and a configuration is not
+pub record HasNoConfigs (files : Files) (current : List ℕ) (home : Option (List ℕ)) (named : List ℕ)
+    (e : Error) : Type 0 where
   pub path : List ℕ
   pub bytes : List ℕ
   pub rust : Option Numbers
   pub manifest : IsManifestRead files current named path bytes rust
+  pub cause : ConfigsFail true files path home e
+
+-- the manifest and its configurations were read, and the index file is not
+pub record HasNoIndex (files : Files) (current : List ℕ) (home : Option (List ℕ)) (named index_named : List ℕ)
+    (e : Error) : Type 0 where
+  pub path : List ℕ
+  pub bytes : List ℕ
+  pub rust : Option Numbers
+  pub configs : List Config
+  pub manifest : IsManifestRead files current named path bytes rust
+  pub configured : AreConfigs files path home configs
   pub cause : IsIndexCause files current index_named e
 
--- both were read, and there is no plan
-pub record HasNoPlan (files : Files) (current named index_named : List ℕ) (e : Error) : Type 0 where
+-- why there is no plan for a manifest that was read with its configurations: the registry of an entry has no
+-- address, or a look in the index is refused, and no answer was known before
+pub record IsPlanCause (bytes : List ℕ) (configs : List Config) (index : FileIndex) (e : Error)
+    : Type 0 where
+  pub kept : Kept
+  pub cause : HasBadEntry configs (λ address name outcome. FileGives index name outcome)
+      (λ address name. None) kept 0 0 bytes e
+
+-- all were read, and there is no plan
+pub record HasNoPlan (files : Files) (current : List ℕ) (home : Option (List ℕ)) (named index_named : List ℕ)
+    (e : Error) : Type 0 where
   pub path : List ℕ
   pub bytes : List ℕ
   pub rust : Option Numbers
+  pub configs : List Config
   pub index : FileIndex
-  pub manifest : IsManifestRead files current named path bytes rust
-  pub indexed : IsIndexRead files current index_named index
-  pub cause : IsPlanCause bytes index e
+  pub read : AreRead files current home named index_named path bytes rust configs index
+  pub cause : IsPlanCause bytes configs index e
 
--- what is wrong with the files that are named
-abbrev pub IsWrong : Files → List ℕ → List ℕ → List ℕ → Error → Type 0
-IsWrong files current named index_named e =
+-- what is wrong with the files that are named, or with a configuration
+abbrev pub IsWrong : Files → List ℕ → Option (List ℕ) → List ℕ → List ℕ → Error → Type 0
+IsWrong files current home named index_named e =
     IsManifestCause files current named e
-    ⊎ (HasNoIndex files current named index_named e ⊎ HasNoPlan files current named index_named e)
+    ⊎ (HasNoConfigs files current home named e
+    ⊎ (HasNoIndex files current home named index_named e ⊎ HasNoPlan files current home named index_named e))
 
 -- memory ran out, or the device failed and the count of faults rose
 abbrev pub IsFailure : ℕ → ℕ → Error → Type 0
 IsFailure before now e =
     IsFault call.Kind before now e ⊎ (IsFault call.Read before now e ⊎ IsFault call.Write before now e)
 
--- why an upgrade is refused: memory or the device failed, or something is wrong with the files
-abbrev pub IsUpgradeCause : Bool → Files → List ℕ → List ℕ → List ℕ → ℕ → ℕ → Error → Type 0
-IsUpgradeCause tells files current named index_named before now e =
-    IsFailure before now e ⊎ (tells ≡ true → IsWrong files current named index_named e)
+-- why an upgrade is refused: memory or the device failed, a stream did not take what is printed, or something
+-- is wrong with the files
+abbrev pub IsUpgradeCause : Bool → Files → List ℕ → Option (List ℕ) → List ℕ → List ℕ → ℕ → ℕ → Error → Type 0
+IsUpgradeCause tells files current home named index_named before now e =
+    IsFailure before now e
+    ⊎ ((e ≡ Output) ⊎ (tells ≡ true → IsWrong files current home named index_named e))

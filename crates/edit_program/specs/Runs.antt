@@ -1,5 +1,5 @@
 -- What a run of the program answers, and what it leaves of the files.
-use Rattle.std.specs.Prelude.{◌≡◌, ◌⊎◌, ℕ, List, [], Bool, Some, true, codes, option_map}
+use Rattle.std.specs.Prelude.{◌≡◌, ◌⊎◌, ℕ, List, [], Bool, Option, Some, true, codes, option_map}
 use Rattle.clap.specs.Words.{IsAmong, fault_of, subcommand_of, takes}
 use Rattle.clap.specs.declared.error.kind.ErrorKind.{ErrorKind}
 use Rattle.clap.specs.declared.error.kind.ErrorKind.TheVariants.{DisplayHelp, DisplayVersion}
@@ -9,21 +9,23 @@ use Rattle.edit_base.specs.declared.errors.Error.TheVariants.{Output}
 use Rattle.edit_sources.specs.Store.{Files, SameFiles}
 use Rattle.edit_program.specs.Causes.{IsUpgradeCause}
 use Rattle.edit_program.specs.CommandLine.{AsksFor, edit_app}
-use Rattle.edit_program.specs.Upgrading.{IsCutShort, IsUpgraded}
+use Rattle.edit_program.specs.Upgrading.{IsBroken, IsUpgraded}
 
--- the manifest that the words name was upgraded
-pub record HasUpgraded (words : List (List ℕ)) (current : List ℕ) (old new : Files) : Type 0 where
+-- the manifest that the words name was upgraded, behind this table
+pub record HasUpgraded (words : List (List ℕ)) (Shows : List ℕ → Type 0) (current : List ℕ)
+    (home : Option (List ℕ)) (old new : Files) : Type 0 where
   pub manifest : List ℕ
   pub index : List ℕ
   pub asks : AsksFor words manifest index
-  pub upgraded : IsUpgraded current manifest index old new
+  pub upgraded : IsUpgraded Shows current home manifest index old new
 
--- the write of the manifest that the words name was refused
-pub record HasCutShort (words : List (List ℕ)) (current : List ℕ) (old new : Files) : Type 0 where
+-- the upgrade of the manifest that the words name was refused, at its write or at the notes behind it
+pub record HasBroken (words : List (List ℕ)) (Shows : List ℕ → Type 0) (current : List ℕ)
+    (home : Option (List ℕ)) (old new : Files) : Type 0 where
   pub manifest : List ℕ
   pub index : List ℕ
   pub asks : AsksFor words manifest index
-  pub cut_short : IsCutShort current manifest index old new
+  pub broken : IsBroken Shows current home manifest index old new
 
 -- the command line does not take the words: they are at fault, or ask for help or the version
 abbrev pub AreNotTaken : List (List ℕ) → Type 0
@@ -52,23 +54,25 @@ abbrev pub AreAtFault : List (List ℕ) → Type 0
 AreAtFault words = IsAnswered words 2 ⊎ NameAnother words
 
 -- a run that is done: the manifest that the words name was upgraded, or help or the version was shown
-abbrev pub IsDone : List (List ℕ) → List ℕ → Files → Files → Type 0
-IsDone words current old new = (IsAnswered words 0 × SameFiles old new) ⊎ HasUpgraded words current old new
+abbrev pub IsDone : List (List ℕ) → (List ℕ → Type 0) → List ℕ → Option (List ℕ) → Files → Files → Type 0
+IsDone words Shows current home old new =
+    (IsAnswered words 0 × SameFiles old new) ⊎ HasUpgraded words Shows current home old new
 
--- a run that was refused: each file is as it was, or the write of the manifest was refused
-abbrev pub IsRefused : List (List ℕ) → List ℕ → Files → Files → Type 0
-IsRefused words current old new = SameFiles old new ⊎ HasCutShort words current old new
+-- a run that was refused: each file is as it was, or the upgrade was refused at its write or behind it
+abbrev pub IsRefused : List (List ℕ) → (List ℕ → Type 0) → List ℕ → Option (List ℕ) → Files → Files → Type 0
+IsRefused words Shows current home old new =
+    SameFiles old new ⊎ HasBroken words Shows current home old new
 
 -- the upgrade that the words ask for was refused
-pub record HasUpgradeCause (words : List (List ℕ)) (current : List ℕ) (tells : Bool) (files : Files)
-    (before now : ℕ) (e : Error) : Type 0 where
+pub record HasUpgradeCause (words : List (List ℕ)) (current : List ℕ) (home : Option (List ℕ))
+    (tells : Bool) (files : Files) (before now : ℕ) (e : Error) : Type 0 where
   pub manifest : List ℕ
   pub index : List ℕ
   pub asks : AsksFor words manifest index
-  pub cause : IsUpgradeCause tells files current manifest index before now e
+  pub cause : IsUpgradeCause tells files current home manifest index before now e
 
 -- why a run is refused: memory ran out, help or the version was not written, or the upgrade was refused
-abbrev pub IsRunCause : List (List ℕ) → List ℕ → Bool → Files → ℕ → ℕ → Error → Type 0
-IsRunCause words current tells files before now e =
+abbrev pub IsRunCause : List (List ℕ) → List ℕ → Option (List ℕ) → Bool → Files → ℕ → ℕ → Error → Type 0
+IsRunCause words current home tells files before now e =
     IsMemory e
-    ⊎ (((e ≡ Output) × IsAnswered words 0) ⊎ HasUpgradeCause words current tells files before now e)
+    ⊎ (((e ≡ Output) × IsAnswered words 0) ⊎ HasUpgradeCause words current home tells files before now e)

@@ -1,5 +1,5 @@
 -- What an upgrade of one manifest reads, plans and writes.
-use Rattle.std.specs.Prelude.{◌≡◌, ℕ, List, [], All, true, false, IsSome, Option, Some, None, Ok, codes, option_and_then, slice_get, string_bytes}
+use Rattle.std.specs.Prelude.{◌≡◌, ◌⊎◌, ℕ, List, [], All, true, false, IsSome, Option, Some, None, Ok, codes, map, option_and_then, pos, slice_get, string_bytes}
 use Rattle.edit_base.specs.Paths.{IsNormalOf, joined}
 use Rattle.edit_document.specs.Assertions.{at, key}
 use Rattle.edit_syntax.specs.Grammar.{Text}
@@ -7,18 +7,22 @@ use Rattle.edit_document.specs.Items.{string_in}
 use Rattle.edit_document.specs.Supported.{IsManifest}
 use Rattle.edit_document.specs.Tree.{view_at}
 use Rattle.edit_version.specs.RustVersions.{Numbers, rust_of}
+use Rattle.edit_sources.specs.ConfigurationFiles.{AreConfigs}
 use Rattle.edit_sources.specs.FileIndex.{FileGives, HoldsLines}
 use Rattle.edit_sources.specs.Index.{answer_of}
 use Rattle.edit_sources.specs.Store.{Files, SameBut, SameFiles}
+use Rattle.edit_sources.specs.declared.config.Config.{Config}
 use Rattle.edit_sources.specs.declared.file_index.FileIndex.{FileIndex}
 use Rattle.edit_manifest.specs.Tables.{Tree}
 use Rattle.cargo_edit.specs.Inputs.{Setting}
 use Rattle.cargo_edit.specs.Looks.{look_at}
 use Rattle.cargo_edit.specs.Outputs.{HasOutputs}
-use Rattle.cargo_edit.specs.Rows.{Line}
+use Rattle.cargo_edit.specs.Lines.{line_of}
 use Rattle.cargo_edit.specs.Upgraded.{HasRows, IsNeededBy}
 use Rattle.cargo_edit.specs.declared.upgrade.Look.{Look}
 use Rattle.cargo_edit.specs.declared.upgrade.Options.{Options}
+use Rattle.edit_report.specs.Table.{report_text}
+use Rattle.edit_report.specs.declared.row.Row.{Row}
 use Rattle.edit_report.specs.declared.output.Output.{Output}
 use Rattle.edit_manifest.specs.Located.{IsManifestPath}
 
@@ -72,23 +76,31 @@ pub record IsDefault (o : Options) : Type 0 where
   pub no_words : o.package.items ≡ []
   pub no_exclusions : o.exclude.items ≡ []
 
--- what the rows of the one manifest rest on: it has no configurations
-abbrev pub alone : Options → Option Numbers → List Look → Setting
-alone options rust looks = record { input = 0; options = options; rust = rust; configs = []; looks = looks }
+-- what an upgrade rests on was read: the manifest that is named, its configurations, and the index file
+pub record AreRead (files : Files) (current : List ℕ) (home : Option (List ℕ))
+    (named index_named path bytes : List ℕ) (rust : Option Numbers) (configs : List Config)
+    (index : FileIndex) : Type 0 where
+  pub manifest : IsManifestRead files current named path bytes rust
+  pub configured : AreConfigs files path home configs
+  pub indexed : IsIndexRead files current index_named index
 
--- the plan for a manifest over an index: what the index gives for each name that is needed decides the rows,
--- and the outputs are what the rows write
-pub record IsPlanned (path bytes : List ℕ) (rust : Option Numbers) (index : FileIndex)
-    (outputs : List Output) : Type 0 where
+-- what the rows of the one manifest rest on
+abbrev pub alone : Options → Option Numbers → List Config → List Look → Setting
+alone options rust configs looks =
+    record { input = 0; options = options; rust = rust; configs = configs; looks = looks }
+
+-- the plan for a manifest with its configurations over an index: what the index gives for each name that is
+-- needed decides the rows, and the outputs are what the rows write
+pub record IsPlanned (path bytes : List ℕ) (rust : Option Numbers) (configs : List Config)
+    (index : FileIndex) (rows : List Row) (outputs : List Output) : Type 0 where
   pub options : Options
   pub default : IsDefault options
   pub looks : List Look
-  pub complete : (address name : List ℕ) → IsNeededBy [] bytes address name
+  pub complete : (address name : List ℕ) → IsNeededBy configs bytes address name
       → IsSome (look_at looks address name)
   pub given : All (λ look. FileGives index (string_bytes look.name) (Ok (answer_of look.answer))) looks
-  pub rows : List Line
-  pub decided : HasRows (alone options rust looks) bytes rows
-  pub writes : HasOutputs path bytes rows outputs
+  pub decided : HasRows (alone options rust configs looks) bytes (map line_of rows)
+  pub writes : HasOutputs path bytes (map line_of rows) outputs
 
 -- an output stands in its file, and each other file is as it was; without an output each file is
 abbrev pub IsWritten : Option Output → Files → Files → Type 0
@@ -101,24 +113,37 @@ abbrev pub IsTorn : Option Output → Files → Files → Type 0
 IsTorn None old new = ⊥
 IsTorn (Some output) old new = SameBut (string_bytes output.path) old new
 
--- the manifest that is named was read, and a plan made for it by the index file that is named, of whose output
--- this holds
-pub record IsPlannedTo (Leaves : Option Output → Files → Files → Type 0) (current named index_named : List ℕ)
-    (old new : Files) : Type 0 where
+-- the files were read, a plan was made for the manifest that is named, and this holds of its output, and this
+-- of the table of its rows
+pub record IsPlannedTo (Leaves : Option Output → Files → Files → Type 0) (Shows : List ℕ → Type 0)
+    (current : List ℕ) (home : Option (List ℕ)) (named index_named : List ℕ) (old new : Files)
+    : Type 0 where
   pub path : List ℕ
   pub bytes : List ℕ
   pub rust : Option Numbers
+  pub configs : List Config
   pub index : FileIndex
+  pub rows : List Row
   pub outputs : List Output
-  pub manifest : IsManifestRead old current named path bytes rust
-  pub indexed : IsIndexRead old current index_named index
-  pub planned : IsPlanned path bytes rust index outputs
+  pub read : AreRead old current home named index_named path bytes rust configs index
+  pub planned : IsPlanned path bytes rust configs index rows outputs
+  pub shows : Shows (report_text (pos 0) rows)
   pub leaves : Leaves (slice_get outputs 0) old new
 
--- the manifest that is named was upgraded: its plan's output was written
-abbrev pub IsUpgraded : List ℕ → List ℕ → List ℕ → Files → Files → Type 0
-IsUpgraded current named index_named old new = IsPlannedTo IsWritten current named index_named old new
+-- the manifest that is named was upgraded: its plan's output was written, behind the table
+abbrev pub IsUpgraded : (List ℕ → Type 0) → List ℕ → Option (List ℕ) → List ℕ → List ℕ → Files → Files
+    → Type 0
+IsUpgraded Shows current home named index_named old new =
+    IsPlannedTo IsWritten Shows current home named index_named old new
 
 -- the same up to the write, which was refused
-abbrev pub IsCutShort : List ℕ → List ℕ → List ℕ → Files → Files → Type 0
-IsCutShort current named index_named old new = IsPlannedTo IsTorn current named index_named old new
+abbrev pub IsCutShort : (List ℕ → Type 0) → List ℕ → Option (List ℕ) → List ℕ → List ℕ → Files → Files
+    → Type 0
+IsCutShort Shows current home named index_named old new =
+    IsPlannedTo IsTorn Shows current home named index_named old new
+
+-- an upgrade that was refused at its write, or behind it at the notes
+abbrev pub IsBroken : (List ℕ → Type 0) → List ℕ → Option (List ℕ) → List ℕ → List ℕ → Files → Files → Type 0
+IsBroken Shows current home named index_named old new =
+    IsCutShort Shows current home named index_named old new
+    ⊎ IsUpgraded Shows current home named index_named old new

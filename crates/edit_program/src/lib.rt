@@ -3,8 +3,11 @@
 
 mod arguments;
 mod locate;
+mod notes;
+mod own;
 mod program;
 mod refusal;
+mod reported;
 mod upgrade;
 
 pub use program::run;

@@ -1,8 +1,10 @@
 //! The program over any files and any writers.
 ghost use Rattle.std.specs.Prelude.{◌≡◌, ◌≢◌, ◌⊎◌, ◌≤◌, IfErr, IfOk, IsErrAnd, OnErr, map, true};
+ghost use Rattle.std.specs.Io.KnownBytes.{Appends};
 ghost use Rattle.clap.specs.Words.{kind_of};
 ghost use Rattle.edit_base.specs.Errors.{IsMemory};
 ghost use Rattle.edit_base.specs.declared.errors.Error.TheVariants.{Output};
+ghost use Rattle.edit_sources.specs.Configured.{given};
 ghost use Rattle.edit_program.specs.Runs.{IsDone, AreAtFault, IsRefused, IsRunCause, status_of};
 
 use crate::arguments::{command, upgrade_words};
@@ -53,6 +55,7 @@ fn answer<S: Store, O: io::Write, E: io::Write>(
     alloc: Global,
     words: &[&str],
     current: &str,
+    cargo_home: Option<&str>,
     files: &mut S,
     out: &mut O,
     err: &mut E,
@@ -60,13 +63,13 @@ fn answer<S: Store, O: io::Write, E: io::Write>(
     ensures answered { IfOk result (λ s. s ≢ 0 → files.new ≡ files.old) }
     ensures fault { IfOk result (λ s. s ≢ 0 → (s ≡ 2) × AreAtFault (map (λ w. w.now) words.now)) }
     ensures done { IfOk result (λ s. s ≡ 0 → (S.view files.old).tells ≡ true
-        → IsDone (map (λ w. w.now) words.now) current.now (S.view files.old).file_at
-        (S.view files.new).file_at) }
+        → IsDone (map (λ w. w.now) words.now) (Appends (O.contents out.old) (O.contents out.new))
+        current.now (given cargo_home.entry) (S.view files.old).file_at (S.view files.new).file_at) }
     ensures refused { OnErr result ((S.view files.old).tells ≡ true
-        → IsRefused (map (λ w. w.now) words.now) current.now (S.view files.old).file_at
-        (S.view files.new).file_at) }
+        → IsRefused (map (λ w. w.now) words.now) (Appends (O.contents out.old) (O.contents out.new))
+        current.now (given cargo_home.entry) (S.view files.old).file_at (S.view files.new).file_at) }
     ensures why { IfErr result (λ r. IsRunCause (map (λ w. w.now) words.now) current.now
-        (S.view files.old).tells (S.view files.old).file_at (S.view files.old).faults
+        (given cargo_home.entry) (S.view files.old).tells (S.view files.old).file_at (S.view files.old).faults
         (S.view files.new).faults r.error) }
 {
     let command = command(alloc)?;
@@ -77,20 +80,22 @@ fn answer<S: Store, O: io::Write, E: io::Write>(
     let Some(("upgrade", matches)) = matches.subcommand() else {
         return Ok(2);
     };
-    upgrade(alloc, &upgrade_words(matches), current, files)?;
+    let words = upgrade_words(matches);
+    upgrade(alloc, &words, current, cargo_home, files, out, err)?;
     Ok(0)
 }
 
 /// Runs the words, which begin with the subcommand, and answers the status: 0 done; 1 a refusal, whose text
 /// is printed on `err` behind `Error: `, with its place in a second line where it is known; 2 a fault of the
 /// command line, also an empty path. `current` is the absolute folder that relative paths start from.
-/// Manifests and the index file are read and written through `files`; `index_files` serves the indexes of
-/// folders, and `cargo_home` the configurations, which no command reads so far.
+/// Manifests, configurations and the index file are read, and manifests written, through `files`;
+/// `cargo_home` is the folder whose configuration counts last. `index_files` serves the indexes of folders,
+/// which no command reads so far.
 pub fn run<S: Store, T: Store + Drop, O: io::Write, E: io::Write>(
     alloc: Global,
     words: &[&str],
     current: &str,
-    _cargo_home: Option<&str>,
+    cargo_home: Option<&str>,
     files: &mut S,
     _index_files: T,
     out: &mut O,
@@ -100,13 +105,13 @@ pub fn run<S: Store, T: Store + Drop, O: io::Write, E: io::Write>(
     ensures faulty { result ≡ 2 → files.new ≡ files.old }
     ensures fault { result ≡ 2 → AreAtFault (map (λ w. w.now) words.now) }
     ensures done { result ≡ 0 → (S.view files.old).tells ≡ true
-        → IsDone (map (λ w. w.now) words.now) current.now (S.view files.old).file_at
-        (S.view files.new).file_at }
+        → IsDone (map (λ w. w.now) words.now) (Appends (O.contents out.old) (O.contents out.new))
+        current.now (given cargo_home.entry) (S.view files.old).file_at (S.view files.new).file_at }
     ensures refused { result ≡ 1 → (S.view files.old).tells ≡ true
-        → IsRefused (map (λ w. w.now) words.now) current.now (S.view files.old).file_at
-        (S.view files.new).file_at }
+        → IsRefused (map (λ w. w.now) words.now) (Appends (O.contents out.old) (O.contents out.new))
+        current.now (given cargo_home.entry) (S.view files.old).file_at (S.view files.new).file_at }
 {
-    match answer(alloc, words, current, files, out, err) {
+    match answer(alloc, words, current, cargo_home, files, out, err) {
         Ok(status) => status,
         Err(refusal) => refuse(refusal, err),
     }

@@ -1,26 +1,32 @@
 //! The command `upgrade`: reads, plans, then writes.
-ghost use Rattle.std.specs.Prelude.{◌≡◌, ◌⊎◌, ◌≤◌, IfErr, IfOk, OnErr, OnOk, option_copied, option_map, string_bytes, true};
-ghost use Rattle.edit_base.specs.Errors.{IsMemory, number_of};
-ghost use Rattle.edit_document.specs.Shown.{tree_of};
+ghost use Rattle.std.specs.Prelude.{◌≡◌, ◌⊎◌, ◌≤◌, IfErr, IfOk, OnErr, OnOk, option_copied, option_map, pos, slice_get, string_bytes, true};
+ghost use Rattle.std.specs.Io.KnownBytes.{Appends};
+ghost use Rattle.edit_base.specs.Errors.{IsMemory};
+ghost use Rattle.edit_base.specs.declared.errors.Error.TheVariants.{Output as unwritten};
+ghost use Rattle.edit_report.specs.Table.{report_text};
 ghost use Rattle.edit_base.specs.declared.errors.DeviceCall.TheVariants as call;
 ghost use Rattle.edit_version.specs.RustVersions.{numbers_of};
-ghost use Rattle.edit_sources.specs.Store.{OnlyReads};
-ghost use Rattle.edit_sources.specs.Store.{SameFiles};
+ghost use Rattle.edit_sources.specs.Configured.{given};
+ghost use Rattle.edit_sources.specs.Store.{OnlyReads, SameFiles};
 ghost use Rattle.edit_manifest.specs.Located.{IsFault};
 ghost use Rattle.edit_manifest.specs.Loaded.{IsBadManifest};
 ghost use Rattle.edit_program.specs.Causes.{IsIndexCause, IsManifestCause, IsPlanCause, IsUpgradeCause};
-ghost use Rattle.edit_program.specs.Upgrading.{HasRust, IsCutShort, IsDefault, IsIndexRead, IsManifestRead, IsPlanned, IsTorn, IsUpgraded, IsWritten, own_rust, package_text};
+ghost use Rattle.edit_program.specs.Upgrading.{AreRead, HasRust, IsBroken, IsDefault, IsIndexRead, IsManifestRead, IsPlanned, IsTorn, IsUpgraded, IsWritten};
 
 use crate::arguments::UpgradeWords;
 use crate::locate::{absolute, manifest_path};
+use crate::notes::print_notes;
+use crate::own::{own_name, own_rust_version};
 use crate::refusal::{RunResult, at_byte, at_path};
-use cargo_edit::{Input, Options, Output, plan_documents};
+use crate::reported::print_report;
+use cargo_edit::{Input, Options, Output, UpgradePlan, plan_documents};
 use edit_base::{CargoResult, Error};
 use edit_document::Document;
 use edit_manifest::Manifest;
+use edit_sources::config::read_configs;
 use edit_sources::{Config, FileIndex, IndexCache, Store};
-use edit_version::RustVersion;
 use std::alloc::Global;
+use std::io;
 use std::slice::from_ref;
 
 /// A manifest that was read: what is to be planned, and the document that its bytes are.
@@ -30,51 +36,12 @@ struct ReadManifest {
     document: Document,
 }
 
-/// The text of `package.KEY`, where it is a string.
-fn package_text<'a>(document: &'a Document, key: &str) -> Option<&'a str>
-    ensures { option_map (λ s. s.now) result ≡ package_text (tree_of document.entry.now) key.now }
-{
-    let root = document.item(&[])?;
-    let package_item = root.get("package")?;
-    let item = package_item.get(key)?;
-    item.as_str()
-}
-
-/// The number of the refusal for want of memory.
-const MEMORY: u32 = 46;
-
-/// The number of a refusal, which is let go.
-fn number(error: Error) -> u32
-    ensures { result ≡ number_of error }
-{
-    error.number()
-}
-
-/// The manifest's own Rust version, where it is there and is read.
-fn own_rust_version(alloc: Global, document: &Document) -> CargoResult<Option<RustVersion>>
-    ensures ok { IfOk result (λ v. option_map numbers_of v ≡ own_rust (tree_of document.now)) }
-    ensures refused { IfErr result IsMemory }
-{
-    let Some(text) = package_text(document, "rust-version") else {
-        return Ok(None);
-    };
-    match RustVersion::from_str(alloc, text) {
-        Ok(version) => Ok(Some(version)),
-        Err(error) => {
-            if number(error) == MEMORY {
-                return Err(Error::Memory);
-            }
-            Ok(None)
-        }
-    }
-}
-
-/// What reports call the manifest.
-fn own_name(alloc: Global, document: &Document) -> CargoResult<String>
-    ensures { IfErr result IsMemory }
-{
-    let name = package_text(document, "name").unwrap_or("virtual workspace");
-    Ok(String::from_str(alloc, name)?)
+/// What an upgrade rests on, as it was read.
+#[derive(Drop)]
+struct Sources {
+    manifest: ReadManifest,
+    configs: Vec<Config>,
+    index: FileIndex,
 }
 
 /// The manifest to plan for, by its own name and Rust version. Its bytes are read once.
@@ -154,6 +121,36 @@ fn read_index<S: Store>(
     }
 }
 
+/// Reads what an upgrade rests on, in this order: the manifest, its configurations, the index file.
+fn read_sources<S: Store>(
+    alloc: Global,
+    words: &UpgradeWords<'_>,
+    current: &str,
+    cargo_home: Option<&str>,
+    files: &mut S,
+) -> RunResult<Sources>
+    ensures store { OnlyReads (S.view files.old) (S.view files.new) }
+    ensures read { IfOk result (λ s. (S.view files.old).tells ≡ true
+        → AreRead (S.view files.old).file_at current.now (given cargo_home.entry)
+        words.now.manifest_path.now words.now.index_file.now
+        (string_bytes s.manifest.input.path) s.manifest.input.bytes.items
+        (option_map numbers_of s.manifest.input.rust_version) s.configs.items s.index) }
+    ensures document { IfOk result (λ s. s.manifest.document.bytes ≡ s.manifest.input.bytes.items) }
+    ensures refused { IfErr result (λ r. IsUpgradeCause (S.view files.old).tells
+        (S.view files.old).file_at current.now (given cargo_home.entry)
+        words.now.manifest_path.now words.now.index_file.now
+        (S.view files.old).faults (S.view files.new).faults r.error) }
+{
+    let manifest = read_manifest(alloc, words.manifest_path, current, files)?;
+    let configs = read_configs(alloc, files, manifest.input.path.as_str(), cargo_home)?;
+    let index = read_index(alloc, words.index_file, current, files)?;
+    Ok(Sources {
+        manifest,
+        configs,
+        index,
+    })
+}
+
 /// What is allowed where no word says otherwise.
 fn default_options(alloc: Global) -> Options
     ensures { IsDefault result }
@@ -171,22 +168,28 @@ fn default_options(alloc: Global) -> Options
     }
 }
 
-/// The outputs of the plan for a manifest over an index. It has no configurations.
-fn outputs_for(alloc: Global, manifest: &ReadManifest, index: FileIndex) -> CargoResult<Vec<Output>>
+/// The plan for a manifest with its configurations over an index.
+fn plan_for(
+    alloc: Global,
+    manifest: &ReadManifest,
+    configs: &Vec<Config>,
+    index: FileIndex,
+) -> CargoResult<UpgradePlan>
     requires { manifest.now.document.bytes ≡ manifest.now.input.bytes.items }
-    ensures ok { IfOk result (λ v.
+    ensures ok { IfOk result (λ p.
         IsPlanned (string_bytes manifest.now.input.path) manifest.now.input.bytes.items
-        (option_map numbers_of manifest.now.input.rust_version) index v.items) }
-    ensures refused { IfErr result (λ e. IsMemory e ⊎ IsPlanCause manifest.now.input.bytes.items index e) }
+        (option_map numbers_of manifest.now.input.rust_version) configs.now.items index p.rows.items
+        p.outputs.items) }
+    ensures refused { IfErr result (λ e. IsMemory e
+        ⊎ IsPlanCause manifest.now.input.bytes.items configs.now.items index e) }
 {
     let mut cache = IndexCache::new(alloc, index);
     let inputs = from_ref(&manifest.input);
     let documents = from_ref(&manifest.document);
-    let none: Vec<Config> = Vec::new(alloc);
-    let configs = from_ref(&none);
+    let configs = from_ref(configs);
     let options = default_options(alloc);
     let plan = plan_documents(alloc, &options, inputs, documents, configs, &mut cache)?;
-    Ok(plan.outputs)
+    Ok(plan)
 }
 
 /// Writes the output of a plan for one manifest, where there is one.
@@ -209,30 +212,70 @@ fn write_output<S: Store>(alloc: Global, files: &mut S, output: Option<&Output>)
     }
 }
 
-/// Raises the requirements of the manifest that the words name. No file changes before the plan is made.
-pub(crate) fn upgrade<S: Store>(
+/// Prints the report of a plan for one manifest, writes its output, and prints the notes.
+fn deliver<S: Store, O: io::Write, E: io::Write>(
+    alloc: Global,
+    name: &str,
+    plan: &UpgradePlan,
+    files: &mut S,
+    out: &mut O,
+    err: &mut E,
+) -> RunResult<()>
+    ensures tells { (S.view files.new).tells ≡ (S.view files.old).tells }
+    ensures later { (S.view files.old).faults ≤ (S.view files.new).faults }
+    ensures done { OnOk result (
+        Appends (O.contents out.old) (O.contents out.new) (report_text (pos 0) plan.now.rows.items)
+        × ((S.view files.old).tells ≡ true → IsWritten (slice_get plan.now.outputs.items 0)
+        (S.view files.old).file_at (S.view files.new).file_at)) }
+    ensures stopped { OnErr result (SameFiles (S.view files.old).file_at (S.view files.new).file_at
+        ⊎ (Appends (O.contents out.old) (O.contents out.new) (report_text (pos 0) plan.now.rows.items)
+        × (IsTorn (slice_get plan.now.outputs.items 0) (S.view files.old).file_at (S.view files.new).file_at
+        ⊎ ((S.view files.old).tells ≡ true → IsWritten (slice_get plan.now.outputs.items 0)
+        (S.view files.old).file_at (S.view files.new).file_at)))) }
+    ensures cause { IfErr result (λ r. r.error ≡ unwritten
+        ⊎ IsFault call.Write (S.view files.old).faults (S.view files.new).faults r.error) }
+{
+    print_report(alloc, name, plan, 0, out, err)?;
+    write_output(alloc, files, plan.outputs.first())?;
+    print_notes(alloc, plan, 0, err)?;
+    Ok(())
+}
+
+/// Raises the requirements of the manifest that the words name. No file changes before the plan is made and
+/// its report printed.
+pub(crate) fn upgrade<S: Store, O: io::Write, E: io::Write>(
     alloc: Global,
     words: &UpgradeWords<'_>,
     current: &str,
+    cargo_home: Option<&str>,
     files: &mut S,
+    out: &mut O,
+    err: &mut E,
 ) -> RunResult<()>
     ensures tells { (S.view files.new).tells ≡ (S.view files.old).tells }
     ensures done { OnOk result ((S.view files.old).tells ≡ true
-        → IsUpgraded current.now words.now.manifest_path.now
-        words.now.index_file.now (S.view files.old).file_at (S.view files.new).file_at) }
+        → IsUpgraded (Appends (O.contents out.old) (O.contents out.new)) current.now
+        (given cargo_home.entry) words.now.manifest_path.now words.now.index_file.now
+        (S.view files.old).file_at (S.view files.new).file_at) }
     // a refusal before the write leaves each file as it was
     ensures refused { OnErr result ((S.view files.old).tells ≡ true
         → SameFiles (S.view files.old).file_at (S.view files.new).file_at
-        ⊎ IsCutShort current.now words.now.manifest_path.now words.now.index_file.now
+        ⊎ IsBroken (Appends (O.contents out.old) (O.contents out.new)) current.now
+        (given cargo_home.entry) words.now.manifest_path.now words.now.index_file.now
         (S.view files.old).file_at (S.view files.new).file_at) }
     // and each refusal has its cause
     ensures why { IfErr result (λ r. IsUpgradeCause (S.view files.old).tells
-        (S.view files.old).file_at current.now
+        (S.view files.old).file_at current.now (given cargo_home.entry)
         words.now.manifest_path.now words.now.index_file.now
         (S.view files.old).faults (S.view files.new).faults r.error) }
 {
-    let manifest = read_manifest(alloc, words.manifest_path, current, files)?;
-    let index = read_index(alloc, words.index_file, current, files)?;
-    let outputs = outputs_for(alloc, &manifest, index)?;
-    write_output(alloc, files, outputs.first())
+    let sources = read_sources(alloc, words, current, cargo_home, files)?;
+    let Sources {
+        manifest,
+        configs,
+        index,
+    } = sources;
+    let plan = plan_for(alloc, &manifest, &configs, index)?;
+    let name = manifest.input.name.as_str();
+    deliver(alloc, name, &plan, files, out, err)
 }

@@ -1,11 +1,13 @@
 -- What it says of an entry that it is kept.
 use Rattle.std.proofs.Common.{◌≡◌, List, ℕ, Option, Some, None, Ok, Err, Bool, true, false, refl, ap, ◌∙◌, sym, inl, inr}
 use Rattle.std.specs.Prelude.{Result, if◌then◌else◌, option_map}
+use Rattle.std.specs.Result.{result_ok}
 use Rattle.std.proofs.lemmas.Bool.{cases_Bool}
 use Rattle.semver.specs.Parse.{Parts, version_parts}
 use Rattle.semver.specs.declared.error.Error.{Error}
-use Rattle.edit_record.specs.Admissible.{admissible, asked_rust, candidate_in, if_fits, if_passes, if_read, is_too_new, kept_in, version_in, version_read}
+use Rattle.edit_record.specs.Admissible.{admissible, asked_rust, candidate_in, if_fits, if_passes, is_too_new, kept_in, version_in}
 use Rattle.edit_record.specs.IndexEntry.{IndexEntry}
+use Rattle.edit_version.specs.ReadVersion.{version_read}
 use Rattle.edit_version.specs.RustVersions.{Numbers}
 
 passes-some : (test : Parts → Bool) (o : Option Parts) (v : Parts) → if_passes test o ≡ Some v → (o ≡ Some v)
@@ -35,13 +37,13 @@ candidate-some false r None c h = cc h
 candidate-some false r (Some v) c h = let e : (v, r) ≡ c = cc h in
     ap (λ (p : Parts × Option Numbers). Some p.0) e
 
-if_read-ok : (r : Result Parts Error) (v : Parts) → if_read r ≡ Some v → r ≡ Ok v
-if_read-ok (Ok w) v h = let e : w ≡ v = cc h in ap (λ (x : Parts). Ok x) e
-if_read-ok (Err e) v h = cc h
+result_ok-ok : (r : Result Parts Error) (v : Parts) → result_ok r ≡ Some v → r ≡ Ok v
+result_ok-ok (Ok w) v h = let e : w ≡ v = cc h in ap (λ (x : Parts). Ok x) e
+result_ok-ok (Err e) v h = cc h
 
 -- a version that is read of a text
 pub read-parts : (text : List ℕ) (v : Parts) → version_read text ≡ Some v → version_parts text ≡ Ok v
-read-parts text v h = if_read-ok (version_parts text) v h
+read-parts text v h = result_ok-ok (version_parts text) v h
 
 -- the version of an admissible entry is that of its text
 pub admissible-version : (rust : Option Numbers) (e : IndexEntry) (v : Parts) → admissible rust e ≡ Some v

@@ -16,12 +16,12 @@ use Rattle.edit_document.specs.NewItemViews.{value_seen}
 use Rattle.edit_document.specs.declared.new_item.NewValue.{NewValue as WrittenValue}
 use Rattle.edit_document.specs.Shown.{Shown, ShowsTree, tree_of}
 use Rattle.edit_document.specs.Supported.{IsManifest}
-use Rattle.edit_document.specs.Tree.{view_at}
+use Rattle.edit_document.specs.Tree.{View, view_at}
 use Rattle.edit_record.specs.EndViews.{end_seen, ends_seen}
 use Rattle.edit_record.specs.EntryRecords.{EntryRecord, Origin, from_registry, from_path, from_git, from_workspace}
-use Rattle.edit_record.specs.EntryUpdates.{Change, End, Update, changed_by, changes, ends, is_slight, removal_of, removes, replaced_by, update_of, write_of}
+use Rattle.edit_record.specs.EntryUpdates.{Change, End, changed_by, changes, ends, is_slight, removal_of, removes, replaced_by, update_of}
 use Rattle.edit_record.specs.NewEntries.{is_short, item_by, item_of}
-use Rattle.edit_record.specs.ReadEntries.{Tree, below}
+use Rattle.edit_record.specs.ReadEntries.{below}
 use Rattle.edit_record.specs.RecordViews.{shown_at}
 use Rattle.edit_record.specs.UpdatedTexts.{ChangeFails, Changed, OneFails, changed_text, update_in}
 use Rattle.edit_record.specs.declared.dependency.ends.End.{End as WrittenEnd}
@@ -177,7 +177,7 @@ entry_tree : (d : Shown) (form : Text) (place : Place) → ShowsTree d form
 entry_tree d form place shows = λ i rest. shows (place ++ rest) i
 
 -- it is replaced
-pub is_other : (d : Shown) (form : Text) (place : Place) (root : List ℕ) (r : EntryRecord)
+is_other : (d : Shown) (form : Text) (place : Place) (root : List ℕ) (r : EntryRecord)
     → ShowsTree d form → (is_one_statement form place && is_slight (tree_of d place)) ≡ true
     → update_in form place root r ≡ replaced_by (item_of root r)
 is_other d form place root r shows is =
@@ -185,7 +185,7 @@ is_other d form place root r shows is =
     ∙ rw (ap (λ p. is_one_statement form place && is_slight (tree_of d p)) (append-nil place) ∙ is) refl
 
 -- or its members change
-pub is_changed : (d : Shown) (form : Text) (place : Place) (root : List ℕ) (r : EntryRecord) (es : List End)
+is_changed : (d : Shown) (form : Text) (place : Place) (root : List ℕ) (r : EntryRecord) (es : List End)
     → ShowsTree d form → (is_one_statement form place && is_slight (tree_of d place)) ≡ false
     → es ≡ ends (below (tree_of d) place) root r → update_in form place root r ≡ changed_by (changes es)
 is_changed d form place root r es shows is same =
@@ -194,8 +194,29 @@ is_changed d form place root r es shows is same =
     ∙ ap (λ l. changed_by (changes l)) (sym same)
 
 -- the ends of the members that an item's tree asks for are those of the entry's place
-pub entry_ends : (i : Item) (d : Shown) (place : Place) (root : List ℕ) (r : EntryRecord) (es : List End)
+entry_ends : (i : Item) (d : Shown) (place : Place) (root : List ℕ) (r : EntryRecord) (es : List End)
     → document_of i ≡ d → place_of i ≡ place → es ≡ ends (shown_at i) root r
     → es ≡ ends (below (tree_of d) place) root r
 entry_ends i d place root r es same there is =
     is ∙ ap (λ t. ends t root r) (λ j. below (tree_of (same j)) (there j))
+
+-- an item at the place decides whether another entry comes there
+decided : (d : Shown) (form : Text) (place : Place) (v : Option View) (b c : Bool)
+    → tree_of d place ≡ v → b ≡ (is_one_statement form place && is_slight v) → b ≡ c
+    → (is_one_statement form place && is_slight (tree_of d place)) ≡ c
+decided d form place v b c here is same = ap (λ o. is_one_statement form place && is_slight o) here ∙ sym is ∙ same
+
+pub item_other : (d : Shown) (form : Text) (place : Place) (root : List ℕ) (r : EntryRecord) (v : Option View) (b : Bool)
+    → ShowsTree d form → tree_of d place ≡ v → b ≡ (is_one_statement form place && is_slight v) → b ≡ true
+    → update_in form place root r ≡ replaced_by (item_of root r)
+item_other d form place root r v b shows here is same =
+    is_other d form place root r shows (decided d form place v b true here is same)
+
+pub item_changed : (i : Item) (d : Shown) (form : Text) (place : Place) (root : List ℕ) (r : EntryRecord) (es : List End)
+    (v : Option View) (b : Bool)
+    → ShowsTree d form → document_of i ≡ d → place_of i ≡ place → es ≡ ends (shown_at i) root r
+    → tree_of d place ≡ v → b ≡ (is_one_statement form place && is_slight v) → b ≡ false
+    → update_in form place root r ≡ changed_by (changes es)
+item_changed i d form place root r es v b shows same there ends_are here is fails =
+    is_changed d form place root r es shows (decided d form place v b false here is fails)
+    (entry_ends i d place root r es same there ends_are)

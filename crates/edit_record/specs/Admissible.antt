@@ -1,24 +1,15 @@
 -- Which of the versions that an index tells of may be chosen (Cargo reference, "The Manifest Format",
 -- rust-version, and "cargo yank").
-use Rattle.std.specs.Prelude.{ℕ, Bool, false, if◌then◌else◌, Option, Some, None, Result, Ok, Err, option_and_then, option_map, is_some, unwrap_or, [], List}
+use Rattle.std.specs.Prelude.{Bool, false, if◌then◌else◌, Option, Some, None, option_and_then, option_map, is_some, unwrap_or, [], List}
 use Rattle.std.specs.List.{filter_map}
 use Rattle.std.specs.declared.cmp.Ordering.{Ordering}
-use Rattle.semver.specs.Parse.{Held, Parts, version_parts}
-use Rattle.semver.specs.declared.error.Error.{Error}
+use Rattle.semver.specs.Parse.{Held, Parts}
 use Rattle.edit_version.specs.Admits.{admits}
 use Rattle.edit_record.specs.IndexEntry.{IndexEntry}
+use Rattle.edit_version.specs.ReadVersion.{version_read}
 use Rattle.edit_version.specs.RustVersions.{Numbers, is_above, rust_of}
 use Rattle.edit_version.specs.Selection.{is_allowed}
 use Rattle.edit_version.specs.VersionOrder.{full_order}
-
--- what was read, where it was
-abbrev pub if_read : Result Parts Error → Option Parts
-if_read (Ok v) = Some v
-if_read (Err e) = None
-
--- the version that a text is, none where it is none (SemVer 2.0.0)
-abbrev pub version_read : List ℕ → Option Parts
-version_read text = if_read (version_parts text)
 
 -- the version of an entry's text
 abbrev pub version_in : IndexEntry → Option Parts

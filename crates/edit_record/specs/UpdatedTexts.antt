@@ -1,9 +1,9 @@
--- The text in which an entry says what a record says, over the edits of the document, and when one is refused.
+-- The text in which an entry says what a record says, over the edits of the document, and when one is
+-- refused.
 use Rattle.std.specs.Prelude.{◌≡◌, ℕ, Bool, List, [], ◌∷◌, ◌++◌, None, is_some, if◌then◌else◌}
 use Rattle.edit_document.specs.Assertions.{key, Place, at}
 use Rattle.edit_document.specs.EditBytes.{set_text, replaced_text, inserted_text, is_one_statement}
 use Rattle.edit_document.specs.Meant.{ReplaceFails, InsertFails, RemoveFails}
-use Rattle.edit_document.specs.NewItems.{NewValue}
 use Rattle.edit_document.specs.RemovedBytes.{removed_text}
 use Rattle.edit_document.specs.Supported.{IsManifest}
 use Rattle.edit_document.specs.Tree.{is_value_at, view_at}
@@ -18,8 +18,8 @@ use Rattle.edit_syntax.specs.Grammar.{Text, text}
 abbrev pub is_there : Text → Place → Bool
 is_there form place = is_some (view_at form place)
 
--- The text with one edit of a member: the literal of one that is a value is replaced, and a new one is inserted;
--- one that is there is removed. What was not written as a value has no literal, and stays (own).
+-- The text with one edit of a member: the literal of one that is a value is replaced, and a new one is
+-- inserted; one that is there is removed. What was not written as a value has no literal, and stays (own).
 abbrev pub changed_text : Place → Change → Text → List ℕ
 changed_text entry (writes name v) form =
     if is_value_at form (at entry (key name)) then set_text (at entry (key name)) v form

@@ -93,10 +93,8 @@ impl Dependency {
     pub fn set_features(self, features: Vec<String>) -> Dependency
         ensures { result ≡ record self { features = Some features } }
     {
-        Dependency {
-            features: Some(features),
-            ..self
-        }
+        let features = Some(features);
+        Dependency { features, ..self }
     }
 
     /// The dependency with these features behind its own.

@@ -1,7 +1,7 @@
 //! The choice of a version among the entries of an index.
 ghost use Rattle.std.specs.Prelude.{◌≡◌, ℕ, List, None, Some, Ok, not, IfOk, IfErr, IsTrue, map, option_and_then, option_copied, option_map, string_bytes};
 ghost use Rattle.edit_base.specs.Errors.{IsMemory};
-ghost use Rattle.edit_record.specs.Admissible.{admissible, asked_rust, candidate_in, entry_order, is_kept, is_too_new, kept_in, version_in, version_read};
+ghost use Rattle.edit_record.specs.Admissible.{admissible, asked_rust, candidate_in, entry_order, is_kept, is_too_new, kept_in, version_in};
 ghost use Rattle.edit_version.specs.Admits.{admits};
 ghost use Rattle.edit_record.specs.Candidates.{candidate_view, numbers_in, wants};
 ghost use Rattle.edit_record.specs.Finding.{IsFound, IsFoundAtLeast};
@@ -19,11 +19,12 @@ ghost use Rattle.semver.specs.Parse.{Parts, req_of, version_parts};
 
 use crate::dependency::{Dependency, RegistrySource, Source};
 use crate::fetch::IndexVersion;
-use edit_base::errors::{CargoResult, Error};
+use edit_base::errors::CargoResult;
 use edit_version::requirement::{admits, read_requirement};
-use edit_version::rust_version::{RustVersion, rust_version_of};
+use edit_version::rust_version::{RustVersion, read_rust_version};
+use edit_version::version::read_version;
 use semver::{Version, VersionReq};
-use std::alloc::{AllocError, Global};
+use std::alloc::Global;
 
 /// What is read of an entry that is not yanked and whose version is readable.
 #[derive(Drop)]
@@ -49,33 +50,6 @@ pub fn is_for(asked: Option<RustVersion>, given: Option<RustVersion>) -> bool
     match (asked, given) {
         (Some(asked), Some(given)) => asked <= given,
         _ => true,
-    }
-}
-
-/// Reads a version, none where the text is none.
-fn read_version(alloc: Global, text: &str) -> CargoResult<Option<Version>>
-    ensures ok { IfOk result (λ o. option_map parts_of o ≡ version_read text.now) }
-    ensures refused { IfErr result IsMemory }
-{
-    match Version::parse(alloc, text) {
-        Ok(version) => Ok(Some(version)),
-        Err(error) => {
-            if error == semver::Error::from(AllocError) {
-                return Err(Error::Memory);
-            }
-            Ok(None)
-        }
-    }
-}
-
-/// Reads a Rust version, none where the text is none.
-fn read_rust_version(alloc: Global, text: &str) -> CargoResult<Option<RustVersion>>
-    ensures ok { IfOk result (λ o. option_map numbers_of o ≡ rust_of text.now) }
-    ensures refused { IfErr result IsMemory }
-{
-    match read_requirement(alloc, text)? {
-        Some(req) => Ok(rust_version_of(&req.comparators)),
-        None => Ok(None),
     }
 }
 

@@ -13,8 +13,8 @@ use crate::shows::shown;
 use edit_base::CargoResult;
 use std::alloc::{AllocError, Global};
 
-/// A dependency's name, behind it the name that its manifest gives it.
-fn name_text(alloc: Global, row: &Row) -> Result<String, AllocError>
+/// A dependency's name, behind it the name that its manifest gives it: `name (rename)`.
+pub fn name_text(alloc: Global, row: &Row) -> Result<String, AllocError>
     ensures { IfOk result (λ s. string_bytes s ≡ name_text (string_bytes row.now.name) row.now.rename) }
 {
     let name = row.name.as_str();
@@ -37,8 +37,8 @@ fn or_dash(text: &Option<String>) -> &str
     }
 }
 
-/// The text of a reason.
-fn reason_text(reason: Option<Reason>) -> &'static str
+/// The text of a reason, as the column of notes has it; empty for `Latest` and for none.
+pub fn reason_text(reason: Option<Reason>) -> &'static str
     ensures { result.now ≡ reason_text reason }
 {
     match reason {

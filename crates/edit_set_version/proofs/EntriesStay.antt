@@ -19,7 +19,7 @@ pub record AgreeOnTables (a b : Tree) : Type 0 where
   pub table : (place : Place) → IsTable place → a place ≡ b place
 
 -- parts that are the same in a row
-flat_same : {A B : Type 0} (f g : A → List B) → ((x : A) → f x ≡ g x) → (xs : List A)
+pub flat_same : {A B : Type 0} (f g : A → List B) → ((x : A) → f x ≡ g x) → (xs : List A)
     → flat_map f xs ≡ flat_map g xs
 flat_same f g h [] = refl
 flat_same f g h (x ∷ xs) = ap₂ (λ y ys. y ++ ys) (h x) (flat_same f g h xs)

@@ -5,6 +5,8 @@ pub mod Clear
 pub mod EntriesStay
 pub mod WrittenPlaces
 pub mod Following
+pub mod PointedLemmas
+pub mod NameLemmas
 mod BumpRows
 pub mod PlanRows
 mod PlanTexts

@@ -5,6 +5,12 @@ pub mod Folders
 pub mod Chosen
 pub mod Entries
 pub mod SetVersioned
+pub mod Pointed
 pub mod PlanLines
 pub mod Follows
 pub mod PlanCauses
+pub mod Selections
+pub mod Missing
+pub mod Projects
+pub mod Planned
+pub mod PlanRefused

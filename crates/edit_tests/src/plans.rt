@@ -2,6 +2,7 @@
 mod entries;
 mod forms;
 mod inline_lines;
+mod inputs;
 mod refused;
 mod rows;
 mod upgrade;

@@ -11,3 +11,4 @@ pub mod Phases
 pub mod Changed
 pub mod CrateWords
 pub mod ReadRequirement
+pub mod ReadVersion

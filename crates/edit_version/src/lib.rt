@@ -11,5 +11,5 @@ pub use crate_spec::CrateSpec;
 pub use requirement::{
     Requirement, admits, allows_prerelease, cut, read_requirement, upgrade_requirement,
 };
-pub use rust_version::RustVersion;
-pub use version::VersionExt;
+pub use rust_version::{RustVersion, read_rust_version};
+pub use version::{VersionExt, read_version};

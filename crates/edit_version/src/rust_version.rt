@@ -1,11 +1,12 @@
 //! Versions of Rust, as manifests and indexes name them.
 ghost use Rattle.std.specs.Prelude.{◌≡◌, IfOk, IfErr, IsSome, Some, map, option_map};
+ghost use Rattle.edit_base.specs.Errors.{IsMemory};
 ghost use Rattle.edit_version.specs.Refusals.{IsNoRustVersion};
 ghost use Rattle.edit_version.specs.Requirement.{comparators_of};
 ghost use Rattle.edit_version.specs.RustVersions.{numbers_of, rust_numbers, rust_of};
 ghost use Rattle.semver.specs.Identifiers.{comparator_view};
 
-use crate::requirement::required;
+use crate::requirement::{read_requirement, required};
 use edit_base::errors::{CargoResult, Error};
 use semver::{Comparator, Op, Version, VersionReq};
 use std::alloc::Global;
@@ -70,8 +71,19 @@ impl From<&Version> for RustVersion {
     }
 }
 
+/// The Rust version that a text names as `1.32`, missing numbers being 0; none where it names none.
+pub fn read_rust_version(alloc: Global, text: &str) -> CargoResult<Option<RustVersion>>
+    ensures read { IfOk result (λ o. option_map numbers_of o ≡ rust_of text.now) }
+    ensures refused { IfErr result IsMemory }
+{
+    match read_requirement(alloc, text)? {
+        Some(req) => Ok(rust_version_of(&req.comparators)),
+        None => Ok(None),
+    }
+}
+
 /// The Rust version that comparators name, none where they are not one caret without pre-release.
-pub fn rust_version_of(comparators: &[Comparator]) -> Option<RustVersion>
+fn rust_version_of(comparators: &[Comparator]) -> Option<RustVersion>
     ensures { option_map numbers_of result ≡ rust_numbers (map comparator_view comparators.now) }
 {
     match comparators {

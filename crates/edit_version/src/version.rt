@@ -1,11 +1,13 @@
 //! Versions incremented, as calls on `semver::Version`.
 
-ghost use Rattle.std.specs.Prelude.{◌≡◌, ◌<◌, ◌+◌, ◌↔◌, IfErr, IfOk, IsTrue, MatchOption, None, OnOk, Some, length};
+ghost use Rattle.std.specs.Prelude.{◌≡◌, ◌<◌, ◌+◌, ◌↔◌, IfErr, IfOk, IsTrue, MatchOption, None, OnOk, Some, length, option_map};
 ghost use Rattle.edit_version.specs.Changed.{IsCause, IsChanged, IsRaisedOrAtEnd, IsUnreadBuild};
 ghost use Rattle.edit_version.specs.Increments.{Major, Minor, Patch, Pre, To, is_behind, next_phase, number_after, number_of, numbered, step, with_build, word, word_of};
 ghost use Rattle.edit_base.specs.declared.errors.Error.TheVariants as error;
 ghost use Rattle.edit_version.specs.declared.version.Phase.TheVariants as phase;
+ghost use Rattle.edit_base.specs.Errors.{IsMemory};
 ghost use Rattle.edit_version.specs.Laws.{IsReadable};
+ghost use Rattle.edit_version.specs.ReadVersion.{version_read};
 ghost use Rattle.edit_version.specs.VersionOrder.{full_order};
 ghost use Rattle.std.specs.declared.cmp.Ordering.TheVariants.{Greater};
 ghost use Rattle.semver.specs.Grammar.{is_build, is_pre_release};
@@ -15,6 +17,22 @@ ghost use Rattle.semver.specs.Identifiers.{build_text, parts_of, pre_text};
 use edit_base::errors::{CargoResult, Error};
 use semver::{BuildMetadata, Prerelease, Version};
 use std::alloc::{AllocError, Global};
+
+/// The version that a text is; none where it is none.
+pub fn read_version(alloc: Global, text: &str) -> CargoResult<Option<Version>>
+    ensures read { IfOk result (λ o. option_map parts_of o ≡ version_read text.now) }
+    ensures refused { IfErr result IsMemory }
+{
+    match Version::parse(alloc, text) {
+        Ok(version) => Ok(Some(version)),
+        Err(error) => {
+            if error == semver::Error::from(AllocError) {
+                return Err(Error::Memory);
+            }
+            Ok(None)
+        }
+    }
+}
 
 /// What this project adds to `semver::Version`.
 pub trait VersionExt {

@@ -1,6 +1,6 @@
 //! Rows of dependency tables.
-use edit_document::{Place, Step};
-use edit_manifest::{Manifest, copied_place};
+use edit_document::{Place, Step, copied_place};
+use edit_manifest::Manifest;
 use std::alloc::Global;
 use std::test::Fail;
 use test_rows::{TILDES, rows_hold, same, text, told};

@@ -7,3 +7,5 @@
 mod bumps;
 #[cfg(test)]
 mod levels;
+#[cfg(test)]
+mod selections;

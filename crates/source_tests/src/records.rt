@@ -1,6 +1,6 @@
 //! Tests of records.
 mod built;
-mod dependencies;
+mod crate_words;
 mod entries;
 mod entry_rows;
 pub(crate) mod parts;

@@ -66,9 +66,9 @@ impl PathSource {
             ≡ from_path (string_bytes self.path) (Some (cut version.now))) }
         ensures refused { IfErr result IsMemory }
     {
-        let version = String::from_str(alloc, before_plus(version))?;
+        let requirement = String::from_str(alloc, before_plus(version))?;
         Ok(PathSource {
-            version: Some(version),
+            version: Some(requirement),
             ..self
         })
     }

@@ -4,9 +4,8 @@ ghost use Rattle.std.specs.List.{filter_map};
 ghost use Rattle.edit_base.specs.Errors.{IsMemory};
 ghost use Rattle.edit_base.specs.declared.errors.Error.TheVariants.{EditRefused};
 ghost use Rattle.edit_syntax.specs.Grammar.{Text};
-ghost use Rattle.edit_document.specs.Assertions.{at, key};
 ghost use Rattle.edit_document.specs.EditBytes.{is_one_statement};
-ghost use Rattle.edit_document.specs.Items.{place_seen, step_seen};
+ghost use Rattle.edit_document.specs.Items.{place_seen};
 ghost use Rattle.edit_document.specs.ItemViews.{view_of};
 ghost use Rattle.edit_document.specs.NewItemViews.{value_seen};
 ghost use Rattle.edit_document.specs.Shown.{tree_of};
@@ -19,46 +18,8 @@ ghost use Rattle.edit_record.specs.UpdatedTexts.{ChangeFails, Changed, OneFails,
 use super::Dependency;
 use super::ends::End;
 use edit_base::errors::CargoResult;
-use edit_document::{Document, Item, NewValue, Place, Step};
+use edit_document::{Document, Item, NewValue, Step, member_place};
 use std::alloc::Global;
-
-/// The same step, on memory of its own.
-fn copied_step(alloc: Global, step: &Step) -> CargoResult<Step>
-    ensures ok { IfOk result (λ s. step_seen s ≡ step_seen step.now) }
-    ensures refused { IfErr result IsMemory }
-{
-    match step {
-        Step::Key(name) => {
-            let name = String::from_str(alloc, name.as_str())?;
-            Ok(Step::Key(name))
-        }
-        Step::Index(index) => Ok(Step::Index(*index)),
-    }
-}
-
-/// The same place, on memory of its own.
-fn copied_place(alloc: Global, steps: &[Step]) -> CargoResult<Place>
-    ensures ok { IfOk result (λ p. place_seen p.items ≡ place_seen steps.now) }
-    ensures refused { IfErr result IsMemory }
-{
-    let mut place = Vec::with_capacity(alloc, steps.len())?;
-    'steps: for step in steps {
-        let copy = copied_step(alloc, step)?;
-        place.push(copy)?;
-    }
-    Ok(place)
-}
-
-/// The place of a member of the entry at a place.
-fn member_place(alloc: Global, entry: &[Step], name: &str) -> CargoResult<Place>
-    ensures ok { IfOk result (λ p. place_seen p.items ≡ at (place_seen entry.now) (key name.now)) }
-    ensures refused { IfErr result IsMemory }
-{
-    let mut place = copied_place(alloc, entry)?;
-    let name = String::from_str(alloc, name)?;
-    place.push(Step::Key(name))?;
-    Ok(place)
-}
 
 /// Writes a member of an entry: the literal of a value is replaced, and what is not there is inserted.
 fn write_member(
@@ -197,11 +158,11 @@ impl Dependency {
     /// source's path are meant to be absolute, the folder without a part `..`; the entry is meant to be a
     /// string or a table, a member of its table.
     ///
-    /// A string, or a table of one member that no header names, gives way to the new entry of `to_toml`. In any
-    /// other table members are written and then removed, and all else stays: the source's own members and those of
-    /// other sources, `registry` beside a version, `package` under another key, `default-features`, `features`
-    /// (those that the entry has, and then the record's, each once) and `optional`. A member that was written as a
-    /// value gets another literal. Without a source in the record those of the entry stay.
+    /// A string, or a table of one member that no header names, gives way to the new entry of `to_toml`. In
+    /// any other table members are written and then removed, and all else stays: the source's own members and
+    /// those of other sources, `registry` beside a version, `package` under another key, `default-features`,
+    /// `features` (those that the entry has, and then the record's, each once) and `optional`. A member that
+    /// was written as a value gets another literal. Without a source in the record those of the entry stay.
     ///
     /// After a refusal the document is as it was.
     pub fn update_toml(

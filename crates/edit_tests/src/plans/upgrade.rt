@@ -1,4 +1,6 @@
 //! A plan of one manifest, and what is told of it.
+ghost use Rattle.std.specs.Prelude.{◌≡◌, [], IfOk, string_bytes};
+
 use cargo_edit::{Input, Options, Row, UpgradePlan, plan_upgrade};
 use edit_base::CargoResult;
 use edit_sources::{FileIndex, IndexCache};
@@ -7,25 +9,24 @@ use std::str;
 use std::test::Fail;
 use test_rows::{text, told};
 
-/// The manifest that is planned for.
-fn input_of(alloc: Global, bytes: &[u8]) -> CargoResult<Input> {
+/// A manifest at a path.
+pub(crate) fn input_at(alloc: Global, path: &str, bytes: &[u8]) -> CargoResult<Input>
+    ensures path { IfOk result (λ i. string_bytes i.path ≡ path.now) }
+{
     Ok(Input {
         name: String::from_str(alloc, "w")?,
-        path: String::from_str(alloc, "/w/Cargo.toml")?,
+        path: String::from_str(alloc, path)?,
         bytes: Vec::from_slice(alloc, bytes)?,
         rust_version: None,
     })
 }
 
-/// A plan of one manifest. Among the flags are `i` for incompatible and `p` for pinned.
-fn planned(
-    alloc: Global,
-    flags: &str,
-    bytes: &[u8],
-    index: &mut IndexCache<FileIndex>,
-) -> CargoResult<UpgradePlan> {
-    let inputs = [input_of(alloc, bytes)?];
-    let options = Options {
+/// The options of a plan. Among the flags are `i` for incompatible and `p` for pinned.
+pub(crate) fn options_of(alloc: Global, flags: &str) -> Options
+    ensures words { result.package.items ≡ [] }
+    ensures exclusions { result.exclude.items ≡ [] }
+{
+    Options {
         compatible: true,
         incompatible: flags.contains('i'),
         pinned: flags.contains('p'),
@@ -35,7 +36,18 @@ fn planned(
         locked: false,
         recursive: None,
         verbosity: 0,
-    };
+    }
+}
+
+/// A plan of one manifest.
+fn planned(
+    alloc: Global,
+    flags: &str,
+    bytes: &[u8],
+    index: &mut IndexCache<FileIndex>,
+) -> CargoResult<UpgradePlan> {
+    let inputs = [input_at(alloc, "/w/Cargo.toml", bytes)?];
+    let options = options_of(alloc, flags);
     let configs = [Vec::new(alloc)];
     plan_upgrade(alloc, &options, &inputs, &configs, index)
 }

@@ -1,119 +1,62 @@
 //! Rows of what each call of a record gives, of their texts and their order.
 use super::entry_rows::record_told;
-use edit_base::CargoResult;
-use edit_record::{Dependency, GitSource, PathSource, RegistrySource, Source, WorkspaceSource};
-use std::alloc::{AllocError, Global};
-use std::cmp::Ordering;
-use std::collections::BTreeMap;
-use std::hash::{BuildHasher, BuildHasherDefault, FoldHasher};
+use super::parts::compared;
+use super::written_rows::record_of;
+use edit_record::{Dependency, Source};
+use std::alloc::Global;
 use std::test::Fail;
 use test_rows::{LINES, rows_hold};
 
-/// What a copy of a record says that a call gave, and which of the four its source is.
+/// What a copy of a record says that these parts gave, and which of the four its source is; the crate's name,
+/// and the parts.
 const BUILT: &str = "\
-x@1.0 x 1.0 - - - -, registry|registry|1.0+a
-x@/w/x x 2 - - - -, path|path|2+b
-x@u?branch=main x 0.1 - - - -, git|branch|main
-x@u?tag=v1 x 0.1 - - - -, git|tag|v1
-x@u?rev=abc x 0.1 - - - -, git|rev|abc
-x@workspace x - - - - -, workspace|workspace|
-x x - - - - -, none|bare|
-d d - - - - -, none|rename|d
-x x - r - - -, none|registry name|r
-x x - - b,a - -, none|features|b a
-x x - - a,b,b,c - -, none|more features|b c
-x x - - b,c - -, none|first features|b c
-x x - - - - true, none|optional|true
-x x - - - - false, none|optional|false
-x x - - - false -, none|default features|false
-x x - - - true -, none|default features|true
-x x - - - - -, none|inherited features|a
-x x - - - - -, none|available features|a";
+x@1.0 x 1.0 - - - -, registry|x|registry=1.0+a
+a@1.0.0 a 1.0.0 - - - -, registry|a|registry=1.0.0+a
+x@/w/x x 2 - - - -, path|x|path version=2+b
+a@/w/x a 0.1 - - - -, path|a|path version=0.1
+a@https://example.org/a a - - - - -, git|a|git=https://example.org/a
+x@u?branch=main x 0.1 - - - -, git|x|branch=main
+x@u?tag=v1 x 0.1 - - - -, git|x|tag=v1
+x@u?rev=abc x 0.1 - - - -, git|x|rev=abc
+x@workspace x - - - - -, workspace|x|workspace
+x x - - - - -, none|x|bare
+serde serde - - - - -, none|serde|bare
+d d - - - - -, none|x|rename=d
+x x - r - - -, none|x|registry name=r
+x x - - b,a - -, none|x|features=b a
+x x - - a,b,b,c - -, none|x|features=a b;more features=b c
+x x - - b,c - -, none|x|more features=b c
+x x - - - - true, none|x|optional=true
+x x - - - - false, none|x|optional=false
+x x - - - false -, none|x|default features=false
+x x - - - true -, none|x|default features=true
+x x - - - - -, none|x|inherited features=a
+x x - - - - -, none|x|available features=a";
 
 /// How the records of two calls compare: by fields in their written order, where none is before some.
 const COMPARED: &str = "\
-equal, one hash|registry 1|registry 1+a
-less, two hashes|registry 1|registry 2
-less, two hashes|registry 9|path 1
-less, two hashes|path 1|path 2
-less, two hashes|path 9|branch b
-less, two hashes|tag t|branch b
-less, two hashes|rev r|tag t
-less, two hashes|branch b|workspace -
-less, two hashes|bare -|registry 1
-less, two hashes|optional false|optional true
-less, two hashes|bare -|optional false
-greater, two hashes|optional true|features a
-less, two hashes|features a|features b
-less, two hashes|default features -|features a
-less, two hashes|inherited features a|default features -
-less, two hashes|available features a|rename d
-equal, one hash|available features a|available features a
-less, two hashes|bare -|available features a";
+equal, one hash|registry=1|registry=1+a
+less, two hashes|registry=1|registry=2
+less, two hashes|registry=9|path version=1
+less, two hashes|path version=1|path version=2
+less, two hashes|path version=9|branch=b
+less, two hashes|tag=t|branch=b
+less, two hashes|rev=r|tag=t
+less, two hashes|branch=b|workspace
+less, two hashes|bare|registry=1
+less, two hashes|optional=false|optional=true
+less, two hashes|bare|optional=false
+greater, two hashes|optional=true|features=a
+less, two hashes|features=a|features=b
+less, two hashes|default features=-|features=a
+less, two hashes|inherited features=a|default features=-
+less, two hashes|available features=a|rename=d
+equal, one hash|available features=a|available features=a
+less, two hashes|bare|available features=a";
 
-/// The words of a text.
-fn words(alloc: Global, text: &str) -> Result<Vec<String>, AllocError> {
-    text.split(' ')
-        .map(|word| String::from_str(alloc, word))
-        .try_collect(alloc)
-}
-
-/// A repository with a branch, a tag and a revision in turn, of which the last stays.
-fn repository(alloc: Global, call: &str, text: &str) -> CargoResult<GitSource> {
-    let git = GitSource::new(alloc, "u")?.set_version(alloc, "0.1+c")?;
-    match call {
-        "branch" => git
-            .set_tag(alloc, "t")?
-            .set_rev(alloc, "r")?
-            .set_branch(alloc, text),
-        "tag" => git
-            .set_rev(alloc, "r")?
-            .set_branch(alloc, "b")?
-            .set_tag(alloc, text),
-        _ => git
-            .set_branch(alloc, "b")?
-            .set_tag(alloc, "t")?
-            .set_rev(alloc, text),
-    }
-}
-
-/// A source of the kind that a call names.
-fn source(alloc: Global, call: &str, text: &str) -> CargoResult<Source> {
-    match call {
-        "registry" => Ok(Source::from(RegistrySource::new(alloc, text)?)),
-        "path" => Ok(Source::from(PathSource::new(alloc, "/w/x")?.set_version(alloc, text)?)),
-        "workspace" => Ok(Source::from(WorkspaceSource::new())),
-        _ => Ok(Source::from(repository(alloc, call, text)?)),
-    }
-}
-
-/// A dependency whose crate has one feature.
-fn available(alloc: Global, record: Dependency, text: &str) -> CargoResult<Dependency> {
-    let mut features = BTreeMap::new(alloc);
-    let name = String::from_str(alloc, text)?;
-    features.insert(name, words(alloc, "b c")?)?;
-    Ok(record.set_available_features(features))
-}
-
-/// What the call of a row gives.
-fn built(alloc: Global, call: &str, text: &str) -> CargoResult<Dependency> {
-    let bare = Dependency::new(alloc, "x")?;
-    match call {
-        "bare" => Ok(bare),
-        "rename" => bare.set_rename(alloc, text),
-        "registry name" => bare.set_registry(alloc, text),
-        "features" => Ok(bare.set_features(words(alloc, text)?)),
-        "first features" => bare.extend_features(alloc, words(alloc, text)?),
-        "more features" => {
-            let some = bare.set_features(words(alloc, "a b")?);
-            some.extend_features(alloc, words(alloc, text)?)
-        }
-        "optional" => Ok(bare.set_optional(text == "true")),
-        "default features" => Ok(bare.set_default_features(text == "true")),
-        "inherited features" => Ok(bare.set_inherited_features(words(alloc, text)?)),
-        "available features" => available(alloc, bare, text),
-        _ => Ok(bare.set_source(source(alloc, call, text)?)),
-    }
+/// The record of a crate that has these parts.
+fn built(alloc: Global, name: &str, parts: &str) -> Result<Dependency, Fail> {
+    Ok(record_of(alloc, name, parts).ok().ok_or("a record")?)
 }
 
 /// Which of the four a source is.
@@ -125,8 +68,8 @@ fn kind(source: &Source) -> &'static str {
 }
 
 /// What a copy of the record of a row says.
-fn copied(alloc: Global, call: &str, text: &str) -> Result<String, Fail> {
-    let record = built(alloc, call, text).ok().ok_or("a record")?;
+fn copied(alloc: Global, name: &str, parts: &str) -> Result<String, Fail> {
+    let record = built(alloc, name, parts)?;
     let copy = record.try_clone(alloc).ok().ok_or("a copy")?;
     if copy != record {
         return Err(Fail::from("another copy"));
@@ -141,36 +84,14 @@ fn built_records(rt: HostRuntime) -> Result<(), Fail> {
     rows_hold(rt.alloc(), BUILT, LINES, copied)
 }
 
-/// The record of a call and its argument, which is the last word.
-fn called(alloc: Global, words: &str) -> Result<Dependency, Fail> {
-    let (call, text) = words.rsplit_once(' ').ok_or("a call")?;
-    Ok(built(alloc, call, text).ok().ok_or("a record")?)
-}
-
-/// The hash of a record.
-fn hashed(record: &Dependency) -> u64 {
-    BuildHasherDefault::<FoldHasher>::default().hash_one(record)
-}
-
-/// How the records of two calls compare, where equality and order agree, and whether they have one hash.
-fn compared(alloc: Global, one: &str, other: &str) -> Result<String, Fail> {
-    let one = called(alloc, one)?;
-    let other = called(alloc, other)?;
-    let order = match one.cmp(&other) {
-        Ordering::Less if one != other => "less",
-        Ordering::Equal if one == other => "equal",
-        Ordering::Greater if one != other => "greater",
-        _ => "neither",
-    };
-    let hashes = if hashed(&one) == hashed(&other) {
-        "one hash"
-    } else {
-        "two hashes"
-    };
-    Ok(format!(in alloc; "{order}, {hashes}")?)
+/// How the records of these parts compare.
+fn compared_parts(alloc: Global, one: &str, other: &str) -> Result<String, Fail> {
+    let one = built(alloc, "x", one)?;
+    let other = built(alloc, "x", other)?;
+    compared(alloc, &one, &other)
 }
 
 #[test]
 fn compared_records(rt: HostRuntime) -> Result<(), Fail> {
-    rows_hold(rt.alloc(), COMPARED, LINES, compared)
+    rows_hold(rt.alloc(), COMPARED, LINES, compared_parts)
 }

@@ -1,12 +1,10 @@
 //! Rows of an index's entries, of the choice among them, and of Rust versions.
-use super::parts::{chosen, entry, requirement, shown, version};
+use super::parts::{chosen, compared, entry, requirement, shown, version};
 use edit_record::{
     Candidate, IndexVersion, RustVersion, dependency_on, find_compatible_version,
     find_latest_version, read_candidate,
 };
 use std::alloc::{AllocError, Global};
-use std::cmp::Ordering;
-use std::hash::{BuildHasher, BuildHasherDefault, FoldHasher};
 use std::test::Fail;
 use test_rows::{LINES, rows_hold, same, text, told};
 
@@ -118,33 +116,12 @@ fn numbers(alloc: Global, version: RustVersion) -> Result<String, Fail> {
     Ok(format!(in alloc; "{major}.{minor}.{patch}")?)
 }
 
-/// The hash of a Rust version.
-fn hashed(version: RustVersion) -> u64 {
-    BuildHasherDefault::<FoldHasher>::default().hash_one(version)
-}
-
-/// How one Rust version compares to another, where equality and order agree, and whether they have one hash.
-fn compared(alloc: Global, one: RustVersion, other: RustVersion) -> Result<String, Fail> {
-    let order = match one.cmp(&other) {
-        Ordering::Less if one != other => "less",
-        Ordering::Equal if one == other => "equal",
-        Ordering::Greater if one != other => "greater",
-        _ => "neither",
-    };
-    let hashes = if hashed(one) == hashed(other) {
-        "one hash"
-    } else {
-        "two hashes"
-    };
-    Ok(format!(in alloc; "{order}, {hashes}")?)
-}
-
 /// How the Rust versions of two texts compare.
 fn compared_texts(alloc: Global, texts: &str) -> Result<String, Fail> {
     let (one, other) = texts.split_once(' ').ok_or("two Rust versions")?;
     let one = rust_version(alloc, one)?.ok_or("a Rust version")?;
     let other = rust_version(alloc, other)?.ok_or("a Rust version")?;
-    compared(alloc, one, other)
+    compared(alloc, &one, &other)
 }
 
 /// The Rust version that a text reads as, or the refusal.

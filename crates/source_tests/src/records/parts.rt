@@ -4,6 +4,8 @@ use edit_record::{Dependency, IndexVersion};
 use edit_version::upgrade_requirement;
 use semver::{Version, VersionReq};
 use std::alloc::{AllocError, Global};
+use std::cmp::Ordering;
+use std::hash::{BuildHasher, BuildHasherDefault, FoldHasher, Hash};
 use std::test::Fail;
 use test_rows::{text, told};
 
@@ -65,4 +67,25 @@ pub(crate) fn upgraded(alloc: Global, req: &str, version_text: &str) -> Result<S
         Ok(None) => text(alloc, "-"),
         Err(error) => told(alloc, error),
     }
+}
+
+/// The hash of a value.
+fn hashed<T: Hash>(value: &T) -> u64 {
+    BuildHasherDefault::<FoldHasher>::default().hash_one(value)
+}
+
+/// How one value compares to another, where equality and order agree, and whether they have one hash.
+pub(crate) fn compared<T: Ord + Hash>(alloc: Global, one: &T, other: &T) -> Result<String, Fail> {
+    let order = match one.cmp(other) {
+        Ordering::Less if one != other => "less",
+        Ordering::Equal if one == other => "equal",
+        Ordering::Greater if one != other => "greater",
+        _ => "neither",
+    };
+    let hashes = if hashed(one) == hashed(other) {
+        "one hash"
+    } else {
+        "two hashes"
+    };
+    Ok(format!(in alloc; "{order}, {hashes}")?)
 }

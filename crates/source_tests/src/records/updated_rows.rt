@@ -60,7 +60,8 @@ registry=2;default features=true
 x = { version = \"2\" }|x = { version = \"1\", default-features = false }|registry=2
 x = { version = \"2\", default_features = false }|x = { version = \"1\", default_features = false }|registry=2
 x = { version = \"1\", git = \"u\", optional = true }|x = { version = \"1\", git = \"u\" }|optional=true
-x = { version = \"1\", package = \"y\", registry = \"n\" }|x = { version = \"1\", package = \"y\" }|registry name=n
+x = { version = \"1\", package = \"y\", registry = \"n\" }|\
+x = { version = \"1\", package = \"y\" }|registry name=n
 x = { git = \"u\" }|x = { git = \"u\", registry = \"m\" }|registry name=n
 x = {  }|x = { optional = true, features = [\"a\"] }|inherited features=a
 x   =   {version=\"2\",optional=true}|x   =   {version=\"1\",optional=false}|registry=2;optional=true
@@ -68,7 +69,8 @@ x = { version = \"2\", optional = true } # keep|x = { version = '1.0', optional 
 registry=2;optional=true
 x = { \"version\" = \"2\", 'optional' = true }|x = { \"version\" = \"1\", 'optional' = false }|\
 registry=2;optional=true
-x = { version = \"2\" }@y = { path = \"p\" }|x = { path = \"p\", version = \"1\" }@y = { path = \"p\" }|registry=2
+x = { version = \"2\" }@y = { path = \"p\" }|\
+x = { path = \"p\", version = \"1\" }@y = { path = \"p\" }|registry=2
 dependencies = { x.version = \"2\", x.optional = true }|\
 dependencies = { x.version = \"1\", x.path = \"p\" }|registry=2;optional=true";
 
@@ -77,7 +79,8 @@ const FEATURES: &str = "\
 x = { version = \"2\", features = [\"a\", \"b\", \"c\"] }|\
 x = { version = \"1\", features = [\"a\", \"b\", \"a\"] }|registry=2;features=c b c
 x = { version = \"2\", features = [\"a\"] }|x = { version = \"1\", features = [ 'a', ] }|registry=2;features=
-x = { version = \"2\", features = [\"c\"] }|x = { version = \"1\", features = [true, \"b\"] }|registry=2;features=c
+x = { version = \"2\", features = [\"c\"] }|\
+x = { version = \"1\", features = [true, \"b\"] }|registry=2;features=c
 x = { version = \"2\", features = [\"c\"] }|x = { version = \"1\", features = \"a\" }|registry=2;features=c
 x = { version = \"2\", optional = true, features = [\"b\", \"a\"] }|x = { version = \"1\", optional = true }|\
 registry=2;features=b a;optional=true

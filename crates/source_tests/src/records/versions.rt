@@ -31,7 +31,9 @@ const READ: &str = "\
 
 /// Texts that are no versions.
 const UNREAD: &str =
-    ";1;1.2;1.2.3-0123;1.2.3-0123.0123;1.1.2+.123;+invalid;-invalid;alpha;alpha.beta;1.0.0-alpha_beta;1.0.0-alpha..;1.0.0-alpha..1;01.1.1;1.01.1;1.1.01;1.2.3.DEV;1.2-SNAPSHOT;-1.0.3-gamma+b7718;9.8.7+meta+meta;v1.2.3; 1.2.3;1.2.3 ;18446744073709551616.0.0;1.2.3-;1.2.3+";
+    ";1;1.2;1.2.3-0123;1.2.3-0123.0123;1.1.2+.123;+invalid;-invalid;alpha;alpha.beta;1.0.0-alpha_beta;\
+1.0.0-alpha..;1.0.0-alpha..1;01.1.1;1.01.1;1.1.01;1.2.3.DEV;1.2-SNAPSHOT;-1.0.3-gamma+b7718;9.8.7+meta+meta;\
+v1.2.3; 1.2.3;1.2.3 ;18446744073709551616.0.0;1.2.3-;1.2.3+";
 
 /// What a version's text is cut to, whether it has a pre-release, and what raising that text to it writes.
 fn shown(alloc: Global, candidate: &Candidate, text: &str) -> Result<String, Fail> {
@@ -85,7 +87,8 @@ const STEPS: &str = "\
 1.0.1-rc.1: 16 Cannot increment the alpha field for 1.0.1-rc.1|alpha|1.0.1-rc.1
 1.0.1-rc.1: 16 Cannot increment the beta field for 1.0.1-rc.1|beta|1.0.1-rc.1
 1.0.1-rc.2+b|rc|1.0.1-rc.1+b
-1.0.1-rc.x: 17 This version scheme is not supported. Use format like `pre`, `dev` or `alpha.1` for prerelease symbol|alpha|1.0.1-rc.x
+1.0.1-rc.x: 17 This version scheme is not supported. Use format like `pre`, `dev` or `alpha.1` for \
+prerelease symbol|alpha|1.0.1-rc.x
 18446744073709551615.0.0: 18 A number of 18446744073709551615.0.0 is at its end|major|18446744073709551615.0.0
 1.18446744073709551615.0: 18 A number of 1.18446744073709551615.0 is at its end|minor|1.18446744073709551615.0
 1.0.18446744073709551615: 18 A number of 1.0.18446744073709551615 is at its end|alpha|1.0.18446744073709551615

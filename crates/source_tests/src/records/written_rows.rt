@@ -4,6 +4,7 @@ use edit_base::CargoResult;
 use edit_document::{Document, NewItem, Step};
 use edit_record::{Dependency, GitSource, PathSource, RegistrySource, Source, WorkspaceSource};
 use std::alloc::{AllocError, Global};
+use std::collections::BTreeMap;
 use std::test::Fail;
 use test_rows::{LINES, rows_hold};
 
@@ -53,15 +54,32 @@ fn words(alloc: Global, text: &str) -> Result<Vec<String>, AllocError> {
     Ok(words)
 }
 
-/// A repository at a branch, a tag or a revision; a bare one has no version.
+/// A repository with a branch, a tag and a revision in turn, of which the last stays; a bare one has no
+/// version.
 fn repository(alloc: Global, part: &str, text: &str) -> CargoResult<GitSource> {
     let git = GitSource::new(alloc, "u")?;
     match part {
         "bare tag" => git.set_tag(alloc, text),
         "bare rev" => git.set_rev(alloc, text),
-        "branch" => git.set_version(alloc, "0.1")?.set_branch(alloc, text),
-        "tag" => git.set_version(alloc, "0.1")?.set_tag(alloc, text),
-        _ => git.set_version(alloc, "0.1")?.set_rev(alloc, text),
+        _ => versioned(alloc, git.set_version(alloc, "0.1+c")?, part, text),
+    }
+}
+
+/// The same of a repository that has a version.
+fn versioned(alloc: Global, git: GitSource, part: &str, text: &str) -> CargoResult<GitSource> {
+    match part {
+        "branch" => git
+            .set_tag(alloc, "t")?
+            .set_rev(alloc, "r")?
+            .set_branch(alloc, text),
+        "tag" => git
+            .set_rev(alloc, "r")?
+            .set_branch(alloc, "b")?
+            .set_tag(alloc, text),
+        _ => git
+            .set_branch(alloc, "b")?
+            .set_tag(alloc, "t")?
+            .set_rev(alloc, text),
     }
 }
 
@@ -71,33 +89,50 @@ fn source(alloc: Global, part: &str, text: &str) -> CargoResult<Source> {
         "registry" => Source::from(RegistrySource::new(alloc, text)?),
         "path" => Source::from(PathSource::new(alloc, text)?),
         "versioned path" => Source::from(PathSource::new(alloc, text)?.set_version(alloc, "3")?),
+        "path version" => Source::from(PathSource::new(alloc, "/w/x")?.set_version(alloc, text)?),
         "git" => Source::from(GitSource::new(alloc, text)?),
         "workspace" => Source::from(WorkspaceSource::new()),
         _ => Source::from(repository(alloc, part, text)?),
     })
 }
 
+/// The record whose crate has one feature.
+fn available(alloc: Global, record: Dependency, text: &str) -> CargoResult<Dependency> {
+    let mut features = BTreeMap::new(alloc);
+    let name = String::from_str(alloc, text)?;
+    features.insert(name, words(alloc, "b c")?)?;
+    Ok(record.set_available_features(features))
+}
+
 /// The record with one part more.
 fn with_part(alloc: Global, record: Dependency, part: &str, text: &str) -> CargoResult<Dependency> {
     match part {
+        "bare" => Ok(record),
         "rename" => record.set_rename(alloc, text),
         "registry name" => record.set_registry(alloc, text),
         "features" => Ok(record.set_features(words(alloc, text)?)),
+        "more features" => record.extend_features(alloc, words(alloc, text)?),
         "inherited features" => Ok(record.set_inherited_features(words(alloc, text)?)),
+        "available features" => available(alloc, record, text),
         "default features" => Ok(record.set_default_features(text == "true")),
         "optional" => Ok(record.set_optional(text == "true")),
         _ => Ok(record.set_source(source(alloc, part, text)?)),
     }
 }
 
-/// The record of the crate `dep` that has these parts.
-pub(crate) fn record(alloc: Global, parts: &str) -> CargoResult<Dependency> {
-    let mut record = Dependency::new(alloc, "dep")?;
+/// The record of the crate of a name that has these parts.
+pub(crate) fn record_of(alloc: Global, name: &str, parts: &str) -> CargoResult<Dependency> {
+    let mut record = Dependency::new(alloc, name)?;
     for part in parts.split(';') {
         let (part, text) = part.split_once('=').unwrap_or((part, ""));
         record = with_part(alloc, record, part, text)?;
     }
     Ok(record)
+}
+
+/// The record of the crate `dep` that has these parts.
+pub(crate) fn record(alloc: Global, parts: &str) -> CargoResult<Dependency> {
+    record_of(alloc, "dep", parts)
 }
 
 /// How an entry is written: as a value, or by a dotted key.

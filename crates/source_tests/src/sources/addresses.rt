@@ -10,23 +10,33 @@ use test_rows::{field, same, text, told, unfolded, word};
 /// A name, a registry, its address or a refusal, and up to two files, each a path and its lines.
 const FILES_THAT_COUNT: &str = "\
 no configuration||sparse+https://index.crates.io/
-near before far|r|file:///near|/w/.cargo/config.toml|registries.r.index = 'file:///near'@|/.cargo/config.toml|registries.r.index = 'file:///far'@
-config before config.toml|r|file:///near|/w/.cargo/config.toml|registries.r.index = 'file:///far'@|/w/.cargo/config|registries.r.index = 'file:///near'@
-the home of cargo last|r|file:///near|/.cargo/config.toml|registries.r.index = 'file:///near'@|/home/config|registries.r.index = 'file:///far'@
+near before far|r|file:///near|/w/.cargo/config.toml|registries.r.index = 'file:///near'@|\
+/.cargo/config.toml|registries.r.index = 'file:///far'@
+config before config.toml|r|file:///near|/w/.cargo/config.toml|registries.r.index = 'file:///far'@|\
+/w/.cargo/config|registries.r.index = 'file:///near'@
+the home of cargo last|r|file:///near|/.cargo/config.toml|registries.r.index = 'file:///near'@|/home/config|\
+registries.r.index = 'file:///far'@
 the home of cargo|r|file:///near|/home/config.toml|registries.r.index = 'file:///near'@
-only files count|r|file:///near|/w/.cargo/config/x|registries.r.index = 'file:///far'@|/w/.cargo/config.toml|registries.r.index = 'file:///near'@
+only files count|r|file:///near|/w/.cargo/config/x|registries.r.index = 'file:///far'@|\
+/w/.cargo/config.toml|registries.r.index = 'file:///near'@
 no TOML||31 invalid cargo config at /w/.cargo/config.toml|/w/.cargo/config.toml|a = ";
 
 /// The same, where a chain of sources leads to the address.
 const CHAINS: &str = "\
 the default address|sparse+https://index.crates.io/|sparse+https://index.crates.io/
 no such registry|r|32 The registry 'r' could not be found
-registries before source|r|file:///a|/w/.cargo/config.toml|registries.r.index = 'file:///a'@source.r.replace-with = 'z'@
-a replaced default||file:///idx|/w/.cargo/config.toml|source.crates-io.replace-with = 'local'@source.local.registry = 'file:///idx'@
-no address at the end||34 missing `registry`|/w/.cargo/config.toml|source.crates-io.replace-with = 'local'@[source.local]@
-a circle|x|33 The source 'x' could not be found|/w/.cargo/config.toml|[source.x]@replace-with = 'y'@[source.y]@replace-with = 'x'@
+registries before source|r|file:///a|/w/.cargo/config.toml|\
+registries.r.index = 'file:///a'@source.r.replace-with = 'z'@
+a replaced default||file:///idx|/w/.cargo/config.toml|\
+source.crates-io.replace-with = 'local'@source.local.registry = 'file:///idx'@
+no address at the end||34 missing `registry`|/w/.cargo/config.toml|\
+source.crates-io.replace-with = 'local'@[source.local]@
+a circle|x|33 The source 'x' could not be found|/w/.cargo/config.toml|\
+[source.x]@replace-with = 'y'@[source.y]@replace-with = 'x'@
 replaced by itself|x|33 The source 'x' could not be found|/w/.cargo/config.toml|[source.x]@replace-with = 'x'@
-the default by its address|a|sparse+https://index.crates.io/|/w/.cargo/config.toml|source.a.replace-with = 'sparse+https://index.crates.io/'@source.'sparse+https://index.crates.io/'.directory = 'v'@
+the default by its address|a|sparse+https://index.crates.io/|/w/.cargo/config.toml|\
+source.a.replace-with = 'sparse+https://index.crates.io/'@\
+source.'sparse+https://index.crates.io/'.directory = 'v'@
 no URL|r|35 invalid `registry` field|/w/.cargo/config.toml|registries.r.index = 'no url'@";
 
 /// The address of a registry under files, or the refusal.

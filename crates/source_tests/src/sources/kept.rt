@@ -244,7 +244,9 @@ fn an_answer_stays(rt: HostRuntime) -> Result<(), Fail> {
 
 /// Lines with equal versions, one that is no version, and a yanked one.
 const FIVE: &[u8] =
-    b"{\"name\":\"a\",\"vers\":\"1.0.0+a\"}\n{\"name\":\"a\",\"vers\":\"1.2.0\",\"rust_version\":\"1.70\"}\n{\"name\":\"a\",\"vers\":\"1.0.0+b\"}\n{\"name\":\"a\",\"vers\":\"bad\"}\n{\"name\":\"a\",\"vers\":\"1.3.0\",\"yanked\":true}\n";
+    b"{\"name\":\"a\",\"vers\":\"1.0.0+a\"}\n{\"name\":\"a\",\"vers\":\"1.2.0\",\"rust_version\":\"1.70\"}\n\
+{\"name\":\"a\",\"vers\":\"1.0.0+b\"}\n{\"name\":\"a\",\"vers\":\"bad\"}\n\
+{\"name\":\"a\",\"vers\":\"1.3.0\",\"yanked\":true}\n";
 
 /// The calls over them.
 const OVER_FIVE: &str = "\

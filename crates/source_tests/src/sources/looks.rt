@@ -82,7 +82,8 @@ fn looks<I: Index>(alloc: Global, index: &mut I, rows: &str) -> Result<(), Fail>
 
 /// The lines of two crates.
 pub(crate) const TWO: &[u8] =
-    b"{\"name\":\"a\",\"vers\":\"1.0.0\"}\r\n \t\n{\"name\":\"b\",\"vers\":\"2.0.0\"}\n{\"name\":\"a\",\"vers\":\"1.1.0\",\"yanked\":true,\"rust_version\":null}\n";
+    b"{\"name\":\"a\",\"vers\":\"1.0.0\"}\r\n \t\n{\"name\":\"b\",\"vers\":\"2.0.0\"}\n\
+{\"name\":\"a\",\"vers\":\"1.1.0\",\"yanked\":true,\"rust_version\":null}\n";
 
 /// A name, an address, the name that is looked for, and what is wanted.
 const IN_ONE_FILE: &str = "\

@@ -4,7 +4,7 @@ use Rattle.std.specs.List.{cons_option}
 use Rattle.std.proofs.lemmas.List.{map-append}
 use Rattle.edit_entries.specs.EntryViews.{entry_view}
 use Rattle.edit_entries.specs.Entries.{Entry}
-use Rattle.cargo_edit.specs.Lists.{AreWarnings, IsWarningOn, Told, warning_view}
+use Rattle.cargo_edit.specs.Lists.{AreWarnings, warning_view}
 use Rattle.cargo_edit.specs.declared.upgrade.Warning.{Warning}
 use Rattle.cargo_edit.proofs.ListLemmas.{warned-more, warned-none}
 use Rattle.cargo_edit.proofs.Steps.{names-more}

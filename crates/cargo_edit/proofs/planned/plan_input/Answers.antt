@@ -12,24 +12,31 @@ use Rattle.cargo_edit.proofs.planned.plan_input.Goals as goal
 
 pub plan_entries-requires : goal.plan_entries-requires
 plan_entries-requires g c = record {
-  seen = subst (λ (xs : List Entry). AreSeen c.args.input.now.bytes.items (map seen_of xs)) (sym c.deref-2.ensures.value)
-      (document-seen c.args.input.now.bytes.items c.args.document.now (map seen_of c.in_ok-entries.entries.items) c.requires
-      c.has_form.ensures.some c.has_form.ensures.shows (c.in_ok-entries.ensures.ok ∙ ap (filter_map with_row) c.in_ok-found.ensures.ok));
+  kept = c.requires.kept;
+  seen = subst (λ (xs : List Entry). AreSeen c.args.input.now.bytes.items (map seen_of xs))
+      (sym c.deref-2.ensures.value)
+      (document-seen c.args.input.now.bytes.items c.args.document.now
+      (map seen_of c.in_ok-entries.entries.items) c.requires.document
+      c.has_form.ensures.some c.has_form.ensures.shows (c.in_ok-entries.ensures.ok
+      ∙ ap (filter_map with_row) c.in_ok-found.ensures.ok));
 }
 
 pub returns-clause-shown : goal.returns-clause-shown
 returns-clause-shown g c =
     let p : Planned = record {
       entries = c.in_ok-entries.entries;
-      looks = c.in_ok-looks.looks;
-      rows = c.in_ok-looks.rows;
+      rows = c.in_ok-rows.rows;
       warnings = c.in_ok-warnings.warnings;
     } in
-    planned-shown c.args.input.now.bytes.items c.args.document.now p c.requires c.has_form.ensures.some c.has_form.ensures.shows
-    (c.in_ok-entries.ensures.ok ∙ ap (filter_map with_row) c.in_ok-found.ensures.ok) (c.in_ok-looks.ensures.long ∙ ap length c.deref-2.ensures.value)
+    planned-shown c.args.input.now.bytes.items c.args.document.now p c.requires.document
+    c.has_form.ensures.some c.has_form.ensures.shows
+    (c.in_ok-entries.ensures.ok ∙ ap (filter_map with_row) c.in_ok-found.ensures.ok)
+    (c.in_ok-rows.ensures.long ∙ ap length c.deref-2.ensures.value)
 
 pub returns-clause-warnings : goal.returns-clause-warnings
 returns-clause-warnings g c =
-    planned-warnings c.args.number c.args.input.now.bytes.items c.args.document.now (map entry_view c.deref.result.now)
-    (map warning_view c.in_ok-warnings.warnings.items) c.requires c.has_form.ensures.some c.has_form.ensures.shows
+    planned-warnings c.args.number c.args.input.now.bytes.items c.args.document.now
+    (map entry_view c.deref.result.now)
+    (map warning_view c.in_ok-warnings.warnings.items) c.requires.document c.has_form.ensures.some
+    c.has_form.ensures.shows
     (ap (map entry_view) c.deref.ensures.value ∙ c.in_ok-found.ensures.ok) c.in_ok-warnings.ensures.texts

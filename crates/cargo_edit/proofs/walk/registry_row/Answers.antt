@@ -1,17 +1,15 @@
-use Rattle.std.proofs.Common.{◌≡◌, ◌∙◌, ap, subst, sym}
+use Rattle.std.proofs.Common.{◌∙◌, ap, subst, sym}
 use Rattle.std.specs.Prelude.{option_copied, option_map}
 use Rattle.edit_version.specs.RustVersions.{numbers_of}
-use Rattle.edit_sources.specs.Configured.{HasAddress, given}
+use Rattle.edit_sources.specs.Configured.{given}
 use Rattle.edit_sources.specs.IndexCache.{index_of}
-use Rattle.url.specs.Parts.{serialize}
 use Rattle.cargo_edit.specs.Found.{seen_of}
 use Rattle.cargo_edit.specs.Lines.{line_of}
-use Rattle.cargo_edit.specs.Looked.{IsStep, Leaves}
+use Rattle.cargo_edit.specs.Looked.{Leaves}
 use Rattle.cargo_edit.specs.Looks.{Kept, kept_by}
-use Rattle.cargo_edit.specs.PairSets.{holds_pair}
 use Rattle.cargo_edit.specs.Upgraded.{IsNeededFor}
 use Rattle.cargo_edit.proofs.PlannedLemmas.{refusal-has}
-use Rattle.cargo_edit.proofs.WalkLemmas.{no-look, no-registry, registry-decided, registry-left, registry-step}
+use Rattle.cargo_edit.proofs.WalkLemmas.{no-look, no-registry, registry-decided, registry-left}
 use Rattle.cargo_edit.proofs.walk.registry_row.Goals as goal
 
 pub returns-in_err-see-clause-refused : goal.returns-in_err-see-clause-refused

@@ -16,14 +16,14 @@ returns-in-Err-clause-fault g c =
 pub returns-in-Err-clause-done : goal.returns-in-Err-clause-done
 returns-in-Err-clause-done g c =
     shown_done (app_of c.in_ok-command.command) (map (λ (w : Bor (List ℕ)). w.now) c.args.words.now)
-    c.in-Err.error c.shown.result _ _ _
+    c.in-Err.error c.shown.result _ _ _ _ _
     c.in_ok-command.ensures c.in-Err.ensures.passes c.in-Err.ensures.kinds c.shown.ensures.memory
     c.shown.ensures.ok
 
 pub returns-in-Err-clause-why : goal.returns-in-Err-clause-why
 returns-in-Err-clause-why g c =
     shown_why (app_of c.in_ok-command.command) (map (λ (w : Bor (List ℕ)). w.now) c.args.words.now)
-    c.in-Err.error c.shown.result _ _ _ _ _
+    c.in-Err.error c.shown.result _ _ _ _ _ _
     c.in_ok-command.ensures c.in-Err.ensures.passes c.in-Err.ensures.kinds c.shown.ensures.refused
 
 pub returns-in_default-clause-fault : goal.returns-in_default-clause-fault
@@ -48,35 +48,37 @@ returns-in_default-clause-fault g c _ = (
 pub returns-in_err-upgrade-clause-refused : goal.returns-in_err-upgrade-clause-refused
 returns-in_err-upgrade-clause-refused g c =
     let asks : AsksFor (map (λ (w : Bor (List ℕ)). w.now) c.args.words.now)
-    c.upgrade_words.result.manifest_path.now c.upgrade_words.result.index_file.now =
+    c.upgrade_words-words.result.manifest_path.now c.upgrade_words-words.result.index_file.now =
     asks_for (app_of c.in_ok-command.command) _ c.in-Ok.matches c.in-Some-upgrade-default.matches.now _ _
     c.in_ok-command.ensures c.in-Ok.ensures.matches c.in-Ok.ensures.kinds
-    c.in-Some-upgrade-default.ensures.rows c.upgrade_words.ensures.manifest c.upgrade_words.ensures.index
+    c.in-Some-upgrade-default.ensures.rows c.upgrade_words-words.ensures.manifest
+    c.upgrade_words-words.ensures.index
     in
     on_any c.from_residual-in_err-upgrade.result _
-    (λ t. upgrade_refused _ c.args.current.now _ _ _ _ asks (c.in_err-upgrade.ensures.refused t))
+    (λ t. upgrade_refused _ _ c.args.current.now _ _ _ _ _ asks (c.in_err-upgrade.ensures.refused t))
 
 pub returns-in_err-upgrade-clause-why : goal.returns-in_err-upgrade-clause-why
 returns-in_err-upgrade-clause-why g c =
     let asks : AsksFor (map (λ (w : Bor (List ℕ)). w.now) c.args.words.now)
-    c.upgrade_words.result.manifest_path.now c.upgrade_words.result.index_file.now =
+    c.upgrade_words-words.result.manifest_path.now c.upgrade_words-words.result.index_file.now =
     asks_for (app_of c.in_ok-command.command) _ c.in-Ok.matches c.in-Some-upgrade-default.matches.now _ _
     c.in_ok-command.ensures c.in-Ok.ensures.matches c.in-Ok.ensures.kinds
-    c.in-Some-upgrade-default.ensures.rows c.upgrade_words.ensures.manifest c.upgrade_words.ensures.index
+    c.in-Some-upgrade-default.ensures.rows c.upgrade_words-words.ensures.manifest
+    c.upgrade_words-words.ensures.index
     in
     refusal_has c.from_residual-in_err-upgrade.result c.in_err-upgrade.field-0.0 _
     c.from_residual-in_err-upgrade.ensures.1
-    (upgrade_why _ c.args.current.now _ (g.S.Store.view c.args.files.now).file_at _ _
+    (upgrade_why _ c.args.current.now _ _ (g.S.Store.view c.args.files.now).file_at _ _
     c.in_err-upgrade.field-0.0.error _ _ asks c.in_err-upgrade.ensures.why)
 
 pub returns-clause-done : goal.returns-clause-done
 returns-clause-done g c zero t = inr (record {
-  manifest = c.upgrade_words.result.manifest_path.now;
-  index = c.upgrade_words.result.index_file.now;
+  manifest = c.upgrade_words-words.result.manifest_path.now;
+  index = c.upgrade_words-words.result.index_file.now;
   asks = asks_for (app_of c.in_ok-command.command) (map (λ (w : Bor (List ℕ)). w.now) c.args.words.now)
       c.in-Ok.matches c.in-Some-upgrade-default.matches.now _ _
       c.in_ok-command.ensures c.in-Ok.ensures.matches c.in-Ok.ensures.kinds
-      c.in-Some-upgrade-default.ensures.rows c.upgrade_words.ensures.manifest
-      c.upgrade_words.ensures.index;
+      c.in-Some-upgrade-default.ensures.rows c.upgrade_words-words.ensures.manifest
+      c.upgrade_words-words.ensures.index;
   upgraded = c.in_ok-upgrade.ensures.done t;
 })

@@ -1,18 +1,15 @@
-use Rattle.std.proofs.Common.{◌≡◌, true, false, ◌&&◌, Some, ap, sym, subst, ◌∙◌, inl, inr}
+use Rattle.std.proofs.Common.{sym, subst, ◌∙◌, inl, inr}
 use Rattle.std.proofs.lemmas.Bool.{and_parts}
 use Rattle.std.proofs.lemmas.Result.{IfErr-weaker, IfOk-weaker, err_from_is_err_and}
 use Rattle.std.specs.List.{filter_map}
-use Rattle.edit_document.specs.EditBytes.{is_one_statement}
 use Rattle.edit_document.specs.Items.{place_seen}
 use Rattle.edit_document.specs.Meant.{ReplaceFails}
 use Rattle.edit_document.specs.NewItems.{IsEntry}
-use Rattle.edit_document.specs.Shown.{tree_of}
 use Rattle.edit_record.specs.EndViews.{ends_seen}
-use Rattle.edit_record.specs.EntryUpdates.{is_slight, removal_of, replaced_by, write_of}
-use Rattle.edit_record.specs.ReadEntries.{below}
+use Rattle.edit_record.specs.EntryUpdates.{removal_of, replaced_by, write_of}
 use Rattle.edit_record.specs.RecordViews.{record_view}
 use Rattle.edit_record.specs.UpdatedTexts.{BecomingFails, Changed, HasBecome, OneFails}
-use Rattle.edit_record.proofs.Updates.{entry_ends, is_changed, is_entry, is_other, stops_before, stops_behind, then_others}
+use Rattle.edit_record.proofs.Updates.{is_entry, item_changed, item_other, stops_before, stops_behind, then_others}
 use Rattle.edit_record.proofs.dependency.Dependency.update_copy.Goals as goal
 
 pub replace_entry-requires-clause-one : goal.replace_entry-requires-clause-one
@@ -28,11 +25,9 @@ returns-then-is_replaced-clause-text c =
     IfOk-weaker c.replace_entry.result _ _
     (λ x h. λ form is.
     let place = place_seen c.args.entry.now in
-    let there = ap is_slight c.in-Some.ensures.2 in
-    let both = ap (λ b. is_one_statement form place && b) there
-    ∙ sym (c.is_replaced.ensures form is) ∙ c.if-is_replaced.true in
-    let becomes = is_other c.args.document.now form place c.args.crate_root.now
-    (record_view c.args.self.now) (c.has_form.ensures.shows form is) both in
+    let becomes = item_other c.args.document.now form place c.args.crate_root.now
+    (record_view c.args.self.now) _ _ (c.has_form.ensures.shows form is) c.in-Some.ensures.2
+    (c.is_replaced.ensures form is) c.if-is_replaced.true in
     subst (λ u. HasBecome place u form c.args.document.now.bytes c.replace_entry.new.self.bytes)
     (sym becomes)
     (subst (λ i. HasBecome place (replaced_by i) form c.args.document.now.bytes
@@ -48,11 +43,9 @@ returns-then-is_replaced-clause-refused c =
         p.0,
         λ form is.
             let place = place_seen c.args.entry.now in
-            let there = ap is_slight c.in-Some.ensures.2 in
-            let both = ap (λ b. is_one_statement form place && b) there
-            ∙ sym (c.is_replaced.ensures form is) ∙ c.if-is_replaced.true in
-            let becomes = is_other c.args.document.now form place c.args.crate_root.now
-            (record_view c.args.self.now) (c.has_form.ensures.shows form is) both in
+            let becomes = item_other c.args.document.now form place c.args.crate_root.now
+            (record_view c.args.self.now) _ _ (c.has_form.ensures.shows form is) c.in-Some.ensures.2
+            (c.is_replaced.ensures form is) c.if-is_replaced.true in
             subst (λ u. BecomingFails place u c.args.document.now.bytes) (sym becomes)
             (subst (λ i. ReplaceFails place i c.args.document.now.bytes) c.in_ok-new.ensures.item p.1),
       )
@@ -70,14 +63,10 @@ returns-in_err-write_members-clause-refused c =
         λ form is.
             let place = place_seen c.args.entry.now in
             let all = c.in_ok-ends.ends.items in
-            let there = ap is_slight c.in-Some.ensures.2 in
-            let one = ap (λ b. is_one_statement form place && b) there
-            ∙ sym (c.is_replaced.ensures form is) ∙ c.if-is_replaced.false in
-            let same = entry_ends c.in-Some.item c.args.document.now place c.args.crate_root.now
-            (record_view c.args.self.now) (ends_seen all) c.in-Some.ensures.0 c.in-Some.ensures.1
-            c.in_ok-ends.ensures.ok in
-            let becomes = is_changed c.args.document.now form place c.args.crate_root.now
-            (record_view c.args.self.now) (ends_seen all) (c.has_form.ensures.shows form is) one same in
+            let becomes = item_changed c.in-Some.item c.args.document.now form place c.args.crate_root.now
+            (record_view c.args.self.now) (ends_seen all) _ _ (c.has_form.ensures.shows form is) c.in-Some.ensures.0
+            c.in-Some.ensures.1 c.in_ok-ends.ensures.ok c.in-Some.ensures.2 (c.is_replaced.ensures form is)
+            c.if-is_replaced.false in
             subst (λ u. BecomingFails place u c.args.document.now.bytes) (sym becomes)
             (stops_before place (filter_map write_of (ends_seen all)) (filter_map removal_of (ends_seen all))
             c.args.document.now.bytes
@@ -95,14 +84,10 @@ returns-clause-text c =
     let old = c.args.document.now.bytes in
     let mid = c.write_members.new.document.bytes in
     let new = c.remove_members.new.document.bytes in
-    let there = ap is_slight c.in-Some.ensures.2 in
-    let one = ap (λ b. is_one_statement form place && b) there
-    ∙ sym (c.is_replaced.ensures form is) ∙ c.if-is_replaced.false in
-    let same = entry_ends c.in-Some.item c.args.document.now place c.args.crate_root.now
-    (record_view c.args.self.now) (ends_seen all) c.in-Some.ensures.0 c.in-Some.ensures.1
-    c.in_ok-ends.ensures.ok in
-    let becomes = is_changed c.args.document.now form place c.args.crate_root.now
-    (record_view c.args.self.now) (ends_seen all) (c.has_form.ensures.shows form is) one same in
+    let becomes = item_changed c.in-Some.item c.args.document.now form place c.args.crate_root.now
+    (record_view c.args.self.now) (ends_seen all) _ _ (c.has_form.ensures.shows form is) c.in-Some.ensures.0
+    c.in-Some.ensures.1 c.in_ok-ends.ensures.ok c.in-Some.ensures.2 (c.is_replaced.ensures form is)
+    c.if-is_replaced.false in
     subst (λ u. HasBecome place u form old new) (sym becomes)
     (then_others place (filter_map write_of (ends_seen all)) (filter_map removal_of (ends_seen all))
     old mid new
@@ -124,14 +109,10 @@ returns-clause-refused c =
             let all = c.in_ok-ends.ends.items in
             let old = c.args.document.now.bytes in
             let mid = c.write_members.new.document.bytes in
-            let there = ap is_slight c.in-Some.ensures.2 in
-            let one = ap (λ b. is_one_statement form place && b) there
-            ∙ sym (c.is_replaced.ensures form is) ∙ c.if-is_replaced.false in
-            let same = entry_ends c.in-Some.item c.args.document.now place c.args.crate_root.now
-            (record_view c.args.self.now) (ends_seen all) c.in-Some.ensures.0 c.in-Some.ensures.1
-            c.in_ok-ends.ensures.ok in
-            let becomes = is_changed c.args.document.now form place c.args.crate_root.now
-            (record_view c.args.self.now) (ends_seen all) (c.has_form.ensures.shows form is) one same in
+            let becomes = item_changed c.in-Some.item c.args.document.now form place c.args.crate_root.now
+            (record_view c.args.self.now) (ends_seen all) _ _ (c.has_form.ensures.shows form is) c.in-Some.ensures.0
+            c.in-Some.ensures.1 c.in_ok-ends.ensures.ok c.in-Some.ensures.2 (c.is_replaced.ensures form is)
+            c.if-is_replaced.false in
             subst (λ u. BecomingFails place u old) (sym becomes)
             (stops_behind place (filter_map write_of (ends_seen all)) (filter_map removal_of (ends_seen all))
             old mid

@@ -1,0 +1,20 @@
+-- Names that are asked for, and that no member of a workspace has (own, after cargo-edit).
+use Rattle.std.specs.Prelude.{◌⊎◌, ℕ, List, map, not}
+use Rattle.std.specs.List.{filter}
+use Rattle.edit_base.specs.Errors.{IsMemory}
+use Rattle.edit_base.specs.declared.errors.Error.{Error}
+use Rattle.edit_metadata.specs.Metadata.{PackageSaid, WorkspaceSaid, members}
+use Rattle.edit_set_version.specs.Chosen.{Asked, each_once, is_among, missing}
+use Rattle.edit_set_version.specs.PlanCauses.{IsMissing}
+
+-- the names of the members among packages
+abbrev pub names_of : List PackageSaid → List (List ℕ)
+names_of ps = map (λ p. p.name) (members ps)
+
+-- the names of a list that are not there, each once
+abbrev pub absent : List (List ℕ) → List (List ℕ) → List (List ℕ)
+absent there names = filter (λ name. not (is_among there name)) (each_once names)
+
+-- the refusal names what is asked for and no member is called; or memory ran out
+abbrev pub AsksForOthers : Asked → WorkspaceSaid → Error → Type 0
+AsksForOthers a w e = IsMemory e ⊎ IsMissing (missing a (names_of w.packages)) e

@@ -1,0 +1,61 @@
+-- Why a set-version plan over the inputs of a workspace is refused, and what a plan that is given shows not
+-- to stand in them (own, after cargo-edit).
+use Rattle.std.specs.Prelude.{◌≡◌, ◌≢◌, List, [], true, All, Contains, map}
+use Rattle.std.specs.List.{filter}
+use Rattle.edit_base.specs.Errors.{IsMemory}
+use Rattle.edit_base.specs.declared.errors.Error.{Error}
+use Rattle.edit_syntax.specs.Grammar.{Text}
+use Rattle.edit_document.specs.Supported.{IsManifest}
+use Rattle.edit_document.specs.Tree.{is_value_at, view_at}
+use Rattle.edit_manifest.specs.Loaded.{IsBadManifest}
+use Rattle.edit_manifest.specs.Versions.{package_version}
+use Rattle.edit_metadata.specs.Metadata.{WorkspaceSaid, members}
+use Rattle.edit_metadata.specs.declared.input.Input.{Input}
+use Rattle.edit_set_version.specs.Bumps.{Bumped, Target, becomes, bump, stays}
+use Rattle.edit_set_version.specs.Chosen.{Asked, held_back, missing}
+use Rattle.edit_set_version.specs.Follows.{AllRise}
+use Rattle.edit_set_version.specs.PlanCauses.{IsMissing, ManifestStandsAgainst, StandsAgainst, currents}
+use Rattle.edit_set_version.specs.Projects.{IsProject, path_of}
+use Rattle.edit_set_version.specs.SetVersioned.{Project, bumps, writes_own}
+
+-- the refusal tells of something in a manifest of the project
+pub record HasBadInput
+    (t : Target) (a : Asked) (inputs : List Input) (p : Project) (e : Error) : Type 0 where
+  pub input : Input
+  pub among : Contains inputs input
+  pub form : Text
+  pub manifest : IsManifest input.bytes.items form
+  pub against : ManifestStandsAgainst (bumps t a p) (path_of input) form e
+
+-- why a plan is refused: memory ran out, a name is missing, an input is no manifest, or something stands
+-- against it in the project or in one of its manifests
+pub data IsCauseOf
+    (t : Target) (a : Asked) (w : WorkspaceSaid) (inputs : List Input) (e : Error) : Type 0 where
+  memory : IsMemory e → IsCauseOf t a w inputs e
+  no_package : IsMissing (missing a (map (λ p. p.name) (members w.packages))) e → IsCauseOf t a w inputs e
+  no_manifest : (input : Input) → Contains inputs input → IsBadManifest input.bytes.items e
+      → IsCauseOf t a w inputs e
+  project : (p : Project) → IsProject w inputs p → StandsAgainst t a p e → IsCauseOf t a w inputs e
+  manifest : (p : Project) → IsProject w inputs p → HasBadInput t a inputs p e → IsCauseOf t a w inputs e
+
+-- a version that stays or becomes another
+abbrev pub IsBumpable : Bumped → Type 0
+IsBumpable stays = Unit {0}
+IsBumpable (becomes v) = Unit {0}
+IsBumpable _ = ⊥
+
+-- nothing in an input stands against the plan: a version that is to be written has a literal, and no
+-- requirement that follows is refused
+pub record IsInputClear (t : Target) (a : Asked) (p : Project) (input : Input) : Type 0 where
+  pub form : Text
+  pub manifest : IsManifest input.bytes.items form
+  pub literal : filter (writes_own (path_of input)) (bumps t a p) ≢ []
+      → is_value_at form package_version ≡ true
+  pub requirements : AllRise (bumps t a p) (path_of input) (view_at form)
+
+-- nothing stands against the plan
+pub record IsClear (t : Target) (a : Asked) (inputs : List Input) (p : Project) : Type 0 where
+  pub packages : missing a (map (λ m. m.name) p.members) ≡ []
+  pub excluded : held_back a p.members ≡ []
+  pub versions : All (λ v. IsBumpable (bump t a.metadata v)) (currents a p)
+  pub each : All (IsInputClear t a p) inputs

@@ -1,0 +1,70 @@
+-- What a set-version plan gives for the inputs of a workspace (own, after cargo-edit).
+use Rattle.std.specs.Prelude.{◌≡◌, ◌≢◌, ◌==◌, ℕ, List, [], ◌∷◌, Bool, not, length, map, string_bytes}
+use Rattle.std.specs.List.{filter}
+use Rattle.edit_syntax.specs.Grammar.{Text}
+use Rattle.edit_document.specs.Assertions.{same_bytes}
+use Rattle.edit_document.specs.Replaces.{Edits, Replaces}
+use Rattle.edit_document.specs.Supported.{IsManifest}
+use Rattle.edit_document.specs.Tree.{view_at}
+use Rattle.edit_metadata.specs.declared.input.Input.{Input}
+use Rattle.edit_report.specs.declared.output.Output.{Output}
+use Rattle.edit_set_version.specs.Bumps.{Target}
+use Rattle.edit_set_version.specs.Chosen.{Asked}
+use Rattle.edit_set_version.specs.Follows.{Follow}
+use Rattle.edit_set_version.specs.PlanLines.{Told}
+use Rattle.edit_set_version.specs.Projects.{path_of}
+use Rattle.edit_set_version.specs.SetVersioned.{Project, bumps, edits}
+use Rattle.edit_set_version.specs.declared.plan.SetVersionPlan.{SetVersionPlan}
+
+-- ---- outputs
+
+-- the outputs at a path
+abbrev pub outputs_at : List ℕ → List Output → List Output
+outputs_at path outputs = filter (λ o. same_bytes (string_bytes o.path) path) outputs
+
+-- the outputs stand in the order of their inputs, and there is no other
+abbrev pub OutputsInOrder : List Input → List Output → Type 0
+OutputsInOrder inputs outputs =
+    map (λ o. string_bytes o.path) outputs
+    ≡ filter (λ path. not (length (outputs_at path outputs) == 0)) (map path_of inputs)
+
+-- where nothing is written there is no output; else one has the path and the text with these literals
+pub data AreOutputs (path old : List ℕ) (es : Edits) : List Output → Type 0 where
+  unchanged : es ≡ [] → AreOutputs path old es []
+  changed : (output : Output) → es ≢ [] → string_bytes output.path ≡ path
+      → Replaces es old output.bytes.items → AreOutputs path old es (output ∷ [])
+
+-- an input's output has the literals of bumped versions and of requirements that follow, and no other byte
+-- is new
+pub record HasSetOutputs
+    (t : Target) (a : Asked) (outputs : List Output) (p : Project) (input : Input) : Type 0 where
+  pub form : Text
+  pub manifest : IsManifest input.bytes.items form
+  pub are : AreOutputs (path_of input) input.bytes.items
+      (edits t a p (path_of input) (view_at form)) (outputs_at (path_of input) outputs)
+
+-- ---- lines
+
+-- the lines, by their texts
+abbrev pub told_lines : SetVersionPlan → List Told
+told_lines plan = map (λ l. (string_bytes l.0, string_bytes l.1)) plan.lines.items
+
+-- there are lines
+abbrev pub has_lines : SetVersionPlan → Bool
+has_lines plan = not (length plan.lines.items == 0)
+
+-- ---- the law
+
+-- what stands after a plan: the first output's bytes, or these where there is none
+abbrev pub bytes_after : List ℕ → List Output → List ℕ
+bytes_after old [] = old
+bytes_after old (output ∷ outputs) = output.bytes.items
+
+-- what stands for an input after the plan is a manifest, and each of its requirements that points to a
+-- bumped crate follows
+pub record HasFollowed
+    (t : Target) (a : Asked) (outputs : List Output) (p : Project) (input : Input) : Type 0 where
+  pub form : Text
+  pub manifest : IsManifest
+      (bytes_after input.bytes.items (outputs_at (path_of input) outputs)) form
+  pub follow : Follow (bumps t a p) (path_of input) (view_at form)

@@ -1,0 +1,54 @@
+-- The project that a workspace and its inputs tell of (own).
+use Rattle.std.specs.Prelude.{◌≡◌, ℕ, List, All, Contains, string_bytes}
+use Rattle.std.specs.List.{AllZip}
+use Rattle.edit_base.specs.Paths.{IsNormalOf}
+use Rattle.edit_syntax.specs.Grammar.{Text}
+use Rattle.edit_document.specs.Assertions.{Place}
+use Rattle.edit_document.specs.Supported.{IsManifest}
+use Rattle.edit_document.specs.Tree.{view_at}
+use Rattle.edit_manifest.specs.Tables.{Tree}
+use Rattle.edit_metadata.specs.Inputs.{AreInputs, RustAsked, root_manifest}
+use Rattle.edit_metadata.specs.Metadata.{PackageSaid, WorkspaceSaid, members}
+use Rattle.edit_metadata.specs.declared.input.Input.{Input}
+use Rattle.edit_set_version.specs.Chosen.{Member}
+use Rattle.edit_set_version.specs.SetVersioned.{Project}
+
+-- the path of an input
+abbrev pub path_of : Input → List ℕ
+path_of input = string_bytes input.path
+
+-- the inputs are the manifests of the workspace, whatever Rust version they are for
+abbrev pub AreInputsOf : WorkspaceSaid → List Input → Type 0
+AreInputsOf w inputs = (asked : RustAsked) × AreInputs asked w inputs
+
+-- this tree is that of the manifest at a path
+pub record IsTreeAt (inputs : List Input) (path : List ℕ) (tree : Tree) : Type 0 where
+  pub input : Input
+  pub among : Contains inputs input
+  pub at : path_of input ≡ path
+  pub form : Text
+  pub manifest : IsManifest input.bytes.items form
+  pub is : (q : Place) → tree q ≡ view_at form q
+
+-- a member has the name and the version of this package, and its manifest is that at the package's path
+pub record IsMemberOf (inputs : List Input) (p : PackageSaid) (m : Member) : Type 0 where
+  pub name : m.name ≡ p.name
+  pub version : m.version ≡ p.version
+  pub path : IsNormalOf p.manifest_path m.path
+  pub tree : IsTreeAt inputs m.path m.tree
+
+-- the project of a workspace: the root's manifest, and those of the members in order
+pub record IsProject (w : WorkspaceSaid) (inputs : List Input) (p : Project) : Type 0 where
+  pub path : IsNormalOf (root_manifest w).path p.path
+  pub tree : IsTreeAt inputs p.path p.tree
+  pub members : AllZip (IsMemberOf inputs) (members w.packages) p.members
+
+-- the inputs are manifests, and this holds of their project
+pub record HasProject (w : WorkspaceSaid) (inputs : List Input) (P : Project → Type 0) : Type 0 where
+  pub project : Project
+  pub is : IsProject w inputs project
+  pub holds : P project
+
+-- the same of each input in the project
+abbrev pub EachInput : WorkspaceSaid → List Input → (Project → Input → Type 0) → Type 0
+EachInput w inputs P = HasProject w inputs (λ p. All (P p) inputs)

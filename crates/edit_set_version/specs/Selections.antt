@@ -1,0 +1,13 @@
+-- What a selection asks for (own).
+use Rattle.std.specs.Prelude.{map, option_map, string_bytes}
+use Rattle.edit_set_version.specs.Chosen.{Asked}
+use Rattle.edit_set_version.specs.declared.plan.Selection.{Selection}
+
+-- what a selection asks for, by its texts
+abbrev pub asked_of : Selection → Asked
+asked_of s = record {
+  packages = map string_bytes s.packages.items;
+  exclude = map string_bytes s.exclude.items;
+  workspace = s.workspace;
+  metadata = option_map string_bytes s.metadata;
+}

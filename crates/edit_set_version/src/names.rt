@@ -1,0 +1,110 @@
+//! Names that are asked for, and that no member has.
+ghost use Rattle.std.specs.Prelude.{◌≡◌, ◌++◌, ◌||◌, ℕ, List, [], ◌∷◌, false, true, if◌then◌else◌, IfErr, IfOk, OnOk, map, string_bytes};
+ghost use Rattle.std.specs.BTreeSet.{contains_text};
+ghost use Rattle.std.specs.Str.{bytes_eq};
+ghost use Rattle.edit_base.specs.Errors.{IsMemory};
+ghost use Rattle.edit_metadata.specs.Metadata.{members};
+ghost use Rattle.edit_metadata.specs.Workspaces.{package_said, packages_said, workspace_said};
+ghost use Rattle.edit_set_version.specs.Chosen.{is_among, missing};
+ghost use Rattle.edit_set_version.specs.Missing.{AsksForOthers, absent, names_of};
+ghost use Rattle.edit_set_version.specs.Selections.{asked_of};
+
+use crate::plan::Selection;
+use edit_base::{CargoResult, Error, MissingKind, MissingNames};
+use edit_metadata::{Package, Workspace};
+use std::alloc::Global;
+use std::collections::BTreeSet;
+
+/// Names in byte order, each once.
+type Names = BTreeSet<String>;
+
+/// Adds a name, and says whether it is new.
+fn add_name(alloc: Global, names: &mut Names, name: &str) -> CargoResult<bool>
+    ensures new { IfOk result (λ b. b ≡ (if contains_text names.old name.now then false else true)) }
+    ensures ok { OnOk result ((q : List ℕ) → contains_text names.new q
+        ≡ (if bytes_eq name.now q then true else contains_text names.old q)) }
+    ensures refused { IfErr result IsMemory }
+{
+    let name = String::from_str(alloc, name)?;
+    let added = names.insert(name)?;
+    Ok(added)
+}
+
+/// Adds the name of a package, where it is a member.
+fn add_member(alloc: Global, names: &mut Names, found: &Package) -> CargoResult<()>
+    ensures ok { OnOk result ((q : List ℕ) → contains_text names.new q
+        ≡ (contains_text names.old q || is_among (names_of (package_said found.now ∷ [])) q)) }
+    ensures refused { IfErr result IsMemory }
+{
+    if !found.member {
+        return Ok(());
+    }
+    add_name(alloc, names, found.name.as_str())?;
+    Ok(())
+}
+
+/// The names of the members among packages.
+fn member_names(alloc: Global, packages: &[Package]) -> CargoResult<Names>
+    ensures ok { IfOk result (λ s. (q : List ℕ)
+        → contains_text s q ≡ is_among (names_of (packages_said packages.now)) q) }
+    ensures refused { IfErr result IsMemory }
+{
+    let mut names = BTreeSet::new(alloc);
+    'packages: for package in packages {
+        add_member(alloc, &mut names, package)?;
+    }
+    Ok(names)
+}
+
+/// Adds a name to those that are known, and to those that are missing where it is new.
+fn push_missing(
+    alloc: Global,
+    known: &mut Names,
+    missing: &mut Vec<String>,
+    name: &str,
+) -> CargoResult<()>
+    ensures known { OnOk result ((q : List ℕ) → contains_text known.new q
+        ≡ (if bytes_eq name.now q then true else contains_text known.old q)) }
+    ensures missing { OnOk result (map string_bytes missing.new.items ≡ map string_bytes missing.old.items
+        ++ (if contains_text known.old name.now then [] else name.now ∷ [])) }
+    ensures refused { IfErr result IsMemory }
+{
+    let new = add_name(alloc, known, name)?;
+    if !new {
+        return Ok(());
+    }
+    let name = String::from_str(alloc, name)?;
+    missing.push(name)?;
+    Ok(())
+}
+
+/// The names that are asked for and not known, each once.
+fn missing_names(alloc: Global, known: &mut Names, names: &[String]) -> CargoResult<Vec<String>>
+    ensures ok { IfOk result (λ v. (there : List (List ℕ))
+        → ((q : List ℕ) → contains_text known.old q ≡ is_among there q)
+        → map string_bytes v.items ≡ absent there (map string_bytes names.now)) }
+    ensures refused { IfErr result IsMemory }
+{
+    let mut missing = Vec::new(alloc);
+    'names: for name in names {
+        push_missing(alloc, known, &mut missing, name.as_str())?;
+    }
+    Ok(missing)
+}
+
+impl Selection {
+    /// Refuses a selection that names what no member is called, with 39 and those names, each once.
+    pub fn check_names(&self, alloc: Global, workspace: &Workspace) -> CargoResult<()>
+        ensures found { OnOk result (missing (asked_of self.now)
+            (names_of (workspace_said workspace.now).packages) ≡ []) }
+        ensures refused { IfErr result (AsksForOthers (asked_of self.now) (workspace_said workspace.now)) }
+    {
+        let mut known = member_names(alloc, &workspace.packages)?;
+        let names = missing_names(alloc, &mut known, &self.packages)?;
+        if names.is_empty() {
+            return Ok(());
+        }
+        let kind = MissingKind::Package;
+        Err(Error::PackagesMissing(MissingNames { kind, names }))
+    }
+}

@@ -1,0 +1,160 @@
+//! The path dependencies of a manifest, found in a walk down its dependency tables.
+ghost use Rattle.std.specs.Prelude.{◌≡◌, ◌++◌, ℕ, List, IfErr, IfOk, OnOk, option_map, option_to_list};
+ghost use Rattle.std.specs.List.{filter_map};
+ghost use Rattle.edit_base.specs.Errors.{IsMemory};
+ghost use Rattle.edit_document.specs.Assertions.{at, key};
+ghost use Rattle.edit_document.specs.ItemViews.{document_of, place_of};
+ghost use Rattle.edit_document.specs.Items.{place_seen};
+ghost use Rattle.edit_document.specs.Shown.{tree_of};
+ghost use Rattle.edit_set_version.specs.Entries.{requirement, text_at};
+ghost use Rattle.edit_set_version.specs.Pointed.{led, pointed, pointed_at, pointed_in, pointed_named, pointed_view, pointed_views, pointed_with};
+ghost use Rattle.edit_set_version.specs.SetVersioned.{Bump, followings};
+
+use edit_base::CargoResult;
+use edit_document::{Document, Item, Place, Step, member_place};
+use edit_manifest::dependency_tables;
+use std::alloc::Global;
+
+/// An entry that has a text requirement and a path.
+#[derive(Drop)]
+pub struct PathEntry {
+    pub place: Place,
+    /// The requirement.
+    pub text: String,
+    pub path: String,
+}
+
+/// The string at a member of an item.
+fn text_at<'a>(item: Item<'a>, name: &str) -> Option<&'a str>
+    ensures { option_map (λ s. s.now) result
+        ≡ text_at (tree_of (document_of item.entry)) (at (place_of item.entry) (key name.now)) }
+{
+    match item.get(name) {
+        Some(member) => member.as_str(),
+        None => None,
+    }
+}
+
+/// The text requirement of an entry that is a table.
+fn requirement<'a>(item: Item<'a>) -> Option<&'a str>
+    ensures { option_map (λ s. s.now) result
+        ≡ requirement (tree_of (document_of item.entry)) (place_of item.entry) }
+{
+    item.stands();
+    if !item.is_table_like() {
+        return None;
+    }
+    text_at(item, "version")
+}
+
+/// The entry at a place with its two texts, where both are there.
+fn entry_with(
+    alloc: Global,
+    place: Place,
+    text: Option<&str>,
+    path: Option<&str>,
+) -> CargoResult<Option<PathEntry>>
+    ensures ok { IfOk result (λ o. option_map pointed_view o ≡ pointed_with (place_seen place.items)
+        (option_map (λ s. s.now) text.entry) (option_map (λ s. s.now) path.entry)) }
+    ensures refused { IfErr result IsMemory }
+{
+    let Some(text) = text else {
+        return Ok(None);
+    };
+    let Some(path) = path else {
+        return Ok(None);
+    };
+    let text = String::from_str(alloc, text)?;
+    let path = String::from_str(alloc, path)?;
+    Ok(Some(PathEntry { place, text, path }))
+}
+
+/// The entry of this name of the table at a place, where it has both texts.
+fn entry_named(
+    alloc: Global,
+    place: &[Step],
+    table: Item<'_>,
+    name: &str,
+) -> CargoResult<Option<PathEntry>>
+    requires { place_of table ≡ place_seen place.now }
+    ensures ok { IfOk result (λ o. option_map pointed_view o
+        ≡ pointed_at (tree_of (document_of table.entry)) (at (place_seen place.now) (key name.now))) }
+    ensures refused { IfErr result IsMemory }
+{
+    let Some(item) = table.get(name) else {
+        return Ok(None);
+    };
+    let place = member_place(alloc, place, name)?;
+    entry_with(alloc, place, requirement(item), text_at(item, "path"))
+}
+
+/// Adds the entry of this name of the table at a place, where it has both texts.
+fn push_named(
+    alloc: Global,
+    place: &[Step],
+    table: Item<'_>,
+    name: &str,
+    entries: &mut Vec<PathEntry>,
+) -> CargoResult<()>
+    requires { place_of table ≡ place_seen place.now }
+    ensures ok { OnOk result (pointed_views entries.new.items ≡ pointed_views entries.old.items
+        ++ pointed_named (tree_of (document_of table.entry)) (place_seen place.now) name.now) }
+    ensures refused { IfErr result IsMemory }
+{
+    let entry = entry_named(alloc, place, table, name)?;
+    match entry {
+        Some(entry) => {
+            entries.push(entry)?;
+            Ok(())
+        }
+        None => Ok(()),
+    }
+}
+
+/// Adds the entries of the table at a place that have both texts.
+fn push_table(
+    alloc: Global,
+    document: &Document,
+    place: &[Step],
+    entries: &mut Vec<PathEntry>,
+) -> CargoResult<()>
+    ensures ok { OnOk result (pointed_views entries.new.items ≡ pointed_views entries.old.items
+        ++ pointed_in (tree_of document.now) (place_seen place.now)) }
+    ensures refused { IfErr result IsMemory }
+{
+    let Some(table) = document.item(place) else {
+        return Ok(());
+    };
+    'names: for name in table.keys() {
+        push_named(alloc, place, table, name, entries)?;
+    }
+    Ok(())
+}
+
+/// The entries of a document that have both texts.
+fn entries_of(alloc: Global, document: &Document) -> CargoResult<Vec<PathEntry>>
+    ensures ok { IfOk result (λ es. pointed_views es.items ≡ pointed (tree_of document.now)) }
+    ensures refused { IfErr result IsMemory }
+{
+    let tables = dependency_tables(alloc, document)?;
+    let mut entries = Vec::new(alloc);
+    'tables: for table in &tables {
+        push_table(alloc, document, table, &mut entries)?;
+    }
+    Ok(entries)
+}
+
+/// The entries of a manifest that have a text requirement and a path, table by table in the order of a walk
+/// down it. An entry has a text requirement where it is a table with a string `version`, and a path where it
+/// has a string `path`.
+pub fn path_entries(alloc: Global, document: &Document) -> CargoResult<Vec<PathEntry>>
+    ensures entries { IfOk result (λ es. pointed_views es.items ≡ pointed (tree_of document.now)) }
+    // whatever is bumped, and wherever the manifest stands, only requirements of these follow
+    ensures follow { IfOk result (λ es. (bumps : List Bump) (file : List ℕ)
+        → followings bumps file (tree_of document.now)
+        ≡ filter_map (led bumps file) (pointed_views es.items)) }
+    ensures refused { IfErr result IsMemory }
+{
+    let entries = entries_of(alloc, document)?;
+    Ok(entries)
+}

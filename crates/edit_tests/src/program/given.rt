@@ -1,0 +1,209 @@
+//! The program's rows: the words, the files, and what is seen.
+
+pub(super) const MANIFEST: &str =
+    "[dependencies]\nserde = { version = '1.0', optional = true } # keep\n";
+
+const RAISED: &str = "[dependencies]\nserde = { version = \"1.2\", optional = true } # keep\n";
+
+const OF_A_REGISTRY: &str = "[dependencies]\nserde = { version = \"1.0\", registry = \"r\" }\n";
+
+const RAISED_THERE: &str = "[dependencies]\nserde = { version = \"1.2\", registry = \"r\" }\n";
+
+const UP_TO_DATE: &str = "[dependencies]\na = \"1\"\n";
+
+const UNREAD: &str = "[dependencies]\nserde = 'one'\na.workspace = true\n";
+
+const PINNED: &str = "[dependencies]\nserde = '=1.0.0'\n[dev-dependencies]\nserde = '0.9'\n";
+
+const MANY: &str = "[dependencies]\na = '1'\nb = '1'\nc = '1'\nd = '1'\n";
+
+const REGISTRIES: &str = "[registries]\nr = { index = \"file:///r\" }\n";
+
+const ODD_NAME: &str = "[dependencies]\n'no name' = '1'\n";
+
+pub(super) const INDEX: &str = "{\"name\":\"serde\",\"vers\":\"1.2.3\"}\n";
+
+pub(super) const WORDS: &str = "upgrade --manifest-path Cargo.toml --index-file index.json";
+
+/// Each row: the words, and the status and what was printed on both streams, over no files.
+pub(super) const TEXTS: &str = "\
+upgrade --manifest-path '' --index-file index.json|\
+2 error: a value is required for '--manifest-path <PATH>' but none was supplied
+
+For more information, try '--help'.
+@upgrade --manifest-path Cargo.toml|\
+2 error: the following required arguments were not provided:
+  --index-file <FILE>
+
+Usage: cargo-edit upgrade --manifest-path <PATH> --index-file <FILE>
+
+For more information, try '--help'.
+@upgrade --help|\
+0 Raises the dependency requirements of a manifest
+
+Usage: cargo-edit upgrade --manifest-path <PATH> --index-file <FILE>
+
+Options:
+      --manifest-path <PATH>  The manifest, or a folder with one
+      --index-file <FILE>     Index lines, as a registry's index has them
+  -h, --help                  Print help
+  -V, --version               Print version
+@upgrade -V|\
+0 cargo-edit-upgrade 0.13.14
+";
+
+/// Each row: what it shows, the files, which call of the store fails (99: none), the words (`-`: the usual
+/// ones, `''` an empty one), and the status, the manifest afterwards and what was printed on standard output
+/// and standard error.
+pub(super) const ROWS: &str = "\
+raises one manifest|mi|99|-|0 raised name  old req compatible latest new req
+====  ======= ========== ====== =======
+serde 1.0     1.2.3      1.2.3  1.2    
+    Checking virtual workspace's dependencies
+@nothing there|i|99|-|1 none Error: Failed to get cargo file metadata
+  at /w/Cargo.toml
+@a folder in its place|b|99|-|1 none Error: Failed to read manifest contents
+  at /w/Cargo.toml
+@absent index|m|99|-|1 manifest Error: Failed to get cargo file metadata
+  at /w/index.json
+@no text, before the index|u|99|-|1 other Error: Failed to read manifest contents
+  at /w/Cargo.toml
+@no document, before the index|d|99|-|1 other Error: Unable to parse Cargo.toml
+  at /w/Cargo.toml:1:7
+@no document, behind letters of two bytes|e|99|-|1 other Error: Unable to parse Cargo.toml
+  at /w/Cargo.toml:2:7
+@a folder for the index|mf|99|-|1 manifest Error: Failed to get cargo file metadata
+  at /w/index.json
+@a malformed line|ml|99|-|1 manifest Error: Invalid index line 1
+  at /w/index.json:1
+@a name that no index has|oi|99|-|1 odd name Error: Invalid crate name `no name`
+@found above|snm|99|upgrade --manifest-path a/./b/ --index-file ../w//index.json|\
+1 manifest Error: Invalid index line 2
+  at /w/index.json:2
+@not found above|sn|99|upgrade --manifest-path a/./b/ --index-file ../w//index.json|\
+1 none Error: Unable to find Cargo.toml for /w/a/b
+@a registry that a configuration names|rci|99|-|0 raised there name  old req compatible latest new req
+====  ======= ========== ====== =======
+serde 1.0     1.2.3      1.2.3  1.2    
+    Checking virtual workspace's dependencies
+@one that the home of cargo names|rhi|99|-|0 raised there name  old req compatible latest new req
+====  ======= ========== ====== =======
+serde 1.0     1.2.3      1.2.3  1.2    
+    Checking virtual workspace's dependencies
+@a registry that none names|ri|99|-|1 of a registry Error: The registry 'r' could not be found
+@a broken configuration, before the index|rkh|99|-|\
+1 of a registry Error: invalid cargo config at /w/.cargo/config.toml
+@a configuration's read fails|rci|3|-|1 of a registry Error: Failed to read a file
+@the look fails|mi|0|-|1 manifest Error: Failed to look at a path
+  at /w/Cargo.toml
+@the look above fails|snm|1|upgrade --manifest-path a/b --index-file index.json|\
+1 manifest Error: Failed to look at a path
+  at /w/a/b
+@the manifest's read fails|mi|1|-|1 manifest Error: Failed to read a file
+  at /w/Cargo.toml
+@the index file's read fails|mi|8|-|1 manifest Error: Failed to read a file
+  at /w/index.json
+@nothing to raise|aj|99|-|0 up to date     Checking virtual workspace's dependencies
+note: Re-run with `--verbose` to show more dependencies
+  latest: a
+@warnings, but for those of verbose reports|wi|99|-|0 held     Checking virtual workspace's dependencies
+warning: keeping serde, unreadable requirement `one`
+note: Re-run with `--verbose` to show more dependencies
+  latest: serde
+@what is held back|pi|99|-|0 held     Checking virtual workspace's dependencies
+note: Re-run with `--pinned` to upgrade pinned version requirements
+note: Re-run with `--incompatible` to upgrade incompatible version requirements
+note: Re-run with `--verbose` to show more dependencies
+  incompatible: serde
+  pinned: serde
+@more names than three|qi|99|-|0 held     Checking virtual workspace's dependencies
+note: Re-run with `--verbose` to show more dependencies
+  latest: 4 packages
+@the write fails after four bytes|mi|9|-|1 cut name  old req compatible latest new req
+====  ======= ========== ====== =======
+serde 1.0     1.2.3      1.2.3  1.2    
+    Checking virtual workspace's dependencies
+Error: Failed to write updated Cargo.toml
+  at /w/Cargo.toml
+";
+
+/// Rows of which the status alone is compared. The manifest stays as it was.
+pub(super) const STATUSES: &str = "\
+help|mi|99|upgrade --help|0 manifest \
+@version|mi|99|upgrade -V|0 manifest \
+@a flag that none has|mi|99|upgrade --nope|2 manifest \
+@no index file|mi|99|upgrade --manifest-path Cargo.toml|2 manifest \
+@no manifest|mi|99|upgrade --index-file index.json|2 manifest \
+@an empty path of a manifest|mi|99|upgrade --manifest-path '' --index-file index.json|2 manifest \
+@an empty path behind an equals sign|mi|99|upgrade --manifest-path= --index-file index.json|2 manifest \
+@an empty path of an index file|mi|99|upgrade --manifest-path Cargo.toml --index-file ''|2 manifest \
+@another subcommand|mi|99|raise --manifest-path Cargo.toml --index-file index.json|2 manifest \
+@no words|mi|99||2 manifest ";
+
+/// What is seen where the table is not taken: the manifest is as it was.
+pub(super) const UNWRITTEN: &str = "\
+1 manifest     Checking virtual workspace's dependencies
+Error: Failed to write message
+";
+
+/// Where a file of a row stands.
+pub(super) fn path_of(file: char) -> &'static str {
+    match file {
+        'm' | 'u' | 'd' | 'e' | 'o' | 'r' | 'a' | 'w' | 'p' | 'q' => "/w/Cargo.toml",
+        'c' | 'k' => "/w/.cargo/config.toml",
+        'h' => "/h/config.toml",
+        'b' => "/w/Cargo.toml/x",
+        's' => "/w/a/b/x",
+        'f' => "/w/index.json/x",
+        _ => "/w/index.json",
+    }
+}
+
+/// What a file of a row holds.
+pub(super) fn bytes_of(file: char) -> &'static [u8] {
+    match file {
+        'm' => MANIFEST.as_bytes(),
+        'o' => ODD_NAME.as_bytes(),
+        'r' => OF_A_REGISTRY.as_bytes(),
+        'c' | 'h' => REGISTRIES.as_bytes(),
+        'k' => b"registries = 1",
+        'a' => UP_TO_DATE.as_bytes(),
+        'w' => UNREAD.as_bytes(),
+        'p' => PINNED.as_bytes(),
+        'q' => MANY.as_bytes(),
+        'j' => b"{\"name\":\"a\",\"vers\":\"1.0.0\"}\n",
+        'i' => INDEX.as_bytes(),
+        'u' => b"\xff".as_slice(),
+        'd' => b"a = 1 2",
+        'e' => "# é\n'é' = é\n".as_bytes(),
+        'l' => b"{\"name\":\"a\"}",
+        'n' => b"\n{}\n",
+        _ => b"",
+    }
+}
+
+/// What a row calls these bytes of a manifest.
+pub(super) fn name_of(bytes: &[u8]) -> &'static str {
+    if bytes == MANIFEST.as_bytes() {
+        "manifest"
+    } else if bytes == RAISED.as_bytes() {
+        "raised"
+    } else if bytes == ODD_NAME.as_bytes() {
+        "odd name"
+    } else if bytes == OF_A_REGISTRY.as_bytes() {
+        "of a registry"
+    } else if bytes == RAISED_THERE.as_bytes() {
+        "raised there"
+    } else if [UNREAD, PINNED, MANY]
+        .iter()
+        .any(|text| bytes == text.as_bytes())
+    {
+        "held"
+    } else if bytes == UP_TO_DATE.as_bytes() {
+        "up to date"
+    } else if bytes == b"[dep".as_slice() {
+        "cut"
+    } else {
+        "other"
+    }
+}
