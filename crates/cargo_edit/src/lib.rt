@@ -1,21 +1,5 @@
-//! The upgrade of a manifest: what is planned for its entries.
+//! `cargo-edit` as a library: each public name, from the crate that proves it.
 #![tactic(auto)]
-
-mod addresses;
-mod decide;
-mod draft;
-mod lists;
-mod looks;
-mod names;
-mod offers;
-mod plan;
-mod planned;
-mod requirement;
-mod rows;
-mod seen;
-pub mod upgrade;
-mod walk;
-mod writes;
 
 pub use edit_base::{
     CargoResult, CliError, CliResult, DeviceCall, Error, MergedCommand, MissingKind, MissingNames,
@@ -43,9 +27,6 @@ pub use edit_report::{
 pub use edit_set_version::{BumpLevel, TargetVersion, set_version};
 pub use edit_sources::config::read_configs;
 pub use edit_sources::registry::{registry_url, resolve};
-pub use edit_sources::{
-    Config, ConfigSource, FaultStore, FileIndex, HostStore, Index, IndexCache, IndexKrate, Kind,
-    LocalIndex, MemoryStore, Ranked, Store,
-};
-pub use plan::{plan_documents, plan_upgrade};
-pub use upgrade::{Look, Options, UpgradePlan, Warning};
+pub use edit_sources::{Config, ConfigSource, FileIndex, Index, IndexCache, IndexKrate, LocalIndex, Ranked};
+pub use edit_store::{FaultStore, HostStore, Kind, MemoryStore, Store};
+pub use edit_upgrade::{Look, Options, UpgradePlan, Warning, plan_documents, plan_upgrade, upgrade};

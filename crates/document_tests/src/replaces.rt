@@ -1,7 +1,7 @@
 //! Rows of entries that are replaced: what the text is afterwards, the place, what is written there, and the
 //! text before (TOML 1.0.0, "Keys", "Table", "Inline Table"); a row ends at `~`.
 ghost use Rattle.std.specs.Prelude.{IfOk};
-ghost use Rattle.edit_document.specs.NewItems.{IsEntry};
+ghost use Rattle.edit_tree.specs.NewItems.{IsEntry};
 ghost use Rattle.edit_document.specs.NewItemViews.{item_seen};
 
 use super::new_items::listed;

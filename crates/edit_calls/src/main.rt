@@ -17,7 +17,7 @@ mod words;
 
 use calls::edit;
 use edit_document::{CargoResult, Document, Error};
-use edit_sources::{HostStore, Store};
+use edit_store::{HostStore, Store};
 use std::env;
 use std::io::Write;
 use std::process::ExitCode;

@@ -1,6 +1,6 @@
 //! The words of a call: steps, values and entries.
 ghost use Rattle.std.specs.Prelude.{IfOk};
-ghost use Rattle.edit_document.specs.NewItems.{IsEntry};
+ghost use Rattle.edit_tree.specs.NewItems.{IsEntry};
 ghost use Rattle.edit_document.specs.NewItemViews.{item_seen};
 
 use edit_document::{NewItem, NewValue, Step};

@@ -4,7 +4,7 @@
 use edit_base::paths::join;
 use edit_base::{CargoResult, Error};
 use edit_program::run;
-use edit_sources::HostStore;
+use edit_store::HostStore;
 use std::env::VarError;
 use std::io::{ErrorKind, Write};
 use std::process::ExitCode;

@@ -4,20 +4,20 @@ use Rattle.std.specs.Prelude.{option_map}
 use Rattle.std.specs.List.{filter, list_any}
 use Rattle.std.proofs.lemmas.List.{length-append, take_all}
 use Rattle.edit_syntax.specs.Grammar.{Text}
-use Rattle.edit_document.specs.Assertions.{Step, key, index, Place, at, Kind, assertions}
-use Rattle.edit_document.specs.EditBytes.{as_it_is, part_to, is_header_of, is_one_statement}
+use Rattle.edit_tree.specs.Assertions.{Step, key, index, Place, at, Kind, assertions}
+use Rattle.edit_tree.specs.EditBytes.{as_it_is, part_to, is_header_of, is_one_statement}
 use Rattle.edit_document.specs.Items.{place_numbered, place_seen, step_seen}
 use Rattle.edit_document.specs.declared.place.Step.{Step as WrittenStep}
 use Rattle.edit_document.proofs.MemberViews.{place_more}
-use Rattle.edit_document.specs.Shown.{Shown}
-use Rattle.edit_document.specs.Statements.{behind_part, Paired, stated, line_pairs, inner_pairs}
-use Rattle.edit_document.specs.Supported.{IsManifest}
-use Rattle.edit_document.specs.Tree.{kind_at, view_at, view_of_kind}
+use Rattle.edit_tree.specs.Shown.{Shown}
+use Rattle.edit_tree.specs.Statements.{behind_part, Paired, stated, line_pairs, inner_pairs}
+use Rattle.edit_tree.specs.Supported.{IsManifest}
+use Rattle.edit_tree.specs.Tree.{kind_at, view_at, view_of_kind}
 use Rattle.edit_document.specs.declared.one_statement.Statements.TheVariants.{AsMember}
 use Rattle.edit_document.specs.OneStatement.{Answers}
-use Rattle.edit_document.proofs.NamedHeads.{one_statement_is}
-use Rattle.edit_document.proofs.OneStatements.{unpaired, none_alone, at_cons}
-use Rattle.edit_document.proofs.SamePlace.{other_place, last_same}
+use Rattle.edit_tree.proofs.NamedHeads.{one_statement_is}
+use Rattle.edit_tree.proofs.OneStatements.{unpaired, none_alone, at_cons}
+use Rattle.edit_tree.proofs.SamePlace.{other_place, last_same}
 
 -- ---- places of no member
 

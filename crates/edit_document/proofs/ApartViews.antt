@@ -3,8 +3,8 @@ use Rattle.std.proofs.Common.{◌≡◌, ℕ, true, false, List, [], ◌∷◌, 
 use Rattle.std.specs.Prelude.{slice_get, option_map}
 use Rattle.std.specs.List.{filter_map}
 use Rattle.edit_syntax.specs.Grammar.{Value, basic, literal, multi_basic, multi_literal, boolean, integer, float, datetime, array, inline}
-use Rattle.edit_document.specs.Assertions.{Place, Assertion, Kind, dotted, leaf, super, header_kind, array_kind, element_kind}
-use Rattle.edit_document.specs.Tree.{View, table, members_of, step_from, kind_at, view_of_value, view_of_kind, view_in}
+use Rattle.edit_tree.specs.Assertions.{Place, Assertion, Kind, dotted, leaf, super, header_kind, array_kind, element_kind}
+use Rattle.edit_tree.specs.Tree.{View, table, members_of, step_from, kind_at, view_of_value, view_of_kind, view_in}
 use Rattle.edit_document.specs.Items.{names_in, viewed}
 use Rattle.edit_document.specs.Compared.{AreApart}
 use Rattle.edit_document.proofs.OnceLists.{apart_once, names_apart}

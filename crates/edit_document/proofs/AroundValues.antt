@@ -20,20 +20,20 @@ use Rattle.edit_syntax.proofs.NumberReadAgain.{is_start, integer_start, float_st
 use Rattle.edit_syntax.proofs.ValueEdges.{value_rest, value_enclosed}
 use Rattle.edit_document.specs.declared.remove_text.Around.{Around}
 use Rattle.edit_document.specs.declared.place.Step.{Step as WrittenStep}
-use Rattle.edit_document.specs.Assertions.{Place, Step, at}
-use Rattle.edit_document.specs.EditBytes.{before, with_splice}
+use Rattle.edit_tree.specs.Assertions.{Place, Step, at}
+use Rattle.edit_tree.specs.EditBytes.{before, with_splice}
 use Rattle.edit_document.specs.Items.{step_seen, place_seen}
-use Rattle.edit_document.specs.RemovedBytes.{innermost, removed_text, lines_left, value_left}
+use Rattle.edit_tree.specs.RemovedBytes.{innermost, removed_text, lines_left, value_left}
 use Rattle.edit_document.specs.RemoveText.{IsFoundAt, IsAround, HasAround, StandsBetween}
-use Rattle.edit_document.specs.Slots.{IsContainer}
+use Rattle.edit_tree.specs.Slots.{IsContainer}
 use Rattle.edit_document.specs.Spots.{IsSpot}
-use Rattle.edit_document.specs.Statements.{stated}
-use Rattle.edit_document.specs.Supported.{IsManifest}
-use Rattle.edit_document.specs.Tree.{is_value_at}
-use Rattle.edit_document.specs.Written.{Valued, values, IsWrittenAt}
-use Rattle.edit_document.proofs.Ends.{Ends, text_behind}
-use Rattle.edit_document.proofs.FineValues.{values_fine}
-use Rattle.edit_document.proofs.Innermost.{none_around, same_around, value_around}
+use Rattle.edit_tree.specs.Statements.{stated}
+use Rattle.edit_tree.specs.Supported.{IsManifest}
+use Rattle.edit_tree.specs.Tree.{is_value_at}
+use Rattle.edit_tree.specs.Written.{Valued, values, IsWrittenAt}
+use Rattle.edit_tree.proofs.Ends.{Ends, text_behind}
+use Rattle.edit_tree.proofs.FineValues.{values_fine}
+use Rattle.edit_tree.proofs.Innermost.{none_around, same_around, value_around}
 use Rattle.edit_document.proofs.LeftTexts.{value_start}
 use Rattle.edit_document.proofs.SlotLaws.{before_is}
 use Rattle.edit_document.proofs.SpotTexts.{whole_spot, cut_spots, cut_rest}

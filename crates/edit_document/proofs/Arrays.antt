@@ -4,12 +4,12 @@ use Rattle.std.specs.Prelude.{slice_get}
 use Rattle.std.proofs.lemmas.Bool.{cases_lt}
 use Rattle.std.proofs.lemmas.Option.{slice_get_within}
 use Rattle.edit_syntax.specs.Grammar.{Between, array, Elements}
-use Rattle.edit_document.specs.Assertions.{index, at, Kind, leaf, Assertion}
-use Rattle.edit_document.specs.Tree.{kind_at, count_elements}
+use Rattle.edit_tree.specs.Assertions.{index, at, Kind, leaf, Assertion}
+use Rattle.edit_tree.specs.Tree.{kind_at, count_elements}
 use Rattle.edit_document.specs.DocumentLayout.{Placed}
-use Rattle.edit_document.specs.Nodes.{Spot}
-use Rattle.edit_document.proofs.SamePlace.{not_root}
-use Rattle.edit_document.proofs.MoreAssertions.{first_kind}
+use Rattle.edit_tree.specs.Nodes.{Spot}
+use Rattle.edit_tree.proofs.SamePlace.{not_root}
+use Rattle.edit_tree.proofs.MoreAssertions.{first_kind}
 use Rattle.edit_document.proofs.AssertedSpots.{Lists, Stands, was_asserted, step_below}
 
 -- an element stands where a spot lists it

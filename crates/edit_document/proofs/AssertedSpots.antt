@@ -3,23 +3,23 @@ use Rattle.std.proofs.Common.{◌≡◌, ℕ, zero, suc, ◌<◌, ◌≤◌, Boo
 use Rattle.std.specs.Prelude.{slice_get, slice_set}
 use Rattle.std.proofs.lemmas.Option.{slice_get_within, same_Some}
 use Rattle.edit_syntax.specs.declared.span.Span.{Span}
-use Rattle.edit_document.specs.declared.nodes.Taken.{Taken}
-use Rattle.edit_document.specs.declared.nodes.Taken.TheVariants.{Header}
+use Rattle.edit_tree.specs.declared.nodes.Taken.{Taken}
+use Rattle.edit_tree.specs.declared.nodes.Taken.TheVariants.{Header}
 use Rattle.edit_document.specs.DocumentLayout.{shape_of_value, Placed, span_at}
 use Rattle.edit_syntax.specs.Grammar.{array}
-use Rattle.edit_document.specs.Assertions.{Step, key, index, Place, at, same_place, Kind, dotted, leaf, super, header_kind, array_kind, element_kind, Assertion, together, AreShort}
-use Rattle.edit_document.specs.Tree.{members_of, kind_at, count_elements}
+use Rattle.edit_tree.specs.Assertions.{Step, key, index, Place, at, same_place, Kind, dotted, leaf, super, header_kind, array_kind, element_kind, Assertion, together, AreShort}
+use Rattle.edit_tree.specs.Tree.{members_of, kind_at, count_elements}
 use Rattle.edit_document.specs.Items.{key_names}
-use Rattle.edit_document.specs.Taking.{taken_of, joins, stronger}
-use Rattle.edit_document.specs.Nodes.{Shape, scalar, section, sections, Spot, names_of, StandsAt, below, IsBelow, IsTree}
-use Rattle.edit_document.specs.Nodes as shapes
-use Rattle.edit_document.specs.Walk.{spot_at, with_taken}
-use Rattle.edit_document.proofs.SamePlace.{same_place_self, same_place_is, other_place, last_same, not_root}
+use Rattle.edit_tree.specs.Taking.{taken_of, joins, stronger}
+use Rattle.edit_tree.specs.Nodes.{Shape, scalar, section, sections, Spot, names_of, StandsAt, below, IsBelow, IsTree}
+use Rattle.edit_tree.specs.Nodes as shapes
+use Rattle.edit_tree.specs.Walk.{spot_at, with_taken}
+use Rattle.edit_tree.proofs.SamePlace.{same_place_self, same_place_is, other_place, last_same, not_root}
 use Rattle.edit_syntax.proofs.ListElements.{OneSet, changed, other, in_set, slice_get_same}
-use Rattle.edit_document.proofs.TakenPairs.{together_is, stronger_is}
-use Rattle.edit_document.proofs.MoreAssertions.{kind_stays, kind_else, kind_back, first_kind, first_stays, first_is, allowed, allowed_else, allowed_here, IsClear, clear_more}
-use Rattle.edit_document.proofs.MoreMembers.{members_again, is_element, is_headed, elements_below, elements_stay}
-use Rattle.edit_document.proofs.Trees.{grows_set, tree_set}
+use Rattle.edit_tree.proofs.TakenPairs.{together_is, stronger_is}
+use Rattle.edit_tree.proofs.MoreAssertions.{kind_stays, kind_else, kind_back, first_kind, first_stays, first_is, allowed, allowed_else, allowed_here, IsClear, clear_more}
+use Rattle.edit_tree.proofs.MoreMembers.{members_again, is_element, is_headed, elements_below, elements_stay}
+use Rattle.edit_tree.proofs.Trees.{grows_set, tree_set}
 
 -- ---- what is written
 

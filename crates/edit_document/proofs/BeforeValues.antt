@@ -2,21 +2,21 @@
 use Rattle.std.proofs.Common.{◌≡◌, ℕ, suc, ◌<◌, ◌≤◌, Bool, cond, List, [], ◌∷◌, ◌++◌, length, map, Some, None, refl, sym, ap, subst, ◌∙◌, inl, inr, append_assoc, length-append, arith}
 use Rattle.std.proofs.lemmas.List.{append-nil, length_push}
 use Rattle.std.proofs.lemmas.Option.{slice_get_past}
-use Rattle.edit_document.specs.declared.nodes.Taken.TheVariants.{Dotted}
+use Rattle.edit_tree.specs.declared.nodes.Taken.TheVariants.{Dotted}
 use Rattle.edit_syntax.specs.Grammar.{Between, Value, array, Elements}
-use Rattle.edit_document.specs.Assertions.{key, index, Place, at, Kind, dotted, leaf, Assertion, asserts, named, of_key, of_value}
-use Rattle.edit_document.specs.Tree.{kind_at, count_elements}
+use Rattle.edit_tree.specs.Assertions.{key, index, Place, at, Kind, dotted, leaf, Assertion, asserts, named, of_key, of_value}
+use Rattle.edit_tree.specs.Tree.{kind_at, count_elements}
 use Rattle.edit_document.specs.DocumentLayout.{Placed}
-use Rattle.edit_document.specs.Nodes.{Spot, StandsAt}
-use Rattle.edit_document.specs.Walk.{settled_state, is_dotted_within}
-use Rattle.edit_document.proofs.SamePlace.{same_place_self, other_place, last_same, not_root, not_below}
-use Rattle.edit_document.proofs.MoreAssertions.{first_kind, first_stays, first_is}
-use Rattle.edit_document.proofs.Trees.{Grows}
+use Rattle.edit_tree.specs.Nodes.{Spot, StandsAt}
+use Rattle.edit_tree.specs.Walk.{settled_state, is_dotted_within}
+use Rattle.edit_tree.proofs.SamePlace.{same_place_self, other_place, last_same, not_root, not_below}
+use Rattle.edit_tree.proofs.MoreAssertions.{first_kind, first_stays, first_is}
+use Rattle.edit_tree.proofs.Trees.{Grows}
 use Rattle.edit_document.proofs.AssertedSpots.{Stands, nothing_below_spot}
-use Rattle.edit_document.proofs.PlainValues.{HasLeaf, leaf_there}
-use Rattle.edit_document.proofs.Parts.{deep_value, kind_deep, kind_append}
+use Rattle.edit_tree.proofs.PlainValues.{HasLeaf, leaf_there}
+use Rattle.edit_tree.proofs.Parts.{deep_value, kind_deep, kind_append}
 use Rattle.edit_document.proofs.Arrays.{elements_are, elements_none_at}
-use Rattle.edit_document.proofs.WalkedTokens.{waits}
+use Rattle.edit_tree.proofs.WalkedTokens.{waits}
 use Rattle.edit_document.proofs.KeyWalks.{pair_enters, element_enters, element_vacant}
 use Rattle.edit_document.proofs.KeySpans.{vacant}
 use Rattle.edit_document.proofs.WalkedHolders.{Before, IsBefore, bare_at, deeper}

@@ -4,11 +4,11 @@ use Rattle.std.proofs.Common.{◌≡◌, ℕ, ◌+◌, ◌<◌, List, [], ◌∷
 use Rattle.std.specs.Prelude.{map}
 use Rattle.std.proofs.lemmas.List.{map-append, take-append-drop}
 use Rattle.edit_document.specs.declared.place.Step.{Step as WrittenStep}
-use Rattle.edit_document.specs.Assertions.{Place, at}
-use Rattle.edit_document.specs.Shown.{Shown, tree_of}
+use Rattle.edit_tree.specs.Assertions.{Place, at}
+use Rattle.edit_tree.specs.Shown.{Shown, tree_of}
 use Rattle.edit_document.specs.Items.{place_seen, step_seen, place_numbered, Numbers}
 use Rattle.edit_document.specs.Compared.{tree_below, IsNumber}
-use Rattle.edit_document.specs.Meant.{Tree}
+use Rattle.edit_tree.specs.Meant.{Tree}
 use Rattle.edit_document.proofs.MemberViews.{place_more, walk_none}
 use Rattle.edit_document.proofs.SameParts.{NoneBelow}
 use Rattle.edit_document.proofs.Besides.{GoesAlong}

@@ -2,14 +2,14 @@
 use Rattle.std.proofs.Common.{◌≡◌, ℕ, Bool, true, false, ◌&&◌, [], ◌∷◌, ◌++◌, Option, Some, None, refl, sym, ap, ap₂, ◌∙◌, ◌⊎◌, inl, inr, append-nil}
 use Rattle.std.specs.Bool.{Decides}
 use Rattle.std.proofs.lemmas.Option.{same_Some}
-use Rattle.edit_document.specs.Assertions.{Step, Place, at, same_step}
-use Rattle.edit_document.specs.EditBytes.{is_within}
-use Rattle.edit_document.specs.Meant.{Tree}
-use Rattle.edit_document.specs.Tree.{View}
-use Rattle.edit_document.specs.Shown.{Shown, tree_of}
+use Rattle.edit_tree.specs.Assertions.{Step, Place, at, same_step}
+use Rattle.edit_tree.specs.EditBytes.{is_within}
+use Rattle.edit_tree.specs.Meant.{Tree}
+use Rattle.edit_tree.specs.Tree.{View}
+use Rattle.edit_tree.specs.Shown.{Shown, tree_of}
 use Rattle.edit_document.specs.Items.{place_numbered, view_numbered, count_in, Numbers}
 use Rattle.edit_document.specs.Compared.{SameBelow, tree_below, SameBeside, SamePartsBut, SamePart, nth_part, NumbersPart}
-use Rattle.edit_document.proofs.SamePlace.{same_step_self, same_step_is}
+use Rattle.edit_tree.proofs.SamePlace.{same_step_self, same_step_is}
 use Rattle.edit_document.proofs.SameParts.{part_or, part_less, one_down, NothingElse, NoneBelow}
 
 -- ---- places

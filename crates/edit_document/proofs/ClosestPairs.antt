@@ -8,16 +8,16 @@ use Rattle.edit_syntax.specs.Grammar.{gap, Value, basic, literal, multi_basic, m
 use Rattle.edit_syntax.proofs.Cases.{by_test}
 use Rattle.edit_syntax.proofs.Members.{Among, among_contained, contained_among}
 use Rattle.edit_document.specs.declared.inner.Inner.{Inner}
-use Rattle.edit_document.specs.Assertions.{Step, Place, key, at, same_place, dotted, leaf, Assertion, asserts, names, named, of_key, of_value, of_members, assertions, NoClash}
-use Rattle.edit_document.specs.EditBytes.{as_it_is, last_made, front_to}
+use Rattle.edit_tree.specs.Assertions.{Step, Place, key, at, same_place, dotted, leaf, Assertion, asserts, names, named, of_key, of_value, of_members, assertions, NoClash}
+use Rattle.edit_tree.specs.EditBytes.{as_it_is, last_made, front_to}
 use Rattle.edit_document.specs.Inner.{inner_of, NoneAbove}
 use Rattle.edit_document.specs.Ranges.{is_table_value, StartsTable}
-use Rattle.edit_document.specs.Statements.{Named, dotted_parts, front_parts, behind_part, Paired, paired, paired_members, paired_value, inner_pairs}
-use Rattle.edit_document.specs.Written.{Valued, values}
-use Rattle.edit_document.proofs.Choices.{last_nothing, last_flat, last_only}
-use Rattle.edit_document.proofs.TablePairs.{among_flat, value_table}
-use Rattle.edit_document.proofs.SamePlace.{same_place_is, same_place_self}
-use Rattle.edit_document.proofs.UniqueValues.{values_unique}
+use Rattle.edit_tree.specs.Statements.{Named, dotted_parts, front_parts, behind_part, Paired, paired, paired_members, paired_value, inner_pairs}
+use Rattle.edit_tree.specs.Written.{Valued, values}
+use Rattle.edit_tree.proofs.Choices.{last_nothing, last_flat, last_only}
+use Rattle.edit_tree.proofs.TablePairs.{among_flat, value_table}
+use Rattle.edit_tree.proofs.SamePlace.{same_place_is, same_place_self}
+use Rattle.edit_tree.proofs.UniqueValues.{values_unique}
 use Rattle.edit_document.proofs.ValueAssertions.{among_left, among_right, value_told, value_alone}
 
 -- ---- a key that goes on behind a place

@@ -7,12 +7,12 @@ use Rattle.edit_syntax.proofs.Cases.{by_test}
 use Rattle.edit_syntax.specs.Grammar.{Text}
 use Rattle.edit_document.specs.declared.place.Step.{Step as WrittenStep}
 use Rattle.edit_document.specs.declared.way.Way.TheVariants.{On}
-use Rattle.edit_document.specs.Assertions.{Place}
+use Rattle.edit_tree.specs.Assertions.{Place}
 use Rattle.edit_document.specs.Entries.{way_on, way}
 use Rattle.edit_document.specs.Inner.{NoneAbove, IsClosest}
 use Rattle.edit_document.specs.Items.{step_seen, place_seen}
 use Rattle.edit_document.specs.Ranges.{HasTable, StartsTable}
-use Rattle.edit_document.proofs.SamePlace.{same_step_self}
+use Rattle.edit_tree.proofs.SamePlace.{same_step_self}
 
 -- none is written at the places from so many steps up to so many
 abbrev pub NoneFrom : Text → List WrittenStep → ℕ → ℕ → Type 0

@@ -1,10 +1,10 @@
 -- What a node shows, by its content.
 use Rattle.std.proofs.Common.{◌≡◌, ℕ, List, length, sym, ap, ◌∙◌}
-use Rattle.edit_document.specs.declared.nodes.Content.{Content}
-use Rattle.edit_document.specs.declared.nodes.Node.{Node}
-use Rattle.edit_document.specs.Shown.{Shown}
-use Rattle.edit_document.specs.Tree.{View}
-use Rattle.edit_document.specs.Nodes.{Spot, shape_of, view_of_shape}
+use Rattle.edit_tree.specs.declared.nodes.Content.{Content}
+use Rattle.edit_tree.specs.declared.nodes.Node.{Node}
+use Rattle.edit_tree.specs.Shown.{Shown}
+use Rattle.edit_tree.specs.Tree.{View}
+use Rattle.edit_tree.specs.Nodes.{Spot, shape_of, view_of_shape}
 use Rattle.edit_document.specs.Items.{view_numbered}
 use Rattle.edit_document.specs.Compared.{kind_of, word_of}
 use Rattle.edit_document.proofs.Views.{Found, names_of_node}

@@ -3,32 +3,32 @@ use Rattle.std.proofs.Common.{◌≡◌, ℕ, ◌≤◌, Bool, true, false, List
 use Rattle.std.specs.Prelude.{map, IsUtf8, MatchResult, string_bytes}
 use Rattle.std.specs.List.{AllByRecursion}
 use Rattle.edit_syntax.specs.declared.read.marks.Mark.{Mark}
-use Rattle.edit_document.specs.declared.nodes.Node.{Node}
+use Rattle.edit_tree.specs.declared.nodes.Node.{Node}
 use Rattle.edit_document.specs.declared.document.Document.TheInside.{Inside}
 use Rattle.edit_syntax.specs.Grammar.{array, Text, lines, byte_order_mark, Spells}
-use Rattle.edit_document.specs.Supported.{IsManifest}
-use Rattle.edit_document.specs.Assertions.{index, at, assertions}
+use Rattle.edit_tree.specs.Supported.{IsManifest}
+use Rattle.edit_tree.specs.Assertions.{index, at, assertions}
 use Rattle.edit_syntax.specs.Depth.{text_depth}
 use Rattle.edit_syntax.specs.Marks.{text_marks, IsReadRefusal}
 use Rattle.edit_base.specs.Errors.{IsMemory}
 use Rattle.edit_base.specs.declared.errors.Error.{Error}
 use Rattle.edit_base.specs.declared.errors.Error.TheVariants.{NotToml, Memory}
-use Rattle.edit_document.specs.Shown.{Shown, ShowsTree, node_at}
-use Rattle.edit_document.specs.Nodes.{Spot, Holds}
+use Rattle.edit_tree.specs.Shown.{Shown, ShowsTree, node_at}
+use Rattle.edit_tree.specs.Nodes.{Spot, Holds}
 use Rattle.edit_syntax.specs.FormOf.{form_of}
-use Rattle.edit_document.specs.Written.{values}
+use Rattle.edit_tree.specs.Written.{values}
 use Rattle.edit_document.specs.DocumentLayout.{placed, spots_of, nodes_by, shown_by, IsRead}
-use Rattle.edit_document.specs.Pieces.{IsRange}
+use Rattle.edit_tree.specs.Pieces.{IsRange}
 use Rattle.edit_syntax.specs.Reading.{◌>>=◌}
-use Rattle.edit_document.specs.Walk.{State, start, walked, settled_state}
-use Rattle.edit_document.specs.WalkState.{IsToken, KeepsState}
+use Rattle.edit_tree.specs.Walk.{State, start, walked, settled_state}
+use Rattle.edit_tree.specs.WalkState.{IsToken, KeepsState}
 use Rattle.edit_syntax.proofs.TextLaws.{read_again}
-use Rattle.edit_document.proofs.Ends.{Ends}
-use Rattle.edit_document.proofs.Shallow.{shallow as shallow_form, manifest_form, one_form}
+use Rattle.edit_tree.proofs.Ends.{Ends}
+use Rattle.edit_tree.proofs.Shallow.{shallow as shallow_form, manifest_form, one_form}
 use Rattle.edit_document.proofs.AssertedSpots.{Stands}
 use Rattle.edit_document.proofs.WalkedLines.{Walked as Walks, ended, stuck, text_walked, text_even}
 use Rattle.edit_document.proofs.ShownTrees.{AreFull, tree_shown}
-use Rattle.edit_document.proofs.Parts.{any_stands, has_kind, text_whole}
+use Rattle.edit_tree.proofs.Parts.{any_stands, has_kind, text_whole}
 use Rattle.edit_document.proofs.TextTokens.{text_tokens}
 
 -- a text in the grammar, with a form of the part that is read

@@ -3,10 +3,10 @@ use Rattle.std.proofs.Common.{◌≡◌, ℕ, Bool, true, false, List, Option, S
 use Rattle.std.specs.Prelude.{not}
 use Rattle.edit_syntax.specs.Grammar.{Text, Spells}
 use Rattle.edit_syntax.specs.FormOf.{form_of}
-use Rattle.edit_document.specs.Assertions.{Place, key, same_step}
-use Rattle.edit_document.specs.NewItems.{NewValue, NewItem}
-use Rattle.edit_document.specs.EditBytes.{set_text, replaced_text, inserted_text, is_one_statement}
-use Rattle.edit_document.specs.RemovedBytes.{removed_text}
+use Rattle.edit_tree.specs.Assertions.{Place, key, same_step}
+use Rattle.edit_tree.specs.NewItems.{NewValue, NewItem}
+use Rattle.edit_tree.specs.EditBytes.{set_text, replaced_text, inserted_text, is_one_statement}
+use Rattle.edit_tree.specs.RemovedBytes.{removed_text}
 use Rattle.edit_document.proofs.FromReader.{form_spells}
 
 -- the text is in the grammar, and a test holds of its form

@@ -2,9 +2,9 @@
 use Rattle.std.proofs.Common.{◌≡◌, ℕ, ◌+◌, ◌<◌, Bool, true, false, cond, List, length, take, get_or, Some, None, ap}
 use Rattle.std.specs.Prelude.{not, ◌&&◌, is_some}
 use Rattle.edit_document.specs.declared.locate.Entry.{Entry}
-use Rattle.edit_document.specs.EditBytes.{first_made, last_made}
+use Rattle.edit_tree.specs.EditBytes.{first_made, last_made}
 use Rattle.edit_document.specs.Spots.{own_entry, dotted_entry, through_entry}
-use Rattle.edit_document.proofs.Choices.{last_taken, last_left, first_taken, first_left}
+use Rattle.edit_tree.proofs.Choices.{last_taken, last_left, first_taken, first_left}
 
 -- what is read past the end
 abbrev pub no_entry : Entry

@@ -10,16 +10,16 @@ use Rattle.edit_syntax.specs.FirstLine.{first_marks}
 use Rattle.edit_syntax.specs.Grammar.{Between, blank, break, remark, gap, IsGap, Value, basic, literal, multi_basic, multi_literal, boolean, integer, float, datetime, array, inline, value, Members, no_members, last_member, member, members, AreMembers, Statement, pair, header, element_header, statement, IsStatement, comment, empty_line, full_line, Lines, one_line, more_lines, lines, AreLines, Text}
 use Rattle.edit_syntax.specs.Marks.{statement_marks}
 use Rattle.edit_syntax.proofs.Members.{Among, among_append}
-use Rattle.edit_document.specs.Assertions.{Place, key as name_step, at, same_place, Assertion, of_statement, prefix_after}
-use Rattle.edit_document.specs.EditBytes.{as_it_is, part_to}
+use Rattle.edit_tree.specs.Assertions.{Place, key as name_step, at, same_place, Assertion, of_statement, prefix_after}
+use Rattle.edit_tree.specs.EditBytes.{as_it_is, part_to}
 use Rattle.edit_document.specs.EntrySpots.{StandsIn}
 use Rattle.edit_document.specs.Spots.{IsSpot}
-use Rattle.edit_document.specs.Statements.{Stated, stated_in, stated, dotted_parts, behind_part, Paired, paired, paired_members, paired_value, paired_statement, line_pairs, inner_pairs}
-use Rattle.edit_document.specs.Supported.{IsManifest}
-use Rattle.edit_document.specs.Written.{Valued, values}
+use Rattle.edit_tree.specs.Statements.{Stated, stated_in, stated, dotted_parts, behind_part, Paired, paired, paired_members, paired_value, paired_statement, line_pairs, inner_pairs}
+use Rattle.edit_tree.specs.Supported.{IsManifest}
+use Rattle.edit_tree.specs.Written.{Valued, values}
 use Rattle.edit_document.proofs.Documents.{read_of, ends_all, shallow}
-use Rattle.edit_document.proofs.Ends.{Ends, ends_past, ends_one, ends_part, ends_pair, ends_gap, ends_value, ends_line, ends_line_end}
-use Rattle.edit_document.proofs.TablePairs.{among_flat}
+use Rattle.edit_tree.proofs.Ends.{Ends, ends_past, ends_one, ends_part, ends_pair, ends_gap, ends_value, ends_line, ends_line_end}
+use Rattle.edit_tree.proofs.TablePairs.{among_flat}
 use Rattle.edit_document.proofs.StatementSpots.{Starts, spot_of, blank_small, blanks_start, dotted_start, line_end_start, IsDotted}
 use Rattle.edit_document.proofs.ValueSpots.{values_stand}
 

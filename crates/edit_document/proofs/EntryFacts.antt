@@ -2,9 +2,9 @@
 use Rattle.std.proofs.Common.{◌≡◌, true, false, [], ◌∷◌, refl}
 use Rattle.std.specs.Prelude.{codes}
 use Rattle.edit_syntax.specs.Grammar.{value}
-use Rattle.edit_document.specs.Assertions.{key, index}
-use Rattle.edit_document.specs.NewItems.{a_string, a_truth, a_list, a_value, a_table, item_value, new_pair}
-use Rattle.edit_document.proofs.OnTexts.{on_texts}
+use Rattle.edit_tree.specs.Assertions.{key, index}
+use Rattle.edit_tree.specs.NewItems.{a_string, a_truth, a_list, a_value, a_table, item_value, new_pair}
+use Rattle.edit_tree.proofs.OnTexts.{on_texts}
 use Rattle.edit_document.proofs.EditFacts.{Meets, meets, Sets, sets, ReplacesEntry, replaces_entry, Inserts, inserts, is_told}
 
 -- a registry requirement as an entry

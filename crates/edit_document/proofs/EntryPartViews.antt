@@ -3,11 +3,11 @@ use Rattle.std.proofs.Common.{◌≡◌, ℕ, Bool, true, false, List, [], ◌�
 use Rattle.std.specs.Prelude.{option_and_then, find}
 use Rattle.std.specs.Str.{bytes_eq}
 use Rattle.edit_document.specs.declared.entry_part.Part.{Part}
-use Rattle.edit_document.specs.Assertions.{Step, key, index, Place, at, same_bytes}
-use Rattle.edit_document.specs.Tree.{View}
-use Rattle.edit_document.specs.NewItems.{NewValue, a_string, a_truth, a_list, NewItem, a_table}
-use Rattle.edit_document.specs.Meant.{new_view, item_view}
-use Rattle.edit_document.specs.Shown.{tree_of}
+use Rattle.edit_tree.specs.Assertions.{Step, key, index, Place, at, same_bytes}
+use Rattle.edit_tree.specs.Tree.{View}
+use Rattle.edit_tree.specs.NewItems.{NewValue, a_string, a_truth, a_list, NewItem, a_table}
+use Rattle.edit_tree.specs.Meant.{new_view, item_view}
+use Rattle.edit_tree.specs.Shown.{tree_of}
 use Rattle.edit_document.specs.Items.{viewed}
 use Rattle.edit_document.specs.EntryParts.{entry_shown, part_place, part_view, IsPart}
 use Rattle.edit_document.proofs.EntryTrees.{entry_tree}

@@ -5,12 +5,12 @@ use Rattle.std.proofs.lemmas.Bool.{and_parts, and_from}
 use Rattle.edit_syntax.specs.declared.read.marks.Mark.{Mark}
 use Rattle.edit_syntax.proofs.Cases.{by_test}
 use Rattle.edit_document.specs.declared.way.Way.{Way}
-use Rattle.edit_document.specs.Assertions.{Place, Step, key, at, same_step, same_place}
-use Rattle.edit_document.specs.EditBytes.{as_it_is, is_within, first_of}
+use Rattle.edit_tree.specs.Assertions.{Place, Step, key, at, same_step, same_place}
+use Rattle.edit_tree.specs.EditBytes.{as_it_is, is_within, first_of}
 use Rattle.edit_document.specs.Entries.{is_at, begins_part, AreParts, led, GoesAlong}
 use Rattle.edit_document.specs.EntrySpots.{key_end, part_seen}
-use Rattle.edit_document.specs.Statements.{Named, front_parts, behind_part}
-use Rattle.edit_document.proofs.SamePlace.{same_step_is, same_step_self}
+use Rattle.edit_tree.specs.Statements.{Named, front_parts, behind_part}
+use Rattle.edit_tree.proofs.SamePlace.{same_step_is, same_step_self}
 use Rattle.edit_document.proofs.Ways.{same_is}
 
 -- ---- one part before the last, or the last one

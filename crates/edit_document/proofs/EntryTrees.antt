@@ -3,13 +3,13 @@ use Rattle.std.proofs.Common.{◌≡◌, ℕ, zero, suc, ◌+◌, ◌<◌, Bool,
 use Rattle.std.specs.Prelude.{slice_get, option_map, option_and_then, find}
 use Rattle.std.specs.List.{list_any, cons_option, filter_map, flat_map, range_with_len}
 use Rattle.std.proofs.lemmas.List.Folds.{list_any-append}
-use Rattle.edit_document.specs.Assertions.{key, index, Place, same_bytes, same_place}
-use Rattle.edit_document.specs.Tree.{View, string}
-use Rattle.edit_document.specs.NewItems.{NewValue, a_string, a_truth, a_list, NewItem, a_value, a_table}
-use Rattle.edit_document.specs.Meant.{Tree, new_view, item_view}
-use Rattle.edit_document.specs.Shown.{node_at, tree_of}
+use Rattle.edit_tree.specs.Assertions.{key, index, Place, same_bytes, same_place}
+use Rattle.edit_tree.specs.Tree.{View, string}
+use Rattle.edit_tree.specs.NewItems.{NewValue, a_string, a_truth, a_list, NewItem, a_value, a_table}
+use Rattle.edit_tree.specs.Meant.{Tree, new_view, item_view}
+use Rattle.edit_tree.specs.Shown.{node_at, tree_of}
 use Rattle.edit_document.specs.EntryParts.{value_places, entry_places, shown_place, entry_shown}
-use Rattle.edit_document.proofs.SamePlace.{same_place_is}
+use Rattle.edit_tree.proofs.SamePlace.{same_place_is}
 use Rattle.edit_document.proofs.ShownItems.{Pair}
 
 -- a place is among others

@@ -8,18 +8,18 @@ use Rattle.std.proofs.lemmas.Str.{IsUtf8-from_is_utf8}
 use Rattle.std.proofs.lemmas.Bool.{eqb-true}
 use Rattle.std.proofs.lemmas.Option.{same_Some}
 use Rattle.edit_syntax.specs.Grammar.{Text, Lines, Spells}
-use Rattle.edit_document.specs.Assertions.{Place, key, same_step, same_place, IsDocument, assertions}
-use Rattle.edit_document.specs.Tree.{View, string, truth, whole, fractional, moment, static_array, table_array, inline_table, table, view_at}
-use Rattle.edit_document.specs.Shown.{node_at}
+use Rattle.edit_tree.specs.Assertions.{Place, key, same_step, same_place, IsDocument, assertions}
+use Rattle.edit_tree.specs.Tree.{View, string, truth, whole, fractional, moment, static_array, table_array, inline_table, table, view_at}
+use Rattle.edit_tree.specs.Shown.{node_at}
 use Rattle.edit_syntax.specs.FormOf.{form_of}
 use Rattle.edit_syntax.specs.Marks.{text_marks}
 use Rattle.edit_syntax.specs.Reading.{◌>>=◌, read_text, lines_at, is_marked, past_mark}
-use Rattle.edit_document.specs.Walk.{State, start, walked}
-use Rattle.edit_document.specs.Written.{values}
+use Rattle.edit_tree.specs.Walk.{State, start, walked}
+use Rattle.edit_tree.specs.Written.{values}
 use Rattle.edit_document.specs.DocumentLayout.{placed, spots_of, nodes_by}
 use Rattle.edit_syntax.proofs.TextLaws.{lines_found, lines_read}
 use Rattle.edit_document.proofs.WalkedLines.{Walked, ended, stuck, text_even}
-use Rattle.edit_document.proofs.SamePlace.{same_step_is, same_place_is}
+use Rattle.edit_tree.proofs.SamePlace.{same_step_is, same_place_is}
 use Rattle.edit_document.proofs.ShownTrees.{tree_shown}
 use Rattle.edit_document.proofs.Documents.{Read, walk_of, text_full, no_document}
 

@@ -5,9 +5,9 @@ use Rattle.edit_syntax.specs.Characters.{right_brace}
 use Rattle.edit_syntax.specs.Strings.{lf, crlf}
 use Rattle.edit_syntax.specs.Grammar.{Between, blank, break, remark, gap, IsGap, inline, Members, no_members, last_member, member}
 use Rattle.edit_syntax.specs.Reading.{first, past_gap, past_blanks}
-use Rattle.edit_document.specs.EditBytes.{Splice, put_before, behind_last, is_blank_gap, inline_grown}
-use Rattle.edit_document.specs.Slots.{of_pair, slots, AreSlots, of_members}
-use Rattle.edit_document.specs.SlotTexts.{TableAt}
+use Rattle.edit_tree.specs.EditBytes.{Splice, put_before, behind_last, is_blank_gap, inline_grown}
+use Rattle.edit_tree.specs.Slots.{of_pair, slots, AreSlots, of_members}
+use Rattle.edit_tree.specs.SlotTexts.{TableAt}
 use Rattle.edit_document.proofs.SlotLaws.{slot_begins, trimmed, trimmed_gap, past_blanks_is}
 use Rattle.edit_document.proofs.MemberTurns.{table_valid, members_come}
 

@@ -6,11 +6,11 @@ use Rattle.std.proofs.lemmas.Option.{same_Some, slice_get_within}
 use Rattle.std.proofs.lemmas.List.{map-append}
 use Rattle.std.proofs.lemmas.List.Elements.{filter_map-append}
 use Rattle.edit_syntax.proofs.ListElements.{get_front}
-use Rattle.edit_document.specs.Assertions.{Step, key}
-use Rattle.edit_document.specs.Tree.{View, string, truth, whole, fractional, moment, static_array, table_array, inline_table, table}
+use Rattle.edit_tree.specs.Assertions.{Step, key}
+use Rattle.edit_tree.specs.Tree.{View, string, truth, whole, fractional, moment, static_array, table_array, inline_table, table}
 use Rattle.edit_document.specs.Items.{key_names, names_in, name_of_step}
 use Rattle.edit_document.specs.Compared.{kind_of, nth_part, AreKeys}
-use Rattle.edit_document.specs.Meant.{Grown, in_table, in_inline_table}
+use Rattle.edit_tree.specs.Meant.{Grown, in_table, in_inline_table}
 
 -- ---- lists
 

@@ -1,15 +1,15 @@
 -- A tree with a member more in a table: the same beside the table, and the table grown.
 use Rattle.std.proofs.Common.{◌≡◌, ℕ, Bool, true, false, List, [], ◌∷◌, ◌++◌, Option, Some, None, refl, sym, ap, subst, ◌∙◌, inl, inr, append_assoc, append-nil}
 use Rattle.std.specs.Bool.{Decides}
-use Rattle.edit_document.specs.Assertions.{Step, key, Place, at, same_place}
-use Rattle.edit_document.specs.EditBytes.{is_within}
-use Rattle.edit_document.specs.Tree.{View}
-use Rattle.edit_document.specs.NewItems.{NewValue}
-use Rattle.edit_document.specs.Meant.{Tree, Grown, Inserted}
-use Rattle.edit_document.specs.Shown.{Shown, tree_of}
+use Rattle.edit_tree.specs.Assertions.{Step, key, Place, at, same_place}
+use Rattle.edit_tree.specs.EditBytes.{is_within}
+use Rattle.edit_tree.specs.Tree.{View}
+use Rattle.edit_tree.specs.NewItems.{NewValue}
+use Rattle.edit_tree.specs.Meant.{Tree, Grown, Inserted}
+use Rattle.edit_tree.specs.Shown.{Shown, tree_of}
 use Rattle.edit_document.specs.Items.{place_numbered, view_numbered, count_in}
 use Rattle.edit_document.specs.Compared.{tree_below, SameBeside, SamePart, FindsBeside, nth_part, ShowsValue}
-use Rattle.edit_document.proofs.SamePlace.{same_place_self, other_place}
+use Rattle.edit_tree.proofs.SamePlace.{same_place_self, other_place}
 use Rattle.edit_document.proofs.SameParts.{part_or, part_less, one_down, NothingElse, NoneBelow}
 use Rattle.edit_document.proofs.Besides.{within_front, within_back, within_split, within_other, other_within}
 use Rattle.edit_document.proofs.GrownNames.{grown_part, grown_some}

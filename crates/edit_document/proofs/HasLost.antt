@@ -4,21 +4,21 @@ use Rattle.std.proofs.Common.{◌≡◌, ℕ, zero, suc, ◌+◌, ◌<◌, Bool,
 use Rattle.std.specs.Bool.{Decides}
 use Rattle.edit_syntax.specs.Grammar.{Text}
 use Rattle.edit_document.specs.declared.place.Step.{Step as WrittenStep}
-use Rattle.edit_document.specs.Assertions.{Place, at, Assertion, NoClash, assertions}
+use Rattle.edit_tree.specs.Assertions.{Place, at, Assertion, NoClash, assertions}
 use Rattle.edit_document.specs.Compared.{nth_part, tree_below}
-use Rattle.edit_document.specs.EditBytes.{is_within}
+use Rattle.edit_tree.specs.EditBytes.{is_within}
 use Rattle.edit_document.specs.Items.{place_seen, step_seen, place_numbered, view_numbered}
 use Rattle.edit_document.specs.Lost.{SameButOrderBeside, LosesPart, IsLeft, IsLost, IsInnermost}
-use Rattle.edit_document.specs.Meant.{staying, tree_left, SameButOrder, Removed, shrunk}
-use Rattle.edit_document.specs.Shown.{Shown, tree_of, ShowsTree}
-use Rattle.edit_document.specs.Tree.{View, kind_at, view_in}
+use Rattle.edit_tree.specs.Meant.{staying, tree_left, SameButOrder, Removed, shrunk}
+use Rattle.edit_tree.specs.Shown.{Shown, tree_of, ShowsTree}
+use Rattle.edit_tree.specs.Tree.{View, kind_at, view_in}
 use Rattle.edit_document.proofs.KeptParts.{none_view, not_longer}
 use Rattle.edit_document.proofs.KeptSteps.{whole_is}
 use Rattle.edit_document.proofs.LostSteps.{order_turn, order_none}
-use Rattle.edit_document.proofs.NothingBelow.{Rooted, done, next, rooted}
+use Rattle.edit_tree.proofs.NothingBelow.{Rooted, done, next, rooted}
 use Rattle.edit_document.proofs.RemovedTrees.{here_moved, removed_beside, removed_part, removed_tree}
 use Rattle.edit_document.proofs.LeftAround.{within_rest}
-use Rattle.edit_document.proofs.SamePlace.{not_root, other_place}
+use Rattle.edit_tree.proofs.SamePlace.{not_root, other_place}
 use Rattle.edit_document.proofs.LosesParts.{part_is}
 use Rattle.edit_document.proofs.SameParts.{NoneBelow, NothingElse}
 use Rattle.edit_document.proofs.MemberViews.{place_more}

@@ -3,18 +3,18 @@ use Rattle.std.proofs.Common.{◌≡◌, ℕ, zero, suc, ◌-◌, ◌<◌, Bool,
 use Rattle.std.specs.Prelude.{slice_get, nat_lt, unwrap_or}
 use Rattle.std.proofs.lemmas.Bool.Decides.{nat_tests}
 use Rattle.std.proofs.lemmas.Option.{slice_get_past}
-use Rattle.edit_document.specs.declared.nodes.Taken.TheVariants.{Super}
-use Rattle.edit_document.specs.Assertions.{key, index, Place, at, Kind, dotted, leaf, super, header_kind, array_kind, element_kind, Assertion, asserts, elements_at, resolved}
+use Rattle.edit_tree.specs.declared.nodes.Taken.TheVariants.{Super}
+use Rattle.edit_tree.specs.Assertions.{key, index, Place, at, Kind, dotted, leaf, super, header_kind, array_kind, element_kind, Assertion, asserts, elements_at, resolved}
 use Rattle.edit_syntax.specs.Grammar.{Value, basic, literal, multi_basic, multi_literal, boolean, integer, float, datetime, array, inline}
-use Rattle.edit_document.specs.Tree.{kind_at}
+use Rattle.edit_tree.specs.Tree.{kind_at}
 use Rattle.edit_document.specs.DocumentLayout.{shape_of_value, Placed}
-use Rattle.edit_document.specs.Nodes.{Shape, section, Spot, below}
-use Rattle.edit_document.specs.Walk.{last_of, last_table, target_of, taken_again, numbered, asserted}
-use Rattle.edit_document.proofs.SamePlace.{not_root}
-use Rattle.edit_document.proofs.SpotNodes.{child_is}
-use Rattle.edit_document.proofs.SpotTargets.{target_is}
-use Rattle.edit_document.proofs.KeyFronts.{asserted_new, asserted_old}
-use Rattle.edit_document.proofs.MoreMembers.{is_headed, elements_below, elements_none}
+use Rattle.edit_tree.specs.Nodes.{Shape, section, Spot, below}
+use Rattle.edit_tree.specs.Walk.{last_of, last_table, target_of, taken_again, numbered, asserted}
+use Rattle.edit_tree.proofs.SamePlace.{not_root}
+use Rattle.edit_tree.proofs.SpotNodes.{child_is}
+use Rattle.edit_tree.proofs.SpotTargets.{target_is}
+use Rattle.edit_tree.proofs.KeyFronts.{asserted_new, asserted_old}
+use Rattle.edit_tree.proofs.MoreMembers.{is_headed, elements_below, elements_none}
 use Rattle.edit_document.proofs.AssertedSpots.{shape_of_kind, Stands, was_asserted, nothing_below_spot, nothing_under}
 use Rattle.edit_document.proofs.MemberAssertions.{Makes, makes_along, again_makes, added_makes}
 

@@ -5,20 +5,20 @@ use Rattle.edit_syntax.specs.Characters.{right_brace}
 use Rattle.edit_syntax.specs.Grammar.{Between, gap, Value, basic, literal, multi_basic, multi_literal, boolean, integer, float, datetime, array, inline, value, Members, no_members, last_member, member, Text, text}
 use Rattle.edit_syntax.proofs.Members.{Among, among_contained, contained_among}
 use Rattle.edit_document.specs.EntrySpots.{StandsIn}
-use Rattle.edit_document.specs.Assertions.{Place, same_place, NoClash, assertions}
-use Rattle.edit_document.specs.EditBytes.{Splice, put_before, first_of, behind_last, is_blank_gap, inline_grown, in_inline, in_section, in_dotted, in_inner_dotted, in_super, at_start, inserted}
+use Rattle.edit_tree.specs.Assertions.{Place, same_place, NoClash, assertions}
+use Rattle.edit_tree.specs.EditBytes.{Splice, put_before, first_of, behind_last, is_blank_gap, inline_grown, in_inline, in_section, in_dotted, in_inner_dotted, in_super, at_start, inserted}
 use Rattle.edit_document.specs.Items.{is_inline}
-use Rattle.edit_document.specs.NewItems.{NewValue, new_pair}
+use Rattle.edit_tree.specs.NewItems.{NewValue, new_pair}
 use Rattle.edit_document.specs.Ranges.{is_table_value, StartsTable, HasTable}
-use Rattle.edit_document.specs.SlotTexts.{TableAt}
-use Rattle.edit_document.specs.Supported.{IsManifest}
-use Rattle.edit_document.specs.Tree.{view_at, is_value_at}
-use Rattle.edit_document.specs.Written.{Valued, values, start_of, IsWrittenAt}
-use Rattle.edit_document.proofs.Choices.{first_nothing}
+use Rattle.edit_tree.specs.SlotTexts.{TableAt}
+use Rattle.edit_tree.specs.Supported.{IsManifest}
+use Rattle.edit_tree.specs.Tree.{view_at, is_value_at}
+use Rattle.edit_tree.specs.Written.{Valued, values, start_of, IsWrittenAt}
+use Rattle.edit_tree.proofs.Choices.{first_nothing}
 use Rattle.edit_document.proofs.InlineSpots.{inline_row}
-use Rattle.edit_document.proofs.SamePlace.{same_place_is}
+use Rattle.edit_tree.proofs.SamePlace.{same_place_is}
 use Rattle.edit_document.proofs.SetBytes.{drop_front}
-use Rattle.edit_document.proofs.UniqueValues.{listed_value}
+use Rattle.edit_tree.proofs.UniqueValues.{listed_value}
 use Rattle.edit_document.proofs.ValueAssertions.{value_shows}
 use Rattle.edit_document.proofs.ValueSpots.{values_stand}
 

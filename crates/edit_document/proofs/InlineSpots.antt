@@ -9,17 +9,17 @@ use Rattle.edit_syntax.specs.Grammar.{Between, blank, break, remark, gap, IsGap,
 use Rattle.edit_syntax.specs.Reading.{past_gap}
 use Rattle.edit_syntax.proofs.ListElements.{get_seam}
 use Rattle.edit_syntax.proofs.Members.{Among}
-use Rattle.edit_document.specs.Assertions.{Place, same_place, NoClash, assertions}
-use Rattle.edit_document.specs.EditBytes.{Splice, first_of, first_made, behind_last, inline_grown, in_inline}
-use Rattle.edit_document.specs.Slots.{Slot, slots, of_members}
-use Rattle.edit_document.specs.SlotTexts.{TableAt}
+use Rattle.edit_tree.specs.Assertions.{Place, same_place, NoClash, assertions}
+use Rattle.edit_tree.specs.EditBytes.{Splice, first_of, first_made, behind_last, inline_grown, in_inline}
+use Rattle.edit_tree.specs.Slots.{Slot, slots, of_members}
+use Rattle.edit_tree.specs.SlotTexts.{TableAt}
 use Rattle.edit_document.specs.Spots.{IsSpot}
-use Rattle.edit_document.specs.Written.{Valued, values}
-use Rattle.edit_document.proofs.Ends.{Ends, ends_one, ends_pair, ends_gap, ends_value}
+use Rattle.edit_tree.specs.Written.{Valued, values}
+use Rattle.edit_tree.proofs.Ends.{Ends, ends_one, ends_pair, ends_gap, ends_value}
 use Rattle.edit_document.proofs.MemberTurns.{folded, members_come}
-use Rattle.edit_document.proofs.SamePlace.{same_place_self, same_place_is}
+use Rattle.edit_tree.proofs.SamePlace.{same_place_self, same_place_is}
 use Rattle.edit_document.proofs.StatementSpots.{Starts, spot_of}
-use Rattle.edit_document.proofs.UniqueValues.{values_unique}
+use Rattle.edit_tree.proofs.UniqueValues.{values_unique}
 
 -- ---- behind the last member
 

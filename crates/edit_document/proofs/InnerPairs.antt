@@ -5,18 +5,18 @@ use Rattle.std.proofs.Math.Seq.{take-append_seam}
 use Rattle.edit_syntax.specs.Grammar.{Text}
 use Rattle.edit_syntax.proofs.Members.{Among, among_contained, contained_among}
 use Rattle.edit_document.specs.declared.way.Way.TheVariants.{On, Off}
-use Rattle.edit_document.specs.Assertions.{Place, key, at, same_place, NoClash, assertions}
-use Rattle.edit_document.specs.EditBytes.{as_it_is, part_to}
+use Rattle.edit_tree.specs.Assertions.{Place, key, at, same_place, NoClash, assertions}
+use Rattle.edit_tree.specs.EditBytes.{as_it_is, part_to}
 use Rattle.edit_document.specs.Entries.{way_on, way}
 use Rattle.edit_document.specs.EntrySpots.{Tells, TellsIn}
-use Rattle.edit_document.specs.Statements.{Named, behind_part, Paired, paired_value, inner_pairs}
-use Rattle.edit_document.specs.Tree.{is_value_at}
-use Rattle.edit_document.specs.Written.{Valued, values}
+use Rattle.edit_tree.specs.Statements.{Named, behind_part, Paired, paired_value, inner_pairs}
+use Rattle.edit_tree.specs.Tree.{is_value_at}
+use Rattle.edit_tree.specs.Written.{Valued, values}
 use Rattle.edit_document.proofs.LineEntries.{flat_among}
 use Rattle.edit_document.proofs.ToldPairs.{one_told}
-use Rattle.edit_document.proofs.TablePairs.{among_flat, value_table}
-use Rattle.edit_document.proofs.SamePlace.{same_step_self, same_place_is}
-use Rattle.edit_document.proofs.UniqueValues.{values_unique, listed_value}
+use Rattle.edit_tree.proofs.TablePairs.{among_flat, value_table}
+use Rattle.edit_tree.proofs.SamePlace.{same_step_self, same_place_is}
+use Rattle.edit_tree.proofs.UniqueValues.{values_unique, listed_value}
 
 -- ---- the way of a front of the place
 

@@ -6,16 +6,16 @@ use Rattle.edit_syntax.specs.Grammar.{gap, Value, basic, literal, multi_basic, m
 use Rattle.edit_syntax.specs.Strings.{key}
 use Rattle.edit_syntax.proofs.Members.{Among}
 use Rattle.edit_document.specs.declared.inner.Inner.{Inner}
-use Rattle.edit_document.specs.Assertions.{Place}
-use Rattle.edit_document.specs.EditBytes.{Splice, put_before, as_it_is, last_made, front_to, dotted_pair, in_inner_dotted}
+use Rattle.edit_tree.specs.Assertions.{Place}
+use Rattle.edit_tree.specs.EditBytes.{Splice, put_before, as_it_is, last_made, front_to, dotted_pair, in_inner_dotted}
 use Rattle.edit_document.specs.Inner.{inner_of, HasInner}
-use Rattle.edit_document.specs.Statements.{Paired, paired_members, paired_value, inner_pairs}
-use Rattle.edit_document.specs.Supported.{IsManifest}
-use Rattle.edit_document.specs.Written.{Valued, values}
-use Rattle.edit_document.proofs.Choices.{Alike, last_none, last_chosen}
-use Rattle.edit_document.proofs.Ends.{Ends, ends_one, ends_pair, ends_gap, ends_value}
+use Rattle.edit_tree.specs.Statements.{Paired, paired_members, paired_value, inner_pairs}
+use Rattle.edit_tree.specs.Supported.{IsManifest}
+use Rattle.edit_tree.specs.Written.{Valued, values}
+use Rattle.edit_tree.proofs.Choices.{Alike, last_none, last_chosen}
+use Rattle.edit_tree.proofs.Ends.{Ends, ends_one, ends_pair, ends_gap, ends_value}
 use Rattle.edit_document.proofs.InlineSpots.{gap_starts}
-use Rattle.edit_document.proofs.TablePairs.{among_flat}
+use Rattle.edit_tree.proofs.TablePairs.{among_flat}
 use Rattle.edit_document.proofs.StatementSpots.{Starts, spot_of, part_start, key_fronts}
 use Rattle.edit_document.proofs.ValueSpots.{values_stand}
 

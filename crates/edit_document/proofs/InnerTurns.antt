@@ -4,11 +4,11 @@ use Rattle.std.specs.Option.{option_or}
 use Rattle.edit_syntax.specs.Characters.{comma}
 use Rattle.edit_syntax.specs.Grammar.{gap, Members, no_members, last_member, member, members}
 use Rattle.edit_document.specs.declared.inner.Inner.{Inner}
-use Rattle.edit_document.specs.Assertions.{Place}
-use Rattle.edit_document.specs.EditBytes.{first_of, last_made}
+use Rattle.edit_tree.specs.Assertions.{Place}
+use Rattle.edit_tree.specs.EditBytes.{first_of, last_made}
 use Rattle.edit_document.specs.Inner.{inner_of, inner_in}
-use Rattle.edit_document.specs.Slots.{Slot, of_members}
-use Rattle.edit_document.specs.Statements.{paired, paired_members}
+use Rattle.edit_tree.specs.Slots.{Slot, of_members}
+use Rattle.edit_tree.specs.Statements.{paired, paired_members}
 use Rattle.edit_document.proofs.MemberTurns.{folded}
 use Rattle.edit_document.proofs.SlotLaws.{members_text}
 

@@ -1,9 +1,9 @@
 -- Members inserted: one fact for each kind of table, each kind of line end, and each spot of a text.
 use Rattle.std.proofs.Common.{true, [], ◌∷◌, refl}
 use Rattle.std.specs.Prelude.{codes}
-use Rattle.edit_document.specs.Assertions.{key, index}
-use Rattle.edit_document.specs.NewItems.{a_truth}
-use Rattle.edit_document.proofs.OnTexts.{on_texts}
+use Rattle.edit_tree.specs.Assertions.{key, index}
+use Rattle.edit_tree.specs.NewItems.{a_truth}
+use Rattle.edit_tree.proofs.OnTexts.{on_texts}
 use Rattle.edit_document.proofs.EditFacts.{Inserts, inserts}
 
 -- an inline table: behind its last member

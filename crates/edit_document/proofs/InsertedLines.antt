@@ -6,13 +6,13 @@ use Rattle.edit_syntax.proofs.Members.{Among}
 use Rattle.edit_document.specs.declared.locate.Entry.{Entry}
 use Rattle.edit_document.specs.declared.inner.Inner.{Inner}
 use Rattle.edit_document.specs.Inner.{inner_of}
-use Rattle.edit_document.specs.Assertions.{Place, resolved}
-use Rattle.edit_document.specs.EditBytes.{Splice, put_before, before, first_of, first_made, last_made, new_line, is_pair, is_own, in_inline, in_section, in_inner_dotted, front_to, dotted_pair, in_dotted, in_super, at_start, inserted}
+use Rattle.edit_tree.specs.Assertions.{Place, resolved}
+use Rattle.edit_tree.specs.EditBytes.{Splice, put_before, before, first_of, first_made, last_made, new_line, is_pair, is_own, in_inline, in_section, in_inner_dotted, front_to, dotted_pair, in_dotted, in_super, at_start, inserted}
 use Rattle.edit_document.specs.Entries.{front_of, entry_of}
-use Rattle.edit_document.specs.NewItems.{NewValue, new_pair}
+use Rattle.edit_tree.specs.NewItems.{NewValue, new_pair}
 use Rattle.edit_document.specs.Spots.{key_to, section_text, own_entry, dotted_entry, through_entry}
-use Rattle.edit_document.specs.Statements.{Stated, stated, behind_part, front_parts, Paired, paired_statement, inner_pairs, Headed, headed_statement}
-use Rattle.edit_document.proofs.Choices.{Alike, before_none, first_flat, first_none, last_none, first_chosen, last_chosen}
+use Rattle.edit_tree.specs.Statements.{Stated, stated, behind_part, front_parts, Paired, paired_statement, inner_pairs, Headed, headed_statement}
+use Rattle.edit_tree.proofs.Choices.{Alike, before_none, first_flat, first_none, last_none, first_chosen, last_chosen}
 use Rattle.edit_document.proofs.InnerRows.{InnerRow, inner_splice, inner_chosen, inner_nothing}
 
 -- ---- the rows, statement by statement

@@ -6,24 +6,24 @@ use Rattle.std.proofs.lemmas.Bool.{and_parts, and_from, or_left, or_right}
 use Rattle.edit_syntax.specs.Grammar.{Text}
 use Rattle.edit_syntax.proofs.Cases.{by_test}
 use Rattle.edit_syntax.proofs.Members.{Among, among_all}
-use Rattle.edit_document.specs.declared.nodes.Taken.{Taken}
-use Rattle.edit_document.specs.declared.nodes.Taken.TheVariants.{Dotted, Value, Super, Header, Array, Element}
-use Rattle.edit_document.specs.Assertions.{Place, Step, at, same_step, same_place, Kind, dotted, leaf, super, header_kind, array_kind, element_kind, Assertion, together, is_array, is_array_at, elements_at, assertions}
+use Rattle.edit_tree.specs.declared.nodes.Taken.{Taken}
+use Rattle.edit_tree.specs.declared.nodes.Taken.TheVariants.{Dotted, Value, Super, Header, Array, Element}
+use Rattle.edit_tree.specs.Assertions.{Place, Step, at, same_step, same_place, Kind, dotted, leaf, super, header_kind, array_kind, element_kind, Assertion, together, is_array, is_array_at, elements_at, assertions}
 use Rattle.edit_document.specs.DocumentLayout.{placed}
-use Rattle.edit_document.specs.EditBytes.{is_within}
+use Rattle.edit_tree.specs.EditBytes.{is_within}
 use Rattle.edit_document.specs.Lost.{is_named}
-use Rattle.edit_document.specs.Nodes.{Spot}
-use Rattle.edit_document.specs.Taking.{taken_of, joins, is_own}
-use Rattle.edit_document.specs.Written.{values}
-use Rattle.edit_document.proofs.AlonePlaces.{dotted_open, first_allows}
-use Rattle.edit_document.proofs.ArrayCounts.{arrays_alone}
+use Rattle.edit_tree.specs.Nodes.{Spot}
+use Rattle.edit_tree.specs.Taking.{taken_of, joins, is_own}
+use Rattle.edit_tree.specs.Written.{values}
+use Rattle.edit_tree.proofs.AlonePlaces.{dotted_open, first_allows}
+use Rattle.edit_tree.proofs.ArrayCounts.{arrays_alone}
 use Rattle.edit_document.proofs.AssertedSpots.{Stands}
-use Rattle.edit_document.proofs.ElementWays.{are_made}
-use Rattle.edit_document.proofs.Asserters.{Made, AreMade}
-use Rattle.edit_document.proofs.MoreAssertions.{allowed}
+use Rattle.edit_tree.proofs.ElementWays.{are_made}
+use Rattle.edit_tree.proofs.Asserters.{Made, AreMade}
+use Rattle.edit_tree.proofs.MoreAssertions.{allowed}
 use Rattle.edit_document.proofs.NodeStatements.{array_through}
-use Rattle.edit_document.proofs.PairedPlaces.{owns, IsOpen}
-use Rattle.edit_document.proofs.SamePlace.{same_place_is, same_place_self}
+use Rattle.edit_tree.proofs.PairedPlaces.{owns, IsOpen}
+use Rattle.edit_tree.proofs.SamePlace.{same_place_is, same_place_self}
 
 -- ---- what nothing has for itself
 

@@ -6,21 +6,21 @@ use Rattle.std.proofs.lemmas.Option.{same_Some}
 use Rattle.edit_syntax.specs.Grammar.{Text}
 use Rattle.edit_syntax.proofs.Cases.{by_test}
 use Rattle.edit_syntax.proofs.Members.{Among, among_all}
-use Rattle.edit_document.specs.Assertions.{Place, Step, key, index, at, same_step, same_place, Kind, Assertion, assertions}
+use Rattle.edit_tree.specs.Assertions.{Place, Step, key, index, at, same_step, same_place, Kind, Assertion, assertions}
 use Rattle.edit_document.specs.Compared.{nth_part, AreSteps, AreApart}
-use Rattle.edit_document.specs.EditBytes.{is_within}
+use Rattle.edit_tree.specs.EditBytes.{is_within}
 use Rattle.edit_document.specs.Items.{count_in}
 use Rattle.edit_document.specs.Lost.{is_named, IsKept}
-use Rattle.edit_document.specs.Meant.{staying}
-use Rattle.edit_document.specs.Tree.{View, kind_at, view_of_kind, view_in}
-use Rattle.edit_document.proofs.ElementWays.{are_made}
-use Rattle.edit_document.proofs.Asserters.{Made}
+use Rattle.edit_tree.specs.Meant.{staying}
+use Rattle.edit_tree.specs.Tree.{View, kind_at, view_of_kind, view_in}
+use Rattle.edit_tree.proofs.ElementWays.{are_made}
+use Rattle.edit_tree.proofs.Asserters.{Made}
 use Rattle.edit_document.proofs.Besides.{within_back}
-use Rattle.edit_document.proofs.HeadedPlaces.{inside_self, inside_more}
-use Rattle.edit_document.proofs.PairedPlaces.{IsOpen}
-use Rattle.edit_document.proofs.SamePlace.{same_place_is, same_place_self, same_step_is, same_step_self, not_root}
+use Rattle.edit_tree.proofs.HeadedPlaces.{inside_self, inside_more}
+use Rattle.edit_tree.proofs.PairedPlaces.{IsOpen}
+use Rattle.edit_tree.proofs.SamePlace.{same_place_is, same_place_self, same_step_is, same_step_self, not_root}
 use Rattle.edit_document.proofs.SameParts.{part_less, part_some}
-use Rattle.edit_document.proofs.StayingWays.{kind_among, among_kind, Stays, stays_kind, kind_stays, off_way, up_stays, part_stays}
+use Rattle.edit_tree.proofs.StayingWays.{kind_among, among_kind, Stays, stays_kind, kind_stays, off_way, up_stays, part_stays}
 use Rattle.edit_document.proofs.KeptNodes.{and_false, own_or}
 
 -- ---- what is left

@@ -5,17 +5,17 @@ use Rattle.std.proofs.lemmas.Bool.{cases_lt, ltb-true, ltb-false}
 use Rattle.std.proofs.lemmas.List.{map-append, take-append-drop, take_all}
 use Rattle.edit_syntax.specs.Grammar.{Text}
 use Rattle.edit_document.specs.declared.place.Step.{Step as WrittenStep}
-use Rattle.edit_document.specs.Assertions.{Place, Step, at, assertions}
+use Rattle.edit_tree.specs.Assertions.{Place, Step, at, assertions}
 use Rattle.edit_document.specs.Compared.{nth_part, AreSteps, AreApart}
 use Rattle.edit_document.specs.Items.{place_seen, step_seen, place_numbered, view_numbered, count_in}
 use Rattle.edit_document.specs.Lost.{is_named, IsLeft, IsLost, IsKept, IsInnermost}
-use Rattle.edit_document.specs.Meant.{staying}
-use Rattle.edit_document.specs.Shown.{Shown, tree_of, ShowsTree}
-use Rattle.edit_document.proofs.ElementWays.{are_made}
-use Rattle.edit_document.proofs.HeadedPlaces.{inside_self}
+use Rattle.edit_tree.specs.Meant.{staying}
+use Rattle.edit_tree.specs.Shown.{Shown, tree_of, ShowsTree}
+use Rattle.edit_tree.proofs.ElementWays.{are_made}
+use Rattle.edit_tree.proofs.HeadedPlaces.{inside_self}
 use Rattle.edit_document.proofs.KeptParts.{none_view, other_kept, only_kept, other_part, only_part}
 use Rattle.edit_document.proofs.SameParts.{part_or, part_less, NothingElse}
-use Rattle.edit_document.proofs.StayingWays.{kind_stays, gone_stays}
+use Rattle.edit_tree.proofs.StayingWays.{kind_stays, gone_stays}
 use Rattle.edit_document.proofs.MemberViews.{place_more}
 
 -- so far the place of this many steps is left, and those behind it are lost with what comes next

@@ -2,24 +2,24 @@
 use Rattle.std.proofs.Common.{◌≡◌, ℕ, Bool, true, false, List, [], ◌∷◌, ◌++◌, map, Option, Some, None, refl, sym, ap, subst, ◌∙◌, ◌⊎◌, inl, inr, append_assoc}
 use Rattle.std.proofs.lemmas.List.{append-nil}
 use Rattle.edit_syntax.specs.declared.span.Span.{Span}
-use Rattle.edit_document.specs.declared.nodes.Taken.{Taken}
-use Rattle.edit_document.specs.declared.nodes.Taken.TheVariants.{Dotted, Value, Super}
+use Rattle.edit_tree.specs.declared.nodes.Taken.{Taken}
+use Rattle.edit_tree.specs.declared.nodes.Taken.TheVariants.{Dotted, Value, Super}
 use Rattle.edit_syntax.specs.Grammar.{Value as Written}
-use Rattle.edit_document.specs.Assertions.{key, Place, at, Kind, dotted, leaf, super, array_kind, Assertion, asserts, named, of_key, elements_at, resolved, fronts, header_place}
-use Rattle.edit_document.specs.Tree.{kind_at}
+use Rattle.edit_tree.specs.Assertions.{key, Place, at, Kind, dotted, leaf, super, array_kind, Assertion, asserts, named, of_key, elements_at, resolved, fronts, header_place}
+use Rattle.edit_tree.specs.Tree.{kind_at}
 use Rattle.edit_syntax.specs.Reading.{◌>>=◌}
 use Rattle.edit_document.specs.DocumentLayout.{shape_of_value, Placed}
-use Rattle.edit_document.specs.Taking.{taken_of}
-use Rattle.edit_document.specs.Nodes.{Shape, section, Spot, StandsAt}
-use Rattle.edit_document.specs.Walk.{asserted, front_shape, reached}
-use Rattle.edit_document.proofs.KeyFronts.{reached_none, reached_more}
-use Rattle.edit_document.proofs.MoreAssertions.{kind_stays, IsClear, clear_front}
-use Rattle.edit_document.proofs.MoreMembers.{is_element, elements_below, elements_stay}
-use Rattle.edit_document.proofs.Trees.{Grows, grows_then}
+use Rattle.edit_tree.specs.Taking.{taken_of}
+use Rattle.edit_tree.specs.Nodes.{Shape, section, Spot, StandsAt}
+use Rattle.edit_tree.specs.Walk.{asserted, front_shape, reached}
+use Rattle.edit_tree.proofs.KeyFronts.{reached_none, reached_more}
+use Rattle.edit_tree.proofs.MoreAssertions.{kind_stays, IsClear, clear_front}
+use Rattle.edit_tree.proofs.MoreMembers.{is_element, elements_below, elements_stay}
+use Rattle.edit_tree.proofs.Trees.{Grows, grows_then}
 use Rattle.edit_document.proofs.AssertedSpots.{noted, shape_of_kind, Stands}
 use Rattle.edit_document.proofs.MemberAssertions.{Makes, makes, fails, makes_along, member_makes}
 use Rattle.edit_document.proofs.HeaderFronts.{super_makes}
-use Rattle.edit_document.proofs.WalkedTokens.{fore, rear}
+use Rattle.edit_tree.proofs.WalkedTokens.{fore, rear}
 
 -- the spots stand for these assertions, and a place has a number; or the assertions clash
 pub data Lands (spots : List Spot) (made : List Assertion) (written : List Placed) (place : Place)

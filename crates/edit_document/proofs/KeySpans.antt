@@ -4,20 +4,20 @@ use Rattle.std.specs.Prelude.{slice_get, slice_set}
 use Rattle.std.proofs.lemmas.Option.{slice_get_within}
 use Rattle.edit_syntax.specs.declared.span.Span.{Span}
 use Rattle.edit_syntax.specs.Grammar.{Value as Written}
-use Rattle.edit_document.specs.Assertions.{key, Place, same_place, Kind, dotted, leaf, Assertion, asserts, named, of_key, together}
-use Rattle.edit_document.specs.Tree.{kind_at}
+use Rattle.edit_tree.specs.Assertions.{key, Place, same_place, Kind, dotted, leaf, Assertion, asserts, named, of_key, together}
+use Rattle.edit_tree.specs.Tree.{kind_at}
 use Rattle.edit_document.specs.DocumentLayout.{Placed, span_at}
 use Rattle.edit_syntax.specs.Reading.{◌>>=◌}
-use Rattle.edit_document.specs.Nodes.{Spot, StandsAt}
-use Rattle.edit_document.specs.Walk.{State, without_last, settled_state, closed}
-use Rattle.edit_document.proofs.SamePlace.{same_place_self, other_place, place_or}
-use Rattle.edit_document.proofs.Ends.{take_length}
+use Rattle.edit_tree.specs.Nodes.{Spot, StandsAt}
+use Rattle.edit_tree.specs.Walk.{State, without_last, settled_state, closed}
+use Rattle.edit_tree.proofs.SamePlace.{same_place_self, other_place, place_or}
+use Rattle.edit_tree.proofs.Ends.{take_length}
 use Rattle.edit_syntax.proofs.ListElements.{OneSet, changed, other, in_set}
-use Rattle.edit_document.proofs.MoreAssertions.{allowed, IsClear, clash_last}
-use Rattle.edit_document.proofs.Trees.{Grows, grows_then, grows_set, tree_set}
+use Rattle.edit_tree.proofs.MoreAssertions.{allowed, IsClear, clash_last}
+use Rattle.edit_tree.proofs.Trees.{Grows, grows_then, grows_set, tree_set}
 use Rattle.edit_document.proofs.AssertedSpots.{Tells, Stands}
-use Rattle.edit_document.proofs.ThinnedLines.{leaf_alone}
-use Rattle.edit_document.proofs.Walks.{last_push}
+use Rattle.edit_tree.proofs.ThinnedLines.{leaf_alone}
+use Rattle.edit_tree.proofs.Walks.{last_push}
 use Rattle.std.proofs.lemmas.Bool.{and_parts}
 use Rattle.edit_document.proofs.KeyWalks.{Leads, leads}
 

@@ -3,23 +3,23 @@ use Rattle.std.proofs.Common.{◌≡◌, ℕ, ◌<◌, Bool, true, false, List, 
 use Rattle.std.proofs.lemmas.Option.{slice_get_past}
 use Rattle.edit_syntax.specs.declared.read.marks.Mark.{Mark}
 use Rattle.edit_syntax.specs.declared.span.Span.{Span}
-use Rattle.edit_document.specs.declared.nodes.Taken.{Taken}
-use Rattle.edit_document.specs.declared.nodes.Taken.TheVariants.{Dotted, Value}
+use Rattle.edit_tree.specs.declared.nodes.Taken.{Taken}
+use Rattle.edit_tree.specs.declared.nodes.Taken.TheVariants.{Dotted, Value}
 use Rattle.edit_syntax.specs.Grammar.{Between, Elements, array, Value as Written}
-use Rattle.edit_document.specs.Assertions.{index, Place, at, leaf, Assertion, asserts, named, of_key}
-use Rattle.edit_document.specs.Tree.{kind_at, count_elements}
+use Rattle.edit_tree.specs.Assertions.{index, Place, at, leaf, Assertion, asserts, named, of_key}
+use Rattle.edit_tree.specs.Tree.{kind_at, count_elements}
 use Rattle.edit_document.specs.DocumentLayout.{shape_of_value, Placed}
 use Rattle.edit_syntax.specs.Reading.{◌>>=◌}
-use Rattle.edit_document.specs.Nodes.{Shape, Spot, StandsAt, below}
-use Rattle.edit_document.specs.Walk.{State, last_of, element_added, asserted, front_shape, reached, settled_state, is_dotted_within, settled, entered_at, walked}
-use Rattle.edit_document.proofs.MoreAssertions.{first_kind, IsClear, clear_front}
-use Rattle.edit_document.proofs.MoreMembers.{is_headed}
-use Rattle.edit_document.proofs.Trees.{Grows, grows_then}
+use Rattle.edit_tree.specs.Nodes.{Shape, Spot, StandsAt, below}
+use Rattle.edit_tree.specs.Walk.{State, last_of, element_added, asserted, front_shape, reached, settled_state, is_dotted_within, settled, entered_at, walked}
+use Rattle.edit_tree.proofs.MoreAssertions.{first_kind, IsClear, clear_front}
+use Rattle.edit_tree.proofs.MoreMembers.{is_headed}
+use Rattle.edit_tree.proofs.Trees.{Grows, grows_then}
 use Rattle.edit_document.proofs.AssertedSpots.{Stands, nothing_below_spot}
 use Rattle.edit_document.proofs.MemberAssertions.{Makes, makes, fails, element_makes}
-use Rattle.edit_document.proofs.Walks.{walked_append, last_push}
-use Rattle.edit_document.proofs.WalkSteps.{settled_is, entered_is, enters_element}
-use Rattle.edit_document.proofs.WalkedTokens.{waits, waits_are, fore, rear}
+use Rattle.edit_tree.proofs.Walks.{walked_append, last_push}
+use Rattle.edit_tree.proofs.WalkSteps.{settled_is, entered_is, enters_element}
+use Rattle.edit_tree.proofs.WalkedTokens.{waits, waits_are, fore, rear}
 use Rattle.edit_document.proofs.KeyPlaces.{Lands, lands, misses, landed, pair_lands}
 
 -- the walk goes on with these assertions, or they clash

@@ -11,14 +11,14 @@ use Rattle.edit_syntax.specs.Strings.{Part, bare, basic_part, literal_part, part
 use Rattle.edit_syntax.specs.Strings as strings
 use Rattle.edit_syntax.specs.Marks.{part_kind, part_mark, dotted_marks, key_marks}
 use Rattle.edit_document.specs.declared.way.Way.{Way}
-use Rattle.edit_document.specs.Assertions.{key, Place, at, same_place, Assertion, names, named, resolved, header_place}
-use Rattle.edit_document.specs.EditBytes.{as_it_is}
-use Rattle.edit_document.specs.Statements.{Named, dotted_parts, parts, front_parts, behind_part}
-use Rattle.edit_document.specs.Walk.{said}
-use Rattle.edit_document.specs.WalkState.{SaysAt, is_said}
+use Rattle.edit_tree.specs.Assertions.{key, Place, at, same_place, Assertion, names, named, resolved, header_place}
+use Rattle.edit_tree.specs.EditBytes.{as_it_is}
+use Rattle.edit_tree.specs.Statements.{Named, dotted_parts, parts, front_parts, behind_part}
+use Rattle.edit_tree.specs.Walk.{said}
+use Rattle.edit_tree.specs.WalkState.{SaysAt, is_said}
 use Rattle.edit_document.specs.Entries.{way, next_way, is_at, resolved_way, is_part, begins_part, head_of, AreParts, Follows, led, GoesAlong}
-use Rattle.edit_document.proofs.Ends.{Ends, ends_past, ends_one, ends_part}
-use Rattle.edit_document.proofs.WalkedTokens.{said_part}
+use Rattle.edit_tree.proofs.Ends.{Ends, ends_past, ends_one, ends_part}
+use Rattle.edit_tree.proofs.WalkedTokens.{said_part}
 use Rattle.edit_document.proofs.TextTokens.{part_token}
 use Rattle.edit_document.proofs.Ways.{way_at, same_is}
 

@@ -3,21 +3,21 @@ use Rattle.std.proofs.Common.{◌≡◌, ℕ, suc, ◌-◌, ◌<◌, Bool, true,
 use Rattle.std.proofs.lemmas.Bool.{and_parts}
 use Rattle.edit_syntax.specs.Grammar.{Text}
 use Rattle.edit_syntax.proofs.Cases.{by_test}
-use Rattle.edit_document.specs.Assertions.{Place, Step, key, index, at, same_step, Kind, Assertion, NoClash, assertions, elements_at}
+use Rattle.edit_tree.specs.Assertions.{Place, Step, key, index, at, same_step, Kind, Assertion, NoClash, assertions, elements_at}
 use Rattle.edit_document.specs.Compared.{nth_part}
-use Rattle.edit_document.specs.EditBytes.{is_within}
+use Rattle.edit_tree.specs.EditBytes.{is_within}
 use Rattle.edit_document.specs.Lost.{Loses, IsLeft, IsLost}
-use Rattle.edit_document.specs.Meant.{staying, moved, shrunk, tree_left, SameButOrder, same, is_member}
-use Rattle.edit_document.specs.Tree.{View, string, truth, whole, fractional, moment, static_array, table_array, inline_table, table, step_from, kind_at, view_in}
-use Rattle.edit_document.proofs.ElementWays.{are_made}
-use Rattle.edit_document.proofs.Below.{step_from_is}
+use Rattle.edit_tree.specs.Meant.{staying, moved, shrunk, tree_left, SameButOrder, same, is_member}
+use Rattle.edit_tree.specs.Tree.{View, string, truth, whole, fractional, moment, static_array, table_array, inline_table, table, step_from, kind_at, view_in}
+use Rattle.edit_tree.proofs.ElementWays.{are_made}
+use Rattle.edit_tree.proofs.Below.{step_from_is}
 use Rattle.edit_document.proofs.Besides.{within_back}
-use Rattle.edit_document.proofs.HeadedPlaces.{inside_self, inside_more, inside_trans}
+use Rattle.edit_tree.proofs.HeadedPlaces.{inside_self, inside_more, inside_trans}
 use Rattle.edit_document.proofs.KeptParts.{view_none, none_view, apart_ways}
 use Rattle.edit_document.proofs.LeftViews.{kept_left, lost_left}
-use Rattle.edit_document.proofs.SamePlace.{not_root, same_step_self, same_step_is}
+use Rattle.edit_tree.proofs.SamePlace.{not_root, same_step_self, same_step_is}
 use Rattle.edit_document.proofs.StayingElements.{elements_left}
-use Rattle.edit_document.proofs.StayingWays.{on_one_way, kind_among, same_view, stays_kind, kind_stays, off_way, up_stays, own_stays, index_own}
+use Rattle.edit_tree.proofs.StayingWays.{on_one_way, kind_among, same_view, stays_kind, kind_stays, off_way, up_stays, own_stays, index_own}
 
 -- ---- places
 

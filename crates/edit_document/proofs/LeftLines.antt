@@ -5,15 +5,15 @@ use Rattle.edit_syntax.specs.Spans.{cut_from}
 use Rattle.edit_syntax.specs.Strings.{line_end}
 use Rattle.edit_syntax.specs.Grammar.{empty_line, full_line, Lines, one_line, more_lines, lines, AreLines, Text, byte_order_mark}
 use Rattle.edit_document.specs.declared.locate.Entry.{Entry}
-use Rattle.edit_document.specs.Assertions.{Place, Assertion, of_statement, prefix_after}
-use Rattle.edit_document.specs.EditBytes.{before}
+use Rattle.edit_tree.specs.Assertions.{Place, Assertion, of_statement, prefix_after}
+use Rattle.edit_tree.specs.EditBytes.{before}
 use Rattle.edit_document.specs.Entries.{entry_of}
-use Rattle.edit_document.specs.RemovedBytes.{is_gone, lines_left}
+use Rattle.edit_tree.specs.RemovedBytes.{is_gone, lines_left}
 use Rattle.edit_document.specs.Spots.{IsSpot}
-use Rattle.edit_document.specs.Statements.{Stated, stated_in, stated}
-use Rattle.edit_document.specs.Supported.{IsManifest}
+use Rattle.edit_tree.specs.Statements.{Stated, stated_in, stated}
+use Rattle.edit_tree.specs.Supported.{IsManifest}
 use Rattle.edit_document.proofs.Documents.{read_of, ends_all}
-use Rattle.edit_document.proofs.Ends.{Ends, ends_line, ends_line_end}
+use Rattle.edit_tree.proofs.Ends.{Ends, ends_line, ends_line_end}
 use Rattle.edit_document.proofs.SlotLaws.{before_is}
 use Rattle.edit_document.proofs.SpotTexts.{whole_spot, end_spot, cut_spots, cut_rest}
 use Rattle.edit_document.proofs.StatementSpots.{spot_of, lines_start, start_spot}

@@ -7,10 +7,10 @@ use Rattle.edit_syntax.specs.Strings.{lf, crlf}
 use Rattle.edit_syntax.specs.Grammar.{Between, blank, break, remark, gap, IsGap, Value, basic, literal, multi_basic, multi_literal, boolean, integer, float, datetime, array, inline, value, IsValue}
 use Rattle.edit_syntax.specs.Depth.{depth}
 use Rattle.edit_syntax.proofs.ValueEdges.{value_rest, value_enclosed}
-use Rattle.edit_document.specs.Assertions.{Place}
-use Rattle.edit_document.specs.RemovedBytes.{Left, with_it, without_it, without_blanks, without_member, behind_comma, value_left}
-use Rattle.edit_document.specs.Slots.{Slot, of_value, of_pair, slot, IsSlot, Slots, no_slots, last_slot, more_slots, slots, AreSlots, closing, opening, of_elements, of_members, goes, slots_left, enclosed_left, IsEnclosed, IsContainer}
-use Rattle.edit_document.proofs.Ends.{text_before, text_behind, one_text}
+use Rattle.edit_tree.specs.Assertions.{Place}
+use Rattle.edit_tree.specs.RemovedBytes.{Left, with_it, without_it, without_blanks, without_member, behind_comma, value_left}
+use Rattle.edit_tree.specs.Slots.{Slot, of_value, of_pair, slot, IsSlot, Slots, no_slots, last_slot, more_slots, slots, AreSlots, closing, opening, of_elements, of_members, goes, slots_left, enclosed_left, IsEnclosed, IsContainer}
+use Rattle.edit_tree.proofs.Ends.{text_before, text_behind, one_text}
 use Rattle.edit_document.proofs.SlotKeys.{array_enclosed, inline_enclosed, array_left, inline_left}
 use Rattle.edit_document.proofs.SlotLaws.{gap_rest, slot_rest}
 use Rattle.edit_document.proofs.StatementSpots.{Starts, part_start, blank_small}

@@ -7,23 +7,23 @@ use Rattle.std.proofs.lemmas.Option.{same_Some}
 use Rattle.edit_syntax.specs.Grammar.{Value, basic, literal, multi_basic, multi_literal, boolean, integer, float, datetime, array, inline}
 use Rattle.edit_syntax.proofs.Cases.{by_test}
 use Rattle.edit_syntax.proofs.Members.{among_all}
-use Rattle.edit_document.specs.Assertions.{Place, Step, key, index, at, same_step, same_place, Kind, dotted, leaf, super, header_kind, array_kind, element_kind, Assertion, NoClash, is_array, elements_at}
+use Rattle.edit_tree.specs.Assertions.{Place, Step, key, index, at, same_step, same_place, Kind, dotted, leaf, super, header_kind, array_kind, element_kind, Assertion, NoClash, is_array, elements_at}
 use Rattle.edit_document.specs.Compared.{nth_part, element_step}
-use Rattle.edit_document.specs.EditBytes.{is_within}
+use Rattle.edit_tree.specs.EditBytes.{is_within}
 use Rattle.edit_document.specs.Lost.{LosesStep, Loses, from_table, from_inline_table, from_array, from_table_array}
-use Rattle.edit_document.specs.Meant.{staying, shrunk, tree_left, SameMembers, SameButOrder, same, tables, inline_tables}
-use Rattle.edit_document.specs.Tree.{View, static_array, table_array, table, step_from, count_elements, kind_at, members_of, view_of_kind, view_of_value, view_in}
-use Rattle.edit_document.proofs.Asserters.{Made, AreMade}
-use Rattle.edit_document.proofs.Below.{step_from_at}
+use Rattle.edit_tree.specs.Meant.{staying, shrunk, tree_left, SameMembers, SameButOrder, same, tables, inline_tables}
+use Rattle.edit_tree.specs.Tree.{View, static_array, table_array, table, step_from, count_elements, kind_at, members_of, view_of_kind, view_of_value, view_in}
+use Rattle.edit_tree.proofs.Asserters.{Made, AreMade}
+use Rattle.edit_tree.proofs.Below.{step_from_at}
 use Rattle.edit_document.proofs.Besides.{within_back}
-use Rattle.edit_document.proofs.MoreAssertions.{first_kind}
-use Rattle.edit_document.proofs.MoreMembers.{steps, has, has_step}
+use Rattle.edit_tree.proofs.MoreAssertions.{first_kind}
+use Rattle.edit_tree.proofs.MoreMembers.{steps, has, has_step}
 use Rattle.edit_document.proofs.OnceLists.{apart_once, apart_filter}
 use Rattle.edit_document.proofs.OnceSizes.{without, any_has, has_without, without_size, apart_size, has_once}
-use Rattle.edit_document.proofs.SamePlace.{same_step_self, same_step_is, same_place_is}
+use Rattle.edit_tree.proofs.SamePlace.{same_step_self, same_step_is, same_place_is}
 use Rattle.edit_document.proofs.Wholes.{element_was}
-use Rattle.edit_document.proofs.StayingWays.{same_kind, same_elements, off_way}
-use Rattle.edit_document.proofs.AlikeKinds.{section_view, Alike, alike, sections, some_is, never, view_first, alike_first, first_made}
+use Rattle.edit_tree.proofs.StayingWays.{same_kind, same_elements, off_way}
+use Rattle.edit_tree.proofs.AlikeKinds.{section_view, Alike, alike, sections, some_is, never, view_first, alike_first, first_made}
 
 module _ (made : List Assertion) (all : AreMade made made) (clash : NoClash made)
     (root : kind_at made [] ≡ None) where

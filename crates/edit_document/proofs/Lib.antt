@@ -1,35 +1,17 @@
 -- The table of nodes
-pub mod NameLists
-pub mod ShapedStrings
 pub mod Views
 pub mod MemberViews
 -- What statements assert, and the spots that stand for it
-pub mod SamePlace
-pub mod SamePlaces
-pub mod Below
-pub mod SpotNodes
-pub mod SpotTargets
-pub mod KeyFronts
-pub mod MoreAssertions
-pub mod MoreMembers
-pub mod TakenPairs
 pub mod AssertedSpots
 pub mod NewAssertions
 pub mod MemberAssertions
 pub mod MemberTurns
 pub mod HeaderFronts
 pub mod KeyPlaces
-pub mod ArrayCounts
-pub mod Parts
 pub mod Arrays
 -- The walk over marks
-pub mod Ends
-pub mod Walks
-pub mod WalkSteps
-pub mod WalkEnds
 pub mod KeyWalks
 pub mod KeySpans
-pub mod WalkedTokens
 pub mod NumberTokens
 pub mod MultiTokens
 pub mod BeforeValues
@@ -39,54 +21,26 @@ pub mod WalkedHeaders
 pub mod WalkedLines
 pub mod TextTokens
 -- Trees and documents
-pub mod Trees
 pub mod ShownTrees
-pub mod Shallow
 pub mod ShownForms
 pub mod Documents
-pub mod PieceLaws
 -- Values replaced by literals
-pub mod LiteralLaws
-pub mod LiteralBytes
-pub mod NewItemTexts
-pub mod ThinnedForms
-pub mod ThinnedLines
-pub mod ThinnedViews
-pub mod NothingBelow
-pub mod PlainValues
-pub mod ReplacedTree
-pub mod ReplacedStrings
-pub mod SwappedTexts
 pub mod SplicedTexts
-pub mod UniqueValues
 pub mod SortedRanges
-pub mod FineValues
 pub mod ValueRanges
 pub mod LocatedEdits
 pub mod SortedRewrites
 pub mod ReplacementLaws
-pub mod ReplacedDocuments
 -- A value set at a place
-pub mod WidenedForms
-pub mod WidenedLists
-pub mod WidenedViews
 pub mod NewValues
 pub mod SetBytes
 pub mod SetValues
 -- Places that one statement alone names
-pub mod NamedPairs
-pub mod NamedHeads
-pub mod HeadedPlaces
-pub mod PairedPlaces
-pub mod AlonePlaces
-pub mod OnlyMembers
-pub mod OneStatements
 pub mod NodeStatements
 pub mod NodeAnswers
 pub mod AloneTurns
 -- Two documents compared
 pub mod ContentViews
-pub mod Keyed
 pub mod Wholes
 pub mod WholeDocuments
 pub mod PartNumbers
@@ -103,7 +57,6 @@ pub mod ApartViews
 pub mod ReplacedEntries
 pub mod EntryTrees
 pub mod EntryPartViews
-pub mod EditedDocuments
 pub mod UnorderedViews
 pub mod UnorderedNodes
 -- Where statements stand
@@ -114,13 +67,11 @@ pub mod TakenStatements
 pub mod StatedLines
 -- A member more in lines
 pub mod SpotTexts
-pub mod Choices
 pub mod StatementSpots
 pub mod InsertedLines
 pub mod EntryChoices
 -- An entry replaced
 pub mod EntryParts
-pub mod LonePairs
 pub mod EntryCuts
 pub mod ToldPairs
 pub mod NamedMembers
@@ -128,7 +79,6 @@ pub mod LineEntries
 pub mod InnerPairs
 pub mod ClosestPairs
 pub mod ClosestTables
-pub mod TablePairs
 pub mod ValueAssertions
 pub mod ValueSpots
 pub mod InlineRows
@@ -142,14 +92,10 @@ pub mod SlotKeys
 pub mod SlotSteps
 -- An item removed
 pub mod LeftLines
-pub mod RisingValues
-pub mod Innermost
 pub mod LeftTexts
 pub mod AroundValues
 -- Worked examples
-pub mod ReplaceFacts
 pub mod FromReader
-pub mod OnTexts
 pub mod StandardKeys
 pub mod StandardValues
 pub mod StandardTables
@@ -159,17 +105,9 @@ pub mod EntryFacts
 pub mod InlineSpots
 pub mod InsertFacts
 pub mod RemoveFacts
-pub mod OverLinesFacts
-pub mod LeftFacts
 -- What is left when an item is removed
-pub mod Asserters
-pub mod ValueAsserters
-pub mod AssertedWays
-pub mod ElementWays
-pub mod StayingWays
 pub mod StayingElements
 pub mod OnceSizes
-pub mod AlikeKinds
 pub mod LeftViews
 pub mod KeptNodes
 pub mod KeptParts

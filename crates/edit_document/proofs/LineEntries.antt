@@ -11,19 +11,19 @@ use Rattle.edit_syntax.specs.Marks.{mark, key_marks, value_marks, elements_marks
 use Rattle.edit_syntax.specs.Strings.{name, dotted}
 use Rattle.edit_syntax.proofs.Members.{Among, among_contained, contained_among, among_map}
 use Rattle.edit_document.specs.declared.locate.Entry.{Entry}
-use Rattle.edit_document.specs.Assertions.{Place}
-use Rattle.edit_document.specs.EditBytes.{first_of, first_made, as_it_is, is_within, part_to, is_one_statement}
+use Rattle.edit_tree.specs.Assertions.{Place}
+use Rattle.edit_tree.specs.EditBytes.{first_of, first_made, as_it_is, is_within, part_to, is_one_statement}
 use Rattle.edit_document.specs.Entries.{AreParts, led, entry_of}
 use Rattle.edit_document.specs.EntrySpots.{within_entry, key_end, last_end, IsAround, Tells}
-use Rattle.edit_document.specs.Statements.{Stated, stated, Named, dotted_parts, parts, front_parts, behind_part, Paired, paired, paired_statement, line_pairs}
-use Rattle.edit_document.proofs.Choices.{Alike, first_taken, first_left, first_chosen}
+use Rattle.edit_tree.specs.Statements.{Stated, stated, Named, dotted_parts, parts, front_parts, behind_part, Paired, paired, paired_statement, line_pairs}
+use Rattle.edit_tree.proofs.Choices.{Alike, first_taken, first_left, first_chosen}
 use Rattle.edit_document.proofs.EntryChoices.{no_entry}
 use Rattle.edit_document.proofs.EntryCuts.{StatedStands}
 use Rattle.edit_document.proofs.EntryParts.{last_part, key_ends, within_part, within_none}
 use Rattle.edit_document.proofs.KeyWays.{key_are, pair_led}
-use Rattle.edit_document.proofs.LonePairs.{stands_out}
+use Rattle.edit_tree.proofs.LonePairs.{stands_out}
 use Rattle.edit_document.proofs.ToldPairs.{nothing_told, one_told}
-use Rattle.edit_document.proofs.TablePairs.{among_flat}
+use Rattle.edit_tree.proofs.TablePairs.{among_flat}
 use Rattle.edit_document.proofs.StatedLines.{value_first}
 
 -- ---- the entry

@@ -9,18 +9,18 @@ use Rattle.std.specs.List.{AllByRecursion, IsDistinct}
 use Rattle.std.specs.List.Sorted.{IsPermutation}
 use Rattle.std.specs.Str.{IsUtf8}
 use Rattle.edit_syntax.specs.Grammar.{Text, text}
-use Rattle.edit_document.specs.Assertions.{Place, same_place}
-use Rattle.edit_document.specs.Written.{Valued, start_of, end_of}
-use Rattle.edit_document.specs.Literals.{literal_of}
-use Rattle.edit_document.specs.Replaces.{Edits, new_text, replaced, edited, AreDistinct}
+use Rattle.edit_tree.specs.Assertions.{Place, same_place}
+use Rattle.edit_tree.specs.Written.{Valued, start_of, end_of}
+use Rattle.edit_tree.specs.Literals.{literal_of}
+use Rattle.edit_tree.specs.Replaces.{Edits, new_text, replaced, edited, AreDistinct}
 use Rattle.edit_document.specs.Splices.{Range, ranges_of, IsRangeFor, AreRanges, Locates}
 use Rattle.edit_syntax.proofs.Members.{Among, among_contained, contained_among, among_all, among_map}
-use Rattle.edit_document.proofs.ReplacedStrings.{values_apart}
-use Rattle.edit_document.proofs.SwappedTexts.{apart_none, replaced_swaps}
+use Rattle.edit_tree.proofs.ReplacedStrings.{values_apart}
+use Rattle.edit_tree.proofs.SwappedTexts.{apart_none, replaced_swaps}
 use Rattle.edit_document.proofs.SplicedTexts.{Rises, swaps_rise}
 use Rattle.edit_document.proofs.SortedRanges.{AreFirst, AreRangesFor, Rewrites, ranges_rewrite, edit_among, edits_enclosed}
 use Rattle.edit_syntax.proofs.Cases.{by_test}
-use Rattle.edit_document.proofs.SamePlace.{same_place_self}
+use Rattle.edit_tree.proofs.SamePlace.{same_place_self}
 
 -- ---- each edit counts at its place
 

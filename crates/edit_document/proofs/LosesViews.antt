@@ -5,15 +5,15 @@ use Rattle.std.specs.List.{list_any}
 use Rattle.std.proofs.lemmas.Bool.{and_parts, and_from}
 use Rattle.std.proofs.lemmas.Option.{same_Some}
 use Rattle.edit_syntax.proofs.Cases.{by_test}
-use Rattle.edit_document.specs.Assertions.{Step, key, index, Place, at, same_step}
+use Rattle.edit_tree.specs.Assertions.{Step, key, index, Place, at, same_step}
 use Rattle.edit_document.specs.Compared.{nth_part, element_step, kind_of, AreSteps}
 use Rattle.edit_document.specs.Items.{names_in, count_in, Numbers}
 use Rattle.edit_document.specs.Lost.{LosesStep, Loses, from_table, from_inline_table, from_array, from_table_array, moved_index, moved_place}
-use Rattle.edit_document.specs.Meant.{moved}
-use Rattle.edit_document.specs.Shown.{Shown}
-use Rattle.edit_document.specs.Tree.{View, string, truth, whole, fractional, moment, static_array, table_array, inline_table, table}
+use Rattle.edit_tree.specs.Meant.{moved}
+use Rattle.edit_tree.specs.Shown.{Shown}
+use Rattle.edit_tree.specs.Tree.{View, string, truth, whole, fractional, moment, static_array, table_array, inline_table, table}
 use Rattle.edit_document.proofs.GrownNames.{tabled}
-use Rattle.edit_document.proofs.SamePlace.{same_step_self, same_step_is}
+use Rattle.edit_tree.proofs.SamePlace.{same_step_self, same_step_is}
 use Rattle.edit_document.proofs.UnorderedViews.{any_at, at_any, same_bools, HasParts}
 
 -- ---- where parts move

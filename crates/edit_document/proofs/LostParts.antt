@@ -2,13 +2,13 @@
 use Rattle.std.proofs.Common.{◌≡◌, ℕ, Bool, [], ◌∷◌, ◌++◌, Option, Some, None, refl, sym, ap, subst, ◌∙◌, inl, inr, append-nil}
 use Rattle.std.specs.Bool.{Decides}
 use Rattle.std.proofs.lemmas.Option.{same_Some}
-use Rattle.edit_document.specs.Assertions.{Step, Place, at}
+use Rattle.edit_tree.specs.Assertions.{Step, Place, at}
 use Rattle.edit_document.specs.Compared.{SameButOrderBelow, NumbersPart, tree_below, nth_part}
 use Rattle.edit_document.specs.Items.{place_numbered, view_numbered, count_in, Numbers}
 use Rattle.edit_document.specs.Lost.{SameButOrderBeside, UnorderedPartsBut}
-use Rattle.edit_document.specs.Meant.{Tree, SameButOrder, same}
-use Rattle.edit_document.specs.Shown.{Shown, tree_of}
-use Rattle.edit_document.specs.Tree.{View}
+use Rattle.edit_tree.specs.Meant.{Tree, SameButOrder, same}
+use Rattle.edit_tree.specs.Shown.{Shown, tree_of}
+use Rattle.edit_tree.specs.Tree.{View}
 use Rattle.edit_document.proofs.Besides.{GoesAlong, within_split, within_front, within_back, other_within, within_other}
 use Rattle.edit_document.proofs.SameParts.{part_or, part_less, one_down, NothingElse, NoneBelow}
 use Rattle.edit_document.proofs.UnorderedViews.{order_free, free_none}

@@ -1,9 +1,9 @@
 -- Views that lose a part, and views that are the same but for the order of members.
 use Rattle.std.proofs.Common.{◌≡◌, ℕ, suc, List, Option, Some, None, refl, sym, ap, subst, ◌∙◌, arith}
-use Rattle.edit_document.specs.Assertions.{Step}
+use Rattle.edit_tree.specs.Assertions.{Step}
 use Rattle.edit_document.specs.Lost.{LosesStep, Loses, from_table, from_inline_table, from_array, from_table_array}
-use Rattle.edit_document.specs.Meant.{SameMembers, SameButOrder, same, tables, inline_tables}
-use Rattle.edit_document.specs.Tree.{View, static_array, table_array, inline_table, table}
+use Rattle.edit_tree.specs.Meant.{SameMembers, SameButOrder, same, tables, inline_tables}
+use Rattle.edit_tree.specs.Tree.{View, static_array, table_array, inline_table, table}
 
 members_turn : (ms ns : List Step) → SameMembers ms ns → SameMembers ns ms
 members_turn ms ns h = record { count = sym h.count; members = λ s. sym (h.members s) }

@@ -8,22 +8,22 @@ use Rattle.std.proofs.lemmas.List.{append-nil, length_push, map-append}
 use Rattle.std.proofs.lemmas.Option.{slice_get_past}
 use Rattle.std.proofs.lemmas.Slice.Eq.{bytes_eq-Decides}
 use Rattle.edit_syntax.specs.declared.span.Span.{Span}
-use Rattle.edit_document.specs.declared.nodes.Taken.{Taken}
-use Rattle.edit_document.specs.declared.nodes.Taken.TheVariants as takings
-use Rattle.edit_document.specs.declared.nodes.Taken.TheVariants.{Dotted, Super, Header, Array, Element}
-use Rattle.edit_document.specs.Assertions.{Step, key, index, Place, at, Kind, Assertion}
+use Rattle.edit_tree.specs.declared.nodes.Taken.{Taken}
+use Rattle.edit_tree.specs.declared.nodes.Taken.TheVariants as takings
+use Rattle.edit_tree.specs.declared.nodes.Taken.TheVariants.{Dotted, Super, Header, Array, Element}
+use Rattle.edit_tree.specs.Assertions.{Step, key, index, Place, at, Kind, Assertion}
 use Rattle.edit_document.specs.DocumentLayout.{Placed}
-use Rattle.edit_document.specs.Taking.{taken_of, joins}
-use Rattle.edit_document.specs.Nodes.{Spot, StandsAt, below}
-use Rattle.edit_document.specs.Walk.{spot_at, target_of, with_taken, taken_again, with_member, with_element, added, element_added, numbered, asserted}
-use Rattle.edit_document.proofs.SamePlace.{not_root}
+use Rattle.edit_tree.specs.Taking.{taken_of, joins}
+use Rattle.edit_tree.specs.Nodes.{Spot, StandsAt, below}
+use Rattle.edit_tree.specs.Walk.{spot_at, target_of, with_taken, taken_again, with_member, with_element, added, element_added, numbered, asserted}
+use Rattle.edit_tree.proofs.SamePlace.{not_root}
 use Rattle.edit_syntax.proofs.ListElements.{get_front, get_last, equal_or}
-use Rattle.edit_document.proofs.SpotNodes.{child_is}
-use Rattle.edit_document.proofs.SpotTargets.{target_other, added_long, added_made, element_long, element_made}
-use Rattle.edit_document.proofs.KeyFronts.{asserted_new, asserted_old}
-use Rattle.edit_document.proofs.MoreAssertions.{first_kind, allowed, IsClear, clash_last, short_last}
-use Rattle.edit_document.proofs.MoreMembers.{is_element, is_headed}
-use Rattle.edit_document.proofs.Trees.{Grows, grows_set, Gains}
+use Rattle.edit_tree.proofs.SpotNodes.{child_is}
+use Rattle.edit_tree.proofs.SpotTargets.{target_other, added_long, added_made, element_long, element_made}
+use Rattle.edit_tree.proofs.KeyFronts.{asserted_new, asserted_old}
+use Rattle.edit_tree.proofs.MoreAssertions.{first_kind, allowed, IsClear, clash_last, short_last}
+use Rattle.edit_tree.proofs.MoreMembers.{is_element, is_headed}
+use Rattle.edit_tree.proofs.Trees.{Grows, grows_set, Gains}
 use Rattle.edit_document.proofs.AssertedSpots.{IsIndexed, noted, shape_of_kind, Stands, stands_again}
 use Rattle.edit_document.proofs.NewAssertions.{Shows, stands_gained, gained_grows, gained_last}
 

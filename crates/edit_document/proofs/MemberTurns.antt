@@ -6,9 +6,9 @@ use Rattle.edit_syntax.specs.Characters.{comma, left_brace, right_brace}
 use Rattle.edit_syntax.specs.Grammar.{Between, gap, Members}
 use Rattle.edit_syntax.specs.Reading.{first, past_gap}
 use Rattle.edit_syntax.proofs.GapLaws.{opens_gap, past_gap_again, gap_longer}
-use Rattle.edit_document.specs.Slots.{Slot, slot, Slots, no_slots, last_slot, more_slots, slots, AreSlots, of_members}
-use Rattle.edit_document.specs.SlotTexts.{Ends, StandsAt, TableAt}
-use Rattle.edit_document.proofs.Ends.{ends_past, ends_one, ends_gap}
+use Rattle.edit_tree.specs.Slots.{Slot, slot, Slots, no_slots, last_slot, more_slots, slots, AreSlots, of_members}
+use Rattle.edit_tree.specs.SlotTexts.{Ends, StandsAt, TableAt}
+use Rattle.edit_tree.proofs.Ends.{ends_past, ends_one, ends_gap}
 use Rattle.edit_document.proofs.SlotLaws.{gap_rest, slot_rest, slot_begins, members_text, members_valid}
 use Rattle.edit_document.proofs.SlotEnds.{slot_longer}
 

@@ -6,20 +6,20 @@ use Rattle.std.specs.Borrow.{Bor}
 use Rattle.std.proofs.lemmas.Option.{slice_get_past, slice_get_within, slice_get_read}
 use Rattle.std.proofs.lemmas.List.{length-map, map-append, take_more, take-append-drop}
 use Rattle.edit_syntax.specs.declared.span.Span.{Span}
-use Rattle.edit_document.specs.declared.nodes.Words.{Words}
-use Rattle.edit_document.specs.declared.nodes.Content.{Content}
-use Rattle.edit_document.specs.declared.nodes.Content.TheVariants as content
-use Rattle.edit_document.specs.declared.nodes.Node.{Node}
+use Rattle.edit_tree.specs.declared.nodes.Words.{Words}
+use Rattle.edit_tree.specs.declared.nodes.Content.{Content}
+use Rattle.edit_tree.specs.declared.nodes.Content.TheVariants as content
+use Rattle.edit_tree.specs.declared.nodes.Node.{Node}
 use Rattle.edit_document.specs.declared.document.Seen.{Seen}
 use Rattle.edit_document.specs.declared.place.Step.{Step as WrittenStep}
-use Rattle.edit_document.specs.Assertions.{Step, key, index, Place, at}
-use Rattle.edit_document.specs.Tree.{View}
-use Rattle.edit_document.specs.Shown.{Shown, tree_of}
-use Rattle.edit_document.specs.Nodes.{Spot, view_of_shape, shown_spot, shape_of, entries_of, number_in, below, IsTree}
+use Rattle.edit_tree.specs.Assertions.{Step, key, index, Place, at}
+use Rattle.edit_tree.specs.Tree.{View}
+use Rattle.edit_tree.specs.Shown.{Shown, tree_of}
+use Rattle.edit_tree.specs.Nodes.{Spot, view_of_shape, shown_spot, shape_of, entries_of, number_in, below, IsTree}
 use Rattle.edit_document.specs.Items.{step_seen, place_seen, viewed, place_numbered, view_numbered, key_names, names_in, count_in, Numbers, Shows}
-use Rattle.edit_document.proofs.SamePlace.{last_same, not_root}
+use Rattle.edit_tree.proofs.SamePlace.{last_same, not_root}
 use Rattle.edit_syntax.proofs.ListElements.{slice_get_same}
-use Rattle.edit_document.proofs.SpotNodes.{below_node}
+use Rattle.edit_tree.proofs.SpotNodes.{below_node}
 use Rattle.edit_document.proofs.Views.{Opened, view_of_spot, node_none, names_of_node, Found, tree_spot, place_spot, view_spot}
 
 -- ---- members

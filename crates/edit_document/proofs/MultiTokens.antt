@@ -9,17 +9,17 @@ use Rattle.edit_syntax.specs.declared.read.marks.MarkKind.TheVariants as kinds
 use Rattle.edit_syntax.specs.Characters.{quote, apostrophe, backslash, is_blank, All}
 use Rattle.edit_syntax.specs.Strings.{LineEnd, lf, crlf, line_end, Space, blank, break, spaces, IsSpace, Piece, plain, letter, short, long, feed, fold, delimiter, pieces, IsMultiPiece, IsRawPiece, NamesScalar, is_escape, escaped, is_hex, says, says_multi}
 use Rattle.edit_syntax.specs.Grammar.{three, multi_basic, multi_literal, value, IsValue}
-use Rattle.edit_document.specs.Tree.{string}
+use Rattle.edit_tree.specs.Tree.{string}
 use Rattle.edit_syntax.specs.Reading.{◌>>=◌}
-use Rattle.edit_document.specs.Nodes.{scalar}
+use Rattle.edit_tree.specs.Nodes.{scalar}
 use Rattle.edit_document.specs.DocumentLayout.{span_of}
 use Rattle.edit_syntax.specs.Marks.{mark}
-use Rattle.edit_document.specs.Walk.{suffix, multi_said, as_text, State, entered, step}
-use Rattle.edit_document.specs.Walk as walk
-use Rattle.edit_document.specs.WalkState.{IsToken}
+use Rattle.edit_tree.specs.Walk.{suffix, multi_said, as_text, State, entered, step}
+use Rattle.edit_tree.specs.Walk as walk
+use Rattle.edit_tree.specs.WalkState.{IsToken}
 use Rattle.edit_syntax.proofs.MultiReadAgain.{multi_basic_again, multi_literal_again}
-use Rattle.edit_document.proofs.Ends.{Ends, suffix_is, take_length, text_before, text_behind, one_text, past_ascii, hex_small, escape_small, escaped_small, scalar_is}
-use Rattle.edit_document.proofs.WalkedTokens.{text_is}
+use Rattle.edit_tree.proofs.Ends.{Ends, suffix_is, take_length, text_before, text_behind, one_text, past_ascii, hex_small, escape_small, escaped_small, scalar_is}
+use Rattle.edit_tree.proofs.WalkedTokens.{text_is}
 use Rattle.edit_syntax.proofs.ValueEdges.{value_rest}
 use Rattle.edit_syntax.proofs.PutBefore.{pieces_rest}
 

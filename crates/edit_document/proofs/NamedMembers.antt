@@ -11,14 +11,14 @@ use Rattle.edit_syntax.proofs.DateReadAgain.{datetime_start}
 use Rattle.edit_syntax.proofs.GapLaws.{opens_gap, past_gap_again, gap_longer}
 use Rattle.edit_syntax.proofs.MembersReadAgain.{pair_longer, value_longer}
 use Rattle.edit_syntax.proofs.NumberReadAgain.{is_start, integer_start, float_start}
-use Rattle.edit_document.specs.Assertions.{Place}
-use Rattle.edit_document.specs.EditBytes.{part_to}
+use Rattle.edit_tree.specs.Assertions.{Place}
+use Rattle.edit_tree.specs.EditBytes.{part_to}
 use Rattle.edit_document.specs.EntrySpots.{StandsIn, Tells}
-use Rattle.edit_document.specs.Slots.{of_pair}
-use Rattle.edit_document.specs.SlotTexts.{Ends, StandsAt}
-use Rattle.edit_document.specs.Statements.{paired, paired_members, paired_value}
-use Rattle.edit_document.specs.Written.{Valued}
-use Rattle.edit_document.proofs.Ends.{ends_one, ends_pair, ends_gap, ends_value}
+use Rattle.edit_tree.specs.Slots.{of_pair}
+use Rattle.edit_tree.specs.SlotTexts.{Ends, StandsAt}
+use Rattle.edit_tree.specs.Statements.{paired, paired_members, paired_value}
+use Rattle.edit_tree.specs.Written.{Valued}
+use Rattle.edit_tree.proofs.Ends.{ends_one, ends_pair, ends_gap, ends_value}
 use Rattle.edit_document.proofs.SlotLaws.{slot_begins}
 use Rattle.edit_document.proofs.ToldPairs.{nothing_told, one_told, more_told}
 

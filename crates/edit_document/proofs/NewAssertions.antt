@@ -4,18 +4,18 @@ use Rattle.std.specs.Prelude.{slice_get, slice_set}
 use Rattle.std.proofs.lemmas.List.{length_push}
 use Rattle.std.proofs.lemmas.List.Elements.{filter_map-append}
 use Rattle.edit_syntax.specs.declared.span.Span.{Span}
-use Rattle.edit_document.specs.Assertions.{Step, key, index, Place, at, Kind, Assertion, together}
-use Rattle.edit_document.specs.Tree.{members_of, kind_at}
+use Rattle.edit_tree.specs.Assertions.{Step, key, index, Place, at, Kind, Assertion, together}
+use Rattle.edit_tree.specs.Tree.{members_of, kind_at}
 use Rattle.edit_document.specs.Items.{name_of_step, key_names}
 use Rattle.edit_document.specs.DocumentLayout.{Placed, span_at}
-use Rattle.edit_document.specs.Taking.{taken_of, joins}
-use Rattle.edit_document.specs.Nodes.{Spot, names_of, StandsAt, below}
-use Rattle.edit_document.specs.Walk.{spot_at}
-use Rattle.edit_document.proofs.SamePlace.{last_same, not_root, not_below, place_or}
-use Rattle.edit_document.proofs.TakenPairs.{together_is}
-use Rattle.edit_document.proofs.MoreAssertions.{kind_stays, kind_new, kind_else, kind_back, first_kind, first_stays, first_is, allowed_else, allowed_here, allowed_none, clear_more}
-use Rattle.edit_document.proofs.MoreMembers.{members_new, members_else, members_none, is_element, is_headed, elements_below, elements_stay, elements_grow, elements_else, elements_none}
-use Rattle.edit_document.proofs.Trees.{Grows, Gains, grown, last_is, tree_gain, each_gain}
+use Rattle.edit_tree.specs.Taking.{taken_of, joins}
+use Rattle.edit_tree.specs.Nodes.{Spot, names_of, StandsAt, below}
+use Rattle.edit_tree.specs.Walk.{spot_at}
+use Rattle.edit_tree.proofs.SamePlace.{last_same, not_root, not_below, place_or}
+use Rattle.edit_tree.proofs.TakenPairs.{together_is}
+use Rattle.edit_tree.proofs.MoreAssertions.{kind_stays, kind_new, kind_else, kind_back, first_kind, first_stays, first_is, allowed_else, allowed_here, allowed_none, clear_more}
+use Rattle.edit_tree.proofs.MoreMembers.{members_new, members_else, members_none, is_element, is_headed, elements_below, elements_stay, elements_grow, elements_else, elements_none}
+use Rattle.edit_tree.proofs.Trees.{Grows, Gains, grown, last_is, tree_gain, each_gain}
 use Rattle.edit_document.proofs.AssertedSpots.{IsIndexed, indexed_stays, noted, span_else, span_here, shape_of_kind, Tells, Stands, was_asserted, nothing_below_spot, nothing_under}
 
 abbrev pub is_index : Step → Bool

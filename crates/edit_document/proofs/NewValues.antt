@@ -4,17 +4,17 @@ use Rattle.std.proofs.lemmas.Bool.Decides.{nat_tests}
 use Rattle.std.specs.Prelude.{slice_get}
 use Rattle.std.specs.List.{AllByRecursion}
 use Rattle.edit_syntax.specs.Grammar.{IsValue, AreElements}
-use Rattle.edit_document.specs.Assertions.{Place, Step, key, index, at, same_place, Kind, leaf, Assertion, of_value, of_elements, together, NoClash, AreShort}
-use Rattle.edit_document.specs.Tree.{string, kind_at, view_of_kind, view_of_value, static_array, count_elements}
-use Rattle.edit_document.specs.Literals.{literal_of}
-use Rattle.edit_document.specs.Meant.{new_view}
-use Rattle.edit_document.specs.NewItems.{NewValue, a_string, a_truth, a_list, literals, new_value}
+use Rattle.edit_tree.specs.Assertions.{Place, Step, key, index, at, same_place, Kind, leaf, Assertion, of_value, of_elements, together, NoClash, AreShort}
+use Rattle.edit_tree.specs.Tree.{string, kind_at, view_of_kind, view_of_value, static_array, count_elements}
+use Rattle.edit_tree.specs.Literals.{literal_of}
+use Rattle.edit_tree.specs.Meant.{new_view}
+use Rattle.edit_tree.specs.NewItems.{NewValue, a_string, a_truth, a_list, literals, new_value}
 use Rattle.edit_document.specs.NewItemViews.{HasRoom}
-use Rattle.edit_document.proofs.LiteralLaws.{literal_is_value, literal_says}
-use Rattle.edit_document.proofs.SamePlace.{same_step_self, last_same}
-use Rattle.edit_document.proofs.SamePlaces.{within_same, below_at}
-use Rattle.edit_document.proofs.WidenedForms.{HasNoArray}
-use Rattle.edit_document.proofs.WidenedLists.{IsUnder}
+use Rattle.edit_tree.proofs.LiteralLaws.{literal_is_value, literal_says}
+use Rattle.edit_tree.proofs.SamePlace.{same_step_self, last_same}
+use Rattle.edit_tree.proofs.SamePlaces.{within_same, below_at}
+use Rattle.edit_tree.proofs.WidenedForms.{HasNoArray}
+use Rattle.edit_tree.proofs.WidenedLists.{IsUnder}
 
 -- ---- well formed
 

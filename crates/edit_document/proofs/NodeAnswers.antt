@@ -4,23 +4,23 @@ use Rattle.std.specs.Prelude.{map, slice_get, IsUtf8, string_bytes}
 use Rattle.std.proofs.lemmas.Option.{same_Some}
 use Rattle.edit_syntax.specs.Grammar.{Text}
 use Rattle.edit_document.specs.declared.document.Document.TheInside.{Inside}
-use Rattle.edit_document.specs.declared.nodes.Node.{Node}
-use Rattle.edit_document.specs.declared.nodes.Taken.{Taken}
-use Rattle.edit_document.specs.declared.nodes.Taken.TheVariants.{Dotted, Value, Super, Header, Array, Element}
+use Rattle.edit_tree.specs.declared.nodes.Node.{Node}
+use Rattle.edit_tree.specs.declared.nodes.Taken.{Taken}
+use Rattle.edit_tree.specs.declared.nodes.Taken.TheVariants.{Dotted, Value, Super, Header, Array, Element}
 use Rattle.edit_document.specs.declared.one_statement.Statements.TheVariants.{AsMember}
-use Rattle.edit_document.specs.Assertions.{Step, key, Place, at, assertions}
+use Rattle.edit_tree.specs.Assertions.{Step, key, Place, at, assertions}
 use Rattle.edit_document.specs.Compared.{AreNames, nth_part}
 use Rattle.edit_document.specs.DocumentLayout.{placed, IsRead, shown_of}
-use Rattle.edit_document.specs.EditBytes.{is_one_statement}
+use Rattle.edit_tree.specs.EditBytes.{is_one_statement}
 use Rattle.edit_document.specs.Items.{names_in, place_numbered, view_numbered, Numbers}
-use Rattle.edit_document.specs.Nodes.{names_of}
+use Rattle.edit_tree.specs.Nodes.{names_of}
 use Rattle.edit_document.specs.OneStatement.{HasMember, Answers}
-use Rattle.edit_document.specs.Shown.{Shown, tree_of}
-use Rattle.edit_document.specs.Supported.{IsManifest}
-use Rattle.edit_document.specs.Written.{values}
+use Rattle.edit_tree.specs.Shown.{Shown, tree_of}
+use Rattle.edit_tree.specs.Supported.{IsManifest}
+use Rattle.edit_tree.specs.Written.{values}
 use Rattle.edit_document.proofs.AssertedSpots.{Stands}
 use Rattle.edit_document.proofs.NodeStatements.{value_states, super_states, array_states, headed_states, names_seen, only_states, other_states}
-use Rattle.edit_document.proofs.Shallow.{one_form}
+use Rattle.edit_tree.proofs.Shallow.{one_form}
 use Rattle.edit_document.proofs.ShownForms.{shown_bytes}
 use Rattle.edit_document.proofs.Views.{Opened, opened, Found, view_spot}
 use Rattle.edit_document.proofs.Wholes.{stands_of}

@@ -3,25 +3,25 @@ use Rattle.std.proofs.Common.{◌≡◌, ℕ, zero, suc, true, false, List, [], 
 use Rattle.std.specs.Prelude.{slice_get}
 use Rattle.std.proofs.lemmas.Option.{same_Some}
 use Rattle.edit_syntax.specs.Grammar.{Value, Text}
-use Rattle.edit_document.specs.declared.nodes.Taken.{Taken}
-use Rattle.edit_document.specs.declared.nodes.Taken.TheVariants.{Dotted, Value as ByValue, Super, Header, Array}
-use Rattle.edit_document.specs.Assertions.{Step, key, index, Place, at, Kind, dotted, leaf, super, header_kind, array_kind, element_kind, Assertion, assertions, together}
+use Rattle.edit_tree.specs.declared.nodes.Taken.{Taken}
+use Rattle.edit_tree.specs.declared.nodes.Taken.TheVariants.{Dotted, Value as ByValue, Super, Header, Array}
+use Rattle.edit_tree.specs.Assertions.{Step, key, index, Place, at, Kind, dotted, leaf, super, header_kind, array_kind, element_kind, Assertion, assertions, together}
 use Rattle.edit_document.specs.DocumentLayout.{placed}
-use Rattle.edit_document.specs.EditBytes.{is_one_statement}
+use Rattle.edit_tree.specs.EditBytes.{is_one_statement}
 use Rattle.edit_document.specs.Items.{names_in, key_names}
-use Rattle.edit_document.specs.Nodes.{Spot, names_of, view_of_shape}
-use Rattle.edit_document.specs.Taking.{taken_of, joins}
-use Rattle.edit_document.specs.Tree.{kind_at, members_of}
-use Rattle.edit_document.specs.Written.{values}
-use Rattle.edit_document.proofs.AlonePlaces.{header_none, array_none, headed_here, first_allows}
+use Rattle.edit_tree.specs.Nodes.{Spot, names_of, view_of_shape}
+use Rattle.edit_tree.specs.Taking.{taken_of, joins}
+use Rattle.edit_tree.specs.Tree.{kind_at, members_of}
+use Rattle.edit_tree.specs.Written.{values}
+use Rattle.edit_tree.proofs.AlonePlaces.{header_none, array_none, headed_here, first_allows}
 use Rattle.edit_document.proofs.AssertedSpots.{Stands, Tells, Lists, shape_of_kind, was_asserted, step_below}
-use Rattle.edit_document.proofs.HeadedPlaces.{headed_up}
-use Rattle.edit_document.proofs.MoreAssertions.{allowed}
-use Rattle.edit_document.proofs.NamedHeads.{is_alone, one_statement_is}
-use Rattle.edit_document.proofs.NamedPairs.{IsKeyed}
+use Rattle.edit_tree.proofs.HeadedPlaces.{headed_up}
+use Rattle.edit_tree.proofs.MoreAssertions.{allowed}
+use Rattle.edit_tree.proofs.NamedHeads.{is_alone, one_statement_is}
+use Rattle.edit_tree.proofs.NamedPairs.{IsKeyed}
 use Rattle.edit_document.proofs.OnceLists.{apart_once, names_apart}
-use Rattle.edit_document.proofs.OneStatements.{first_fits, leaf_alone, none_alone, headed_alone, at_cons, only_alone, bare_alone, two_alone}
-use Rattle.edit_document.proofs.SamePlace.{last_same, not_root}
+use Rattle.edit_tree.proofs.OneStatements.{first_fits, leaf_alone, none_alone, headed_alone, at_cons, only_alone, bare_alone, two_alone}
+use Rattle.edit_tree.proofs.SamePlace.{last_same, not_root}
 use Rattle.edit_document.proofs.Views.{view_of_spot}
 use Rattle.edit_document.proofs.MemberViews.{names_keys}
 use Rattle.edit_document.proofs.Wholes.{name_at, number_at}

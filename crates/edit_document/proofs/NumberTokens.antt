@@ -8,17 +8,17 @@ use Rattle.edit_syntax.specs.declared.read.marks.MarkKind.TheVariants as kinds
 use Rattle.edit_syntax.specs.Characters.{is_ascii, All}
 use Rattle.edit_syntax.specs.Grammar.{Value, integer, float, datetime, value, IsValue}
 use Rattle.edit_syntax.specs.Reading.{◌>>=◌}
-use Rattle.edit_document.specs.Nodes.{shape_said}
+use Rattle.edit_tree.specs.Nodes.{shape_said}
 use Rattle.edit_document.specs.DocumentLayout.{span_of, shape_of_value}
 use Rattle.edit_syntax.specs.Decoding.{Says, delimited}
 use Rattle.edit_syntax.specs.Noting.{value_kind}
 use Rattle.edit_syntax.specs.Marks.{mark}
-use Rattle.edit_document.specs.Walk.{said, suffix, as_text, State, entered, step}
-use Rattle.edit_document.specs.WalkState.{IsToken, SaysAt}
+use Rattle.edit_tree.specs.Walk.{said, suffix, as_text, State, entered, step}
+use Rattle.edit_tree.specs.WalkState.{IsToken, SaysAt}
 use Rattle.edit_syntax.proofs.DigitLaws.{IsNumber}
 use Rattle.edit_syntax.proofs.ValueEdges.{value_rest, integer_ascii, float_ascii, datetime_ascii}
-use Rattle.edit_document.proofs.Ends.{Ends, Small, ascii_text}
-use Rattle.edit_document.proofs.WalkedTokens.{said_word}
+use Rattle.edit_tree.proofs.Ends.{Ends, Small, ascii_text}
+use Rattle.edit_tree.proofs.WalkedTokens.{said_word}
 
 -- the text of a number is of ASCII and not empty
 abbrev IsPlain : List ℕ → Type 0

@@ -3,11 +3,11 @@ use Rattle.std.proofs.Common.{◌≡◌, ℕ, zero, suc, Bool, true, false, cond
 use Rattle.std.specs.Prelude.{slice_get}
 use Rattle.std.specs.List.{filter}
 use Rattle.std.proofs.lemmas.Option.{same_Some}
-use Rattle.edit_document.specs.Assertions.{Step, key, index, same_step}
-use Rattle.edit_document.specs.Tree.{once}
+use Rattle.edit_tree.specs.Assertions.{Step, key, index, same_step}
+use Rattle.edit_tree.specs.Tree.{once}
 use Rattle.edit_document.specs.Items.{key_names}
-use Rattle.edit_document.proofs.SamePlace.{same_step_self, same_step_is}
-use Rattle.edit_document.proofs.MoreMembers.{has}
+use Rattle.edit_tree.proofs.SamePlace.{same_step_self, same_step_is}
+use Rattle.edit_tree.proofs.MoreMembers.{has}
 use Rattle.edit_syntax.proofs.Cases.{or_false}
 
 -- each step differs from those behind it

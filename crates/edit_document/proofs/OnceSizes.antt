@@ -2,11 +2,11 @@
 use Rattle.std.proofs.Common.{◌≡◌, suc, Bool, true, false, not, cond, ◌&&◌, ◌||◌, List, [], ◌∷◌, length, refl, sym, ap, ◌∙◌, true≢false}
 use Rattle.std.specs.List.{filter, list_any}
 use Rattle.edit_syntax.proofs.Cases.{by_test, or_false}
-use Rattle.edit_document.specs.Assertions.{Step, same_step}
-use Rattle.edit_document.specs.Tree.{once}
-use Rattle.edit_document.proofs.MoreMembers.{has}
+use Rattle.edit_tree.specs.Assertions.{Step, same_step}
+use Rattle.edit_tree.specs.Tree.{once}
+use Rattle.edit_tree.proofs.MoreMembers.{has}
 use Rattle.edit_document.proofs.OnceLists.{Apart, apart_filter}
-use Rattle.edit_document.proofs.SamePlace.{same_step_self, same_step_is}
+use Rattle.edit_tree.proofs.SamePlace.{same_step_self, same_step_is}
 
 -- the list without a step
 abbrev pub without : Step → List Step → List Step

@@ -1,9 +1,9 @@
 -- The number of a member or an element of a node.
 use Rattle.std.proofs.Common.{◌≡◌, ℕ, List, Option, Some, None, refl, sym, ap, ◌∙◌, inl, inr}
 use Rattle.std.specs.Prelude.{slice_get}
-use Rattle.edit_document.specs.Assertions.{Step, key, index, at}
+use Rattle.edit_tree.specs.Assertions.{Step, key, index, at}
 use Rattle.edit_document.specs.Items.{names_in, place_numbered, view_numbered, Numbers}
-use Rattle.edit_document.specs.Shown.{Shown, tree_of}
+use Rattle.edit_tree.specs.Shown.{Shown, tree_of}
 use Rattle.edit_document.specs.Compared.{nth_part, AreSteps, NumbersPart}
 
 abbrev StandsPart : Shown → ℕ → Type 0

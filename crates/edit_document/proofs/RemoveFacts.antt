@@ -1,8 +1,8 @@
 -- Items removed: members and elements with their commas, statements with the lines before them, whole tables.
 use Rattle.std.proofs.Common.{[], ◌∷◌, refl}
 use Rattle.std.specs.Prelude.{codes}
-use Rattle.edit_document.specs.Assertions.{key, index}
-use Rattle.edit_document.proofs.OnTexts.{on_texts}
+use Rattle.edit_tree.specs.Assertions.{key, index}
+use Rattle.edit_tree.proofs.OnTexts.{on_texts}
 use Rattle.edit_document.proofs.EditFacts.{Removes, removes}
 
 -- a table's one entry: its header stays

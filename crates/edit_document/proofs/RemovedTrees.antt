@@ -3,17 +3,17 @@
 use Rattle.std.proofs.Common.{◌≡◌, ℕ, true, false, ◌&&◌, if◌then◌else◌, List, [], ◌∷◌, ◌++◌, Some, None, refl, sym, ap, subst, ◌∙◌, ◌⊎◌, inl, inr, true≢false, append_assoc, append-nil}
 use Rattle.edit_syntax.specs.Grammar.{Text}
 use Rattle.edit_syntax.proofs.Cases.{by_test}
-use Rattle.edit_document.specs.Assertions.{Place, Step, key, at, same_step, NoClash, assertions}
+use Rattle.edit_tree.specs.Assertions.{Place, Step, key, at, same_step, NoClash, assertions}
 use Rattle.edit_document.specs.Compared.{nth_part}
-use Rattle.edit_document.specs.EditBytes.{is_within}
+use Rattle.edit_tree.specs.EditBytes.{is_within}
 use Rattle.edit_document.specs.Lost.{Loses, SameButOrderBeside, LosesPart, IsLeft, IsLost}
-use Rattle.edit_document.specs.Meant.{Tree, moved, tree_left, SameButOrder, same, is_member, Removed}
-use Rattle.edit_document.specs.Tree.{View, kind_at, view_in}
+use Rattle.edit_tree.specs.Meant.{Tree, moved, tree_left, SameButOrder, same, is_member, Removed}
+use Rattle.edit_tree.specs.Tree.{View, kind_at, view_in}
 use Rattle.edit_document.proofs.Besides.{within_back}
-use Rattle.edit_document.proofs.HeadedPlaces.{inside_self, inside_more, inside_trans}
+use Rattle.edit_tree.proofs.HeadedPlaces.{inside_self, inside_more, inside_trans}
 use Rattle.edit_document.proofs.KeptParts.{not_longer, apart_ways}
 use Rattle.edit_document.proofs.LostSteps.{order_turn, order_then, order_none, loses_then, loses_same}
-use Rattle.edit_document.proofs.SamePlace.{same_step_self, same_step_is}
+use Rattle.edit_tree.proofs.SamePlace.{same_step_self, same_step_is}
 use Rattle.edit_document.proofs.LeftAround.{within_rest, moved_step, moved_back, moved_else, moved_flat, member_back, flat, beside_left, here_left, other_left, below_left}
 
 module _ (form : Text) (clash : NoClash (assertions form)) (root : kind_at (assertions form) [] ≡ None)

@@ -2,11 +2,11 @@
 use Rattle.std.proofs.Common.{◌≡◌, ℕ, suc, Bool, true, false, eqb, List, [], ◌∷◌, ◌-◌, length, take, Some, None, refl, sym, ap, subst, ◌∙◌, append-nil, arith}
 use Rattle.std.specs.Bool.{Decides}
 use Rattle.edit_document.specs.declared.place.Step.{Step as WrittenStep}
-use Rattle.edit_document.specs.Assertions.{Place}
-use Rattle.edit_document.specs.Tree.{View, string, truth, whole, fractional, moment, static_array, table_array, inline_table, table}
-use Rattle.edit_document.specs.NewItems.{NewItem}
-use Rattle.edit_document.specs.Meant.{above, is_inline_table, HasReplaced}
-use Rattle.edit_document.specs.Shown.{Shown, tree_of}
+use Rattle.edit_tree.specs.Assertions.{Place}
+use Rattle.edit_tree.specs.Tree.{View, string, truth, whole, fractional, moment, static_array, table_array, inline_table, table}
+use Rattle.edit_tree.specs.NewItems.{NewItem}
+use Rattle.edit_tree.specs.Meant.{above, is_inline_table, HasReplaced}
+use Rattle.edit_tree.specs.Shown.{Shown, tree_of}
 use Rattle.edit_document.specs.Items.{place_numbered, place_seen, step_seen}
 use Rattle.edit_document.specs.Compared.{kind_of, ShowsItem, FindsBeside}
 use Rattle.edit_document.proofs.ShownItems.{item_some}

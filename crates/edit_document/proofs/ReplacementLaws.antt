@@ -5,25 +5,25 @@ use Rattle.std.specs.Global.{Vec}
 use Rattle.std.specs.Prelude.{string_bytes, is_some}
 use Rattle.std.proofs.lemmas.List.{map-append, length-map}
 use Rattle.edit_syntax.proofs.Members.{contained_among}
-use Rattle.edit_document.proofs.UniqueValues.{listed_value}
+use Rattle.edit_tree.proofs.UniqueValues.{listed_value}
 use Rattle.edit_document.specs.declared.replace.Rewrite.{Rewrite}
 use Rattle.edit_syntax.specs.Grammar.{Text, text}
-use Rattle.edit_document.specs.Assertions.{Place}
-use Rattle.edit_document.specs.Tree.{is_value_at}
+use Rattle.edit_tree.specs.Assertions.{Place}
+use Rattle.edit_tree.specs.Tree.{is_value_at}
 use Rattle.edit_document.specs.declared.place.Step.{Step as WrittenStep}
 use Rattle.edit_document.specs.Items.{place_seen}
 use Rattle.edit_document.specs.Ranges.{HasRange, edits_seen}
-use Rattle.edit_document.specs.Written.{values}
-use Rattle.edit_document.specs.Supported.{IsManifest}
-use Rattle.edit_document.specs.Literals.{literal_of}
-use Rattle.edit_document.specs.Replaces.{Edits, replaced, edited, Swaps, Replaces, AreValues}
+use Rattle.edit_tree.specs.Written.{values}
+use Rattle.edit_tree.specs.Supported.{IsManifest}
+use Rattle.edit_tree.specs.Literals.{literal_of}
+use Rattle.edit_tree.specs.Replaces.{Edits, replaced, edited, Swaps, Replaces, AreValues}
 use Rattle.edit_document.specs.Splices.{Range, range_of, IsRangeFor, AreRanges}
-use Rattle.edit_document.proofs.ReplacedTree.{AreApart, replaced_manifest, replaced_view}
-use Rattle.edit_document.proofs.ReplacedStrings.{told_value, one_apart}
+use Rattle.edit_tree.proofs.ReplacedTree.{AreApart, replaced_manifest, replaced_view}
+use Rattle.edit_tree.proofs.ReplacedStrings.{told_value, one_apart}
 use Rattle.edit_document.proofs.SortedRanges.{AreRangesFor, Rewrites, ranges_rewrite}
 use Rattle.edit_document.proofs.LocatedEdits.{first_of_distinct}
 use Rattle.std.specs.Str.{IsUtf8}
-use Rattle.edit_document.proofs.SwappedTexts.{apart_none, replaced_swaps}
+use Rattle.edit_tree.proofs.SwappedTexts.{apart_none, replaced_swaps}
 
 -- a document's replacement at places none of which lies below another
 pub replaces_apart : (edits : Edits) (old new : List ℕ) (form : Text) → IsManifest old form

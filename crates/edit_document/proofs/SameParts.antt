@@ -3,12 +3,12 @@ use Rattle.std.proofs.Common.{◌≡◌, ℕ, zero, suc, ◌+◌, ◌<◌, ◌�
 use Rattle.std.specs.Prelude.{slice_get, nat_lt, cond, map, if◌then◌else◌, ◌==◌, unwrap_or, take}
 use Rattle.std.proofs.lemmas.Option.{slice_get_within, slice_get-get_or, same_Some}
 use Rattle.std.proofs.lemmas.Bool.{cases_lt, lt-ltb, ltb-true}
-use Rattle.edit_document.specs.Assertions.{Step, key, index, Place, at, same_step}
-use Rattle.edit_document.specs.Tree.{View, string, truth, whole, fractional, moment, static_array, table_array, inline_table, table}
-use Rattle.edit_document.specs.Shown.{Shown, tree_of}
+use Rattle.edit_tree.specs.Assertions.{Step, key, index, Place, at, same_step}
+use Rattle.edit_tree.specs.Tree.{View, string, truth, whole, fractional, moment, static_array, table_array, inline_table, table}
+use Rattle.edit_tree.specs.Shown.{Shown, tree_of}
 use Rattle.edit_document.specs.Items.{place_numbered, view_numbered, names_in, count_in}
 use Rattle.edit_document.specs.Compared.{SameBelow, kind_of, word_of, element_step, nth_part, AreKeys, NumbersPart}
-use Rattle.edit_document.proofs.SamePlace.{same_step_is, same_step_self}
+use Rattle.edit_tree.proofs.SamePlace.{same_step_is, same_step_self}
 
 -- the same stands at the first parts
 abbrev pub SameParts : Shown → ℕ → Shown → ℕ → ℕ → Type 0

@@ -5,20 +5,20 @@ use Rattle.std.specs.List.{filter_map, cons_option}
 use Rattle.edit_syntax.specs.Grammar.{value, Text, text}
 use Rattle.edit_syntax.proofs.Cases.{by_test}
 use Rattle.edit_syntax.proofs.ValueEdges.{value_rest}
-use Rattle.edit_document.specs.Assertions.{Place, same_place, IsDocument}
-use Rattle.edit_document.specs.EditBytes.{Splice, first_of, first_made, set_text}
-use Rattle.edit_document.specs.NewItems.{NewValue, new_value}
-use Rattle.edit_document.specs.Replaces.{Writer, replaced_by, edited, Swaps, rest, next}
+use Rattle.edit_tree.specs.Assertions.{Place, same_place, IsDocument}
+use Rattle.edit_tree.specs.EditBytes.{Splice, first_of, first_made, set_text}
+use Rattle.edit_tree.specs.NewItems.{NewValue, new_value}
+use Rattle.edit_tree.specs.Replaces.{Writer, replaced_by, edited, Swaps, rest, next}
 use Rattle.edit_document.specs.Splices.{Range, ranges_of}
-use Rattle.edit_document.specs.Tree.{is_value_at}
-use Rattle.edit_document.specs.Written.{Valued, values, start_of, end_of, IsWrittenAt}
+use Rattle.edit_tree.specs.Tree.{is_value_at}
+use Rattle.edit_tree.specs.Written.{Valued, values, start_of, end_of, IsWrittenAt}
 use Rattle.edit_document.proofs.LocatedEdits.{first_of_distinct}
-use Rattle.edit_document.proofs.ReplacedStrings.{told_value, one_apart}
+use Rattle.edit_tree.proofs.ReplacedStrings.{told_value, one_apart}
 use Rattle.edit_document.proofs.ReplacementLaws.{one_range}
-use Rattle.edit_document.proofs.SamePlace.{same_place_self, same_place_is}
+use Rattle.edit_tree.proofs.SamePlace.{same_place_self, same_place_is}
 use Rattle.edit_document.proofs.SortedRanges.{ranges_are}
-use Rattle.edit_document.proofs.SwappedTexts.{apart_none, replaced_swaps, edit_of}
-use Rattle.edit_document.proofs.WidenedForms.{one, turned}
+use Rattle.edit_tree.proofs.SwappedTexts.{apart_none, replaced_swaps, edit_of}
+use Rattle.edit_tree.proofs.WidenedForms.{one, turned}
 
 -- the form with the value at the place
 abbrev pub form_set : Place → NewValue → Text → Text

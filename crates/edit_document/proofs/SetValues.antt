@@ -2,32 +2,32 @@
 use Rattle.std.proofs.Common.{◌≡◌, ℕ, true, false, ◌&&◌, ◌||◌, cond, List, [], ◌∷◌, ◌++◌, length, None, Some, option_map, refl, sym, ap, ◌∙◌, subst, true≢false, append-nil}
 use Rattle.edit_syntax.specs.Grammar.{Text, text}
 use Rattle.edit_syntax.proofs.Cases.{by_test}
-use Rattle.edit_document.specs.Assertions.{Place, Step, same_step, leaf, assertions, NoClash, IsDocument}
-use Rattle.edit_document.specs.EditBytes.{set_text, is_within}
-use Rattle.edit_document.specs.EditBytes.{is_within as is_inside}
-use Rattle.edit_document.specs.Literals.{literal_of}
-use Rattle.edit_document.specs.Meant.{Tree, HasSet, new_view}
-use Rattle.edit_document.specs.NewItems.{NewValue, new_value}
+use Rattle.edit_tree.specs.Assertions.{Place, Step, same_step, leaf, assertions, NoClash, IsDocument}
+use Rattle.edit_tree.specs.EditBytes.{set_text, is_within}
+use Rattle.edit_tree.specs.EditBytes.{is_within as is_inside}
+use Rattle.edit_tree.specs.Literals.{literal_of}
+use Rattle.edit_tree.specs.Meant.{Tree, HasSet, new_view}
+use Rattle.edit_tree.specs.NewItems.{NewValue, new_value}
 use Rattle.edit_document.specs.NewItemViews.{HasRoom}
-use Rattle.edit_document.specs.Replaces.{new_text, replaced, is_below}
-use Rattle.edit_document.specs.Supported.{IsManifest}
-use Rattle.edit_document.specs.Tree.{view_at, view_of_kind, kind_at, is_value_at}
-use Rattle.edit_document.specs.Written.{values, start_of, end_of, IsWrittenAt}
+use Rattle.edit_tree.specs.Replaces.{new_text, replaced, is_below}
+use Rattle.edit_tree.specs.Supported.{IsManifest}
+use Rattle.edit_tree.specs.Tree.{view_at, view_of_kind, kind_at, is_value_at}
+use Rattle.edit_tree.specs.Written.{values, start_of, end_of, IsWrittenAt}
 use Rattle.edit_document.proofs.NewValues.{new_is_value, new_under, new_flat, new_short, new_apart, new_shows, new_shows_below}
-use Rattle.edit_document.proofs.NothingBelow.{rooted}
-use Rattle.edit_document.proofs.PlainValues.{shut_below}
-use Rattle.edit_document.proofs.Parts.{has_kind}
-use Rattle.edit_document.proofs.ReplacedStrings.{told_value, one_apart}
-use Rattle.edit_document.proofs.ReplacedTree.{formed_lines, thinned, replaced_document, no_root}
-use Rattle.edit_document.proofs.SamePlace.{same_step_self, same_place_self}
-use Rattle.edit_document.proofs.SamePlaces.{below_within}
-use Rattle.edit_document.proofs.Shallow.{one_form}
-use Rattle.edit_document.proofs.ThinnedViews.{thin_view, thin_literal}
+use Rattle.edit_tree.proofs.NothingBelow.{rooted}
+use Rattle.edit_tree.proofs.PlainValues.{shut_below}
+use Rattle.edit_tree.proofs.Parts.{has_kind}
+use Rattle.edit_tree.proofs.ReplacedStrings.{told_value, one_apart}
+use Rattle.edit_tree.proofs.ReplacedTree.{formed_lines, thinned, replaced_document, no_root}
+use Rattle.edit_tree.proofs.SamePlace.{same_step_self, same_place_self}
+use Rattle.edit_tree.proofs.SamePlaces.{below_within}
+use Rattle.edit_tree.proofs.Shallow.{one_form}
+use Rattle.edit_tree.proofs.ThinnedViews.{thin_view, thin_literal}
 use Rattle.edit_syntax.proofs.Members.{among_contained}
-use Rattle.edit_document.proofs.UniqueValues.{value_listed}
-use Rattle.edit_document.proofs.WidenedForms.{one, turned, Widened, widened}
-use Rattle.edit_document.proofs.WidenedViews.{self_far, widened_here, widened_below, widened_else}
-use Rattle.edit_document.proofs.WidenedLists.{IsFree, none_free, widened_short, widened_apart}
+use Rattle.edit_tree.proofs.UniqueValues.{value_listed}
+use Rattle.edit_tree.proofs.WidenedForms.{one, turned, Widened, widened}
+use Rattle.edit_tree.proofs.WidenedViews.{self_far, widened_here, widened_below, widened_else}
+use Rattle.edit_tree.proofs.WidenedLists.{IsFree, none_free, widened_short, widened_apart}
 use Rattle.edit_document.proofs.SetBytes.{form_set, set_at}
 
 -- ---- a document

@@ -3,14 +3,14 @@ use Rattle.std.proofs.Common.{◌≡◌, ℕ, List, map, sym, ap, ◌∙◌, sub
 use Rattle.std.specs.Prelude.{string_bytes}
 use Rattle.edit_document.specs.declared.document.Document.TheInside.{Inside}
 use Rattle.edit_syntax.specs.Grammar.{Text}
-use Rattle.edit_document.specs.Assertions.{Place}
-use Rattle.edit_document.specs.Tree.{View, view_at}
-use Rattle.edit_document.specs.Supported.{IsManifest}
-use Rattle.edit_document.specs.Shown.{Shown, node_at, ShowsTree}
-use Rattle.edit_document.specs.Nodes.{shown_spot}
+use Rattle.edit_tree.specs.Assertions.{Place}
+use Rattle.edit_tree.specs.Tree.{View, view_at}
+use Rattle.edit_tree.specs.Supported.{IsManifest}
+use Rattle.edit_tree.specs.Shown.{Shown, node_at, ShowsTree}
+use Rattle.edit_tree.specs.Nodes.{shown_spot}
 use Rattle.edit_document.specs.DocumentLayout.{nodes_by, shown_of, shown_by, IsRead}
-use Rattle.edit_document.specs.Pieces.{pieces_of, IsRange}
-use Rattle.edit_document.proofs.Shallow.{one_form}
+use Rattle.edit_tree.specs.Pieces.{pieces_of, IsRange}
+use Rattle.edit_tree.proofs.Shallow.{one_form}
 
 -- ---- the form that was read is the only one
 

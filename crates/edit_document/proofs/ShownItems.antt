@@ -3,14 +3,14 @@ use Rattle.std.proofs.Common.{◌≡◌, ℕ, zero, suc, Bool, true, false, cond
 use Rattle.std.specs.Bool.{Decides}
 use Rattle.std.specs.Prelude.{slice_get, option_map, option_and_then, find}
 use Rattle.std.proofs.lemmas.Option.{same_Some, slice_get-map}
-use Rattle.edit_document.specs.Assertions.{Step, key, index, Place, at, same_bytes}
-use Rattle.edit_document.specs.Tree.{View, string, truth, whole, fractional, moment, static_array, table_array, inline_table, table}
-use Rattle.edit_document.specs.NewItems.{NewValue, NewItem, a_value, a_table}
-use Rattle.edit_document.specs.Meant.{new_view, view_of_members, item_view}
-use Rattle.edit_document.specs.Shown.{Shown, tree_of}
+use Rattle.edit_tree.specs.Assertions.{Step, key, index, Place, at, same_bytes}
+use Rattle.edit_tree.specs.Tree.{View, string, truth, whole, fractional, moment, static_array, table_array, inline_table, table}
+use Rattle.edit_tree.specs.NewItems.{NewValue, NewItem, a_value, a_table}
+use Rattle.edit_tree.specs.Meant.{new_view, view_of_members, item_view}
+use Rattle.edit_tree.specs.Shown.{Shown, tree_of}
 use Rattle.edit_document.specs.Items.{key_names, names_in, place_numbered, view_numbered, Numbers}
 use Rattle.edit_document.specs.Compared.{kind_of, nth_part, AreSteps, AreKeys, AreApart, ShowsValue, ShowsMembers, ShowsItem, members_shown}
-use Rattle.edit_document.proofs.SamePlace.{same_bytes_self, same_bytes_is}
+use Rattle.edit_tree.proofs.SamePlace.{same_bytes_self, same_bytes_is}
 use Rattle.edit_document.proofs.SameParts.{one_down, NothingElse, NoneBelow}
 use Rattle.edit_document.proofs.MemberViews.{names_keys}
 use Rattle.edit_document.proofs.ShownValues.{new_some, shown_at, unshown_at}

@@ -3,18 +3,18 @@ use Rattle.std.proofs.Common.{◌≡◌, ℕ, ◌<◌, Bool, true, false, cond, 
 use Rattle.std.specs.Prelude.{map, option_map, slice_get}
 use Rattle.std.specs.List.{AllByRecursion, filter}
 use Rattle.edit_syntax.specs.Grammar.{Value, basic, literal, multi_basic, multi_literal, boolean, integer, float, datetime, array, inline, Between, Elements}
-use Rattle.edit_document.specs.Assertions.{Step, key, index, Place, at, same_step, Kind, dotted, leaf, super, header_kind, array_kind, element_kind, Assertion, elements_at}
-use Rattle.edit_document.specs.Tree.{once, members_of, View, static_array, count_elements, inline_table, table, table_array, view_of_value, view_of_kind, kind_at, view_in}
-use Rattle.edit_document.specs.Shown.{node_at}
+use Rattle.edit_tree.specs.Assertions.{Step, key, index, Place, at, same_step, Kind, dotted, leaf, super, header_kind, array_kind, element_kind, Assertion, elements_at}
+use Rattle.edit_tree.specs.Tree.{once, members_of, View, static_array, count_elements, inline_table, table, table_array, view_of_value, view_of_kind, kind_at, view_in}
+use Rattle.edit_tree.specs.Shown.{node_at}
 use Rattle.edit_document.specs.Items.{key_names}
 use Rattle.edit_document.specs.DocumentLayout.{shape_of_value, Placed}
-use Rattle.edit_document.specs.Nodes.{Spot, names_of, view_of_shape, shown_spot}
-use Rattle.edit_document.proofs.SamePlace.{same_step_self}
-use Rattle.edit_document.proofs.MoreAssertions.{first_kind, first_is}
-use Rattle.edit_document.proofs.MoreMembers.{is_headed, steps, has, has_step}
+use Rattle.edit_tree.specs.Nodes.{Spot, names_of, view_of_shape, shown_spot}
+use Rattle.edit_tree.proofs.SamePlace.{same_step_self}
+use Rattle.edit_tree.proofs.MoreAssertions.{first_kind, first_is}
+use Rattle.edit_tree.proofs.MoreMembers.{is_headed, steps, has, has_step}
 use Rattle.edit_document.proofs.AssertedSpots.{Lists, shape_of_kind, Tells, Stands}
 use Rattle.edit_document.proofs.Arrays.{elements_full}
-use Rattle.edit_document.proofs.ArrayCounts.{IsEven}
+use Rattle.edit_tree.proofs.ArrayCounts.{IsEven}
 use Rattle.edit_document.proofs.Views.{node_first, node_none}
 use Rattle.edit_syntax.proofs.Cases.{or_false}
 

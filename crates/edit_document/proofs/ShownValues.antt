@@ -4,11 +4,11 @@ use Rattle.std.specs.Bool.{Decides}
 use Rattle.std.specs.Prelude.{slice_get, option_map}
 use Rattle.std.proofs.lemmas.Bool.{eqb-true}
 use Rattle.std.proofs.lemmas.Option.{same_Some, slice_get-get_or}
-use Rattle.edit_document.specs.Assertions.{Step, key, index, Place, at}
-use Rattle.edit_document.specs.Tree.{View, string, truth, whole, fractional, moment, static_array, table_array, inline_table, table}
-use Rattle.edit_document.specs.NewItems.{NewValue, a_string, a_truth, a_list}
-use Rattle.edit_document.specs.Meant.{new_view}
-use Rattle.edit_document.specs.Shown.{Shown, tree_of}
+use Rattle.edit_tree.specs.Assertions.{Step, key, index, Place, at}
+use Rattle.edit_tree.specs.Tree.{View, string, truth, whole, fractional, moment, static_array, table_array, inline_table, table}
+use Rattle.edit_tree.specs.NewItems.{NewValue, a_string, a_truth, a_list}
+use Rattle.edit_tree.specs.Meant.{new_view}
+use Rattle.edit_tree.specs.Shown.{Shown, tree_of}
 use Rattle.edit_document.specs.Items.{place_numbered, view_numbered, count_in, Numbers}
 use Rattle.edit_document.specs.Compared.{kind_of, word_of, nth_part, ShowsValue}
 use Rattle.edit_document.proofs.SameParts.{one_down, NothingElse, NoneBelow}

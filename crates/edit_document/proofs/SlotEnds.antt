@@ -6,10 +6,10 @@ use Rattle.edit_syntax.specs.Grammar.{Between, gap}
 use Rattle.edit_syntax.specs.Reading.{first, past_gap}
 use Rattle.edit_syntax.specs.Steps.{ends_item}
 use Rattle.edit_syntax.proofs.GapLaws.{opens_gap, past_gap_again, gap_longer}
-use Rattle.edit_document.specs.RemovedBytes.{with_it, without_it}
-use Rattle.edit_document.specs.Slots.{Slot, slot, Slots, no_slots, last_slot, more_slots, slots, AreSlots, closing, opening, slots_left, IsEnclosed, enclosed_left}
-use Rattle.edit_document.specs.SlotTexts.{Ends}
-use Rattle.edit_document.specs.Assertions.{Place}
+use Rattle.edit_tree.specs.RemovedBytes.{with_it, without_it}
+use Rattle.edit_tree.specs.Slots.{Slot, slot, Slots, no_slots, last_slot, more_slots, slots, AreSlots, closing, opening, slots_left, IsEnclosed, enclosed_left}
+use Rattle.edit_tree.specs.SlotTexts.{Ends}
+use Rattle.edit_tree.specs.Assertions.{Place}
 use Rattle.edit_document.specs.Remainders.{before_end}
 use Rattle.edit_document.proofs.SlotLaws.{no_blank, gap_rest, slot_rest, before_is, slot_begins, slots_gapless}
 

@@ -8,16 +8,16 @@ use Rattle.edit_syntax.specs.Grammar.{Between, array, inline, value, IsValue, El
 use Rattle.edit_syntax.specs.Depth.{depth}
 use Rattle.edit_syntax.specs.Marks.{part_mark, dotted_marks, key_marks}
 use Rattle.edit_syntax.proofs.PutBefore.{pieces_rest}
-use Rattle.edit_document.specs.Assertions.{key, index, Place, same_bytes, same_place, names}
-use Rattle.edit_document.specs.EditBytes.{is_within}
-use Rattle.edit_document.specs.RemovedBytes.{elements_left, members_left, value_left}
-use Rattle.edit_document.specs.Slots.{of_elements, of_members, slots_left, enclosed_left, IsEnclosed}
-use Rattle.edit_document.specs.SlotTexts.{AreSaid, Ends}
-use Rattle.edit_document.specs.WalkState.{SaysAt}
-use Rattle.edit_document.proofs.Ends.{ends_past, ends_one, ends_part}
+use Rattle.edit_tree.specs.Assertions.{key, index, Place, same_bytes, same_place, names}
+use Rattle.edit_tree.specs.EditBytes.{is_within}
+use Rattle.edit_tree.specs.RemovedBytes.{elements_left, members_left, value_left}
+use Rattle.edit_tree.specs.Slots.{of_elements, of_members, slots_left, enclosed_left, IsEnclosed}
+use Rattle.edit_tree.specs.SlotTexts.{AreSaid, Ends}
+use Rattle.edit_tree.specs.WalkState.{SaysAt}
+use Rattle.edit_tree.proofs.Ends.{ends_past, ends_one, ends_part}
 use Rattle.std.specs.Str.{bytes_eq}
 use Rattle.std.proofs.lemmas.Slice.Eq.{bytes_eq-Decides}
-use Rattle.edit_document.proofs.SamePlace.{same_bytes_self, same_bytes_is, same_step_self}
+use Rattle.edit_tree.proofs.SamePlace.{same_bytes_self, same_bytes_is, same_step_self}
 use Rattle.edit_document.proofs.SlotLaws.{elements_text, members_text, elements_valid, members_valid}
 
 -- ---- keys

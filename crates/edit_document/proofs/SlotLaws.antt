@@ -13,11 +13,11 @@ use Rattle.edit_syntax.proofs.PutBefore.{Behind, behind_one, gap_before, pair_be
 use Rattle.edit_syntax.proofs.ValueEdges.{value_rest}
 use Rattle.edit_syntax.proofs.GapLaws.{opens_gap}
 use Rattle.edit_syntax.proofs.MembersReadAgain.{starts_value, value_starts, key_first}
-use Rattle.edit_document.specs.RemovedBytes.{Left, with_it, without_it, without_blanks, without_member, behind_comma}
-use Rattle.edit_document.specs.Slots.{Slot, of_value, of_pair, slot, IsSlot, Slots, no_slots, last_slot, more_slots, slots, AreSlots, closing, of_elements, of_members, goes, slots_left}
-use Rattle.edit_document.specs.Assertions.{Place}
+use Rattle.edit_tree.specs.RemovedBytes.{Left, with_it, without_it, without_blanks, without_member, behind_comma}
+use Rattle.edit_tree.specs.Slots.{Slot, of_value, of_pair, slot, IsSlot, Slots, no_slots, last_slot, more_slots, slots, AreSlots, closing, of_elements, of_members, goes, slots_left}
+use Rattle.edit_tree.specs.Assertions.{Place}
 use Rattle.edit_document.specs.Remainders.{before_end}
-use Rattle.edit_document.proofs.Ends.{take_length}
+use Rattle.edit_tree.proofs.Ends.{take_length}
 
 -- ---- texts
 

@@ -6,19 +6,19 @@ use Rattle.edit_base.specs.Errors.{IsMemory}
 use Rattle.edit_base.specs.declared.errors.Error.{Error}
 use Rattle.edit_syntax.specs.declared.read.marks.Mark.{Mark}
 use Rattle.edit_document.specs.declared.place.Step.{Step as WrittenStep}
-use Rattle.edit_document.specs.Assertions.{key as name_step, same_step}
-use Rattle.edit_document.specs.EditBytes.{is_within}
+use Rattle.edit_tree.specs.Assertions.{key as name_step, same_step}
+use Rattle.edit_tree.specs.EditBytes.{is_within}
 use Rattle.edit_document.specs.Items.{place_seen, step_seen}
-use Rattle.edit_document.specs.WalkState.{SaysAt}
+use Rattle.edit_tree.specs.WalkState.{SaysAt}
 use Rattle.edit_syntax.specs.Characters.{equals}
 use Rattle.edit_syntax.specs.Strings.{Key, key}
 use Rattle.edit_syntax.specs.Grammar.{Between, gap, Value, value}
 use Rattle.edit_syntax.specs.Marks.{key_marks}
 use Rattle.edit_syntax.specs.Steps.{IsItem, IsNaming}
 use Rattle.edit_syntax.proofs.MembersReadAgain.{value_first}
-use Rattle.edit_document.specs.Assertions.{names}
-use Rattle.edit_document.specs.Slots.{Slot, of_value, of_pair}
-use Rattle.edit_document.specs.SlotTexts.{AreSaid, Ends, StandsAt}
+use Rattle.edit_tree.specs.Assertions.{names}
+use Rattle.edit_tree.specs.Slots.{Slot, of_value, of_pair}
+use Rattle.edit_tree.specs.SlotTexts.{AreSaid, Ends, StandsAt}
 use Rattle.edit_document.proofs.SlotKeys.{key_said}
 
 -- an element

@@ -5,13 +5,13 @@ use Rattle.edit_syntax.specs.Grammar.{Between, gap, IsGap}
 use Rattle.edit_syntax.specs.Reading.{first, past_gap, past_blanks}
 use Rattle.edit_syntax.proofs.StepLaws.{item_gapless}
 use Rattle.edit_syntax.proofs.GapLaws.{past_gap_again, gap_longer}
-use Rattle.edit_document.specs.RemovedBytes.{Left, without_blanks}
-use Rattle.edit_document.specs.Slots.{Slot, slot, IsSlot, Slots, no_slots, last_slot, more_slots, slots, AreSlots, closing, opening, goes, slots_left, IsEnclosed}
-use Rattle.edit_document.specs.SlotTexts.{Ends, StandsAt}
-use Rattle.edit_document.specs.Assertions.{Place}
+use Rattle.edit_tree.specs.RemovedBytes.{Left, without_blanks}
+use Rattle.edit_tree.specs.Slots.{Slot, slot, IsSlot, Slots, no_slots, last_slot, more_slots, slots, AreSlots, closing, opening, goes, slots_left, IsEnclosed}
+use Rattle.edit_tree.specs.SlotTexts.{Ends, StandsAt}
+use Rattle.edit_tree.specs.Assertions.{Place}
 use Rattle.edit_document.specs.Remainders.{before_end, Leaves, Keeps}
 use Rattle.edit_document.specs.declared.inside.Remainder.{Remainder}
-use Rattle.edit_document.proofs.Ends.{ends_past, ends_one, ends_gap}
+use Rattle.edit_tree.proofs.Ends.{ends_past, ends_one, ends_gap}
 use Rattle.edit_document.proofs.SlotLaws.{gap_rest, slot_rest, before_is, slots_gapless, trimmed, trimmed_gap, past_blanks_is, left_begins}
 use Rattle.edit_document.proofs.SlotEnds.{AtSlots, grouped, last_total, left_total, kept_rest, closing_ends, closing_no_comma, slot_longer, blankless, closing_self}
 

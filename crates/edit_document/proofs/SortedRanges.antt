@@ -3,19 +3,19 @@ use Rattle.std.proofs.Common.{◌≡◌, ℕ, ◌<◌, ◌≤◌, cond, List, []
 use Rattle.std.specs.Str.{IsUtf8}
 use Rattle.std.specs.List.{AllByRecursion, filter_map, cons_option}
 use Rattle.edit_syntax.specs.Grammar.{value, Text, text, IsValue, AreLines}
-use Rattle.edit_document.specs.Assertions.{Place, same_place, assertions, NoClash}
-use Rattle.edit_document.specs.Written.{Valued, values, start_of, end_of}
-use Rattle.edit_document.specs.Literals.{literal_of}
-use Rattle.edit_document.specs.Replaces.{Edits, new_text, replaced, edited}
+use Rattle.edit_tree.specs.Assertions.{Place, same_place, assertions, NoClash}
+use Rattle.edit_tree.specs.Written.{Valued, values, start_of, end_of}
+use Rattle.edit_tree.specs.Literals.{literal_of}
+use Rattle.edit_tree.specs.Replaces.{Edits, new_text, replaced, edited}
 use Rattle.edit_document.specs.Splices.{Range, spliced, AreInOrder, ranges_of, IsRangeFor}
 use Rattle.edit_syntax.proofs.Members.{Among, contained_among, among_all, among_map, map_among, among_filter, filter_among}
 use Rattle.edit_syntax.proofs.ValueEdges.{IsEnclosed, value_enclosed}
-use Rattle.edit_document.proofs.FineValues.{values_fine}
-use Rattle.edit_document.proofs.UniqueValues.{values_unique}
-use Rattle.edit_document.proofs.SwappedTexts.{NoneBelow, replaced_swaps, edit_of}
+use Rattle.edit_tree.proofs.FineValues.{values_fine}
+use Rattle.edit_tree.proofs.UniqueValues.{values_unique}
+use Rattle.edit_tree.proofs.SwappedTexts.{NoneBelow, replaced_swaps, edit_of}
 use Rattle.edit_document.proofs.SplicedTexts.{AreEnclosed, Rises, swaps_spliced, swaps_in_order, swaps_rise}
 use Rattle.edit_syntax.proofs.Cases.{by_test}
-use Rattle.edit_document.proofs.SamePlace.{same_place_is}
+use Rattle.edit_tree.proofs.SamePlace.{same_place_is}
 
 -- ---- two lists that rise and have the same members
 

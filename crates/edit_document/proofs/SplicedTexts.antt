@@ -7,9 +7,9 @@ use Rattle.std.specs.Prelude.{slice_range}
 use Rattle.std.specs.Str.{IsCharBoundary, IsUtf8}
 use Rattle.std.specs.List.{AllByRecursion}
 use Rattle.edit_syntax.specs.Grammar.{value}
-use Rattle.edit_document.specs.Literals.{literal_of, literal_bytes}
-use Rattle.edit_document.specs.Written.{Valued, start_of}
-use Rattle.edit_document.specs.Replaces.{Swaps, rest, next}
+use Rattle.edit_tree.specs.Literals.{literal_of, literal_bytes}
+use Rattle.edit_tree.specs.Written.{Valued, start_of}
+use Rattle.edit_tree.specs.Replaces.{Swaps, rest, next}
 use Rattle.edit_document.specs.Splices.{Range, spliced, AreInOrder, ranges_of}
 use Rattle.edit_syntax.proofs.ValueEdges.{value_rest, IsEnclosed}
 

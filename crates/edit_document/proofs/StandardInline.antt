@@ -3,10 +3,10 @@
 -- the last pair. What is a document shows what stands at a place of it.
 use Rattle.std.proofs.Common.{[], ◌∷◌, refl}
 use Rattle.std.specs.Prelude.{codes}
-use Rattle.edit_document.specs.Assertions.{key, index}
-use Rattle.edit_document.specs.Tree.{string, whole, inline_table}
+use Rattle.edit_tree.specs.Assertions.{key, index}
+use Rattle.edit_tree.specs.Tree.{string, whole, inline_table}
 use Rattle.edit_document.proofs.FromReader.{Shows, IsNone, shows, is_none}
-use Rattle.edit_document.proofs.OnTexts.{on_texts}
+use Rattle.edit_tree.proofs.OnTexts.{on_texts}
 
 -- "Inline Table": over several lines
 pub inline_over_lines : Shows

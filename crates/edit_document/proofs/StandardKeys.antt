@@ -1,10 +1,10 @@
 -- Examples of TOML 1.0.0: comments, keys and strings. What is a document shows what stands at a place of it.
 use Rattle.std.proofs.Common.{[], ◌∷◌, ◌++◌, true, refl}
 use Rattle.std.specs.Prelude.{codes}
-use Rattle.edit_document.specs.Assertions.{key}
-use Rattle.edit_document.specs.Tree.{string, truth, table}
+use Rattle.edit_tree.specs.Assertions.{key}
+use Rattle.edit_tree.specs.Tree.{string, truth, table}
 use Rattle.edit_document.proofs.FromReader.{Shows, IsNone, shows, is_none}
-use Rattle.edit_document.proofs.OnTexts.{on_texts}
+use Rattle.edit_tree.proofs.OnTexts.{on_texts}
 
 -- "Comment"
 pub comment : Shows (codes "# This is a full-line comment\nkey = \"value\"  # This is a comment at the end of a line\nanother = \"# This is not a comment\"")

@@ -2,10 +2,10 @@
 -- a place of it.
 use Rattle.std.proofs.Common.{[], ◌∷◌, ◌++◌, true, refl}
 use Rattle.std.specs.Prelude.{codes}
-use Rattle.edit_document.specs.Assertions.{key, index}
-use Rattle.edit_document.specs.Tree.{string, truth, whole, table_array, inline_table, table}
+use Rattle.edit_tree.specs.Assertions.{key, index}
+use Rattle.edit_tree.specs.Tree.{string, truth, whole, table_array, inline_table, table}
 use Rattle.edit_document.proofs.FromReader.{Shows, IsNone, shows, is_none}
-use Rattle.edit_document.proofs.OnTexts.{on_texts}
+use Rattle.edit_tree.proofs.OnTexts.{on_texts}
 
 -- "Table": an empty one
 pub empty_table : Shows (codes "[table]") (key (codes "table") ∷ []) (table [])

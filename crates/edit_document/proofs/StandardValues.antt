@@ -2,10 +2,10 @@
 -- place of it.
 use Rattle.std.proofs.Common.{[], ◌∷◌, false, refl}
 use Rattle.std.specs.Prelude.{codes}
-use Rattle.edit_document.specs.Assertions.{key, index}
-use Rattle.edit_document.specs.Tree.{string, truth, whole, fractional, moment, static_array}
+use Rattle.edit_tree.specs.Assertions.{key, index}
+use Rattle.edit_tree.specs.Tree.{string, truth, whole, fractional, moment, static_array}
 use Rattle.edit_document.proofs.FromReader.{Shows, IsNone, shows, is_none}
-use Rattle.edit_document.proofs.OnTexts.{on_texts}
+use Rattle.edit_tree.proofs.OnTexts.{on_texts}
 
 -- "Integer"
 pub integers : Shows (codes "int1 = +99\nint2 = 42\nint3 = 0\nint4 = -17")

@@ -14,13 +14,13 @@ use Rattle.edit_syntax.specs.FirstLine.{after_first, first_marks}
 use Rattle.edit_document.specs.declared.locate.Entry.{Entry}
 use Rattle.edit_document.specs.declared.locate.Spots.{Spots}
 use Rattle.edit_document.specs.declared.locate.Standing.{Standing}
-use Rattle.edit_document.specs.Assertions.{Place, Assertion, of_statement, prefix_after}
-use Rattle.edit_document.specs.Statements.{Stated, stated_in, stated, parts}
+use Rattle.edit_tree.specs.Assertions.{Place, Assertion, of_statement, prefix_after}
+use Rattle.edit_tree.specs.Statements.{Stated, stated_in, stated, parts}
 use Rattle.edit_document.specs.Entries.{begins_part, head_of, first_from, AreParts, entry_of}
 use Rattle.edit_document.specs.Standings.{StandsTo, HeadIs, IsTaken}
-use Rattle.edit_document.proofs.Ends.{Ends, ends_past, ends_one, ends_line, ends_line_end}
+use Rattle.edit_tree.proofs.Ends.{Ends, ends_past, ends_one, ends_line, ends_line_end}
 use Rattle.edit_document.proofs.KeyWays.{kind_part, key_are}
-use Rattle.edit_document.specs.Supported.{IsManifest}
+use Rattle.edit_tree.specs.Supported.{IsManifest}
 use Rattle.edit_syntax.specs.Reading.{past_mark}
 use Rattle.edit_syntax.proofs.TextLaws.{lines_only}
 use Rattle.edit_document.proofs.Documents.{read_of, ends_all, shallow}

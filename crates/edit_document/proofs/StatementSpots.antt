@@ -9,13 +9,13 @@ use Rattle.edit_syntax.specs.Strings.{LineEnd, lf, crlf, line_end, bare, basic_p
 use Rattle.edit_syntax.specs.Grammar.{value, Statement, pair, header, element_header, statement, IsStatement, comment, Line, empty_line, full_line, line, IsLine, Lines, one_line, more_lines, lines, AreLines, Text}
 use Rattle.edit_syntax.proofs.ListElements.{get_seam}
 use Rattle.edit_syntax.proofs.Members.{Among}
-use Rattle.edit_document.specs.Assertions.{Place, key as name_step, at, same_place, Assertion, of_statement, prefix_after}
+use Rattle.edit_tree.specs.Assertions.{Place, key as name_step, at, same_place, Assertion, of_statement, prefix_after}
 use Rattle.edit_document.specs.Entries.{begins_in, leads_to}
 use Rattle.edit_document.specs.Spots.{IsSpot, IsFront, HasSpots}
-use Rattle.edit_document.specs.Statements.{Stated, stated_line, stated_in, stated, dotted_parts, parts, front_parts, behind_part}
-use Rattle.edit_document.specs.Supported.{IsManifest}
+use Rattle.edit_tree.specs.Statements.{Stated, stated_line, stated_in, stated, dotted_parts, parts, front_parts, behind_part}
+use Rattle.edit_tree.specs.Supported.{IsManifest}
 use Rattle.edit_document.proofs.Documents.{read_of, ends_all}
-use Rattle.edit_document.proofs.Ends.{Ends, bare_small, ends_past, ends_one, ends_part, ends_line, ends_line_end}
+use Rattle.edit_tree.proofs.Ends.{Ends, bare_small, ends_past, ends_one, ends_part, ends_line, ends_line_end}
 use Rattle.edit_document.proofs.SpotTexts.{end_spot}
 
 -- ---- where a text may be cut

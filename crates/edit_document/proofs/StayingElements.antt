@@ -4,14 +4,14 @@ use Rattle.std.proofs.lemmas.Bool.{and_parts, cases_lt}
 use Rattle.std.proofs.lemmas.List.Elements.{filter-append}
 use Rattle.edit_syntax.proofs.Cases.{by_test}
 use Rattle.edit_syntax.specs.Grammar.{Statement, pair, header, element_header, empty_line, full_line, Lines, one_line, more_lines, Text}
-use Rattle.edit_document.specs.Assertions.{Place, index, at, same_step, header_kind, array_kind, element_kind, Assertion, asserts, names, named, of_key, of_value, is_array_at, elements_at, fronts, header_place, of_statement, prefix_after, of_lines, assertions}
-use Rattle.edit_document.specs.EditBytes.{is_within}
-use Rattle.edit_document.specs.Meant.{staying}
-use Rattle.edit_document.proofs.ArrayCounts.{ArePlain, plain_both, plain_key, plain_value, plain_fronts}
-use Rattle.edit_document.proofs.AssertedWays.{elements_append, elements_plain}
+use Rattle.edit_tree.specs.Assertions.{Place, index, at, same_step, header_kind, array_kind, element_kind, Assertion, asserts, names, named, of_key, of_value, is_array_at, elements_at, fronts, header_place, of_statement, prefix_after, of_lines, assertions}
+use Rattle.edit_tree.specs.EditBytes.{is_within}
+use Rattle.edit_tree.specs.Meant.{staying}
+use Rattle.edit_tree.proofs.ArrayCounts.{ArePlain, plain_both, plain_key, plain_value, plain_fronts}
+use Rattle.edit_tree.proofs.AssertedWays.{elements_append, elements_plain}
 use Rattle.edit_document.proofs.Besides.{within_back}
-use Rattle.edit_document.proofs.HeadedPlaces.{inside_self}
-use Rattle.edit_document.proofs.SamePlace.{place_or, same_place_self, other_place, same_step_is}
+use Rattle.edit_tree.proofs.HeadedPlaces.{inside_self}
+use Rattle.edit_tree.proofs.SamePlace.{place_or, same_place_self, other_place, same_step_is}
 
 -- fewer stay than were asserted
 fewer_elements : (gone : Place) (xs : List Assertion) (p : Place)

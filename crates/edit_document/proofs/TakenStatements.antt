@@ -9,9 +9,9 @@ use Rattle.edit_document.specs.declared.way.Way.TheVariants.{On, Below, Off}
 use Rattle.edit_document.specs.declared.locate.Entry.{Entry}
 use Rattle.edit_document.specs.declared.locate.Spots.{Spots}
 use Rattle.edit_document.specs.declared.locate.Standing.{Standing}
-use Rattle.edit_document.specs.Assertions.{Place, index, at, names, named, Assertion, elements_at, resolved, header_place, of_statement, prefix_after}
-use Rattle.edit_document.specs.Statements.{Stated}
-use Rattle.edit_document.specs.EditBytes.{as_it_is, is_pair}
+use Rattle.edit_tree.specs.Assertions.{Place, index, at, names, named, Assertion, elements_at, resolved, header_place, of_statement, prefix_after}
+use Rattle.edit_tree.specs.Statements.{Stated}
+use Rattle.edit_tree.specs.EditBytes.{as_it_is, is_pair}
 use Rattle.edit_document.specs.Entries.{way, next_way, is_at, has_come, count_on, counted, Counts, key_of, entry_of}
 use Rattle.edit_document.specs.Standings.{StandsTo, IsTaken, is_table_header, is_element_header}
 use Rattle.edit_document.proofs.Ways.{way_at, way_root, within_is, same_is, on_front, follows_itself, follows_counts}

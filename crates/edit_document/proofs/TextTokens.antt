@@ -9,11 +9,11 @@ use Rattle.edit_syntax.specs.Strings.{◌·◌, line_end, Piece, pieces, says, I
 use Rattle.edit_syntax.specs.Strings as strings
 use Rattle.edit_syntax.specs.Grammar.{gap, Value, basic, literal, multi_basic, multi_literal, boolean, integer, float, datetime, array, inline, value, IsValue, Elements, no_elements, last_element, element, elements, AreElements, Members, no_members, last_member, member, members, AreMembers, Statement, pair, header, element_header, statement, IsStatement, comment, empty_line, full_line, Lines, one_line, more_lines, lines, AreLines, Text}
 use Rattle.edit_syntax.specs.Marks.{mark, part_mark, dotted_marks, key_marks, value_marks, elements_marks, members_marks, statement_marks, lines_marks, text_marks}
-use Rattle.edit_document.specs.Walk.{said}
-use Rattle.edit_document.specs.WalkState.{IsToken}
+use Rattle.edit_tree.specs.Walk.{said}
+use Rattle.edit_tree.specs.WalkState.{IsToken}
 use Rattle.edit_syntax.proofs.PutBefore.{pieces_rest}
-use Rattle.edit_document.proofs.Ends.{Ends, ends_past, ends_one, ends_part, ends_pair, ends_gap, ends_value, ends_line, ends_line_end}
-use Rattle.edit_document.proofs.WalkedTokens.{said_basic, said_literal, said_part}
+use Rattle.edit_tree.proofs.Ends.{Ends, ends_past, ends_one, ends_part, ends_pair, ends_gap, ends_value, ends_line, ends_line_end}
+use Rattle.edit_tree.proofs.WalkedTokens.{said_basic, said_literal, said_part}
 use Rattle.edit_document.proofs.NumberTokens.{number_token}
 use Rattle.edit_document.proofs.MultiTokens.{multi_basic_token, multi_literal_token}
 

@@ -1,10 +1,10 @@
 -- What is told of the pairs that may name a place, and of the spots around one of them.
 use Rattle.std.proofs.Common.{◌≡◌, ℕ, List, ◌∷◌, length, Option, Some, None, option_map, refl, ap, ◌∙◌, inl, inr}
 use Rattle.edit_syntax.proofs.Members.{Among, among_contained, contained_among}
-use Rattle.edit_document.specs.Assertions.{Place}
-use Rattle.edit_document.specs.EditBytes.{part_to}
+use Rattle.edit_tree.specs.Assertions.{Place}
+use Rattle.edit_tree.specs.EditBytes.{part_to}
 use Rattle.edit_document.specs.EntrySpots.{IsAround, Tells}
-use Rattle.edit_document.specs.Statements.{Paired}
+use Rattle.edit_tree.specs.Statements.{Paired}
 
 pub nothing_told : (place : Place) (ps : List Paired) → ((p : Paired) → Among p ps → part_to place p ≡ None)
     → Tells place ps None

@@ -2,11 +2,11 @@
 use Rattle.std.proofs.Common.{◌≡◌, ℕ, ◌+◌, ◌<◌, [], ◌∷◌, ◌++◌, Option, Some, None, sym, ap, subst, ◌∙◌, inl, inr, arith, append-nil}
 use Rattle.std.proofs.lemmas.Bool.{cases_lt}
 use Rattle.std.proofs.lemmas.Option.{same_Some}
-use Rattle.edit_document.specs.Assertions.{Step, Place, at}
-use Rattle.edit_document.specs.Tree.{View}
-use Rattle.edit_document.specs.Shown.{Shown, tree_of}
+use Rattle.edit_tree.specs.Assertions.{Step, Place, at}
+use Rattle.edit_tree.specs.Tree.{View}
+use Rattle.edit_tree.specs.Shown.{Shown, tree_of}
 use Rattle.edit_document.specs.Items.{place_numbered, view_numbered, count_in, Numbers}
-use Rattle.edit_document.specs.Meant.{SameButOrder, same}
+use Rattle.edit_tree.specs.Meant.{SameButOrder, same}
 use Rattle.edit_document.specs.Compared.{nth_part, NumbersPart, SameButOrderBelow}
 use Rattle.edit_document.proofs.SameParts.{part_or, part_less, one_down, NothingElse, NoneBelow}
 use Rattle.edit_document.proofs.UnorderedViews.{order_free, free_none, At, Stood}

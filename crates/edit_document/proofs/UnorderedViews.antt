@@ -3,13 +3,13 @@ use Rattle.std.proofs.Common.{◌≡◌, ℕ, zero, suc, ◌<◌, ◌≤◌, Boo
 use Rattle.std.specs.Prelude.{slice_get}
 use Rattle.std.specs.List.{list_any}
 use Rattle.std.proofs.lemmas.Option.{same_Some}
-use Rattle.edit_document.specs.Assertions.{Step, key, at, same_step}
-use Rattle.edit_document.specs.Tree.{View, inline_table, table}
-use Rattle.edit_document.specs.Shown.{Shown, tree_of}
+use Rattle.edit_tree.specs.Assertions.{Step, key, at, same_step}
+use Rattle.edit_tree.specs.Tree.{View, inline_table, table}
+use Rattle.edit_tree.specs.Shown.{Shown, tree_of}
 use Rattle.edit_document.specs.Items.{place_numbered, view_numbered, names_in, key_names, count_in}
-use Rattle.edit_document.specs.Meant.{SameMembers, SameButOrder, same, tables, inline_tables}
+use Rattle.edit_tree.specs.Meant.{SameMembers, SameButOrder, same, tables, inline_tables}
 use Rattle.edit_document.specs.Compared.{kind_of, nth_part, AreSteps, AreNames, AreKeys, HasNamesOf}
-use Rattle.edit_document.proofs.SamePlace.{same_step_self, same_step_is}
+use Rattle.edit_tree.proofs.SamePlace.{same_step_self, same_step_is}
 use Rattle.edit_document.proofs.SameParts.{part_or, part_less, NothingElse}
 use Rattle.edit_document.proofs.GrownNames.{tabled}
 

@@ -4,15 +4,15 @@ use Rattle.edit_syntax.specs.Characters.{comma, right_bracket, right_brace}
 use Rattle.edit_syntax.specs.Strings.{Key, name, line_end}
 use Rattle.edit_syntax.specs.Grammar.{gap, Value, basic, literal, multi_basic, multi_literal, boolean, integer, float, datetime, array, inline, Elements, no_elements, last_element, element, elements, Members, no_members, last_member, member, members, Statement, pair, header, element_header, comment, empty_line, full_line, Lines, one_line, more_lines, lines, Text}
 use Rattle.edit_syntax.proofs.Members.{Among, among_append, among_all}
-use Rattle.edit_document.specs.Assertions.{Place, key, index, at, Kind, leaf, Assertion, asserts, names, named, of_key, of_value, of_elements, of_members, of_statement, prefix_after, of_lines, assertions, together, NoClash}
+use Rattle.edit_tree.specs.Assertions.{Place, key, index, at, Kind, leaf, Assertion, asserts, names, named, of_key, of_value, of_elements, of_members, of_statement, prefix_after, of_lines, assertions, together, NoClash}
 use Rattle.edit_document.specs.Items.{is_inline}
 use Rattle.edit_document.specs.Ranges.{is_table_value}
-use Rattle.edit_document.specs.Tree.{kind_at, view_of_kind, view_at}
-use Rattle.edit_document.proofs.NothingBelow.{rooted}
-use Rattle.edit_document.proofs.PlainValues.{HasLeaf, leaf_there}
-use Rattle.edit_document.proofs.ReplacedTree.{no_root}
-use Rattle.edit_document.proofs.ThinnedLines.{leaf_alone}
-use Rattle.edit_document.specs.Written.{Valued, valued, inside, in_elements, in_members, in_statement, in_lines, values}
+use Rattle.edit_tree.specs.Tree.{kind_at, view_of_kind, view_at}
+use Rattle.edit_tree.proofs.NothingBelow.{rooted}
+use Rattle.edit_tree.proofs.PlainValues.{HasLeaf, leaf_there}
+use Rattle.edit_tree.proofs.ReplacedTree.{no_root}
+use Rattle.edit_tree.proofs.ThinnedLines.{leaf_alone}
+use Rattle.edit_tree.specs.Written.{Valued, valued, inside, in_elements, in_members, in_statement, in_lines, values}
 
 -- ---- lists
 

@@ -1,22 +1,22 @@
 -- The span of a node tells where the value of its place is written.
 use Rattle.std.proofs.Common.{◌≡◌, ℕ, ◌-◌, ◌<◌, Bool, true, false, cond, List, [], ◌∷◌, map, length, get_or, Option, None, Some, option_map, refl, sym, ap, subst, ◌∙◌, inl, inr}
 use Rattle.std.specs.Prelude.{string_bytes}
-use Rattle.edit_document.specs.declared.nodes.Node.{Node}
+use Rattle.edit_tree.specs.declared.nodes.Node.{Node}
 use Rattle.edit_syntax.specs.declared.span.Span.{Span}
 use Rattle.edit_document.specs.declared.document.Document.TheInside.{Inside}
 use Rattle.edit_syntax.specs.Grammar.{Text, text}
-use Rattle.edit_document.specs.Assertions.{Place, same_place, Assertion, Kind, assertions}
-use Rattle.edit_document.specs.Tree.{View, table, members_of, view_of_kind, kind_at, view_in, is_value_at}
-use Rattle.edit_document.specs.Supported.{IsManifest}
-use Rattle.edit_document.specs.Shown.{Shown, tree_of}
-use Rattle.edit_document.specs.Nodes.{Holds}
+use Rattle.edit_tree.specs.Assertions.{Place, same_place, Assertion, Kind, assertions}
+use Rattle.edit_tree.specs.Tree.{View, table, members_of, view_of_kind, kind_at, view_in, is_value_at}
+use Rattle.edit_tree.specs.Supported.{IsManifest}
+use Rattle.edit_tree.specs.Shown.{Shown, tree_of}
+use Rattle.edit_tree.specs.Nodes.{Holds}
 use Rattle.edit_document.specs.DocumentLayout.{span_of, placed, span_at, shown_of, IsRead}
 use Rattle.edit_document.specs.Items.{place_numbered}
-use Rattle.edit_document.specs.Written.{Valued, values, IsWrittenAt}
-use Rattle.edit_document.proofs.SamePlace.{same_place_self, same_place_is}
+use Rattle.edit_tree.specs.Written.{Valued, values, IsWrittenAt}
+use Rattle.edit_tree.proofs.SamePlace.{same_place_self, same_place_is}
 use Rattle.edit_syntax.proofs.Members.{Among, among_contained}
-use Rattle.edit_document.proofs.UniqueValues.{value_listed}
-use Rattle.edit_document.proofs.ReplacedStrings.{told_value}
+use Rattle.edit_tree.proofs.UniqueValues.{value_listed}
+use Rattle.edit_tree.proofs.ReplacedStrings.{told_value}
 use Rattle.edit_document.proofs.ShownForms.{shown_bytes, form_same, open_spots, shows_tree}
 use Rattle.edit_document.proofs.Views.{Opened, found}
 use Rattle.edit_syntax.proofs.Cases.{by_test}

@@ -7,13 +7,13 @@ use Rattle.edit_syntax.specs.Strings.{line_end}
 use Rattle.edit_syntax.specs.Depth.{depth, elements_depth, members_depth, statement_depth, lines_depth}
 use Rattle.edit_syntax.specs.Grammar.{gap, Value, basic, literal, multi_basic, multi_literal, boolean, integer, float, datetime, array, inline, value, IsValue, Elements, no_elements, last_element, element, elements, Members, no_members, last_member, member, members, Statement, pair, header, element_header, statement, empty_line, full_line, Lines, one_line, more_lines, lines, Text}
 use Rattle.edit_syntax.proofs.Members.{Among, among_all}
-use Rattle.edit_document.specs.Assertions.{Place, index, at, names, named, Assertion, of_statement, prefix_after}
+use Rattle.edit_tree.specs.Assertions.{Place, index, at, names, named, Assertion, of_statement, prefix_after}
 use Rattle.edit_document.specs.EntrySpots.{StandsIn}
-use Rattle.edit_document.specs.Supported.{IsManifest}
-use Rattle.edit_document.specs.Written.{Valued, inside, in_elements, in_members, in_statement, in_lines, values}
+use Rattle.edit_tree.specs.Supported.{IsManifest}
+use Rattle.edit_tree.specs.Written.{Valued, inside, in_elements, in_members, in_statement, in_lines, values}
 use Rattle.edit_document.proofs.Documents.{read_of, ends_all, shallow}
-use Rattle.edit_document.proofs.FineValues.{values_fine}
-use Rattle.edit_document.proofs.Ends.{Ends, ends_past, ends_one, ends_pair, ends_gap, ends_value, ends_line, ends_line_end}
+use Rattle.edit_tree.proofs.FineValues.{values_fine}
+use Rattle.edit_tree.proofs.Ends.{Ends, ends_past, ends_one, ends_pair, ends_gap, ends_value, ends_line, ends_line_end}
 
 -- a value where it stands, at most 80 deep
 record Here (bytes : List ℕ) (w : Valued) : Type 0 where

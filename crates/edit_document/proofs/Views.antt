@@ -3,16 +3,16 @@ use Rattle.std.proofs.Common.{◌≡◌, ℕ, zero, suc, ◌<◌, Bool, true, fa
 use Rattle.std.specs.Prelude.{map, slice_get, option_map, unwrap_or, string_bytes}
 use Rattle.std.proofs.lemmas.Option.{slice_get-map, slice_get_read, same_Some}
 use Rattle.std.proofs.lemmas.List.{length-map}
-use Rattle.edit_document.specs.declared.nodes.Node.{Node}
+use Rattle.edit_tree.specs.declared.nodes.Node.{Node}
 use Rattle.edit_document.specs.declared.document.Document.TheInside.{Inside}
-use Rattle.edit_document.specs.Assertions.{Place, same_place}
-use Rattle.edit_document.specs.Tree.{View, table}
-use Rattle.edit_document.specs.Shown.{Shown, node_at, tree_of}
-use Rattle.edit_document.specs.Nodes.{Spot, Shape, names_of, view_of_shape, shown_spot, shape_of, entries_of, names_in as names_among, Keeps, Holds, IsTree}
+use Rattle.edit_tree.specs.Assertions.{Place, same_place}
+use Rattle.edit_tree.specs.Tree.{View, table}
+use Rattle.edit_tree.specs.Shown.{Shown, node_at, tree_of}
+use Rattle.edit_tree.specs.Nodes.{Spot, Shape, names_of, view_of_shape, shown_spot, shape_of, entries_of, names_in as names_among, Keeps, Holds, IsTree}
 use Rattle.edit_document.specs.DocumentLayout.{spots_of, nodes_by, shown_by, shown_of, IsRead}
 use Rattle.edit_document.specs.Items.{viewed, place_numbered, view_numbered}
-use Rattle.edit_document.proofs.SamePlace.{same_place_self, same_place_is, other_place}
-use Rattle.edit_document.proofs.SpotNodes.{spot_of_node}
+use Rattle.edit_tree.proofs.SamePlace.{same_place_self, same_place_is, other_place}
+use Rattle.edit_tree.proofs.SpotNodes.{spot_of_node}
 
 -- a document that is open: its spots, and the nodes that keep them
 pub record Opened (shown : Shown) (nodes : List Node) : Type 0 where

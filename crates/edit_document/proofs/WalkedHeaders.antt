@@ -4,25 +4,25 @@ use Rattle.std.specs.Prelude.{slice_get}
 use Rattle.std.proofs.lemmas.List.{append-nil}
 use Rattle.std.proofs.lemmas.Option.{same_Some}
 use Rattle.edit_syntax.specs.declared.read.marks.MarkKind.TheVariants as kinds
-use Rattle.edit_document.specs.declared.nodes.Taken.TheVariants.{Super, Header, Array, Element}
+use Rattle.edit_tree.specs.declared.nodes.Taken.TheVariants.{Super, Header, Array, Element}
 use Rattle.edit_syntax.specs.Strings.{name, Dotted as DottedPart, Key}
-use Rattle.edit_document.specs.Assertions.{key, index, Place, at, same_place, together, resolved, Kind, dotted, leaf, super, header_kind, array_kind, element_kind, Assertion, asserts, names, elements_at, fronts, header_place}
-use Rattle.edit_document.specs.Tree.{kind_at}
+use Rattle.edit_tree.specs.Assertions.{key, index, Place, at, same_place, together, resolved, Kind, dotted, leaf, super, header_kind, array_kind, element_kind, Assertion, asserts, names, elements_at, fronts, header_place}
+use Rattle.edit_tree.specs.Tree.{kind_at}
 use Rattle.edit_document.specs.DocumentLayout.{Placed}
 use Rattle.edit_syntax.specs.Reading.{◌>>=◌}
-use Rattle.edit_document.specs.Nodes.{section, sections, Spot, StandsAt}
-use Rattle.edit_document.specs.Walk.{State, element_added, settled_state, settled, turned, headed, element_headed, step, walked}
+use Rattle.edit_tree.specs.Nodes.{section, sections, Spot, StandsAt}
+use Rattle.edit_tree.specs.Walk.{State, element_added, settled_state, settled, turned, headed, element_headed, step, walked}
 use Rattle.edit_syntax.specs.Marks.{mark}
-use Rattle.edit_document.proofs.SamePlace.{not_root}
-use Rattle.edit_document.proofs.MoreAssertions.{first_kind, first_is, kind_stays, kind_new, IsClear, clear_front, clash_last, allowed}
-use Rattle.edit_document.proofs.MoreMembers.{is_headed, elements_below, elements_stay}
-use Rattle.edit_document.proofs.Trees.{Grows, grows_then}
+use Rattle.edit_tree.proofs.SamePlace.{not_root}
+use Rattle.edit_tree.proofs.MoreAssertions.{first_kind, first_is, kind_stays, kind_new, IsClear, clear_front, clash_last, allowed}
+use Rattle.edit_tree.proofs.MoreMembers.{is_headed, elements_below, elements_stay}
+use Rattle.edit_tree.proofs.Trees.{Grows, grows_then}
 use Rattle.edit_document.proofs.AssertedSpots.{Stands}
 use Rattle.edit_document.proofs.MemberAssertions.{Makes, makes, fails, element_makes}
 use Rattle.edit_document.proofs.KeyPlaces.{header_lands}
-use Rattle.edit_document.proofs.ArrayCounts.{IsEven, arrays_alone}
-use Rattle.edit_document.proofs.Walks.{walked_one}
-use Rattle.edit_document.proofs.WalkedTokens.{waits}
+use Rattle.edit_tree.proofs.ArrayCounts.{IsEven, arrays_alone}
+use Rattle.edit_tree.proofs.Walks.{walked_one}
+use Rattle.edit_tree.proofs.WalkedTokens.{waits}
 use Rattle.edit_document.proofs.KeyWalks.{Leads, leads, stops, Enters, enters, bars, settled_enters}
 use Rattle.std.proofs.lemmas.Bool.{and_parts}
 

@@ -6,27 +6,27 @@ use Rattle.std.proofs.lemmas.List.{append-nil}
 use Rattle.edit_syntax.specs.declared.read.marks.Mark.{Mark}
 use Rattle.edit_syntax.specs.declared.read.marks.MarkKind.TheVariants as kinds
 use Rattle.edit_syntax.specs.declared.span.Span.{Span}
-use Rattle.edit_document.specs.declared.nodes.Taken.TheVariants.{Dotted}
+use Rattle.edit_tree.specs.declared.nodes.Taken.TheVariants.{Dotted}
 use Rattle.edit_syntax.specs.Characters.{quote}
 use Rattle.edit_syntax.specs.Strings.{Piece, says, basic_text, literal_text}
 use Rattle.edit_syntax.specs.Grammar.{Value, basic, literal, boolean, value, IsValue}
-use Rattle.edit_document.specs.Assertions.{index, Place, at, Assertion, of_value}
-use Rattle.edit_document.specs.Tree.{string, truth, kind_at}
-use Rattle.edit_document.specs.Written.{Valued, valued, inside}
+use Rattle.edit_tree.specs.Assertions.{index, Place, at, Assertion, of_value}
+use Rattle.edit_tree.specs.Tree.{string, truth, kind_at}
+use Rattle.edit_tree.specs.Written.{Valued, valued, inside}
 use Rattle.edit_document.specs.DocumentLayout.{shape_of_value, span_of, Placed, placed, span_at}
 use Rattle.edit_syntax.specs.Reading.{◌>>=◌}
-use Rattle.edit_document.specs.Nodes.{Shape, scalar, Spot, StandsAt}
-use Rattle.edit_document.specs.Nodes as shapes
-use Rattle.edit_document.specs.Walk.{State, said, settled_state, is_dotted_within, entered_at, entered, opened, closed, step, walked}
+use Rattle.edit_tree.specs.Nodes.{Shape, scalar, Spot, StandsAt}
+use Rattle.edit_tree.specs.Nodes as shapes
+use Rattle.edit_tree.specs.Walk.{State, said, settled_state, is_dotted_within, entered_at, entered, opened, closed, step, walked}
 use Rattle.edit_syntax.specs.Marks.{mark}
-use Rattle.edit_document.proofs.Ends.{Ends}
-use Rattle.edit_document.proofs.MoreAssertions.{IsClear, clear_front}
-use Rattle.edit_document.proofs.Trees.{Grows, grows_then}
+use Rattle.edit_tree.proofs.Ends.{Ends}
+use Rattle.edit_tree.proofs.MoreAssertions.{IsClear, clear_front}
+use Rattle.edit_tree.proofs.Trees.{Grows, grows_then}
 use Rattle.edit_document.proofs.AssertedSpots.{Stands, nothing_under}
-use Rattle.edit_document.proofs.PlainValues.{HasLeaf}
-use Rattle.edit_document.proofs.Parts.{kind_append}
-use Rattle.edit_document.proofs.Walks.{walked_one, walked_first, walked_stops, walked_append}
-use Rattle.edit_document.proofs.WalkedTokens.{said_basic, said_literal}
+use Rattle.edit_tree.proofs.PlainValues.{HasLeaf}
+use Rattle.edit_tree.proofs.Parts.{kind_append}
+use Rattle.edit_tree.proofs.Walks.{walked_one, walked_first, walked_stops, walked_append}
+use Rattle.edit_tree.proofs.WalkedTokens.{said_basic, said_literal}
 use Rattle.edit_document.proofs.KeyWalks.{Leads, leads, stops, leads_along, Enters, enters, bars}
 use Rattle.edit_document.proofs.KeySpans.{closed_leads}
 

@@ -8,19 +8,19 @@ use Rattle.edit_syntax.specs.Characters.{equals, left_bracket, right_bracket}
 use Rattle.edit_syntax.specs.Strings.{◌·◌, LineEnd, line_end, name, Dotted as DottedPart, Key}
 use Rattle.edit_syntax.specs.Strings as strings
 use Rattle.edit_syntax.specs.Grammar.{value, Statement, pair, header, element_header, statement, IsStatement, comment, empty_line, full_line, Lines, one_line, more_lines, lines, AreLines, Text}
-use Rattle.edit_document.specs.Assertions.{Place, Assertion, names, prefix_after, of_statement, of_lines, assertions}
-use Rattle.edit_document.specs.Written.{in_statement, in_lines, values}
+use Rattle.edit_tree.specs.Assertions.{Place, Assertion, names, prefix_after, of_statement, of_lines, assertions}
+use Rattle.edit_tree.specs.Written.{in_statement, in_lines, values}
 use Rattle.edit_document.specs.DocumentLayout.{Placed, placed}
 use Rattle.edit_syntax.specs.Reading.{◌>>=◌}
-use Rattle.edit_document.specs.Nodes.{Spot, StandsAt}
-use Rattle.edit_document.specs.Walk.{State, settled_state, start, walked}
+use Rattle.edit_tree.specs.Nodes.{Spot, StandsAt}
+use Rattle.edit_tree.specs.Walk.{State, settled_state, start, walked}
 use Rattle.edit_syntax.specs.Marks.{mark, value_marks, statement_marks, lines_marks, text_marks}
-use Rattle.edit_document.proofs.Ends.{Ends, ends_past, ends_one, ends_pair, ends_line, ends_line_end}
-use Rattle.edit_document.proofs.MoreAssertions.{IsClear, clear_front}
+use Rattle.edit_tree.proofs.Ends.{Ends, ends_past, ends_one, ends_pair, ends_line, ends_line_end}
+use Rattle.edit_tree.proofs.MoreAssertions.{IsClear, clear_front}
 use Rattle.edit_document.proofs.AssertedSpots.{Stands, stands_start}
-use Rattle.edit_document.proofs.ArrayCounts.{IsEven, even_statement}
-use Rattle.edit_document.proofs.Walks.{walked_none, walked_append}
-use Rattle.edit_document.proofs.WalkedTokens.{waits, walked_key}
+use Rattle.edit_tree.proofs.ArrayCounts.{IsEven, even_statement}
+use Rattle.edit_tree.proofs.Walks.{walked_none, walked_append}
+use Rattle.edit_tree.proofs.WalkedTokens.{waits, walked_key}
 use Rattle.edit_document.proofs.WalkedValues.{value_leads}
 use Rattle.edit_document.proofs.BeforeValues.{pair_before, pair_is_before}
 use Rattle.edit_document.proofs.WalkedHolders.{spans}

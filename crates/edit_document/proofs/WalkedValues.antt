@@ -4,22 +4,22 @@ use Rattle.std.specs.Prelude.{IsUtf8}
 use Rattle.std.proofs.lemmas.List.{append-nil, map-append}
 use Rattle.edit_syntax.specs.declared.read.marks.MarkKind.TheVariants as kinds
 use Rattle.edit_syntax.specs.declared.span.Span.{Span}
-use Rattle.edit_document.specs.declared.nodes.Taken.TheVariants.{Dotted}
+use Rattle.edit_tree.specs.declared.nodes.Taken.TheVariants.{Dotted}
 use Rattle.edit_syntax.specs.Characters.{comma, equals, right_bracket, right_brace}
 use Rattle.edit_syntax.specs.Strings.{name, basic_text, literal_text, Dotted as DottedPart, Key}
 use Rattle.edit_syntax.specs.Grammar.{gap, Value, basic, literal, multi_basic, multi_literal, boolean, integer, float, datetime, array, inline, Elements, no_elements, last_element, element, Members, no_members, last_member, member, value, elements, members, IsValue, AreElements, AreMembers}
-use Rattle.edit_document.specs.Assertions.{index, Place, at, leaf, Assertion, asserts, names, named, of_key, of_value, of_elements, of_members}
-use Rattle.edit_document.specs.Tree.{count_elements}
-use Rattle.edit_document.specs.Written.{valued, inside, in_elements, in_members}
+use Rattle.edit_tree.specs.Assertions.{index, Place, at, leaf, Assertion, asserts, names, named, of_key, of_value, of_elements, of_members}
+use Rattle.edit_tree.specs.Tree.{count_elements}
+use Rattle.edit_tree.specs.Written.{valued, inside, in_elements, in_members}
 use Rattle.edit_document.specs.DocumentLayout.{Placed, placed}
-use Rattle.edit_document.specs.Nodes.{Spot, StandsAt}
-use Rattle.edit_document.specs.Walk.{settled_state, is_dotted_within, walked}
+use Rattle.edit_tree.specs.Nodes.{Spot, StandsAt}
+use Rattle.edit_tree.specs.Walk.{settled_state, is_dotted_within, walked}
 use Rattle.edit_syntax.specs.Marks.{mark, key_marks, value_marks, elements_marks, members_marks}
-use Rattle.edit_document.proofs.Ends.{Ends, ends_one, ends_pair, ends_gap, ends_value}
-use Rattle.edit_document.proofs.Trees.{grows_same}
+use Rattle.edit_tree.proofs.Ends.{Ends, ends_one, ends_pair, ends_gap, ends_value}
+use Rattle.edit_tree.proofs.Trees.{grows_same}
 use Rattle.edit_document.proofs.AssertedSpots.{Stands}
-use Rattle.edit_document.proofs.Walks.{walked_none}
-use Rattle.edit_document.proofs.WalkedTokens.{walked_key}
+use Rattle.edit_tree.proofs.Walks.{walked_none}
+use Rattle.edit_tree.proofs.WalkedTokens.{walked_key}
 use Rattle.edit_document.proofs.NumberTokens.{number_step}
 use Rattle.edit_document.proofs.MultiTokens.{multi_basic_step, multi_literal_step}
 use Rattle.edit_document.proofs.KeyWalks.{Leads, leads, leads_along, leads_then}

@@ -7,10 +7,10 @@ use Rattle.edit_syntax.specs.Strings.{Key}
 use Rattle.edit_syntax.specs.Grammar.{Value, pair, header, element_header}
 use Rattle.edit_document.specs.declared.way.Way.{Way}
 use Rattle.edit_document.specs.declared.way.Way.TheVariants.{On, Below, Off}
-use Rattle.edit_document.specs.Assertions.{index, Place, at, header_kind, array_kind, element_kind, Assertion, asserts, names, named, of_key, of_value, is_array_at, elements_at, fronts, header_place, of_statement}
+use Rattle.edit_tree.specs.Assertions.{index, Place, at, header_kind, array_kind, element_kind, Assertion, asserts, names, named, of_key, of_value, is_array_at, elements_at, fronts, header_place, of_statement}
 use Rattle.edit_document.specs.Entries.{way_on, way, counted, Counts}
-use Rattle.edit_document.proofs.SamePlace.{same_step_self, same_place_self, other_place}
-use Rattle.edit_document.proofs.ArrayCounts.{ArePlain, plain_both, plain_key, plain_value, plain_fronts, plain_array, arrays_more, arrays_stay}
+use Rattle.edit_tree.proofs.SamePlace.{same_step_self, same_place_self, other_place}
+use Rattle.edit_tree.proofs.ArrayCounts.{ArePlain, plain_both, plain_key, plain_value, plain_fronts, plain_array, arrays_more, arrays_stay}
 use Rattle.edit_document.proofs.Ways.{on_front}
 
 -- ---- assertions more

@@ -7,12 +7,12 @@ use Rattle.std.proofs.lemmas.List.{length-map}
 use Rattle.edit_document.specs.declared.place.Step.{Step as WrittenStep}
 use Rattle.edit_document.specs.declared.place.Step.TheVariants.{Key, Index}
 use Rattle.edit_document.specs.Items.{step_seen, place_seen}
-use Rattle.edit_document.specs.Assertions.{Step, key, index, Place, at, same_step, same_place, Assertion, elements_at, resolved}
-use Rattle.edit_document.specs.EditBytes.{is_within, as_it_is}
+use Rattle.edit_tree.specs.Assertions.{Step, key, index, Place, at, same_step, same_place, Assertion, elements_at, resolved}
+use Rattle.edit_tree.specs.EditBytes.{is_within, as_it_is}
 use Rattle.edit_document.specs.declared.way.Way.{Way}
 use Rattle.edit_document.specs.declared.way.Way.TheVariants.{On, Below, Off}
 use Rattle.edit_document.specs.Entries.{way_on, way, gone_on, next_way, is_at, has_come, count_on, resolved_way, Counts, Follows}
-use Rattle.edit_document.proofs.SamePlace.{same_step_is, same_step_self}
+use Rattle.edit_tree.proofs.SamePlace.{same_step_is, same_step_self}
 
 -- ---- one step more
 

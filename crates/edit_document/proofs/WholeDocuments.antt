@@ -4,22 +4,22 @@ use Rattle.std.specs.Prelude.{slice_get, option_map, IsUtf8, string_bytes}
 use Rattle.std.proofs.lemmas.Option.{slice_get-map, slice_get_within, same_Some}
 use Rattle.edit_document.specs.declared.document.Document.TheInside.{Inside}
 use Rattle.edit_syntax.specs.Grammar.{array, inline, basic, literal, multi_basic, multi_literal, boolean, integer, float, datetime}
-use Rattle.edit_document.specs.Assertions.{Step, key, index, Place, at, Kind, dotted, leaf, super, header_kind, array_kind, element_kind, Assertion, assertions}
-use Rattle.edit_document.specs.Tree.{View, kind_at}
-use Rattle.edit_document.specs.Written.{values}
+use Rattle.edit_tree.specs.Assertions.{Step, key, index, Place, at, Kind, dotted, leaf, super, header_kind, array_kind, element_kind, Assertion, assertions}
+use Rattle.edit_tree.specs.Tree.{View, kind_at}
+use Rattle.edit_tree.specs.Written.{values}
 use Rattle.edit_document.specs.DocumentLayout.{placed, Placed, IsRead}
-use Rattle.edit_document.specs.Nodes.{Shape, listed, inline as inlined, section, sections, Spot, names_of, view_of_shape, below, IsTree}
+use Rattle.edit_tree.specs.Nodes.{Shape, listed, inline as inlined, section, sections, Spot, names_of, view_of_shape, below, IsTree}
 use Rattle.edit_document.specs.Items.{place_numbered, view_numbered}
-use Rattle.edit_document.specs.Shown.{Shown, tree_of, node_at}
+use Rattle.edit_tree.specs.Shown.{Shown, tree_of, node_at}
 use Rattle.edit_document.specs.Compared.{nth_part, AreSteps, AreNames, AreKeys, IsWhole}
-use Rattle.edit_document.proofs.SamePlace.{not_root, last_same}
+use Rattle.edit_tree.proofs.SamePlace.{not_root, last_same}
 use Rattle.edit_syntax.proofs.ListElements.{slice_get_same}
 use Rattle.edit_document.proofs.Views.{view_of_spot, Opened, opened, Found, view_spot, tree_spot, node_none}
-use Rattle.edit_document.specs.declared.nodes.Node.{Node}
+use Rattle.edit_tree.specs.declared.nodes.Node.{Node}
 use Rattle.edit_document.specs.DocumentLayout.{shown_of}
-use Rattle.edit_document.proofs.MoreAssertions.{first_kind}
-use Rattle.edit_document.specs.Assertions.{NoClash}
-use Rattle.edit_document.proofs.Keyed.{tabular, AreUnder, under_tables, first_table, found_under}
+use Rattle.edit_tree.proofs.MoreAssertions.{first_kind}
+use Rattle.edit_tree.specs.Assertions.{NoClash}
+use Rattle.edit_tree.proofs.Keyed.{tabular, AreUnder, under_tables, first_table, found_under}
 use Rattle.edit_document.proofs.AssertedSpots.{Stands, Lists, shape_of_kind, was_asserted, short_at}
 use Rattle.edit_document.proofs.Wholes.{stands_of, name_at, element_is, keys_below, named_below, numbered_below}
 

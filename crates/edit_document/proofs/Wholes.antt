@@ -8,19 +8,19 @@ use Rattle.std.proofs.lemmas.Slice.Eq.{bytes_eq-Decides}
 use Rattle.std.proofs.lemmas.Bool.{lt-ltb, ltb-true}
 use Rattle.edit_document.specs.declared.document.Document.TheInside.{Inside}
 use Rattle.edit_syntax.specs.Grammar.{Value, Text, array, inline, basic, literal, multi_basic, multi_literal, boolean, integer, float, datetime}
-use Rattle.edit_document.specs.Assertions.{Step, key, index, Kind, dotted, leaf, super, header_kind, array_kind, element_kind, Assertion, assertions}
-use Rattle.edit_document.specs.Tree.{View}
+use Rattle.edit_tree.specs.Assertions.{Step, key, index, Kind, dotted, leaf, super, header_kind, array_kind, element_kind, Assertion, assertions}
+use Rattle.edit_tree.specs.Tree.{View}
 use Rattle.edit_syntax.specs.Reading.{◌>>=◌}
-use Rattle.edit_document.specs.Walk.{State, start, walked}
+use Rattle.edit_tree.specs.Walk.{State, start, walked}
 use Rattle.edit_syntax.specs.Marks.{text_marks}
-use Rattle.edit_document.specs.Written.{values}
+use Rattle.edit_tree.specs.Written.{values}
 use Rattle.edit_document.specs.DocumentLayout.{placed, Placed, spots_of, IsRead, shape_of_value}
-use Rattle.edit_document.specs.Nodes.{Shape, scalar, listed, inline as inlined, section, sections, Spot, names_of, view_of_shape, below}
+use Rattle.edit_tree.specs.Nodes.{Shape, scalar, listed, inline as inlined, section, sections, Spot, names_of, view_of_shape, below}
 use Rattle.edit_document.specs.Items.{names_in, key_names}
 use Rattle.edit_document.specs.Compared.{element_step, nth_part, AreNames, AreKeys}
 use Rattle.edit_document.proofs.Views.{view_of_spot}
 use Rattle.edit_document.proofs.MemberViews.{names_keys}
-use Rattle.edit_document.proofs.Shallow.{manifest_form}
+use Rattle.edit_tree.proofs.Shallow.{manifest_form}
 use Rattle.edit_document.proofs.AssertedSpots.{Stands, shape_of_kind}
 use Rattle.edit_document.proofs.WalkedLines.{Walked as Walks, ended, stuck}
 use Rattle.edit_document.proofs.Documents.{read_of, walk_of}

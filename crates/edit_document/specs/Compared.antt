@@ -1,11 +1,11 @@
 -- When two documents show the same at a place and below it.
 use Rattle.std.specs.Prelude.{Bool, ◌≡◌, ℕ, ◌<◌, ◌≤◌, true, false, nat_lt, if◌then◌else◌, List, ◌∷◌, [], ◌++◌, length, slice_get, Option, Some, None, MatchOption, ◌⊎◌, map, ⊤}
-use Rattle.edit_document.specs.Assertions.{Step, key, index, Place, at}
-use Rattle.edit_document.specs.Tree.{View, string, truth, whole, fractional, moment, static_array, table_array, inline_table, table}
-use Rattle.edit_document.specs.Shown.{Shown, tree_of}
-use Rattle.edit_document.specs.EditBytes.{is_within}
-use Rattle.edit_document.specs.NewItems.{NewValue, NewItem}
-use Rattle.edit_document.specs.Meant.{Tree, SameButOrder, new_view, view_of_members, member_view, item_view}
+use Rattle.edit_tree.specs.Assertions.{Step, key, index, Place, at}
+use Rattle.edit_tree.specs.Tree.{View, string, truth, whole, fractional, moment, static_array, table_array, inline_table, table}
+use Rattle.edit_tree.specs.Shown.{Shown, tree_of}
+use Rattle.edit_tree.specs.EditBytes.{is_within}
+use Rattle.edit_tree.specs.NewItems.{NewValue, NewItem}
+use Rattle.edit_tree.specs.Meant.{Tree, SameButOrder, new_view, view_of_members, member_view, item_view}
 use Rattle.edit_document.specs.Items.{place_numbered, view_numbered, names_in, key_names}
 
 -- the same stands at two places, and below them

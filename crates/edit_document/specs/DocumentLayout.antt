@@ -6,18 +6,18 @@ use Rattle.edit_syntax.specs.Characters.{quote, apostrophe}
 use Rattle.edit_syntax.specs.Strings.{says, says_multi}
 use Rattle.edit_syntax.specs.Numbers.{integer_text, float_text, datetime_text}
 use Rattle.edit_syntax.specs.Grammar.{Value, basic, literal, multi_basic, multi_literal, boolean, integer, float, datetime, array, inline, value, Text}
-use Rattle.edit_document.specs.Assertions.{Place, same_place}
-use Rattle.edit_document.specs.Tree.{View, string, truth, whole, fractional, moment, view_at}
-use Rattle.edit_document.specs.Supported.{IsManifest}
+use Rattle.edit_tree.specs.Assertions.{Place, same_place}
+use Rattle.edit_tree.specs.Tree.{View, string, truth, whole, fractional, moment, view_at}
+use Rattle.edit_tree.specs.Supported.{IsManifest}
 use Rattle.edit_syntax.specs.Reading.{◌>>=◌}
 use Rattle.edit_syntax.specs.Marks.{text_marks}
-use Rattle.edit_document.specs.Pieces.{pieces_of, IsRange}
-use Rattle.edit_document.specs.Shown.{Shown, node_at}
-use Rattle.edit_document.specs.Nodes.{Shape, scalar, Spot, shown_spot, Holds, IsTree}
-use Rattle.edit_document.specs.Nodes as shapes
+use Rattle.edit_tree.specs.Pieces.{pieces_of, IsRange}
+use Rattle.edit_tree.specs.Shown.{Shown, node_at}
+use Rattle.edit_tree.specs.Nodes.{Shape, scalar, Spot, shown_spot, Holds, IsTree}
+use Rattle.edit_tree.specs.Nodes as shapes
 use Rattle.edit_syntax.specs.FormOf.{form_of}
-use Rattle.edit_document.specs.Walk.{start, walked}
-use Rattle.edit_document.specs.Written.{Valued, values}
+use Rattle.edit_tree.specs.Walk.{start, walked}
+use Rattle.edit_tree.specs.Written.{Valued, values}
 
 -- what a value shows, but for its members and elements
 abbrev pub shape_of_value : Value → Shape

@@ -9,11 +9,11 @@ use Rattle.edit_document.specs.declared.locate.Entry.{Entry}
 use Rattle.edit_syntax.specs.declared.read.marks.Mark.{Mark}
 use Rattle.edit_syntax.specs.declared.read.marks.MarkKind.{MarkKind}
 use Rattle.edit_syntax.specs.declared.read.marks.MarkKind.TheVariants as kinds
-use Rattle.edit_document.specs.Assertions.{Step, key as name_step, index, Place, at, same_step, Assertion, elements_at, resolved}
-use Rattle.edit_document.specs.Statements.{Stated, Named, parts, front_parts, behind_part}
-use Rattle.edit_document.specs.EditBytes.{is_pair, is_own}
-use Rattle.edit_document.specs.RemovedBytes.{is_gone}
-use Rattle.edit_document.specs.WalkState.{SaysAt}
+use Rattle.edit_tree.specs.Assertions.{Step, key as name_step, index, Place, at, same_step, Assertion, elements_at, resolved}
+use Rattle.edit_tree.specs.Statements.{Stated, Named, parts, front_parts, behind_part}
+use Rattle.edit_tree.specs.EditBytes.{is_pair, is_own}
+use Rattle.edit_tree.specs.RemovedBytes.{is_gone}
+use Rattle.edit_tree.specs.WalkState.{SaysAt}
 
 -- ---- ways
 

@@ -6,12 +6,12 @@ use Rattle.edit_document.specs.declared.entry_part.Part.{Part}
 use Rattle.edit_document.specs.declared.entry_part.Part.TheVariants.{Whole, Member, Element, MemberElement}
 use Rattle.edit_document.specs.declared.entry_part.Said.{Said}
 use Rattle.edit_document.specs.declared.entry_part.Said.TheVariants.{Text, Truth, List as Listed, Members}
-use Rattle.edit_document.specs.Assertions.{key, index, Place}
-use Rattle.edit_document.specs.Tree.{View, string, truth, static_array}
-use Rattle.edit_document.specs.Shown.{Shown}
-use Rattle.edit_document.specs.NewItems.{NewValue, a_list, NewItem, a_value, a_table}
+use Rattle.edit_tree.specs.Assertions.{key, index, Place}
+use Rattle.edit_tree.specs.Tree.{View, string, truth, static_array}
+use Rattle.edit_tree.specs.Shown.{Shown}
+use Rattle.edit_tree.specs.NewItems.{NewValue, a_list, NewItem, a_value, a_table}
 use Rattle.edit_document.specs.NewItemViews.{value_seen, pairs_seen, item_text}
-use Rattle.edit_document.specs.Meant.{Tree, new_view, view_of_members, item_view}
+use Rattle.edit_tree.specs.Meant.{Tree, new_view, view_of_members, item_view}
 
 -- ---- an entry by itself
 

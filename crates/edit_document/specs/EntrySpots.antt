@@ -6,12 +6,12 @@ use Rattle.edit_syntax.specs.Depth.{depth}
 use Rattle.edit_syntax.specs.Grammar.{value, IsValue, Text}
 use Rattle.edit_document.specs.declared.locate.Entry.{Entry}
 use Rattle.edit_document.specs.declared.way.Way.{Way}
-use Rattle.edit_document.specs.Assertions.{Place}
-use Rattle.edit_document.specs.EditBytes.{first_of, part_to}
+use Rattle.edit_tree.specs.Assertions.{Place}
+use Rattle.edit_tree.specs.EditBytes.{first_of, part_to}
 use Rattle.edit_document.specs.Entries.{is_at, is_part}
-use Rattle.edit_document.specs.SlotTexts.{Ends}
-use Rattle.edit_document.specs.Statements.{Paired, inner_pairs}
-use Rattle.edit_document.specs.Written.{Valued}
+use Rattle.edit_tree.specs.SlotTexts.{Ends}
+use Rattle.edit_tree.specs.Statements.{Paired, inner_pairs}
+use Rattle.edit_tree.specs.Written.{Valued}
 
 -- a pair that names the place or one below it
 abbrev pub within_entry : Entry → Option Entry

@@ -2,12 +2,12 @@
 use Rattle.std.specs.Prelude.{◌≤◌, ◌<◌, ℕ, suc, List, length, take, Option, None, option_map, MatchOption}
 use Rattle.edit_syntax.specs.Grammar.{Text}
 use Rattle.edit_document.specs.declared.inner.Inner.{Inner}
-use Rattle.edit_document.specs.Assertions.{Place}
-use Rattle.edit_document.specs.EditBytes.{front_to}
+use Rattle.edit_tree.specs.Assertions.{Place}
+use Rattle.edit_tree.specs.EditBytes.{front_to}
 use Rattle.edit_document.specs.Ranges.{StartsTable, HasTable}
-use Rattle.edit_document.specs.Slots.{Slot, of_value, of_pair}
+use Rattle.edit_tree.specs.Slots.{Slot, of_value, of_pair}
 use Rattle.edit_document.specs.Spots.{IsSpot, IsFront}
-use Rattle.edit_document.specs.Statements.{Paired, paired}
+use Rattle.edit_tree.specs.Statements.{Paired, paired}
 
 -- a pair whose key goes on behind the place
 abbrev pub inner_of : Place → Paired → Option Inner

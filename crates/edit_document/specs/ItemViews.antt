@@ -7,9 +7,9 @@ use Rattle.edit_document.specs.declared.item.Source.TheVariants.{Node, Part}
 use Rattle.edit_document.specs.declared.entry_part.EntryPart.{EntryPart}
 use Rattle.edit_document.specs.EntryParts.{entry_shown, part_place}
 use Rattle.edit_document.specs.NewItemViews.{item_seen}
-use Rattle.edit_document.specs.Assertions.{Place}
-use Rattle.edit_document.specs.Tree.{View}
-use Rattle.edit_document.specs.Shown.{Shown, tree_of}
+use Rattle.edit_tree.specs.Assertions.{Place}
+use Rattle.edit_tree.specs.Tree.{View}
+use Rattle.edit_tree.specs.Shown.{Shown, tree_of}
 use Rattle.edit_document.specs.Items.{viewed, place_numbered, names_in}
 
 -- ---- parts of new entries

@@ -5,9 +5,9 @@ use Rattle.edit_document.specs.declared.place.Step.{Step as WrittenStep}
 use Rattle.edit_document.specs.declared.place.Step.TheVariants.{Key, Index}
 use Rattle.edit_document.specs.declared.document.Seen.{Seen}
 use Rattle.edit_document.specs.declared.document.Seen.TheVariants as seen
-use Rattle.edit_document.specs.Assertions.{Step, key, index, Place}
-use Rattle.edit_document.specs.Tree.{View, string, truth, whole, fractional, moment, static_array, table_array, inline_table, table}
-use Rattle.edit_document.specs.Shown.{Shown, tree_of}
+use Rattle.edit_tree.specs.Assertions.{Step, key, index, Place}
+use Rattle.edit_tree.specs.Tree.{View, string, truth, whole, fractional, moment, static_array, table_array, inline_table, table}
+use Rattle.edit_tree.specs.Shown.{Shown, tree_of}
 
 -- ---- places
 

@@ -3,13 +3,13 @@ use Rattle.std.specs.Prelude.{◌≡◌, ℕ, suc, ◌+◌, ◌-◌, ◌<◌, Bo
 use Rattle.std.specs.List.{list_any}
 use Rattle.edit_syntax.specs.Grammar.{Text}
 use Rattle.edit_document.specs.declared.place.Step.{Step as WrittenStep}
-use Rattle.edit_document.specs.Assertions.{Step, key, index, Place, at, same_step, same_place, assertions}
+use Rattle.edit_tree.specs.Assertions.{Step, key, index, Place, at, same_step, same_place, assertions}
 use Rattle.edit_document.specs.Compared.{nth_part, SameButOrderBelow, IsNumber}
-use Rattle.edit_document.specs.EditBytes.{is_within}
+use Rattle.edit_tree.specs.EditBytes.{is_within}
 use Rattle.edit_document.specs.Items.{place_seen, place_numbered, view_numbered, names_in}
-use Rattle.edit_document.specs.Meant.{Tree, staying, moved, is_member, SameButOrder}
-use Rattle.edit_document.specs.Shown.{Shown, tree_of}
-use Rattle.edit_document.specs.Tree.{View, static_array, table_array, inline_table, table, view_in}
+use Rattle.edit_tree.specs.Meant.{Tree, staying, moved, is_member, SameButOrder}
+use Rattle.edit_tree.specs.Shown.{Shown, tree_of}
+use Rattle.edit_tree.specs.Tree.{View, static_array, table_array, inline_table, table, view_in}
 
 -- ---- trees
 

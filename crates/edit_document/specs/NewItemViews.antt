@@ -6,8 +6,8 @@ use Rattle.edit_document.specs.declared.new_item.NewValue.{NewValue as WrittenVa
 use Rattle.edit_document.specs.declared.new_item.NewValue.TheVariants.{Str, Bool as Truth, Strings}
 use Rattle.edit_document.specs.declared.new_item.NewItem.{NewItem as WrittenItem}
 use Rattle.edit_document.specs.declared.new_item.NewItem.TheVariants.{Value, Inline}
-use Rattle.edit_document.specs.NewItems.{NewValue, a_string, a_truth, a_list, NewItem, a_value, a_table, item_value}
-use Rattle.edit_document.specs.Assertions.{Place}
+use Rattle.edit_tree.specs.NewItems.{NewValue, a_string, a_truth, a_list, NewItem, a_value, a_table, item_value}
+use Rattle.edit_tree.specs.Assertions.{Place}
 use Rattle.edit_syntax.specs.Grammar.{value}
 
 -- a new value of the code

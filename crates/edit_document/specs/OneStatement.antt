@@ -3,11 +3,11 @@ use Rattle.std.specs.Prelude.{◌≡◌, ℕ, true, false, List, [], ◌∷◌, 
 use Rattle.edit_syntax.specs.Grammar.{Text}
 use Rattle.edit_document.specs.declared.one_statement.Statements.{Statements}
 use Rattle.edit_document.specs.declared.one_statement.Statements.TheVariants.{One, Other, AsMember}
-use Rattle.edit_document.specs.Assertions.{at, key}
+use Rattle.edit_tree.specs.Assertions.{at, key}
 use Rattle.edit_document.specs.Compared.{IsNumber}
-use Rattle.edit_document.specs.EditBytes.{is_one_statement}
+use Rattle.edit_tree.specs.EditBytes.{is_one_statement}
 use Rattle.edit_document.specs.Items.{place_numbered, view_numbered, names_in}
-use Rattle.edit_document.specs.Shown.{Shown}
+use Rattle.edit_tree.specs.Shown.{Shown}
 
 -- the number is that of the only member of a node, or the node has none or several
 abbrev pub HasMember : Shown → ℕ → Option ℕ → Type 0

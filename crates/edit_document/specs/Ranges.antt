@@ -6,11 +6,11 @@ use Rattle.std.specs.declared.string.String.{String}
 use Rattle.std.specs.declared.alloc.Global.{Global}
 use Rattle.edit_document.specs.declared.place.Step.{Step as WrittenStep}
 use Rattle.edit_syntax.specs.Grammar.{Between, Value, inline, Members, Text, text}
-use Rattle.edit_document.specs.Assertions.{Place}
-use Rattle.edit_document.specs.Tree.{is_value_at}
+use Rattle.edit_tree.specs.Assertions.{Place}
+use Rattle.edit_tree.specs.Tree.{is_value_at}
 use Rattle.edit_document.specs.Items.{place_seen}
-use Rattle.edit_document.specs.Replaces.{Edits}
-use Rattle.edit_document.specs.Written.{Valued, values, start_of, IsWrittenAt}
+use Rattle.edit_tree.specs.Replaces.{Edits}
+use Rattle.edit_tree.specs.Written.{Valued, values, start_of, IsWrittenAt}
 
 -- from where to where the value of the place is written, or nothing where no value is
 abbrev pub HasRange : Text → Place → Option (ℕ × ℕ) → Type 0

@@ -4,10 +4,10 @@ use Rattle.std.specs.List.{Contains}
 use Rattle.edit_syntax.specs.Depth.{depth}
 use Rattle.edit_syntax.specs.Grammar.{value, IsValue, Text}
 use Rattle.edit_document.specs.declared.remove_text.Around.{Around}
-use Rattle.edit_document.specs.Assertions.{Place}
-use Rattle.edit_document.specs.RemovedBytes.{innermost}
+use Rattle.edit_tree.specs.Assertions.{Place}
+use Rattle.edit_tree.specs.RemovedBytes.{innermost}
 use Rattle.edit_document.specs.Spots.{IsSpot}
-use Rattle.edit_document.specs.Written.{Valued, values}
+use Rattle.edit_tree.specs.Written.{Valued, values}
 
 -- a value of a text, and where the code finds it: how many steps lead to it, and how many bytes follow where
 -- it begins and where it ends

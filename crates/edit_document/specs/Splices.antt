@@ -2,11 +2,11 @@
 use Rattle.std.specs.Prelude.{◌≡◌, ℕ, ◌≤◌, List, [], ◌∷◌, ◌++◌, map, drop, slice_range, ⊤}
 use Rattle.std.specs.Str.{IsCharBoundary}
 use Rattle.edit_document.specs.declared.replace.Rewrite.{Rewrite}
-use Rattle.edit_document.specs.Literals.{literal_bytes}
+use Rattle.edit_tree.specs.Literals.{literal_bytes}
 use Rattle.edit_syntax.specs.Grammar.{Text}
-use Rattle.edit_document.specs.Assertions.{Place, IsDocument}
-use Rattle.edit_document.specs.Written.{Valued, start_of, end_of, IsWrittenAt}
-use Rattle.edit_document.specs.Replaces.{Edits, AreValues, AreDistinct, AreOutside}
+use Rattle.edit_tree.specs.Assertions.{Place, IsDocument}
+use Rattle.edit_tree.specs.Written.{Valued, start_of, end_of, IsWrittenAt}
+use Rattle.edit_tree.specs.Replaces.{Edits, AreValues, AreDistinct, AreOutside}
 
 -- where it begins, where it ends, and the text whose literal is to be written there
 abbrev pub Range : Type 0

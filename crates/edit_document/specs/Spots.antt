@@ -4,9 +4,9 @@ use Rattle.std.specs.Str.{IsCharBoundary}
 use Rattle.edit_syntax.specs.Characters.{line_feed}
 use Rattle.edit_syntax.specs.Strings.{◌·◌, key as key_text}
 use Rattle.edit_document.specs.declared.locate.Entry.{Entry}
-use Rattle.edit_document.specs.Assertions.{Place}
-use Rattle.edit_document.specs.Statements.{Stated}
-use Rattle.edit_document.specs.EditBytes.{before}
+use Rattle.edit_tree.specs.Assertions.{Place}
+use Rattle.edit_tree.specs.Statements.{Stated}
+use Rattle.edit_tree.specs.EditBytes.{before}
 use Rattle.edit_document.specs.Entries.{key_of, front_of}
 
 -- the text ends so, and may be cut before it

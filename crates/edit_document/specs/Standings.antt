@@ -7,8 +7,8 @@ use Rattle.edit_syntax.specs.Strings.{key as key_text}
 use Rattle.edit_syntax.specs.Grammar.{Statement, header, element_header}
 use Rattle.edit_document.specs.declared.locate.Standing.{Standing}
 use Rattle.edit_document.specs.declared.locate.Spots.{Spots}
-use Rattle.edit_document.specs.Assertions.{Place, Assertion}
-use Rattle.edit_document.specs.Statements.{Stated, parts}
+use Rattle.edit_tree.specs.Assertions.{Place, Assertion}
+use Rattle.edit_tree.specs.Statements.{Stated, parts}
 use Rattle.edit_document.specs.Entries.{way, Counts, head_of, AreParts, key_of}
 
 -- behind these assertions and under this header

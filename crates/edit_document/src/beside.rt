@@ -1,10 +1,10 @@
 //! Whether two documents show the same but at one place and below it.
 ghost use Rattle.std.specs.Prelude.{◌≡◌, ◌<◌, ℕ, true, [], ◌∷◌, Some, None, length};
 ghost use Rattle.std.specs.Bool.{Decides};
-ghost use Rattle.edit_document.specs.Assertions.{Step as StepSeen, at};
+ghost use Rattle.edit_tree.specs.Assertions.{Step as StepSeen, at};
 ghost use Rattle.edit_document.specs.Compared.{SameBeside, SamePart, SamePartsBut, FindsBeside, tree_below, nth_part};
 ghost use Rattle.edit_document.specs.Items.{place_numbered, view_numbered, place_seen, step_seen, count_in, Numbers};
-ghost use Rattle.edit_document.specs.Shown.{tree_of};
+ghost use Rattle.edit_tree.specs.Shown.{tree_of};
 
 use crate::document::Document;
 use crate::place::Step;

@@ -1,11 +1,11 @@
 //! Whether two documents show the same but at one place and below it, and but for the order of members.
 ghost use Rattle.std.specs.Prelude.{◌≡◌, ◌<◌, true, [], ◌∷◌, None, length};
 ghost use Rattle.std.specs.Bool.{Decides};
-ghost use Rattle.edit_document.specs.Assertions.{at};
+ghost use Rattle.edit_tree.specs.Assertions.{at};
 ghost use Rattle.edit_document.specs.Compared.{tree_below};
 ghost use Rattle.edit_document.specs.Items.{place_numbered, place_seen, step_seen};
 ghost use Rattle.edit_document.specs.Lost.{UnorderedPart, UnorderedPartsBut, SameButOrderBeside, FindsUnordered};
-ghost use Rattle.edit_document.specs.Shown.{tree_of};
+ghost use Rattle.edit_tree.specs.Shown.{tree_of};
 
 use crate::document::Document;
 use crate::place::Step;

@@ -1,12 +1,12 @@
 //! Whether a document shows another with a new entry at one of its places.
 ghost use Rattle.std.specs.Prelude.{◌≡◌, ◌<◌, Some, length, slice_get, string_bytes};
 ghost use Rattle.std.specs.Bool.{Decides};
-ghost use Rattle.edit_document.specs.Assertions.{at, key as key_step};
+ghost use Rattle.edit_tree.specs.Assertions.{at, key as key_step};
 ghost use Rattle.edit_document.specs.Compared.{AreApart, ShowsValue, ShowsMembers, ShowsItem};
 ghost use Rattle.edit_document.specs.Items.{place_numbered, view_numbered, names_in, place_seen};
-ghost use Rattle.edit_document.specs.Meant.{above, is_inline_table, HasReplaced};
+ghost use Rattle.edit_tree.specs.Meant.{above, is_inline_table, HasReplaced};
 ghost use Rattle.edit_document.specs.NewItemViews.{value_seen, pairs_seen, item_seen};
-ghost use Rattle.edit_document.specs.Shown.{tree_of};
+ghost use Rattle.edit_tree.specs.Shown.{tree_of};
 
 use crate::compare::same_word;
 use crate::document::Document;

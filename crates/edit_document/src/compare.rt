@@ -5,7 +5,7 @@ ghost use Rattle.edit_document.specs.Compared.{IsWhole, NumbersPart, SameBelow, 
 ghost use Rattle.edit_document.specs.Items.{place_numbered, view_numbered, names_in};
 
 use crate::document::Document;
-use crate::nodes::{Content, cut, words_in};
+use edit_tree::nodes::{Content, cut, words_in};
 
 /// Whether two words are the same, or neither is there.
 pub(crate) fn same_word(word: Option<&str>, other: Option<&str>) -> bool

@@ -1,20 +1,20 @@
 //! A document: its text, and what stands at each place that a statement asserts.
 ghost use Rattle.std.specs.Prelude.{◌≡◌, Some, None, ◌<◌, ◌≤◌, [], ◌++◌, IfOk, IfErr, MatchResult, string_bytes, length, map, slice_get, option_map};
-ghost use Rattle.edit_document.specs.Assertions.{Place, at, key as key_step, index as index_step};
+ghost use Rattle.edit_tree.specs.Assertions.{Place, at, key as key_step, index as index_step};
 ghost use Rattle.edit_base.specs.Errors.{IsMemory};
 ghost use Rattle.edit_document.specs.DocumentLayout.{nodes_by, spots_of};
 ghost use Rattle.edit_document.specs.ItemViews.{Finds};
 ghost use Rattle.edit_syntax.specs.Grammar.{Text};
-ghost use Rattle.edit_document.specs.Shown.{tree_of, ShowsTree};
-ghost use Rattle.edit_document.specs.Supported.{IsManifest};
+ghost use Rattle.edit_tree.specs.Shown.{tree_of, ShowsTree};
+ghost use Rattle.edit_tree.specs.Supported.{IsManifest};
 ghost use Rattle.edit_document.specs.Ranges.{HasRange};
 ghost use Rattle.edit_syntax.specs.Marks.{IsReadRefusal};
 ghost use Rattle.edit_document.specs.Items.{place_numbered, view_numbered, names_in, count_in, place_seen, Shows, Numbers};
 
 use crate::item::Item;
-use crate::nodes::{Content, Node, words_in};
+use edit_tree::nodes::{Content, Node, words_in};
 use crate::place::Step;
-use crate::walk::nodes_of;
+use edit_tree::walk::nodes_of;
 use edit_base::errors::CargoResult;
 use edit_syntax::read::read_marks;
 use std::alloc::Global;
@@ -31,7 +31,7 @@ pub struct Document {
 }
 
 impl Model for Document {
-    ghost use Rattle.edit_document.specs.Shown.{Shown};
+    ghost use Rattle.edit_tree.specs.Shown.{Shown};
 
     ghost Value = { Shown };
 

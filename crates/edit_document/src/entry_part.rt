@@ -1,6 +1,6 @@
 //! The parts of a new entry, and what stands at them. None of these calls takes memory.
 ghost use Rattle.std.specs.Prelude.{◌≡◌, find, map, option_map, slice_get, string_bytes};
-ghost use Rattle.edit_document.specs.Assertions.{same_bytes};
+ghost use Rattle.edit_tree.specs.Assertions.{same_bytes};
 ghost use Rattle.edit_document.specs.EntryParts.{IsPart, IsPart-prop};
 ghost use Rattle.edit_document.specs.NewItemViews.{item_seen, pair_seen, pairs_seen};
 
@@ -40,11 +40,11 @@ pub(crate) struct EntryPart<'a> {
 
 impl<'a> Said<'a> {
     ghost use Rattle.std.specs.Prelude.{◌≡◌, ◌∷◌, [], Some, false, option_map};
-    ghost use Rattle.edit_document.specs.Assertions.{index as index_step};
+    ghost use Rattle.edit_tree.specs.Assertions.{index as index_step};
     ghost use Rattle.edit_document.specs.EntryParts.{said_view};
-    ghost use Rattle.edit_document.specs.Meant.{new_view, item_view};
+    ghost use Rattle.edit_tree.specs.Meant.{new_view, item_view};
     ghost use Rattle.edit_document.specs.NewItemViews.{value_seen};
-    ghost use Rattle.edit_document.specs.Tree.{string};
+    ghost use Rattle.edit_tree.specs.Tree.{string};
 
     /// What a new value says.
     fn value(value: &'a NewValue) -> Said<'a>
@@ -112,11 +112,11 @@ fn is_named(member: &(String, NewValue), name: &str) -> bool
 
 impl<'a> EntryPart<'a> {
     ghost use Rattle.std.specs.Prelude.{◌≡◌, [], Some, length, option_map, slice_get};
-    ghost use Rattle.edit_document.specs.Assertions.{at, key as key_step, index as index_step};
+    ghost use Rattle.edit_tree.specs.Assertions.{at, key as key_step, index as index_step};
     ghost use Rattle.edit_document.specs.EntryParts.{part_place, said_view};
     ghost use Rattle.edit_document.specs.ItemViews.{entry_of, part_shown, FindsPart};
     ghost use Rattle.edit_document.specs.Items.{Shows, count_in, names_in};
-    ghost use Rattle.edit_document.specs.Shown.{tree_of};
+    ghost use Rattle.edit_tree.specs.Shown.{tree_of};
 
     /// The entry itself.
     pub(crate) fn whole(item: &'a NewItem) -> EntryPart<'a>

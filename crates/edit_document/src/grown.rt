@@ -1,12 +1,12 @@
 //! Whether a document shows another with a member more in one of its tables.
 ghost use Rattle.std.specs.Prelude.{◌≡◌, ◌<◌, ℕ, [], None, Some, length, slice_get, MatchOption};
 ghost use Rattle.std.specs.Bool.{Decides};
-ghost use Rattle.edit_document.specs.Assertions.{at, key as key_step};
+ghost use Rattle.edit_tree.specs.Assertions.{at, key as key_step};
 ghost use Rattle.edit_document.specs.Compared.{tree_below};
 ghost use Rattle.edit_document.specs.Items.{place_numbered, view_numbered, names_in, place_seen};
-ghost use Rattle.edit_document.specs.Meant.{Grown, Inserted};
+ghost use Rattle.edit_tree.specs.Meant.{Grown, Inserted};
 ghost use Rattle.edit_document.specs.NewItemViews.{value_seen};
-ghost use Rattle.edit_document.specs.Shown.{tree_of};
+ghost use Rattle.edit_tree.specs.Shown.{tree_of};
 
 use crate::compare::same_word;
 use crate::document::Document;

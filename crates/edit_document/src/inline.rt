@@ -3,13 +3,13 @@ ghost use Rattle.std.specs.Prelude.{◌≡◌, ◌≤◌, ℕ, List, [], ◌++�
 ghost use Rattle.edit_base.specs.Errors.{IsMemory};
 ghost use Rattle.edit_syntax.specs.Characters.{right_brace};
 ghost use Rattle.edit_syntax.specs.Grammar.{Between, inline, Members, no_members, Text};
-ghost use Rattle.edit_document.specs.EditBytes.{Splice, put_before, with_splice, behind_last, inline_grown, in_inline, inserted_text};
+ghost use Rattle.edit_tree.specs.EditBytes.{Splice, put_before, with_splice, behind_last, inline_grown, in_inline, inserted_text};
 ghost use Rattle.edit_document.specs.Items.{place_seen};
-ghost use Rattle.edit_document.specs.NewItems.{NewValue as Meant, new_pair};
+ghost use Rattle.edit_tree.specs.NewItems.{NewValue as Meant, new_pair};
 ghost use Rattle.edit_document.specs.Ranges.{HasTable};
-ghost use Rattle.edit_document.specs.SlotTexts.{TableAt};
+ghost use Rattle.edit_tree.specs.SlotTexts.{TableAt};
 ghost use Rattle.edit_document.specs.Spots.{IsSpot};
-ghost use Rattle.edit_document.specs.Supported.{IsManifest};
+ghost use Rattle.edit_tree.specs.Supported.{IsManifest};
 
 use crate::document::Document;
 use crate::inside::{begins, behind_one, past_slot};

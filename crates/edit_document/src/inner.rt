@@ -3,21 +3,21 @@ ghost use Rattle.std.specs.Prelude.{◌≡◌, ℕ, true, List, ◌++◌, ◌∷
 ghost use Rattle.edit_base.specs.Errors.{IsMemory};
 ghost use Rattle.edit_syntax.specs.Characters.{right_brace};
 ghost use Rattle.edit_syntax.specs.Grammar.{Between, gap, Members, Text};
-ghost use Rattle.edit_document.specs.Assertions.{Place};
-ghost use Rattle.edit_document.specs.EditBytes.{put_before, last_made, with_splice, front_to, dotted_pair};
+ghost use Rattle.edit_tree.specs.Assertions.{Place};
+ghost use Rattle.edit_tree.specs.EditBytes.{put_before, last_made, with_splice, front_to, dotted_pair};
 ghost use Rattle.edit_document.specs.Entries as entries_seen;
 ghost use Rattle.edit_document.specs.Inner as inner_seen;
 ghost use Rattle.edit_document.specs.Items.{place_seen};
-ghost use Rattle.edit_document.specs.Slots.{Slot};
-ghost use Rattle.edit_document.specs.SlotTexts.{StandsAt, TableAt};
-ghost use Rattle.edit_document.specs.Statements.{Paired, paired_members, inner_pairs};
-ghost use Rattle.edit_document.specs.Supported.{IsManifest};
+ghost use Rattle.edit_tree.specs.Slots.{Slot};
+ghost use Rattle.edit_tree.specs.SlotTexts.{StandsAt, TableAt};
+ghost use Rattle.edit_tree.specs.Statements.{Paired, paired_members, inner_pairs};
+ghost use Rattle.edit_tree.specs.Supported.{IsManifest};
 
 use crate::document::Document;
 use crate::inline::{from_start, with_lead};
 use crate::inside::{begins, behind_one};
 use crate::place::Step;
-use crate::spots::between;
+use edit_tree::cut::between;
 use crate::way::{Way, along};
 use edit_base::errors::CargoResult;
 use edit_syntax::read::gaps::past_gap;

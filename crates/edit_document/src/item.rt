@@ -26,7 +26,7 @@ pub struct Item<'a> {
 }
 
 impl<'a> NodeOf<'a> {
-    ghost use Rattle.edit_document.specs.Assertions.{at as below, key as key_step, index as index_step};
+    ghost use Rattle.edit_tree.specs.Assertions.{at as below, key as key_step, index as index_step};
     ghost use Rattle.edit_document.specs.Items.{place_numbered};
     ghost use Rattle.edit_document.specs.ItemViews.{Finds};
 
@@ -57,8 +57,8 @@ impl<'a> NodeOf<'a> {
 
 impl<'a> Item<'a> {
     ghost use Rattle.std.specs.Prelude.{◌≡◌, ◌<◌, Some, true, false, MatchOption, length, option_map, slice_get};
-    ghost use Rattle.edit_document.specs.Assertions.{Place, at as below, key as key_step, index as index_step};
-    ghost use Rattle.edit_document.specs.Shown.{Shown, tree_of};
+    ghost use Rattle.edit_tree.specs.Assertions.{Place, at as below, key as key_step, index as index_step};
+    ghost use Rattle.edit_tree.specs.Shown.{Shown, tree_of};
     ghost use Rattle.edit_document.specs.Items.{place_numbered, string_in, truth_in, names_in, count_in, is_string, is_inline, is_tabular, is_static_array, type_name_of, Shows};
     ghost use Rattle.edit_document.specs.EntryParts.{part_place};
     ghost use Rattle.edit_document.specs.ItemViews.{document_of, place_of, view_of, entry_of, keys_left, Finds, FindsPart};

@@ -1,15 +1,15 @@
 //! Which tables and arrays around an item are left when it is removed.
 ghost use Rattle.std.specs.Prelude.{◌≡◌, ◌<◌, [], None, length};
 ghost use Rattle.edit_syntax.specs.Grammar.{Text};
-ghost use Rattle.edit_document.specs.Assertions.{Step as StepSeen, at};
+ghost use Rattle.edit_tree.specs.Assertions.{Step as StepSeen, at};
 ghost use Rattle.edit_document.specs.Items.{place_numbered, place_seen};
 ghost use Rattle.edit_document.specs.Lost.{is_named, IsKept, IsInnermost};
-ghost use Rattle.edit_document.specs.Shown.{tree_of};
-ghost use Rattle.edit_document.specs.Supported.{IsManifest};
-ghost use Rattle.edit_document.specs.Taking as taking;
+ghost use Rattle.edit_tree.specs.Shown.{tree_of};
+ghost use Rattle.edit_tree.specs.Supported.{IsManifest};
+ghost use Rattle.edit_tree.specs.Taking as taking;
 
 use crate::document::Document;
-use crate::nodes::Taken;
+use edit_tree::nodes::Taken;
 use crate::place::Step;
 
 /// Whether a place is taken by a value, or by a header of its own.

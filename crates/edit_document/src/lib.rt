@@ -1,7 +1,6 @@
 //! The lossless manifest document: its tree, its items, and edits that keep every other byte.
 #![tactic(auto)]
 
-mod assertions;
 mod beside;
 mod beside_unordered;
 mod changed;
@@ -10,7 +9,6 @@ pub mod document;
 mod edited;
 mod entry_part;
 mod grown;
-mod heads;
 mod inline;
 mod inner;
 mod insert;
@@ -22,7 +20,6 @@ mod locate;
 mod members;
 pub mod new_item;
 mod new_shown;
-mod nodes;
 mod one_statement;
 mod pieces;
 pub mod place;
@@ -34,9 +31,7 @@ mod replace_entry;
 mod set_value;
 mod spots;
 mod unordered;
-mod walk;
 mod way;
-mod words;
 
 pub use document::Document;
 pub use edit_base::{

@@ -1,6 +1,6 @@
 //! The string literal of a text.
 ghost use Rattle.std.specs.Prelude.{◌≡◌, ◌<◌, ◌++◌, true, string_bytes, OnOk};
-ghost use Rattle.edit_document.specs.Literals.{hex_digit as digit_of, escaped, is_escaped, literal_body, literal_bytes};
+ghost use Rattle.edit_tree.specs.Literals.{hex_digit as digit_of, escaped, is_escaped, literal_body, literal_bytes};
 
 use std::alloc::AllocError;
 

@@ -2,11 +2,11 @@
 ghost use Rattle.std.specs.Prelude.{◌≡◌, [], ◌++◌, true, IfOk, IfErr, map};
 ghost use Rattle.edit_base.specs.Errors.{IsMemory};
 ghost use Rattle.edit_syntax.specs.Grammar.{Text};
-ghost use Rattle.edit_document.specs.Assertions.{of_statement, prefix_after};
+ghost use Rattle.edit_tree.specs.Assertions.{of_statement, prefix_after};
 ghost use Rattle.edit_document.specs.Items.{place_seen};
-ghost use Rattle.edit_document.specs.Supported.{IsManifest};
-ghost use Rattle.edit_document.specs.Statements.{Stated, stated};
-ghost use Rattle.edit_document.specs.EditBytes.{is_pair};
+ghost use Rattle.edit_tree.specs.Supported.{IsManifest};
+ghost use Rattle.edit_tree.specs.Statements.{Stated, stated};
+ghost use Rattle.edit_tree.specs.EditBytes.{is_pair};
 ghost use Rattle.edit_document.specs.Standings.{StandsTo, IsTaken, is_table_header, is_element_header};
 ghost use Rattle.edit_document.specs.Entries as entries_seen;
 

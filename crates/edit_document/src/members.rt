@@ -3,15 +3,15 @@ ghost use Rattle.std.specs.Prelude.{◌≡◌, true, ℕ, List, IfOk, IfErr, len
 ghost use Rattle.edit_base.specs.Errors.{IsMemory};
 ghost use Rattle.edit_syntax.specs.Grammar.{Between, gap, Value, value as value_text};
 ghost use Rattle.edit_syntax.specs.Strings.{Key};
-ghost use Rattle.edit_document.specs.Assertions.{Place};
-ghost use Rattle.edit_document.specs.EditBytes.{part_to};
+ghost use Rattle.edit_tree.specs.Assertions.{Place};
+ghost use Rattle.edit_tree.specs.EditBytes.{part_to};
 ghost use Rattle.edit_document.specs.Entries.{way};
 ghost use Rattle.edit_document.specs.EntrySpots.{part_seen, StandsIn, Tells};
 ghost use Rattle.edit_document.specs.Items.{place_seen};
-ghost use Rattle.edit_document.specs.Slots.{of_pair};
-ghost use Rattle.edit_document.specs.SlotTexts.{StandsAt};
-ghost use Rattle.edit_document.specs.Statements.{paired, paired_value};
-ghost use Rattle.edit_document.specs.Written.{Valued};
+ghost use Rattle.edit_tree.specs.Slots.{of_pair};
+ghost use Rattle.edit_tree.specs.SlotTexts.{StandsAt};
+ghost use Rattle.edit_tree.specs.Statements.{paired, paired_value};
+ghost use Rattle.edit_tree.specs.Written.{Valued};
 
 use crate::inside::{begins, behind_one};
 use crate::place::Step;

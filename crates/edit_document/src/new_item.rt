@@ -5,11 +5,11 @@ ghost use Rattle.edit_base.specs.Errors.{IsMemory};
 ghost use Rattle.edit_syntax.specs.Characters as characters;
 ghost use Rattle.edit_syntax.specs.Grammar.{value as value_text};
 ghost use Rattle.edit_syntax.specs.Strings.{key as key_text};
-ghost use Rattle.edit_document.specs.Assertions.{Place};
+ghost use Rattle.edit_tree.specs.Assertions.{Place};
 ghost use Rattle.edit_document.specs.ItemViews.{document_of, place_of};
-ghost use Rattle.edit_document.specs.Meant.{item_view};
-ghost use Rattle.edit_document.specs.Shown.{tree_of};
-ghost use Rattle.edit_document.specs.NewItems.{a_list, new_value, new_key, new_pair, new_entry, new_table};
+ghost use Rattle.edit_tree.specs.Meant.{item_view};
+ghost use Rattle.edit_tree.specs.Shown.{tree_of};
+ghost use Rattle.edit_tree.specs.NewItems.{a_list, new_value, new_key, new_pair, new_entry, new_table};
 ghost use Rattle.edit_document.specs.NewItemViews.{value_seen, pair_seen, pairs_seen, item_seen, item_text, is_dotted};
 
 use crate::entry_part::EntryPart;

@@ -1,10 +1,10 @@
 //! Whether a node shows a new value or a new entry.
 ghost use Rattle.std.specs.Prelude.{◌≡◌, ◌<◌, length, map, string_bytes};
 ghost use Rattle.std.specs.Bool.{Decides};
-ghost use Rattle.edit_document.specs.Assertions.{at, index as index_step};
+ghost use Rattle.edit_tree.specs.Assertions.{at, index as index_step};
 ghost use Rattle.edit_document.specs.Compared.{ShowsValue};
 ghost use Rattle.edit_document.specs.Items.{place_numbered};
-ghost use Rattle.edit_document.specs.NewItems.{a_string, a_truth, a_list};
+ghost use Rattle.edit_tree.specs.NewItems.{a_string, a_truth, a_list};
 ghost use Rattle.edit_document.specs.NewItemViews.{value_seen};
 
 use crate::compare::same_word;

@@ -1,14 +1,14 @@
 //! Places that one statement alone names.
 ghost use Rattle.std.specs.Prelude.{◌≡◌, ◌<◌, ℕ, List, true, false, length};
 ghost use Rattle.edit_syntax.specs.Grammar.{Text};
-ghost use Rattle.edit_document.specs.Assertions.{Place, at, key as key_step};
-ghost use Rattle.edit_document.specs.EditBytes.{is_one_statement};
+ghost use Rattle.edit_tree.specs.Assertions.{Place, at, key as key_step};
+ghost use Rattle.edit_tree.specs.EditBytes.{is_one_statement};
 ghost use Rattle.edit_document.specs.Items.{place_numbered, place_seen};
 ghost use Rattle.edit_document.specs.OneStatement.{HasMember, Answers};
-ghost use Rattle.edit_document.specs.Supported.{IsManifest};
+ghost use Rattle.edit_tree.specs.Supported.{IsManifest};
 
 use crate::document::Document;
-use crate::nodes::Taken;
+use edit_tree::nodes::Taken;
 use crate::place::Step;
 
 /// What a node tells of the statements that name its place.

@@ -1,7 +1,7 @@
 //! The pieces that a document keeps its text in: what was written last, what stands before it, what behind.
 ghost use Rattle.std.specs.Prelude.{◌≡◌, ℕ, List, length, slice_get, option_map};
 ghost use Rattle.std.specs.List.{concat};
-ghost use Rattle.edit_document.specs.Pieces.{some_text, pieces_of, IsRange};
+ghost use Rattle.edit_tree.specs.Pieces.{some_text, pieces_of, IsRange};
 
 use crate::document::Document;
 

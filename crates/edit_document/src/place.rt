@@ -1,7 +1,7 @@
 //! Places in a document.
 ghost use Rattle.std.specs.Prelude.{◌≡◌, IfErr, IfOk};
 ghost use Rattle.edit_base.specs.Errors.{IsMemory};
-ghost use Rattle.edit_document.specs.Assertions.{at, key};
+ghost use Rattle.edit_tree.specs.Assertions.{at, key};
 ghost use Rattle.edit_document.specs.Items.{place_seen, step_seen};
 
 use edit_base::CargoResult;

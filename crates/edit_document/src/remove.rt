@@ -3,12 +3,12 @@ ghost use Rattle.std.specs.Prelude.{◌≡◌, ◌⊎◌, [], None, IfOk, IfErr}
 ghost use Rattle.edit_base.specs.Errors.{IsMemory};
 ghost use Rattle.edit_base.specs.declared.errors.Error.TheVariants.{EditRefused};
 ghost use Rattle.edit_syntax.specs.Grammar.{Text};
-ghost use Rattle.edit_document.specs.Assertions.{assertions};
+ghost use Rattle.edit_tree.specs.Assertions.{assertions};
 ghost use Rattle.edit_document.specs.Items.{place_seen};
-ghost use Rattle.edit_document.specs.Meant.{Removed, RemoveFails};
-ghost use Rattle.edit_document.specs.RemovedBytes.{removed_text};
-ghost use Rattle.edit_document.specs.Shown.{tree_of};
-ghost use Rattle.edit_document.specs.Supported.{IsManifest};
+ghost use Rattle.edit_tree.specs.Meant.{Removed, RemoveFails};
+ghost use Rattle.edit_tree.specs.RemovedBytes.{removed_text};
+ghost use Rattle.edit_tree.specs.Shown.{tree_of};
+ghost use Rattle.edit_tree.specs.Supported.{IsManifest};
 
 use crate::document::Document;
 use crate::place::Step;

@@ -3,20 +3,20 @@ ghost use Rattle.std.specs.Prelude.{◌≡◌, ◌++◌, [], Some, None, IfOk, I
 ghost use Rattle.std.specs.Bool.{Decides};
 ghost use Rattle.edit_base.specs.Errors.{IsMemory};
 ghost use Rattle.edit_syntax.specs.Grammar.{Text, Value, value, IsValue, lines, byte_order_mark};
-ghost use Rattle.edit_document.specs.EditBytes.{with_splice};
+ghost use Rattle.edit_tree.specs.EditBytes.{with_splice};
 ghost use Rattle.edit_document.specs.Items.{place_seen};
-ghost use Rattle.edit_document.specs.RemovedBytes.{lines_left, value_left, removed_text};
+ghost use Rattle.edit_tree.specs.RemovedBytes.{lines_left, value_left, removed_text};
 ghost use Rattle.edit_document.specs.RemoveText.{HasAround, StandsBetween};
-ghost use Rattle.edit_document.specs.Slots.{IsContainer};
-ghost use Rattle.edit_document.specs.Statements.{stated};
-ghost use Rattle.edit_document.specs.Supported.{IsManifest};
-ghost use Rattle.edit_document.specs.Written.{Valued};
+ghost use Rattle.edit_tree.specs.Slots.{IsContainer};
+ghost use Rattle.edit_tree.specs.Statements.{stated};
+ghost use Rattle.edit_tree.specs.Supported.{IsManifest};
+ghost use Rattle.edit_tree.specs.Written.{Valued};
 
 use crate::document::Document;
 use crate::inside::{begins, value_without};
 use crate::locate::entries;
 use crate::place::Step;
-use crate::spots::between;
+use edit_tree::cut::between;
 use edit_base::errors::CargoResult;
 use edit_syntax::past_mark;
 use std::alloc::Global;

@@ -2,14 +2,14 @@
 ghost use Rattle.std.specs.Prelude.{◌≡◌, ◌<◌, ◌≤◌, [], None, Some, length, take};
 ghost use Rattle.std.specs.Bool.{Decides};
 ghost use Rattle.edit_syntax.specs.Grammar.{Text};
-ghost use Rattle.edit_document.specs.Assertions.{Step as StepSeen, at, key as key_step, assertions};
+ghost use Rattle.edit_tree.specs.Assertions.{Step as StepSeen, at, key as key_step, assertions};
 ghost use Rattle.edit_document.specs.Compared.{nth_part, tree_below};
 ghost use Rattle.edit_document.specs.Items.{place_numbered, view_numbered, place_seen, step_seen, Numbers};
 ghost use Rattle.edit_document.specs.Lost.{HasNamesBut, Loses, MovedPart, MovedParts, LosesPart, moved_place};
 ghost use Rattle.edit_document.specs.Lost as lost;
-ghost use Rattle.edit_document.specs.Meant.{Removed};
-ghost use Rattle.edit_document.specs.Shown.{tree_of};
-ghost use Rattle.edit_document.specs.Supported.{IsManifest};
+ghost use Rattle.edit_tree.specs.Meant.{Removed};
+ghost use Rattle.edit_tree.specs.Shown.{tree_of};
+ghost use Rattle.edit_tree.specs.Supported.{IsManifest};
 
 use crate::document::Document;
 use crate::place::Step;

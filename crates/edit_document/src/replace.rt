@@ -3,15 +3,15 @@ ghost use Rattle.std.specs.Prelude.{◌≡◌, ◌≤◌, ◌+◌, IfOk, IfErr, 
 ghost use Rattle.edit_base.specs.Errors.{IsMemory};
 ghost use Rattle.edit_syntax.specs.Grammar.{Text, text as text_of};
 ghost use Rattle.edit_document.specs.Items.{place_seen};
-ghost use Rattle.edit_document.specs.Literals.{literal_bytes};
-ghost use Rattle.edit_document.specs.Pieces.{IsAmong, IsSwapped};
+ghost use Rattle.edit_tree.specs.Literals.{literal_bytes};
+ghost use Rattle.edit_tree.specs.Pieces.{IsAmong, IsSwapped};
 ghost use Rattle.edit_document.specs.Ranges.{one_edit, edits_seen};
-ghost use Rattle.edit_document.specs.Replaces.{Edits, replaced, written, emptied, AreValues, AreDistinct, AreOutside, Replaces};
-ghost use Rattle.edit_document.specs.Assertions.{Place as PlaceSeen};
-ghost use Rattle.edit_document.specs.Shown.{tree_of};
+ghost use Rattle.edit_tree.specs.Replaces.{Edits, replaced, written, emptied, AreValues, AreDistinct, AreOutside, Replaces};
+ghost use Rattle.edit_tree.specs.Assertions.{Place as PlaceSeen};
+ghost use Rattle.edit_tree.specs.Shown.{tree_of};
 ghost use Rattle.edit_document.specs.Splices.{range_of, spliced, AreInOrder, IsRangeFor, Locates};
-ghost use Rattle.edit_document.specs.Supported.{IsManifest};
-ghost use Rattle.edit_document.specs.Tree.{is_value_at, view_at};
+ghost use Rattle.edit_tree.specs.Supported.{IsManifest};
+ghost use Rattle.edit_tree.specs.Tree.{is_value_at, view_at};
 
 use crate::document::Document;
 use crate::literal::push_literal;

@@ -2,15 +2,15 @@
 ghost use Rattle.std.specs.Prelude.{◌≡◌, [], ◌∷◌, ◌++◌, IfOk, IfErr, true, drop, string_bytes, take, length, ◌≤◌, ◌+◌};
 ghost use Rattle.edit_base.specs.Errors.{IsMemory};
 ghost use Rattle.edit_syntax.specs.Grammar.{Text, value as value_text};
-ghost use Rattle.edit_document.specs.EditBytes.{set_text};
+ghost use Rattle.edit_tree.specs.EditBytes.{set_text};
 ghost use Rattle.edit_document.specs.Items.{place_seen};
-ghost use Rattle.edit_document.specs.Meant.{HasSet};
-ghost use Rattle.edit_document.specs.NewItems.{new_value};
+ghost use Rattle.edit_tree.specs.Meant.{HasSet};
+ghost use Rattle.edit_tree.specs.NewItems.{new_value};
 ghost use Rattle.edit_document.specs.NewItemViews.{value_seen, HasRoom};
-ghost use Rattle.edit_document.specs.Shown.{tree_of};
+ghost use Rattle.edit_tree.specs.Shown.{tree_of};
 ghost use Rattle.edit_document.specs.Splices.{AreInOrder};
-ghost use Rattle.edit_document.specs.Supported.{IsManifest};
-ghost use Rattle.edit_document.specs.Tree.{is_value_at};
+ghost use Rattle.edit_tree.specs.Supported.{IsManifest};
+ghost use Rattle.edit_tree.specs.Tree.{is_value_at};
 
 use crate::document::Document;
 use crate::new_item::{NewValue, push_value};

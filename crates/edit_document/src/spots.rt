@@ -3,24 +3,12 @@ ghost use Rattle.std.specs.Prelude.{◌≡◌, ◌-◌, ℕ, List, ◌++◌, IfO
 ghost use Rattle.edit_base.specs.Errors.{IsMemory};
 ghost use Rattle.edit_syntax.specs.Spans.{cut_from};
 ghost use Rattle.edit_syntax.specs.Strings.{line_end};
-ghost use Rattle.edit_document.specs.EditBytes.{put_before, with_splice, end_like, new_line};
+ghost use Rattle.edit_tree.specs.EditBytes.{put_before, with_splice, end_like, new_line};
 ghost use Rattle.edit_document.specs.Spots.{IsSpot, section_text};
 
 use edit_base::errors::CargoResult;
+use edit_tree::cut::between;
 use std::alloc::Global;
-
-/// What stands in a text from one spot to another, or nothing where it cannot be cut out.
-pub(crate) fn between(text: &str, from: usize, to: usize) -> &str
-    ensures { result.now ≡ cut_from text.now (length text.now - from) (length text.now - to) }
-{
-    let start = text.len().saturating_sub(from);
-    let end = text.len().saturating_sub(to);
-    if start <= end && text.is_char_boundary(start) && text.is_char_boundary(end) {
-        &text[start..end]
-    } else {
-        ""
-    }
-}
 
 /// The newline that begins here, or LF where none does.
 fn newline_like(rest: &str) -> &'static str

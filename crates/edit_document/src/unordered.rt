@@ -3,7 +3,7 @@ ghost use Rattle.std.specs.Prelude.{◌≡◌, ◌<◌, ◌≤◌, ◌+◌, ℕ,
 ghost use Rattle.std.specs.Bool.{Decides};
 ghost use Rattle.edit_document.specs.Compared.{HasNamesOf, SameButOrderBelow};
 ghost use Rattle.edit_document.specs.Items.{place_numbered, view_numbered};
-ghost use Rattle.edit_document.specs.Meant.{SameButOrder};
+ghost use Rattle.edit_tree.specs.Meant.{SameButOrder};
 
 use crate::document::Document;
 

@@ -1,16 +1,16 @@
 //! The way to a place that is looked for.
 ghost use Rattle.std.specs.Prelude.{◌≡◌, List, ◌∷◌, IfOk, IfErr, length};
 ghost use Rattle.edit_base.specs.Errors.{IsMemory};
-ghost use Rattle.edit_document.specs.Assertions.{Place, key as key_step, index as index_step};
+ghost use Rattle.edit_tree.specs.Assertions.{Place, key as key_step, index as index_step};
 ghost use Rattle.edit_document.specs.Items.{place_seen};
-ghost use Rattle.edit_document.specs.Statements.{Named};
+ghost use Rattle.edit_tree.specs.Statements.{Named};
 ghost use Rattle.edit_document.specs.Standings as standings;
 ghost use Rattle.edit_document.specs.Entries as entries_seen;
 ghost use Rattle.edit_document.specs.EntrySpots as spots_seen;
 
-use crate::nodes::words_in;
+use edit_tree::nodes::words_in;
 use crate::place::Step;
-use crate::words::words_of;
+use edit_tree::words::words_of;
 use edit_base::errors::CargoResult;
 use edit_syntax::{Mark, MarkKind};
 use std::alloc::Global;

@@ -4,10 +4,10 @@ use Rattle.std.specs.Prelude.{codes, if◌then◌else◌, option_map}
 use Rattle.std.specs.List.{AllByRecursion, flat_map}
 use Rattle.std.specs.Result.{result_ok}
 use Rattle.std.proofs.lemmas.List.{map-append}
-use Rattle.edit_document.specs.Assertions.{Place, at, key, same_place}
-use Rattle.edit_document.specs.Replaces.{AreStrings, Edits, is_string, new_text, written}
-use Rattle.edit_document.specs.Tree.{View, fractional, inline_table, moment, static_array, string, table, table_array, truth, whole}
-use Rattle.edit_document.proofs.SamePlace.{same_place_is}
+use Rattle.edit_tree.specs.Assertions.{Place, at, key, same_place}
+use Rattle.edit_tree.specs.Replaces.{AreStrings, Edits, is_string, new_text, written}
+use Rattle.edit_tree.specs.Tree.{View, fractional, inline_table, moment, static_array, string, table, table_array, truth, whole}
+use Rattle.edit_tree.proofs.SamePlace.{same_place_is}
 use Rattle.edit_version.specs.Requirement.{cut}
 use Rattle.edit_record.specs.EntryRecords.{EntryRecord, Refusal}
 use Rattle.edit_record.specs.ReadEntries.{below, entry_record, ok_map, record_of, table_record}

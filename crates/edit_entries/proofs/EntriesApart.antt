@@ -4,11 +4,11 @@ use Rattle.std.specs.Prelude.{◌&&◌, codes}
 use Rattle.std.specs.List.{AllByRecursion, flat_map}
 use Rattle.std.specs.Str.{bytes_eq}
 use Rattle.std.proofs.lemmas.Bool.{cases_Bool}
-use Rattle.edit_document.specs.Assertions.{Place, at, key, same_bytes, same_place, same_step}
+use Rattle.edit_tree.specs.Assertions.{Place, at, key, same_bytes, same_place, same_step}
 use Rattle.edit_syntax.specs.Grammar as grammar
-use Rattle.edit_document.specs.Replaces.{is_string}
-use Rattle.edit_document.specs.Tree.{view_at}
-use Rattle.edit_document.proofs.SamePlace.{last_same, other_place, same_bytes_self, same_place_self}
+use Rattle.edit_tree.specs.Replaces.{is_string}
+use Rattle.edit_tree.specs.Tree.{view_at}
+use Rattle.edit_tree.proofs.SamePlace.{last_same, other_place, same_bytes_self, same_place_self}
 use Rattle.edit_manifest.specs.Kinds.{is_kind}
 use Rattle.edit_manifest.specs.Tables.{Tree, dependency_tables, is_table_like, keyed, member_names, shared, tables_at, tables_of_target, tables_under, target_table, target_tables}
 use Rattle.edit_entries.specs.Entries.{Entry, entries, entries_of, entry_at, literal_at, version_place}

@@ -4,8 +4,8 @@ use Rattle.std.specs.Prelude.{◌||◌, codes}
 use Rattle.std.specs.List.{AllByRecursion, flat_map}
 use Rattle.std.specs.Str.{bytes_eq}
 use Rattle.std.proofs.lemmas.Bool.{cases_Bool}
-use Rattle.edit_document.specs.Assertions.{Place, Step, at, key, index, same_bytes, same_place}
-use Rattle.edit_document.proofs.SamePlace.{same_place_is, same_step_self}
+use Rattle.edit_tree.specs.Assertions.{Place, Step, at, key, index, same_bytes, same_place}
+use Rattle.edit_tree.proofs.SamePlace.{same_place_is, same_step_self}
 use Rattle.edit_manifest.specs.Kinds.{is_kind, kind_name}
 use Rattle.edit_manifest.specs.Tables.{Tree, dependency_tables, is_table_like, keyed, member_names, shared, tables_at, tables_of_target, tables_under, target_table, target_tables}
 use Rattle.edit_manifest.specs.declared.dep_table.DepKind.TheVariants.{Build, Development, Normal}

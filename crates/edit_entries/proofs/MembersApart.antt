@@ -3,11 +3,11 @@ use Rattle.std.proofs.Common.{◌≡◌, ◌∷◌, [], List, ℕ, Option, Some,
 use Rattle.std.specs.Prelude.{not, option_map}
 use Rattle.std.specs.List.{AllByRecursion, filter}
 use Rattle.std.proofs.lemmas.Bool.{cases_Bool}
-use Rattle.edit_document.specs.Assertions.{Assertion, Kind, Place, Step, array_kind, assertions, dotted, element_kind, header_kind, index, key, leaf, same_bytes, same_step, super}
+use Rattle.edit_tree.specs.Assertions.{Assertion, Kind, Place, Step, array_kind, assertions, dotted, element_kind, header_kind, index, key, leaf, same_bytes, same_step, super}
 use Rattle.edit_syntax.specs.Grammar.{Value, array, basic, boolean, datetime, float, inline, integer, literal, multi_basic, multi_literal}
 use Rattle.edit_syntax.specs.Grammar as grammar
 use Rattle.edit_document.specs.Items.{key_names}
-use Rattle.edit_document.specs.Tree.{kind_at, members_of, once, view_at, view_of_kind}
+use Rattle.edit_tree.specs.Tree.{kind_at, members_of, once, view_at, view_of_kind}
 use Rattle.edit_manifest.specs.Tables.{member_names}
 
 abbrev pub AreNamesApart : List (List ℕ) → Type 0

@@ -2,9 +2,9 @@
 use Rattle.std.proofs.Common.{◌≡◌, ℕ, List, [], ◌∷◌, Option, Some, None, Result, Ok, Err, true, false, refl, ap, sym, ◌∙◌}
 use Rattle.std.specs.Prelude.{codes, if◌then◌else◌, option_and_then, option_map}
 use Rattle.std.specs.Result.{result_ok}
-use Rattle.edit_document.specs.Assertions.{Place, key, same_place}
-use Rattle.edit_document.specs.Replaces.{is_string}
-use Rattle.edit_document.specs.Tree.{View, fractional, inline_table, moment, static_array, string, table, table_array, truth, whole}
+use Rattle.edit_tree.specs.Assertions.{Place, key, same_place}
+use Rattle.edit_tree.specs.Replaces.{is_string}
+use Rattle.edit_tree.specs.Tree.{View, fractional, inline_table, moment, static_array, string, table, table_array, truth, whole}
 use Rattle.edit_version.specs.Requirement.{cut}
 use Rattle.edit_record.specs.EntryRecords.{EntryRecord, Origin, bare_record, Refusal, from_git, from_path, from_registry, from_workspace, origin_version}
 use Rattle.edit_record.specs.ReadEntries.{Tree, and_then, below, entry_record, first_origin, if_there, names_by, ok_map, options_at, origin_at, record_of, repository, table_record, text_at, text_of, truth_at, version_at, workspace_origin}

@@ -3,10 +3,10 @@ use Rattle.std.proofs.Common.{◌≡◌, ℕ, List, [], ◌∷◌, ◌++◌, Boo
 use Rattle.std.specs.Prelude.{codes, if◌then◌else◌, option_to_list}
 use Rattle.std.specs.List.{flat_map}
 use Rattle.std.proofs.lemmas.Bool.{cases_Bool}
-use Rattle.edit_document.specs.Assertions.{Place, same_place}
-use Rattle.edit_document.specs.Replaces.{AreStrings, Edits, is_string, new_text, written}
-use Rattle.edit_document.specs.Tree.{View, fractional, inline_table, moment, static_array, string, table, table_array, truth, whole}
-use Rattle.edit_document.proofs.SamePlace.{same_place_is}
+use Rattle.edit_tree.specs.Assertions.{Place, same_place}
+use Rattle.edit_tree.specs.Replaces.{AreStrings, Edits, is_string, new_text, written}
+use Rattle.edit_tree.specs.Tree.{View, fractional, inline_table, moment, static_array, string, table, table_array, truth, whole}
+use Rattle.edit_tree.proofs.SamePlace.{same_place_is}
 use Rattle.edit_manifest.specs.Kinds.{is_kind}
 use Rattle.edit_manifest.specs.Tables.{Tree, dependency_tables, is_table_like, keyed, member_names, shared, tables_at, tables_of_target, tables_under, target_table, target_tables}
 use Rattle.std.specs.Str.{bytes_eq}

@@ -3,7 +3,7 @@ use Rattle.std.proofs.Common.{◌≡◌, ℕ, List, Bool, true, false, refl, sym
 use Rattle.std.specs.Prelude.{◌||◌}
 use Rattle.std.specs.Str.{bytes_eq}
 use Rattle.edit_document.proofs.EntryPartViews.{same_texts}
-use Rattle.edit_document.proofs.SamePlace.{same_bytes_is}
+use Rattle.edit_tree.proofs.SamePlace.{same_bytes_is}
 
 pub or-cases : (a b : Bool) → (a || b) ≡ true → (a ≡ true) ⊎ (b ≡ true)
 or-cases true b h = inl refl

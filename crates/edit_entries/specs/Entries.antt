@@ -3,8 +3,8 @@
 use Rattle.std.specs.Prelude.{ℕ, List, map, Option, if◌then◌else◌, codes}
 use Rattle.std.specs.List.{flat_map}
 use Rattle.std.specs.Result.{result_ok}
-use Rattle.edit_document.specs.Assertions.{Place, at, key}
-use Rattle.edit_document.specs.Replaces.{is_string}
+use Rattle.edit_tree.specs.Assertions.{Place, at, key}
+use Rattle.edit_tree.specs.Replaces.{is_string}
 use Rattle.edit_record.specs.EntryRecords.{EntryRecord}
 use Rattle.edit_record.specs.ReadEntries.{record_of}
 use Rattle.edit_manifest.specs.Tables.{Tree, dependency_tables, member_names}

@@ -1,6 +1,6 @@
 -- Entries, as the program has them.
 use Rattle.std.specs.Prelude.{Bool, true, false, Option, Some, None, string_bytes}
-use Rattle.edit_document.specs.Assertions.{Place}
+use Rattle.edit_tree.specs.Assertions.{Place}
 use Rattle.edit_document.specs.Items.{place_seen}
 use Rattle.edit_record.specs.EntryRecords.{EntryRecord}
 use Rattle.edit_record.specs.RecordViews.{record_view}

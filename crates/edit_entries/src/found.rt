@@ -4,7 +4,7 @@ ghost use Rattle.std.specs.Result.{result_ok};
 ghost use Rattle.edit_base.specs.Errors.{IsMemory};
 ghost use Rattle.edit_document.specs.ItemViews.{document_of, place_of, view_of};
 ghost use Rattle.edit_document.specs.Items.{is_string, place_seen};
-ghost use Rattle.edit_document.specs.Shown.{tree_of};
+ghost use Rattle.edit_tree.specs.Shown.{tree_of};
 ghost use Rattle.edit_record.specs.ReadEntries.{record_of};
 ghost use Rattle.edit_entries.specs.Entries.{entries, entries_of, entry_at};
 ghost use Rattle.edit_entries.specs.EntryViews.{entry_view, said_view};

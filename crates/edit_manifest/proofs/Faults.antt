@@ -3,7 +3,7 @@ use Rattle.std.proofs.Common.{ℕ, ◌≤◌, ⊎_elim, inl, inr, arith, ◌∙�
 use Rattle.std.proofs.Math.Nat.{eq-or-lt_of_le}
 use Rattle.edit_base.specs.declared.errors.DeviceCall.{DeviceCall}
 use Rattle.edit_base.specs.declared.errors.Error.{Error}
-use Rattle.edit_sources.specs.Store.{raised}
+use Rattle.edit_store.specs.Store.{raised}
 use Rattle.edit_manifest.specs.Located.{IsFault}
 
 raised_later : (a b c : ℕ) → a ≤ b → raised b c → raised a c

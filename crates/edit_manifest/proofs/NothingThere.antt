@@ -1,10 +1,10 @@
 -- Nothing stands below a place where nothing stands.
 use Rattle.std.proofs.Common.{◌≡◌, cond, List, [], ◌∷◌, Option, None, Some, option_map, refl, sym, ap, ◌∙◌, ◌⊎◌, inl, inr, ⊎_elim, subst}
-use Rattle.edit_document.specs.Assertions.{Place, Step, at, same_place, Kind, Assertion, assertions}
-use Rattle.edit_document.specs.Shown.{Shown, tree_of, ShowsTree}
-use Rattle.edit_document.specs.Tree.{kind_at, view_at, view_of_kind}
-use Rattle.edit_document.proofs.NothingBelow.{Opened, Rooted, done, next, rooted}
-use Rattle.edit_document.proofs.SamePlace.{last_same, same_place_is, same_place_self}
+use Rattle.edit_tree.specs.Assertions.{Place, Step, at, same_place, Kind, Assertion, assertions}
+use Rattle.edit_tree.specs.Shown.{Shown, tree_of, ShowsTree}
+use Rattle.edit_tree.specs.Tree.{kind_at, view_at, view_of_kind}
+use Rattle.edit_tree.proofs.NothingBelow.{Opened, Rooted, done, next, rooted}
+use Rattle.edit_tree.proofs.SamePlace.{last_same, same_place_is, same_place_self}
 use Rattle.edit_syntax.specs.Grammar.{Text}
 use Rattle.edit_syntax.proofs.Cases.{by_test}
 

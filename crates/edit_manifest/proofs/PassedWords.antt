@@ -5,10 +5,10 @@ use Rattle.std.proofs.lemmas.List.Elements.{All-nil, All-cons, All-append}
 use Rattle.std.specs.Prelude.{codes}
 use Rattle.edit_base.specs.Paths.{IsFolderOf, IsNormalOf, joined}
 use Rattle.edit_base.specs.declared.errors.Error.{Error}
-use Rattle.edit_sources.specs.ConfigurationFiles.{Climbs}
-use Rattle.edit_sources.specs.ConfigurationFiles.Climbs.{begin, step}
-use Rattle.edit_sources.specs.Store.{Files, SameFiles, StandsAt}
-use Rattle.edit_sources.specs.declared.store.Kind.TheVariants.{File, Folder}
+use Rattle.edit_store.specs.Climbs.{Climbs}
+use Rattle.edit_store.specs.Climbs.Climbs.{begin, step}
+use Rattle.edit_store.specs.Store.{Files, SameFiles, StandsAt}
+use Rattle.edit_store.specs.declared.store.Kind.TheVariants.{File, Folder}
 use Rattle.edit_manifest.specs.Located.{HasNoManifest, HasNoneAbove, HaveNone, IsManifestAt, IsManifestPath, IsMissing, IsNearest, IsNotFound, IsUnfound, manifest_in}
 use Rattle.edit_manifest.specs.Located.HasNoManifest.{specified as lacks_there, unspecified as lacks_here}
 use Rattle.edit_manifest.specs.Located.IsManifestAt.{named, nearest}

@@ -1,9 +1,9 @@
 -- What is removed, as the definitions compute it.
 use Rattle.std.proofs.Common.{◌≡◌, [], refl}
 use Rattle.std.specs.Prelude.{ℕ, true, false, List, ◌∷◌, ◌++◌, Option, Some, None, codes}
-use Rattle.edit_document.specs.Assertions.{Place, Step, at, key, index}
-use Rattle.edit_document.specs.Shown.{node_at}
-use Rattle.edit_document.specs.Tree.{View, inline_table, static_array, string, table, truth}
+use Rattle.edit_tree.specs.Assertions.{Place, Step, at, key, index}
+use Rattle.edit_tree.specs.Shown.{node_at}
+use Rattle.edit_tree.specs.Tree.{View, inline_table, static_array, string, table, truth}
 use Rattle.edit_manifest.specs.Features.{features, stale_strings}
 use Rattle.edit_manifest.specs.RemovedEntries.{bare_table, missing_table}
 use Rattle.edit_manifest.specs.Tables.{Tree, keyed}

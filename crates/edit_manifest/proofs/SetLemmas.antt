@@ -1,11 +1,11 @@
 -- A requirement that was set is the one that is told.
 use Rattle.std.proofs.Common.{◌≡◌, ℕ, false, ◌&&◌, ◌||◌, cond, List, [], ◌∷◌, Option, None, Some, refl, sym, ap, ap₂, ◌∙◌}
 use Rattle.std.specs.Prelude.{Result, Ok, codes}
-use Rattle.edit_document.specs.Assertions.{Place, Step, at, key}
+use Rattle.edit_tree.specs.Assertions.{Place, Step, at, key}
 use Rattle.edit_document.specs.Ranges.{one_edit}
-use Rattle.edit_document.specs.Replaces.{emptied, is_below, written}
-use Rattle.edit_document.specs.Tree.{View, string, truth, whole, fractional, moment, static_array, table_array, inline_table, table}
-use Rattle.edit_document.proofs.SamePlace.{not_below, other_place, same_place_self, same_step_self}
+use Rattle.edit_tree.specs.Replaces.{emptied, is_below, written}
+use Rattle.edit_tree.specs.Tree.{View, string, truth, whole, fractional, moment, static_array, table_array, inline_table, table}
+use Rattle.edit_tree.proofs.SamePlace.{not_below, other_place, same_place_self, same_step_self}
 use Rattle.edit_manifest.specs.Tables.{Tree}
 use Rattle.edit_manifest.specs.Versions.{dep_version, member_place, requirement_in, version_member, version_place_in}
 

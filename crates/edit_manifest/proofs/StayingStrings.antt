@@ -3,14 +3,14 @@ use Rattle.std.proofs.Common.{◌≡◌, ℕ, Bool, true, false, not, cond, List
 use Rattle.std.proofs.lemmas.Option.{same_Some}
 use Rattle.edit_syntax.specs.Grammar.{Value, basic, literal, multi_basic, multi_literal, boolean, integer, float, datetime, array, inline, Text}
 use Rattle.edit_syntax.proofs.Cases.{by_test}
-use Rattle.edit_document.specs.Assertions.{Place, Step, Kind, dotted, leaf, super, header_kind, array_kind, element_kind, Assertion, assertions, same_place}
-use Rattle.edit_document.specs.EditBytes.{is_within}
-use Rattle.edit_document.specs.Meant.{Tree, Removed, SameButOrder, same, tables, inline_tables, moved, shrunk, staying, tree_left}
-use Rattle.edit_document.specs.Tree.{View, string, kind_at, view_at, view_in, view_of_kind, view_of_value}
-use Rattle.edit_document.proofs.ElementWays.{are_made}
-use Rattle.edit_document.proofs.Asserters.{AreMade}
-use Rattle.edit_document.proofs.PairedPlaces.{owns}
-use Rattle.edit_document.proofs.SamePlace.{same_place_is}
+use Rattle.edit_tree.specs.Assertions.{Place, Step, Kind, dotted, leaf, super, header_kind, array_kind, element_kind, Assertion, assertions, same_place}
+use Rattle.edit_tree.specs.EditBytes.{is_within}
+use Rattle.edit_tree.specs.Meant.{Tree, Removed, SameButOrder, same, tables, inline_tables, moved, shrunk, staying, tree_left}
+use Rattle.edit_tree.specs.Tree.{View, string, kind_at, view_at, view_in, view_of_kind, view_of_value}
+use Rattle.edit_tree.proofs.ElementWays.{are_made}
+use Rattle.edit_tree.proofs.Asserters.{AreMade}
+use Rattle.edit_tree.proofs.PairedPlaces.{owns}
+use Rattle.edit_tree.proofs.SamePlace.{same_place_is}
 use Rattle.edit_manifest.specs.Removals.{HasString, Outlives}
 
 -- a value is asserted by itself, so it stays where it is not in what goes

@@ -5,18 +5,18 @@ use Rattle.edit_base.specs.declared.errors.Error.{Error}
 use Rattle.edit_base.specs.declared.errors.Error.TheVariants.{EditRefused}
 use Rattle.edit_base.specs.Errors.{IsMemory}
 use Rattle.edit_syntax.specs.Grammar.{Text}
-use Rattle.edit_document.specs.Assertions.{Place, Step, key, index, at, assertions}
-use Rattle.edit_document.specs.EditBytes.{is_within}
+use Rattle.edit_tree.specs.Assertions.{Place, Step, key, index, at, assertions}
+use Rattle.edit_tree.specs.EditBytes.{is_within}
 use Rattle.edit_document.specs.declared.item.Item.{Item}
 use Rattle.edit_document.specs.declared.place.Step.{Step as WrittenStep}
 use Rattle.edit_document.specs.ItemViews.{Finds, view_of}
 use Rattle.edit_document.specs.Items.{place_seen}
-use Rattle.edit_document.specs.Meant.{Tree, Removed, RemoveFails, is_member}
-use Rattle.edit_document.specs.RemovedBytes.{removed_text}
-use Rattle.edit_document.specs.Shown.{Shown, ShowsTree, tree_of}
-use Rattle.edit_document.specs.Supported.{IsManifest}
-use Rattle.edit_document.specs.Tree.{View, view_at}
-use Rattle.edit_document.proofs.HeadedPlaces.{inside_more, inside_self}
+use Rattle.edit_tree.specs.Meant.{Tree, Removed, RemoveFails, is_member}
+use Rattle.edit_tree.specs.RemovedBytes.{removed_text}
+use Rattle.edit_tree.specs.Shown.{Shown, ShowsTree, tree_of}
+use Rattle.edit_tree.specs.Supported.{IsManifest}
+use Rattle.edit_tree.specs.Tree.{View, view_at}
+use Rattle.edit_tree.proofs.HeadedPlaces.{inside_more, inside_self}
 use Rattle.edit_manifest.specs.Removals.{Without, OneStays}
 use Rattle.edit_manifest.specs.RemovedEntries.{TakesOut, StaysIn, entry_stays, table_stays, IsKept, IsNotTakenOut, bare_table, entry_of, is_bare, missing_table}
 use Rattle.edit_manifest.specs.Tables.{keyed}

@@ -1,11 +1,11 @@
 -- Items removed one after the other: one more, and the one that cannot be.
 use Rattle.std.proofs.Common.{◌≡◌, ℕ, List, [], ◌∷◌, ◌++◌, Some, refl, sym, ap, ◌∙◌}
 use Rattle.std.specs.List.{AllByRecursion}
-use Rattle.edit_document.specs.Assertions.{Place, assertions}
-use Rattle.edit_document.specs.Meant.{Tree, Removed, RemoveFails}
-use Rattle.edit_document.specs.RemovedBytes.{removed_text}
-use Rattle.edit_document.specs.Supported.{IsManifest}
-use Rattle.edit_document.specs.Tree.{string, view_at}
+use Rattle.edit_tree.specs.Assertions.{Place, assertions}
+use Rattle.edit_tree.specs.Meant.{Tree, Removed, RemoveFails}
+use Rattle.edit_tree.specs.RemovedBytes.{removed_text}
+use Rattle.edit_tree.specs.Supported.{IsManifest}
+use Rattle.edit_tree.specs.Tree.{string, view_at}
 use Rattle.edit_syntax.specs.Grammar.{Text}
 use Rattle.edit_manifest.specs.Removals.{Without, none, next, OneStays, AreStrings, AreInTurn, HasString, Outlives}
 use Rattle.edit_manifest.proofs.StayingStrings.{string_stays}

@@ -7,10 +7,10 @@ use Rattle.std.specs.Str.{bytes_eq}
 use Rattle.edit_base.specs.declared.errors.Error.{Error}
 use Rattle.edit_base.specs.declared.errors.Error.TheVariants.{EditRefused}
 use Rattle.edit_base.specs.Errors.{IsMemory}
-use Rattle.edit_document.specs.Assertions.{Place, Step, at, key, index}
+use Rattle.edit_tree.specs.Assertions.{Place, Step, at, key, index}
 use Rattle.edit_document.specs.Items.{string_in, truth_in}
-use Rattle.edit_document.specs.Shown.{Shown, tree_of}
-use Rattle.edit_document.specs.Tree.{View, static_array, table}
+use Rattle.edit_tree.specs.Shown.{Shown, tree_of}
+use Rattle.edit_tree.specs.Tree.{View, static_array, table}
 use Rattle.edit_manifest.specs.Removals.{OneStays}
 use Rattle.edit_manifest.specs.Tables.{Tree, dependency_tables, keyed, member_names}
 

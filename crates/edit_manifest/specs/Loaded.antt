@@ -5,8 +5,8 @@ use Rattle.edit_base.specs.Errors.{IsMemory, number_of}
 use Rattle.edit_base.specs.declared.errors.DeviceCall.TheVariants as call
 use Rattle.edit_base.specs.declared.errors.Error.{Error}
 use Rattle.edit_base.specs.declared.errors.Error.TheVariants.{NoManifest, NotAbsolute}
-use Rattle.edit_document.specs.Supported.{IsManifest}
-use Rattle.edit_sources.specs.Store.{StoreView}
+use Rattle.edit_tree.specs.Supported.{IsManifest}
+use Rattle.edit_store.specs.Store.{StoreView}
 use Rattle.edit_syntax.specs.Grammar.{Text}
 use Rattle.edit_manifest.specs.Located.{IsFault}
 

@@ -5,9 +5,9 @@ use Rattle.edit_base.specs.Paths.{IsNormalOf, joined}
 use Rattle.edit_base.specs.declared.errors.DeviceCall.{DeviceCall}
 use Rattle.edit_base.specs.declared.errors.Error.{Error}
 use Rattle.edit_base.specs.declared.errors.Error.TheVariants.{Device, ManifestNotFound, NoPath}
-use Rattle.edit_sources.specs.ConfigurationFiles.{Climbs}
-use Rattle.edit_sources.specs.Store.{Files, StandsAt, raised}
-use Rattle.edit_sources.specs.declared.store.Kind.TheVariants.{File, Folder, Absent}
+use Rattle.edit_store.specs.Climbs.{Climbs}
+use Rattle.edit_store.specs.Store.{Files, StandsAt, raised}
+use Rattle.edit_store.specs.declared.store.Kind.TheVariants.{File, Folder, Absent}
 
 -- the path of the manifest in a folder
 abbrev pub manifest_in : List ℕ → List ℕ

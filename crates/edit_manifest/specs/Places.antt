@@ -2,7 +2,7 @@
 use Rattle.std.specs.Prelude.{List, map}
 use Rattle.std.specs.Global.{Vec}
 use Rattle.edit_document.specs.declared.place.Step.{Step}
-use Rattle.edit_document.specs.Assertions.{Place}
+use Rattle.edit_tree.specs.Assertions.{Place}
 use Rattle.edit_document.specs.Items.{place_seen}
 
 -- the places

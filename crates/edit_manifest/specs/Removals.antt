@@ -1,12 +1,12 @@
 -- Texts without items that are removed one after the other, and when one of the items cannot be removed.
 use Rattle.std.specs.Prelude.{◌≡◌, ℕ, false, List, [], ◌∷◌, ◌++◌, Some, ⊤}
 use Rattle.std.specs.List.{AllByRecursion}
-use Rattle.edit_document.specs.Assertions.{Place}
-use Rattle.edit_document.specs.EditBytes.{is_within}
-use Rattle.edit_document.specs.Meant.{Tree, RemoveFails, moved}
-use Rattle.edit_document.specs.RemovedBytes.{removed_text}
-use Rattle.edit_document.specs.Supported.{IsManifest}
-use Rattle.edit_document.specs.Tree.{string}
+use Rattle.edit_tree.specs.Assertions.{Place}
+use Rattle.edit_tree.specs.EditBytes.{is_within}
+use Rattle.edit_tree.specs.Meant.{Tree, RemoveFails, moved}
+use Rattle.edit_tree.specs.RemovedBytes.{removed_text}
+use Rattle.edit_tree.specs.Supported.{IsManifest}
+use Rattle.edit_tree.specs.Tree.{string}
 use Rattle.edit_syntax.specs.Grammar.{Text}
 
 -- a text, and what is left of it without the items at these places, removed one after the other

@@ -4,10 +4,10 @@ use Rattle.std.specs.List.{join_by}
 use Rattle.edit_base.specs.declared.errors.Error.{Error}
 use Rattle.edit_base.specs.declared.errors.Error.TheVariants.{NoTable, NoDependency, EditRefused}
 use Rattle.edit_base.specs.Errors.{IsMemory}
-use Rattle.edit_document.specs.Assertions.{Place, at, key}
-use Rattle.edit_document.specs.Shown.{Shown, tree_of}
-use Rattle.edit_document.specs.Supported.{IsManifest}
-use Rattle.edit_document.specs.Tree.{View, table, inline_table, view_at}
+use Rattle.edit_tree.specs.Assertions.{Place, at, key}
+use Rattle.edit_tree.specs.Shown.{Shown, tree_of}
+use Rattle.edit_tree.specs.Supported.{IsManifest}
+use Rattle.edit_tree.specs.Tree.{View, table, inline_table, view_at}
 use Rattle.edit_syntax.specs.Grammar.{Text}
 use Rattle.edit_manifest.specs.Removals.{Without, OneStays}
 use Rattle.edit_manifest.specs.Tables.{Tree, is_table_like, keyed}

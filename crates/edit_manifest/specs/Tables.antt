@@ -4,9 +4,9 @@
 use Rattle.std.specs.Prelude.{ℕ, Bool, false, if◌then◌else◌, List, [], ◌∷◌, map, option_to_list, Option, Some, None, codes}
 use Rattle.std.specs.List.{flat_map}
 use Rattle.std.specs.Str.{bytes_eq}
-use Rattle.edit_document.specs.Assertions.{Place, key}
+use Rattle.edit_tree.specs.Assertions.{Place, key}
 use Rattle.edit_document.specs.Items.{is_tabular, names_in}
-use Rattle.edit_document.specs.Tree.{View}
+use Rattle.edit_tree.specs.Tree.{View}
 use Rattle.edit_manifest.specs.Kinds.{is_kind, kind_name}
 use Rattle.edit_manifest.specs.declared.dep_table.DepKind.TheVariants.{Normal}
 

@@ -4,13 +4,13 @@ use Rattle.std.specs.Prelude.{◌≡◌, ◌⊎◌, ℕ, Bool, false, List, [], 
 use Rattle.edit_base.specs.declared.errors.Error.{Error}
 use Rattle.edit_base.specs.declared.errors.Error.TheVariants.{MissingVersion, VersionNotString, InvalidDependency, NoVersionPlace}
 use Rattle.edit_base.specs.Errors.{IsMemory}
-use Rattle.edit_document.specs.Assertions.{Place, at, key}
+use Rattle.edit_tree.specs.Assertions.{Place, at, key}
 use Rattle.edit_document.specs.Items.{string_in, truth_in}
 use Rattle.edit_document.specs.Ranges.{one_edit}
-use Rattle.edit_document.specs.Replaces.{Replaces, emptied, written}
-use Rattle.edit_document.specs.Shown.{Shown, tree_of}
-use Rattle.edit_document.specs.Supported.{IsManifest}
-use Rattle.edit_document.specs.Tree.{View, string, table, inline_table, is_value_at}
+use Rattle.edit_tree.specs.Replaces.{Replaces, emptied, written}
+use Rattle.edit_tree.specs.Shown.{Shown, tree_of}
+use Rattle.edit_tree.specs.Supported.{IsManifest}
+use Rattle.edit_tree.specs.Tree.{View, string, table, inline_table, is_value_at}
 use Rattle.edit_syntax.specs.Grammar.{Text}
 use Rattle.edit_version.specs.ReadVersion.{version_read}
 use Rattle.semver.specs.Parse.{Parts}

@@ -2,10 +2,10 @@
 ghost use Rattle.std.specs.Prelude.{◌≡◌, ◌⊎◌, ◌++◌, IfErr, IfOk, OnOk, codes};
 ghost use Rattle.edit_base.specs.Errors.{IsMemory};
 ghost use Rattle.edit_base.specs.declared.errors.Error.TheVariants.{EditRefused};
-ghost use Rattle.edit_document.specs.Assertions.{Place as PlaceSeen, at, index as index_step};
+ghost use Rattle.edit_tree.specs.Assertions.{Place as PlaceSeen, at, index as index_step};
 ghost use Rattle.edit_document.specs.ItemViews.{Finds};
 ghost use Rattle.edit_document.specs.Items.{place_seen};
-ghost use Rattle.edit_document.specs.Shown.{Shown, tree_of};
+ghost use Rattle.edit_tree.specs.Shown.{Shown, tree_of};
 ghost use Rattle.edit_manifest.specs.Features.{IsNotCleared, goes, holds, is_held, is_in_workspace, is_offered, is_plain, is_section, offers, stale_in, stale_in_features, stale_strings};
 ghost use Rattle.edit_manifest.specs.Places.{places_seen};
 ghost use Rattle.edit_manifest.specs.Removals.{AreInTurn, AreStrings, OneStays, Without};

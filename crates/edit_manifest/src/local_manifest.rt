@@ -2,7 +2,7 @@
 ghost use Rattle.std.specs.Prelude.{◌≡◌, ◌⊎◌, Some, true, IfErr, IfOk, OnOk, option_map, string_bytes};
 ghost use Rattle.edit_base.specs.Errors.{IsMemory};
 ghost use Rattle.edit_base.specs.declared.errors.DeviceCall.TheVariants as call;
-ghost use Rattle.edit_sources.specs.Store.{HasCause, OnlyReads, SameBut};
+ghost use Rattle.edit_store.specs.Store.{HasCause, OnlyReads, SameBut};
 ghost use Rattle.edit_manifest.specs.Finding.{IsFound, IsUnfoundOrUnread};
 ghost use Rattle.edit_manifest.specs.Loaded.{IsUnloaded, IsUnread, NamesPath, is_absolute};
 ghost use Rattle.edit_manifest.specs.Located.{IsFault};
@@ -10,7 +10,7 @@ ghost use Rattle.edit_manifest.specs.Located.{IsFault};
 use crate::locate::find;
 use crate::manifest::Manifest;
 use edit_base::errors::{CargoResult, Error};
-use edit_sources::Store;
+use edit_store::Store;
 use std::alloc::Global;
 use std::ops::{Deref, DerefMut};
 

@@ -2,12 +2,12 @@
 ghost use Rattle.std.specs.Prelude.{◌≡◌, ◌⊎◌, true, IfErr, IfOk, MatchBool, MatchOption, option_map, string_bytes};
 ghost use Rattle.edit_base.specs.Errors.{IsMemory};
 ghost use Rattle.edit_base.specs.declared.errors.DeviceCall.TheVariants as call;
-ghost use Rattle.edit_sources.specs.Store.{OnlyReads};
+ghost use Rattle.edit_store.specs.Store.{OnlyReads};
 ghost use Rattle.edit_manifest.specs.Located.{HasNoManifest, IsFault, IsManifestAt, IsManifestPath, IsMissing, IsNearest, IsNotFound, IsThere, IsUnfound, NamesFolder, manifest_in};
 
 use edit_base::paths::{folder, join, normal};
 use edit_base::{CargoResult, Error};
-use edit_sources::{Kind, Store};
+use edit_store::{Kind, Store};
 use std::alloc::Global;
 
 /// Whether a file or a folder stands at a path.

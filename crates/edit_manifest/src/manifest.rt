@@ -3,8 +3,8 @@ ghost use Rattle.std.specs.Prelude.{◌≡◌, Some, IfErr, IfOk, IsUtf8, MatchR
 ghost use Rattle.edit_base.specs.Errors.{IsMemory};
 ghost use Rattle.edit_syntax.specs.Grammar.{Text};
 ghost use Rattle.edit_syntax.specs.Marks.{IsReadRefusal};
-ghost use Rattle.edit_document.specs.Shown.{ShowsTree};
-ghost use Rattle.edit_document.specs.Supported.{IsManifest};
+ghost use Rattle.edit_tree.specs.Shown.{ShowsTree};
+ghost use Rattle.edit_tree.specs.Supported.{IsManifest};
 ghost use Rattle.edit_manifest.specs.Loaded.{IsBadManifest};
 
 use edit_base::errors::{CargoResult, Error};

@@ -2,10 +2,10 @@
 ghost use Rattle.std.specs.Prelude.{◌≡◌, ◌⊎◌, ℕ, List, None, IfErr, IfOk, OnOk, map, option_map, string_bytes};
 ghost use Rattle.edit_base.specs.Errors.{IsMemory};
 ghost use Rattle.edit_base.specs.declared.errors.Error.TheVariants.{EditRefused};
-ghost use Rattle.edit_document.specs.Assertions.{Place as PlaceSeen, at, key};
+ghost use Rattle.edit_tree.specs.Assertions.{Place as PlaceSeen, at, key};
 ghost use Rattle.edit_document.specs.ItemViews.{Finds};
 ghost use Rattle.edit_document.specs.Items.{place_seen};
-ghost use Rattle.edit_document.specs.Shown.{Shown, tree_of};
+ghost use Rattle.edit_tree.specs.Shown.{Shown, tree_of};
 ghost use Rattle.edit_manifest.specs.Removals.{OneStays, Without};
 ghost use Rattle.edit_manifest.specs.RemovedEntries.{IsNotTakenOut, NamesEntry, NamesStep, TakesOut, bare_table, entry_of, is_bare, missing_table};
 ghost use Rattle.edit_manifest.specs.Tables.{is_table_like, keyed};

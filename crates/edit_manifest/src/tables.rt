@@ -3,7 +3,7 @@ ghost use Rattle.std.specs.Prelude.{◌≡◌, ◌++◌, IfErr, IfOk, OnOk, map,
 ghost use Rattle.edit_base.specs.Errors.{IsMemory};
 ghost use Rattle.edit_base.specs.Paths.{texts};
 ghost use Rattle.edit_document.specs.Items.{place_seen};
-ghost use Rattle.edit_document.specs.Shown.{tree_of};
+ghost use Rattle.edit_tree.specs.Shown.{tree_of};
 ghost use Rattle.edit_manifest.specs.Places.{places_seen};
 ghost use Rattle.edit_manifest.specs.Tables.{dependency_tables, shared, table_at, tables_at, tables_of_target, tables_under, target_tables};
 

@@ -4,7 +4,7 @@ ghost use Rattle.edit_base.specs.Errors.{IsMemory};
 ghost use Rattle.edit_base.specs.Paths.{texts};
 ghost use Rattle.edit_document.specs.ItemViews.{document_of, place_of as item_place};
 ghost use Rattle.edit_document.specs.Items.{place_seen};
-ghost use Rattle.edit_document.specs.Shown.{tree_of};
+ghost use Rattle.edit_tree.specs.Shown.{tree_of};
 ghost use Rattle.edit_manifest.specs.Tables.{keyed};
 ghost use Rattle.edit_manifest.specs.Versions.{IsUnset, IsUnsetDependency, SetsDependency, SetsVersion, dep_version, is_inherited, package_version, shared_version, version_place, workspace_version};
 ghost use Rattle.semver.specs.Identifiers.{parts_of, version_text};

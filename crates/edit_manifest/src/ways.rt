@@ -2,10 +2,10 @@
 ghost use Rattle.std.specs.Prelude.{◌≡◌, [], ◌∷◌, IfErr, IfOk, option_and_then, option_map};
 ghost use Rattle.edit_base.specs.Errors.{IsMemory};
 ghost use Rattle.edit_base.specs.Paths.{texts};
-ghost use Rattle.edit_document.specs.Assertions.{Place as PlaceSeen, at, key};
+ghost use Rattle.edit_tree.specs.Assertions.{Place as PlaceSeen, at, key};
 ghost use Rattle.edit_document.specs.ItemViews.{Finds};
 ghost use Rattle.edit_document.specs.Items.{place_seen, string_in, truth_in};
-ghost use Rattle.edit_document.specs.Shown.{tree_of};
+ghost use Rattle.edit_tree.specs.Shown.{tree_of};
 ghost use Rattle.edit_manifest.specs.Tables.{keyed};
 
 use edit_base::errors::CargoResult;

@@ -7,7 +7,7 @@ use Rattle.std.proofs.lemmas.List.Elements.{All-append, All-push, Contains-appen
 use Rattle.std.proofs.lemmas.List.Sums.{fold-append}
 use Rattle.edit_base.specs.declared.errors.DeviceCall.TheVariants as call
 use Rattle.edit_base.specs.declared.errors.Error.{Error}
-use Rattle.edit_sources.specs.Store.{RefusesCall, StoreView, OnlyReads, raised}
+use Rattle.edit_store.specs.Store.{RefusesCall, StoreView, OnlyReads, raised}
 use Rattle.edit_version.specs.RustVersions.{Numbers, numbers_of}
 use Rattle.edit_metadata.specs.Inputs.{IsNoInput, ManifestSaid, input_paths, least, lesser, manifest_of, member_manifests}
 use Rattle.edit_metadata.specs.Metadata.{PackageSaid, members}

@@ -6,7 +6,7 @@ use Rattle.edit_base.specs.Paths.{IsNormalOf, joined}
 use Rattle.edit_base.specs.declared.errors.DeviceCall.TheVariants as call
 use Rattle.edit_base.specs.declared.errors.Error.{Error}
 use Rattle.edit_base.specs.declared.errors.Error.TheVariants.{NoManifest}
-use Rattle.edit_sources.specs.Store.{Files, RefusesCall, StoreView}
+use Rattle.edit_store.specs.Store.{Files, RefusesCall, StoreView}
 use Rattle.edit_version.specs.RustVersions.{Numbers, is_above, numbers_of}
 use Rattle.edit_metadata.specs.Metadata.{PackageSaid, WorkspaceSaid, members}
 use Rattle.edit_metadata.specs.declared.input.Input.{Input}

@@ -8,14 +8,14 @@ ghost use Rattle.edit_base.specs.declared.errors.Error.TheVariants.{NoManifest};
 ghost use Rattle.edit_metadata.specs.Inputs.{AreInputs, IsInputOf, IsNoInput, IsReadFrom, input_paths, least, lesser, manifest_of, manifests, member_manifests, root_manifest, rust_version_for};
 ghost use Rattle.edit_metadata.specs.Metadata.{members};
 ghost use Rattle.edit_metadata.specs.Workspaces.{package_said, packages_said, workspace_said};
-ghost use Rattle.edit_sources.specs.Store.{OnlyReads, RefusesCall};
+ghost use Rattle.edit_store.specs.Store.{OnlyReads, RefusesCall};
 ghost use Rattle.edit_version.specs.RustVersions.{numbers_of};
 
 use crate::input::Input;
 use crate::workspace::{Package, Workspace};
 use edit_base::paths::{join, normal};
 use edit_base::{CargoResult, Error};
-use edit_sources::Store;
+use edit_store::Store;
 use edit_version::RustVersion;
 use std::alloc::Global;
 

@@ -7,10 +7,10 @@ use Rattle.edit_base.specs.declared.errors.Error.{Error}
 use Rattle.edit_base.specs.declared.errors.Error.TheVariants.{NoManifest, Output}
 use Rattle.edit_version.specs.RustVersions.{Numbers}
 use Rattle.edit_sources.specs.ConfigurationFiles.{AreConfigs, ConfigsFail, HasFailed}
-use Rattle.edit_sources.specs.Store.{Files, SameFiles, StandsAt}
+use Rattle.edit_store.specs.Store.{Files, SameFiles, StandsAt}
 use Rattle.edit_sources.specs.declared.config.Config.{Config}
 use Rattle.edit_sources.specs.declared.file_index.FileIndex.{FileIndex}
-use Rattle.edit_sources.specs.declared.store.Kind.TheVariants.{Folder}
+use Rattle.edit_store.specs.declared.store.Kind.TheVariants.{Folder}
 use Rattle.edit_manifest.specs.Located.{IsFault, IsManifestAt, IsManifestPath, IsThere, manifest_in}
 use Rattle.edit_manifest.specs.Located.IsManifestAt.{named, nearest}
 use Rattle.edit_manifest.specs.Located.IsManifestPath.{specified}

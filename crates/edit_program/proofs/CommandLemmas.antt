@@ -11,7 +11,7 @@ use Rattle.edit_program.specs.CommandLine.{AsksFor, edit_app, value_of}
 use Rattle.edit_base.specs.Errors.{IsMemory}
 use Rattle.edit_base.specs.declared.errors.Error.{Error as CargoError}
 use Rattle.edit_base.specs.declared.errors.Error.TheVariants.{Output}
-use Rattle.edit_sources.specs.Store.{Files, SameFiles}
+use Rattle.edit_store.specs.Store.{Files, SameFiles}
 use Rattle.edit_program.specs.Causes.{IsUpgradeCause}
 use Rattle.edit_program.specs.Upgrading.{IsBroken}
 use Rattle.edit_program.specs.Runs.{AreAtFault, AreNotTaken, IsAnswered, IsDone, IsRefused, IsRunCause, status_of}

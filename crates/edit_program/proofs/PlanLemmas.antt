@@ -12,11 +12,11 @@ use Rattle.edit_sources.specs.IndexCache.{index_of, kept_at}
 use Rattle.edit_sources.specs.declared.config.Config.{Config}
 use Rattle.edit_sources.specs.declared.cache.IndexCache.{IndexCache}
 use Rattle.edit_sources.specs.declared.file_index.FileIndex.{FileIndex}
-use Rattle.cargo_edit.specs.Causes.{HasBadEntry}
-use Rattle.cargo_edit.specs.Inputs.{below, rows_of}
-use Rattle.cargo_edit.specs.Lines.{line_of}
-use Rattle.cargo_edit.specs.declared.upgrade.UpgradePlan.{UpgradePlan}
-use Rattle.cargo_edit.specs.Looks.{Kept, kept_by}
+use Rattle.edit_upgrade.specs.Causes.{HasBadEntry}
+use Rattle.edit_upgrade.specs.Inputs.{below, rows_of}
+use Rattle.edit_upgrade.specs.Lines.{line_of}
+use Rattle.edit_upgrade.specs.declared.upgrade.UpgradePlan.{UpgradePlan}
+use Rattle.edit_upgrade.specs.Looks.{Kept, kept_by}
 use Rattle.edit_program.specs.Causes.{IsPlanCause}
 
 nothing_kept : (cache : IndexCache FileIndex) → ((address name : List ℕ) → kept_at cache address name ≡ None)

@@ -2,7 +2,7 @@
 use Rattle.std.proofs.Common.{◌≡◌, ℕ, List, Option, Bool, true, inl, inr, ◌∙◌}
 use Rattle.std.specs.Prelude.{◌⊎◌, pos, slice_get}
 use Rattle.edit_version.specs.RustVersions.{Numbers}
-use Rattle.edit_sources.specs.Store.{Files, SameFiles, StoreView}
+use Rattle.edit_store.specs.Store.{Files, SameFiles, StoreView}
 use Rattle.edit_sources.specs.declared.config.Config.{Config}
 use Rattle.edit_sources.specs.declared.file_index.FileIndex.{FileIndex}
 use Rattle.edit_report.specs.Table.{report_text}

@@ -7,13 +7,13 @@ use Rattle.edit_version.specs.RustVersions.{Numbers}
 use Rattle.edit_sources.specs.ConfigurationFiles.{AreConfigs, ConfigsFail}
 use Rattle.edit_sources.specs.FileIndex.{FileGives}
 use Rattle.edit_sources.specs.IndexLines.{RefusesLines, lines_of}
-use Rattle.edit_sources.specs.Store.{Files, StandsAt}
+use Rattle.edit_store.specs.Store.{Files, StandsAt}
 use Rattle.edit_sources.specs.declared.config.Config.{Config}
 use Rattle.edit_sources.specs.declared.file_index.FileIndex.{FileIndex}
-use Rattle.edit_sources.specs.declared.store.Kind.TheVariants.{Folder}
-use Rattle.cargo_edit.specs.Causes.{HasBadEntry}
+use Rattle.edit_store.specs.declared.store.Kind.TheVariants.{Folder}
+use Rattle.edit_upgrade.specs.Causes.{HasBadEntry}
 use Rattle.edit_manifest.specs.Loaded.{IsBadManifest}
-use Rattle.cargo_edit.specs.Looks.{Kept}
+use Rattle.edit_upgrade.specs.Looks.{Kept}
 use Rattle.edit_manifest.specs.Located.{HasNoManifest, IsFault, IsManifestPath}
 use Rattle.edit_program.specs.Upgrading.{AreRead, IsAbsoluteOf, IsManifestRead}
 

@@ -6,7 +6,7 @@ use Rattle.clap.specs.declared.error.kind.ErrorKind.TheVariants.{DisplayHelp, Di
 use Rattle.edit_base.specs.Errors.{IsMemory}
 use Rattle.edit_base.specs.declared.errors.Error.{Error}
 use Rattle.edit_base.specs.declared.errors.Error.TheVariants.{Output}
-use Rattle.edit_sources.specs.Store.{Files, SameFiles}
+use Rattle.edit_store.specs.Store.{Files, SameFiles}
 use Rattle.edit_program.specs.Causes.{IsUpgradeCause}
 use Rattle.edit_program.specs.CommandLine.{AsksFor, edit_app}
 use Rattle.edit_program.specs.Upgrading.{IsBroken, IsUpgraded}

@@ -1,26 +1,26 @@
 -- What an upgrade of one manifest reads, plans and writes.
 use Rattle.std.specs.Prelude.{◌≡◌, ◌⊎◌, ℕ, List, [], All, true, false, IsSome, Option, Some, None, Ok, codes, map, option_and_then, pos, slice_get, string_bytes}
 use Rattle.edit_base.specs.Paths.{IsNormalOf, joined}
-use Rattle.edit_document.specs.Assertions.{at, key}
+use Rattle.edit_tree.specs.Assertions.{at, key}
 use Rattle.edit_syntax.specs.Grammar.{Text}
 use Rattle.edit_document.specs.Items.{string_in}
-use Rattle.edit_document.specs.Supported.{IsManifest}
-use Rattle.edit_document.specs.Tree.{view_at}
+use Rattle.edit_tree.specs.Supported.{IsManifest}
+use Rattle.edit_tree.specs.Tree.{view_at}
 use Rattle.edit_version.specs.RustVersions.{Numbers, rust_of}
 use Rattle.edit_sources.specs.ConfigurationFiles.{AreConfigs}
 use Rattle.edit_sources.specs.FileIndex.{FileGives, HoldsLines}
 use Rattle.edit_sources.specs.Index.{answer_of}
-use Rattle.edit_sources.specs.Store.{Files, SameBut, SameFiles}
+use Rattle.edit_store.specs.Store.{Files, SameBut, SameFiles}
 use Rattle.edit_sources.specs.declared.config.Config.{Config}
 use Rattle.edit_sources.specs.declared.file_index.FileIndex.{FileIndex}
 use Rattle.edit_manifest.specs.Tables.{Tree}
-use Rattle.cargo_edit.specs.Inputs.{Setting}
-use Rattle.cargo_edit.specs.Looks.{look_at}
-use Rattle.cargo_edit.specs.Outputs.{HasOutputs}
-use Rattle.cargo_edit.specs.Lines.{line_of}
-use Rattle.cargo_edit.specs.Upgraded.{HasRows, IsNeededBy}
-use Rattle.cargo_edit.specs.declared.upgrade.Look.{Look}
-use Rattle.cargo_edit.specs.declared.upgrade.Options.{Options}
+use Rattle.edit_upgrade.specs.Inputs.{Setting}
+use Rattle.edit_upgrade.specs.Looks.{look_at}
+use Rattle.edit_upgrade.specs.Outputs.{HasOutputs}
+use Rattle.edit_upgrade.specs.Lines.{line_of}
+use Rattle.edit_upgrade.specs.Upgraded.{HasRows, IsNeededBy}
+use Rattle.edit_upgrade.specs.declared.upgrade.Look.{Look}
+use Rattle.edit_upgrade.specs.declared.upgrade.Options.{Options}
 use Rattle.edit_report.specs.Table.{report_text}
 use Rattle.edit_report.specs.declared.row.Row.{Row}
 use Rattle.edit_report.specs.declared.output.Output.{Output}

@@ -2,7 +2,7 @@
 ghost use Rattle.std.specs.Prelude.{◌≡◌, ◌⊎◌, Some, true, IfErr, IfOk, string_bytes};
 ghost use Rattle.edit_base.specs.Errors.{IsMemory};
 ghost use Rattle.edit_base.specs.declared.errors.DeviceCall.TheVariants as call;
-ghost use Rattle.edit_sources.specs.Store.{OnlyReads};
+ghost use Rattle.edit_store.specs.Store.{OnlyReads};
 ghost use Rattle.edit_manifest.specs.Located.{HasNoManifest, IsFault, IsManifestPath};
 ghost use Rattle.edit_program.specs.Upgrading.{IsAbsoluteOf};
 
@@ -10,7 +10,7 @@ use crate::refusal::{Refusal, RunResult, at_path};
 use edit_base::paths::{join, normal};
 use edit_base::{CargoResult, Error};
 use edit_manifest::find;
-use edit_sources::Store;
+use edit_store::Store;
 use std::alloc::Global;
 
 /// An absolute path in normal form: `path`, below `current` where it is relative.

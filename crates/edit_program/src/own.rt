@@ -1,7 +1,7 @@
 //! What a manifest says of itself.
 ghost use Rattle.std.specs.Prelude.{◌≡◌, IfErr, IfOk, option_map};
 ghost use Rattle.edit_base.specs.Errors.{IsMemory};
-ghost use Rattle.edit_document.specs.Shown.{tree_of};
+ghost use Rattle.edit_tree.specs.Shown.{tree_of};
 ghost use Rattle.edit_program.specs.Upgrading.{own_rust, package_text};
 ghost use Rattle.edit_version.specs.RustVersions.{numbers_of};
 

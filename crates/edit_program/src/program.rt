@@ -12,7 +12,7 @@ use crate::refusal::{Refusal, RunResult};
 use crate::upgrade::upgrade;
 use clap::error::ErrorKind;
 use edit_base::Error;
-use edit_sources::Store;
+use edit_store::Store;
 use std::alloc::Global;
 use std::io;
 

@@ -7,8 +7,8 @@ use Rattle.std.specs.declared.alloc.Global.{Global}
 use Rattle.std.specs.List.{list_any}
 use Rattle.std.specs.String.{string_eq}
 use Rattle.indexmap.specs.IndexSet.{insert_all, insert_key}
-use Rattle.edit_document.specs.Assertions.{same_bytes}
-use Rattle.edit_document.proofs.SamePlace.{same_bytes_is}
+use Rattle.edit_tree.specs.Assertions.{same_bytes}
+use Rattle.edit_tree.proofs.SamePlace.{same_bytes_is}
 use Rattle.edit_document.proofs.SlotKeys.{word_is}
 use Rattle.edit_base.specs.Errors.{IsMemory}
 use Rattle.edit_base.specs.declared.errors.Error.{Error}

@@ -1,12 +1,12 @@
 -- How the checks of an entry go on, and where they stop.
 use Rattle.std.proofs.Common.{◌≡◌, ℕ, zero, suc, ◌+◌, ◌-◌, ◌<◌, true, false, List, [], ◌∷◌, ◌++◌, Some, None, Result, Ok, Err, codes, refl, ap, ◌∙◌, inl, inr, arith, append-nil, add-zero, add-suc}
 use Rattle.edit_base.specs.declared.errors.Error.{Error}
-use Rattle.edit_document.specs.Assertions.{Step, Place, at, index}
+use Rattle.edit_tree.specs.Assertions.{Step, Place, at, index}
 use Rattle.edit_document.specs.ItemViews.{document_of, place_of}
 use Rattle.edit_document.specs.Items.{is_static_array, is_tabular, string_in, truth_in, type_name_of}
 use Rattle.edit_document.specs.declared.item.Item.{Item}
-use Rattle.edit_document.specs.Shown.{Shown, tree_of}
-use Rattle.edit_document.specs.Tree.{View, string, truth, static_array, inline_table, table}
+use Rattle.edit_tree.specs.Shown.{Shown, tree_of}
+use Rattle.edit_tree.specs.Tree.{View, string, truth, static_array, inline_table, table}
 use Rattle.edit_record.specs.EntryRecords.{Refusal, wrong_type, workspace_false, unknown_entry}
 use Rattle.edit_record.specs.ReadEntries.{Tree, below, and_then, entry_record, feature_texts, first_texts, table_record, text_of, true_workspace}
 use Rattle.edit_record.specs.RecordViews.{IsRefused, Tells, shown_at}

@@ -2,9 +2,9 @@
 use Rattle.std.proofs.Common.{◌≡◌, ◌≤◌, ℕ, false, List, ◌++◌, length, refl, ◌∙◌, Option, Some, None, arith}
 use Rattle.std.specs.Prelude.{Result, Ok, option_map, option_to_list, codes}
 use Rattle.edit_base.specs.Paths.{joined}
-use Rattle.edit_document.specs.NewItems.{a_string}
+use Rattle.edit_tree.specs.NewItems.{a_string}
 use Rattle.edit_version.specs.Requirement.{cut}
-use Rattle.edit_document.specs.Assertions.{same_bytes}
+use Rattle.edit_tree.specs.Assertions.{same_bytes}
 use Rattle.edit_record.specs.EntryRecords.{Repository, Origin, from_registry, from_path, from_git, from_workspace, EntryRecord, Refusal, key_of}
 use Rattle.edit_record.specs.NewEntries.{Member, origin_members, option_members, repository_members, path_members, written_registry, written_name}
 use Rattle.edit_record.specs.ReadEntries.{names_by, origin_at, table_record}

@@ -6,11 +6,11 @@ use Rattle.std.proofs.Math.Seq.{take-length}
 use Rattle.std.proofs.lemmas.List.{take_more}
 use Rattle.std.proofs.lemmas.List.Folds.{find-append}
 use Rattle.std.proofs.lemmas.Option.{slice_get-get_or}
-use Rattle.edit_document.specs.Assertions.{same_bytes, key, index}
-use Rattle.edit_document.proofs.SamePlace.{same_bytes_self}
-use Rattle.edit_document.specs.Tree.{string}
-use Rattle.edit_document.specs.Meant.{item_view}
-use Rattle.edit_document.specs.NewItems.{NewValue, a_string, a_truth, a_list, a_table}
+use Rattle.edit_tree.specs.Assertions.{same_bytes, key, index}
+use Rattle.edit_tree.proofs.SamePlace.{same_bytes_self}
+use Rattle.edit_tree.specs.Tree.{string}
+use Rattle.edit_tree.specs.Meant.{item_view}
+use Rattle.edit_tree.specs.NewItems.{NewValue, a_string, a_truth, a_list, a_table}
 use Rattle.edit_record.specs.EntryRecords.{EntryRecord}
 use Rattle.edit_record.specs.NewEntries.{Member, where_there, written_registry, written_name, option_members}
 use Rattle.edit_record.specs.ReadEntries.{Tree, below, first_texts, text_at, truth_at, features_at}

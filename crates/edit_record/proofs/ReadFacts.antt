@@ -1,9 +1,9 @@
 -- Entries and their records or refusals, and the texts of dependencies, as the definitions compute them.
 use Rattle.std.proofs.Common.{◌≡◌, [], refl}
 use Rattle.std.specs.Prelude.{ℕ, true, false, List, ◌∷◌, Some, None, Result, Ok, Err, codes}
-use Rattle.edit_document.specs.Assertions.{key}
-use Rattle.edit_document.specs.Shown.{node_at}
-use Rattle.edit_document.specs.Tree.{string, truth, whole, table_array, table}
+use Rattle.edit_tree.specs.Assertions.{key}
+use Rattle.edit_tree.specs.Shown.{node_at}
+use Rattle.edit_tree.specs.Tree.{string, truth, whole, table_array, table}
 use Rattle.edit_record.specs.EntryRecords.{EntryRecord, from_registry, from_path, from_git, from_workspace, Refusal, wrong_type, workspace_false, unknown_source, old_default_features, unknown_entry, bare_record}
 use Rattle.edit_record.specs.EntryTexts.{origin_text, record_text}
 use Rattle.edit_record.specs.ReadEntries.{repository, record_of}

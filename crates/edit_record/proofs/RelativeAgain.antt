@@ -8,9 +8,9 @@ use Rattle.std.proofs.lemmas.List.{take-append-drop}
 use Rattle.std.proofs.lemmas.List.Elements.{All-head, All-tail, All-nil, All-cons, All-append, All-filter, All-replicate, filter_passes, filter-append}
 use Rattle.std.proofs.lemmas.List.Splits.{slice_split-cons_yes, slice_split-cons_no, slice_split_none, slice_split_at}
 use Rattle.edit_base.specs.Paths.{joined, parts_of}
-use Rattle.edit_document.proofs.SamePlace.{same_bytes_self}
+use Rattle.edit_tree.proofs.SamePlace.{same_bytes_self}
 use Rattle.edit_record.proofs.RelativeTexts.{slashed-none}
-use Rattle.edit_document.specs.Assertions.{same_bytes}
+use Rattle.edit_tree.specs.Assertions.{same_bytes}
 use Rattle.edit_record.specs.RelativePaths.{is_kept, names_of, steps_between, relative_of, slashed, path_field}
 
 -- ---- parts

@@ -10,8 +10,8 @@ use Rattle.std.proofs.lemmas.List.{map-append, take-append-drop, get_or_default}
 use Rattle.std.proofs.lemmas.Str.{len_utf8_ascii}
 use Rattle.std.proofs.lemmas.List.Elements.{All-head, All-tail, filter-append}
 use Rattle.std.proofs.lemmas.Str.Pattern.{NoCharPasses-char, drop_at_char}
-use Rattle.edit_document.specs.Assertions.{same_bytes}
-use Rattle.edit_document.proofs.SamePlace.{same_bytes_self, same_bytes_is}
+use Rattle.edit_tree.specs.Assertions.{same_bytes}
+use Rattle.edit_tree.proofs.SamePlace.{same_bytes_self, same_bytes_is}
 use Rattle.edit_base.specs.Paths.{parts_of, IsIdle, Named, none, drop as named_drop, take as named_take, BeginApart, IsRelative}
 use Rattle.edit_record.specs.RelativePaths.{is_kept, names_of, steps_between, relative_of, slash_for, slashed}
 

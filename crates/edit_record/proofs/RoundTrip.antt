@@ -1,10 +1,10 @@
 -- What is written of a plain record reads as a record of which the same is written.
 use Rattle.std.proofs.Common.{◌≡◌, ℕ, Bool, true, false, List, [], ◌∷◌, ◌++◌, refl, ap, sym, subst, ◌∙◌, Option, Some, None, append-nil}
 use Rattle.std.specs.Prelude.{Result, Ok, option_map, is_some, if◌then◌else◌, option_and_then, unwrap_or, IsSome, IfSome, IsOkAnd, codes}
-use Rattle.edit_document.specs.NewItems.{NewItem, a_string, a_value}
-use Rattle.edit_document.specs.Meant.{item_view}
+use Rattle.edit_tree.specs.NewItems.{NewItem, a_string, a_value}
+use Rattle.edit_tree.specs.Meant.{item_view}
 use Rattle.edit_version.specs.Requirement.{cut}
-use Rattle.edit_document.specs.Assertions.{Place}
+use Rattle.edit_tree.specs.Assertions.{Place}
 use Rattle.edit_record.specs.EntryRecords.{Origin, from_registry, from_path, from_git, from_workspace, EntryRecord, Refusal, origin_version, key_of}
 use Rattle.edit_record.specs.NewEntries.{origin_members, option_members, written_registry, is_short, full_item, item_by, item_of}
 use Rattle.edit_record.specs.ReadEntries.{Tree, below, entry_record, names_by, table_record, record_of}

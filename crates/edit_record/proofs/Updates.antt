@@ -7,16 +7,16 @@ use Rattle.std.proofs.lemmas.List.Elements.{filter_map-append}
 use Rattle.edit_base.specs.Errors.{IsMemory}
 use Rattle.edit_base.specs.declared.errors.Error.{Error}
 use Rattle.edit_base.specs.declared.errors.Error.TheVariants.{EditRefused}
-use Rattle.edit_document.specs.Assertions.{Place}
-use Rattle.edit_document.specs.EditBytes.{is_one_statement}
+use Rattle.edit_tree.specs.Assertions.{Place}
+use Rattle.edit_tree.specs.EditBytes.{is_one_statement}
 use Rattle.edit_document.specs.ItemViews.{document_of, place_of}
 use Rattle.edit_document.specs.declared.item.Item.{Item}
-use Rattle.edit_document.specs.NewItems.{IsEntry}
+use Rattle.edit_tree.specs.NewItems.{IsEntry}
 use Rattle.edit_document.specs.NewItemViews.{value_seen}
 use Rattle.edit_document.specs.declared.new_item.NewValue.{NewValue as WrittenValue}
-use Rattle.edit_document.specs.Shown.{Shown, ShowsTree, tree_of}
-use Rattle.edit_document.specs.Supported.{IsManifest}
-use Rattle.edit_document.specs.Tree.{View, view_at}
+use Rattle.edit_tree.specs.Shown.{Shown, ShowsTree, tree_of}
+use Rattle.edit_tree.specs.Supported.{IsManifest}
+use Rattle.edit_tree.specs.Tree.{View, view_at}
 use Rattle.edit_record.specs.EndViews.{end_seen, ends_seen}
 use Rattle.edit_record.specs.EntryRecords.{EntryRecord, Origin, from_registry, from_path, from_git, from_workspace}
 use Rattle.edit_record.specs.EntryUpdates.{Change, End, changed_by, changes, ends, is_slight, removal_of, removes, replaced_by, update_of}

@@ -1,8 +1,8 @@
 -- The new entries of records, and what is read of them again, as the definitions compute it.
 use Rattle.std.proofs.Common.{◌≡◌, [], refl}
 use Rattle.std.specs.Prelude.{ℕ, true, false, List, ◌∷◌, ◌++◌, Some, None, Result, Ok, codes}
-use Rattle.edit_document.specs.Meant.{item_view}
-use Rattle.edit_document.specs.NewItems.{NewValue, a_string, a_truth, a_list, NewItem, a_value, a_table}
+use Rattle.edit_tree.specs.Meant.{item_view}
+use Rattle.edit_tree.specs.NewItems.{NewValue, a_string, a_truth, a_list, NewItem, a_value, a_table}
 use Rattle.edit_record.specs.EntryRecords.{Repository, EntryRecord, from_registry, from_path, from_git, from_workspace, Refusal, bare_record, key_of}
 use Rattle.edit_record.specs.NewEntries.{item_of}
 use Rattle.edit_record.specs.ReadEntries.{repository, ok_map, record_of}

@@ -2,10 +2,10 @@
 -- after that of cargo-edit.
 use Rattle.std.specs.Prelude.{ℕ, Bool, true, false, not, ◌&&◌, ◌||◌, ◌==◌, if◌then◌else◌, List, [], ◌∷◌, ◌++◌, map, filter, filter_map, Option, Some, None, is_some, option_map, Result, Ok, codes}
 use Rattle.std.specs.List.{list_any}
-use Rattle.edit_document.specs.Assertions.{same_bytes}
+use Rattle.edit_tree.specs.Assertions.{same_bytes}
 use Rattle.edit_document.specs.Items.{count_in, is_string, is_tabular}
-use Rattle.edit_document.specs.NewItems.{NewValue, a_string, a_truth, a_list, NewItem}
-use Rattle.edit_document.specs.Tree.{View}
+use Rattle.edit_tree.specs.NewItems.{NewValue, a_string, a_truth, a_list, NewItem}
+use Rattle.edit_tree.specs.Tree.{View}
 use Rattle.edit_record.specs.EntryRecords.{EntryRecord, Origin, from_registry, from_path, from_git, from_workspace, Refusal, origin_version}
 use Rattle.edit_record.specs.NewEntries.{item_of, written_name}
 use Rattle.edit_record.specs.ReadEntries.{Tree, member_in, features_at}

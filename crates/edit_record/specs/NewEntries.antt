@@ -1,6 +1,6 @@
 -- The new entry of a record (Cargo reference, "Specifying Dependencies").
 use Rattle.std.specs.Prelude.{ℕ, Bool, true, false, not, ◌&&◌, if◌then◌else◌, List, [], ◌∷◌, ◌++◌, Option, Some, None, is_some, is_none, option_map, option_and_then, unwrap_or, codes}
-use Rattle.edit_document.specs.NewItems.{NewValue, a_string, a_truth, a_list, NewItem, a_value, a_table}
+use Rattle.edit_tree.specs.NewItems.{NewValue, a_string, a_truth, a_list, NewItem, a_value, a_table}
 use Rattle.edit_record.specs.EntryRecords.{Repository, Origin, from_registry, from_path, from_git, from_workspace, EntryRecord, origin_version}
 use Rattle.edit_record.specs.RelativePaths.{path_field}
 

@@ -2,9 +2,9 @@
 -- (Cargo reference, "Specifying Dependencies").
 use Rattle.std.specs.Prelude.{ℕ, zero, suc, Bool, true, false, ◌&&◌, if◌then◌else◌, List, [], ◌∷◌, ◌++◌, Option, Some, None, is_none, option_map, option_and_then, option_to_list, Result, Ok, Err, codes}
 use Rattle.edit_base.specs.Paths.{joined}
-use Rattle.edit_document.specs.Assertions.{key, index, Place}
+use Rattle.edit_tree.specs.Assertions.{key, index, Place}
 use Rattle.edit_document.specs.Items.{string_in, truth_in, type_name_of}
-use Rattle.edit_document.specs.Tree.{View, string, truth, static_array, inline_table, table}
+use Rattle.edit_tree.specs.Tree.{View, string, truth, static_array, inline_table, table}
 use Rattle.edit_record.specs.EntryRecords.{Repository, Origin, from_registry, from_path, from_git, from_workspace, EntryRecord, bare_record, Refusal, wrong_type, workspace_false, unknown_source, old_default_features, unknown_entry}
 use Rattle.edit_version.specs.Requirement.{cut}
 

@@ -1,7 +1,7 @@
 -- What is written of a record reads as a record of which the same is written; the law is this project's own.
 use Rattle.std.specs.Prelude.{◌≡◌, ◌≢◌, ◌≤◌, ℕ, false, List, [], ◌++◌, length, All, Option, None, option_to_list, option_and_then, IsSome, IfSome, IsOkAnd, ⊤}
-use Rattle.edit_document.specs.Meant.{item_view}
-use Rattle.edit_document.specs.NewItems.{NewItem}
+use Rattle.edit_tree.specs.Meant.{item_view}
+use Rattle.edit_tree.specs.NewItems.{NewItem}
 use Rattle.edit_record.specs.EntryRecords.{EntryRecord, Origin, from_registry, from_path, from_git, from_workspace, origin_version}
 use Rattle.edit_record.specs.NewEntries.{item_of}
 use Rattle.edit_record.specs.ReadEntries.{record_of}

@@ -5,7 +5,7 @@ use Rattle.edit_base.specs.Errors.{IsMemory}
 use Rattle.edit_base.specs.declared.errors.Error.{Error}
 use Rattle.edit_base.specs.declared.errors.Error.TheVariants as error
 use Rattle.edit_document.specs.ItemViews.{document_of, place_of}
-use Rattle.edit_document.specs.Shown.{tree_of}
+use Rattle.edit_tree.specs.Shown.{tree_of}
 use Rattle.edit_document.specs.declared.item.Item.{Item}
 use Rattle.edit_record.specs.ReadEntries.{Tree, below}
 use Rattle.edit_record.specs.EntryRecords.{EntryRecord, Repository, Origin, from_registry, from_path, from_git, from_workspace, Refusal, wrong_type, workspace_false, unknown_source, old_default_features, unknown_entry}

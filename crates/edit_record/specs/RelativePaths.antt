@@ -2,7 +2,7 @@
 use Rattle.std.specs.Prelude.{ℕ, Bool, not, ◌||◌, ◌==◌, if◌then◌else◌, List, [], ◌∷◌, ◌++◌, map, length, filter, replicate, codes}
 use Rattle.std.specs.List.{join_by}
 use Rattle.edit_base.specs.Paths.{parts_of}
-use Rattle.edit_document.specs.Assertions.{same_bytes}
+use Rattle.edit_tree.specs.Assertions.{same_bytes}
 
 -- a part that names something; `..` is a part like others (own)
 abbrev pub is_kept : List ℕ → Bool

@@ -1,12 +1,12 @@
 -- The text in which an entry says what a record says, over the edits of the document, and when one is
 -- refused.
 use Rattle.std.specs.Prelude.{◌≡◌, ℕ, Bool, List, [], ◌∷◌, ◌++◌, None, is_some, if◌then◌else◌}
-use Rattle.edit_document.specs.Assertions.{key, Place, at}
-use Rattle.edit_document.specs.EditBytes.{set_text, replaced_text, inserted_text, is_one_statement}
-use Rattle.edit_document.specs.Meant.{ReplaceFails, InsertFails, RemoveFails}
-use Rattle.edit_document.specs.RemovedBytes.{removed_text}
-use Rattle.edit_document.specs.Supported.{IsManifest}
-use Rattle.edit_document.specs.Tree.{is_value_at, view_at}
+use Rattle.edit_tree.specs.Assertions.{key, Place, at}
+use Rattle.edit_tree.specs.EditBytes.{set_text, replaced_text, inserted_text, is_one_statement}
+use Rattle.edit_tree.specs.Meant.{ReplaceFails, InsertFails, RemoveFails}
+use Rattle.edit_tree.specs.RemovedBytes.{removed_text}
+use Rattle.edit_tree.specs.Supported.{IsManifest}
+use Rattle.edit_tree.specs.Tree.{is_value_at, view_at}
 use Rattle.edit_record.specs.EntryRecords.{EntryRecord}
 use Rattle.edit_record.specs.EntryUpdates.{Change, writes, removes, Update, replaced_by, changed_by, update_of}
 use Rattle.edit_record.specs.ReadEntries.{below}

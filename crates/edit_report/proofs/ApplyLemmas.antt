@@ -6,7 +6,7 @@ use Rattle.std.proofs.lemmas.List.{get_or_default, get_or-drop, get_or-take, len
 use Rattle.std.proofs.lemmas.List.Elements.{All-more}
 use Rattle.edit_report.specs.Applied.{AreWritten, HasStopped, HaveDistinctPaths, IsWhole, KeepsOthers, path_of}
 use Rattle.edit_report.specs.declared.output.Output.{Output}
-use Rattle.edit_sources.specs.Store.{Files, SameBut, StoreView}
+use Rattle.edit_store.specs.Store.{Files, SameBut, StoreView}
 
 -- what holds anyway holds of a refusal
 pub on_refusal : {T E : Type 0} (r : Result T E) (P : Type 0) → P → OnErr r P

@@ -2,7 +2,7 @@
 use Rattle.std.specs.Prelude.{◌≡◌, ◌≢◌, ℕ, ◌+◌, ◌<◌, List, Some, true, length, take, drop, string_bytes}
 use Rattle.std.specs.List.{All, AllPairs}
 use Rattle.edit_report.specs.declared.output.Output.{Output}
-use Rattle.edit_sources.specs.Store.{Files, StoreView}
+use Rattle.edit_store.specs.Store.{Files, StoreView}
 
 -- where an output goes
 abbrev pub path_of : Output → List ℕ

@@ -2,10 +2,10 @@
 ghost use Rattle.std.specs.Prelude.{◌≡◌, OnErr, OnOk, true};
 ghost use Rattle.edit_base.specs.declared.errors.DeviceCall.TheVariants as call;
 ghost use Rattle.edit_report.specs.Applied.{AreWritten, HasStopped, HaveDistinctPaths, IsWhole, path_of};
-ghost use Rattle.edit_sources.specs.Store.{HasCause, SameBut};
+ghost use Rattle.edit_store.specs.Store.{HasCause, SameBut};
 
 use edit_base::CargoResult;
-use edit_sources::Store;
+use edit_store::Store;
 use std::alloc::Global;
 
 /// A manifest's new bytes.

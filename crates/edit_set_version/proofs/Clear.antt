@@ -2,9 +2,9 @@
 use Rattle.std.proofs.Common.{◌≡◌, ℕ, Bool, true, false, ◌&&◌, List, [], ◌∷◌, refl, ap, inl, inr}
 use Rattle.std.specs.Prelude.{codes}
 use Rattle.std.proofs.lemmas.Bool.{cases_Bool}
-use Rattle.edit_document.specs.Assertions.{Place, Step, key, at, same_bytes, same_place, same_step}
-use Rattle.edit_document.specs.Replaces.{is_below}
-use Rattle.edit_document.proofs.SamePlace.{same_bytes_is}
+use Rattle.edit_tree.specs.Assertions.{Place, Step, key, at, same_bytes, same_place, same_step}
+use Rattle.edit_tree.specs.Replaces.{is_below}
+use Rattle.edit_tree.proofs.SamePlace.{same_bytes_is}
 use Rattle.edit_manifest.specs.Kinds.{is_kind}
 use Rattle.edit_manifest.specs.Tables.{keyed}
 use Rattle.edit_manifest.specs.Versions.{package_version, shared_version, version_member}

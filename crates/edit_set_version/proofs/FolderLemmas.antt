@@ -2,9 +2,9 @@
 use Rattle.std.proofs.Common.{◌≡◌, ◌≢◌, ◌∙◌, ℕ, List, [], ◌∷◌, ◌++◌, Bool, true, false, refl, sym, ap, inl, inr, reverse}
 use Rattle.std.proofs.lemmas.List.{reverse-append}
 use Rattle.std.specs.Prelude.{codes, ◌||◌, if◌then◌else◌}
-use Rattle.edit_document.specs.Assertions.{same_bytes}
+use Rattle.edit_tree.specs.Assertions.{same_bytes}
 use Rattle.edit_base.specs.Paths.{Normal, root, skip, keep, back, stay, IsIdle, IsName}
-use Rattle.edit_document.proofs.SamePlace.{same_bytes_is}
+use Rattle.edit_tree.proofs.SamePlace.{same_bytes_is}
 use Rattle.edit_set_version.specs.Folders.{Folder, above, along, further}
 
 -- one part more at the end

@@ -5,10 +5,10 @@ use Rattle.std.specs.List.{AllByRecursion, filter_map}
 use Rattle.std.proofs.lemmas.Bool.{cases_Bool}
 use Rattle.std.proofs.lemmas.List.Elements.{All-cons, All-head, All-nil, All-tail}
 use Rattle.semver.specs.Parse.{Parts}
-use Rattle.edit_document.specs.Assertions.{Place, key, same_bytes, same_place}
+use Rattle.edit_tree.specs.Assertions.{Place, key, same_bytes, same_place}
 use Rattle.edit_document.specs.Items.{string_in}
-use Rattle.edit_document.specs.Replaces.{Edits, emptied, is_below, written}
-use Rattle.edit_document.specs.Tree.{View, string}
+use Rattle.edit_tree.specs.Replaces.{Edits, emptied, is_below, written}
+use Rattle.edit_tree.specs.Tree.{View, string}
 use Rattle.edit_version.proofs.Outcomes.{nothing-outcome, reach-of, settled-of, text-outcome}
 use Rattle.edit_version.specs.Laws.{Admits, CanReach, IsVersion}
 use Rattle.edit_version.specs.Requirement.{Nothing, Raised, Text, Unread, Unsupported, raise}

@@ -7,9 +7,9 @@ use Rattle.std.proofs.lemmas.Bool.{eqb-true}
 use Rattle.std.proofs.lemmas.List.{map-append, take_more}
 use Rattle.std.proofs.lemmas.List.Elements.{filter-append}
 use Rattle.std.proofs.lemmas.List.Folds.{list_any-append}
-use Rattle.edit_document.specs.Assertions.{same_bytes}
+use Rattle.edit_tree.specs.Assertions.{same_bytes}
 use Rattle.edit_document.proofs.EntryPartViews.{same_texts}
-use Rattle.edit_document.proofs.SamePlace.{same_bytes_is, same_bytes_self}
+use Rattle.edit_tree.proofs.SamePlace.{same_bytes_is, same_bytes_self}
 use Rattle.edit_metadata.specs.Metadata.{PackageSaid, members}
 use Rattle.edit_metadata.specs.Workspaces.{package_said, packages_said}
 use Rattle.edit_metadata.specs.declared.workspace.Package.{Package}

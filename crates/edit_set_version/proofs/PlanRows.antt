@@ -4,8 +4,8 @@ use Rattle.std.specs.Prelude.{codes, map}
 use Rattle.semver.specs.Parse.{Parts}
 use Rattle.edit_syntax.specs.Strings.{Key, bare, lf}
 use Rattle.edit_syntax.specs.Grammar.{Value, Lines, boolean, literal, inline, last_member, member, Statement, pair, header, empty_line, full_line, one_line, more_lines, Text, text}
-use Rattle.edit_document.specs.Assertions.{key}
-use Rattle.edit_document.specs.Tree.{view_at}
+use Rattle.edit_tree.specs.Assertions.{key}
+use Rattle.edit_tree.specs.Tree.{view_at}
 use Rattle.edit_set_version.specs.Bumps.{by_level}
 use Rattle.edit_set_version.specs.Chosen.{Asked, Member, bumps_workspace, chosen, held_back, inheriting, missing}
 use Rattle.edit_manifest.specs.Tables.{Tree}

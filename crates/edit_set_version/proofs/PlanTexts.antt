@@ -6,7 +6,7 @@ use Rattle.semver.specs.Parse.{Parts}
 use Rattle.semver.proofs.OnLiterals.{semver_on_literals}
 use Rattle.edit_syntax.specs.Strings.{bare}
 use Rattle.edit_syntax.specs.Grammar.{header, literal, pair}
-use Rattle.edit_document.specs.Assertions.{key}
+use Rattle.edit_tree.specs.Assertions.{key}
 use Rattle.edit_manifest.specs.Tables.{Tree}
 use Rattle.edit_manifest.specs.Versions.{package_version, shared_version}
 use Rattle.edit_set_version.specs.Bumps.{by_level, exactly}

@@ -4,7 +4,7 @@ use Rattle.std.specs.Prelude.{option_and_then, option_map, option_to_list}
 use Rattle.std.specs.List.{cons_option, filter_map, flat_map}
 use Rattle.std.proofs.lemmas.List.Elements.{filter_map-append}
 use Rattle.semver.specs.Parse.{Parts}
-use Rattle.edit_document.specs.Assertions.{Place, at, key}
+use Rattle.edit_tree.specs.Assertions.{Place, at, key}
 use Rattle.edit_manifest.specs.Tables.{Tree, dependency_tables, member_names}
 use Rattle.edit_set_version.specs.Entries.{entries_in, path_member, requirement, text_at}
 use Rattle.edit_set_version.specs.Folders.{reached}

@@ -4,7 +4,7 @@ use Rattle.std.specs.Prelude.{codes}
 use Rattle.std.specs.List.{AllByRecursion, flat_map}
 use Rattle.std.specs.Str.{bytes_eq}
 use Rattle.std.proofs.lemmas.Bool.{cases_Bool}
-use Rattle.edit_document.specs.Assertions.{Place, key, at}
+use Rattle.edit_tree.specs.Assertions.{Place, key, at}
 use Rattle.edit_manifest.specs.Kinds.{is_kind}
 use Rattle.edit_manifest.specs.Tables.{Tree, dependency_tables, is_table_like, keyed, member_names, shared, tables_at, tables_of_target, tables_under, target_table}
 use Rattle.edit_set_version.specs.Entries.{entries, entries_in}

@@ -5,10 +5,10 @@ use Rattle.std.specs.List.{AllByRecursion, filter_map}
 use Rattle.std.proofs.lemmas.Bool.{cases_Bool}
 use Rattle.semver.specs.Identifiers.{parts_text}
 use Rattle.semver.specs.Parse.{Parts}
-use Rattle.edit_document.specs.Assertions.{Place, key, same_bytes, same_place}
-use Rattle.edit_document.specs.Replaces.{Edits, emptied, is_below, is_below_any, written}
-use Rattle.edit_document.specs.Tree.{string}
-use Rattle.edit_document.proofs.SamePlace.{last_same, same_place_is, same_place_self}
+use Rattle.edit_tree.specs.Assertions.{Place, key, same_bytes, same_place}
+use Rattle.edit_tree.specs.Replaces.{Edits, emptied, is_below, is_below_any, written}
+use Rattle.edit_tree.specs.Tree.{string}
+use Rattle.edit_tree.proofs.SamePlace.{last_same, same_place_is, same_place_self}
 use Rattle.edit_manifest.specs.Tables.{Tree}
 use Rattle.edit_manifest.specs.Versions.{package_version, shared_version, version_member}
 use Rattle.edit_set_version.specs.Bumps.{Target}

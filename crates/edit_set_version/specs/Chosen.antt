@@ -3,7 +3,7 @@
 use Rattle.std.specs.Prelude.{ℕ, List, [], ◌∷◌, ◌++◌, ◌==◌, ◌&&◌, ◌||◌, Bool, not, if◌then◌else◌, Option, length}
 use Rattle.std.specs.List.{filter, list_any}
 use Rattle.semver.specs.Parse.{Parts}
-use Rattle.edit_document.specs.Assertions.{same_bytes}
+use Rattle.edit_tree.specs.Assertions.{same_bytes}
 use Rattle.edit_manifest.specs.Tables.{Tree}
 use Rattle.edit_manifest.specs.Versions.{is_inherited}
 

@@ -2,7 +2,7 @@
 -- "Specifying Dependencies", Specifying path dependencies).
 use Rattle.std.specs.Prelude.{ℕ, List, map, Option, None, if◌then◌else◌, codes, option_map, option_and_then}
 use Rattle.std.specs.List.{flat_map}
-use Rattle.edit_document.specs.Assertions.{Place, key, at}
+use Rattle.edit_tree.specs.Assertions.{Place, key, at}
 use Rattle.edit_document.specs.Items.{string_in}
 use Rattle.edit_manifest.specs.Tables.{Tree, dependency_tables, is_table_like, member_names}
 use Rattle.edit_manifest.specs.Versions.{version_member}

@@ -1,7 +1,7 @@
 -- What holds of the requirements that follow a bumped crate, after a plan.
 use Rattle.std.specs.Prelude.{◌≡◌, ℕ, List, All}
-use Rattle.edit_document.specs.Assertions.{Place}
-use Rattle.edit_document.specs.Replaces.{Edits, emptied, written}
+use Rattle.edit_tree.specs.Assertions.{Place}
+use Rattle.edit_tree.specs.Replaces.{Edits, emptied, written}
 use Rattle.edit_manifest.specs.Tables.{Tree}
 use Rattle.edit_version.specs.Laws.{Admits, CanReach, IsVersion}
 use Rattle.edit_version.specs.Requirement.{Nothing, Raised, Text, raise}

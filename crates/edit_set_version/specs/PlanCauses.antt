@@ -5,7 +5,7 @@ use Rattle.semver.specs.Parse.{Parts}
 use Rattle.edit_base.specs.declared.errors.Error.{Error}
 use Rattle.edit_base.specs.declared.errors.Error.TheVariants as error
 use Rattle.edit_base.specs.declared.errors.details.MissingKind.TheVariants as kind
-use Rattle.edit_document.specs.Tree.{is_value_at, view_at}
+use Rattle.edit_tree.specs.Tree.{is_value_at, view_at}
 use Rattle.edit_manifest.specs.Versions.{package_version}
 use Rattle.edit_syntax.specs.Grammar.{Text}
 use Rattle.edit_version.specs.Refusals.{IsRefusal}

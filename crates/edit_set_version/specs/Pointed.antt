@@ -2,7 +2,7 @@
 -- Dependencies", Specifying path dependencies).
 use Rattle.std.specs.Prelude.{ℕ, List, Option, Some, None, if◌then◌else◌, map, option_map, option_to_list, string_bytes}
 use Rattle.std.specs.List.{filter_map, flat_map}
-use Rattle.edit_document.specs.Assertions.{Place, at, key}
+use Rattle.edit_tree.specs.Assertions.{Place, at, key}
 use Rattle.edit_document.specs.Items.{place_seen}
 use Rattle.edit_manifest.specs.Tables.{Tree, dependency_tables, is_table_like, member_names}
 use Rattle.edit_set_version.specs.Entries.{path_member, requirement, text_at}

@@ -3,8 +3,8 @@ use Rattle.std.specs.Prelude.{ℕ, List, [], ◌∷◌, ◌++◌, ◌&&◌, Bool
 use Rattle.std.specs.List.{filter_map}
 use Rattle.semver.specs.Identifiers.{parts_text}
 use Rattle.semver.specs.Parse.{Parts}
-use Rattle.edit_document.specs.Assertions.{Place, same_bytes}
-use Rattle.edit_document.specs.Replaces.{Edits}
+use Rattle.edit_tree.specs.Assertions.{Place, same_bytes}
+use Rattle.edit_tree.specs.Replaces.{Edits}
 use Rattle.edit_manifest.specs.Tables.{Tree}
 use Rattle.edit_manifest.specs.Versions.{is_inherited, package_version, shared_version, version_member, workspace_version}
 use Rattle.edit_version.specs.Requirement.{Raised, Text, raise}

@@ -2,10 +2,10 @@
 ghost use Rattle.std.specs.Prelude.{◌≡◌, ◌++◌, ℕ, List, IfErr, IfOk, OnOk, option_map, option_to_list};
 ghost use Rattle.std.specs.List.{filter_map};
 ghost use Rattle.edit_base.specs.Errors.{IsMemory};
-ghost use Rattle.edit_document.specs.Assertions.{at, key};
+ghost use Rattle.edit_tree.specs.Assertions.{at, key};
 ghost use Rattle.edit_document.specs.ItemViews.{document_of, place_of};
 ghost use Rattle.edit_document.specs.Items.{place_seen};
-ghost use Rattle.edit_document.specs.Shown.{tree_of};
+ghost use Rattle.edit_tree.specs.Shown.{tree_of};
 ghost use Rattle.edit_set_version.specs.Entries.{requirement, text_at};
 ghost use Rattle.edit_set_version.specs.Pointed.{led, pointed, pointed_at, pointed_in, pointed_named, pointed_view, pointed_views, pointed_with};
 ghost use Rattle.edit_set_version.specs.SetVersioned.{Bump, followings};

@@ -9,7 +9,7 @@ use Rattle.std.proofs.lemmas.List.Elements.{filter_map-append}
 use Rattle.std.proofs.lemmas.Slice.Zip.{all_zipped_more}
 use Rattle.edit_base.specs.Paths.{joined}
 use Rattle.edit_base.specs.declared.errors.Error.{Error}
-use Rattle.edit_sources.specs.Store.{Files, SameFiles, raised}
+use Rattle.edit_store.specs.Store.{Files, SameFiles, raised}
 use Rattle.edit_sources.specs.Sources.{or_else}
 use Rattle.edit_sources.specs.ConfigurationFiles.{standing, file_in, files_in, IsReadFrom, IsReadOf, HasFailed, FileFails, PlaceFails}
 use Rattle.edit_sources.specs.declared.config.Config.{Config}

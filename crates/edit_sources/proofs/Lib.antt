@@ -5,7 +5,6 @@ pub mod FileLemmas
 pub mod ToldRanks
 pub mod FirstLemmas
 pub mod FolderLemmas
-pub mod FrontLemmas
 pub mod LineLemmas
 pub mod NameLemmas
 pub mod OutcomeLemmas

@@ -17,7 +17,7 @@ use Rattle.edit_sources.specs.IndexLines.{LinesSay, IsBadLine, IsIndexLine, Says
 use Rattle.edit_sources.specs.IndexLines.LinesSay.{none, blank, entry}
 use Rattle.edit_sources.specs.LocalIndex.{HasBadLine, HasEntries, HasNoIndexPath, IsIndexPath, LocalGives, below}
 use Rattle.edit_sources.specs.Names.{layout}
-use Rattle.edit_sources.specs.Store.{Files, StoreView}
+use Rattle.edit_store.specs.Store.{Files, StoreView}
 use Rattle.edit_sources.specs.declared.file_index.FileIndex.{FileIndex}
 
 -- ---- lines say their entries

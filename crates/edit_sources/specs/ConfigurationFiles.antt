@@ -4,21 +4,16 @@ use Rattle.std.specs.Prelude.{◌≡◌, ◌≢◌, ℕ, List, [], ◌∷◌, �
 use Rattle.std.specs.List.{filter_map, AllZip}
 use Rattle.std.specs.Option.{option_to_list}
 use Rattle.edit_base.specs.Paths.{joined, IsFolderOf}
+use Rattle.edit_store.specs.Climbs.{Climbs}
 use Rattle.edit_base.specs.declared.errors.Error.{Error}
 use Rattle.edit_base.specs.declared.errors.Error.TheVariants.{Device}
 use Rattle.edit_base.specs.declared.errors.DeviceCall.TheVariants.{Read}
-use Rattle.edit_sources.specs.Store.{Files, raised}
+use Rattle.edit_store.specs.Store.{Files, raised}
 use Rattle.edit_sources.specs.Configuration.{Says, SaysNothing}
 use Rattle.url.specs.Parts.{Parts}
 use Rattle.edit_sources.specs.Configured.{configuration, IsConfigRefusal, HasAddress, HasNoUrl}
 use Rattle.edit_sources.specs.Sources.{or_else}
 use Rattle.edit_sources.specs.declared.config.Config.{Config}
-
--- the folders that are passed on the way upwards from one, and the folder that is reached (own)
-pub data Climbs (start : List ℕ) : List (List ℕ) → List ℕ → Type 0 where
-  begin : Climbs start [] start
-  step : (passed : List (List ℕ)) (here above : List ℕ) → Climbs start passed here → here ≢ codes "/"
-      → IsFolderOf here above → Climbs start (passed ++ here ∷ []) above
 
 -- the folders of a file, from its own upwards to the root (own)
 pub record IsUpwards (path : List ℕ) (folders : List (List ℕ)) : Type 0 where

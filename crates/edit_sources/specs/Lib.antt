@@ -2,16 +2,12 @@ pub mod Configuration
 pub mod ConfigurationFiles
 pub mod Configured
 pub mod FileIndex
-pub mod Host
 pub mod Index
 pub mod IndexCache
 pub mod IndexLines
 pub mod Kept
 pub mod LocalIndex
-pub mod Memory
 pub mod Names
 pub mod Ranking
 pub mod SourceReplacement
 pub mod Sources
-pub mod Store
-pub mod Turns

@@ -11,7 +11,7 @@ use Rattle.edit_record.specs.IndexEntry.{IndexEntry}
 use Rattle.edit_sources.specs.Index.{IndexView, Outcome}
 use Rattle.edit_sources.specs.IndexLines.{LinesSay, IsBadLine, lines_of}
 use Rattle.edit_sources.specs.Names.{is_crate_name, layout}
-use Rattle.edit_sources.specs.Store.{StoreView}
+use Rattle.edit_store.specs.Store.{StoreView}
 use Rattle.edit_sources.specs.declared.local_index.LocalIndex.{LocalIndex}
 
 -- the store that an index stands on (own)

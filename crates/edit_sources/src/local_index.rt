@@ -1,13 +1,13 @@
 //! An index in files, one for each name.
 ghost use Rattle.std.specs.Prelude.{◌≡◌, Ok, IfOk, IfErr};
-ghost use Rattle.edit_sources.specs.Store.{OnlyReads};
+ghost use Rattle.edit_store.specs.Store.{OnlyReads};
 ghost use Rattle.edit_sources.specs.Index.{HasLookCause, SameOutcomes, answer_of};
 ghost use Rattle.edit_sources.specs.LocalIndex.{LocalGives, NumbersLine, local_view, store_of};
 
 use crate::index::{Index, IndexKrate};
 use crate::index_lines::read_lines;
 use crate::index_path::index_path;
-use crate::store::Store;
+use edit_store::store::Store;
 use edit_base::errors::CargoResult;
 use std::alloc::Global;
 use url::Url;

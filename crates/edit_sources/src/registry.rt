@@ -2,13 +2,13 @@
 ghost use Rattle.std.specs.Prelude.{◌≡◌, ◌⊎◌, true, IfOk, IfErr, None, Ok};
 ghost use Rattle.edit_base.specs.Errors.{IsMemory};
 ghost use Rattle.edit_sources.specs.ConfigurationFiles.{HasFailed, ConfigsFail, ConfiguredUrl, HasNoConfiguredUrl};
-ghost use Rattle.edit_sources.specs.Store.{OnlyReads};
+ghost use Rattle.edit_store.specs.Store.{OnlyReads};
 ghost use Rattle.url.specs.Parser.{parse_url};
 ghost use Rattle.url.specs.Parts.{Parts};
 ghost use Rattle.edit_sources.specs.Configured.{given, HasAddress, IsNoUrl, HasNoUrl};
 
 use crate::config::{Config, read_configs};
-use crate::store::Store;
+use edit_store::store::Store;
 use edit_base::{CargoResult, Error};
 use std::alloc::Global;
 use url::{ParseError, Url};

@@ -1,7 +1,7 @@
 //! The program's rows, over files in memory.
 use edit_base::paths::join;
 use edit_program::run;
-use edit_sources::{FaultStore, HostStore, MemoryStore, Store};
+use edit_store::{FaultStore, HostStore, MemoryStore, Store};
 use std::alloc::Global;
 use std::test::Fail;
 use std::{fs, process, str};

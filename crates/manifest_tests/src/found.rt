@@ -1,6 +1,6 @@
 //! Rows of manifests that are found, read and written.
 use edit_manifest::{LocalManifest, Manifest, find};
-use edit_sources::{FaultStore, MemoryStore, Store};
+use edit_store::{FaultStore, MemoryStore, Store};
 use semver::Version;
 use std::alloc::Global;
 use std::test::Fail;

@@ -1,7 +1,7 @@
 //! Rows of the manifests that plans over a workspace are made for.
 use edit_base::CargoResult;
 use edit_metadata::{Input, Workspace, workspace_inputs};
-use edit_sources::{FaultStore, MemoryStore, Store};
+use edit_store::{FaultStore, MemoryStore, Store};
 use edit_version::RustVersion;
 use std::alloc::Global;
 use std::test::Fail;

@@ -2,7 +2,7 @@
 ghost use Rattle.std.specs.Prelude.{◌≡◌, ◌++◌, ◌∷◌, [], List, ℕ, None, Some, IfErr, IfOk, OnOk, codes, if◌then◌else◌, map, option_copied, option_map, string_bytes, unwrap_or};
 ghost use Rattle.edit_base.specs.Errors.{IsMemory};
 ghost use Rattle.edit_base.specs.Paths.{texts};
-ghost use Rattle.edit_document.specs.NewItems.{a_string, a_truth};
+ghost use Rattle.edit_tree.specs.NewItems.{a_string, a_truth};
 ghost use Rattle.edit_document.specs.NewItemViews.{value_seen};
 ghost use Rattle.edit_record.specs.EndViews.{ends_seen};
 ghost use Rattle.edit_record.specs.EntryUpdates.{each_once, ends, ends_with_version, joined_features, own_ends, other_ends, package_ends, source_ends, texts_or_none, workspace_end};

@@ -3,7 +3,7 @@ ghost use Rattle.std.specs.Prelude.{◌≡◌, None, Some, IfOk, IfErr, codes, o
 ghost use Rattle.std.specs.BTreeMap.{btree_map_len};
 ghost use Rattle.edit_base.specs.Errors.{IsMemory};
 ghost use Rattle.edit_document.specs.ItemViews.{document_of, place_of, view_of};
-ghost use Rattle.edit_document.specs.Shown.{tree_of};
+ghost use Rattle.edit_tree.specs.Shown.{tree_of};
 ghost use Rattle.edit_record.specs.EntryRecords.{from_git, from_workspace};
 ghost use Rattle.edit_record.specs.ReadEntries.{git_origin, member_in, names_by, options_at, origin_at, path_origin, record_of, repository, table_record, true_workspace, workspace_origin};
 ghost use Rattle.edit_record.specs.RecordViews.{IsRefused, path_view, record_view, repository_view, shown_at, source_view, texts_view};

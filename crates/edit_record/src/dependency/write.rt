@@ -1,7 +1,7 @@
 //! The new entry of a record (Cargo reference, "Specifying Dependencies").
 ghost use Rattle.std.specs.Prelude.{◌≡◌, ◌++◌, ◌∷◌, [], true, IfOk, IfErr, OnOk, codes, option_copied, option_map, string_bytes};
 ghost use Rattle.edit_base.specs.Errors.{IsMemory};
-ghost use Rattle.edit_document.specs.NewItems.{a_string, a_truth};
+ghost use Rattle.edit_tree.specs.NewItems.{a_string, a_truth};
 ghost use Rattle.edit_document.specs.NewItemViews.{item_seen, pairs_seen, value_seen};
 ghost use Rattle.edit_record.specs.EntryRecords.{key_of};
 ghost use Rattle.edit_record.specs.NewEntries.{is_short, item_of, list_member, option_members, origin_members, path_members, repository_members, text_member, truth_member, written_name, written_registry};

@@ -6,10 +6,10 @@ ghost use Rattle.edit_base.specs.Errors.{IsMemory};
 ghost use Rattle.edit_base.specs.Paths.{texts};
 ghost use Rattle.edit_sources.specs.Configured.{given};
 ghost use Rattle.edit_sources.specs.ConfigurationFiles.{IsUpwards, IsSearched, IsReadOf, IsReadFrom, HasFailed, FileFails, PlaceFails, AreConfigs, ConfigsFail, standing, file_in, files_in};
-ghost use Rattle.edit_sources.specs.Store.{OnlyReads};
+ghost use Rattle.edit_store.specs.Store.{OnlyReads};
 
 use super::Config;
-use crate::store::Store;
+use edit_store::store::Store;
 use edit_base::CargoResult;
 use edit_base::paths::{folder, join};
 use std::alloc::{AllocError, Global};

@@ -1,6 +1,6 @@
 //! Addresses under configuration files.
 use super::looks::put;
-use edit_sources::MemoryStore;
+use edit_store::MemoryStore;
 use edit_sources::config::{Config, read_configs};
 use edit_sources::registry::{registry_url, resolve};
 use std::alloc::Global;

@@ -1,7 +1,8 @@
 //! Answers and rankings that are kept.
 use super::looks::{TWO, entries, files_of};
 use crate::records::parts::chosen;
-use edit_sources::{FaultStore, FileIndex, Index, IndexCache, IndexKrate, LocalIndex, Ranked};
+use edit_sources::{FileIndex, Index, IndexCache, IndexKrate, LocalIndex, Ranked};
+use edit_store::FaultStore;
 use semver::VersionReq;
 use std::alloc::Global;
 use std::test::Fail;

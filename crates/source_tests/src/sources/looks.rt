@@ -1,6 +1,7 @@
 //! Indexes: lines that are read, and looks.
 use super::machine::folder;
-use edit_sources::{FileIndex, HostStore, Index, IndexKrate, LocalIndex, MemoryStore, Store};
+use edit_sources::{FileIndex, Index, IndexKrate, LocalIndex};
+use edit_store::{HostStore, MemoryStore, Store};
 use std::alloc::Global;
 use std::fs;
 use std::test::Fail;

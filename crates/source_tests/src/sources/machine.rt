@@ -2,7 +2,7 @@
 use super::steps::{step, write};
 use super::unmoved::Unmoved;
 use edit_base::paths::folder as folder_of;
-use edit_sources::{HostStore, Store};
+use edit_store::{HostStore, Store};
 use std::alloc::Global;
 use std::fs::{File, Permissions};
 use std::io::Write;

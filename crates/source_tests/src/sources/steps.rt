@@ -1,5 +1,5 @@
 //! Steps on a store, told as texts.
-use edit_sources::{Kind, Store};
+use edit_store::{Kind, Store};
 use std::alloc::Global;
 use std::test::Fail;
 use test_rows::{field, same, text, told, word};

@@ -1,6 +1,6 @@
 //! Stores in memory, and a call that fails.
 use super::steps::steps;
-use edit_sources::{FaultStore, MemoryStore};
+use edit_store::{FaultStore, MemoryStore};
 use std::test::Fail;
 
 /// A name, a call, a path, the text that is written, and what is wanted.

@@ -1,5 +1,5 @@
 use Rattle.std.proofs.Common.{ap, ◌∙◌, List, ℕ}
-use Rattle.edit_document.specs.Assertions.{same_bytes}
+use Rattle.edit_tree.specs.Assertions.{same_bytes}
 use Rattle.edit_document.proofs.EntryPartViews.{same_texts}
 use Rattle.edit_document.proofs.entry_part.is_named.Goals as goal
 

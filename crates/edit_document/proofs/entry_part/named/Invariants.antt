@@ -1,6 +1,6 @@
 use Rattle.std.proofs.Common.{◌≡◌, drop}
 use Rattle.std.specs.Prelude.{find}
-use Rattle.edit_document.specs.Assertions.{same_bytes}
+use Rattle.edit_tree.specs.Assertions.{same_bytes}
 use Rattle.edit_document.specs.NewItemViews.{pairs_seen}
 use Rattle.edit_document.proofs.entry_part.named.Given as goal
 

@@ -2,7 +2,7 @@ use Rattle.std.proofs.Common.{◌≡◌, ◌<◌, ℕ, true, List, length, Some,
 use Rattle.std.specs.Prelude.{option_map, nat_lt}
 use Rattle.std.proofs.lemmas.Bool.Decides.{nat_tests}
 use Rattle.std.proofs.lemmas.Option.{slice_get-map, slice_get_read}
-use Rattle.edit_document.specs.NewItems.{NewValue}
+use Rattle.edit_tree.specs.NewItems.{NewValue}
 use Rattle.edit_document.specs.NewItemViews.{pair_seen, pairs_seen}
 use Rattle.edit_document.proofs.entry_part.nth_name.Goals as goal
 

@@ -2,7 +2,7 @@ use Rattle.std.proofs.Common.{◌≡◌, ℕ, true, eqb, List, ◌∷◌, drop, 
 use Rattle.std.proofs.lemmas.Result.{err_from_is_err_and}
 use Rattle.edit_syntax.specs.Characters.{comma, right_brace}
 use Rattle.edit_syntax.specs.Reading.{first, past_gap}
-use Rattle.edit_document.specs.EditBytes.{behind_last}
+use Rattle.edit_tree.specs.EditBytes.{behind_last}
 use Rattle.edit_document.proofs.InlineSpots.{past_value, table_past}
 use Rattle.edit_document.proofs.SlotSteps.{keeps_memory}
 use Rattle.edit_document.proofs.SlotTurns.{stop_is}

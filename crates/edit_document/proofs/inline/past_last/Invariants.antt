@@ -1,8 +1,8 @@
 use Rattle.std.proofs.Common.{ℕ, List, ◌∷◌}
 use Rattle.edit_syntax.specs.Characters.{right_brace}
 use Rattle.edit_syntax.specs.Grammar.{Between, Members}
-use Rattle.edit_document.specs.EditBytes.{behind_last}
-use Rattle.edit_document.specs.SlotTexts.{TableAt}
+use Rattle.edit_tree.specs.EditBytes.{behind_last}
+use Rattle.edit_tree.specs.SlotTexts.{TableAt}
 use Rattle.edit_document.proofs.InlineSpots.{past_value}
 use Rattle.edit_document.proofs.MemberTurns.{AtMembers}
 use Rattle.edit_document.proofs.inline.past_last.Given as goal

@@ -1,7 +1,7 @@
 use Rattle.std.proofs.Common.{ℕ, List, ◌++◌, ap, ◌∙◌, append_assoc}
 use Rattle.std.specs.Prelude.{codes}
 use Rattle.std.proofs.lemmas.Result.{IfOk-weaker}
-use Rattle.edit_document.specs.EditBytes.{with_splice}
+use Rattle.edit_tree.specs.EditBytes.{with_splice}
 use Rattle.edit_document.proofs.inline.with_alone.Goals as goal
 
 pub returns-clause-text : goal.returns-clause-text

@@ -3,7 +3,7 @@ use Rattle.std.proofs.lemmas.Result.{IfOk-weaker}
 use Rattle.edit_syntax.specs.Characters.{right_brace}
 use Rattle.edit_syntax.specs.Grammar.{gap, no_members}
 use Rattle.edit_syntax.specs.Reading.{past_blanks}
-use Rattle.edit_document.specs.EditBytes.{Splice, with_splice}
+use Rattle.edit_tree.specs.EditBytes.{Splice, with_splice}
 use Rattle.edit_document.proofs.GrownInline.{empty_closes, empty_closed, blank_row, open_row}
 use Rattle.edit_document.proofs.InlineSpots.{inline_spots}
 use Rattle.edit_document.proofs.inline.with_first_member.Goals as goal

@@ -1,6 +1,6 @@
 use Rattle.std.proofs.Common.{ℕ, List, ◌++◌, ap, ◌∙◌}
 use Rattle.std.proofs.lemmas.Result.{IfOk-weaker}
-use Rattle.edit_document.specs.EditBytes.{put_before, with_splice}
+use Rattle.edit_tree.specs.EditBytes.{put_before, with_splice}
 use Rattle.edit_document.proofs.inline.with_lead.Goals as goal
 
 pub returns-clause-text : goal.returns-clause-text

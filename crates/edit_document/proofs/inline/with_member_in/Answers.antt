@@ -4,8 +4,8 @@ use Rattle.std.proofs.lemmas.Result.{err_from_is_err_and, MatchResult-from_both,
 use Rattle.edit_syntax.specs.Characters.{right_brace}
 use Rattle.edit_syntax.specs.Grammar.{Members, inline}
 use Rattle.edit_syntax.specs.Reading.{first, past_gap}
-use Rattle.edit_document.specs.EditBytes.{Splice, with_splice, behind_last, inline_grown}
-use Rattle.edit_document.specs.SlotTexts.{TableAt}
+use Rattle.edit_tree.specs.EditBytes.{Splice, with_splice, behind_last, inline_grown}
+use Rattle.edit_tree.specs.SlotTexts.{TableAt}
 use Rattle.edit_document.proofs.GrownInline.{none_there, full_row}
 use Rattle.edit_document.proofs.InlineSpots.{inline_spots}
 use Rattle.edit_document.proofs.SlotSteps.{keeps_memory}

@@ -5,13 +5,13 @@ use Rattle.edit_syntax.specs.Characters.{equals}
 use Rattle.edit_syntax.specs.Grammar.{gap, value}
 use Rattle.edit_syntax.specs.Marks.{key_marks}
 use Rattle.edit_syntax.specs.Strings.{key}
-use Rattle.edit_document.specs.EditBytes.{as_it_is}
+use Rattle.edit_tree.specs.EditBytes.{as_it_is}
 use Rattle.edit_document.specs.Entries.{AreParts}
 use Rattle.edit_document.specs.Inner.{inner_in}
 use Rattle.edit_document.specs.Items.{place_seen}
-use Rattle.edit_document.specs.Slots.{Slot}
-use Rattle.edit_document.specs.SlotTexts.{Ends}
-use Rattle.edit_document.specs.Statements.{parts}
+use Rattle.edit_tree.specs.Slots.{Slot}
+use Rattle.edit_tree.specs.SlotTexts.{Ends}
+use Rattle.edit_tree.specs.Statements.{parts}
 use Rattle.edit_document.proofs.InnerTurns.{inner_made}
 use Rattle.edit_document.proofs.KeyWays.{key_are}
 use Rattle.edit_document.proofs.SlotSteps.{pair_at_front, keeps_memory}

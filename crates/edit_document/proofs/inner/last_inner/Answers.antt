@@ -4,10 +4,10 @@ use Rattle.std.proofs.lemmas.Result.{err_from_is_err_and}
 use Rattle.edit_syntax.specs.Characters.{comma, right_brace}
 use Rattle.edit_syntax.specs.Reading.{first, past_gap}
 use Rattle.edit_document.specs.declared.inner.Inner.{Inner}
-use Rattle.edit_document.specs.EditBytes.{last_made}
+use Rattle.edit_tree.specs.EditBytes.{last_made}
 use Rattle.edit_document.specs.Inner.{inner_of}
 use Rattle.edit_document.specs.Items.{place_seen}
-use Rattle.edit_document.specs.Statements.{paired_members}
+use Rattle.edit_tree.specs.Statements.{paired_members}
 use Rattle.edit_document.proofs.InnerTurns.{inner_turn, last_folded, or_none}
 use Rattle.edit_document.proofs.SlotSteps.{keeps_memory}
 use Rattle.edit_document.proofs.SlotTurns.{stop_is}

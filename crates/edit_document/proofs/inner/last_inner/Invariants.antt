@@ -1,13 +1,13 @@
 use Rattle.std.proofs.Common.{◌≡◌, ℕ, List, ◌∷◌}
 use Rattle.edit_syntax.specs.Characters.{right_brace}
 use Rattle.edit_syntax.specs.Grammar.{Between, Members}
-use Rattle.edit_document.specs.Assertions.{Place}
-use Rattle.edit_document.specs.EditBytes.{last_made}
+use Rattle.edit_tree.specs.Assertions.{Place}
+use Rattle.edit_tree.specs.EditBytes.{last_made}
 use Rattle.edit_document.specs.Entries.{way}
 use Rattle.edit_document.specs.Inner.{inner_of}
 use Rattle.edit_document.specs.Items.{place_seen}
-use Rattle.edit_document.specs.SlotTexts.{TableAt}
-use Rattle.edit_document.specs.Statements.{paired_members}
+use Rattle.edit_tree.specs.SlotTexts.{TableAt}
+use Rattle.edit_tree.specs.Statements.{paired_members}
 use Rattle.edit_document.proofs.InnerTurns.{inner_turn}
 use Rattle.edit_document.proofs.MemberTurns.{AtMembers}
 use Rattle.edit_document.proofs.inner.last_inner.Given as goal

@@ -2,7 +2,7 @@ use Rattle.std.proofs.Common.{ℕ, List, ◌++◌, ap, ◌∙◌, append_assoc}
 use Rattle.std.specs.Prelude.{codes}
 use Rattle.std.proofs.lemmas.Result.{IfOk-weaker}
 use Rattle.edit_document.specs.declared.inner.Inner.{Inner}
-use Rattle.edit_document.specs.EditBytes.{before, put_before, with_splice}
+use Rattle.edit_tree.specs.EditBytes.{before, put_before, with_splice}
 use Rattle.edit_document.proofs.InnerRows.{inner_is}
 use Rattle.edit_document.proofs.SpotTexts.{cut_spots}
 use Rattle.edit_document.proofs.inner.with_inner.Goals as goal

@@ -1,5 +1,5 @@
 use Rattle.std.proofs.Common.{◌≡◌, None, take}
-use Rattle.edit_document.specs.EditBytes.{first_made}
+use Rattle.edit_tree.specs.EditBytes.{first_made}
 use Rattle.edit_document.specs.Spots.{through_entry}
 use Rattle.edit_document.proofs.insert.first_through.Given as goal
 

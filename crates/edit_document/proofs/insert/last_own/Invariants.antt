@@ -1,5 +1,5 @@
 use Rattle.std.proofs.Common.{◌≡◌, take}
-use Rattle.edit_document.specs.EditBytes.{last_made}
+use Rattle.edit_tree.specs.EditBytes.{last_made}
 use Rattle.edit_document.specs.Spots.{own_entry}
 use Rattle.edit_document.proofs.insert.last_own.Given as goal
 

@@ -2,7 +2,7 @@ use Rattle.std.proofs.Common.{ℕ, List, ◌++◌, ap, ◌∙◌, append_assoc}
 use Rattle.std.specs.Prelude.{codes}
 use Rattle.std.proofs.lemmas.Result.{IfOk-weaker}
 use Rattle.edit_document.specs.declared.locate.Entry.{Entry}
-use Rattle.edit_document.specs.EditBytes.{new_line, with_splice}
+use Rattle.edit_tree.specs.EditBytes.{new_line, with_splice}
 use Rattle.edit_document.specs.Spots.{key_to}
 use Rattle.edit_document.proofs.insert.with_dotted.Goals as goal
 

@@ -4,7 +4,7 @@ use Rattle.std.proofs.lemmas.Result.{IfOk-weaker}
 use Rattle.edit_syntax.specs.Grammar.{lines}
 use Rattle.edit_syntax.specs.Reading.{past_mark}
 use Rattle.edit_syntax.proofs.TextLaws.{lines_only}
-use Rattle.edit_document.specs.EditBytes.{put_before, with_splice}
+use Rattle.edit_tree.specs.EditBytes.{put_before, with_splice}
 use Rattle.edit_document.proofs.StatementSpots.{start_spot}
 use Rattle.edit_document.proofs.insert.with_first.Goals as goal
 

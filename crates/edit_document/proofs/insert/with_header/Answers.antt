@@ -1,7 +1,7 @@
 use Rattle.std.proofs.Common.{ℕ, List, ap, ◌∙◌}
 use Rattle.std.proofs.lemmas.Result.{IfOk-weaker}
 use Rattle.edit_document.specs.declared.locate.Entry.{Entry}
-use Rattle.edit_document.specs.EditBytes.{put_before, with_splice}
+use Rattle.edit_tree.specs.EditBytes.{put_before, with_splice}
 use Rattle.edit_document.specs.Spots.{section_text}
 use Rattle.edit_document.proofs.insert.with_header.Goals as goal
 

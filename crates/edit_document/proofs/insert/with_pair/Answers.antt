@@ -2,7 +2,7 @@ use Rattle.std.proofs.Common.{List, ℕ, ◌++◌, ap, ap₂, sym, ◌∙◌}
 use Rattle.std.specs.Prelude.{codes}
 use Rattle.std.proofs.lemmas.Result.{IfOk-weaker}
 use Rattle.edit_document.specs.declared.locate.Entry.{Entry}
-use Rattle.edit_document.specs.EditBytes.{Splice, put_before, new_line, with_splice, at_start}
+use Rattle.edit_tree.specs.EditBytes.{Splice, put_before, new_line, with_splice, at_start}
 use Rattle.edit_document.specs.Items.{place_seen}
 use Rattle.edit_document.specs.Spots.{key_to, section_text}
 use Rattle.edit_document.proofs.InnerRows.{inner_splice, inner_stands}

@@ -1,7 +1,7 @@
 use Rattle.std.proofs.Common.{◌≡◌, Bool, ◌&&◌, length, map, ◌-◌, take, drop, sym, ap, ◌∙◌, arith}
 use Rattle.std.proofs.lemmas.Result.{err_from_is_err_and, MatchResult-weaker}
-use Rattle.edit_document.specs.Assertions.{key}
-use Rattle.edit_document.specs.EditBytes.{is_within}
+use Rattle.edit_tree.specs.Assertions.{key}
+use Rattle.edit_tree.specs.EditBytes.{is_within}
 use Rattle.edit_document.specs.Items.{place_seen}
 use Rattle.edit_document.proofs.SlotSteps.{first_said, within_turn, keeps_memory}
 use Rattle.edit_document.proofs.inside.+is_named.Goals as goal

@@ -1,6 +1,6 @@
 use Rattle.std.proofs.Common.{◌≡◌, ℕ, List, string_bytes, sym, ap, ◌∙◌}
 use Rattle.edit_document.specs.declared.place.Step.{Step}
-use Rattle.edit_document.specs.Assertions.{key, same_bytes, same_step}
+use Rattle.edit_tree.specs.Assertions.{key, same_bytes, same_step}
 use Rattle.edit_document.specs.Items.{step_seen}
 use Rattle.edit_document.proofs.SlotKeys.{word_is}
 use Rattle.edit_document.proofs.inside.is_step.Goals as goal

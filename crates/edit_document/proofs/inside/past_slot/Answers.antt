@@ -4,10 +4,10 @@ use Rattle.edit_syntax.specs.declared.read.marks.Mark.{Mark}
 use Rattle.edit_syntax.specs.Characters.{equals}
 use Rattle.edit_syntax.specs.Grammar.{gap, value}
 use Rattle.edit_syntax.specs.Marks.{key_marks}
-use Rattle.edit_document.specs.Assertions.{names}
+use Rattle.edit_tree.specs.Assertions.{names}
 use Rattle.edit_document.specs.Items.{place_seen}
-use Rattle.edit_document.specs.Slots.{goes}
-use Rattle.edit_document.specs.SlotTexts.{AreSaid}
+use Rattle.edit_tree.specs.Slots.{goes}
+use Rattle.edit_tree.specs.SlotTexts.{AreSaid}
 use Rattle.edit_document.proofs.SlotSteps.{pair_at_front, keeps_memory}
 use Rattle.edit_document.proofs.inside.past_slot.Goals as goal
 

@@ -4,8 +4,8 @@ use Rattle.edit_syntax.specs.Characters.{comma, left_brace}
 use Rattle.edit_syntax.specs.Reading.{first, past_gap}
 use Rattle.edit_document.specs.Items.{place_seen}
 use Rattle.edit_document.specs.Remainders.{before_end}
-use Rattle.edit_document.specs.Slots.{closing, goes, enclosed_left}
-use Rattle.edit_document.specs.SlotTexts.{StandsAt}
+use Rattle.edit_tree.specs.Slots.{closing, goes, enclosed_left}
+use Rattle.edit_tree.specs.SlotTexts.{StandsAt}
 use Rattle.edit_document.proofs.SlotSteps.{keeps_memory}
 use Rattle.edit_document.proofs.SlotTurns.{slots_front, at_with, turned, table_is, stop_is}
 use Rattle.edit_document.proofs.SlotEnds.{enclosed_start, slots_closed, slots_over}

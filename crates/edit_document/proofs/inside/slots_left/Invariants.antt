@@ -1,7 +1,7 @@
 use Rattle.std.proofs.Common.{◌≡◌, List, Bool}
 use Rattle.edit_syntax.specs.Grammar.{Between}
 use Rattle.edit_document.specs.Items.{place_seen}
-use Rattle.edit_document.specs.Slots.{Slots, IsEnclosed, enclosed_left}
+use Rattle.edit_tree.specs.Slots.{Slots, IsEnclosed, enclosed_left}
 use Rattle.edit_document.proofs.SlotEnds.{AtSlots}
 use Rattle.edit_document.proofs.inside.slots_left.Given as goal
 

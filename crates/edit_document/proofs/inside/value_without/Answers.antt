@@ -2,7 +2,7 @@ use Rattle.std.proofs.Common.{false, true, ◌∙◌}
 use Rattle.std.proofs.lemmas.Result.{MatchResult-weaker}
 use Rattle.edit_syntax.specs.Grammar.{array, inline, basic, literal, multi_basic, multi_literal, boolean, integer, float, datetime}
 use Rattle.edit_document.specs.Items.{place_seen}
-use Rattle.edit_document.specs.Slots.{of_elements, of_members}
+use Rattle.edit_tree.specs.Slots.{of_elements, of_members}
 use Rattle.edit_document.proofs.SlotKeys.{array_enclosed, inline_enclosed, array_left, inline_left}
 use Rattle.edit_document.proofs.inside.value_without.Goals as goal
 

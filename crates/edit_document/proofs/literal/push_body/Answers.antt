@@ -1,8 +1,8 @@
 use Rattle.std.proofs.Common.{◌≡◌, ◌<◌, true, false, length, get_or, refl, arith}
 use Rattle.std.proofs.lemmas.Grind.{common_steps}
 use Rattle.std.proofs.lemmas.Str.{IsCharBoundary-start, IsCharBoundary-after_ascii}
-use Rattle.edit_document.specs.Literals.{is_escaped}
-use Rattle.edit_document.proofs.LiteralBytes.{escaped_ascii, keep_byte, escape_byte, body_end}
+use Rattle.edit_tree.specs.Literals.{is_escaped}
+use Rattle.edit_tree.proofs.LiteralBytes.{escaped_ascii, keep_byte, escape_byte, body_end}
 use Rattle.edit_document.proofs.literal.push_body.Goals as goal
 use Rattle.edit_document.proofs.literal.push_body.Goals.{then-needs_escape+in_ok-push_str+in_ok-push_escape, else-needs_escape}
 

@@ -1,7 +1,7 @@
 use Rattle.std.proofs.Common.{◌≡◌, ◌-◌, ◌≤◌, ◌++◌, take, drop}
 use Rattle.std.specs.Prelude.{string_bytes}
 use Rattle.std.specs.Str.{IsCharBoundary}
-use Rattle.edit_document.specs.Literals.{literal_body}
+use Rattle.edit_tree.specs.Literals.{literal_body}
 use Rattle.edit_document.proofs.literal.push_body.Given as goal
 
 abbrev pub invariant-bytes : goal.invariant-bytes

@@ -1,6 +1,6 @@
 use Rattle.std.proofs.Common.{lit<, append_assoc, arith}
 use Rattle.std.proofs.lemmas.Grind.{common_steps}
-use Rattle.edit_document.proofs.LiteralBytes.{literal_parts}
+use Rattle.edit_tree.proofs.LiteralBytes.{literal_parts}
 use Rattle.edit_document.proofs.literal.push_literal.Goals as goal
 
 pub returns : goal.returns

@@ -1,5 +1,5 @@
 use Rattle.edit_syntax.specs.Grammar.{Text}
-use Rattle.edit_document.specs.Supported.{IsManifest}
+use Rattle.edit_tree.specs.Supported.{IsManifest}
 use Rattle.edit_document.specs.Items.{place_seen}
 use Rattle.edit_document.proofs.StatedLines.{AtLine}
 use Rattle.edit_document.proofs.locate.entries.Given as goal

@@ -8,11 +8,11 @@ use Rattle.edit_syntax.specs.Steps.{IsItem, IsNaming}
 use Rattle.edit_syntax.specs.Strings.{name, dotted}
 use Rattle.edit_syntax.specs.Strings as strings
 use Rattle.edit_syntax.proofs.MembersReadAgain.{value_first}
-use Rattle.edit_document.specs.EditBytes.{as_it_is}
+use Rattle.edit_tree.specs.EditBytes.{as_it_is}
 use Rattle.edit_document.specs.Entries.{AreParts}
 use Rattle.edit_document.specs.Items.{place_seen}
-use Rattle.edit_document.specs.SlotTexts.{Ends}
-use Rattle.edit_document.specs.Statements.{Named, dotted_parts, parts}
+use Rattle.edit_tree.specs.SlotTexts.{Ends}
+use Rattle.edit_tree.specs.Statements.{Named, dotted_parts, parts}
 use Rattle.edit_document.proofs.EntryParts.{part_told}
 use Rattle.edit_document.proofs.KeyWays.{key_are}
 use Rattle.edit_document.proofs.Ways.{follows_itself}

@@ -3,7 +3,7 @@ use Rattle.edit_syntax.specs.Characters.{comma}
 use Rattle.edit_syntax.specs.Reading.{first, past_gap}
 use Rattle.std.specs.Prelude.{drop}
 use Rattle.edit_document.specs.Items.{place_seen}
-use Rattle.edit_document.specs.Slots.{of_pair}
+use Rattle.edit_tree.specs.Slots.{of_pair}
 use Rattle.edit_document.proofs.NamedMembers.{members_start, no_members_told, members_closed, members_over, members_front}
 use Rattle.edit_document.proofs.SlotTurns.{stop_is}
 use Rattle.edit_document.proofs.ToldPairs.{mapped, unmapped}

@@ -3,7 +3,7 @@ use Rattle.edit_syntax.specs.Grammar.{value}
 use Rattle.edit_document.specs.Entries.{way}
 use Rattle.edit_document.specs.EntrySpots.{StandsIn}
 use Rattle.edit_document.specs.Items.{place_seen}
-use Rattle.edit_document.specs.Written.{Valued}
+use Rattle.edit_tree.specs.Written.{Valued}
 use Rattle.edit_document.proofs.NamedMembers.{MembersLeft}
 use Rattle.edit_document.proofs.members.table_spots.Given as goal
 

@@ -1,6 +1,6 @@
 use Rattle.std.proofs.Common.{◌++◌, ◌∙◌, List, ℕ, string_bytes, ap, arith}
-use Rattle.edit_document.specs.Literals.{literal_bytes}
-use Rattle.edit_document.proofs.NewItemTexts.{joined_more, list_done, on_appended}
+use Rattle.edit_tree.specs.Literals.{literal_bytes}
+use Rattle.edit_tree.proofs.NewItemTexts.{joined_more, list_done, on_appended}
 use Rattle.edit_document.proofs.new_item.push_list.Goals as goal
 
 pub others-preserved : goal.others-preserved

@@ -1,6 +1,6 @@
 use Rattle.std.proofs.Common.{◌≡◌, ◌++◌, string_bytes, take}
-use Rattle.edit_document.specs.Literals.{literal_bytes}
-use Rattle.edit_document.proofs.NewItemTexts.{joined}
+use Rattle.edit_tree.specs.Literals.{literal_bytes}
+use Rattle.edit_tree.proofs.NewItemTexts.{joined}
 use Rattle.edit_document.proofs.new_item.push_list.Given as goal
 
 abbrev pub invariant-others : goal.invariant-others

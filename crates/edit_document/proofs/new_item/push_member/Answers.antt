@@ -1,6 +1,6 @@
 use Rattle.std.proofs.lemmas.Result.{on_ok_weaker}
 use Rattle.edit_document.specs.NewItemViews.{value_seen}
-use Rattle.edit_document.proofs.NewItemTexts.{pair_done}
+use Rattle.edit_tree.proofs.NewItemTexts.{pair_done}
 use Rattle.edit_document.proofs.new_item.push_member.Goals as goal
 
 pub returns : goal.returns

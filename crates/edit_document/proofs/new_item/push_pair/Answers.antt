@@ -1,6 +1,6 @@
 use Rattle.std.proofs.Common.{◌++◌, ◌∙◌, [], List, ℕ, string_bytes, ap}
 use Rattle.std.proofs.lemmas.Result.{on_ok_weaker}
-use Rattle.edit_document.specs.NewItems.{new_pair}
+use Rattle.edit_tree.specs.NewItems.{new_pair}
 use Rattle.edit_document.specs.NewItemViews.{value_seen}
 use Rattle.edit_document.proofs.new_item.push_pair.Goals as goal
 

@@ -1,7 +1,7 @@
 use Rattle.std.proofs.Common.{◌∙◌, [], string_bytes, arith}
-use Rattle.edit_document.specs.NewItems.{new_pair}
+use Rattle.edit_tree.specs.NewItems.{new_pair}
 use Rattle.edit_document.specs.NewItemViews.{pair_seen, value_seen}
-use Rattle.edit_document.proofs.NewItemTexts.{joined_more, table_done, on_appended}
+use Rattle.edit_tree.proofs.NewItemTexts.{joined_more, table_done, on_appended}
 use Rattle.edit_document.proofs.new_item.push_table.Goals as goal
 
 pub others-preserved : goal.others-preserved

@@ -1,7 +1,7 @@
 use Rattle.std.proofs.Common.{◌≡◌, ◌++◌, [], string_bytes, take}
-use Rattle.edit_document.specs.NewItems.{new_pair}
+use Rattle.edit_tree.specs.NewItems.{new_pair}
 use Rattle.edit_document.specs.NewItemViews.{value_seen}
-use Rattle.edit_document.proofs.NewItemTexts.{joined}
+use Rattle.edit_tree.proofs.NewItemTexts.{joined}
 use Rattle.edit_document.proofs.new_item.push_table.Given as goal
 
 abbrev pub invariant-others : goal.invariant-others

@@ -1,6 +1,6 @@
 use Rattle.std.proofs.Common.{◌-◌, ap, ◌∙◌, length, take, arith}
 use Rattle.std.specs.Prelude.{string_bytes}
-use Rattle.edit_document.specs.Assertions.{at}
+use Rattle.edit_tree.specs.Assertions.{at}
 use Rattle.edit_document.specs.Items.{place_seen, step_seen}
 use Rattle.edit_document.proofs.AloneTurns.{last_member}
 use Rattle.edit_document.proofs.one_statement.is_member.Goals as goal

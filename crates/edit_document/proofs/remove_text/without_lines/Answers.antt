@@ -5,8 +5,8 @@ use Rattle.edit_syntax.specs.Grammar.{lines, byte_order_mark}
 use Rattle.edit_syntax.specs.Reading.{past_mark}
 use Rattle.edit_syntax.proofs.TextLaws.{lines_only}
 use Rattle.edit_document.specs.Items.{place_seen}
-use Rattle.edit_document.specs.RemovedBytes.{lines_left}
-use Rattle.edit_document.specs.Statements.{stated}
+use Rattle.edit_tree.specs.RemovedBytes.{lines_left}
+use Rattle.edit_tree.specs.Statements.{stated}
 use Rattle.edit_document.proofs.EntryChoices.{no_entry}
 use Rattle.edit_document.proofs.LeftLines.{AtStatement, at_first, past_one, past_last}
 use Rattle.edit_document.proofs.remove_text.without_lines.Goals.{then-entry, else-entry}

@@ -2,9 +2,9 @@ use Rattle.std.proofs.Common.{drop}
 use Rattle.std.specs.Prelude.{string_bytes}
 use Rattle.edit_syntax.specs.Grammar.{Text, lines, byte_order_mark}
 use Rattle.edit_document.specs.Items.{place_seen}
-use Rattle.edit_document.specs.RemovedBytes.{lines_left}
-use Rattle.edit_document.specs.Statements.{stated}
-use Rattle.edit_document.specs.Supported.{IsManifest}
+use Rattle.edit_tree.specs.RemovedBytes.{lines_left}
+use Rattle.edit_tree.specs.Statements.{stated}
+use Rattle.edit_tree.specs.Supported.{IsManifest}
 use Rattle.edit_document.proofs.LeftLines.{AtStatement}
 use Rattle.edit_document.proofs.remove_text.without_lines.Given as goal
 

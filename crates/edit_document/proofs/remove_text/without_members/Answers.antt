@@ -4,7 +4,7 @@ use Rattle.std.specs.Global.{Vec}
 use Rattle.std.proofs.lemmas.Result.{IfOk-weaker}
 use Rattle.edit_base.specs.Errors.{IsMemory}
 use Rattle.edit_syntax.specs.Grammar.{value}
-use Rattle.edit_document.specs.EditBytes.{with_splice}
+use Rattle.edit_tree.specs.EditBytes.{with_splice}
 use Rattle.edit_document.specs.Items.{place_seen}
 use Rattle.edit_document.proofs.AroundValues.{value_between, plain_left}
 use Rattle.edit_document.proofs.LeftTexts.{left_text}

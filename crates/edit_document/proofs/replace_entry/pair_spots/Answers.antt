@@ -6,7 +6,7 @@ use Rattle.edit_syntax.specs.Grammar.{lines}
 use Rattle.edit_syntax.specs.Marks.{statement_marks}
 use Rattle.edit_syntax.proofs.Members.{contained_among}
 use Rattle.edit_document.specs.declared.locate.Entry.{Entry}
-use Rattle.edit_document.specs.Statements.{stated, line_pairs}
+use Rattle.edit_tree.specs.Statements.{stated, line_pairs}
 use Rattle.edit_document.proofs.EntryCuts.{statements_stand}
 use Rattle.edit_document.proofs.LineEntries.{line_around, around_as}
 use Rattle.edit_document.proofs.SpotTexts.{cut_rest}

@@ -1,5 +1,5 @@
 use Rattle.std.proofs.Common.{◌≡◌, ℕ, List, ◌++◌, length, refl, ap, ap₂, ◌∙◌, append_assoc}
-use Rattle.edit_document.specs.EditBytes.{before}
+use Rattle.edit_tree.specs.EditBytes.{before}
 use Rattle.edit_document.proofs.SpotTexts.{cut_spots, cut_rest, whole_spot}
 use Rattle.edit_document.proofs.replace_entry.swapped.Goals as goal
 

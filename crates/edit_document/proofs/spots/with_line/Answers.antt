@@ -1,7 +1,7 @@
 use Rattle.std.proofs.Common.{List, ℕ, ◌++◌, ap, ◌∙◌}
 use Rattle.std.proofs.lemmas.Result.{IfOk-weaker}
 use Rattle.edit_syntax.specs.Strings.{line_end}
-use Rattle.edit_document.specs.EditBytes.{put_before, with_splice, end_like}
+use Rattle.edit_tree.specs.EditBytes.{put_before, with_splice, end_like}
 use Rattle.edit_document.proofs.SpotTexts.{cut_rest}
 use Rattle.edit_document.proofs.spots.with_line.Goals as goal
 

@@ -1,6 +1,6 @@
 use Rattle.std.proofs.Common.{◌≡◌, ◌++◌, map}
 use Rattle.edit_document.specs.Items.{place_seen}
-use Rattle.edit_document.specs.Shown.{tree_of}
+use Rattle.edit_tree.specs.Shown.{tree_of}
 use Rattle.edit_entries.specs.Entries.{entry_at}
 use Rattle.edit_entries.specs.EntryViews.{entry_view}
 use Rattle.edit_entries.proofs.found.push_entries.Given as goal

@@ -1,7 +1,7 @@
 use Rattle.std.proofs.Common.{drop, map, ap, sym, ◌+◌, ◌∙◌, arith}
 use Rattle.std.specs.List.{list_any}
 use Rattle.edit_document.specs.Items.{place_seen}
-use Rattle.edit_document.specs.Shown.{tree_of}
+use Rattle.edit_tree.specs.Shown.{tree_of}
 use Rattle.edit_manifest.specs.Features.{offers}
 use Rattle.edit_manifest.proofs.ItemSteps.{left_map, none_left}
 use Rattle.edit_manifest.proofs.StaleElements.{any_here, any_next}

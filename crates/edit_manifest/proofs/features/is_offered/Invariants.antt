@@ -1,6 +1,6 @@
 use Rattle.std.proofs.Common.{◌≡◌, drop}
 use Rattle.std.specs.List.{list_any}
-use Rattle.edit_document.specs.Shown.{tree_of}
+use Rattle.edit_tree.specs.Shown.{tree_of}
 use Rattle.edit_manifest.specs.Features.{offers}
 use Rattle.edit_manifest.specs.Places.{places_seen}
 use Rattle.edit_manifest.proofs.features.is_offered.Given as goal

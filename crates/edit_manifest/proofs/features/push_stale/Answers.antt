@@ -1,8 +1,8 @@
 use Rattle.std.proofs.Common.{◌≡◌, suc, ◌-◌, ◌∙◌, sym, subst, arith}
-use Rattle.edit_document.specs.Assertions.{at, index}
+use Rattle.edit_tree.specs.Assertions.{at, index}
 use Rattle.edit_document.specs.ItemViews.{Finds, document_of, place_of}
 use Rattle.edit_document.specs.Items.{place_seen}
-use Rattle.edit_document.specs.Shown.{tree_of}
+use Rattle.edit_tree.specs.Shown.{tree_of}
 use Rattle.edit_manifest.proofs.StaleElements.{told_goes, told_stays}
 use Rattle.edit_manifest.proofs.features.push_stale.Goals as goal
 

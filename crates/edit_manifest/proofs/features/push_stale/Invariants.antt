@@ -1,6 +1,6 @@
 use Rattle.std.proofs.Common.{◌≡◌, ◌++◌}
 use Rattle.edit_document.specs.Items.{place_seen}
-use Rattle.edit_document.specs.Shown.{tree_of}
+use Rattle.edit_tree.specs.Shown.{tree_of}
 use Rattle.edit_manifest.specs.Places.{places_seen}
 use Rattle.edit_manifest.proofs.StaleElements.{stale_back}
 use Rattle.edit_manifest.proofs.features.push_stale.Given as goal

@@ -1,7 +1,7 @@
 use Rattle.std.proofs.Common.{◌≡◌, map}
 use Rattle.std.specs.List.{flat_map}
-use Rattle.edit_document.specs.Assertions.{at, key}
-use Rattle.edit_document.specs.Shown.{tree_of}
+use Rattle.edit_tree.specs.Assertions.{at, key}
+use Rattle.edit_tree.specs.Shown.{tree_of}
 use Rattle.edit_manifest.specs.Features.{features, stale_in}
 use Rattle.edit_manifest.specs.Places.{places_seen}
 use Rattle.edit_manifest.proofs.features.stale_in_features.Given as goal

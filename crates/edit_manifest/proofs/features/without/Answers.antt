@@ -2,10 +2,10 @@ use Rattle.std.proofs.Common.{◌≡◌, ℕ, List, [], ◌∷◌, ◌++◌, dro
 use Rattle.std.proofs.lemmas.Result.{err_from_is_err_and}
 use Rattle.edit_base.specs.declared.errors.Error.TheVariants.{EditRefused}
 use Rattle.edit_base.specs.Errors.{IsMemory}
-use Rattle.edit_document.specs.Assertions.{Place}
+use Rattle.edit_tree.specs.Assertions.{Place}
 use Rattle.edit_document.specs.Items.{place_seen}
-use Rattle.edit_document.specs.Shown.{tree_of}
-use Rattle.edit_document.specs.Tree.{view_at}
+use Rattle.edit_tree.specs.Shown.{tree_of}
+use Rattle.edit_tree.specs.Tree.{view_at}
 use Rattle.edit_manifest.specs.Places.{places_seen}
 use Rattle.edit_manifest.specs.Removals.{AreInTurn, AreStrings, OneStays, Without, none}
 use Rattle.edit_manifest.proofs.ItemSteps.{left_map, split_map, taken_map}

@@ -1,5 +1,5 @@
 use Rattle.std.proofs.Common.{drop, take}
-use Rattle.edit_document.specs.Shown.{tree_of}
+use Rattle.edit_tree.specs.Shown.{tree_of}
 use Rattle.edit_manifest.specs.Places.{places_seen}
 use Rattle.edit_manifest.specs.Removals.{AreInTurn, AreStrings, Without}
 use Rattle.edit_manifest.proofs.features.without.Given as goal

@@ -1,8 +1,8 @@
 use Rattle.std.proofs.Common.{◌≡◌, [], drop, map}
 use Rattle.std.specs.Prelude.{string_bytes}
-use Rattle.edit_document.specs.Assertions.{Place as PlaceSeen}
+use Rattle.edit_tree.specs.Assertions.{Place as PlaceSeen}
 use Rattle.edit_document.specs.ItemViews.{Finds}
-use Rattle.edit_document.specs.Shown.{tree_of}
+use Rattle.edit_tree.specs.Shown.{tree_of}
 use Rattle.edit_manifest.specs.RemovedEntries.{missing_below}
 use Rattle.edit_manifest.proofs.remove.missing_table.Given as goal
 

@@ -1,8 +1,8 @@
 use Rattle.std.proofs.Common.{◌≡◌, [], ◌∷◌, List, sym, ◌∙◌, inl, inr, ⊎_elim, subst}
 use Rattle.std.proofs.lemmas.Result.{IfErr-weaker, IfOk-weaker}
-use Rattle.edit_document.specs.Assertions.{Place}
+use Rattle.edit_tree.specs.Assertions.{Place}
 use Rattle.edit_document.specs.Items.{place_seen}
-use Rattle.edit_document.specs.Shown.{tree_of}
+use Rattle.edit_tree.specs.Shown.{tree_of}
 use Rattle.edit_manifest.specs.Removals.{OneStays, Without, none}
 use Rattle.edit_manifest.specs.RemovedEntries.{bare_table}
 use Rattle.edit_manifest.proofs.TakenOut.{bare_none, bare_root, bare_some, inner_gone, root_is, root_not}

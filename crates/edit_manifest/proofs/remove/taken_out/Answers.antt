@@ -3,11 +3,11 @@ use Rattle.std.proofs.lemmas.Result.{err_from_is_err_and}
 use Rattle.std.specs.Prelude.{string_bytes}
 use Rattle.edit_base.specs.declared.errors.Error.TheVariants.{EditRefused}
 use Rattle.edit_base.specs.Errors.{IsMemory}
-use Rattle.edit_document.specs.Assertions.{at, key, assertions}
+use Rattle.edit_tree.specs.Assertions.{at, key, assertions}
 use Rattle.edit_document.specs.Items.{place_seen}
-use Rattle.edit_document.specs.Meant.{Removed, RemoveFails}
-use Rattle.edit_document.specs.Shown.{tree_of}
-use Rattle.edit_document.specs.Supported.{IsManifest}
+use Rattle.edit_tree.specs.Meant.{Removed, RemoveFails}
+use Rattle.edit_tree.specs.Shown.{tree_of}
+use Rattle.edit_tree.specs.Supported.{IsManifest}
 use Rattle.edit_manifest.specs.RemovedEntries.{IsNotTakenOut, missing_table}
 use Rattle.edit_manifest.specs.Tables.{keyed}
 use Rattle.edit_manifest.proofs.TakenOut.{entry_kept, found_stands, member_gone, table_kept, taken_out}

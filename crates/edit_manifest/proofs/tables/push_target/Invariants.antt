@@ -1,6 +1,6 @@
 use Rattle.std.proofs.Common.{◌≡◌, ◌++◌, map}
 use Rattle.std.specs.List.{flat_map}
-use Rattle.edit_document.specs.Shown.{tree_of}
+use Rattle.edit_tree.specs.Shown.{tree_of}
 use Rattle.edit_manifest.specs.Places.{places_seen}
 use Rattle.edit_manifest.specs.Tables.{target_table}
 use Rattle.edit_manifest.proofs.tables.push_target.Given as goal

@@ -1,6 +1,6 @@
 use Rattle.std.proofs.Common.{◌≡◌, ◌++◌, map}
 use Rattle.std.specs.List.{flat_map}
-use Rattle.edit_document.specs.Shown.{tree_of}
+use Rattle.edit_tree.specs.Shown.{tree_of}
 use Rattle.edit_manifest.specs.Places.{places_seen}
 use Rattle.edit_manifest.specs.Tables.{tables_of_target}
 use Rattle.edit_manifest.proofs.tables.push_targets.Given as goal

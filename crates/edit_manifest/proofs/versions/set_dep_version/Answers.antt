@@ -2,7 +2,7 @@ use Rattle.std.proofs.Common.{ap, sym, ◌∙◌}
 use Rattle.std.proofs.lemmas.Result.{IfOk-weaker}
 use Rattle.std.specs.Prelude.{Ok}
 use Rattle.edit_document.specs.Items.{place_seen}
-use Rattle.edit_document.specs.Shown.{tree_of}
+use Rattle.edit_tree.specs.Shown.{tree_of}
 use Rattle.edit_manifest.proofs.SetLemmas.{set_answered}
 use Rattle.edit_manifest.proofs.versions.set_dep_version.Goals as goal
 

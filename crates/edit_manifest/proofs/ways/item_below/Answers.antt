@@ -1,4 +1,4 @@
-use Rattle.edit_document.specs.Assertions.{key}
+use Rattle.edit_tree.specs.Assertions.{key}
 use Rattle.edit_manifest.proofs.NothingThere.{nothing_there}
 use Rattle.edit_manifest.proofs.ways.item_below.Goals as goal
 

@@ -3,7 +3,7 @@ use Rattle.std.specs.Prelude.{All}
 use Rattle.std.specs.List.{AllZip}
 use Rattle.std.proofs.lemmas.List.Elements.{All-push}
 use Rattle.std.proofs.lemmas.Slice.Zip.{all_zipped_more}
-use Rattle.edit_sources.specs.Store.{OnlyReads}
+use Rattle.edit_store.specs.Store.{OnlyReads}
 use Rattle.edit_version.specs.RustVersions.{numbers_of}
 use Rattle.edit_metadata.specs.Inputs.{IsInputOf, IsNoInput, IsReadFrom, RustAsked, manifest_of, member_manifests}
 use Rattle.edit_metadata.specs.Workspaces.{package_said, packages_said}

@@ -1,7 +1,7 @@
 use Rattle.std.proofs.Common.{◌≡◌, true, option_map, take}
 use Rattle.std.specs.Prelude.{All}
 use Rattle.std.specs.List.{AllZip}
-use Rattle.edit_sources.specs.Store.{OnlyReads}
+use Rattle.edit_store.specs.Store.{OnlyReads}
 use Rattle.edit_version.specs.RustVersions.{numbers_of}
 use Rattle.edit_metadata.specs.Inputs.{IsInputOf, IsReadFrom, member_manifests}
 use Rattle.edit_metadata.specs.Workspaces.{packages_said}

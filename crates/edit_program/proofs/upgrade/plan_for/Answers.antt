@@ -1,12 +1,12 @@
 use Rattle.std.proofs.Common.{List, ap, length, refl, subst}
 use Rattle.edit_sources.specs.FileIndex.{FileGives}
 use Rattle.edit_sources.specs.IndexCache.{index_of}
-use Rattle.cargo_edit.specs.Inputs.{path_of, rows_of, setting_of}
-use Rattle.cargo_edit.specs.Looks.{kept_by}
-use Rattle.cargo_edit.specs.Outputs.{HasOutputs}
-use Rattle.cargo_edit.specs.Upgraded.{HasItsOutputs, HasItsRows, HasRows}
+use Rattle.edit_upgrade.specs.Inputs.{path_of, rows_of, setting_of}
+use Rattle.edit_upgrade.specs.Looks.{kept_by}
+use Rattle.edit_upgrade.specs.Outputs.{HasOutputs}
+use Rattle.edit_upgrade.specs.Upgraded.{HasItsOutputs, HasItsRows, HasRows}
 use Rattle.edit_report.specs.declared.output.Output.{Output}
-use Rattle.cargo_edit.proofs.InputLemmas.{needed-first, of-each, of-entry_cause, only-outputs}
+use Rattle.edit_upgrade.proofs.InputLemmas.{needed-first, of-each, of-entry_cause, only-outputs}
 use Rattle.edit_program.proofs.CauseLemmas.{refusal_same}
 use Rattle.edit_program.proofs.PlanLemmas.{all_rows, no_plan, one_given}
 use Rattle.edit_program.proofs.upgrade.plan_for.Goals as goal

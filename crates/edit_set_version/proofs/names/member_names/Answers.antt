@@ -1,7 +1,7 @@
 use Rattle.std.proofs.Common.{List, ℕ, [], ◌∷◌, ap, sym, take, ◌∙◌}
 use Rattle.std.specs.Prelude.{◌||◌}
 use Rattle.std.proofs.lemmas.List.Folds.{list_any-append}
-use Rattle.edit_document.specs.Assertions.{same_bytes}
+use Rattle.edit_tree.specs.Assertions.{same_bytes}
 use Rattle.edit_metadata.specs.Workspaces.{package_said, packages_said}
 use Rattle.edit_set_version.specs.Chosen.{is_among}
 use Rattle.edit_set_version.specs.Missing.{names_of}

@@ -1,6 +1,6 @@
 use Rattle.std.proofs.Common.{◌∙◌, ap, sym}
 use Rattle.std.specs.List.{filter_map}
-use Rattle.edit_document.specs.Shown.{tree_of}
+use Rattle.edit_tree.specs.Shown.{tree_of}
 use Rattle.edit_set_version.specs.Pointed.{led}
 use Rattle.edit_set_version.proofs.PointedLemmas.{followings_pointed}
 use Rattle.edit_set_version.proofs.pointed.path_entries.Goals as goal

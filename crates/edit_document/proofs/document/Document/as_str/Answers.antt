@@ -1,5 +1,5 @@
 use Rattle.std.proofs.Common.{ap, ◌∙◌}
-use Rattle.edit_document.specs.Shown.{Shown}
+use Rattle.edit_tree.specs.Shown.{Shown}
 use Rattle.edit_document.specs.DocumentLayout.{shown_by}
 use Rattle.edit_document.proofs.document.Document.as_str.Goals as goal
 

@@ -1,6 +1,6 @@
 use Rattle.std.proofs.Common.{take}
 use Rattle.edit_document.specs.Items.{place_seen}
-use Rattle.edit_document.specs.Shown.{tree_of}
+use Rattle.edit_tree.specs.Shown.{tree_of}
 use Rattle.edit_document.specs.Compared.{SameBeside, IsNumber}
 use Rattle.edit_document.proofs.document.Document.beside.Given as goal
 

@@ -1,6 +1,6 @@
 use Rattle.std.proofs.Common.{take}
 use Rattle.edit_document.specs.Items.{place_seen}
-use Rattle.edit_document.specs.Shown.{tree_of}
+use Rattle.edit_tree.specs.Shown.{tree_of}
 use Rattle.edit_document.specs.Compared.{IsNumber}
 use Rattle.edit_document.specs.Lost.{SameButOrderBeside}
 use Rattle.edit_document.proofs.document.Document.beside_unordered.Given as goal

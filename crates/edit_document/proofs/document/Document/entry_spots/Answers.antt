@@ -2,10 +2,10 @@ use Rattle.std.proofs.Common.{ℕ, List, sym, subst, ⊎_elim}
 use Rattle.edit_syntax.proofs.Members.{among_append, among_contained}
 use Rattle.edit_document.specs.EntrySpots.{Tells}
 use Rattle.edit_document.specs.Items.{place_seen}
-use Rattle.edit_document.specs.Statements.{line_pairs, inner_pairs}
-use Rattle.edit_document.specs.Supported.{IsManifest}
+use Rattle.edit_tree.specs.Statements.{line_pairs, inner_pairs}
+use Rattle.edit_tree.specs.Supported.{IsManifest}
 use Rattle.edit_document.proofs.LineEntries.{around_right}
-use Rattle.edit_document.proofs.LonePairs.{some_pair}
+use Rattle.edit_tree.proofs.LonePairs.{some_pair}
 use Rattle.edit_document.proofs.document.Document.entry_spots.Goals as goal
 
 pub unreachable-requires : goal.unreachable-requires

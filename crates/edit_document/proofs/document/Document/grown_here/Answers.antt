@@ -1,5 +1,5 @@
 use Rattle.std.proofs.Common.{subst}
-use Rattle.edit_document.specs.Assertions.{Place}
+use Rattle.edit_tree.specs.Assertions.{Place}
 use Rattle.edit_document.specs.Compared.{ShowsValue}
 use Rattle.edit_document.specs.NewItemViews.{value_seen}
 use Rattle.edit_document.proofs.GrownTrees.{inserted_here, inserted_parts}

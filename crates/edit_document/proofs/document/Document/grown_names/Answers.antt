@@ -1,7 +1,7 @@
 use Rattle.std.proofs.Common.{◌≡◌, ℕ, suc, ◌+◌, length, Some, refl, sym, ap, ◌∙◌, arith}
 use Rattle.std.specs.Prelude.{slice_get}
 use Rattle.std.proofs.lemmas.Option.{slice_get_within}
-use Rattle.edit_document.specs.Assertions.{key}
+use Rattle.edit_tree.specs.Assertions.{key}
 use Rattle.edit_document.specs.Items.{view_numbered, names_in}
 use Rattle.edit_document.proofs.GrownNames.{one_more, grown_names, grown_has, grown_size, grown_before, grown_behind, names_grown, grown_view}
 use Rattle.edit_document.proofs.document.Document.grown_names.Goals as goal

@@ -1,5 +1,5 @@
 use Rattle.std.proofs.Common.{List, ℕ, subst}
-use Rattle.edit_document.specs.Supported.{IsManifest}
+use Rattle.edit_tree.specs.Supported.{IsManifest}
 use Rattle.edit_document.proofs.ShownForms.{shown_bytes, shows_tree}
 use Rattle.edit_document.proofs.document.Document.has_form.Goals as goal
 

@@ -1,7 +1,7 @@
 use Rattle.std.proofs.Common.{◌≡◌, ℕ, ◌<◌, List, Some, None}
 use Rattle.std.specs.Prelude.{slice_get}
-use Rattle.edit_document.specs.Assertions.{key, at}
-use Rattle.edit_document.specs.Shown.{tree_of}
+use Rattle.edit_tree.specs.Assertions.{key, at}
+use Rattle.edit_tree.specs.Shown.{tree_of}
 use Rattle.edit_document.specs.Items.{place_numbered, view_numbered, names_in}
 use Rattle.edit_document.proofs.document.Document.has_names_of.Given as goal
 

@@ -1,10 +1,10 @@
 use Rattle.std.proofs.Common.{◌≡◌, ℕ, ◌<◌, None, take}
 use Rattle.std.specs.List.{Contains}
 use Rattle.edit_syntax.specs.Grammar.{Text}
-use Rattle.edit_document.specs.EditBytes.{part_to}
+use Rattle.edit_tree.specs.EditBytes.{part_to}
 use Rattle.edit_document.specs.Items.{place_seen}
-use Rattle.edit_document.specs.Statements.{Paired, inner_pairs}
-use Rattle.edit_document.specs.Supported.{IsManifest}
+use Rattle.edit_tree.specs.Statements.{Paired, inner_pairs}
+use Rattle.edit_tree.specs.Supported.{IsManifest}
 use Rattle.edit_document.proofs.document.Document.inner_spots.Given as goal
 
 -- no pair in the inline tables at the fronts so far names the place

@@ -1,5 +1,5 @@
 use Rattle.std.proofs.Common.{sym, ap, subst}
-use Rattle.edit_document.specs.Assertions.{assertions}
+use Rattle.edit_tree.specs.Assertions.{assertions}
 use Rattle.edit_document.specs.Items.{place_numbered, viewed}
 use Rattle.edit_document.specs.Compared.{AreApart}
 use Rattle.edit_document.proofs.ApartViews.{apart_view}

@@ -1,7 +1,7 @@
 use Rattle.std.proofs.Common.{◌≡◌, Some, sym, ap, ◌∙◌, arith}
 use Rattle.edit_document.specs.Items.{place_seen, view_numbered}
-use Rattle.edit_document.specs.Meant.{above, is_inline_table}
-use Rattle.edit_document.specs.Shown.{tree_of}
+use Rattle.edit_tree.specs.Meant.{above, is_inline_table}
+use Rattle.edit_tree.specs.Shown.{tree_of}
 use Rattle.edit_document.proofs.ReplacedEntries.{above_seen, inline_kind}
 use Rattle.edit_document.proofs.document.Document.is_inline_above.Goals as goal
 

@@ -1,9 +1,9 @@
 use Rattle.std.proofs.Common.{◌≡◌, ◌<◌, ◌+◌, length, take, None, sym, ap, subst, ◌∙◌, arith}
 use Rattle.edit_syntax.specs.Grammar.{Text}
-use Rattle.edit_document.specs.Assertions.{at}
+use Rattle.edit_tree.specs.Assertions.{at}
 use Rattle.edit_document.specs.Items.{place_seen, step_seen, place_numbered}
-use Rattle.edit_document.specs.Shown.{tree_of}
-use Rattle.edit_document.specs.Supported.{IsManifest}
+use Rattle.edit_tree.specs.Shown.{tree_of}
+use Rattle.edit_tree.specs.Supported.{IsManifest}
 use Rattle.edit_document.proofs.KeptSteps.{KeptSoFar, kept_as, kept_here, kept_before, root_before, some_steps, innermost}
 use Rattle.edit_document.proofs.MemberViews.{place_more, walk_none}
 use Rattle.edit_document.proofs.document.Document.kept_steps.Goals as goal

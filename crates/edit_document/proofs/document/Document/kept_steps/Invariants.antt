@@ -2,7 +2,7 @@ use Rattle.std.proofs.Common.{◌+◌, ◌<◌, take}
 use Rattle.edit_syntax.specs.Grammar.{Text}
 use Rattle.edit_document.specs.Compared.{IsNumber}
 use Rattle.edit_document.specs.Items.{place_seen}
-use Rattle.edit_document.specs.Supported.{IsManifest}
+use Rattle.edit_tree.specs.Supported.{IsManifest}
 use Rattle.edit_document.proofs.KeptSteps.{KeptSoFar}
 use Rattle.edit_document.proofs.document.Document.kept_steps.Given as goal
 

@@ -1,6 +1,6 @@
 use Rattle.std.proofs.Common.{sym, ap, ◌∙◌}
 use Rattle.edit_document.specs.Compared.{kind_of}
-use Rattle.edit_document.specs.Tree.{truth}
+use Rattle.edit_tree.specs.Tree.{truth}
 use Rattle.edit_document.proofs.ContentViews.{kind_shown}
 use Rattle.edit_document.proofs.Views.{opened, within, found}
 use Rattle.edit_document.proofs.document.Document.kind.Goals as goal

@@ -1,8 +1,8 @@
 use Rattle.std.proofs.Common.{ℕ, List, take, drop, sym, subst, ap, ◌∙◌}
 use Rattle.std.proofs.lemmas.Result.{MatchResult-weaker}
 use Rattle.edit_document.specs.Items.{place_seen}
-use Rattle.edit_document.specs.SlotTexts.{TableAt}
-use Rattle.edit_document.specs.Supported.{IsManifest}
+use Rattle.edit_tree.specs.SlotTexts.{TableAt}
+use Rattle.edit_tree.specs.Supported.{IsManifest}
 use Rattle.edit_document.proofs.ClosestTables.{way_above}
 use Rattle.edit_document.proofs.InlineRows.{table_from}
 use Rattle.edit_document.proofs.ClosestPairs.{none_inner, closest_inner}

@@ -1,5 +1,5 @@
 use Rattle.std.proofs.Common.{◌≡◌, ℕ, List, sym, subst, ◌∙◌}
-use Rattle.edit_document.specs.Nodes.{entries_of, number_in, IsIndexed}
+use Rattle.edit_tree.specs.Nodes.{entries_of, number_in, IsIndexed}
 use Rattle.edit_document.proofs.ShownForms.{shown_bytes}
 use Rattle.edit_document.proofs.Views.{opened, within, found}
 use Rattle.edit_document.proofs.MemberViews.{member_here}

@@ -1,5 +1,5 @@
 use Rattle.std.proofs.Common.{ℕ, List, ap, sym, ◌∙◌, slice_get}
-use Rattle.edit_document.specs.Nodes.{entries_of, names_in}
+use Rattle.edit_tree.specs.Nodes.{entries_of, names_in}
 use Rattle.edit_document.proofs.ShownForms.{shown_bytes}
 use Rattle.edit_document.proofs.Views.{opened, within, found}
 use Rattle.edit_document.proofs.MemberViews.{names_none, names_tabular}

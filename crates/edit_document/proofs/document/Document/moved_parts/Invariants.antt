@@ -1,5 +1,5 @@
 use Rattle.std.proofs.Common.{◌≡◌, ℕ, ◌<◌, Some}
-use Rattle.edit_document.specs.Assertions.{Step, at}
+use Rattle.edit_tree.specs.Assertions.{Step, at}
 use Rattle.edit_document.specs.Items.{place_numbered, view_numbered, step_seen}
 use Rattle.edit_document.specs.Compared.{SameButOrderBelow, nth_part}
 use Rattle.edit_document.specs.Lost.{moved_place}

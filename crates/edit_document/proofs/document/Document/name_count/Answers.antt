@@ -1,6 +1,6 @@
 use Rattle.std.proofs.Common.{ap, sym, ◌∙◌, length}
 use Rattle.std.proofs.lemmas.List.{length-map}
-use Rattle.edit_document.specs.Nodes.{entries_of}
+use Rattle.edit_tree.specs.Nodes.{entries_of}
 use Rattle.edit_document.proofs.Views.{opened, within, found}
 use Rattle.edit_document.proofs.MemberViews.{names_none, names_tabular}
 use Rattle.edit_document.proofs.document.Document.name_count.Goals as goal

@@ -1,8 +1,8 @@
 use Rattle.std.proofs.Common.{◌≡◌, ℕ, List, Option, None, ap, sym, ◌∙◌, subst}
 use Rattle.std.proofs.lemmas.List.{take_all}
 use Rattle.edit_document.specs.declared.place.Step.{Step as WrittenStep}
-use Rattle.edit_document.specs.Assertions.{key, at}
-use Rattle.edit_document.specs.Shown.{tree_of}
+use Rattle.edit_tree.specs.Assertions.{key, at}
+use Rattle.edit_tree.specs.Shown.{tree_of}
 use Rattle.edit_document.specs.Items.{place_numbered, place_seen, step_seen, Numbers}
 use Rattle.edit_document.proofs.MemberViews.{walk_none}
 use Rattle.edit_document.proofs.document.Document.number.Goals as goal

@@ -1,7 +1,7 @@
 use Rattle.std.proofs.Common.{ℕ, ◌+◌, ◌-◌, List, ap, sym, ◌∙◌}
 use Rattle.std.specs.Prelude.{slice_get}
-use Rattle.edit_document.specs.Pieces.{pieces_of, some_text}
-use Rattle.edit_document.proofs.PieceLaws.{piece_before, piece_inside, piece_last}
+use Rattle.edit_tree.specs.Pieces.{pieces_of, some_text}
+use Rattle.edit_tree.proofs.PieceLaws.{piece_before, piece_inside, piece_last}
 use Rattle.edit_document.proofs.ShownForms.{pieces_kept, shown_bytes}
 use Rattle.edit_document.proofs.document.Document.piece.Goals as goal
 

@@ -1,7 +1,7 @@
 use Rattle.std.proofs.Common.{ℕ, List, ap, length, sym, ◌∙◌}
 use Rattle.std.specs.List.{concat}
-use Rattle.edit_document.specs.Pieces.{pieces_of}
-use Rattle.edit_document.proofs.PieceLaws.{pieces_count, joined}
+use Rattle.edit_tree.specs.Pieces.{pieces_of}
+use Rattle.edit_tree.proofs.PieceLaws.{pieces_count, joined}
 use Rattle.edit_document.proofs.ShownForms.{pieces_kept, range_kept, shown_bytes}
 use Rattle.edit_document.proofs.document.Document.pieces.Goals as goal
 

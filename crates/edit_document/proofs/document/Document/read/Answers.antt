@@ -1,11 +1,11 @@
 use Rattle.std.proofs.Common.{ℕ, ◌≤◌, List, refl, sym, subst, length}
-use Rattle.edit_document.specs.Pieces.{pieces_of, IsRange}
+use Rattle.edit_tree.specs.Pieces.{pieces_of, IsRange}
 use Rattle.std.proofs.lemmas.Result.{err_from_is_err_and}
 use Rattle.edit_syntax.specs.Grammar.{Spells}
-use Rattle.edit_document.specs.Shown.{ShowsTree}
+use Rattle.edit_tree.specs.Shown.{ShowsTree}
 use Rattle.edit_document.specs.DocumentLayout.{shown_by}
 use Rattle.edit_document.proofs.Documents.{Walked, read_done, read_is, shows_any, shows_form, shallow, refused_memory, answer_memory}
-use Rattle.edit_document.proofs.PieceLaws.{whole_range, whole_count}
+use Rattle.edit_tree.proofs.PieceLaws.{whole_range, whole_count}
 use Rattle.edit_document.proofs.document.Document.read.Goals as goal
 
 pub returns-in_err-marks-clause-only : goal.returns-in_err-marks-clause-only

@@ -1,7 +1,7 @@
 use Rattle.std.proofs.Common.{ℕ, List, refl, ap, ◌∙◌}
-use Rattle.edit_document.specs.declared.nodes.Content.TheVariants as content
+use Rattle.edit_tree.specs.declared.nodes.Content.TheVariants as content
 use Rattle.edit_document.specs.declared.document.Seen.TheVariants as seen
-use Rattle.edit_document.specs.Nodes.{bytes_of}
+use Rattle.edit_tree.specs.Nodes.{bytes_of}
 use Rattle.edit_document.proofs.ShownForms.{shown_bytes}
 use Rattle.edit_document.proofs.Views.{opened, within, found}
 use Rattle.edit_document.proofs.MemberViews.{shows}

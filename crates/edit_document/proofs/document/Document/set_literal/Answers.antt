@@ -2,17 +2,17 @@ use Rattle.std.proofs.Common.{◌≡◌, ℕ, List, None, cond, ap, sym, subst, 
 use Rattle.edit_base.specs.Errors.{IsMemory}
 use Rattle.edit_document.specs.Items.{place_seen}
 use Rattle.edit_document.specs.Ranges.{one_edit}
-use Rattle.edit_document.specs.Replaces.{replaced, emptied, is_below_any}
-use Rattle.edit_document.specs.Shown.{tree_of}
-use Rattle.edit_document.specs.Supported.{IsManifest}
-use Rattle.edit_document.specs.Tree.{View, view_at}
+use Rattle.edit_tree.specs.Replaces.{replaced, emptied, is_below_any}
+use Rattle.edit_tree.specs.Shown.{tree_of}
+use Rattle.edit_tree.specs.Supported.{IsManifest}
+use Rattle.edit_tree.specs.Tree.{View, view_at}
 use Rattle.std.specs.Prelude.{string_bytes}
-use Rattle.edit_document.specs.Assertions.{Place}
-use Rattle.edit_document.specs.Shown.{node_at}
-use Rattle.edit_document.specs.Literals.{literal_bytes}
-use Rattle.edit_document.specs.Pieces.{pieces_of, IsAmong}
-use Rattle.edit_document.proofs.PieceLaws.{literal_among, literal_some, most_pieces}
-use Rattle.edit_document.proofs.ReplacedStrings.{written_same}
+use Rattle.edit_tree.specs.Assertions.{Place}
+use Rattle.edit_tree.specs.Shown.{node_at}
+use Rattle.edit_tree.specs.Literals.{literal_bytes}
+use Rattle.edit_tree.specs.Pieces.{pieces_of, IsAmong}
+use Rattle.edit_tree.proofs.PieceLaws.{literal_among, literal_some, most_pieces}
+use Rattle.edit_tree.proofs.ReplacedStrings.{written_same}
 use Rattle.edit_document.proofs.document.Document.set_literal.Goals as goal
 
 pub returns-in_err-new-clause-refused : goal.returns-in_err-new-clause-refused

@@ -2,7 +2,7 @@ use Rattle.std.proofs.Common.{◌∙◌, rules}
 use Rattle.edit_base.specs.Errors.{IsMemory}
 use Rattle.edit_document.specs.Items.{place_seen}
 use Rattle.edit_document.specs.NewItemViews.{value_seen}
-use Rattle.edit_document.specs.Shown.{tree_of}
+use Rattle.edit_tree.specs.Shown.{tree_of}
 use Rattle.edit_document.proofs.SetBytes.{form_set}
 use Rattle.edit_document.proofs.SetValues.{set_manifest, set_tree}
 use Rattle.edit_document.proofs.document.Document.set_value.Goals as goal

@@ -1,6 +1,6 @@
-use Rattle.edit_document.specs.Assertions.{index, at}
+use Rattle.edit_tree.specs.Assertions.{index, at}
 use Rattle.edit_document.specs.Items.{place_numbered}
-use Rattle.edit_document.specs.NewItems.{a_string}
+use Rattle.edit_tree.specs.NewItems.{a_string}
 use Rattle.edit_document.proofs.ShownValues.{shown_at, unshown_at}
 use Rattle.edit_document.proofs.document.Document.shows_element.Goals as goal
 

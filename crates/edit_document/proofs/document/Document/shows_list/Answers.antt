@@ -3,9 +3,9 @@ use Rattle.std.specs.Prelude.{slice_get, option_map, string_bytes}
 use Rattle.std.proofs.lemmas.Bool.{cases_lt}
 use Rattle.std.proofs.lemmas.List.{length-map}
 use Rattle.std.proofs.lemmas.Option.{slice_get-map, slice_get_read, slice_get_within, same_Some}
-use Rattle.edit_document.specs.Assertions.{index, at}
+use Rattle.edit_tree.specs.Assertions.{index, at}
 use Rattle.edit_document.specs.Items.{place_numbered, count_in}
-use Rattle.edit_document.specs.NewItems.{a_string}
+use Rattle.edit_tree.specs.NewItems.{a_string}
 use Rattle.edit_document.specs.Compared.{kind_of, ShowsValue}
 use Rattle.edit_document.proofs.ShownValues.{list_view, list_element, list_shows}
 use Rattle.edit_document.proofs.document.Document.shows_list.Goals as goal

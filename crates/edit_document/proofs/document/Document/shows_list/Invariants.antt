@@ -1,8 +1,8 @@
 use Rattle.std.proofs.Common.{◌≡◌, ℕ, ◌<◌, List, Some, map}
 use Rattle.std.specs.Prelude.{slice_get, string_bytes}
-use Rattle.edit_document.specs.Assertions.{index, at}
+use Rattle.edit_tree.specs.Assertions.{index, at}
 use Rattle.edit_document.specs.Items.{place_numbered}
-use Rattle.edit_document.specs.NewItems.{a_string}
+use Rattle.edit_tree.specs.NewItems.{a_string}
 use Rattle.edit_document.specs.Compared.{ShowsValue}
 use Rattle.edit_document.proofs.document.Document.shows_list.Given as goal
 

@@ -3,7 +3,7 @@ use Rattle.std.specs.Prelude.{slice_get, option_map}
 use Rattle.std.proofs.lemmas.Bool.{cases_lt}
 use Rattle.std.proofs.lemmas.List.{length-map}
 use Rattle.std.proofs.lemmas.Option.{slice_get-map, slice_get_read, slice_get_within, same_Some}
-use Rattle.edit_document.specs.NewItems.{NewValue}
+use Rattle.edit_tree.specs.NewItems.{NewValue}
 use Rattle.edit_document.specs.NewItemViews.{pair_seen, pairs_seen}
 use Rattle.edit_document.specs.Compared.{kind_of}
 use Rattle.edit_document.proofs.ShownItems.{ShowsPair, members_kind, members_view, members_count, members_pair, members_show}

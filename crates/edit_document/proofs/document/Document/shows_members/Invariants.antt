@@ -1,6 +1,6 @@
 use Rattle.std.proofs.Common.{◌≡◌, ℕ, ◌<◌, List, Some}
 use Rattle.std.specs.Prelude.{slice_get}
-use Rattle.edit_document.specs.NewItems.{NewValue}
+use Rattle.edit_tree.specs.NewItems.{NewValue}
 use Rattle.edit_document.specs.NewItemViews.{pairs_seen}
 use Rattle.edit_document.proofs.ShownItems.{ShowsPair}
 use Rattle.edit_document.proofs.document.Document.shows_members.Given as goal

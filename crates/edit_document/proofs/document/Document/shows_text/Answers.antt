@@ -1,6 +1,6 @@
 use Rattle.std.proofs.Common.{ℕ, List, sym, ap, ◌∙◌}
 use Rattle.edit_document.specs.DocumentLayout.{shown_by, nodes_by, spots_of}
-use Rattle.edit_document.specs.Shown.{Shown}
+use Rattle.edit_tree.specs.Shown.{Shown}
 use Rattle.edit_document.proofs.document.Document.shows_text.Goals as goal
 
 pub returns : goal.returns

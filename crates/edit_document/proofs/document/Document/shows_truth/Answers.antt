@@ -1,7 +1,7 @@
 use Rattle.std.proofs.Common.{Bool, true, false, eqb, sym, subst}
 use Rattle.std.specs.Bool.{Decides}
 use Rattle.edit_document.specs.Items.{place_numbered}
-use Rattle.edit_document.specs.NewItems.{a_truth}
+use Rattle.edit_tree.specs.NewItems.{a_truth}
 use Rattle.edit_document.specs.Compared.{ShowsValue}
 use Rattle.edit_document.proofs.ShownValues.{truth_decides}
 use Rattle.edit_document.proofs.document.Document.shows_truth.Goals as goal

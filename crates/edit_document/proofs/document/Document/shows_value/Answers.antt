@@ -2,7 +2,7 @@ use Rattle.std.proofs.Common.{◌≡◌, map, sym, ap, subst, ◌∙◌}
 use Rattle.std.specs.Bool.{Decides}
 use Rattle.std.specs.Prelude.{string_bytes}
 use Rattle.edit_document.specs.Items.{place_numbered}
-use Rattle.edit_document.specs.NewItems.{NewValue, a_list}
+use Rattle.edit_tree.specs.NewItems.{NewValue, a_list}
 use Rattle.edit_document.specs.NewItemViews.{value_seen}
 use Rattle.edit_document.specs.Compared.{ShowsValue}
 use Rattle.edit_document.proofs.document.Document.shows_value.Goals as goal

@@ -6,10 +6,10 @@ use Rattle.edit_syntax.specs.Grammar.{value}
 use Rattle.edit_syntax.proofs.Members.{contained_among}
 use Rattle.edit_document.specs.Entries.{way}
 use Rattle.edit_document.specs.Items.{step_seen, place_seen}
-use Rattle.edit_document.specs.Supported.{IsManifest}
-use Rattle.edit_document.specs.Tree.{is_value_at}
-use Rattle.edit_document.specs.Written.{values}
-use Rattle.edit_document.proofs.Ends.{suffix_is}
+use Rattle.edit_tree.specs.Supported.{IsManifest}
+use Rattle.edit_tree.specs.Tree.{is_value_at}
+use Rattle.edit_tree.specs.Written.{values}
+use Rattle.edit_tree.proofs.Ends.{suffix_is}
 use Rattle.edit_document.proofs.InnerPairs.{front_way, inner_told, no_inner_told}
 use Rattle.edit_document.proofs.ValueSpots.{values_stand}
 use Rattle.edit_document.proofs.document.Document.spots_in.Goals as goal

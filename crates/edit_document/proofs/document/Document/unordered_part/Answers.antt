@@ -1,4 +1,4 @@
-use Rattle.edit_document.specs.Assertions.{at}
+use Rattle.edit_tree.specs.Assertions.{at}
 use Rattle.edit_document.specs.Items.{place_numbered}
 use Rattle.edit_document.proofs.LostParts.{part_there, part_missing}
 use Rattle.edit_document.proofs.document.Document.unordered_part.Goals as goal

@@ -1,7 +1,7 @@
 use Rattle.std.proofs.Common.{ℕ, Option, ap₂, sym, ◌∙◌, subst}
 use Rattle.edit_document.specs.Items.{place_seen}
 use Rattle.edit_document.specs.Ranges.{HasRange}
-use Rattle.edit_document.specs.Written.{IsWrittenAt}
+use Rattle.edit_tree.specs.Written.{IsWrittenAt}
 use Rattle.edit_document.proofs.Views.{opened, within}
 use Rattle.edit_document.proofs.ValueRanges.{none_value, spanless_value, spanned_value}
 use Rattle.edit_document.proofs.document.Document.value_range.Goals as goal

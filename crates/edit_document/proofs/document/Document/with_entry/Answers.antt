@@ -2,15 +2,15 @@ use Rattle.std.proofs.Common.{ℕ, List, [], ◌++◌, Option, sym, ap, subst, �
 use Rattle.std.proofs.lemmas.Result.{IfOk-weaker}
 use Rattle.edit_syntax.specs.Grammar.{text as text_of}
 use Rattle.edit_syntax.proofs.Members.{contained_among}
-use Rattle.edit_document.specs.EditBytes.{Splice, with_splice, with_any}
+use Rattle.edit_tree.specs.EditBytes.{Splice, with_splice, with_any}
 use Rattle.edit_document.specs.Items.{place_seen}
-use Rattle.edit_document.specs.NewItems.{new_entry}
+use Rattle.edit_tree.specs.NewItems.{new_entry}
 use Rattle.edit_document.specs.NewItemViews.{item_seen}
-use Rattle.edit_document.specs.Statements.{line_pairs, inner_pairs}
-use Rattle.edit_document.specs.Supported.{IsManifest}
+use Rattle.edit_tree.specs.Statements.{line_pairs, inner_pairs}
+use Rattle.edit_tree.specs.Supported.{IsManifest}
 use Rattle.edit_document.proofs.EntryCuts.{pairs_fit}
 use Rattle.edit_document.proofs.InsertedLines.{each_ok}
-use Rattle.edit_document.proofs.LonePairs.{entry_is}
+use Rattle.edit_tree.proofs.LonePairs.{entry_is}
 use Rattle.edit_document.proofs.document.Document.with_entry.Goals as goal
 
 pub returns-clause-text : goal.returns-clause-text

@@ -1,10 +1,10 @@
 use Rattle.std.proofs.Common.{ℕ, List, drop, sym, subst, ap, ap₂, ◌∙◌}
 use Rattle.std.proofs.lemmas.Result.{err_from_is_err_and}
 use Rattle.edit_syntax.specs.Grammar.{inline}
-use Rattle.edit_document.specs.EditBytes.{Splice, with_splice, inline_grown}
+use Rattle.edit_tree.specs.EditBytes.{Splice, with_splice, inline_grown}
 use Rattle.edit_document.specs.Items.{place_seen}
-use Rattle.edit_document.specs.SlotTexts.{TableAt}
-use Rattle.edit_document.specs.Supported.{IsManifest}
+use Rattle.edit_tree.specs.SlotTexts.{TableAt}
+use Rattle.edit_tree.specs.Supported.{IsManifest}
 use Rattle.edit_document.proofs.InlineRows.{no_inline, table_from, table_inserted, grown_some}
 use Rattle.edit_document.proofs.SlotSteps.{keeps_memory}
 use Rattle.edit_document.proofs.document.Document.with_inline_member.Goals as goal

@@ -2,10 +2,10 @@ use Rattle.std.proofs.Common.{◌≡◌, ℕ, ◌-◌, List, length, refl, ap, a
 use Rattle.std.specs.Str.{IsUtf8}
 use Rattle.std.specs.Prelude.{string_bytes}
 use Rattle.edit_document.specs.Items.{place_seen}
-use Rattle.edit_document.specs.Supported.{IsManifest}
-use Rattle.edit_document.specs.Literals.{literal_bytes}
-use Rattle.edit_document.specs.Pieces.{IsSwapped}
-use Rattle.edit_document.proofs.PieceLaws.{swaps}
+use Rattle.edit_tree.specs.Supported.{IsManifest}
+use Rattle.edit_tree.specs.Literals.{literal_bytes}
+use Rattle.edit_tree.specs.Pieces.{IsSwapped}
+use Rattle.edit_tree.proofs.PieceLaws.{swaps}
 use Rattle.edit_document.proofs.ReplacementLaws.{one_rewrite, replaces_one}
 use Rattle.edit_document.proofs.document.Document.with_literal.Goals as goal
 

@@ -3,17 +3,17 @@ use Rattle.edit_document.specs.declared.place.Step.{Step as WrittenStep}
 use Rattle.edit_document.specs.Items.{place_seen}
 use Rattle.std.specs.Prelude.{string_bytes, IfOk}
 use Rattle.std.proofs.lemmas.Result.{IfOk-weaker}
-use Rattle.edit_document.specs.Assertions.{Place, IsDocument}
+use Rattle.edit_tree.specs.Assertions.{Place, IsDocument}
 use Rattle.edit_document.specs.Ranges.{edits_seen}
 use Rattle.edit_document.specs.Splices.{range_of, Locates}
-use Rattle.edit_document.specs.Tree.{view_at, is_value_at}
+use Rattle.edit_tree.specs.Tree.{view_at, is_value_at}
 use Rattle.edit_syntax.specs.Grammar.{Text, text as text_of}
-use Rattle.edit_document.specs.Supported.{IsManifest}
-use Rattle.edit_document.specs.Replaces.{Replaces, replaced, written, emptied}
-use Rattle.edit_document.proofs.ReplacedDocuments.{tree_again}
+use Rattle.edit_tree.specs.Supported.{IsManifest}
+use Rattle.edit_tree.specs.Replaces.{Replaces, replaced, written, emptied}
+use Rattle.edit_tree.proofs.ReplacedDocuments.{tree_again}
 use Rattle.edit_document.proofs.ReplacementLaws.{value_at, range_seen, ranged_more, all_ranges, replaces_apart}
-use Rattle.edit_document.proofs.ReplacedStrings.{values_apart}
-use Rattle.edit_document.specs.Shown.{tree_of}
+use Rattle.edit_tree.proofs.ReplacedStrings.{values_apart}
+use Rattle.edit_tree.specs.Shown.{tree_of}
 use Rattle.edit_document.proofs.document.Document.with_literals.Goals as goal
 
 pub rewrite_of-requires : goal.rewrite_of-requires

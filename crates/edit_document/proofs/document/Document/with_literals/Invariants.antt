@@ -2,7 +2,7 @@ use Rattle.std.proofs.Common.{take, map}
 use Rattle.edit_syntax.specs.Grammar.{Text}
 use Rattle.edit_document.specs.Ranges.{edits_seen}
 use Rattle.edit_document.specs.Splices.{range_of, AreRanges}
-use Rattle.edit_document.specs.Supported.{IsManifest}
+use Rattle.edit_tree.specs.Supported.{IsManifest}
 use Rattle.edit_document.proofs.document.Document.with_literals.Given as goal
 
 abbrev pub invariant-loop-edit : goal.invariant-loop-edit

@@ -2,10 +2,10 @@ use Rattle.std.proofs.Common.{◌≡◌, ℕ, List, Option, None, String, Global
 use Rattle.std.specs.Prelude.{MatchOption}
 use Rattle.std.proofs.lemmas.Result.{IfOk-weaker}
 use Rattle.edit_syntax.specs.Grammar.{Text}
-use Rattle.edit_document.specs.EditBytes.{in_inline, inserted_text}
+use Rattle.edit_tree.specs.EditBytes.{in_inline, inserted_text}
 use Rattle.edit_document.specs.Items.{place_seen}
 use Rattle.edit_document.specs.NewItemViews.{value_seen}
-use Rattle.edit_document.specs.Supported.{IsManifest}
+use Rattle.edit_tree.specs.Supported.{IsManifest}
 use Rattle.edit_document.proofs.InsertedLines.{each_ok}
 use Rattle.edit_document.proofs.document.Document.with_member.Goals as goal
 

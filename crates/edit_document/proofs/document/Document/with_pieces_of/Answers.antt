@@ -1,5 +1,5 @@
 use Rattle.std.proofs.Common.{ℕ, List, ap, sym, subst, ◌∙◌}
-use Rattle.edit_document.specs.Pieces.{pieces_of, IsRange}
+use Rattle.edit_tree.specs.Pieces.{pieces_of, IsRange}
 use Rattle.edit_document.proofs.ShownForms.{pieces_kept, range_kept}
 use Rattle.edit_document.proofs.document.Document.with_pieces_of.Goals as goal
 

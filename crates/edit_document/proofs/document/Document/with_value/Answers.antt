@@ -2,9 +2,9 @@ use Rattle.std.proofs.Common.{◌++◌, [], ℕ, List, refl, sym, ap, ◌∙◌,
 use Rattle.std.proofs.lemmas.Result.{IfOk-weaker}
 use Rattle.edit_syntax.specs.Grammar.{value}
 use Rattle.edit_document.specs.Items.{place_seen}
-use Rattle.edit_document.specs.NewItems.{new_value}
+use Rattle.edit_tree.specs.NewItems.{new_value}
 use Rattle.edit_document.specs.NewItemViews.{value_seen}
-use Rattle.edit_document.specs.Supported.{IsManifest}
+use Rattle.edit_tree.specs.Supported.{IsManifest}
 use Rattle.edit_document.proofs.ReplacementLaws.{one_rewrite}
 use Rattle.edit_document.proofs.SetBytes.{set_at}
 use Rattle.edit_document.proofs.document.Document.with_value.Goals as goal

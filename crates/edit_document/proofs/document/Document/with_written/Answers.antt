@@ -1,5 +1,5 @@
 use Rattle.std.proofs.Common.{ap}
-use Rattle.edit_document.specs.Shown.{Shown}
+use Rattle.edit_tree.specs.Shown.{Shown}
 use Rattle.edit_document.proofs.ShownForms.{read_again, shown_again}
 use Rattle.edit_document.proofs.document.Document.with_written.Goals as goal
 

@@ -2,11 +2,11 @@ use Rattle.std.proofs.Common.{◌≡◌, ℕ, List, [], ◌++◌, ◌-◌, lengt
 use Rattle.std.specs.Prelude.{string_bytes}
 use Rattle.std.proofs.lemmas.Result.{IfOk-weaker}
 use Rattle.edit_syntax.specs.Grammar.{value, text}
-use Rattle.edit_document.specs.Assertions.{Place}
-use Rattle.edit_document.specs.EditBytes.{with_splice}
+use Rattle.edit_tree.specs.Assertions.{Place}
+use Rattle.edit_tree.specs.EditBytes.{with_splice}
 use Rattle.edit_document.specs.Items.{place_seen}
-use Rattle.edit_document.specs.RemovedBytes.{value_left, removed_text}
-use Rattle.edit_document.specs.Supported.{IsManifest}
+use Rattle.edit_tree.specs.RemovedBytes.{value_left, removed_text}
+use Rattle.edit_tree.specs.Supported.{IsManifest}
 use Rattle.edit_document.proofs.AroundValues.{stands_between, steps_below, removed_inside, each_form}
 use Rattle.edit_document.proofs.document.Document.without.Goals as goal
 

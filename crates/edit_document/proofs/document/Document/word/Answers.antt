@@ -1,6 +1,6 @@
 use Rattle.std.proofs.Common.{ℕ, List, Some, ap, ◌∙◌, inl, inr}
 use Rattle.edit_syntax.specs.Spans.{bytes_at}
-use Rattle.edit_document.specs.Nodes.{bytes_of}
+use Rattle.edit_tree.specs.Nodes.{bytes_of}
 use Rattle.edit_document.proofs.ContentViews.{word_shown}
 use Rattle.edit_document.proofs.ShownForms.{shown_bytes}
 use Rattle.edit_document.proofs.Views.{opened, within, found}

@@ -1,10 +1,10 @@
 use Rattle.std.proofs.Common.{ap, sym, subst, ◌∙◌, inl, inr}
 use Rattle.std.specs.Prelude.{[], ◌∷◌, false, is_some, option_map}
-use Rattle.edit_document.specs.Assertions.{index}
+use Rattle.edit_tree.specs.Assertions.{index}
 use Rattle.edit_document.specs.EntryParts.{IsPart, part_view}
-use Rattle.edit_document.specs.Meant.{item_view}
+use Rattle.edit_tree.specs.Meant.{item_view}
 use Rattle.edit_document.specs.NewItemViews.{item_seen, value_seen}
-use Rattle.edit_document.specs.Tree.{string}
+use Rattle.edit_tree.specs.Tree.{string}
 use Rattle.edit_document.proofs.EntryPartViews.{part_absent, below_element}
 use Rattle.edit_document.proofs.entry_part.EntryPart.element.Goals as goal
 

@@ -1,10 +1,10 @@
 use Rattle.std.proofs.Common.{refl, ap, sym, ◌∙◌, inl, inr}
 use Rattle.std.specs.Prelude.{List, ℕ, [], ◌∷◌, false, Option, find, option_and_then, option_map}
 use Rattle.edit_document.specs.declared.entry_part.Part.{Part}
-use Rattle.edit_document.specs.Assertions.{at, key, same_bytes}
+use Rattle.edit_tree.specs.Assertions.{at, key, same_bytes}
 use Rattle.edit_document.specs.EntryParts.{part_place, part_view}
-use Rattle.edit_document.specs.Meant.{item_view, new_view}
-use Rattle.edit_document.specs.NewItems.{NewValue}
+use Rattle.edit_tree.specs.Meant.{item_view, new_view}
+use Rattle.edit_tree.specs.NewItems.{NewValue}
 use Rattle.edit_document.specs.NewItemViews.{item_seen, pair_seen, pairs_seen, value_seen}
 use Rattle.edit_document.proofs.EntryPartViews.{part_absent, below_element, no_member, member_name, member_shows, value_stands}
 use Rattle.edit_document.proofs.entry_part.EntryPart.member.Goals as goal

@@ -2,7 +2,7 @@ use Rattle.std.proofs.Common.{ap, sym, ◌∙◌}
 use Rattle.std.specs.Prelude.{[], option_map}
 use Rattle.edit_document.specs.EntryParts.{part_view, said_view}
 use Rattle.edit_document.specs.NewItemViews.{item_seen}
-use Rattle.edit_document.specs.Tree.{string}
+use Rattle.edit_tree.specs.Tree.{string}
 use Rattle.edit_document.proofs.EntryPartViews.{part_said}
 use Rattle.edit_document.proofs.entry_part.EntryPart.said.Goals as goal
 

@@ -1,6 +1,6 @@
 use Rattle.std.proofs.Common.{ℕ, List, refl, sym, ap, subst, ◌∙◌}
 use Rattle.edit_document.specs.Items.{place_seen}
-use Rattle.edit_document.specs.Assertions.{index}
+use Rattle.edit_tree.specs.Assertions.{index}
 use Rattle.edit_document.specs.Entries.{Follows, next_way, count_on}
 use Rattle.edit_document.proofs.TakenStatements.{element_taken}
 use Rattle.edit_document.proofs.locate.Standing.take_element.Goals as goal

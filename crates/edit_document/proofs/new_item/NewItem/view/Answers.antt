@@ -1,7 +1,7 @@
 use Rattle.std.proofs.Common.{ap, ◌∙◌}
 use Rattle.edit_document.specs.EntryParts.{entry_shown}
 use Rattle.edit_document.specs.NewItemViews.{item_seen}
-use Rattle.edit_document.specs.Shown.{Shown, tree_of}
+use Rattle.edit_tree.specs.Shown.{Shown, tree_of}
 use Rattle.edit_document.proofs.EntryTrees.{entry_tree}
 use Rattle.edit_document.proofs.new_item.NewItem.view.Goals as goal
 

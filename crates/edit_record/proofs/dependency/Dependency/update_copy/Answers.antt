@@ -3,8 +3,8 @@ use Rattle.std.proofs.lemmas.Bool.{and_parts}
 use Rattle.std.proofs.lemmas.Result.{IfErr-weaker, IfOk-weaker, err_from_is_err_and}
 use Rattle.std.specs.List.{filter_map}
 use Rattle.edit_document.specs.Items.{place_seen}
-use Rattle.edit_document.specs.Meant.{ReplaceFails}
-use Rattle.edit_document.specs.NewItems.{IsEntry}
+use Rattle.edit_tree.specs.Meant.{ReplaceFails}
+use Rattle.edit_tree.specs.NewItems.{IsEntry}
 use Rattle.edit_record.specs.EndViews.{ends_seen}
 use Rattle.edit_record.specs.EntryUpdates.{removal_of, replaced_by, write_of}
 use Rattle.edit_record.specs.RecordViews.{record_view}

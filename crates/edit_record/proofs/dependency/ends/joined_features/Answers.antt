@@ -1,5 +1,5 @@
 use Rattle.std.proofs.Common.{◌++◌, ap, ◌∙◌}
-use Rattle.edit_document.specs.NewItems.{a_list}
+use Rattle.edit_tree.specs.NewItems.{a_list}
 use Rattle.edit_record.specs.EntryUpdates.{each_once}
 use Rattle.edit_record.proofs.CopiedLists.{copied_texts}
 use Rattle.edit_record.proofs.dependency.ends.joined_features.Goals as goal

@@ -1,6 +1,6 @@
 use Rattle.std.proofs.Common.{◌≡◌, Ok, Some, ap, codes, subst}
 use Rattle.std.proofs.lemmas.Result.{err_from_is_err_and}
-use Rattle.edit_document.specs.Assertions.{key}
+use Rattle.edit_tree.specs.Assertions.{key}
 use Rattle.edit_document.specs.ItemViews.{document_of, place_of, view_of}
 use Rattle.edit_record.specs.ReadEntries.{Tree, feature_texts, ok_map}
 use Rattle.edit_record.specs.RecordViews.{IsRefused, texts_view}

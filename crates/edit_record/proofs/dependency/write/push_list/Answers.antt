@@ -1,6 +1,6 @@
 use Rattle.std.proofs.Common.{List, ℕ, [], ◌∷◌, ◌++◌, ◌∙◌, ap}
 use Rattle.std.proofs.lemmas.Result.{on_ok_weaker}
-use Rattle.edit_document.specs.NewItems.{a_list}
+use Rattle.edit_tree.specs.NewItems.{a_list}
 use Rattle.edit_document.specs.NewItemViews.{pairs_seen}
 use Rattle.edit_record.proofs.CopiedLists.{copied_texts}
 use Rattle.edit_record.proofs.dependency.write.push_list.Goals as goal

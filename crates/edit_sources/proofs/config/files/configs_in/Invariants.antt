@@ -1,7 +1,7 @@
 use Rattle.std.proofs.Common.{◌≡◌, true, map, take, string_bytes}
 use Rattle.std.specs.List.{AllZip}
 use Rattle.edit_sources.specs.ConfigurationFiles.{IsReadFrom, files_in}
-use Rattle.edit_sources.specs.Store.{OnlyReads}
+use Rattle.edit_store.specs.Store.{OnlyReads}
 use Rattle.edit_sources.proofs.config.files.configs_in.Given as goal
 
 abbrev pub invariant-loop-place : goal.invariant-loop-place

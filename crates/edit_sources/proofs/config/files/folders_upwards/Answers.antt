@@ -2,8 +2,8 @@ use Rattle.std.proofs.Common.{◌≡◌, ◌≢◌, ℕ, List, [], ◌∷◌, �
 use Rattle.std.specs.Prelude.{codes}
 use Rattle.std.proofs.lemmas.List.{map_push}
 use Rattle.edit_base.specs.Paths.{texts}
-use Rattle.edit_sources.specs.ConfigurationFiles.{Climbs}
-use Rattle.edit_sources.specs.ConfigurationFiles.Climbs.{begin, step}
+use Rattle.edit_store.specs.Climbs.{Climbs}
+use Rattle.edit_store.specs.Climbs.Climbs.{begin, step}
 use Rattle.edit_sources.proofs.FolderLemmas.{folder-some, height-folder}
 use Rattle.edit_sources.proofs.config.files.folders_upwards.Goals as goal
 

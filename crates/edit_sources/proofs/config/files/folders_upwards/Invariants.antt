@@ -1,7 +1,7 @@
 use Rattle.std.proofs.Common.{◌<◌, length}
 use Rattle.std.specs.Str.{IsUtf8}
 use Rattle.edit_base.specs.Paths.{IsFolderOf, texts}
-use Rattle.edit_sources.specs.ConfigurationFiles.{Climbs}
+use Rattle.edit_store.specs.Climbs.{Climbs}
 use Rattle.edit_sources.proofs.FolderLemmas.{height}
 use Rattle.edit_sources.proofs.config.files.folders_upwards.Given as goal
 

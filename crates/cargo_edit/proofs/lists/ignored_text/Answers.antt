@@ -1,4 +1,0 @@
-use Rattle.cargo_edit.proofs.lists.ignored_text.Goals as goal
-
-pub returns : goal.returns
-returns c = (c.as_str.result.now, c.in_ok-text.ensures)

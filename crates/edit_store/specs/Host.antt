@@ -1,0 +1,20 @@
+-- What a store of the machine's files counts (own).
+use Rattle.std.specs.Prelude.{◌≡◌, ◌⊎◌, ℕ, None, false}
+use Rattle.edit_base.specs.declared.errors.DeviceCall.{DeviceCall}
+use Rattle.edit_base.specs.declared.errors.Error.{Error}
+use Rattle.edit_base.specs.declared.errors.Error.TheVariants.{Device}
+use Rattle.edit_base.specs.Errors.{IsMemory}
+use Rattle.edit_store.specs.Store.{StoreView, raised}
+use Rattle.edit_store.specs.declared.host_store.HostStore.{HostStore}
+
+-- how often the device has failed (own)
+abbrev pub host_faults : {R : Type 0} → HostStore R → ℕ
+host_faults store = store.failed
+
+-- the machine's files are not told (own)
+abbrev pub host_view : {R : Type 0} → HostStore R → StoreView
+host_view store = record { tells = false; file_at = λ _. None; faults = host_faults store }
+
+-- a refusal of a call: want of memory, which is not counted, or a fault of the device, which is (own)
+abbrev pub IsRefusal : DeviceCall → ℕ → ℕ → Error → Type 0
+IsRefusal call before now e = (IsMemory e × (now ≡ before)) ⊎ ((e ≡ Device call) × raised before now)

@@ -1,0 +1,5 @@
+pub mod Climbs
+pub mod Host
+pub mod Memory
+pub mod Store
+pub mod Turns

@@ -1,0 +1,21 @@
+-- The files that a store in memory holds (own).
+use Rattle.std.specs.Prelude.{◌≡◌, ℕ, ◌++◌, List, ◌∷◌, true, IsSome, option_map}
+use Rattle.std.specs.BTreeMap.{get_by_text}
+use Rattle.edit_store.specs.Store.{Files, StoreView}
+use Rattle.edit_store.specs.declared.memory_store.MemoryStore.{MemoryStore}
+
+-- the bytes at each path that has a file (own)
+abbrev pub files_in : MemoryStore → Files
+files_in store path = option_map (λ v. v.items) (get_by_text store.files path)
+
+-- a store in memory tells its files, and never fails (own)
+abbrev pub memory_view : MemoryStore → StoreView
+memory_view store = record { tells = true; file_at = files_in store; faults = 0 }
+
+-- a file's path is this one, a `/`, and more (own)
+abbrev pub IsFrontOf : MemoryStore → List ℕ → Type 0
+IsFrontOf store path = (rest : List ℕ) × IsSome (files_in store (path ++ 47 ∷ rest))
+
+-- a path, a `/`, and more (own)
+abbrev pub IsBelow : List ℕ → List ℕ → Type 0
+IsBelow name path = (rest : List ℕ) × (name ≡ path ++ 47 ∷ rest)

@@ -1,0 +1,43 @@
+-- A store whose one fault comes at a given call (own).
+use Rattle.std.specs.Prelude.{◌≡◌, ℕ, zero, suc, List, true, take, Option, Some, None, Result, IfErr, IsErrAnd, ◌⊎◌}
+use Rattle.edit_base.specs.declared.errors.DeviceCall.{DeviceCall}
+use Rattle.edit_base.specs.declared.errors.Error.{Error}
+use Rattle.edit_base.specs.Errors.{IsMemory}
+use Rattle.edit_store.specs.Memory.{files_in}
+use Rattle.edit_store.specs.Store.{RefusesCall, StoreView}
+use Rattle.edit_store.specs.declared.fault_store.FaultStore.{FaultStore}
+
+-- how many calls come before the one that fails; none once it has come (own)
+abbrev pub calls_left : FaultStore → Option ℕ
+calls_left store = store.left
+
+-- how many bytes a write that fails leaves (own)
+abbrev pub bytes_left : FaultStore → ℕ
+bytes_left store = store.cut
+
+-- how often a call has failed (own)
+abbrev pub faults_of : FaultStore → ℕ
+faults_of store = store.failed
+
+-- the calls before the one that fails, one call later (own)
+abbrev pub one_less : Option ℕ → Option ℕ
+one_less None = None
+one_less (Some zero) = None
+one_less (Some (suc n)) = Some n
+
+-- it tells its files, and counts its one fault (own)
+abbrev pub fault_view : FaultStore → StoreView
+fault_view store = record { tells = true; file_at = files_in store.inner; faults = faults_of store }
+
+-- a write that fails leaves a front of its bytes, but for want of memory (own)
+abbrev pub LeavesFront : FaultStore → FaultStore → List ℕ → List ℕ → Error → Type 0
+LeavesFront old new path bytes e =
+    IsMemory e ⊎ (files_in new.inner path ≡ Some (take (bytes_left old) bytes))
+
+-- a call: the one that is to fail does, each other one is refused for memory alone (own)
+pub record TakesTurn {T : Type 0} (call : DeviceCall) (old new : FaultStore) (result : Result T Error)
+    : Type 0 where
+  pub turn : calls_left new ≡ one_less (calls_left old)
+  pub cut : bytes_left new ≡ bytes_left old
+  pub due : calls_left old ≡ Some 0 → IsErrAnd result (RefusesCall call (fault_view old) (fault_view new))
+  pub other : (calls_left old ≡ Some 0 → ⊥) → IfErr result IsMemory × (faults_of new ≡ faults_of old)

@@ -1,0 +1,14 @@
+//! Files that may fail: those of the machine, those in memory, and those that fail in one call.
+#![tactic(auto)]
+
+mod beside;
+pub mod fault_store;
+pub mod host_store;
+pub mod memory_store;
+mod replace;
+pub mod store;
+
+pub use fault_store::FaultStore;
+pub use host_store::HostStore;
+pub use memory_store::MemoryStore;
+pub use store::{Kind, Store};

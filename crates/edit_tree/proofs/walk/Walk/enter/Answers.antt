@@ -1,0 +1,14 @@
+use Rattle.std.proofs.Common.{sym, subst}
+use Rattle.edit_tree.specs.Nodes.{shape_of}
+use Rattle.edit_tree.specs.Walk.{entered_at, entered}
+use Rattle.edit_tree.specs.WalkState.{Goes}
+use Rattle.edit_tree.proofs.WalkSteps.{goes_settled}
+use Rattle.edit_tree.proofs.walk.Walk.enter.Goals as goal
+
+pub returns-clause-goes : goal.returns-clause-goes
+returns-clause-goes c st w =
+    let text = c.args.text.now in
+    let shape = shape_of text c.args.content in
+    subst (Goes text c.enter_at.new.self (entered st shape c.args.span)) (sym c.is_some.ensures)
+    (goes_settled text c.enter_at.new.self (entered_at st shape c.args.span) c.in_ok-enter_at.field-0
+    ((c.in_ok-enter_at.ensures {u = tt}).goes st w))

@@ -1,0 +1,155 @@
+-- The trees that edits mean, and when an edit is refused.
+use Rattle.std.specs.Prelude.{◌≡◌, ℕ, ◌-◌, Bool, true, false, not, nat_lt, ◌||◌, if◌then◌else◌, List, [], ◌∷◌, ◌++◌, map, length, Option, Some, None, is_some, option_map, option_and_then, slice_get, find}
+use Rattle.std.specs.List.{list_any, filter}
+use Rattle.edit_syntax.specs.Grammar.{Text}
+use Rattle.edit_tree.specs.Assertions.{Step, key, index, Place, at, same_bytes, same_step, same_place, Assertion, assertions}
+use Rattle.edit_tree.specs.Tree.{View, string, truth, static_array, inline_table, table, step_from, view_in, view_at}
+use Rattle.edit_tree.specs.Supported.{IsManifest}
+use Rattle.edit_tree.specs.NewItems.{NewValue, a_string, a_truth, a_list, NewItem, a_value, a_table}
+use Rattle.edit_tree.specs.EditBytes.{is_within, replaced_text, inserted_text}
+use Rattle.edit_tree.specs.RemovedBytes.{removed_text}
+
+-- what stands at each place
+abbrev pub Tree : Type 0
+Tree = Place → Option View
+
+-- ---- what is new
+
+-- what a new value shows at this place below its own
+abbrev pub new_view : NewValue → Tree
+new_view (a_string s) [] = Some (string s)
+new_view (a_truth b) [] = Some (truth b)
+new_view (a_list ss) [] = Some (static_array (length ss))
+new_view (a_list ss) (index i ∷ []) = option_map string (slice_get ss i)
+new_view _ _ = None
+
+-- a table with these members: an inline one, or one made by dotted keys outside inline tables
+abbrev pub view_of_members : Bool → List (List ℕ × NewValue) → View
+view_of_members is_inline ms =
+    let steps = map (λ m. key m.0) ms in
+    if is_inline then inline_table steps else table steps
+
+-- what the members of a new entry show at this place below its own
+abbrev pub member_view : List (List ℕ × NewValue) → Step → Tree
+member_view ms (key name) q = option_and_then (λ m. new_view m.1 q) (find (λ m. same_bytes m.0 name) ms)
+member_view ms (index i) q = None
+
+-- what a new entry shows at this place below its own; by a dotted key too it is inline in an inline table
+abbrev pub item_view : Bool → NewItem → Tree
+item_view inside (a_value v) q = new_view v q
+item_view inside (a_table by_dots ms) [] = Some (view_of_members (inside || not by_dots) ms)
+item_view inside (a_table by_dots ms) (step ∷ q) = member_view ms step q
+
+-- ---- set_value and replace_entry
+
+-- the old tree, with something else at a place and below it
+pub record Only (place : Place) (shows old new : Tree) : Type 0 where
+  pub there : (q : Place) → new (place ++ q) ≡ shows q
+  pub elsewhere : (q : Place) → is_within place q ≡ false → new q ≡ old q
+
+-- a place without its last step
+abbrev pub above : Place → Place
+above [] = []
+above (s ∷ []) = []
+above (s ∷ t ∷ ts) = s ∷ above (t ∷ ts)
+
+-- it is an inline table
+abbrev pub is_inline_table : Option View → Bool
+is_inline_table (Some (inline_table ms)) = true
+is_inline_table _ = false
+
+-- the old tree with another value at the place
+abbrev pub HasSet : Place → NewValue → Tree → Tree → Type 0
+HasSet place v old new = Only place (new_view v) old new
+
+-- the old tree with another entry at the place
+abbrev pub HasReplaced : Place → NewItem → Tree → Tree → Type 0
+HasReplaced place item old new = Only place (item_view (is_inline_table (old (above place))) item) old new
+
+-- ---- insert
+
+-- the table has one member more, and the others in their order
+pub data Grown (s : Step) : Option View → Option View → Type 0 where
+  in_table : (front back : List Step)
+      → Grown s (Some (table (front ++ back))) (Some (table (front ++ s ∷ back)))
+  in_inline_table : (front back : List Step)
+      → Grown s (Some (inline_table (front ++ back))) (Some (inline_table (front ++ s ∷ back)))
+
+-- the old tree with a member of this name and value in the table at the place
+pub record Inserted (place : Place) (name : List ℕ) (v : NewValue) (old new : Tree) : Type 0 where
+  pub there : (q : Place) → new (at place (key name) ++ q) ≡ new_view v q
+  pub grown : Grown (key name) (old place) (new place)
+  pub elsewhere : (q : Place)
+      → is_within (at place (key name)) q ≡ false → same_place q place ≡ false → new q ≡ old q
+
+-- ---- remove
+
+-- what is asserted by others than those that name the place or one below it
+abbrev pub staying : Place → List Assertion → List Assertion
+staying gone made = filter (λ a. not (is_within gone a.by)) made
+
+-- where a place is once this one is gone: the later elements of an array move up
+abbrev pub moved : Place → Place → Place
+moved [] q = q
+moved (s ∷ gone) [] = []
+moved (index i ∷ []) (index j ∷ q) = index (if nat_lt i j then j - 1 else j) ∷ q
+moved (s ∷ gone) (t ∷ q) = t ∷ (if same_step s t then moved gone q else q)
+
+-- an array that loses an element has one less
+abbrev pub shrunk : Place → Place → View → View
+shrunk gone q (static_array n) = static_array (if is_some (step_from q gone) then n - 1 else n)
+shrunk gone q v = v
+
+-- The tree that is left, each place where it was: tables and arrays that nothing asserts any more vanish.
+abbrev pub tree_left : Place → List Assertion → Tree
+tree_left gone made q = option_map (shrunk gone q) (view_in (staying gone made) q)
+
+-- the same members, each once, whatever their order
+pub record SameMembers (ms ns : List Step) : Type 0 where
+  pub count : length ms ≡ length ns
+  pub members : (s : Step) → list_any (same_step s) ms ≡ list_any (same_step s) ns
+
+-- the same, but for the order of members, which is that of their first assertions
+pub data SameButOrder : Option View → Option View → Type 0 where
+  same : (v : Option View) → SameButOrder v v
+  tables : (ms ns : List Step) → SameMembers ms ns
+      → SameButOrder (Some (table ms)) (Some (table ns))
+  inline_tables : (ms ns : List Step) → SameMembers ms ns
+      → SameButOrder (Some (inline_table ms)) (Some (inline_table ns))
+
+-- its last step leads to a member
+abbrev pub is_member : Place → Bool
+is_member [] = false
+is_member (key n ∷ []) = true
+is_member (index i ∷ []) = false
+is_member (s ∷ t ∷ ts) = is_member (t ∷ ts)
+
+-- the tree of assertions without the place: nothing at a member and below it, all else where it moved to
+pub record Removed (gone : Place) (made : List Assertion) (new : Tree) : Type 0 where
+  pub nothing_there : is_member gone ≡ true → (q : Place) → is_within gone q ≡ true → new q ≡ None
+  pub elsewhere : (q : Place)
+      → is_within gone q ≡ false → SameButOrder (tree_left gone made q) (new (moved gone q))
+
+-- ---- when an edit is refused
+
+-- the bytes are no document, or have another tree than the one that is meant
+abbrev pub ReadsOtherwise : List ℕ → (Tree → Type 0) → Type 0
+ReadsOtherwise bytes Meant = (form : Text) → IsManifest bytes form → Meant (view_at form) → ⊥
+
+-- whatever form the old bytes have, the new text reads otherwise
+abbrev pub ReplaceFails : Place → NewItem → List ℕ → Type 0
+ReplaceFails place item old =
+    (form : Text) → IsManifest old form
+    → ReadsOtherwise (replaced_text place item form) (HasReplaced place item (view_at form))
+
+-- the same of a member inserted
+abbrev pub InsertFails : Place → List ℕ → NewValue → List ℕ → Type 0
+InsertFails place name v old =
+    (form : Text) → IsManifest old form
+    → ReadsOtherwise (inserted_text place name v form) (Inserted place name v (view_at form))
+
+-- the same of an item removed
+abbrev pub RemoveFails : Place → List ℕ → Type 0
+RemoveFails gone old =
+    (form : Text) → IsManifest old form
+    → ReadsOtherwise (removed_text gone form) (Removed gone (assertions form))

@@ -1,0 +1,158 @@
+-- The nodes of a document: one for each place that a statement
+-- asserts, the root first and then in the order of first assertions.
+use Rattle.std.specs.Prelude.{◌≡◌, ℕ, List, [], length, map, drop, slice_get, Option, Some, None, String, string_bytes, ◌⊎◌}
+use Rattle.std.specs.Global.{Box, Global}
+use Rattle.std.specs.Map.{lookup}
+use Rattle.std.specs.Str.{bytes_eq}
+use Rattle.std.specs.BTreeMap.{BTreeMap, get_by_text}
+use Rattle.edit_syntax.specs.declared.span.Span.{Span}
+use Rattle.edit_syntax.specs.Spans.{bytes_at}
+use Rattle.edit_tree.specs.declared.nodes.Words.{Words}
+use Rattle.edit_tree.specs.declared.nodes.Words.TheVariants.{Kept, Made}
+use Rattle.edit_tree.specs.declared.nodes.Content.{Content}
+use Rattle.edit_tree.specs.declared.nodes.Content.TheVariants as content
+use Rattle.edit_tree.specs.declared.nodes.Taken.{Taken}
+use Rattle.edit_tree.specs.declared.nodes.Lookup.{Lookup}
+use Rattle.edit_tree.specs.declared.nodes.Member.{Member}
+use Rattle.edit_tree.specs.declared.nodes.Members.{Members}
+use Rattle.edit_tree.specs.declared.nodes.Node.{Node}
+use Rattle.edit_tree.specs.Assertions.{Step, key, index, Place, at}
+use Rattle.edit_syntax.specs.declared.read.marks.MarkKind.{MarkKind}
+use Rattle.edit_syntax.specs.declared.read.marks.MarkKind.TheVariants as kinds
+use Rattle.edit_tree.specs.Tree.{View, string, truth, whole, fractional, moment, static_array, table_array, inline_table, table}
+
+-- what stands at a place, but for its members
+pub data Shape : Type 0 where
+  scalar : View → Shape
+  listed : Shape
+  inline : Shape
+  section : Shape
+  sections : Shape
+
+-- what a value shows whose token of this kind says this: a string, or a number, a date or a time (own)
+abbrev pub shape_said : MarkKind → List ℕ → Shape
+shape_said kinds.Integer text = scalar (whole text)
+shape_said kinds.Float text = scalar (fractional text)
+shape_said kinds.DateTime text = scalar (moment text)
+shape_said _ text = scalar (string text)
+
+-- a place, its shape, by what it is taken, the names and numbers of its members in the order of their first
+-- assertions, the numbers of its elements, and where its value is written
+pub record Spot : Type 0 where
+  pub place : Place
+  pub shape : Shape
+  pub taken : Taken
+  pub members : List (List ℕ × ℕ)
+  pub elements : List ℕ
+  pub span : Option Span
+
+-- the names of a spot's members
+abbrev pub names_of : Spot → List (List ℕ)
+names_of s = map (λ e. e.0) s.members
+
+-- what a place shows, with members of these names and so many elements
+abbrev pub view_of_shape : Shape → List (List ℕ) → ℕ → View
+view_of_shape (scalar v) names n = v
+view_of_shape listed names n = static_array n
+view_of_shape inline names n = inline_table (map key names)
+view_of_shape section names n = table (map key names)
+view_of_shape sections names n = table_array n
+
+-- the place of a spot, and what it shows
+abbrev pub shown_spot : Spot → Place × View
+shown_spot s = (s.place, view_of_shape s.shape (names_of s) (length s.elements))
+
+-- ---- what the table of nodes keeps of each spot
+
+-- what a string or a name of a text says
+abbrev pub bytes_of : List ℕ → Words → List ℕ
+bytes_of text (Kept span) = bytes_at text span
+bytes_of text (Made boxed) = string_bytes boxed.value
+
+-- what stands at a node's place, but for its members, in the document of a text
+abbrev pub shape_of : List ℕ → Content → Shape
+shape_of text (content.Text words) = scalar (string (bytes_of text words))
+shape_of text (content.Truth b) = scalar (truth b)
+shape_of text (content.Integer span) = scalar (whole (bytes_at text span))
+shape_of text (content.Float span) = scalar (fractional (bytes_at text span))
+shape_of text (content.DateTime span) = scalar (moment (bytes_at text span))
+shape_of text content.Array = listed
+shape_of text content.Inline = inline
+shape_of text content.Table = section
+shape_of text content.Tables = sections
+
+-- the number that a table has of a name, and none where there is no table
+abbrev pub number_by : Option (Box (BTreeMap (String Global) ℕ)) → List ℕ → Option ℕ
+number_by None name = None
+number_by (Some boxed) name = get_by_text boxed.value name
+
+-- the number that a look-up has of a name
+abbrev pub number_of : Lookup → List ℕ → Option ℕ
+number_of names name = number_by names.table name
+
+-- the names of some members of a text, and their numbers
+abbrev pub entries_in : List ℕ → List Member → List (List ℕ × ℕ)
+entries_in text members = map (λ e. (bytes_of text e.name, e.number)) members
+
+-- the names and numbers of members
+abbrev pub entries_of : List ℕ → Members → List (List ℕ × ℕ)
+entries_of text members = entries_in text members.list.items
+
+-- the names alone
+abbrev pub names_in : List (List ℕ × ℕ) → List (List ℕ)
+names_in entries = map (λ e. e.0) entries
+
+-- the number of a name
+abbrev pub number_in : List (List ℕ × ℕ) → List ℕ → Option ℕ
+number_in entries name = lookup (λ n. bytes_eq name n) entries
+
+-- all members but the first few are looked up by their names
+abbrev pub IsIndexed : List ℕ → Members → Type 0
+IsIndexed text members =
+    (name : List ℕ) → number_of members.others name ≡ number_in (drop 8 (entries_of text members)) name
+
+-- a node keeps a spot of the document of a text; of its place it keeps how many steps there are
+pub record Keeps (text : List ℕ) (node : Node) (spot : Spot) : Type 0 where
+  pub shape : shape_of text node.content ≡ spot.shape
+  pub taken : node.taken ≡ spot.taken
+  pub steps : node.steps ≡ length spot.place
+  pub members : entries_of text node.members ≡ spot.members
+  pub indexed : IsIndexed text node.members
+  pub elements : node.elements.items ≡ spot.elements
+  pub span : node.span ≡ spot.span
+
+-- each node keeps the spot of its number
+pub record Holds (text : List ℕ) (nodes : List Node) (spots : List Spot) : Type 0 where
+  pub len : length nodes ≡ length spots
+  pub each : (n : ℕ) (node : Node) (spot : Spot) → slice_get nodes n ≡ Some node
+      → slice_get spots n ≡ Some spot → Keeps text node spot
+
+-- ---- places
+
+-- the place stands at this number
+abbrev pub StandsAt : List Spot → ℕ → Place → Type 0
+StandsAt spots n place = (s : Spot) × (slice_get spots n ≡ Some s) × (s.place ≡ place)
+
+-- the number of what stands one step below a spot
+abbrev pub below : Spot → Step → Option ℕ
+below s (key name) = lookup (λ n. bytes_eq name n) s.members
+below s (index i) = slice_get s.elements i
+
+-- a place that is one step below one that stands
+pub record IsBelow (spots : List Spot) (number : ℕ) (place : Place) : Type 0 where
+  pub upper : Spot
+  pub above : ℕ
+  pub step : Step
+  pub stands : slice_get spots above ≡ Some upper
+  pub place_is : place ≡ at upper.place step
+  pub listed : below upper step ≡ Some number
+
+-- the spots of a tree: the root stands first, no place stands twice, and the places one step below those
+-- that stand are those that their members and elements number
+pub record IsTree (spots : List Spot) : Type 0 where
+  pub root : StandsAt spots 0 []
+  pub unique : (i j : ℕ) (s t : Spot) → slice_get spots i ≡ Some s → slice_get spots j ≡ Some t
+      → s.place ≡ t.place → i ≡ j
+  pub down : (i j : ℕ) (s : Spot) (step : Step) → slice_get spots i ≡ Some s → below s step ≡ Some j
+      → StandsAt spots j (at s.place step)
+  pub up : (j : ℕ) (t : Spot) → slice_get spots j ≡ Some t → (t.place ≡ []) ⊎ IsBelow spots j t.place

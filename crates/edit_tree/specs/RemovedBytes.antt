@@ -1,0 +1,101 @@
+-- What removing an item leaves of a text.
+use Rattle.std.specs.Prelude.{ℕ, suc, Bool, true, false, not, ◌&&◌, if◌then◌else◌, List, [], ◌∷◌, ◌++◌, Option, Some, None}
+use Rattle.edit_syntax.specs.Characters.{comma, equals, left_bracket, right_bracket, left_brace, right_brace, is_blank}
+use Rattle.edit_syntax.specs.Strings.{◌·◌, key}
+use Rattle.edit_syntax.specs.Grammar.{gap, Value, array, inline, value, Elements, no_elements, last_element, element, Members, no_members, last_member, member, members, lines, Text, text, byte_order_mark}
+use Rattle.edit_tree.specs.Assertions.{Place, index, same_place, at, names, named, place_named}
+use Rattle.edit_tree.specs.Statements.{Stated, stated}
+use Rattle.edit_tree.specs.Written.{Valued, values}
+use Rattle.edit_tree.specs.EditBytes.{before, with_splice, last_made, is_within}
+
+-- ---- lines
+
+-- the statement names the place or one below it
+abbrev pub is_gone : Place → Stated → Bool
+is_gone gone s = is_within gone (place_named s.earlier s.prefix s.statement)
+
+-- What is left of lines from a spot on. A statement that goes takes the
+-- blank and comment lines before it, and its own lines with the newline.
+abbrev pub lines_left : Place → List ℕ → List Stated → List ℕ
+lines_left gone from [] = from
+lines_left gone from (s ∷ ss) =
+    if is_gone gone s then lines_left gone s.next ss else before from s.next ++ lines_left gone s.next ss
+
+-- ---- arrays and inline tables
+
+-- what is left from the start of a member on, and whether the comma before that member is left
+pub record Left : Type 0 where
+  pub comma_stays : Bool
+  pub rest : List ℕ
+
+-- what is left of a text with a comma before it
+abbrev pub with_it : List ℕ → Left
+with_it rest = record { comma_stays = true; rest = rest }
+
+-- what is left where that comma goes
+abbrev pub without_it : List ℕ → Left
+without_it rest = record { comma_stays = false; rest = rest }
+
+-- a text without the tabs and spaces at its start
+abbrev pub without_blanks : List ℕ → List ℕ
+without_blanks [] = []
+without_blanks (b ∷ rest) = if is_blank b then without_blanks rest else b ∷ rest
+
+-- behind a member that stays: the comma and the gap behind it, unless that comma goes
+abbrev pub behind_comma : (List ℕ → List ℕ) → Left → List ℕ
+behind_comma lead l = if l.comma_stays then comma ∷ lead l.rest else l.rest
+
+-- A member that goes takes the comma behind it and the tabs and spaces there; where no comma is behind it,
+-- it takes the comma before it and leaves the gap behind itself.
+abbrev pub without_member : (List ℕ → List ℕ) → (List ℕ → List ℕ) → Left → Left
+without_member trail lead l =
+    if l.comma_stays then with_it (without_blanks (lead l.rest)) else without_it (trail l.rest)
+
+-- the elements of an array from the one of this number on, without the one at a place
+abbrev pub elements_left : Place → Place → ℕ → Elements → List ℕ → Left
+elements_left gone place i no_elements rest = with_it rest
+elements_left gone place i (last_element v g) rest =
+    if same_place (at place (index i)) gone then without_it (gap g rest) else with_it (value v (gap g rest))
+elements_left gone place i (element v g h es) rest =
+    let l = elements_left gone place (suc i) es rest in
+    if same_place (at place (index i)) gone then without_member (gap g) (gap h) l
+    else with_it (value v (gap g (behind_comma (gap h) l)))
+
+-- the members of an inline table, without those that name a place or one below it
+abbrev pub members_left : Place → Place → Members → List ℕ → Left
+members_left gone place no_members rest = with_it rest
+members_left gone place (last_member k a b v c) rest =
+    if is_within gone (named place (names k)) then without_it (gap c rest)
+    else with_it (members (last_member k a b v c) rest)
+members_left gone place (member k a b v c d ms) rest =
+    let l = members_left gone place ms rest in
+    if is_within gone (named place (names k)) then without_member (gap c) (gap d) l
+    else with_it (key k (a · equals ∷ (b · value v (gap c (behind_comma (gap d) l)))))
+
+-- an array or an inline table at its place; before its first member stands no comma
+abbrev pub value_left : Place → Place → Value → List ℕ → List ℕ
+value_left gone place (array g es) rest =
+    left_bracket ∷ gap g (elements_left gone place 0 es (right_bracket ∷ rest)).rest
+value_left gone place (inline g ms) rest =
+    left_brace ∷ gap g (members_left gone place ms (right_brace ∷ rest)).rest
+value_left gone place v rest = value v rest
+
+-- ---- texts
+
+-- the place lies below that of the value, which is an array or an inline table then
+abbrev pub is_around : Place → Valued → Bool
+is_around gone w = is_within w.place gone && not (same_place w.place gone)
+
+-- the innermost array or inline table around the place
+abbrev pub innermost : Place → Text → Option Valued
+innermost gone t = last_made (λ w. if is_around gone w then Some w else None) (values t)
+
+-- members of the innermost array or inline table around the place go, else whole lines do; U+FEFF stays
+abbrev pub removed_text : Place → Text → List ℕ
+removed_text gone t = without (innermost gone t)
+  where
+    without : Option Valued → List ℕ
+    without (Some w) =
+        let now = value_left gone w.place w.value [] in
+        with_splice (text t) (record { from = value w.value w.after; to = w.after; now = now })
+    without None = byte_order_mark t.marked (lines_left gone (lines t.lines) (stated t))

@@ -1,0 +1,150 @@
+-- The statements of a text, their keys, and the pairs of its inline tables, each with the text around it.
+-- A spot of a text is told by the text that follows it.
+use Rattle.std.specs.Prelude.{ℕ, List, [], ◌∷◌, ◌++◌, Option, Some, None, if◌then◌else◌}
+use Rattle.std.specs.List.{flat_map}
+use Rattle.edit_syntax.specs.Characters.{comma, equals, right_bracket, right_brace}
+use Rattle.edit_syntax.specs.Strings.{◌·◌, line_end, name, Dotted, dotted, Key, key}
+use Rattle.edit_syntax.specs.Grammar.{gap, Value, inline, value, Members, no_members, last_member, member, members, Statement, pair, header, element_header, statement, empty_line, full_line, comment, Lines, one_line, more_lines, lines, Text}
+use Rattle.edit_tree.specs.Assertions.{Place, key as name_step, at, same_place, Assertion, of_statement, prefix_after}
+use Rattle.edit_tree.specs.Written.{Valued, values}
+
+-- ---- statements
+
+-- A statement: the header that it stands under and the assertions before it; the text from its line's start,
+-- behind the statement, from its line's end, and from the next line on.
+pub record Stated : Type 0 where
+  pub prefix : Place
+  pub earlier : List Assertion
+  pub statement : Statement
+  pub line : List ℕ
+  pub behind : List ℕ
+  pub after : List ℕ
+  pub next : List ℕ
+
+-- a statement with the white space before it, the text
+-- behind it, from its line's end, and from the next line
+abbrev pub stated_line : List Assertion → Place → List ℕ → Statement → List ℕ → List ℕ → List ℕ → Stated
+stated_line earlier prefix a s behind after next = record {
+  prefix = prefix;
+  earlier = earlier;
+  statement = s;
+  line = a · statement s behind;
+  behind = behind;
+  after = after;
+  next = next;
+}
+
+-- the statements of lines, behind these assertions and under this header
+abbrev pub stated_in : List Assertion → Place → Lines → List Stated
+stated_in earlier prefix (one_line (empty_line a c)) = []
+stated_in earlier prefix (one_line (full_line a s b c)) =
+    stated_line earlier prefix a s (b · comment c []) [] [] ∷ []
+stated_in earlier prefix (more_lines (empty_line a c) e ls) = stated_in earlier prefix ls
+stated_in earlier prefix (more_lines (full_line a s b c) e ls) =
+    let after = line_end e (lines ls) in
+    stated_line earlier prefix a s (b · comment c after) after (lines ls)
+    ∷ stated_in (earlier ++ of_statement earlier prefix s) (prefix_after earlier prefix s) ls
+
+-- the statements of a text, in its order
+abbrev pub stated : Text → List Stated
+stated t = stated_in [] [] t.lines
+
+-- ---- keys
+
+-- a part of a key: its name, and the text behind it
+abbrev pub Named : Type 0
+Named = List ℕ × List ℕ
+
+-- the parts behind dots
+abbrev pub dotted_parts : List Dotted → List ℕ → List Named
+dotted_parts [] rest = []
+dotted_parts (d ∷ ds) rest = (name d.part, dotted ds rest) ∷ dotted_parts ds rest
+
+-- the parts of a key, with this text behind the key ("Keys")
+abbrev pub parts : Key → List ℕ → List Named
+parts k rest = (name k.first, dotted k.others rest) ∷ dotted_parts k.others rest
+
+-- all parts but the last
+abbrev pub front_parts : List Named → List Named
+front_parts [] = []
+front_parts (n ∷ []) = []
+front_parts (n ∷ m ∷ ns) = n ∷ front_parts (m ∷ ns)
+
+-- the text behind the part that names a place; each part goes on where the one before it resolves to
+abbrev pub behind_part : (Place → Place) → Place → Place → List Named → Option (List ℕ)
+behind_part resolve place table [] = None
+behind_part resolve place table (n ∷ ns) =
+    let here = resolve (at table (name_step n.0)) in
+    if same_place here place then Some n.1 else behind_part resolve place here ns
+
+-- ---- pairs
+
+-- a pair: the table that its key begins in, the text from its key on, its parts, the text behind its value
+pub record Paired : Type 0 where
+  pub table : Place
+  pub from : List ℕ
+  pub parts : List Named
+  pub behind : List ℕ
+
+-- a pair with this text behind its value
+abbrev pub paired : Place → Key → List ℕ → List ℕ → Value → List ℕ → Paired
+paired table k a b v behind =
+    let rest = a · equals ∷ (b · value v behind) in
+    record { table = table; from = key k rest; parts = parts k rest; behind = behind }
+
+-- the pairs of an inline table ("Inline Table")
+abbrev pub paired_members : Place → Members → List ℕ → List Paired
+paired_members table no_members rest = []
+paired_members table (last_member k a b v c) rest = paired table k a b v (gap c rest) ∷ []
+paired_members table (member k a b v c d ms) rest =
+    paired table k a b v (gap c (comma ∷ gap d (members ms rest))) ∷ paired_members table ms rest
+
+-- those of a value that is an inline table
+abbrev pub paired_value : Valued → List Paired
+paired_value w = of_value w.value
+  where
+    of_value : Value → List Paired
+    of_value (inline g ms) = paired_members w.place ms (right_brace ∷ w.after)
+    of_value v = []
+
+-- a statement that is a pair
+abbrev pub paired_statement : Stated → List Paired
+paired_statement s = of_statement s.statement
+  where
+    of_statement : Statement → List Paired
+    of_statement (pair k a b v) = paired s.prefix k a b v s.behind ∷ []
+    of_statement _ = []
+
+-- the pairs that are statements
+abbrev pub line_pairs : Text → List Paired
+line_pairs t = flat_map paired_statement (stated t)
+
+-- the pairs that stand in inline tables
+abbrev pub inner_pairs : Text → List Paired
+inner_pairs t = flat_map paired_value (values t)
+
+-- ---- headers
+
+-- a header: the assertions before it, the text from its line's start on and from its key on, and its parts
+pub record Headed : Type 0 where
+  pub earlier : List Assertion
+  pub line : List ℕ
+  pub from : List ℕ
+  pub parts : List Named
+
+-- a statement that is a header ("Table", "Array of Tables")
+abbrev pub headed_statement : Stated → List Headed
+headed_statement s = of_statement s.statement
+  where
+    headed : Key → List ℕ → List Headed
+    headed k rest =
+        record { earlier = s.earlier; line = s.line; from = key k rest; parts = parts k rest } ∷ []
+
+    of_statement : Statement → List Headed
+    of_statement (pair k a b v) = []
+    of_statement (header a k b) = headed k (b · right_bracket ∷ s.behind)
+    of_statement (element_header a k b) = headed k (b · right_bracket ∷ (right_bracket ∷ s.behind))
+
+-- the headers of a text
+abbrev pub headers : Text → List Headed
+headers t = flat_map headed_statement (stated t)

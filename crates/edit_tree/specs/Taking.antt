@@ -1,0 +1,40 @@
+-- By what a place is taken, and what may take it again: the assertions of a place are kept as one word,
+-- which tells what may still be asserted there.
+use Rattle.std.specs.Prelude.{Bool, true, false}
+use Rattle.edit_tree.specs.declared.nodes.Taken.{Taken}
+use Rattle.edit_tree.specs.declared.nodes.Taken.TheVariants.{Dotted, Value, Super, Header, Array, Element}
+use Rattle.edit_tree.specs.Assertions.{Kind, dotted, leaf, super, header_kind, array_kind, element_kind}
+
+-- by what an assertion of a kind takes its place
+abbrev pub taken_of : Kind → Taken
+taken_of (dotted b) = Dotted
+taken_of (leaf v) = Value
+taken_of super = Super
+taken_of header_kind = Header
+taken_of array_kind = Array
+taken_of element_kind = Element
+
+-- whether a place that is taken so may be taken again
+abbrev pub joins : Taken → Taken → Bool
+joins Dotted Dotted = true
+joins Dotted Super = true
+joins Super Dotted = true
+joins Header Super = true
+joins Super Header = true
+joins Super Super = true
+joins Super Element = true
+joins Element Super = true
+joins Array Array = true
+joins _ _ = false
+
+-- how a place is taken that was taken twice: headers that go on below it leave it as it is
+abbrev pub stronger : Taken → Taken → Taken
+stronger Super t = t
+stronger s t = s
+
+-- by a value, or by a header of its own
+abbrev pub is_own : Taken → Bool
+is_own Value = true
+is_own Header = true
+is_own Element = true
+is_own _ = false

@@ -1,0 +1,93 @@
+-- The tree of a document: what stands at each place, and its members in the order of their first assertions.
+use Rattle.std.specs.Prelude.{◌≡◌, ℕ, suc, Bool, true, false, not, ◌&&◌, if◌then◌else◌, List, [], ◌∷◌, Option, Some, None, option_map}
+use Rattle.std.specs.List.{filter, list_any, filter_map}
+use Rattle.edit_syntax.specs.Characters.{quote, apostrophe}
+use Rattle.edit_syntax.specs.Strings.{says, says_multi}
+use Rattle.edit_syntax.specs.Numbers.{integer_text, float_text, datetime_text}
+use Rattle.edit_syntax.specs.Grammar.{Value, basic, literal, multi_basic, multi_literal, boolean, integer, float, datetime, array, inline, Elements, no_elements, last_element, element, Text}
+use Rattle.edit_tree.specs.Assertions.{Step, Place, same_step, same_place, Kind, dotted, leaf, super, header_kind, array_kind, element_kind, Assertion, assertions, elements_at}
+
+-- the step from a place to a place below it, where there is one step
+abbrev pub step_from : Place → Place → Option Step
+step_from [] [] = None
+step_from [] (s ∷ []) = Some s
+step_from [] (s ∷ t ∷ ts) = None
+step_from (s ∷ ss) [] = None
+step_from (s ∷ ss) (t ∷ ts) = if same_step s t then step_from ss ts else None
+
+-- each step once, at its first place in the list
+abbrev pub once : List Step → List Step
+once [] = []
+once (s ∷ ss) = s ∷ filter (λ t. not (same_step s t)) (once ss)
+
+-- the members of a place
+abbrev pub members_of : List Assertion → Place → List Step
+members_of made place = once (filter_map (λ a. step_from place a.place) made)
+
+-- what a view tells of a place
+pub data View : Type 0 where
+  string : List ℕ → View
+  truth : Bool → View
+  -- as written
+  whole : List ℕ → View
+  fractional : List ℕ → View
+  moment : List ℕ → View
+  static_array : ℕ → View
+  table_array : ℕ → View
+  inline_table : List Step → View
+  table : List Step → View
+
+-- how many elements
+abbrev pub count_elements : Elements → ℕ
+count_elements no_elements = 0
+count_elements (last_element v g) = 1
+count_elements (element v g h es) = suc (count_elements es)
+
+-- what a value shows at its place
+abbrev pub view_of_value : List Assertion → Place → Value → View
+view_of_value made place (basic ps) = string (says quote ps)
+view_of_value made place (literal text) = string text
+view_of_value made place (multi_basic ps) = string (says_multi quote ps)
+view_of_value made place (multi_literal ps) = string (says_multi apostrophe ps)
+view_of_value made place (boolean b) = truth b
+view_of_value made place (integer n) = whole (integer_text n [])
+view_of_value made place (float f) = fractional (float_text f [])
+view_of_value made place (datetime d) = moment (datetime_text d [])
+view_of_value made place (array g es) = static_array (count_elements es)
+view_of_value made place (inline ws ms) = inline_table (members_of made place)
+
+-- what the kind of a place's first assertion says of it
+abbrev pub view_of_kind : List Assertion → Place → Kind → View
+view_of_kind made place (leaf v) = view_of_value made place v
+view_of_kind made place (dotted true) = inline_table (members_of made place)
+view_of_kind made place (dotted false) = table (members_of made place)
+view_of_kind made place super = table (members_of made place)
+view_of_kind made place header_kind = table (members_of made place)
+view_of_kind made place element_kind = table (members_of made place)
+view_of_kind made place array_kind = table_array (elements_at made place)
+
+-- the kind of the first assertion on a place
+abbrev pub kind_at : List Assertion → Place → Option Kind
+kind_at [] place = None
+kind_at (a ∷ made) place = if same_place a.place place then Some a.kind else kind_at made place
+
+-- what stands at a place: the root is a table
+abbrev pub view_in : List Assertion → Place → Option View
+view_in made [] = Some (table (members_of made []))
+view_in made (s ∷ ss) = option_map (view_of_kind made (s ∷ ss)) (kind_at made (s ∷ ss))
+
+-- what stands at a place of a text
+abbrev pub view_at : Text → Place → Option View
+view_at t place = view_in (assertions t) place
+
+-- the place was written as a value behind an equals sign or as an array's element
+abbrev pub is_value_at : Text → Place → Bool
+is_value_at t place = list_any (λ a. same_place a.place place && is_leaf a.kind) (assertions t)
+  where
+    is_leaf : Kind → Bool
+    is_leaf (leaf v) = true
+    is_leaf _ = false
+
+-- two documents with the same tree
+abbrev pub SameTree : Text → Text → Type 0
+SameTree s t = (place : Place) → view_at s place ≡ view_at t place

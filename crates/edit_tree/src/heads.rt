@@ -1,0 +1,79 @@
+//! The walk at headers: the table that they open, and no other.
+ghost use Rattle.std.specs.Prelude.{◌≡◌, ◌∷◌, [], ℕ, List, IfOk, IfErr};
+ghost use Rattle.edit_base.specs.Errors.{IsMemory};
+ghost use Rattle.edit_tree.specs.Walk.{State, headed, element_headed};
+ghost use Rattle.edit_tree.specs.WalkState.{Walks, Goes};
+
+use crate::assertions::add_element;
+use crate::nodes::{Content, Taken};
+use crate::walk::Walk;
+use edit_base::errors::CargoResult;
+use std::alloc::Global;
+
+impl Walk {
+    /// This table and no other is open.
+    fn turn_to(&mut self, number: usize) -> CargoResult<()>
+        ensures turned { IfOk result (λ _. (text : List ℕ) (st : State) → Walks text self.old st
+            → Walks text self.new (record st { tables = number ∷ [] })) }
+        ensures refused { IfErr result IsMemory }
+    {
+        self.tables.clear();
+        self.tables.push(number)?;
+        Ok(())
+    }
+
+    /// The waiting key becomes a header.
+    pub fn head(&mut self, alloc: Global, text: &str) -> CargoResult<bool>
+        ensures goes { (st : State) → Walks text.now self.old st
+            → IfOk result (Goes text.now self.new (headed st)) }
+        ensures refused { IfErr result IsMemory }
+    {
+        let Some(number) = self.settle(
+            alloc,
+            text,
+            0,
+            Taken::Super,
+            Content::Table,
+            Taken::Header,
+            None,
+        )?
+        else {
+            return Ok(false);
+        };
+        self.turn_to(number)?;
+        Ok(true)
+    }
+
+    /// The waiting key becomes the header of an element.
+    pub fn head_element(&mut self, alloc: Global, text: &str) -> CargoResult<bool>
+        ensures goes { (st : State) → Walks text.now self.old st
+            → IfOk result (Goes text.now self.new (element_headed st)) }
+        ensures refused { IfErr result IsMemory }
+    {
+        let Some(number) = self.settle(
+            alloc,
+            text,
+            0,
+            Taken::Super,
+            Content::Tables,
+            Taken::Array,
+            None,
+        )?
+        else {
+            return Ok(false);
+        };
+        let Some(element) = add_element(
+            alloc,
+            &mut self.nodes,
+            number,
+            Content::Table,
+            Taken::Element,
+            None,
+        )?
+        else {
+            return Ok(false);
+        };
+        self.turn_to(element)?;
+        Ok(true)
+    }
+}

@@ -1,0 +1,266 @@
+//! The walk over the marks of a text, which makes its nodes.
+ghost use Rattle.std.specs.Prelude.{◌≡◌, ◌∷◌, [], ℕ, List, IfOk, IfErr, MatchResult, length, Some, None};
+ghost use Rattle.edit_base.specs.Errors.{IsMemory};
+ghost use Rattle.edit_tree.specs.Nodes.{bytes_of, shape_of};
+ghost use Rattle.edit_tree.specs.Walk.{State, awaiting, is_dotted_within, settled, entered_at, entered, opened, closed, headed, element_headed, start, step, walked};
+ghost use Rattle.edit_tree.specs.WalkState.{Walks, Goes, Settles, IsToken, KeepsState};
+ghost use Rattle.edit_syntax.specs.Marks.{IsReadRefusal};
+ghost use Rattle.std.specs.List.{AllByRecursion};
+
+use crate::assertions::{add_element, assert_member, reach};
+use crate::nodes::{Content, Members, Node, Taken, Words};
+use crate::words::{worded, words_of};
+use edit_base::errors::{CargoResult, Error};
+use edit_syntax::Span;
+use edit_syntax::read::{Mark, MarkKind};
+use std::alloc::Global;
+
+/// The nodes so far; the numbers of the header and of the arrays and inline tables that are open, the
+/// innermost last; and the parts of the key that waits for its value: the last one, and those before it.
+#[derive(Drop)]
+pub struct Walk {
+    pub nodes: Vec<Node>,
+    pub tables: Vec<usize>,
+    fronts: Vec<Words>,
+    name: Option<Words>,
+}
+
+impl Walk {
+    /// The root alone, with room for so many nodes.
+    fn new(alloc: Global, count: usize) -> CargoResult<Walk>
+        ensures root { IfOk result (λ w. (text : List ℕ) → Walks text w start) }
+        ensures refused { IfErr result IsMemory }
+    {
+        let mut nodes = Vec::with_capacity(alloc, count)?;
+        nodes.push(Node {
+            content: Content::Table,
+            taken: Taken::Header,
+            steps: 0,
+            span: None,
+            members: Members::none(alloc),
+            elements: Vec::new(alloc),
+        })?;
+        let mut tables = Vec::new(alloc);
+        tables.push(0)?;
+        Ok(Walk {
+            nodes,
+            tables,
+            fronts: Vec::new(alloc),
+            name: None,
+        })
+    }
+
+    /// The nodes, without the rest.
+    fn into_nodes(self) -> Vec<Node>
+        ensures { result ≡ self.nodes }
+    {
+        let Walk {
+            nodes,
+            tables: _,
+            fronts: _,
+            name: _,
+        } = self;
+        nodes
+    }
+
+    /// A part of a key waits, behind those before it.
+    fn await_name(&mut self, name: Words) -> CargoResult<()>
+        ensures goes { IfOk result (λ _. (text : List ℕ) (st : State) → Walks text self.old st
+            → Walks text self.new (awaiting st (bytes_of text name))) }
+        ensures refused { IfErr result IsMemory }
+    {
+        if let Some(front) = self.name.take() {
+            self.fronts.push(front)?;
+        }
+        self.name = Some(name);
+        Ok(())
+    }
+
+    /// Whether a dotted key stands in an inline table.
+    fn is_within(&self, front: Taken) -> bool
+        ensures { result ≡ is_dotted_within (length self.now.tables.items) front }
+    {
+        match front {
+            Taken::Dotted => self.tables.len() > 1,
+            _ => false,
+        }
+    }
+
+    /// The waiting key takes a place below a table. Answers the number of its node.
+    pub fn settle(
+        &mut self,
+        alloc: Global,
+        text: &str,
+        number: usize,
+        front: Taken,
+        content: Content,
+        taken: Taken,
+        span: Option<Span>,
+    ) -> CargoResult<Option<usize>>
+        ensures goes { (st : State) → Walks text.now self.old st
+            → IfOk result (Settles text.now self.new (settled st number front
+            (shape_of text.now content) taken span)) }
+        ensures refused { IfErr result IsMemory }
+    {
+        let Some(name) = self.name.take() else {
+            return Ok(None);
+        };
+        let is_inline = self.is_within(front);
+        let Some(table) = reach(
+            alloc,
+            text,
+            &mut self.nodes,
+            number,
+            &self.fronts,
+            is_inline,
+            front,
+        )?
+        else {
+            return Ok(None);
+        };
+        self.fronts.clear();
+        assert_member(
+            alloc,
+            text,
+            &mut self.nodes,
+            table,
+            name,
+            content,
+            taken,
+            span,
+        )
+    }
+
+    /// A value enters the innermost table or array. Answers the number of its node.
+    fn enter_at(
+        &mut self,
+        alloc: Global,
+        text: &str,
+        content: Content,
+        span: Option<Span>,
+    ) -> CargoResult<Option<usize>>
+        ensures goes { (st : State) → Walks text.now self.old st
+            → IfOk result (Settles text.now self.new (entered_at st (shape_of text.now content) span)) }
+        ensures refused { IfErr result IsMemory }
+    {
+        let Some(number) = self.tables.last().copied() else {
+            return Ok(None);
+        };
+        match &self.name {
+            Some(_) => self.settle(
+                alloc,
+                text,
+                number,
+                Taken::Dotted,
+                content,
+                Taken::Value,
+                span,
+            ),
+            None => add_element(alloc, &mut self.nodes, number, content, Taken::Value, span),
+        }
+    }
+
+    /// A value enters the innermost table or array.
+    fn enter(
+        &mut self,
+        alloc: Global,
+        text: &str,
+        content: Content,
+        span: Option<Span>,
+    ) -> CargoResult<bool>
+        ensures goes { (st : State) → Walks text.now self.old st
+            → IfOk result (Goes text.now self.new (entered st (shape_of text.now content) span)) }
+        ensures refused { IfErr result IsMemory }
+    {
+        Ok(self.enter_at(alloc, text, content, span)?.is_some())
+    }
+
+    /// An array or an inline table opens.
+    fn open(&mut self, alloc: Global, text: &str, content: Content, span: Span) -> CargoResult<bool>
+        ensures goes { (st : State) → Walks text.now self.old st
+            → IfOk result (Goes text.now self.new (opened st (shape_of text.now content) (Some span))) }
+        ensures refused { IfErr result IsMemory }
+    {
+        let Some(number) = self.enter_at(alloc, text, content, Some(span))? else {
+            return Ok(false);
+        };
+        self.tables.push(number)?;
+        Ok(true)
+    }
+
+    /// The innermost table or array ends before so many bytes.
+    fn close(&mut self, to: u32) -> bool
+        ensures { (text : List ℕ) (st : State) → Walks text self.old st
+            → Goes text self.new (closed st to) result }
+    {
+        let Some(number) = self.tables.pop() else {
+            return false;
+        };
+        if number >= self.nodes.len() {
+            return false;
+        }
+        let node = &mut self.nodes[number];
+        let Some(span) = node.span else {
+            return false;
+        };
+        node.span = Some(Span {
+            from: span.from,
+            to,
+        });
+        true
+    }
+
+    /// Takes the next mark. Answers whether the document may go on so.
+    fn take(&mut self, alloc: Global, text: &str, mark: Mark) -> CargoResult<bool>
+        ensures goes { (st : State) → Walks text.now self.old st → IsToken text.now mark
+            → IfOk result (Goes text.now self.new (step text.now mark st)) }
+        ensures refused { IfErr result IsMemory }
+    {
+        let span = Span {
+            from: mark.from,
+            to: mark.to,
+        };
+        match mark.kind {
+            MarkKind::BarePart | MarkKind::BasicPart | MarkKind::LiteralPart => {
+                let name = words_of(alloc, text, mark)?;
+                self.await_name(name)?;
+                Ok(true)
+            }
+            MarkKind::BasicString
+            | MarkKind::LiteralString
+            | MarkKind::MultiBasicString
+            | MarkKind::MultiLiteralString
+            | MarkKind::Integer
+            | MarkKind::Float
+            | MarkKind::DateTime => {
+                let content = worded(alloc, text, mark)?;
+                self.enter(alloc, text, content, Some(span))
+            }
+            MarkKind::True => self.enter(alloc, text, Content::Truth(true), Some(span)),
+            MarkKind::False => self.enter(alloc, text, Content::Truth(false), Some(span)),
+            MarkKind::OpenArray => self.open(alloc, text, Content::Array, span),
+            MarkKind::OpenTable => self.open(alloc, text, Content::Inline, span),
+            MarkKind::CloseArray | MarkKind::CloseTable => Ok(self.close(mark.to)),
+            MarkKind::Header => self.head(alloc, text),
+            MarkKind::ElementHeader => self.head_element(alloc, text),
+        }
+    }
+}
+
+/// The nodes of a text with these marks.
+pub fn nodes_of(alloc: Global, text: &str, marks: &[Mark]) -> CargoResult<Vec<Node>>
+    ensures nodes { AllByRecursion (IsToken text.now) marks.now
+        → MatchResult result (λ v. KeepsState text.now v.items (walked text.now marks.now start))
+        (λ e. (IsMemory e → ⊥) → walked text.now marks.now start ≡ None) }
+    ensures refused { IfErr result (IsReadRefusal (length text.now)) }
+{
+    let mut walk = Walk::new(alloc, marks.len())?;
+    'marks: for mark in marks {
+        if !walk.take(alloc, text, *mark)? {
+            return Err(Error::NotToml {
+                at: text.len().saturating_sub(mark.from as usize),
+            });
+        }
+    }
+    Ok(walk.into_nodes())
+}

@@ -1,0 +1,51 @@
+//! What the tokens of a text say and show.
+ghost use Rattle.std.specs.Prelude.{◌≡◌, ℕ, List, IfOk, IfErr};
+ghost use Rattle.edit_base.specs.Errors.{IsMemory};
+ghost use Rattle.edit_tree.specs.Nodes.{bytes_of, shape_of, shape_said};
+ghost use Rattle.edit_tree.specs.WalkState.{SaysAt};
+
+use crate::nodes::{Content, Words};
+use edit_base::errors::CargoResult;
+use edit_syntax::read::decode::{content, content_span, is_plain, said};
+use edit_syntax::read::{Mark, MarkKind};
+use std::alloc::Global;
+
+/// What a token says that may have delimiters: where that is what is written, it stays in the text.
+fn delimited_words(alloc: Global, text: &str, mark: Mark) -> CargoResult<Words>
+    ensures says { (name : List ℕ) → SaysAt text.now mark name
+        → IfOk result (λ w. bytes_of text.now w ≡ name) }
+    ensures refused { IfErr result IsMemory }
+{
+    let written = content(text, mark);
+    if is_plain(mark.kind, written) {
+        Ok(Words::Kept(content_span(mark)))
+    } else {
+        Ok(Words::Made(Box::new(alloc, said(alloc, mark.kind, written)?)?))
+    }
+}
+
+/// What the token of a string or of a key's part says.
+pub fn words_of(alloc: Global, text: &str, mark: Mark) -> CargoResult<Words>
+    ensures says { (name : List ℕ) → SaysAt text.now mark name
+        → IfOk result (λ w. bytes_of text.now w ≡ name) }
+    ensures refused { IfErr result IsMemory }
+{
+    match mark.kind {
+        MarkKind::BarePart => Ok(Words::Kept(content_span(mark))),
+        _ => delimited_words(alloc, text, mark),
+    }
+}
+
+/// What the token of a string, a number, a date or a time shows.
+pub fn worded(alloc: Global, text: &str, mark: Mark) -> CargoResult<Content>
+    ensures shows { (name : List ℕ) → SaysAt text.now mark name
+        → IfOk result (λ c. shape_of text.now c ≡ shape_said mark.kind name) }
+    ensures refused { IfErr result IsMemory }
+{
+    match mark.kind {
+        MarkKind::Integer => Ok(Content::Integer(content_span(mark))),
+        MarkKind::Float => Ok(Content::Float(content_span(mark))),
+        MarkKind::DateTime => Ok(Content::DateTime(content_span(mark))),
+        _ => Ok(Content::Text(words_of(alloc, text, mark)?)),
+    }
+}

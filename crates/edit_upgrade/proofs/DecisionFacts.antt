@@ -1,0 +1,63 @@
+-- One worked decision for each row that can come while no words select and no names are excluded.
+use Rattle.std.proofs.Common.{◌≡◌, ℕ, List, [], Option, Some, None, true, false, refl}
+use Rattle.std.specs.Prelude.{codes}
+use Rattle.std.specs.Fmt.{digits}
+use Rattle.semver.specs.Parse.{Parts}
+use Rattle.semver.proofs.OnLiterals.{semver_on_literals}
+use Rattle.edit_upgrade.specs.Decision.{Case, decision}
+use Rattle.edit_report.specs.declared.row.Change.TheVariants as change
+use Rattle.edit_upgrade.specs.declared.upgrade.Options.{Options}
+use Rattle.edit_report.specs.declared.row.Reason.TheVariants as reason
+
+-- a version of three numbers
+abbrev version : ℕ → ℕ → ℕ → Parts
+version major minor patch = (major, minor, patch, [], [])
+
+-- an entry with this requirement, its compatible version and its latest one
+abbrev entry : List ℕ → Option Parts → Option Parts → Case
+entry old near far = record { excluded = false; renamed = false; selected = None; old = old; compatible = near; latest = far }
+
+-- the compatible version is taken
+pub compatible_taken : (o : Options) → o.pinned ≡ false → o.incompatible ≡ false → o.compatible ≡ true
+    → decision o (entry (codes "1.0") (Some (version 1 2 3)) (Some (version 1 2 3))) ≡ record { new = codes "1.2"; change = Some change.Compatible; reason = None }
+unfolding semver_on_literals digits
+compatible_taken o p i c = rw (p, i, c) refl
+
+-- the latest version is taken, where that is allowed
+pub latest_taken : (o : Options) → o.pinned ≡ false → o.incompatible ≡ true → o.compatible ≡ true
+    → decision o (entry (codes "2.0") None (Some (version 1 9 0))) ≡ record { new = codes "1.9"; change = Some change.Latest; reason = None }
+unfolding semver_on_literals digits
+latest_taken o p i c = rw i refl
+
+-- a pinned requirement stays
+pub pinned_stays : (o : Options) → o.pinned ≡ false → o.incompatible ≡ true → o.compatible ≡ true
+    → decision o (entry (codes "=3") None (Some (version 4 0 0))) ≡ record { new = codes "=3"; change = None; reason = Some reason.Pinned }
+unfolding semver_on_literals digits
+pinned_stays o p i c = rw (p, i, c) refl
+
+-- an incompatible version is left where it is not asked for
+pub incompatible_left : (o : Options) → o.pinned ≡ false → o.incompatible ≡ false → o.compatible ≡ true
+    → decision o (entry (codes "0.2") (Some (version 0 2 5)) (Some (version 0 3 0))) ≡ record { new = codes "0.2"; change = None; reason = Some reason.Incompatible }
+unfolding semver_on_literals digits
+incompatible_left o p i c = rw (p, i, c) refl
+
+-- an unreadable requirement stays
+pub unreadable_stays : (o : Options) → decision o (entry (codes "one") None (Some (version 1 0 0))) ≡ record { new = codes "one"; change = None; reason = Some reason.Latest }
+unfolding semver_on_literals digits
+unreadable_stays o = refl
+
+-- an entry for which a word gives this requirement
+abbrev given : List ℕ → Case → Case
+given req e = record e { selected = Some req }
+
+-- the requirement that a word gives is taken
+pub explicit_taken : (o : Options)
+    → decision o (given (codes "1.1") (entry (codes "1.0") (Some (version 1 2 3)) (Some (version 1 2 3)))) ≡ record { new = codes "1.1"; change = Some change.Explicit; reason = None }
+unfolding semver_on_literals digits
+explicit_taken o = refl
+
+-- a pinned requirement stays also then
+pub explicit_pinned : (o : Options) → o.pinned ≡ false → o.incompatible ≡ false → o.compatible ≡ true
+    → decision o (given (codes "1.1") (entry (codes "=1.0.0") (Some (version 1 0 0)) (Some (version 1 2 3)))) ≡ record { new = codes "=1.0.0"; change = None; reason = Some reason.Pinned }
+unfolding semver_on_literals digits
+explicit_pinned o p i c = rw (p, i, c) refl

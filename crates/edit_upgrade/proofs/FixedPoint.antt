@@ -1,0 +1,274 @@
+-- Planned again on what a plan wrote, over the same versions, no row has a change.
+use Rattle.std.proofs.Common.{◌≡◌, ◌++◌, ◌∷◌, ◌+◌, suc, arith, [], List, ℕ, Option, Some, None, Bool, true, false, refl, ap, ◌∙◌, sym, subst, inl, inr, append-nil, append_assoc}
+use Rattle.std.specs.Prelude.{All, ◌==◌, is_ok, is_some, nat_eq}
+use Rattle.std.specs.Cmp.Lexicographic.{pointwise}
+use Rattle.std.specs.List.{AllByRecursion, AllZip, position_or_len}
+use Rattle.std.proofs.lemmas.Bool.{cases_Bool}
+use Rattle.std.proofs.lemmas.List.Elements.{All-cons, All-nil}
+use Rattle.semver.specs.Grammar.{IsValid}
+use Rattle.semver.specs.OrderLaws.{same_text}
+use Rattle.semver.specs.Parse.{Parts, req_of}
+use Rattle.edit_tree.specs.Assertions.{Place}
+use Rattle.edit_version.specs.Greatest.{IsGreatest, advance}
+use Rattle.edit_version.specs.Laws.{holds_plus}
+use Rattle.edit_version.specs.Requirement.{Nothing, Raised, Text, Unread, Unsupported, cut, plain_text, raise}
+use Rattle.edit_version.specs.Selection.{IsCompatible, IsLatest, is_admitted, is_offered}
+use Rattle.edit_version.specs.VersionOrder.{full_order}
+use Rattle.edit_version.proofs.Greatests.{advanced}
+use Rattle.edit_version.proofs.NoPlus.{cut-none, plain-whole, raised-whole}
+use Rattle.edit_version.proofs.Orders.{full_total, greatest-has}
+use Rattle.edit_version.proofs.Outcomes.{valid-version}
+use Rattle.edit_sources.proofs.AddressLemmas.{one_url}
+use Rattle.url.specs.Parts as url
+use Rattle.url.specs.Parts.{serialize}
+use Rattle.edit_upgrade.specs.Decision.{Outcome, compatible_text, decision, first_row, given, kept, latest_text, left_out, may_jump, row_change, row_of, row_text, text_or, to_compatible, to_latest, unless_old, unread, when}
+use Rattle.edit_upgrade.specs.Headline.{HasNoChange}
+use Rattle.edit_upgrade.specs.Inputs.{Setting}
+use Rattle.edit_upgrade.specs.Looks.{told}
+use Rattle.edit_upgrade.specs.Records.{Seen, at_registry}
+use Rattle.edit_sources.specs.Configured.{HasAddress}
+use Rattle.edit_sources.specs.declared.config.Config.{Config}
+use Rattle.edit_upgrade.specs.Rows.{AreVersionsFor, Basis, IsDecided, IsRowOver, Line, Needs, case_for, dashes, elsewhere, is_elsewhere, line_for, told_there, write_at, write_on}
+use Rattle.edit_upgrade.specs.Upgraded.{IsRow, basis_of}
+use Rattle.edit_report.specs.declared.row.Change.{Change}
+use Rattle.edit_upgrade.specs.declared.upgrade.Options.{Options}
+use Rattle.edit_upgrade.proofs.DecidedAgain.{again, case_of}
+use Rattle.edit_upgrade.proofs.HeadlineRows.{offered-valid}
+use Rattle.edit_upgrade.proofs.TakenVersions.{far-some, near-some, newer-latest, when-some}
+use Rattle.edit_upgrade.proofs.WrittenEntries.{old_after, renew, renewed}
+
+-- ---- there are rows for each list of entries
+
+-- a list after another has a greatest version or none that is kept
+some-after : (keep : Parts → Bool) (back front : List Parts) (o : Option Parts) → IsGreatest keep full_order front o
+    → (best : Option Parts) × IsGreatest keep full_order (front ++ back) best
+some-after keep [] front o h = (o, subst (λ (l : List Parts). IsGreatest keep full_order l o) (sym (append-nil front)) h)
+some-after keep (x ∷ back) front o h =
+    let more = some-after keep back (front ++ x ∷ []) (advance keep full_order o x) (advanced keep full_order full_total front x o h) in
+    (more.0, subst (λ (l : List Parts). IsGreatest keep full_order l more.0) (append_assoc front (x ∷ []) back) more.1)
+
+-- a list has a greatest version or none that is kept
+some-greatest : (keep : Parts → Bool) (xs : List Parts) → (best : Option Parts) × IsGreatest keep full_order xs best
+some-greatest keep xs = some-after keep xs [] None (All-nil (λ x. keep x ≡ false))
+
+-- each entry with a requirement has a row
+some-line : (i : ℕ) (o : Options) (xs : List Parts) (e : Seen) (old : List ℕ) → (line : Line) × IsDecided i o xs e old line
+some-line i o xs e old =
+    let near = some-greatest (is_admitted old) xs in
+    let far = some-greatest (is_offered old) xs in (
+      line_for i e old near.0 far.0 (decision o (case_for e old near.0 far.0)),
+      record { near = near.0; far = far.0; compatible = near.1; latest = far.1; is = refl },
+    )
+
+-- so has each
+some-row : (i : ℕ) (o : Options) (xs : List Parts) (e : Seen) (old : Option (List ℕ)) → (line : Line) × IsRowOver i o xs e old line
+some-row i o xs e None = (dashes i e, refl)
+some-row i o xs e (Some old) = some-line i o xs e old
+
+-- an entry with another requirement takes the same versions
+pub other-versions : (b : Basis) (e f : Seen) (xs : List Parts) → f.name ≡ e.name → f.source ≡ e.source → AreVersionsFor b e xs → AreVersionsFor b f xs
+other-versions b e f xs name source (told_there address needs are) =
+    told_there address
+    (record { named = needs.named; source = source ∙ needs.source; has = needs.has; crate_name = refl })
+    (are ∙ ap (b.versions (serialize address)) (sym name))
+other-versions b e f xs name source (elsewhere other none) = elsewhere (ap is_elsewhere source ∙ other) none
+
+-- the entries that rows leave have rows
+pub some-again : (s : Setting) (es : List Seen) (ls : List Line) → AllZip (IsRow s) es ls
+    → (ms : List Line) × AllZip (IsRow s) (renewed es ls) ms
+some-again s [] [] h = ([], tt)
+some-again s [] (l ∷ ls) h = absurd h
+some-again s (e ∷ es) [] h = absurd h
+some-again s (e ∷ es) (l ∷ ls) h =
+    let next = renew e l in
+    let first = some-row s.input s.options h.0.versions next next.old in
+    let row : IsRow s next first.0 = record {
+      versions = h.0.versions;
+      offered = other-versions (basis_of s) e next h.0.versions refl refl h.0.offered;
+      decided = first.1;
+    } in
+    let rest = some-again s es ls h.1 in
+    (first.0 ∷ rest.0, (row, rest.1))
+
+-- ---- the text of a row is cut already
+
+-- a cut text has no `+`
+cut-no_plus : (xs : List ℕ) → holds_plus (cut xs) ≡ false
+cut-no_plus [] = refl
+cut-no_plus (x ∷ xs) = elim (cases_Bool (x == 43)) [
+  | inl plus ↦ rw plus refl
+  | inr other ↦
+      let k = position_or_len (λ b. b == 43) xs in
+      let more : 1 + k ≡ suc k = omega arith in
+      rw (other, more) (rw other (cut-no_plus xs))
+]
+
+-- a text that was cut is cut already
+pub cut-whole : (xs : List ℕ) → cut (cut xs) ≡ cut xs
+cut-whole xs = cut-none (cut xs) (cut-no_plus xs)
+
+-- a text that could be written is cut already
+whole-of : (old other : List ℕ) (v : Parts) (t : List ℕ) (r : Raised) → IsValid v → cut other ≡ other → raise old v ≡ r → text_or other r ≡ Some t → cut t ≡ t
+whole-of old other v t Unread valid e q h = cc h
+whole-of old other v t Nothing valid e q h = cc h
+whole-of old other v t (Unsupported d) valid e q h =
+    let same : other ≡ t = cc h in
+    subst (λ (x : List ℕ). cut x ≡ x) same e
+whole-of old other v t (Text s) valid e q h =
+    let same : s ≡ t = cc h in
+    subst (λ (x : List ℕ). cut x ≡ x) same (raised-whole old v s (valid-version v valid) q)
+
+-- so is the text that an entry gets
+whole-row : (b : Bool) (old : List ℕ) (l c : Option (List ℕ)) → cut old ≡ old → ((t : List ℕ) → l ≡ Some t → cut t ≡ t) → ((t : List ℕ) → c ≡ Some t → cut t ≡ t)
+    → cut (row_text old (first_row false None b l c)) ≡ row_text old (first_row false None b l c)
+whole-row false old l c h f g = h
+whole-row true old (Some t) c h f g = f t refl
+whole-row true old None (Some t) h f g = g t refl
+whole-row true old None None h f g = h
+
+-- so is the requirement of a decided row
+decided-whole : (o : Options) (xs : List Parts) (e : Seen) (old : List ℕ) (near far : Option Parts) → All IsValid xs → cut old ≡ old
+    → IsCompatible old xs near → IsLatest old xs far → cut (decision o (case_for e old near far)).new ≡ (decision o (case_for e old near far)).new
+decided-whole o xs e old near far all h ic il =
+    let k = case_for e old near far in
+    whole-row (is_ok (req_of old)) old (when (may_jump o k) (latest_text k)) (when o.compatible (compatible_text k)) h
+    (λ t q.
+    let f = far-some old t far near (when-some (may_jump o k) (latest_text k) t q) in
+    let valid = greatest-has IsValid (is_offered old) xs f.0 all (subst (λ (y : Option Parts). IsLatest old xs y) (newer-latest far near f.0 f.1) il) in
+    whole-of old (plain_text f.0) f.0 t (raise old f.0) valid (plain-whole f.0 valid) refl f.2)
+    (λ t q.
+    let n = near-some o old t near q in
+    let valid = greatest-has IsValid (is_admitted old) xs n.0 all (subst (λ (y : Option Parts). IsCompatible old xs y) n.1 ic) in
+    whole-of old old n.0 t (raise old n.0) valid h refl n.2)
+
+-- ---- the requirement that a row leaves
+
+-- a text that is no change is the old one
+same-stays : (old text : List ℕ) (kind : Change) → unless_old old text kind ≡ None → text ≡ old
+same-stays old text kind h = elim (cases_Bool (pointwise nat_eq text old)) [
+  | inl same ↦ same_text _ _ same
+  | inr other ↦ cc (rw other at h)
+]
+
+-- where there is no change, the text is the old one
+old-stays : (old : List ℕ) (row : Outcome) → row_change old row ≡ None → row_text old row ≡ old
+old-stays old left_out h = refl
+old-stays old (given text) h = same-stays old text _ h
+old-stays old unread h = refl
+old-stays old (to_latest text) h = same-stays old text _ h
+old-stays old (to_compatible text) h = same-stays old text _ h
+old-stays old kept h = refl
+
+-- so the row tells the old requirement
+line-stays : (i : ℕ) (o : Options) (xs : List Parts) (e : Seen) (old : List ℕ) (line : Line) → IsDecided i o xs e old line → line.change ≡ None → line.new ≡ Some old
+line-stays i o xs e old line d h =
+    let k = case_for e old d.near d.far in
+    let q : row_change old (row_of o k) ≡ None = sym (ap (λ (l : Line). l.change) d.is) ∙ h in
+    ap (λ (l : Line). l.new) d.is ∙ ap (λ (x : List ℕ). Some x) (old-stays old (row_of o k) q)
+
+-- a row without a change writes nothing
+pub none-written : (e : Seen) (line : Line) → line.change ≡ None → write_on e line ≡ None
+none-written e line h = by-old e.old
+  where
+    by-old : (o : Option (List ℕ)) → when (is_some o) (write_at e.literal line) ≡ None
+    by-old None = refl
+    by-old (Some old) = rw h refl
+
+-- a row with a change writes its requirement
+some-written : (e : Seen) (old : List ℕ) (line : Line) (kind : Change) (new : List ℕ) → e.old ≡ Some old → line.change ≡ Some kind → line.new ≡ Some new
+    → write_on e line ≡ Some (e.literal, new)
+some-written e old line kind new q h n = rw (q, h, n) refl
+
+-- the entry after its row was written is the old one with the row's requirement
+abbrev HasNew : Seen → Line → Type 0
+HasNew e line = (new : List ℕ) × (line.new ≡ Some new) × (renew e line ≡ record e { old = Some new })
+
+-- by whether the row has a change
+new-by : (i : ℕ) (o : Options) (xs : List Parts) (e : Seen) (old : List ℕ) (line : Line) (c : Option Change) → All IsValid xs → e.old ≡ Some old → cut old ≡ old
+    → IsDecided i o xs e old line → line.change ≡ c → HasNew e line
+new-by i o xs e old line None all g h d q = (
+  old,
+  line-stays i o xs e old line d q,
+  ap (λ (w : Option (Place × List ℕ)). record e { old = old_after w e.old }) (none-written e line q)
+      ∙ ap (λ (x : Option (List ℕ)). record e { old = x }) g,
+)
+new-by i o xs e old line (Some kind) all g h d q =
+    let new = (decision o (case_for e old d.near d.far)).new in
+    let told : line.new ≡ Some new = ap (λ (l : Line). l.new) d.is in (
+      new,
+      told,
+      ap (λ (w : Option (Place × List ℕ)). record e { old = old_after w e.old }) (some-written e old line kind new g q told)
+          ∙ ap (λ (x : List ℕ). record e { old = Some x }) (decided-whole o xs e old d.near d.far all h d.compatible d.latest),
+    )
+
+-- ---- decided again
+
+-- an option has one text
+some-same : (a b : List ℕ) → Some a ≡ Some b → a ≡ b
+some-same a b h = cc h
+
+-- one entry, decided on the requirement that its row left
+entry-again : (i : ℕ) (o : Options) (xs : List Parts) (e f : Seen) (old : List ℕ) (line next : Line) (new : List ℕ) → All IsValid xs → f.rename ≡ e.rename
+    → IsDecided i o xs e old line → line.new ≡ Some new → IsDecided i o xs f new next → next.change ≡ None
+entry-again i o xs e f old line next new all same d n g =
+    let first = decision o (case_for e old d.near d.far) in
+    let text : new ≡ first.new = some-same new first.new (sym n ∙ ap (λ (l : Line). l.new) d.is) in
+    let near = subst (λ (x : List ℕ). IsCompatible x xs g.near) text g.compatible in
+    let far = subst (λ (x : List ℕ). IsLatest x xs g.far) text g.latest in
+    ap (λ (l : Line). l.change) g.is
+    ∙ ap (λ (r : Option (List ℕ)). (decision o (case_of false (is_some r) new g.near g.far)).change) same
+    ∙ ap (λ (x : List ℕ). (decision o (case_of false (is_some e.rename) x g.near g.far)).change) text
+    ∙ again o false (is_some e.rename) xs old d.near d.far g.near g.far all d.compatible d.latest near far
+
+pub one-named : (e : Seen) (named other : Option (List ℕ)) → e.source ≡ at_registry named → e.source ≡ at_registry other → named ≡ other
+one-named e named other p q = source-inj named other (sym p ∙ q)
+  where
+    source-inj : (a b : Option (List ℕ)) → at_registry a ≡ at_registry b → a ≡ b
+    source-inj a b h = cc h
+
+-- the address that an entry needs is one
+pub one-address : (configs : List Config) (e : Seen) (a b : url.Parts) (n m : List ℕ) → Needs configs e a n → Needs configs e b m → a ≡ b
+one-address configs e a b n m x y =
+    let has = subst (λ (r : Option (List ℕ)). HasAddress configs r b) (one-named e y.named x.named y.source x.source) y.has in
+    one_url configs x.named a b x.has has
+
+-- an entry of a registry is not one from elsewhere
+pub not-both : (e : Seen) (named : Option (List ℕ)) → e.source ≡ at_registry named → is_elsewhere e.source ≡ true → ⊥
+not-both e named p q = cc (sym (ap is_elsewhere p) ∙ q)
+
+-- the versions that may be taken for an entry are the same
+same-versions : (s : Setting) (e : Seen) (xs ys : List Parts) → AreVersionsFor (basis_of s) e xs → AreVersionsFor (basis_of s) e ys → xs ≡ ys
+same-versions s e xs ys (told_there a needs are) (told_there b need is) =
+    are ∙ ap (λ (u : url.Parts). told s.rust s.looks (serialize u) e.name) (one-address s.configs e a b e.name e.name needs need) ∙ sym is
+same-versions s e xs ys (told_there a needs are) (elsewhere other none) = absurd (not-both e needs.named needs.source other)
+same-versions s e xs ys (elsewhere other none) (told_there b need is) = absurd (not-both e need.named need.source other)
+same-versions s e xs ys (elsewhere other none) (elsewhere more nothing) = none ∙ sym nothing
+
+-- one entry by its requirement, where it has one
+row-again : (s : Setting) (e : Seen) (o : Option (List ℕ)) (l m : Line) → ((old : List ℕ) → e.old ≡ Some old → cut old ≡ old) → e.old ≡ o → IsRow s e l
+    → IsRow s (renew e l) m → m.change ≡ None
+row-again s e None l m h q d g =
+    let quiet : l.change ≡ None = ap (λ (x : Line). x.change)
+    (subst (λ (x : Option (List ℕ)). IsRowOver s.input s.options d.versions e x l) q d.decided) in
+    let old : (renew e l).old ≡ None = ap (λ (w : Option (Place × List ℕ)). old_after w e.old) (none-written e l quiet) ∙ q in
+    ap (λ (x : Line). x.change) (subst (λ (x : Option (List ℕ)). IsRowOver s.input s.options g.versions (renew e l) x m) old g.decided)
+row-again s e (Some old) l m h q d g =
+    let first = subst (λ (x : Option (List ℕ)). IsRowOver s.input s.options d.versions e x l) q d.decided in
+    let valid = offered-valid s e d.versions d.offered in
+    let n = new-by s.input s.options d.versions e old l l.change valid q (h old q) first refl in
+    let next : Seen = record e { old = Some n.0 } in
+    let row = subst (λ (x : Seen). IsRow s x m) n.2 g in
+    let same = same-versions s next row.versions d.versions row.offered (other-versions (basis_of s) e next d.versions refl refl d.offered) in
+    let again = subst (λ (ys : List Parts). IsDecided s.input s.options ys next n.0 m) same row.decided in
+    entry-again s.input s.options d.versions e next old l m n.0 valid refl first n.1 again
+
+-- all entries, decided on the requirements that their rows left
+pub all-again : (s : Setting) (es : List Seen) (ls ms : List Line) → AllByRecursion (λ e. (old : List ℕ) → e.old ≡ Some old → cut old ≡ old) es
+    → AllZip (IsRow s) es ls → AllZip (IsRow s) (renewed es ls) ms → All HasNoChange ms
+all-again s [] [] [] h d g = All-nil HasNoChange
+all-again s [] [] (m ∷ ms) h d g = absurd g
+all-again s [] (l ∷ ls) ms h d g = absurd d
+all-again s (e ∷ es) [] ms h d g = absurd d
+all-again s (e ∷ es) (l ∷ ls) [] h d g = absurd g
+all-again s (e ∷ es) (l ∷ ls) (m ∷ ms) h d g =
+    All-cons HasNoChange m ms (row-again s e e.old l m h.0 refl d.0 g.0) (all-again s es ls ms h.1 d.1 g.1)

@@ -1,0 +1,192 @@
+-- What holds of each row that was decided.
+use Rattle.std.proofs.Common.{◌≡◌, ◌∷◌, [], List, ℕ, Option, Some, None, true, refl, ap, ◌∙◌, sym, subst, inl, inr}
+use Rattle.std.specs.Prelude.{All, IsOk, IsSome, IsTrue, nat_eq, option_map}
+use Rattle.std.specs.Cmp.Lexicographic.{pointwise}
+use Rattle.std.specs.List.{AllZip}
+use Rattle.std.specs.Ordering.{is_ge, is_le, ordering_reverse, ordering_then}
+use Rattle.std.specs.declared.cmp.Ordering.{Ordering}
+use Rattle.std.specs.declared.cmp.Ordering.TheVariants.{Less, Equal, Greater}
+use Rattle.std.proofs.lemmas.Bool.{cases_Bool}
+use Rattle.std.proofs.lemmas.List.Elements.{All-cons, All-nil}
+use Rattle.semver.specs.Grammar.{IsValid}
+use Rattle.semver.specs.Parse.{Parts, req_of}
+use Rattle.url.specs.Parts.{serialize}
+use Rattle.edit_tree.specs.Tree.{view_at}
+use Rattle.edit_version.specs.Laws.{Admits, precedence}
+use Rattle.edit_version.specs.Requirement.{plain_text}
+use Rattle.edit_version.specs.RustVersions.{Numbers}
+use Rattle.edit_version.specs.Selection.{IsCompatible, IsLatest, is_admitted, is_offered}
+use Rattle.edit_version.specs.VersionOrder.{full_order}
+use Rattle.edit_version.proofs.Builds.{admits-without_build, plain_text-read, without_build}
+use Rattle.edit_record.proofs.Entries.{all-valid}
+use Rattle.edit_version.proofs.Orders.{greatest-has, precedence_total}
+use Rattle.edit_sources.specs.Index.{answer_of}
+use Rattle.edit_upgrade.specs.Decision.{decision, newer, or_else}
+use Rattle.edit_upgrade.specs.Headline.{IsVersionTold, LatestIsNotLess, Narrows, Reaches}
+use Rattle.edit_upgrade.specs.Inputs.{Setting}
+use Rattle.edit_upgrade.specs.Looks.{Answer, look_at, versions_in}
+use Rattle.edit_upgrade.specs.Records.{Seen, seen}
+use Rattle.edit_upgrade.specs.Rows.{AreVersionsFor, IsDecided, IsRowOver, Line, case_for, dashes, elsewhere, line_for, told_there}
+use Rattle.edit_upgrade.specs.Upgraded.{HasRows, IsRow, basis_of}
+use Rattle.edit_upgrade.specs.declared.upgrade.Options.{Options}
+use Rattle.edit_upgrade.proofs.Narrowing.{latest-not-less, narrowing, reach}
+
+-- ---- versions
+
+-- each version that an answer tells of is one that `semver` reads
+pub versions-valid : (rust : Option Numbers) (o : Option Answer) → All IsValid (versions_in rust o)
+versions-valid rust None = All-nil IsValid
+versions-valid rust (Some None) = All-nil IsValid
+versions-valid rust (Some (Some entries)) = all-valid rust entries
+
+-- so is each that may be taken for an entry
+pub offered-valid : (s : Setting) (e : Seen) (xs : List Parts) → AreVersionsFor (basis_of s) e xs → All IsValid xs
+offered-valid s e xs (told_there address needs are) =
+    subst (λ (ys : List Parts). All IsValid ys) (sym are)
+    (versions-valid s.rust (option_map (λ look. answer_of look.answer) (look_at s.looks (serialize address) e.name)))
+offered-valid s e xs (elsewhere other none) = subst (λ (ys : List Parts). All IsValid ys) (sym none) (All-nil IsValid)
+
+-- a requirement admits a version without its build metadata
+admits-plain : (text : List ℕ) (v : Parts) → Admits text v → Admits text (without_build v)
+admits-plain text v a = (a.0, a.1, admits-without_build a.0 v ∙ a.2)
+
+-- the text of a version tells it, but for its build metadata
+told-plain : (v : Parts) → IsValid v → IsVersionTold (Some (plain_text v)) (without_build v)
+told-plain v valid = plain_text-read v valid
+
+-- what is not greater first is not less the other way
+reversed : (r s : Ordering) → is_le (ordering_then r s) ≡ true → is_ge (ordering_reverse r) ≡ true
+reversed Less s h = refl
+reversed Equal s h = refl
+reversed Greater s h = cc h
+
+-- a version that is not less in the full order is not less by precedence
+not-less : (u v : Parts) → is_le (full_order u v) ≡ true → is_ge (precedence v u) ≡ true
+not-less u v h = ap is_ge (precedence_total.antisymm v u) ∙ reversed (precedence u v) _ h
+
+-- an order that is its own reverse is not less
+own-reverse : (r : Ordering) → r ≡ ordering_reverse r → is_ge r ≡ true
+own-reverse Less e = cc
+own-reverse Equal e = refl
+own-reverse Greater e = refl
+
+-- a version is not less than itself
+not-less-itself : (u : Parts) → is_ge (precedence u u) ≡ true
+not-less-itself u = own-reverse (precedence u u) (precedence_total.antisymm u u)
+
+-- ---- one row
+
+-- a requirement that admits a version is read
+read-admits : (text : List ℕ) (v : Parts) → Admits text v → IsOk (req_of text)
+read-admits text v a = rw a.1 refl
+
+-- a decided row narrows
+pub line-narrows : (i : ℕ) (o : Options) (xs : List Parts) (e : Seen) (old : List ℕ) (line : Line) → All IsValid xs → IsDecided i o xs e old line → Narrows line
+line-narrows i o xs e old line all d =
+    subst Narrows (sym d.is) (λ h.
+    let n = narrowing o xs (case_for e old d.near d.far) all d.compatible h in
+    (read-admits (decision o (case_for e old d.near d.far)).new n.0 n.2.0, λ v a. n.2.1 v a))
+
+-- a decided row reaches its version
+pub line-reaches : (i : ℕ) (o : Options) (xs : List Parts) (e : Seen) (old : List ℕ) (line : Line) → All IsValid xs → IsDecided i o xs e old line → Reaches line
+line-reaches i o xs e old line all d =
+    let c = case_for e old d.near d.far in
+    let there : Reaches (line_for i e old d.near d.far (decision o c)) = record {
+      compatible = λ h.
+          let n = narrowing o xs c all d.compatible h in
+          let near = subst (λ (x : Option Parts). IsCompatible old xs x) n.1 d.compatible in
+          let valid = greatest-has IsValid (is_admitted old) xs n.0 all near in (
+            without_build n.0,
+            subst (λ (x : Option Parts). IsVersionTold (option_map plain_text x) (without_build n.0)) (sym n.1) (told-plain n.0 valid),
+            admits-plain (decision o c).new n.0 n.2.0,
+          );
+      latest = λ h.
+          let r = reach o xs c all d.latest h in (
+            without_build r.0,
+            subst (λ (x : Option Parts). IsVersionTold (option_map plain_text (or_else x d.near)) (without_build r.0)) (sym r.2) (told-plain r.0 r.1),
+            λ plain. admits-plain (decision o c).new r.0 (r.3 plain),
+          );
+    } in
+    subst Reaches (sym d.is) there
+
+-- the latest version that a row tells, where there are both
+told-latest : (u v : Parts) → IsValid u → IsValid v → is_le (full_order u v) ≡ true
+    → (w : Parts) × IsVersionTold (option_map plain_text (or_else (newer (Some v) (Some u)) (Some u))) w × IsTrue (is_ge (precedence w (without_build u)))
+told-latest u v a b le = elim (cases_Bool (pointwise nat_eq (plain_text v) (plain_text u))) [
+  | inl same ↦ (without_build u, rw same (told-plain u a), not-less-itself (without_build u))
+  | inr other ↦ (without_build v, rw other (told-plain v b), not-less u v le)
+]
+
+-- the two versions that a decided row tells
+latest-of : (xs : List Parts) (old : List ℕ) (near far : Option Parts) → All IsValid xs → IsCompatible old xs near → IsLatest old xs far
+    → IsSome (option_map plain_text near) → (u : Parts) × (v : Parts) × IsVersionTold (option_map plain_text near) u
+    × IsVersionTold (option_map plain_text (or_else (newer far near) near)) v × IsTrue (is_ge (precedence v u))
+latest-of xs old None far all a b h = cc h
+latest-of xs old (Some u) far all a b h =
+    let l = latest-not-less xs old u far a b in
+    let valid = greatest-has IsValid (is_admitted old) xs u all a in
+    let kept = subst (λ (x : Option Parts). IsLatest old xs x) l.1 b in
+    let last = greatest-has IsValid (is_offered old) xs l.0 all kept in
+    let t = told-latest u l.0 valid last l.2 in (
+      without_build u,
+      t.0,
+      told-plain u valid,
+      subst (λ (x : Option Parts). IsVersionTold (option_map plain_text (or_else (newer x (Some u)) (Some u))) t.0) (sym l.1) t.1,
+      t.2,
+    )
+
+-- a decided row's latest version is not less
+pub line-latest : (i : ℕ) (o : Options) (xs : List Parts) (e : Seen) (old : List ℕ) (line : Line) → All IsValid xs → IsDecided i o xs e old line → LatestIsNotLess line
+line-latest i o xs e old line all d = subst LatestIsNotLess (sym d.is) (latest-of xs old d.near d.far all d.compatible d.latest)
+
+-- a row of dashes narrows nothing, reaches nothing and tells no version
+dashes-narrow : (i : ℕ) (e : Seen) → Narrows (dashes i e)
+dashes-narrow i e h = cc h
+
+dashes-reach : (i : ℕ) (e : Seen) → Reaches (dashes i e)
+dashes-reach i e = record { compatible = λ h. cc h; latest = λ h. cc h }
+
+dashes-latest : (i : ℕ) (e : Seen) → LatestIsNotLess (dashes i e)
+dashes-latest i e h = cc h
+
+-- ---- all rows
+
+-- what holds of each decided row and of each row of dashes holds of a row
+row-has : (i : ℕ) (o : Options) (P : Line → Type 0) → ((e : Seen) → P (dashes i e))
+    → ((xs : List Parts) (e : Seen) (old : List ℕ) (line : Line) → All IsValid xs → IsDecided i o xs e old line → P line)
+    → (xs : List Parts) (e : Seen) (old : Option (List ℕ)) (line : Line) → All IsValid xs → IsRowOver i o xs e old line → P line
+row-has i o P d f xs e None line all h = subst P (sym h) (d e)
+row-has i o P d f xs e (Some old) line all h = f xs e old line all h
+
+-- so it holds of all rows
+all-rows : (s : Setting) (P : Line → Type 0) → ((e : Seen) → P (dashes s.input e))
+    → ((xs : List Parts) (e : Seen) (old : List ℕ) (line : Line) → All IsValid xs → IsDecided s.input s.options xs e old line → P line)
+    → (es : List Seen) (ls : List Line) → AllZip (IsRow s) es ls → All P ls
+all-rows s P d f [] [] h = All-nil P
+all-rows s P d f [] (l ∷ ls) h = absurd h
+all-rows s P d f (e ∷ es) [] h = absurd h
+all-rows s P d f (e ∷ es) (l ∷ ls) h =
+    All-cons P l ls (row-has s.input s.options P d f h.0.versions e e.old l (offered-valid s e h.0.versions h.0.offered) h.0.decided)
+    (all-rows s P d f es ls h.1)
+
+-- the rows of a manifest narrow
+pub rows-narrow : (s : Setting) (bytes : List ℕ) (lines : List Line) → HasRows s bytes lines → All Narrows lines
+rows-narrow s bytes lines h =
+    all-rows s Narrows (dashes-narrow s.input) (λ xs e old line all d. line-narrows s.input s.options xs e old line all d) (seen (view_at h.form)) lines h.decided
+
+-- they reach their versions
+pub rows-reach : (s : Setting) (bytes : List ℕ) (lines : List Line) → HasRows s bytes lines → All Reaches lines
+rows-reach s bytes lines h =
+    all-rows s Reaches (dashes-reach s.input) (λ xs e old line all d. line-reaches s.input s.options xs e old line all d) (seen (view_at h.form)) lines h.decided
+
+-- their latest versions are not less
+pub rows-latest : (s : Setting) (bytes : List ℕ) (lines : List Line) → HasRows s bytes lines → All LatestIsNotLess lines
+rows-latest s bytes lines h =
+    all-rows s LatestIsNotLess (dashes-latest s.input) (λ xs e old line all d. line-latest s.input s.options xs e old line all d)
+    (seen (view_at h.form)) lines h.decided
+
+-- each is a row of its input
+pub rows-inputs : (s : Setting) (bytes : List ℕ) (lines : List Line) → HasRows s bytes lines → All (λ (line : Line). line.input ≡ s.input) lines
+rows-inputs s bytes lines h =
+    all-rows s (λ (line : Line). line.input ≡ s.input) (λ e. refl) (λ xs e old line all d. ap (λ (l : Line). l.input) d.is)
+    (seen (view_at h.form)) lines h.decided

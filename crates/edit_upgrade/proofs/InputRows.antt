@@ -1,0 +1,126 @@
+-- The rows, outputs and warnings of an input are its own.
+use Rattle.std.proofs.Common.{◌≡◌, ◌∷◌, [], List, ℕ, Option, Some, None, true, false, refl, ap, ◌∙◌, sym, subst, length, map}
+use Rattle.std.specs.Prelude.{All, filter, not, option_and_then, option_map, ◌==◌}
+use Rattle.std.specs.List.{AllZip, cons_option, filter_map}
+use Rattle.std.proofs.lemmas.List.Elements.{All-cons, All-nil}
+use Rattle.edit_tree.specs.Replaces.{Edits}
+use Rattle.edit_tree.specs.Tree.{view_at}
+use Rattle.edit_entries.specs.Entries as found
+use Rattle.edit_entries.specs.Entries.{entries}
+use Rattle.edit_record.specs.EntryRecords.{EntryRecord}
+use Rattle.edit_report.specs.declared.output.Output.{Output}
+use Rattle.edit_sources.specs.declared.config.Config.{Config}
+use Rattle.edit_version.specs.RustVersions.{Numbers}
+use Rattle.semver.specs.Parse.{Parts}
+use Rattle.edit_upgrade.specs.Drafts.{outputs_on}
+use Rattle.edit_upgrade.specs.Inputs.{output_path}
+use Rattle.edit_upgrade.specs.Lists.{IsWarningBy, IsWarningOn, Told, unread, unreadable_text, warned, warning_by}
+use Rattle.edit_upgrade.specs.Looks.{Kept, kept_basis}
+use Rattle.edit_upgrade.specs.Outputs.{AreOutputs, HasOutputs, changed, unchanged}
+use Rattle.edit_upgrade.specs.Records.{Seen, Source, seen, source_of, version_of}
+use Rattle.edit_upgrade.specs.Rows.{AreDecided, IsRowOver, Line, writes}
+use Rattle.edit_upgrade.specs.Upgraded.{HasWarnings}
+use Rattle.edit_upgrade.specs.declared.upgrade.Options.{Options}
+
+-- ---- rows
+
+row-input : (i : ℕ) (o : Options) (versions : List Parts) (e : Seen) (old : Option (List ℕ)) (line : Line)
+    → IsRowOver i o versions e old line → line.input ≡ i
+row-input i o versions e None line d = ap (λ (l : Line). l.input) d
+row-input i o versions e (Some old) line d = ap (λ (l : Line). l.input) d.is
+
+pub decided-inputs : (i : ℕ) (o : Options) (rust : Option Numbers) (configs : List Config) (kept : Kept)
+    (es : List Seen) (ls : List Line)
+    → AreDecided (kept_basis i o rust configs kept) es ls → All (λ (l : Line). l.input ≡ i) ls
+decided-inputs i o rust configs kept [] [] h = All-nil (λ (l : Line). l.input ≡ i)
+decided-inputs i o rust configs kept [] (l ∷ ls) h = absurd h
+decided-inputs i o rust configs kept (e ∷ es) [] h = absurd h
+decided-inputs i o rust configs kept (e ∷ es) (l ∷ ls) h =
+    All-cons (λ (x : Line). x.input ≡ i) l ls (row-input i o h.0.versions e e.old l h.0.decided)
+    (decided-inputs i o rust configs kept es ls h.1)
+
+-- ---- outputs
+
+paths-are : (path bytes : List ℕ) (edits : Edits) (outputs : List Output)
+    → AreOutputs path bytes edits outputs → All (λ (q : Output). output_path q ≡ path) outputs
+paths-are path bytes edits _ (unchanged none) = All-nil (λ (q : Output). output_path q ≡ path)
+paths-are path bytes edits _ (changed output some at r) =
+    All-cons (λ (q : Output). output_path q ≡ path) output [] at
+    (All-nil (λ (q : Output). output_path q ≡ path))
+
+pub written-paths : (path bytes : List ℕ) (lines : List Line) (outputs : List Output)
+    → HasOutputs path bytes lines outputs
+    → All (λ (q : Output). output_path q ≡ path) outputs
+written-paths path bytes lines outputs h = paths-are path bytes (writes (seen (view_at h.form)) lines)
+    outputs h.are
+
+-- the path of an input is among those with outputs where it has one
+path-order : (path bytes : List ℕ) (edits : Edits) (outputs all : List Output)
+    → AreOutputs path bytes edits outputs → outputs_on path all ≡ outputs
+    → map output_path outputs ≡ filter (λ q. not (length (outputs_on q all) == 0)) (path ∷ [])
+path-order path bytes edits _ all (unchanged none) h =
+    let off : not (length (outputs_on path all) == 0) ≡ false = ap
+    (λ (os : List Output). not (length os == 0)) h in
+    rw off refl
+path-order path bytes edits _ all (changed output some at r) h =
+    let on : not (length (outputs_on path all) == 0) ≡ true = ap
+    (λ (os : List Output). not (length os == 0)) h in
+    rw on (ap (λ (q : List ℕ). q ∷ []) at)
+
+pub one-path-order : (path bytes : List ℕ) (lines : List Line) (outputs : List Output)
+    → HasOutputs path bytes lines outputs
+    → (all : List Output) → outputs_on path all ≡ outputs
+    → map output_path outputs ≡ filter (λ q. not (length (outputs_on q all) == 0)) (path ∷ [])
+one-path-order path bytes lines outputs h all e = path-order path bytes
+    (writes (seen (view_at h.form)) lines) outputs all h.are e
+
+-- ---- warnings
+
+-- each warning is on its input
+warned-input : (i : ℕ) (name : List ℕ) (o : Option (List ℕ)) (w : Told)
+    → option_map (λ old. warned i false (unreadable_text name old)) o ≡ Some w → w.input ≡ i
+warned-input i name None w h = cc h
+warned-input i name (Some old) w h = sym (ap told-input h)
+  where
+    told-input : Option Told → ℕ
+    told-input None = i
+    told-input (Some t) = t.input
+
+by-source : (i : ℕ) (name : List ℕ) (o : Option Source) (version : Option (List ℕ)) (w : Told)
+    → warning_by i name o version ≡ Some w → w.input ≡ i
+by-source i name None version w h = sym (ap told-input h)
+  where
+    told-input : Option Told → ℕ
+    told-input None = i
+    told-input (Some t) = t.input
+by-source i name (Some source) version w h = warned-input i name (option_and_then unread version) w h
+
+by-record : (i : ℕ) (name : List ℕ) (o : Option EntryRecord) (told : Option Told) (w : Told)
+    → IsWarningBy i name o told → told ≡ Some w → w.input ≡ i
+by-record i name None told w h q = sym (ap told-input (sym h.1 ∙ q))
+  where
+    told-input : Option Told → ℕ
+    told-input None = i
+    told-input (Some t) = t.input
+by-record i name (Some r) told w h q = by-source i name (source_of r) (version_of r) w (sym h ∙ q)
+
+cons-input : (i : ℕ) (told : Option Told) (ts : List Told) → ((w : Told) → told ≡ Some w → w.input ≡ i)
+    → All (λ (t : Told). t.input ≡ i) ts
+    → All (λ (t : Told). t.input ≡ i) (cons_option told ts)
+cons-input i None ts h g = g
+cons-input i (Some w) ts h g = All-cons (λ (t : Told). t.input ≡ i) w ts (h w refl) g
+
+warnings-input : (i : ℕ) (es : List found.Entry) (each : List (Option Told)) → AllZip (IsWarningOn i) es each
+    → All (λ (t : Told). t.input ≡ i) (filter_map (λ told. told) each)
+warnings-input i [] [] h = All-nil (λ (t : Told). t.input ≡ i)
+warnings-input i [] (t ∷ ts) h = absurd h
+warnings-input i (e ∷ es) [] h = absurd h
+warnings-input i (e ∷ es) (t ∷ ts) h =
+    cons-input i t (filter_map (λ told. told) ts) (λ w q. by-record i e.name e.said t w h.0 q)
+    (warnings-input i es ts h.1)
+
+pub warned-inputs : (i : ℕ) (bytes : List ℕ) (told : List Told) → HasWarnings i bytes told
+    → All (λ (t : Told). t.input ≡ i) told
+warned-inputs i bytes told h =
+    subst (λ (ts : List Told). All (λ (t : Told). t.input ≡ i) ts) (sym h.are.all)
+    (warnings-input i (entries (view_at h.form) []) h.are.each h.are.on)

@@ -1,0 +1,33 @@
+use Rattle.std.proofs.Common.{ap, map, subst, sym, ◌∙◌}
+use Rattle.std.proofs.lemmas.List.{map-append}
+use Rattle.edit_sources.specs.IndexCache.{index_of}
+use Rattle.edit_upgrade.specs.Lines.{line_of}
+use Rattle.edit_upgrade.specs.Lists.{warning_view}
+use Rattle.edit_upgrade.specs.Looks.{kept_by}
+use Rattle.edit_upgrade.specs.PlannedView.{IsWalked}
+use Rattle.edit_upgrade.specs.declared.walk.Books.{Books}
+use Rattle.edit_upgrade.proofs.draft.add_input.Goals as goal
+
+pub returns-clause-adds : goal.returns-clause-adds
+returns-clause-adds g c =
+    let own = c.in_ok-add_planned.ensures.outputs in
+    let planned = c.in_ok-planned.planned in
+    record {
+      lines = map line_of planned.rows.items;
+      outputs = own.0;
+      told = map warning_view planned.warnings.items;
+      walked = subst (λ (books : Books). IsWalked c.args.number c.args.options.now c.args.input.now
+          c.args.configs.now
+          (g.I.Index.view (index_of c.args.index.now)).gives (kept_by c.args.index.now)
+          (kept_by c.plan_input.new.index)
+          c.args.draft.now.books books (map line_of planned.rows.items))
+          (sym c.in_ok-add_planned.ensures.books)
+          c.in_ok-planned.ensures.walked;
+      writes = own.2;
+      warned = c.in_ok-planned.ensures.warnings;
+      rows_are = ap (map line_of) c.in_ok-add_planned.ensures.rows
+          ∙ map-append line_of c.args.draft.now.rows.items planned.rows.items;
+      outputs_are = own.1;
+      told_are = ap (map warning_view) c.in_ok-add_planned.ensures.warnings
+          ∙ map-append warning_view c.args.draft.now.warnings.items planned.warnings.items;
+    }

@@ -1,0 +1,152 @@
+use Rattle.std.proofs.Common.{List, ap, arith, map, subst, sym, take, ◌∙◌}
+use Rattle.std.specs.Prelude.{All, IsUtf8, slice_get}
+use Rattle.std.specs.Global.{Vec}
+use Rattle.std.proofs.lemmas.List.{take_all}
+use Rattle.std.proofs.lemmas.List.Elements.{All-nil, All-push}
+use Rattle.edit_tree.specs.Shown.{Shown}
+use Rattle.edit_metadata.specs.declared.input.Input.{Input}
+use Rattle.edit_sources.specs.IndexCache.{index_of}
+use Rattle.edit_sources.specs.declared.config.Config.{Config}
+use Rattle.edit_upgrade.specs.Drafts.{IsDraft}
+use Rattle.edit_upgrade.specs.Lines.{line_of}
+use Rattle.edit_upgrade.specs.Lists.{warning_view}
+use Rattle.edit_upgrade.specs.Looks.{kept_by}
+use Rattle.edit_upgrade.specs.Upgraded.{IsNeeded, IsNeededBy}
+use Rattle.edit_upgrade.proofs.CauseLemmas.{given-refused, read-refused, with-configs, with-configs_read}
+use Rattle.edit_upgrade.proofs.EndLemmas.{get-at, get-past}
+use Rattle.edit_upgrade.proofs.FurtherInputs.{draft-next, draft-start, given-at, needed-at}
+use Rattle.edit_upgrade.proofs.LookUpLemmas.{leaves-more, leaves-same}
+use Rattle.edit_upgrade.proofs.PlannedLemmas.{refusal-has}
+use Rattle.edit_upgrade.proofs.Steps.{taken-more}
+use Rattle.edit_upgrade.proofs.plan.drafted.Goals as goal
+
+pub inputs-init : goal.inputs-init
+inputs-init g c = record {
+  draft = draft-start c.args.options.now (g.I.Index.view (index_of c.args.index.now)).gives
+      (kept_by c.args.index.now) c.new-draft.result
+      c.new-draft.ensures.looks c.new-draft.ensures.pairs c.new-draft.ensures.outputs
+      c.new-draft.ensures.rows c.new-draft.ensures.warnings;
+  utf8 = λ e. All-nil (λ (x : Input). IsUtf8 x.bytes.items);
+  left = leaves-same (IsNeeded c.args.inputs.now c.args.configs.now)
+      (g.I.Index.view (index_of c.args.index.now)).gives
+      (g.I.Index.view (index_of c.args.index.now)).faults (kept_by c.args.index.now);
+}
+
+pub add_read-requires : goal.add_read-requires
+add_read-requires g c = record {
+  document = given-at c.args.inputs.now c.args.documents.now c.inputs.i c.index-inputs-i.result _
+      c.requires.documents c.inputs-test.true
+      c.index-inputs-i.is c.document_at-document.ensures;
+  kept = c.inputs.invariant.draft.kept;
+}
+
+pub inputs-preserved : goal.inputs-preserved
+inputs-preserved g c = record {
+  draft = draft-next c.args.options.now c.args.inputs.now c.args.configs.now c.inputs.i
+      c.index-inputs-i.result c.index-configs-i.result c.deref.result.now
+      (g.I.Index.view (index_of c.args.index.now)).gives (g.I.Index.view (index_of c.inputs.index)).gives
+      (kept_by c.args.index.now) (kept_by c.inputs.index) (kept_by c.add_read.new.index) c.inputs.draft
+      c.add_read.new.draft
+      c.requires.configurations c.requires.paths c.inputs-test.true c.index-inputs-i.is
+      c.index-configs-i.is c.deref.ensures.value
+      c.inputs.invariant.draft c.inputs.invariant.left.same c.in_ok-add_read.ensures.left.adds.stays
+      c.in_ok-add_read.ensures.adds c.in_ok-add_read.ensures.kept;
+  utf8 = λ e.
+      let none = c.document_at-document.ensures ∙ ap (λ (ds : List Shown). slice_get ds c.inputs.i) e in
+      subst (λ (xs : List Input). All (λ (x : Input). IsUtf8 x.bytes.items) xs)
+      (sym (taken-more c.args.inputs.now c.inputs.i c.index-inputs-i.result c.inputs-test.true
+      c.index-inputs-i.is))
+      (All-push (λ (x : Input). IsUtf8 x.bytes.items) (take c.inputs.i c.args.inputs.now)
+      c.index-inputs-i.result (c.inputs.invariant.utf8 e)
+      (c.in_ok-add_read.ensures.utf8 none));
+  left = leaves-more (IsNeeded c.args.inputs.now c.args.configs.now)
+      (IsNeededBy c.deref.result.now c.index-inputs-i.result.bytes.items)
+      (g.I.Index.view (index_of c.args.index.now)).gives (g.I.Index.view (index_of c.inputs.index)).gives
+      (g.I.Index.view (index_of c.add_read.new.index)).gives
+      (g.I.Index.view (index_of c.args.index.now)).faults
+      (g.I.Index.view (index_of c.inputs.index)).faults
+      (g.I.Index.view (index_of c.add_read.new.index)).faults
+      (kept_by c.args.index.now) (kept_by c.inputs.index) (kept_by c.add_read.new.index)
+      (needed-at c.args.inputs.now c.args.configs.now c.inputs.i c.index-inputs-i.result
+      c.index-configs-i.result c.deref.result.now c.requires.configurations
+      c.inputs-test.true c.index-inputs-i.is c.index-configs-i.is c.deref.ensures.value)
+      c.inputs.invariant.left c.in_ok-add_read.ensures.left;
+}
+
+pub returns-clause-drafted : goal.returns-clause-drafted
+returns-clause-drafted g c =
+    let whole = take_all c.inputs.i c.args.inputs.now (omega (arith, c.inputs-test.false)) in
+    let whole_configs = take_all c.inputs.i c.args.configs.now
+    (omega (arith, c.inputs-test.false, c.requires.configurations)) in
+    subst (λ (xs : List Input). IsDraft c.args.options.now xs c.args.configs.now
+    (g.I.Index.view (index_of c.args.index.now)).gives (kept_by c.args.index.now)
+    (kept_by c.inputs.index) c.inputs.draft) whole
+    (subst (λ (cs : List (Vec Config)). IsDraft c.args.options.now (take c.inputs.i c.args.inputs.now) cs
+    (g.I.Index.view (index_of c.args.index.now)).gives (kept_by c.args.index.now)
+    (kept_by c.inputs.index) c.inputs.draft)
+    whole_configs c.inputs.invariant.draft)
+
+pub returns-clause-utf8 : goal.returns-clause-utf8
+returns-clause-utf8 g c = λ e.
+    subst (λ (xs : List Input). All (λ (x : Input). IsUtf8 x.bytes.items) xs)
+    (take_all c.inputs.i c.args.inputs.now (omega (arith, c.inputs-test.false))) (c.inputs.invariant.utf8 e)
+
+pub returns-in_err-add_read-clause-left : goal.returns-in_err-add_read-clause-left
+returns-in_err-add_read-clause-left g c =
+    leaves-more (IsNeeded c.args.inputs.now c.args.configs.now)
+    (IsNeededBy c.deref.result.now c.index-inputs-i.result.bytes.items)
+    (g.I.Index.view (index_of c.args.index.now)).gives (g.I.Index.view (index_of c.inputs.index)).gives
+    (g.I.Index.view (index_of c.add_read.new.index)).gives
+    (g.I.Index.view (index_of c.args.index.now)).faults
+    (g.I.Index.view (index_of c.inputs.index)).faults
+    (g.I.Index.view (index_of c.add_read.new.index)).faults
+    (kept_by c.args.index.now) (kept_by c.inputs.index) (kept_by c.add_read.new.index)
+    (needed-at c.args.inputs.now c.args.configs.now c.inputs.i c.index-inputs-i.result
+    c.index-configs-i.result c.deref.result.now c.requires.configurations
+    c.inputs-test.true c.index-inputs-i.is c.index-configs-i.is c.deref.ensures.value)
+    c.inputs.invariant.left c.in_err-add_read.ensures.left
+
+pub returns-in_err-add_read-clause-given : goal.returns-in_err-add_read-clause-given
+returns-in_err-add_read-clause-given g c =
+    refusal-has c.from_residual.result c.in_err-add_read.field-0.0 _ c.from_residual.ensures.1
+    (λ long. given-refused c.args.options.now c.args.inputs.now c.args.configs.now
+    (g.I.Index.view (index_of c.args.index.now)).gives (g.I.Index.view (index_of c.inputs.index)).gives
+    (kept_by c.args.index.now) (kept_by c.inputs.index) (kept_by c.add_read.new.index)
+    (g.I.Index.view (index_of c.args.index.now)).faults
+    (g.I.Index.view (index_of c.inputs.index)).faults
+    (g.I.Index.view (index_of c.add_read.new.index)).faults c.inputs.i
+    (map line_of c.inputs.draft.rows.items) c.inputs.draft.outputs.items
+    (map warning_view c.inputs.draft.warnings.items) c.index-inputs-i.result c.index-configs-i.result
+    (get-at c.args.inputs.now c.inputs.i c.index-inputs-i.result c.inputs-test.true c.index-inputs-i.is)
+    (get-at c.args.configs.now c.inputs.i c.index-configs-i.result
+    (omega (arith, c.inputs-test.true, c.requires.configurations)) c.index-configs-i.is)
+    c.inputs.invariant.draft.planned c.inputs.invariant.left.same c.inputs.invariant.left.adds.stays
+    c.in_err-add_read.ensures.left.adds.stays
+    c.inputs.invariant.left.later c.in_err-add_read.field-0.0
+    (with-configs c.deref.result.now c.index-configs-i.result c.index-inputs-i.result.bytes.items _ _ _ _ _
+    c.in_err-add_read.field-0.0 c.deref.ensures.value
+    (c.in_err-add_read.ensures.given
+    (get-past c.args.documents.now c.inputs.i _ (omega (arith, c.inputs-test.true, long))
+    c.document_at-document.ensures))))
+
+pub returns-in_err-add_read-clause-read : goal.returns-in_err-add_read-clause-read
+returns-in_err-add_read-clause-read g c =
+    refusal-has c.from_residual.result c.in_err-add_read.field-0.0 _ c.from_residual.ensures.1
+    (λ e. read-refused c.args.options.now c.args.inputs.now c.args.configs.now
+    (g.I.Index.view (index_of c.args.index.now)).gives (g.I.Index.view (index_of c.inputs.index)).gives
+    (kept_by c.args.index.now) (kept_by c.inputs.index) (kept_by c.add_read.new.index)
+    (g.I.Index.view (index_of c.args.index.now)).faults
+    (g.I.Index.view (index_of c.inputs.index)).faults
+    (g.I.Index.view (index_of c.add_read.new.index)).faults c.inputs.i
+    (map line_of c.inputs.draft.rows.items) c.inputs.draft.outputs.items
+    (map warning_view c.inputs.draft.warnings.items) c.index-inputs-i.result c.index-configs-i.result
+    (get-at c.args.inputs.now c.inputs.i c.index-inputs-i.result c.inputs-test.true c.index-inputs-i.is)
+    (get-at c.args.configs.now c.inputs.i c.index-configs-i.result
+    (omega (arith, c.inputs-test.true, c.requires.configurations)) c.index-configs-i.is)
+    c.inputs.invariant.draft.planned c.inputs.invariant.left.same c.inputs.invariant.left.adds.stays
+    c.in_err-add_read.ensures.left.adds.stays
+    c.inputs.invariant.left.later c.in_err-add_read.field-0.0
+    (with-configs_read c.deref.result.now c.index-configs-i.result c.index-inputs-i.result.bytes.items _ _
+    _ _ _ c.in_err-add_read.field-0.0 c.deref.ensures.value
+    (c.in_err-add_read.ensures.read (c.document_at-document.ensures
+    ∙ ap (λ (ds : List Shown). slice_get ds c.inputs.i) e))))

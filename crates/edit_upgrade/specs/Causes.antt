@@ -1,0 +1,84 @@
+-- Why a plan is refused.
+use Rattle.std.specs.Prelude.{◌≡◌, ◌⊎◌, ◌<◌, ◌++◌, ◌∷◌, ℕ, List, All, IfSome, IsSome, Option, Some, None, slice_get}
+use Rattle.std.specs.Global.{Vec}
+use Rattle.edit_base.specs.Errors.{IsMemory}
+use Rattle.edit_syntax.specs.Grammar.{Text}
+use Rattle.edit_tree.specs.Supported.{IsManifest}
+use Rattle.edit_tree.specs.Tree.{view_at}
+use Rattle.edit_base.specs.declared.errors.Error.{Error}
+use Rattle.edit_manifest.specs.Loaded.{IsBadManifest}
+use Rattle.edit_sources.specs.Configured.{HasNoUrl}
+use Rattle.edit_sources.specs.Index.{Outcomes}
+use Rattle.edit_sources.specs.declared.config.Config.{Config}
+use Rattle.url.specs.Parts as url
+use Rattle.url.specs.Parts.{serialize}
+use Rattle.edit_upgrade.specs.Looked.{IsRefusedAt}
+use Rattle.edit_upgrade.specs.Looks.{Kept}
+use Rattle.edit_upgrade.specs.Records.{Seen, at_registry, seen}
+use Rattle.edit_upgrade.specs.Rows.{Needs}
+use Rattle.edit_metadata.specs.declared.input.Input.{Input}
+
+-- an entry at which a plan goes on: the answer to each look that it needs is kept
+abbrev pub IsPassed : List Config → Kept → Seen → Type 0
+IsPassed configs new e = (address : url.Parts) (name : List ℕ) → Needs configs e address name
+    → IsSome (new (serialize address) name)
+
+-- why an entry stops a plan: its registry has no address, or the look that it needs is refused and no answer
+-- was kept
+pub data StopsAt (configs : List Config) (gives : Outcomes) (old : Kept) (before now : ℕ) (e : Seen)
+    (error : Error) : Type 0 where
+  no_address : (named : Option (List ℕ)) → e.source ≡ at_registry named → HasNoUrl configs named error
+      → StopsAt configs gives old before now e error
+  no_answer : (address : url.Parts) (name : List ℕ) → Needs configs e address name
+      → old (serialize address) name ≡ None
+      → IsRefusedAt gives address name before now error → StopsAt configs gives old before now e error
+
+-- the first entry that stops a plan
+pub record StopsFirst (configs : List Config) (gives : Outcomes) (old new : Kept) (before now : ℕ)
+    (es : List Seen) (error : Error) : Type 0 where
+  pub front : List Seen
+  pub entry : Seen
+  pub rest : List Seen
+  pub split : es ≡ front ++ entry ∷ rest
+  pub passed : All (IsPassed configs new) front
+  pub stops : StopsAt configs gives old before now entry error
+
+-- the first seen entry of the manifest that stops a plan
+pub record HasBadEntry (configs : List Config) (gives : Outcomes) (old new : Kept) (before now : ℕ)
+    (bytes : List ℕ) (error : Error) : Type 0 where
+  pub form : Text
+  pub manifest : IsManifest bytes form
+  pub stops : StopsFirst configs gives old new before now (seen (view_at form)) error
+
+-- an input at which a plan goes on: it is a manifest, and each of its entries is passed
+pub record InputPasses (configs : List Config) (new : Kept) (input : Input) : Type 0 where
+  pub form : Text
+  pub manifest : IsManifest input.bytes.items form
+  pub passed : All (IsPassed configs new) (seen (view_at form))
+
+-- the first of the inputs at which a plan does not go on, for this reason
+pub record FirstInput (inputs : List Input) (configs : List (Vec Config)) (new : Kept)
+    (Stops : List Config → List ℕ → Type 0) : Type 0 where
+  pub i : ℕ
+  pub input : Input
+  pub own : Vec Config
+  pub at : slice_get inputs i ≡ Some input
+  pub configured : slice_get configs i ≡ Some own
+  pub passed : (j : ℕ) → j < i
+      → IfSome (slice_get inputs j)
+      (λ earlier. IfSome (slice_get configs j) (λ c. InputPasses c.items new earlier))
+  pub stops : Stops own.items input.bytes.items
+
+-- why a plan over manifests that were read is refused: want of memory, or the first input with an entry that
+-- stops it
+abbrev pub IsEntryCause : List Input → List (Vec Config) → Outcomes → Kept → Kept → ℕ → ℕ → Error → Type 0
+IsEntryCause inputs configs gives old new before now e =
+    IsMemory e
+    ⊎ FirstInput inputs configs new (λ own bytes. HasBadEntry own gives old new before now bytes e)
+
+-- why a plan is refused: the first input whose bytes are no manifest, or else with an entry that stops the
+-- plan
+abbrev pub IsCause : List Input → List (Vec Config) → Outcomes → Kept → Kept → ℕ → ℕ → Error → Type 0
+IsCause inputs configs gives old new before now e =
+    FirstInput inputs configs new
+    (λ own bytes. IsBadManifest bytes e ⊎ HasBadEntry own gives old new before now bytes e)

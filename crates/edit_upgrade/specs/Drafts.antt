@@ -1,0 +1,104 @@
+-- What is planned of inputs so far, as the program has it.
+use Rattle.std.specs.Prelude.{◌≡◌, ◌<◌, ◌==◌, ◌⊎◌, ℕ, List, [], ◌++◌, Some, All, filter, length, map, not, option_map, slice_get}
+use Rattle.std.specs.Global.{Vec}
+use Rattle.std.specs.List.{flat_map}
+use Rattle.std.specs.Str.{bytes_eq}
+use Rattle.edit_syntax.specs.Grammar.{Text}
+use Rattle.edit_tree.specs.Shown.{Shown}
+use Rattle.edit_tree.specs.Supported.{IsManifest}
+use Rattle.edit_tree.specs.Tree.{view_at}
+use Rattle.edit_metadata.specs.declared.input.Input.{Input}
+use Rattle.edit_report.specs.declared.output.Output.{Output}
+use Rattle.edit_sources.specs.Index.{Outcomes}
+use Rattle.edit_sources.specs.declared.config.Config.{Config}
+use Rattle.edit_version.specs.RustVersions.{numbers_of}
+use Rattle.edit_upgrade.specs.Causes.{IsPassed}
+use Rattle.edit_upgrade.specs.Inputs.{below, output_path, path_of}
+use Rattle.edit_upgrade.specs.Lines.{line_of}
+use Rattle.edit_upgrade.specs.Lists.{Told, warning_view}
+use Rattle.edit_upgrade.specs.Looked.{AreKept, IsSoFar}
+use Rattle.edit_upgrade.specs.Looks.{Kept, kept_basis}
+use Rattle.edit_upgrade.specs.Outputs.{HasOutputs}
+use Rattle.edit_upgrade.specs.PairSets.{holds_pair}
+use Rattle.edit_upgrade.specs.PlannedView.{IsWalked}
+use Rattle.edit_upgrade.specs.Records.{seen}
+use Rattle.edit_upgrade.specs.Rows.{AreDecided, Line}
+use Rattle.edit_upgrade.specs.Upgraded.{HasWarnings, IsNeeded}
+use Rattle.edit_upgrade.specs.declared.draft.Draft.{Draft}
+use Rattle.edit_upgrade.specs.declared.upgrade.Options.{Options}
+
+-- of these rows, those of an input
+abbrev pub lines_on : ℕ → List Line → List Line
+lines_on i lines = filter (λ line. line.input == i) lines
+
+-- of these warnings, those on an input
+abbrev pub told_on : ℕ → List Told → List Told
+told_on i told = filter (λ t. t.input == i) told
+
+-- of these outputs, those at a path
+abbrev pub outputs_on : List ℕ → List Output → List Output
+outputs_on path outputs = filter (λ output. bytes_eq (output_path output) path) outputs
+
+-- what is planned of one input over the answers that are kept: the answer that each of its entries needs is
+-- kept, and these are its rows, outputs and warnings (own)
+pub record IsPlanned (i : ℕ) (o : Options) (input : Input) (configs : List Config) (kept : Kept)
+    (lines : List Line) (outputs : List Output) (told : List Told) : Type 0 where
+  pub form : Text
+  pub manifest : IsManifest input.bytes.items form
+  pub passed : All (IsPassed configs kept) (seen (view_at form))
+  pub decided : AreDecided (kept_basis i o (option_map numbers_of input.rust_version) configs kept)
+      (seen (view_at form)) lines
+  pub writes : HasOutputs (path_of input) input.bytes.items lines outputs
+  pub warned : HasWarnings i input.bytes.items told
+
+-- a path of one of the inputs (own)
+pub record IsPathAmong (inputs : List Input) (path : List ℕ) : Type 0 where
+  pub i : ℕ
+  pub input : Input
+  pub at : slice_get inputs i ≡ Some input
+  pub path_is : path ≡ path_of input
+
+-- what is planned of these inputs over the answers that are kept: of each its own rows, outputs and
+-- warnings,
+-- in the order of the inputs, and no others (own)
+pub record ArePlanned (o : Options) (kept : Kept) (inputs : List Input) (configs : List (Vec Config))
+    (lines : List Line) (outputs : List Output) (told : List Told) : Type 0 where
+  pub each : (i : ℕ) (input : Input) (own : Vec Config) → slice_get inputs i ≡ Some input
+      → slice_get configs i ≡ Some own
+      → IsPlanned i o input own.items kept (lines_on i lines) (outputs_on (path_of input) outputs)
+      (told_on i told)
+  pub rows_in_order : lines ≡ flat_map (λ i. lines_on i lines) (below (length inputs))
+  pub outputs_in_order : map output_path outputs
+      ≡ filter (λ path. not (length (outputs_on path outputs) == 0)) (map path_of inputs)
+  pub rows_below : All (λ line. line.input < length inputs) lines
+  pub told_below : All (λ t. t.input < length inputs) told
+  pub paths_among : All (λ output. IsPathAmong inputs (output_path output)) outputs
+
+-- what a draft has: the looks that these inputs need, and what is planned of them (own)
+pub record IsDraft (o : Options) (inputs : List Input) (configs : List (Vec Config)) (gives : Outcomes)
+    (old now : Kept) (draft : Draft) : Type 0 where
+  pub kept : AreKept (holds_pair draft.books.pairs) now
+  pub so_far : IsSoFar (IsNeeded inputs configs) gives old now draft.books.looks.items
+      (holds_pair draft.books.pairs)
+  pub planned : ArePlanned o now inputs configs (map line_of draft.rows.items) draft.outputs.items
+      (map warning_view draft.warnings.items)
+
+-- what one more input adds to a draft: a walk over its entries, and its rows, outputs and warnings behind
+-- those
+-- that were there (own)
+pub record AddsInput (i : ℕ) (o : Options) (input : Input) (configs : List Config) (gives : Outcomes)
+    (old new : Kept) (before after : Draft) : Type 0 where
+  pub lines : List Line
+  pub outputs : List Output
+  pub told : List Told
+  pub walked : IsWalked i o input configs gives old new before.books after.books lines
+  pub writes : HasOutputs (path_of input) input.bytes.items lines outputs
+  pub warned : HasWarnings i input.bytes.items told
+  pub rows_are : map line_of after.rows.items ≡ map line_of before.rows.items ++ lines
+  pub outputs_are : after.outputs.items ≡ before.outputs.items ++ outputs
+  pub told_are : map warning_view after.warnings.items ≡ map warning_view before.warnings.items ++ told
+
+-- the documents of the inputs are given, or none are (own)
+abbrev pub AreGiven : List Input → List Shown → Type 0
+AreGiven inputs documents =
+    (documents ≡ []) ⊎ (map (λ d. d.bytes) documents ≡ map (λ input. input.bytes.items) inputs)

@@ -1,0 +1,26 @@
+-- The entries that were found, as the program has them.
+use Rattle.std.specs.Prelude.{option_map, string_bytes}
+use Rattle.edit_document.specs.Items.{place_seen}
+use Rattle.edit_entries.specs.EntryViews.{literal_by}
+use Rattle.edit_upgrade.specs.Records as entry
+use Rattle.edit_upgrade.specs.Records.{Seen, at_folder, at_registry, at_repository}
+use Rattle.edit_upgrade.specs.declared.seen.Entry.{Entry}
+use Rattle.edit_upgrade.specs.declared.seen.Source.{Source}
+use Rattle.edit_upgrade.specs.declared.seen.Source.TheVariants.{Git, Path, Registry}
+
+-- where the crate of an entry comes from, by its texts (own)
+abbrev pub source_view : Source → entry.Source
+source_view (Registry named) = at_registry (option_map string_bytes named)
+source_view Git = at_repository
+source_view Path = at_folder
+
+-- what an entry says, by its texts (own)
+abbrev pub seen_of : Entry → Seen
+seen_of e = record {
+  name = string_bytes e.name;
+  rename = option_map string_bytes e.rename;
+  place = place_seen e.place.items;
+  literal = literal_by e.bare (place_seen e.place.items);
+  source = source_view e.source;
+  old = option_map string_bytes e.old;
+}

@@ -1,0 +1,86 @@
+-- What holds of every plan: what a change leaves of a requirement, which version it reaches, and that
+-- planning again changes nothing.
+use Rattle.std.specs.Prelude.{◌≡◌, ◌↔◌, ℕ, List, [], ◌∷◌, All, Option, Some, None, Ok, IsOk, IsSome, IsTrue, length}
+use Rattle.std.specs.Ordering.{is_ge}
+use Rattle.semver.specs.Parse.{Parts, req_of, version_parts}
+use Rattle.edit_version.specs.Laws.{Admits, precedence}
+use Rattle.edit_sources.specs.declared.config.Config.{Config}
+use Rattle.edit_upgrade.specs.Inputs.{Setting, outputs_at, path_of}
+use Rattle.edit_upgrade.specs.Outputs.{HasOutputs}
+use Rattle.edit_upgrade.specs.Rows.{Line}
+use Rattle.edit_upgrade.specs.Upgraded.{HasRows, IsNeededBy}
+use Rattle.edit_report.specs.declared.row.Change.TheVariants as change
+use Rattle.edit_metadata.specs.declared.input.Input.{Input}
+use Rattle.edit_report.specs.declared.output.Output.{Output}
+use Rattle.edit_upgrade.specs.declared.upgrade.UpgradePlan.{UpgradePlan}
+
+-- a requirement that `semver` reads is told
+abbrev pub IsRead : Option (List ℕ) → Type 0
+IsRead None = ⊥
+IsRead (Some text) = IsOk (req_of text)
+
+-- a requirement is told that admits the version
+abbrev pub IsAdmittedBy : Option (List ℕ) → Parts → Type 0
+IsAdmittedBy None v = ⊥
+IsAdmittedBy (Some text) v = Admits text v
+
+-- the text of this version is told
+abbrev pub IsVersionTold : Option (List ℕ) → Parts → Type 0
+IsVersionTold None v = ⊥
+IsVersionTold (Some text) v = version_parts text ≡ Ok v
+
+-- where the change is Compatible, the new requirement is read, and every version that it admits the old one
+-- admitted (own)
+abbrev pub Narrows : Line → Type 0
+Narrows line = line.change ≡ Some change.Compatible → IsRead line.new
+    × ((v : Parts) → IsAdmittedBy line.new v → IsAdmittedBy line.old v)
+
+-- where the change is Compatible, the new requirement admits the compatible version; where it is Latest, it
+-- admits the latest one, if that has no pre-release (own)
+pub record Reaches (line : Line) : Type 0 where
+  pub compatible : line.change ≡ Some change.Compatible → (v : Parts) × IsVersionTold line.compatible v
+      × IsAdmittedBy line.new v
+  pub latest : line.change ≡ Some change.Latest → (v : Parts) × IsVersionTold line.latest v
+      × (length v.3 ≡ 0 → IsAdmittedBy line.new v)
+
+-- where a compatible version is told, a latest one is told, and is not less (SemVer 2.0.0, item 11)
+abbrev pub LatestIsNotLess : Line → Type 0
+LatestIsNotLess line = IsSome line.compatible
+    → (u : Parts) × (v : Parts) × IsVersionTold line.compatible u × IsVersionTold line.latest v
+    × IsTrue (is_ge (precedence v u))
+
+-- a row without a change
+abbrev pub HasNoChange : Line → Type 0
+HasNoChange line = line.change ≡ None
+
+-- the bytes that stand after a plan for a manifest: those of its output, or its own where there is none
+-- (own)
+abbrev pub bytes_after : List ℕ → List Output → List ℕ
+bytes_after bytes [] = bytes
+bytes_after bytes (output ∷ more) = output.bytes.items
+
+-- planned in this setting the bytes stay: they have rows, and whatever rows they have, none of them has a
+-- change and there is no output (own)
+pub record IsFixedPoint (s : Setting) (bytes : List ℕ) : Type 0 where
+  pub lines : List Line
+  pub rows : HasRows s bytes lines
+  pub unchanged : (again : List Line) → HasRows s bytes again → All HasNoChange again
+  pub unwritten : (path : List ℕ) (again : List Line) (outputs : List Output) → HasRows s bytes again
+      → HasOutputs path bytes again outputs → outputs ≡ []
+
+-- two manifests need looks at the same addresses for the same names (own)
+abbrev pub NeedSame : List Config → List ℕ → List ℕ → Type 0
+NeedSame configs bytes other = (address name : List ℕ) → IsNeededBy configs other address name
+    ↔ IsNeededBy configs bytes address name
+
+-- the bytes of an input that stand after the plan
+abbrev pub left_of : Input → UpgradePlan → List ℕ
+left_of input p = bytes_after input.bytes.items (outputs_at (path_of input) p)
+
+-- what the plan leaves of an input stays, planned again over the same looks
+abbrev pub IsSettled : Setting → Input → UpgradePlan → Type 0
+IsSettled s input p = IsFixedPoint s (left_of input p)
+
+-- what the plan leaves of an input needs the same looks
+abbrev pub NeedsAsBefore : Setting → Input → UpgradePlan → Type 0
+NeedsAsBefore s input p = NeedSame s.configs input.bytes.items (left_of input p)

@@ -1,0 +1,116 @@
+-- What a plan tells besides its rows.
+use Rattle.std.specs.Prelude.{◌≡◌, [], map, ℕ, List, ◌++◌, codes, Bool, true, false, if◌then◌else◌, Option, Some, None, String, is_ok, option_and_then, option_map, string_bytes, string_cmp}
+use Rattle.std.specs.List.{AllZip, filter_map, list_any}
+use Rattle.std.specs.List.Sorted.{IsStrictlySortedBy}
+use Rattle.std.specs.Str.{bytes_eq}
+use Rattle.std.specs.declared.alloc.Global.{Global}
+use Rattle.semver.specs.Parse.{req_of}
+use Rattle.edit_record.specs.EntryRecords.{EntryRecord}
+use Rattle.edit_entries.specs.Entries.{Entry}
+use Rattle.edit_upgrade.specs.Decision.{when}
+use Rattle.edit_upgrade.specs.Lines.{line_of}
+use Rattle.edit_upgrade.specs.Records.{Source, source_of, version_of}
+use Rattle.edit_upgrade.specs.Rows.{Line}
+use Rattle.edit_report.specs.declared.row.Reason.{Reason}
+use Rattle.edit_report.specs.declared.row.Reason.TheVariants as reason
+use Rattle.edit_upgrade.specs.declared.upgrade.Warning.{Warning}
+use Rattle.edit_upgrade.specs.declared.upgrade.UpgradePlan.{UpgradePlan}
+
+-- the row's entry was not raised because it is pinned
+abbrev pub is_held_pinned : Option Reason → Bool
+is_held_pinned (Some reason.Pinned) = true
+is_held_pinned other = false
+
+-- the row's entry was not raised because it does not admit the version
+abbrev pub is_held_incompatible : Option Reason → Bool
+is_held_incompatible (Some reason.Incompatible) = true
+is_held_incompatible other = false
+
+-- the name of a row, where it has a change
+abbrev pub changed_name : Line → Option (List ℕ)
+changed_name line = option_map (λ kind. line.name) line.change
+
+-- the names of the rows with a change, in the order of the rows
+abbrev pub changed_names : List Line → List (List ℕ)
+changed_names lines = filter_map changed_name lines
+
+-- what a warning tells
+pub record Told : Type 0 where
+  pub input : ℕ
+  pub verbose : Bool
+  pub text : List ℕ
+
+-- what a warning tells, by its text
+abbrev pub warning_view : Warning → Told
+warning_view w = record { input = w.input; verbose = w.verbose; text = string_bytes w.text }
+
+-- a warning on an input
+abbrev pub warned : ℕ → Bool → List ℕ → Told
+warned i verbose text = record { input = i; verbose = verbose; text = text }
+
+-- what is told of an entry of this key that has no record, with the refusal's text
+abbrev pub ignored_text : List ℕ → List ℕ → List ℕ
+ignored_text name text = codes "ignoring " ++ (name ++ (codes ", unsupported entry: " ++ text))
+
+-- what is told of an entry of this key that takes all from its workspace
+abbrev pub workspace_text : List ℕ → List ℕ
+workspace_text name = codes "ignoring " ++ (name ++ codes ", source is workspace")
+
+-- what is told of an entry of this key whose requirement is not read
+abbrev pub unreadable_text : List ℕ → List ℕ → List ℕ
+unreadable_text name old =
+    codes "keeping " ++ (name ++ (codes ", unreadable requirement `" ++ (old ++ codes "`")))
+
+-- a requirement, where it is not read
+abbrev pub unread : List ℕ → Option (List ℕ)
+unread old = if is_ok (req_of old) then None else Some old
+
+-- the warning on an entry of this key with this source and requirement: that its workspace has the source,
+-- which only a verbose report tells, or that its requirement is not read
+abbrev pub warning_by : ℕ → List ℕ → Option Source → Option (List ℕ) → Option Told
+warning_by i name None version = Some (warned i true (workspace_text name))
+warning_by i name (Some source) version =
+    option_map (λ old. warned i false (unreadable_text name old)) (option_and_then unread version)
+
+-- the warning on an entry: where it has no record, one that tells why
+abbrev pub IsWarningBy : ℕ → List ℕ → Option EntryRecord → Option Told → Type 0
+IsWarningBy i name None told = (text : List ℕ) × (told ≡ Some (warned i false (ignored_text name text)))
+IsWarningBy i name (Some r) told = told ≡ warning_by i name (source_of r) (version_of r)
+
+-- the same of an entry
+abbrev pub IsWarningOn : ℕ → Entry → Option Told → Type 0
+IsWarningOn i e told = IsWarningBy i e.name e.said told
+
+-- the warnings on entries, one on each or none, in their order
+pub record AreWarnings (i : ℕ) (es : List Entry) (ts : List Told) : Type 0 where
+  pub each : List (Option Told)
+  pub on : AllZip (IsWarningOn i) es each
+  pub all : ts ≡ filter_map (λ told. told) each
+
+-- the row's entry is one of a repository, without a requirement
+abbrev pub is_git : Option Reason → Bool
+is_git (Some reason.GitSource) = true
+is_git other = false
+
+-- the name of a row of a repository that has no requirement
+abbrev pub git_name : Line → Option (List ℕ)
+git_name line = when (is_git line.reason) (Some line.name)
+
+-- the names of those rows, in the order of the rows
+abbrev pub git_names : List Line → List (List ℕ)
+git_names lines = filter_map git_name lines
+
+-- these names, each once in byte order
+pub record AreNames (names : List (List ℕ)) (told : List (String Global)) : Type 0 where
+  pub ordered : IsStrictlySortedBy string_cmp told
+  pub each : (name : List ℕ) → list_any (bytes_eq name) (map string_bytes told)
+      ≡ list_any (bytes_eq name) names
+
+-- what a plan tells of its rows: the names of those with a change, and of those of a repository without a
+-- requirement; whether an entry was held back for being pinned, or for not admitting the version (own)
+pub record Tells (p : UpgradePlan) : Type 0 where
+  pub modified : AreNames (changed_names (map line_of p.rows.items)) p.modified.items
+  pub git_crates : AreNames (git_names (map line_of p.rows.items)) p.git_crates.items
+  pub missing : p.missing.items ≡ []
+  pub pinned : p.pinned_present ≡ list_any (λ r. is_held_pinned r.reason) p.rows.items
+  pub incompatible : p.incompatible_present ≡ list_any (λ r. is_held_incompatible r.reason) p.rows.items

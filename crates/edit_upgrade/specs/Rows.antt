@@ -1,0 +1,152 @@
+-- The rows of a manifest's seen entries, and what is written of them.
+use Rattle.std.specs.Prelude.{◌≡◌, ℕ, List, [], ◌∷◌, Bool, true, false, Option, Some, None, is_some, option_map}
+use Rattle.std.specs.List.{AllZip}
+use Rattle.edit_tree.specs.Assertions.{Place}
+use Rattle.semver.specs.Parse.{Parts}
+use Rattle.url.specs.Parts as url
+use Rattle.url.specs.Parts.{serialize}
+use Rattle.edit_version.specs.Requirement.{plain_text}
+use Rattle.edit_version.specs.Selection.{IsCompatible, IsLatest}
+use Rattle.edit_sources.specs.Configured.{HasAddress}
+use Rattle.edit_sources.specs.declared.config.Config.{Config}
+use Rattle.edit_upgrade.specs.Decision.{Case, Choice, decision, newer, or_else, when}
+use Rattle.edit_upgrade.specs.Records.{Seen, Source, at_folder, at_registry, at_repository}
+use Rattle.edit_report.specs.declared.row.Change.{Change}
+use Rattle.edit_upgrade.specs.declared.upgrade.Options.{Options}
+use Rattle.edit_report.specs.declared.row.Reason.{Reason}
+use Rattle.edit_report.specs.declared.row.Reason.TheVariants as reason
+
+-- what rows are decided by: which input they are of, the options, the configurations, and the versions that
+-- may be taken, by address and name (own)
+pub record Basis : Type 0 where
+  pub input : ℕ
+  pub options : Options
+  pub configs : List Config
+  pub versions : List ℕ → List ℕ → List Parts
+
+-- what a row tells
+pub record Line : Type 0 where
+  pub input : ℕ
+  pub name : List ℕ
+  pub place : Place
+  pub rename : Option (List ℕ)
+  pub old : Option (List ℕ)
+  pub compatible : Option (List ℕ)
+  pub latest : Option (List ℕ)
+  pub new : Option (List ℕ)
+  pub reason : Option Reason
+  pub change : Option Change
+
+-- what is decided of an entry with this requirement, where words and excluded names play no part
+abbrev pub case_for : Seen → List ℕ → Option Parts → Option Parts → Case
+case_for e old near far = record {
+  excluded = false;
+  renamed = is_some e.rename;
+  selected = None;
+  old = old;
+  compatible = near;
+  latest = far;
+}
+
+-- the row of an entry: its latest version is the newer one, where there is one, else the compatible one
+abbrev pub line_for : ℕ → Seen → List ℕ → Option Parts → Option Parts → Choice → Line
+line_for i e old near far choice = record {
+  input = i;
+  name = e.name;
+  place = e.place;
+  rename = e.rename;
+  old = Some old;
+  compatible = option_map plain_text near;
+  latest = option_map plain_text (or_else (newer far near) near);
+  new = Some choice.new;
+  reason = choice.reason;
+  change = choice.change;
+}
+
+-- the row is what the decision gives over the greatest of the versions
+pub record IsDecided (input : ℕ) (options : Options) (versions : List Parts) (e : Seen) (old : List ℕ)
+    (line : Line) : Type 0 where
+  pub near : Option Parts
+  pub far : Option Parts
+  pub compatible : IsCompatible old versions near
+  pub latest : IsLatest old versions far
+  pub is : line ≡ line_for input e old near far (decision options (case_for e old near far))
+
+-- why an entry without a requirement stays as it is
+abbrev pub dash_reason : Source → Reason
+dash_reason at_folder = reason.PathSource
+dash_reason at_repository = reason.GitSource
+dash_reason (at_registry named) = reason.GitSource
+
+-- the row of an entry without a requirement: dashes, and a reason
+abbrev pub dashes : ℕ → Seen → Line
+dashes i e = record {
+  input = i;
+  name = e.name;
+  place = e.place;
+  rename = e.rename;
+  old = None;
+  compatible = None;
+  latest = None;
+  new = None;
+  reason = Some (dash_reason e.source);
+  change = None;
+}
+
+-- the row of an entry with this requirement or none, over versions
+abbrev pub IsRowOver : ℕ → Options → List Parts → Seen → Option (List ℕ) → Line → Type 0
+IsRowOver i o versions e None line = line ≡ dashes i e
+IsRowOver i o versions e (Some old) line = IsDecided i o versions e old line
+
+-- the look that an entry needs: at the address of its registry, for its name
+pub record Needs (configs : List Config) (e : Seen) (address : url.Parts) (name : List ℕ) : Type 0 where
+  pub named : Option (List ℕ)
+  pub source : e.source ≡ at_registry named
+  pub has : HasAddress configs named address
+  pub crate_name : e.name ≡ name
+
+-- an entry of a repository or a folder
+abbrev pub is_elsewhere : Source → Bool
+is_elsewhere (at_registry named) = false
+is_elsewhere at_repository = true
+is_elsewhere at_folder = true
+
+-- the versions that may be taken for an entry: those that are told of its name at the address of its
+-- registry; none for an entry of a repository or a folder
+pub data AreVersionsFor (s : Basis) (e : Seen) (versions : List Parts) : Type 0 where
+  told_there : (address : url.Parts) → Needs s.configs e address e.name
+      → versions ≡ s.versions (serialize address) e.name → AreVersionsFor s e versions
+  elsewhere : is_elsewhere e.source ≡ true → versions ≡ [] → AreVersionsFor s e versions
+
+-- the row of an entry, over the versions that may be taken for it
+pub record IsRowBy (s : Basis) (e : Seen) (line : Line) : Type 0 where
+  pub versions : List Parts
+  pub offered : AreVersionsFor s e versions
+  pub decided : IsRowOver s.input s.options versions e e.old line
+
+-- one row for each entry, in order
+abbrev pub AreDecided : Basis → List Seen → List Line → Type 0
+AreDecided s es lines = AllZip (IsRowBy s) es lines
+
+-- what a row writes at a place: its new text, where it has a change
+abbrev pub write_at : Place → Line → Option (Place × List ℕ)
+write_at literal line = write_of line.change line.new
+  where
+    write_of : Option Change → Option (List ℕ) → Option (Place × List ℕ)
+    write_of (Some kind) (Some text) = Some (literal, text)
+    write_of kind text = None
+
+-- what a row writes at the version literal of its entry; an entry without a requirement has none
+abbrev pub write_on : Seen → Line → Option (Place × List ℕ)
+write_on e line = when (is_some e.old) (write_at e.literal line)
+
+-- one more write, where there is one
+abbrev pub with_write : Option (Place × List ℕ) → List (Place × List ℕ) → List (Place × List ℕ)
+with_write None ws = ws
+with_write (Some w) ws = w ∷ ws
+
+-- the new texts of the rows with a change, each at the version literal of its entry
+abbrev pub writes : List Seen → List Line → List (Place × List ℕ)
+writes [] lines = []
+writes (e ∷ es) [] = []
+writes (e ∷ es) (line ∷ lines) = with_write (write_on e line) (writes es lines)

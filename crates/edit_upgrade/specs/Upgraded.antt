@@ -1,0 +1,89 @@
+-- What a plan gives for a manifest: its rows, and the looks that they rest on.
+use Rattle.std.specs.Prelude.{◌≡◌, ◌==◌, ℕ, List, [], Some, Contains, filter, map, slice_get}
+use Rattle.std.specs.Global.{Vec}
+use Rattle.std.specs.List.{AllZip}
+use Rattle.edit_syntax.specs.Grammar.{Text}
+use Rattle.edit_tree.specs.Supported.{IsManifest}
+use Rattle.edit_tree.specs.Tree.{view_at}
+use Rattle.edit_entries.specs.Entries.{entries}
+use Rattle.edit_sources.specs.declared.config.Config.{Config}
+use Rattle.url.specs.Parts as url
+use Rattle.url.specs.Parts.{serialize}
+use Rattle.edit_upgrade.specs.Inputs.{Setting, path_of, outputs_at, rows_of}
+use Rattle.edit_upgrade.specs.Lists.{AreWarnings, Told, warning_view}
+use Rattle.edit_upgrade.specs.Looks.{told}
+use Rattle.edit_upgrade.specs.Outputs.{HasOutputs}
+use Rattle.edit_upgrade.specs.Records.{Seen, seen}
+use Rattle.edit_upgrade.specs.Rows.{Basis, IsRowBy, Line, Needs}
+use Rattle.edit_metadata.specs.declared.input.Input.{Input}
+use Rattle.edit_upgrade.specs.declared.upgrade.UpgradePlan.{UpgradePlan}
+
+-- what the rows of an input are decided by: the versions are those that the looks tell of
+abbrev pub basis_of : Setting → Basis
+basis_of s = record {
+  input = s.input;
+  options = s.options;
+  configs = s.configs;
+  versions = told s.rust s.looks;
+}
+
+-- the row of an entry, over the versions that the looks tell of
+abbrev pub IsRow : Setting → Seen → Line → Type 0
+IsRow s e line = IsRowBy (basis_of s) e line
+
+-- the bytes are a manifest, and these are the rows of its seen entries
+pub record HasRows (s : Setting) (bytes : List ℕ) (lines : List Line) : Type 0 where
+  pub form : Text
+  pub manifest : IsManifest bytes form
+  pub decided : AllZip (IsRow s) (seen (view_at form)) lines
+
+-- the entry needs this look
+pub record IsNeededFor (configs : List Config) (e : Seen) (address name : List ℕ) : Type 0 where
+  pub registry : url.Parts
+  pub needs : Needs configs e registry name
+  pub at : address ≡ serialize registry
+
+-- one of the entries needs this look
+pub record IsNeededIn (configs : List Config) (es : List Seen) (address name : List ℕ) : Type 0 where
+  pub entry : Seen
+  pub among : Contains es entry
+  pub needs : IsNeededFor configs entry address name
+
+-- a seen entry of the manifest needs this look
+pub record IsNeededBy (configs : List Config) (bytes address name : List ℕ) : Type 0 where
+  pub form : Text
+  pub manifest : IsManifest bytes form
+  pub needed : IsNeededIn configs (seen (view_at form)) address name
+
+-- one of the inputs needs this look
+pub record IsNeeded (inputs : List Input) (configs : List (Vec Config))
+    (address name : List ℕ) : Type 0 where
+  pub i : ℕ
+  pub input : Input
+  pub own : Vec Config
+  pub at : slice_get inputs i ≡ Some input
+  pub configured : slice_get configs i ≡ Some own
+  pub needed : IsNeededBy own.items input.bytes.items address name
+
+-- the rows of an input are those of its manifest
+abbrev pub HasItsRows : Setting → Input → UpgradePlan → Type 0
+HasItsRows s input p = HasRows s input.bytes.items (rows_of s.input p)
+
+-- the outputs of an input are what its rows write
+abbrev pub HasItsOutputs : Setting → Input → UpgradePlan → Type 0
+HasItsOutputs s input p =
+    HasOutputs (path_of input) input.bytes.items (rows_of s.input p) (outputs_at (path_of input) p)
+
+-- the warnings of an input
+abbrev pub warnings_of : ℕ → UpgradePlan → List Told
+warnings_of i p = filter (λ told. told.input == i) (map warning_view p.warnings.items)
+
+-- the bytes are a manifest, and these are the warnings on its entries
+pub record HasWarnings (input : ℕ) (bytes : List ℕ) (told : List Told) : Type 0 where
+  pub form : Text
+  pub manifest : IsManifest bytes form
+  pub are : AreWarnings input (entries (view_at form) []) told
+
+-- the warnings of an input are those on the entries of its manifest
+abbrev pub HasItsWarnings : Setting → Input → UpgradePlan → Type 0
+HasItsWarnings s input p = HasWarnings s.input input.bytes.items (warnings_of s.input p)

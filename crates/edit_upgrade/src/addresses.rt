@@ -1,0 +1,80 @@
+//! The addresses of the registries that the entries of an input name.
+ghost use Rattle.std.specs.Prelude.{◌≡◌, ◌⊎◌, ℕ, List, Option, Some, None, if◌then◌else◌, IfErr, IsSome, OnOk, option_copied};
+ghost use Rattle.edit_base.specs.Errors.{IsMemory};
+ghost use Rattle.edit_sources.specs.Configured.{HasNoUrl, given};
+ghost use Rattle.edit_upgrade.specs.Addresses.{AreAddresses, is_named, url_at};
+
+use edit_base::CargoResult;
+use edit_sources::Config;
+use edit_sources::registry::resolve;
+use std::alloc::Global;
+use std::collections::BTreeMap;
+use url::Url;
+
+/// The addresses of the registries that were resolved: of the default one, and of others by their names.
+#[derive(Drop)]
+pub(crate) struct Addresses {
+    default: Option<Url>,
+    named: BTreeMap<String, Url>,
+}
+
+impl Addresses {
+    /// None yet.
+    pub(crate) fn new(alloc: Global) -> Addresses
+        ensures { (named : Option (List ℕ)) → url_at result named ≡ None }
+    {
+        Addresses {
+            default: None,
+            named: BTreeMap::new(alloc),
+        }
+    }
+
+    /// The address of a registry, where it was resolved.
+    pub(crate) fn url(&self, registry: Option<&str>) -> Option<&Url>
+        ensures { option_copied result ≡ url_at self.now (given registry.entry) }
+    {
+        match registry {
+            Some(name) => self.named.get(name),
+            None => self.default.as_ref(),
+        }
+    }
+
+    /// Keeps the address of a registry.
+    fn keep(&mut self, alloc: Global, registry: Option<&str>, url: Url) -> CargoResult<()>
+        ensures kept { OnOk result ((named : Option (List ℕ)) → url_at self.new named
+            ≡ (if is_named (given registry.entry) named then Some url else url_at self.old named)) }
+        ensures refused { IfErr result IsMemory }
+    {
+        match registry {
+            Some(name) => {
+                let name = String::from_str(alloc, name)?;
+                self.named.insert(name, url)?;
+                Ok(())
+            }
+            None => {
+                self.default = Some(url);
+                Ok(())
+            }
+        }
+    }
+
+    /// Sees to it that the address of a registry is resolved, once.
+    pub(crate) fn see(
+        &mut self,
+        alloc: Global,
+        configs: &[Config],
+        registry: Option<&str>,
+    ) -> CargoResult<()>
+        requires { AreAddresses configs.now self.old }
+        ensures there { OnOk result (IsSome (url_at self.new (given registry.entry))) }
+        ensures are { OnOk result (AreAddresses configs.now self.new) }
+        ensures refused { IfErr result
+            (λ e. IsMemory e ⊎ HasNoUrl configs.now (given registry.entry) e) }
+    {
+        if self.url(registry).is_some() {
+            return Ok(());
+        }
+        let url = resolve(alloc, configs, registry)?;
+        self.keep(alloc, registry, url)
+    }
+}

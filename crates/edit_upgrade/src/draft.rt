@@ -1,0 +1,198 @@
+//! What is planned of inputs, one after another.
+ghost use Rattle.std.specs.Prelude.{◌≡◌, ◌≢◌, ◌++◌, ◌⊎◌, [], List, ℕ, IfErr, IfOk, MatchOption, OnOk, false, map, string_bytes};
+ghost use Rattle.edit_base.specs.Errors.{IsMemory};
+ghost use Rattle.edit_report.specs.declared.output.Output.{Output};
+ghost use Rattle.edit_sources.specs.IndexCache.{index_of};
+ghost use Rattle.edit_upgrade.specs.Causes.{HasBadEntry};
+ghost use Rattle.edit_upgrade.specs.Drafts.{AddsInput};
+ghost use Rattle.edit_upgrade.specs.Lines.{line_of};
+ghost use Rattle.edit_upgrade.specs.Lists.{Tells, warning_view};
+ghost use Rattle.edit_upgrade.specs.Looked.{AreKept, Leaves};
+ghost use Rattle.edit_upgrade.specs.Looks.{kept_by};
+ghost use Rattle.edit_upgrade.specs.Outputs.{HasOutputs, IsOnlyOutput};
+ghost use Rattle.edit_upgrade.specs.PairSets.{holds_pair};
+ghost use Rattle.edit_upgrade.specs.PlannedView.{IsShown};
+ghost use Rattle.edit_upgrade.specs.Upgraded.{IsNeededBy};
+
+use crate::lists::{git_crates, has_incompatible, has_pinned, modified_names};
+use crate::looks::Pairs;
+use crate::planned::{Planned, plan_input};
+use crate::upgrade::{Options, UpgradePlan, Warning};
+use crate::walk::Books;
+use crate::writes::written;
+use edit_base::CargoResult;
+use edit_document::Document;
+use edit_metadata::Input;
+use edit_report::{Output, Row};
+use edit_sources::{Config, Index, IndexCache};
+use std::alloc::Global;
+
+/// What is planned of inputs so far.
+#[derive(Drop)]
+pub(crate) struct Draft {
+    pub(crate) books: Books,
+    pub(crate) outputs: Vec<Output>,
+    pub(crate) rows: Vec<Row>,
+    pub(crate) warnings: Vec<Warning>,
+}
+
+impl Draft {
+    /// Nothing yet.
+    pub(crate) fn new(alloc: Global) -> Draft
+        ensures looks { result.books.looks.items ≡ [] }
+        ensures pairs { (address name : List ℕ) → holds_pair result.books.pairs address name ≡ false }
+        ensures outputs { result.outputs.items ≡ [] }
+        ensures rows { result.rows.items ≡ [] }
+        ensures warnings { result.warnings.items ≡ [] }
+    {
+        let books = Books {
+            pairs: Pairs::new(alloc),
+            looks: Vec::new(alloc),
+        };
+        Draft {
+            books,
+            outputs: Vec::new(alloc),
+            rows: Vec::new(alloc),
+            warnings: Vec::new(alloc),
+        }
+    }
+}
+
+/// Adds items behind those of a list.
+fn push_all<T: Drop>(list: &mut Vec<T>, own: Vec<T>) -> CargoResult<()>
+    ensures ok { OnOk result (list.new.items ≡ list.old.items ++ own.items) }
+    ensures refused { IfErr result IsMemory }
+{
+    'own: for item in own {
+        list.push(item)?;
+    }
+    Ok(())
+}
+
+/// The output at a path, where there is a new text.
+fn outputs_of(alloc: Global, path: &str, text: Option<String>) -> CargoResult<Vec<Output>>
+    ensures ok { IfOk result (λ v. MatchOption text (v.items ≡ [])
+        (λ s. IsOnlyOutput path.now (string_bytes s) v.items)) }
+    ensures refused { IfErr result IsMemory }
+{
+    let mut outputs = Vec::new(alloc);
+    match text {
+        Some(text) => {
+            let path = String::from_str(alloc, path)?;
+            outputs.push(Output {
+                path,
+                bytes: text.into_bytes(),
+            })?;
+            Ok(outputs)
+        }
+        None => Ok(outputs),
+    }
+}
+
+/// Adds the rows of a manifest, with what they write and the warnings.
+fn add_planned(
+    alloc: Global,
+    input: &Input,
+    document: &Document,
+    planned: Planned,
+    draft: &mut Draft,
+) -> CargoResult<()>
+    requires { IsShown input.now.bytes.items document.now planned }
+    ensures books { draft.new.books ≡ draft.old.books }
+    ensures rows { OnOk result (draft.new.rows.items ≡ draft.old.rows.items ++ planned.rows.items) }
+    ensures warnings { OnOk result
+        (draft.new.warnings.items ≡ draft.old.warnings.items ++ planned.warnings.items) }
+    ensures outputs { OnOk result ((own : List Output)
+        × (draft.new.outputs.items ≡ draft.old.outputs.items ++ own)
+        × HasOutputs (string_bytes input.now.path) input.now.bytes.items (map line_of planned.rows.items)
+        own) }
+    ensures refused { IfErr result IsMemory }
+{
+    let text = written(alloc, document, &planned.entries, &planned.rows)?;
+    let outputs = outputs_of(alloc, input.path.as_str(), text)?;
+    push_all(&mut draft.outputs, outputs)?;
+    push_all(&mut draft.rows, planned.rows)?;
+    push_all(&mut draft.warnings, planned.warnings)?;
+    Ok(())
+}
+
+/// Plans one more input, whose manifest was read.
+pub(crate) fn add_input<I: Index>(
+    alloc: Global,
+    number: usize,
+    options: &Options,
+    input: &Input,
+    document: &Document,
+    configs: &[Config],
+    draft: &mut Draft,
+    index: &mut IndexCache<I>,
+) -> CargoResult<()>
+    requires document { document.now.bytes ≡ input.now.bytes.items }
+    requires kept { AreKept (holds_pair draft.old.books.pairs) (kept_by index.old) }
+    ensures kept { OnOk result (AreKept (holds_pair draft.new.books.pairs) (kept_by index.new)) }
+    ensures adds { OnOk result (AddsInput number options.now input.now configs.now
+        (I.view (index_of index.old)).gives (kept_by index.old) (kept_by index.new) draft.old draft.new) }
+    ensures left { Leaves (IsNeededBy configs.now input.now.bytes.items) (I.view (index_of index.old)).gives
+        (I.view (index_of index.new)).gives (I.view (index_of index.old)).faults
+        (I.view (index_of index.new)).faults (kept_by index.old) (kept_by index.new) }
+    ensures refused { IfErr result (λ e. IsMemory e
+        ⊎ HasBadEntry configs.now (I.view (index_of index.old)).gives
+        (kept_by index.old) (kept_by index.new)
+        (I.view (index_of index.old)).faults (I.view (index_of index.new)).faults input.now.bytes.items e) }
+{
+    let books = &mut draft.books;
+    let planned = plan_input(
+        alloc, number, options, input, document, configs, books, index,
+    )?;
+    add_planned(alloc, input, document, planned, draft)?;
+    Ok(())
+}
+
+/// The plan that a draft without rows has.
+fn rowless(alloc: Global, draft: Draft) -> UpgradePlan
+    requires { draft.rows.items ≡ [] }
+    ensures rows { (result.rows ≡ draft.rows) × (result.looks ≡ draft.books.looks) }
+    ensures outputs { (result.outputs ≡ draft.outputs) × (result.warnings ≡ draft.warnings) }
+    ensures lists { Tells result }
+{
+    let books = draft.books;
+    UpgradePlan {
+        outputs: draft.outputs,
+        rows: draft.rows,
+        looks: books.looks,
+        warnings: draft.warnings,
+        missing: Vec::new(alloc),
+        modified: Vec::new(alloc),
+        git_crates: Vec::new(alloc),
+        pinned_present: false,
+        incompatible_present: false,
+    }
+}
+
+/// The plan that a draft has, with what is told of its rows.
+pub(crate) fn finished(alloc: Global, draft: Draft) -> CargoResult<UpgradePlan>
+    ensures rows { IfOk result (λ p. (p.rows ≡ draft.rows) × (p.looks ≡ draft.books.looks)) }
+    ensures outputs { IfOk result (λ p. (p.outputs ≡ draft.outputs) × (p.warnings ≡ draft.warnings)) }
+    ensures lists { IfOk result Tells }
+    ensures refused { IfErr result (λ e. IsMemory e × (draft.rows.items ≢ [])) }
+{
+    if draft.rows.is_empty() {
+        return Ok(rowless(alloc, draft));
+    }
+    let modified = modified_names(alloc, &draft.rows)?;
+    let git_crates = git_crates(alloc, &draft.rows)?;
+    let pinned_present = has_pinned(&draft.rows);
+    let incompatible_present = has_incompatible(&draft.rows);
+    let books = draft.books;
+    Ok(UpgradePlan {
+        outputs: draft.outputs,
+        rows: draft.rows,
+        looks: books.looks,
+        warnings: draft.warnings,
+        missing: Vec::new(alloc),
+        modified,
+        git_crates,
+        pinned_present,
+        incompatible_present,
+    })
+}

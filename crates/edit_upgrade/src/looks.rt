@@ -1,0 +1,154 @@
+//! The looks of a plan.
+ghost use Rattle.std.specs.Prelude.{◌≡◌, ◌⊎◌, ◌&&◌, if◌then◌else◌, ℕ, List, Some, None, Ok, true, false, IfErr, IfOk, IfSome, IsSome, OnOk, option_copied, string_bytes};
+ghost use Rattle.std.specs.Str.{bytes_eq};
+ghost use Rattle.edit_base.specs.Errors.{IsMemory};
+ghost use Rattle.edit_sources.specs.Index.{answer_of};
+ghost use Rattle.edit_sources.specs.IndexCache.{index_of};
+ghost use Rattle.url.specs.Parts.{serialize};
+ghost use Rattle.edit_upgrade.specs.Looked.{IsAt, IsLook, IsRefusedAt, IsStep, Leaves};
+ghost use Rattle.edit_upgrade.specs.Looks.{kept_by};
+ghost use Rattle.edit_upgrade.specs.PairSets.{holds_pair};
+
+use crate::names::{Names, add_name};
+use crate::upgrade::Look;
+use edit_base::CargoResult;
+use edit_sources::cache::IndexCache;
+use edit_sources::index::{Index, IndexKrate};
+use std::alloc::Global;
+use std::collections::BTreeMap;
+use url::Url;
+
+/// Pairs of address and name, each once.
+pub(crate) type Pairs = BTreeMap<String, Names>;
+
+/// The same answer, on memory of its own.
+fn copied_answer(alloc: Global, answer: Option<&IndexKrate>) -> CargoResult<Option<IndexKrate>>
+    ensures ok { IfOk result (λ o. answer_of o ≡ answer_of (option_copied answer.entry)) }
+    ensures refused { IfErr result IsMemory }
+{
+    match answer {
+        Some(krate) => {
+            let copy = krate.try_clone(alloc)?;
+            Ok(Some(copy))
+        }
+        None => Ok(None),
+    }
+}
+
+/// Sees to it that an answer is kept.
+fn fetch_one<I: Index>(
+    alloc: Global,
+    registry: &Url,
+    name: &str,
+    index: &mut IndexCache<I>,
+) -> CargoResult<()>
+    ensures kept { OnOk result (IsSome (kept_by index.new (serialize registry.now) name.now)) }
+    ensures given { OnOk result (IfSome (kept_by index.new (serialize registry.now) name.now)
+        (λ a. (kept_by index.old (serialize registry.now) name.now ≡ Some a)
+        ⊎ (I.view (index_of index.old)).gives registry.now name.now (Ok a))) }
+    ensures others { (a n : List ℕ) → (bytes_eq (serialize registry.now) a && bytes_eq name.now n) ≡ false
+        → kept_by index.new a n ≡ kept_by index.old a n }
+    ensures left { Leaves (IsAt (serialize registry.now) name.now)
+        (I.view (index_of index.old)).gives (I.view (index_of index.new)).gives
+        (I.view (index_of index.old)).faults (I.view (index_of index.new)).faults
+        (kept_by index.old) (kept_by index.new) }
+    ensures refused { IfErr result
+        (λ e. IsMemory e ⊎ ((kept_by index.old (serialize registry.now) name.now ≡ None)
+        × IsRefusedAt (I.view (index_of index.old)).gives registry.now name.now
+        (I.view (index_of index.old)).faults (I.view (index_of index.new)).faults e)) }
+{
+    index.fetch(alloc, registry, name)
+}
+
+/// A look with the answer that is kept.
+fn look_of<I: Index>(
+    alloc: Global,
+    registry: &Url,
+    name: &str,
+    index: &IndexCache<I>,
+) -> CargoResult<Look>
+    requires { IsSome (kept_by index.now (serialize registry.now) name.now) }
+    ensures at { IfOk result (λ l. serialize l.registry ≡ serialize registry.now) }
+    ensures same { IfOk result (λ l. l.registry ≡ registry.now) }
+    ensures name { IfOk result (λ l. string_bytes l.name ≡ name.now) }
+    ensures kept { IfOk result
+        (λ l. kept_by index.now (serialize registry.now) name.now ≡ Some (answer_of l.answer)) }
+    ensures refused { IfErr result IsMemory }
+{
+    let answer = copied_answer(alloc, index.shown(registry, name))?;
+    Ok(Look {
+        registry: registry.clone()?,
+        name: String::from_str(alloc, name)?,
+        answer,
+    })
+}
+
+/// Looks a name up, and records the answer.
+fn one_look<I: Index>(
+    alloc: Global,
+    registry: &Url,
+    name: &str,
+    index: &mut IndexCache<I>,
+) -> CargoResult<Look>
+    ensures look { IfOk result (IsLook (serialize registry.now) name.now (I.view (index_of index.old)).gives
+        (kept_by index.old) (kept_by index.new)) }
+    ensures left { Leaves (IsAt (serialize registry.now) name.now)
+        (I.view (index_of index.old)).gives (I.view (index_of index.new)).gives
+        (I.view (index_of index.old)).faults (I.view (index_of index.new)).faults
+        (kept_by index.old) (kept_by index.new) }
+    ensures refused { IfErr result
+        (λ e. IsMemory e ⊎ ((kept_by index.old (serialize registry.now) name.now ≡ None)
+        × IsRefusedAt (I.view (index_of index.old)).gives registry.now name.now
+        (I.view (index_of index.old)).faults (I.view (index_of index.new)).faults e)) }
+{
+    fetch_one(alloc, registry, name, index)?;
+    look_of(alloc, registry, name, index)
+}
+
+/// Adds a pair of address and name, and says whether it was among them.
+fn add_pair(alloc: Global, pairs: &mut Pairs, address: &str, name: &str) -> CargoResult<bool>
+    ensures had { IfOk result (λ b. b ≡ holds_pair pairs.old address.now name.now) }
+    ensures ok { OnOk result ((a n : List ℕ) → holds_pair pairs.new a n
+        ≡ (if bytes_eq address.now a && bytes_eq name.now n then true else holds_pair pairs.old a n)) }
+    ensures refused { IfErr result IsMemory }
+{
+    if let Some(names) = pairs.get_mut(address) {
+        let had = add_name(alloc, names, name)?;
+        return Ok(had);
+    }
+    let address = String::from_str(alloc, address)?;
+    let mut names = Names::new(alloc);
+    add_name(alloc, &mut names, name)?;
+    pairs.insert(address, names)?;
+    Ok(false)
+}
+
+/// Looks a name up at an address, and records the answer, unless that was done.
+pub(crate) fn look_once<I: Index>(
+    alloc: Global,
+    registry: &Url,
+    name: &str,
+    pairs: &mut Pairs,
+    looks: &mut Vec<Look>,
+    index: &mut IndexCache<I>,
+) -> CargoResult<()>
+    ensures step { OnOk result (IsStep (serialize registry.now) name.now (I.view (index_of index.old)).gives
+        (kept_by index.old) (kept_by index.new) looks.old.items looks.new.items
+        (holds_pair pairs.old) (holds_pair pairs.new)) }
+    ensures left { Leaves (IsAt (serialize registry.now) name.now)
+        (I.view (index_of index.old)).gives (I.view (index_of index.new)).gives
+        (I.view (index_of index.old)).faults (I.view (index_of index.new)).faults
+        (kept_by index.old) (kept_by index.new) }
+    ensures refused { IfErr result
+        (λ e. IsMemory e ⊎ ((kept_by index.old (serialize registry.now) name.now ≡ None)
+        × IsRefusedAt (I.view (index_of index.old)).gives registry.now name.now
+        (I.view (index_of index.old)).faults (I.view (index_of index.new)).faults e)) }
+{
+    let had = add_pair(alloc, pairs, registry.as_str(), name)?;
+    if had {
+        return Ok(());
+    }
+    let look = one_look(alloc, registry, name, index)?;
+    looks.push(look)?;
+    Ok(())
+}

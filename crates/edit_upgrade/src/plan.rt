@@ -1,0 +1,264 @@
+//! The plan of an upgrade.
+ghost use Rattle.std.specs.Prelude.{◌≡◌, ◌≤◌, ◌⊎◌, [], All, IfErr, IfOk, IfSome, IsSome, IsUtf8, None, OnOk, length, map, option_copied, slice_get};
+ghost use Rattle.edit_base.specs.Errors.{IsMemory};
+ghost use Rattle.edit_manifest.specs.Loaded.{IsBadManifest};
+ghost use Rattle.edit_sources.specs.Index.{SameOutcomes};
+ghost use Rattle.edit_sources.specs.IndexCache.{index_of};
+ghost use Rattle.edit_upgrade.specs.Causes.{HasBadEntry, IsCause, IsEntryCause};
+ghost use Rattle.edit_upgrade.specs.Drafts.{AddsInput, AreGiven, IsDraft};
+ghost use Rattle.edit_upgrade.specs.Headline.{IsSettled, LatestIsNotLess, Narrows, NeedsAsBefore, Reaches};
+ghost use Rattle.edit_upgrade.specs.Inputs.{EachInput, HaveDistinctPaths, OutputsInOrder, RowsInOrder};
+ghost use Rattle.edit_upgrade.specs.Lines.{line_of};
+ghost use Rattle.edit_upgrade.specs.Lists.{Tells};
+ghost use Rattle.edit_upgrade.specs.Looked.{AreKept, Leaves};
+ghost use Rattle.edit_upgrade.specs.Looks.{AddsNeeded, AreLooks, kept_by};
+ghost use Rattle.edit_upgrade.specs.PairSets.{holds_pair};
+ghost use Rattle.edit_upgrade.specs.Upgraded.{HasItsOutputs, HasItsRows, HasItsWarnings, IsNeeded, IsNeededBy};
+
+use crate::draft::{Draft, add_input, finished};
+use crate::upgrade::{Options, UpgradePlan};
+use edit_base::CargoResult;
+use edit_document::Document;
+use edit_manifest::Manifest;
+use edit_metadata::Input;
+use edit_sources::{Config, Index, IndexCache};
+use std::alloc::Global;
+
+/// Plans one more input: over its document where that was read, else over that of its bytes.
+fn add_read<I: Index>(
+    alloc: Global,
+    number: usize,
+    options: &Options,
+    input: &Input,
+    document: Option<&Document>,
+    configs: &[Config],
+    draft: &mut Draft,
+    index: &mut IndexCache<I>,
+) -> CargoResult<()>
+    requires document { IfSome (option_copied document) (λ d. d.bytes ≡ input.now.bytes.items) }
+    requires kept { AreKept (holds_pair draft.old.books.pairs) (kept_by index.old) }
+    ensures kept { OnOk result (AreKept (holds_pair draft.new.books.pairs) (kept_by index.new)) }
+    ensures adds { OnOk result (AddsInput number options.now input.now configs.now
+        (I.view (index_of index.old)).gives (kept_by index.old) (kept_by index.new) draft.old draft.new) }
+    ensures utf8 { OnOk result (option_copied document.entry ≡ None → IsUtf8 input.now.bytes.items) }
+    ensures left { Leaves (IsNeededBy configs.now input.now.bytes.items) (I.view (index_of index.old)).gives
+        (I.view (index_of index.new)).gives (I.view (index_of index.old)).faults
+        (I.view (index_of index.new)).faults (kept_by index.old) (kept_by index.new) }
+    ensures given { IfErr result (λ e. IsSome (option_copied document.entry) → IsMemory e
+        ⊎ HasBadEntry configs.now (I.view (index_of index.old)).gives
+        (kept_by index.old) (kept_by index.new)
+        (I.view (index_of index.old)).faults (I.view (index_of index.new)).faults input.now.bytes.items e) }
+    ensures read { IfErr result (λ e. option_copied document.entry ≡ None
+        → IsBadManifest input.now.bytes.items e
+        ⊎ HasBadEntry configs.now (I.view (index_of index.old)).gives
+        (kept_by index.old) (kept_by index.new)
+        (I.view (index_of index.old)).faults (I.view (index_of index.new)).faults input.now.bytes.items e) }
+{
+    match document {
+        Some(document) => {
+            add_input(
+                alloc, number, options, input, document, configs, draft, index,
+            )?;
+            Ok(())
+        }
+        None => {
+            let manifest = Manifest::read_bytes(alloc, &input.bytes)?;
+            let document = &manifest.document;
+            add_input(
+                alloc, number, options, input, document, configs, draft, index,
+            )?;
+            Ok(())
+        }
+    }
+}
+
+/// The document at a place in a list.
+fn document_at(documents: &[Document], i: usize) -> Option<&Document>
+    ensures { option_copied result ≡ slice_get documents.now i }
+{
+    documents.get(i)
+}
+
+/// What is planned of inputs: over their documents, or over those of their bytes where none is given.
+fn drafted<I: Index>(
+    alloc: Global,
+    options: &Options,
+    inputs: &[Input],
+    documents: &[Document],
+    configs: &[Vec<Config>],
+    index: &mut IndexCache<I>,
+) -> CargoResult<Draft>
+    requires documents { AreGiven inputs.now documents.now }
+    requires configurations { length configs.now ≡ length inputs.now }
+    requires paths { HaveDistinctPaths inputs.now }
+    ensures drafted { IfOk result (IsDraft options.now inputs.now configs.now
+        (I.view (index_of index.old)).gives
+        (kept_by index.old) (kept_by index.new)) }
+    ensures utf8 { OnOk result (documents.now ≡ [] → All (λ x. IsUtf8 x.bytes.items) inputs.now) }
+    ensures left { Leaves (IsNeeded inputs.now configs.now) (I.view (index_of index.old)).gives
+        (I.view (index_of index.new)).gives (I.view (index_of index.old)).faults
+        (I.view (index_of index.new)).faults (kept_by index.old) (kept_by index.new) }
+    ensures given { IfErr result (λ e. length documents.now ≡ length inputs.now
+        → IsEntryCause inputs.now configs.now (I.view (index_of index.old)).gives
+        (kept_by index.old) (kept_by index.new)
+        (I.view (index_of index.old)).faults (I.view (index_of index.new)).faults e) }
+    ensures read { IfErr result (λ e. documents.now ≡ []
+        → IsCause inputs.now configs.now (I.view (index_of index.old)).gives
+        (kept_by index.old) (kept_by index.new)
+        (I.view (index_of index.old)).faults (I.view (index_of index.new)).faults e) }
+{
+    let mut draft = Draft::new(alloc);
+    'inputs: for (i, input) in inputs.iter().enumerate() {
+        let document = document_at(documents, i);
+        let own = &configs[i];
+        add_read(alloc, i, options, input, document, own, &mut draft, index)?;
+    }
+    Ok(draft)
+}
+
+/// The plan of inputs: over their documents, or over those of their bytes where none is given.
+fn plan_all<I: Index>(
+    alloc: Global,
+    options: &Options,
+    inputs: &[Input],
+    documents: &[Document],
+    configs: &[Vec<Config>],
+    index: &mut IndexCache<I>,
+) -> CargoResult<UpgradePlan>
+    requires documents { AreGiven inputs.now documents.now }
+    requires configurations { length configs.now ≡ length inputs.now }
+    requires paths { HaveDistinctPaths inputs.now }
+    ensures rows { IfOk result (EachInput options.now inputs.now configs.now HasItsRows) }
+    ensures rows_in_order { IfOk result (RowsInOrder inputs.now) }
+    ensures outputs { IfOk result (EachInput options.now inputs.now configs.now HasItsOutputs) }
+    ensures outputs_in_order { IfOk result (OutputsInOrder inputs.now) }
+    ensures warnings { IfOk result (EachInput options.now inputs.now configs.now HasItsWarnings) }
+    ensures narrowing { IfOk result (λ p. All Narrows (map line_of p.rows.items)) }
+    ensures reach { IfOk result (λ p. All Reaches (map line_of p.rows.items)) }
+    ensures latest { IfOk result (λ p. All LatestIsNotLess (map line_of p.rows.items)) }
+    ensures fixed_point { IfOk result (EachInput options.now inputs.now configs.now IsSettled) }
+    ensures needs { IfOk result (EachInput options.now inputs.now configs.now NeedsAsBefore) }
+    ensures looks { IfOk result
+        (λ p. AreLooks (IsNeeded inputs.now configs.now) (I.view (index_of index.old)).gives
+        (kept_by index.old) (kept_by index.new) p.looks.items) }
+    ensures lists { IfOk result Tells }
+    ensures kept { AddsNeeded (IsNeeded inputs.now configs.now) (I.view (index_of index.old)).gives
+        (kept_by index.old) (kept_by index.new) }
+    ensures index { SameOutcomes (I.view (index_of index.old)).gives (I.view (index_of index.new)).gives }
+    ensures faults { (I.view (index_of index.old)).faults ≤ (I.view (index_of index.new)).faults }
+    ensures given { IfErr result (λ e. length documents.now ≡ length inputs.now
+        → IsEntryCause inputs.now configs.now (I.view (index_of index.old)).gives
+        (kept_by index.old) (kept_by index.new)
+        (I.view (index_of index.old)).faults (I.view (index_of index.new)).faults e) }
+    ensures read { IfErr result (λ e. documents.now ≡ []
+        → IsCause inputs.now configs.now (I.view (index_of index.old)).gives
+        (kept_by index.old) (kept_by index.new)
+        (I.view (index_of index.old)).faults (I.view (index_of index.new)).faults e) }
+{
+    let draft = drafted(alloc, options, inputs, documents, configs, index)?;
+    let plan = finished(alloc, draft)?;
+    Ok(plan)
+}
+
+/// What an upgrade of manifests that were read gives: as `plan_upgrade`, over the documents of their bytes.
+pub fn plan_documents<I: Index>(
+    alloc: Global,
+    options: &Options,
+    inputs: &[Input],
+    documents: &[Document],
+    configs: &[Vec<Config>],
+    index: &mut IndexCache<I>,
+) -> CargoResult<UpgradePlan>
+    requires documents { map (λ d. d.bytes) documents.now ≡ map (λ input. input.bytes.items) inputs.now }
+    requires configurations { length configs.now ≡ length inputs.now }
+    requires paths { HaveDistinctPaths inputs.now }
+    requires no_words { options.now.package.items ≡ [] }
+    requires no_exclusions { options.now.exclude.items ≡ [] }
+    // each seen entry has one row: the decision over the greatest admissible versions that the looks tell of
+    ensures rows { IfOk result (EachInput options.now inputs.now configs.now HasItsRows) }
+    ensures rows_in_order { IfOk result (RowsInOrder inputs.now) }
+    // the literals of the rows with a change, and no other byte
+    ensures outputs { IfOk result (EachInput options.now inputs.now configs.now HasItsOutputs) }
+    ensures outputs_in_order { IfOk result (OutputsInOrder inputs.now) }
+    // on each entry that has no record, takes all from its workspace, or has a requirement that is not read
+    ensures warnings { IfOk result (EachInput options.now inputs.now configs.now HasItsWarnings) }
+    // a compatible change leaves a requirement that is read and admits nothing that the old one did not
+    ensures narrowing { IfOk result (λ p. All Narrows (map line_of p.rows.items)) }
+    // a change admits the version that it was made for
+    ensures reach { IfOk result (λ p. All Reaches (map line_of p.rows.items)) }
+    // where a compatible version is told, a latest one is, and is not less
+    ensures latest { IfOk result (λ p. All LatestIsNotLess (map line_of p.rows.items)) }
+    // planned again over the same looks, the bytes that stand after the plan stay as they are
+    ensures fixed_point { IfOk result (EachInput options.now inputs.now configs.now IsSettled) }
+    // and they need the same looks
+    ensures needs { IfOk result (EachInput options.now inputs.now configs.now NeedsAsBefore) }
+    // each look that is needed, and no other
+    ensures looks { IfOk result
+        (λ p. AreLooks (IsNeeded inputs.now configs.now) (I.view (index_of index.old)).gives
+        (kept_by index.old) (kept_by index.new) p.looks.items) }
+    ensures lists { IfOk result Tells }
+    // also a refused plan adds to the answers that are kept only what is needed, as the index gives it
+    ensures kept { AddsNeeded (IsNeeded inputs.now configs.now) (I.view (index_of index.old)).gives
+        (kept_by index.old) (kept_by index.new) }
+    ensures index { SameOutcomes (I.view (index_of index.old)).gives (I.view (index_of index.new)).gives }
+    ensures faults { (I.view (index_of index.old)).faults ≤ (I.view (index_of index.new)).faults }
+    ensures refused { IfErr result (IsEntryCause inputs.now configs.now (I.view (index_of index.old)).gives
+        (kept_by index.old) (kept_by index.new)
+        (I.view (index_of index.old)).faults (I.view (index_of index.new)).faults) }
+{
+    plan_all(alloc, options, inputs, documents, configs, index)
+}
+
+/// What an upgrade of manifests gives: their new bytes, a row for each entry that is seen, and the looks.
+///
+/// So far no words or exclusions select entries. The inputs are planned one after another, each over its own
+/// configurations, and the looks are made once over all of them. Seen are the entries of all dependency
+/// tables of a manifest that `Dependency::from_toml` reads, but for those that take all from their workspace;
+/// on the others there are warnings. An entry of a registry is looked up at the registry's address, once for
+/// each address and name; one of a repository or a folder has its requirement alone, or a row without any.
+pub fn plan_upgrade<I: Index>(
+    alloc: Global,
+    options: &Options,
+    inputs: &[Input],
+    configs: &[Vec<Config>],
+    index: &mut IndexCache<I>,
+) -> CargoResult<UpgradePlan>
+    requires configurations { length configs.now ≡ length inputs.now }
+    requires paths { HaveDistinctPaths inputs.now }
+    requires no_words { options.now.package.items ≡ [] }
+    requires no_exclusions { options.now.exclude.items ≡ [] }
+    // each seen entry has one row: the decision over the greatest admissible versions that the looks tell of
+    ensures rows { IfOk result (EachInput options.now inputs.now configs.now HasItsRows) }
+    ensures rows_in_order { IfOk result (RowsInOrder inputs.now) }
+    // the literals of the rows with a change, and no other byte
+    ensures outputs { IfOk result (EachInput options.now inputs.now configs.now HasItsOutputs) }
+    ensures outputs_in_order { IfOk result (OutputsInOrder inputs.now) }
+    // on each entry that has no record, takes all from its workspace, or has a requirement that is not read
+    ensures warnings { IfOk result (EachInput options.now inputs.now configs.now HasItsWarnings) }
+    // a compatible change leaves a requirement that is read and admits nothing that the old one did not
+    ensures narrowing { IfOk result (λ p. All Narrows (map line_of p.rows.items)) }
+    // a change admits the version that it was made for
+    ensures reach { IfOk result (λ p. All Reaches (map line_of p.rows.items)) }
+    // where a compatible version is told, a latest one is, and is not less
+    ensures latest { IfOk result (λ p. All LatestIsNotLess (map line_of p.rows.items)) }
+    // planned again over the same looks, the bytes that stand after the plan stay as they are
+    ensures fixed_point { IfOk result (EachInput options.now inputs.now configs.now IsSettled) }
+    // and they need the same looks
+    ensures needs { IfOk result (EachInput options.now inputs.now configs.now NeedsAsBefore) }
+    // each look that is needed, and no other
+    ensures looks { IfOk result
+        (λ p. AreLooks (IsNeeded inputs.now configs.now) (I.view (index_of index.old)).gives
+        (kept_by index.old) (kept_by index.new) p.looks.items) }
+    ensures lists { IfOk result Tells }
+    // also a refused plan adds to the answers that are kept only what is needed, as the index gives it
+    ensures kept { AddsNeeded (IsNeeded inputs.now configs.now) (I.view (index_of index.old)).gives
+        (kept_by index.old) (kept_by index.new) }
+    ensures index { SameOutcomes (I.view (index_of index.old)).gives (I.view (index_of index.new)).gives }
+    ensures faults { (I.view (index_of index.old)).faults ≤ (I.view (index_of index.new)).faults }
+    ensures refused { IfErr result (IsCause inputs.now configs.now (I.view (index_of index.old)).gives
+        (kept_by index.old) (kept_by index.new)
+        (I.view (index_of index.old)).faults (I.view (index_of index.new)).faults) }
+{
+    let documents = Vec::new(alloc);
+    plan_all(alloc, options, inputs, &documents, configs, index)
+}

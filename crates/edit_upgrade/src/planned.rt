@@ -1,0 +1,118 @@
+//! What is planned for one manifest.
+ghost use Rattle.std.specs.Prelude.{◌≡◌, ◌⊎◌, IfErr, IfOk, OnOk, length, map};
+ghost use Rattle.edit_base.specs.Errors.{IsMemory};
+ghost use Rattle.edit_sources.specs.IndexCache.{index_of};
+ghost use Rattle.edit_upgrade.specs.Causes.{HasBadEntry};
+ghost use Rattle.edit_upgrade.specs.Found.{seen_of};
+ghost use Rattle.edit_upgrade.specs.Lines.{line_of};
+ghost use Rattle.edit_upgrade.specs.Lists.{warning_view};
+ghost use Rattle.edit_upgrade.specs.Looked.{AreKept, Leaves};
+ghost use Rattle.edit_upgrade.specs.Looks.{kept_by};
+ghost use Rattle.edit_upgrade.specs.PairSets.{holds_pair};
+ghost use Rattle.edit_upgrade.specs.PlannedView.{AreSeen, IsShown, IsWalked};
+ghost use Rattle.edit_upgrade.specs.Upgraded.{HasWarnings, IsNeededBy};
+
+use crate::lists::warnings_on;
+use crate::rows::Job;
+use crate::seen::{Entry, with_rows};
+use crate::upgrade::{Options, Warning};
+use crate::walk::{Books, walk};
+use edit_base::CargoResult;
+use edit_document::Document;
+use edit_entries::entries;
+use edit_metadata::Input;
+use edit_report::Row;
+use edit_sources::Config;
+use edit_sources::cache::IndexCache;
+use edit_sources::index::Index;
+use std::alloc::Global;
+
+/// The rows of a manifest, and what they rest on.
+#[derive(Drop)]
+pub(crate) struct Planned {
+    pub(crate) entries: Vec<Entry>,
+    pub(crate) rows: Vec<Row>,
+    pub(crate) warnings: Vec<Warning>,
+}
+
+/// Plans the rows of the entries of a manifest, and makes the looks that they need.
+fn plan_entries<I: Index>(
+    alloc: Global,
+    number: usize,
+    options: &Options,
+    input: &Input,
+    entries: &[Entry],
+    configs: &[Config],
+    books: &mut Books,
+    index: &mut IndexCache<I>,
+) -> CargoResult<Vec<Row>>
+    requires seen { AreSeen input.now.bytes.items (map seen_of entries.now) }
+    requires kept { AreKept (holds_pair books.old.pairs) (kept_by index.old) }
+    ensures kept { OnOk result (AreKept (holds_pair books.new.pairs) (kept_by index.new)) }
+    ensures long { IfOk result (λ v. length v.items ≡ length entries.now) }
+    ensures walked { IfOk result (λ v. IsWalked number options.now input.now configs.now
+        (I.view (index_of index.old)).gives (kept_by index.old) (kept_by index.new)
+        books.old books.new (map line_of v.items)) }
+    ensures left { Leaves (IsNeededBy configs.now input.now.bytes.items) (I.view (index_of index.old)).gives
+        (I.view (index_of index.new)).gives (I.view (index_of index.old)).faults (I.view
+        (index_of index.new)).faults
+        (kept_by index.old) (kept_by index.new) }
+    ensures refused { IfErr result (λ e. IsMemory e
+        ⊎ HasBadEntry configs.now (I.view (index_of index.old)).gives
+        (kept_by index.old) (kept_by index.new)
+        (I.view (index_of index.old)).faults (I.view (index_of index.new)).faults input.now.bytes.items e) }
+{
+    let rust_version = input.rust_version;
+    let job = Job {
+        number,
+        options,
+        rust_version,
+        configs,
+    };
+    let rows = walk(alloc, job, entries, books, index)?;
+    Ok(rows)
+}
+
+/// Plans the rows of a manifest that was read, and makes the looks that they need and that were not made.
+pub(crate) fn plan_input<I: Index>(
+    alloc: Global,
+    number: usize,
+    options: &Options,
+    input: &Input,
+    document: &Document,
+    configs: &[Config],
+    books: &mut Books,
+    index: &mut IndexCache<I>,
+) -> CargoResult<Planned>
+    requires document { document.now.bytes ≡ input.now.bytes.items }
+    requires kept { AreKept (holds_pair books.old.pairs) (kept_by index.old) }
+    ensures kept { OnOk result (AreKept (holds_pair books.new.pairs) (kept_by index.new)) }
+    ensures shown { IfOk result (IsShown input.now.bytes.items document.now) }
+    ensures walked { IfOk result (λ p. IsWalked number options.now input.now configs.now
+        (I.view (index_of index.old)).gives (kept_by index.old) (kept_by index.new)
+        books.old books.new (map line_of p.rows.items)) }
+    ensures warnings { IfOk result (λ p. HasWarnings number input.now.bytes.items
+        (map warning_view p.warnings.items)) }
+    ensures left { Leaves (IsNeededBy configs.now input.now.bytes.items) (I.view (index_of index.old)).gives
+        (I.view (index_of index.new)).gives (I.view (index_of index.old)).faults (I.view
+        (index_of index.new)).faults
+        (kept_by index.old) (kept_by index.new) }
+    ensures refused { IfErr result (λ e. IsMemory e
+        ⊎ HasBadEntry configs.now (I.view (index_of index.old)).gives
+        (kept_by index.old) (kept_by index.new)
+        (I.view (index_of index.old)).faults (I.view (index_of index.new)).faults input.now.bytes.items e) }
+{
+    document.has_form();
+    // from which folder a path is meant shows in no row
+    let found = entries(alloc, "", document)?;
+    let warnings = warnings_on(alloc, number, &found)?;
+    let entries = with_rows(alloc, found)?;
+    let rows = plan_entries(
+        alloc, number, options, input, &entries, configs, books, index,
+    )?;
+    Ok(Planned {
+        entries,
+        rows,
+        warnings,
+    })
+}

@@ -1,0 +1,251 @@
+//! The rows of entries.
+ghost use Rattle.std.specs.Prelude.{◌≡◌, IfErr, IfOk, Option, map, option_copied, option_map, string_bytes};
+ghost use Rattle.edit_base.specs.Errors.{IsMemory};
+ghost use Rattle.edit_record.specs.Candidates.{numbers_in, parts_in};
+ghost use Rattle.edit_version.specs.ReadRequirement.{text_in};
+ghost use Rattle.edit_version.specs.Requirement.{plain_text};
+ghost use Rattle.edit_version.specs.Selection.{IsCompatible, IsLatest};
+ghost use Rattle.edit_sources.specs.IndexCache.{index_of};
+ghost use Rattle.url.specs.Parts.{serialize};
+ghost use Rattle.edit_upgrade.specs.Decision.{decision, newer, or_else};
+ghost use Rattle.edit_upgrade.specs.Found.{seen_of, source_view};
+ghost use Rattle.edit_upgrade.specs.Lines.{line_of};
+ghost use Rattle.edit_upgrade.specs.Looks.{Answer, kept_by, versions_in};
+ghost use Rattle.edit_upgrade.specs.Offers.{offered};
+ghost use Rattle.edit_upgrade.specs.Rankings.{IsRankingOf};
+ghost use Rattle.edit_upgrade.specs.Rows.{IsDecided, IsRowOver, case_for, dash_reason, dashes, line_for};
+
+use crate::decide::decide;
+use crate::offers::{Offer, offer_of};
+use crate::seen::{Entry, Source};
+use crate::upgrade::Options;
+use edit_base::CargoResult;
+use edit_document::copied_place;
+use edit_record::Requirement;
+use edit_report::{Reason, Row};
+use edit_sources::Config;
+use edit_sources::cache::IndexCache;
+use edit_sources::index::Index;
+use edit_sources::ranking::Ranked;
+use edit_version::{RustVersion, allows_prerelease};
+use semver::Version;
+use std::alloc::Global;
+use url::Url;
+
+/// What the rows of an input are decided by.
+#[derive(Clone, Copy)]
+pub(crate) struct Job<'a> {
+    /// The index of the input, from 0.
+    pub(crate) number: usize,
+    pub(crate) options: &'a Options,
+    pub(crate) rust_version: Option<RustVersion>,
+    pub(crate) configs: &'a [Config],
+}
+
+/// The greatest version that a requirement admits; none where it is not read or no version is told.
+fn compatible_for<'a>(
+    ranked: Option<&'a Ranked>,
+    old: &Requirement<'_>,
+    rust_version: Option<RustVersion>,
+) -> Option<&'a Version>
+    ensures { (answer : Option Answer) → IsRankingOf answer (option_copied ranked.entry)
+        → IsCompatible (text_in old.now) (versions_in (numbers_in rust_version) answer) (parts_in result) }
+{
+    match ranked {
+        Some(ranked) => match old.version_req() {
+            Some(req) => ranked.compatible_version(req, rust_version),
+            None => None,
+        },
+        None => None,
+    }
+}
+
+/// The greatest version, pre-releases among them where the requirement has a `-`.
+fn latest_for<'a>(
+    ranked: Option<&'a Ranked>,
+    old: &str,
+    rust_version: Option<RustVersion>,
+) -> Option<&'a Version>
+    ensures { (answer : Option Answer) → IsRankingOf answer (option_copied ranked.entry)
+        → IsLatest old.now (versions_in (numbers_in rust_version) answer) (parts_in result) }
+{
+    match ranked {
+        Some(ranked) => ranked.latest_version(allows_prerelease(old), rust_version),
+        None => None,
+    }
+}
+
+/// The text of a version that is offered.
+fn offered_text(offer: Option<Offer<'_>>) -> Option<String>
+    ensures { option_map string_bytes result ≡ option_map plain_text (offered offer.entry) }
+{
+    match offer {
+        Some(offer) => Some(offer.text),
+        None => None,
+    }
+}
+
+/// The text of the latest version, of the compatible one where there is no latest.
+fn latest_text(
+    alloc: Global,
+    compatible: Option<&Offer<'_>>,
+    latest: Option<Offer<'_>>,
+) -> CargoResult<Option<String>>
+    ensures ok { IfOk result (λ o. option_map string_bytes o ≡ option_map plain_text (or_else
+        (newer (offered latest.entry) (offered (option_copied compatible.entry)))
+        (offered (option_copied compatible.entry)))) }
+    ensures refused { IfErr result IsMemory }
+{
+    match (latest, compatible) {
+        (Some(latest), _) => Ok(Some(latest.text)),
+        (None, Some(compatible)) => Ok(Some(String::from_str(alloc, compatible.text.as_str())?)),
+        (None, None) => Ok(None),
+    }
+}
+
+/// The other name of an entry, on memory of its own.
+fn copied_rename(alloc: Global, rename: Option<&String>) -> CargoResult<Option<String>>
+    ensures ok { IfOk result
+        (λ o. option_map string_bytes o ≡ option_map string_bytes (option_copied rename.entry)) }
+    ensures refused { IfErr result IsMemory }
+{
+    match rename {
+        Some(name) => Ok(Some(String::from_str(alloc, name.as_str())?)),
+        None => Ok(None),
+    }
+}
+
+/// The row of an entry with a requirement, over its versions.
+fn row_over(
+    alloc: Global,
+    job: Job<'_>,
+    entry: &Entry,
+    old: &Requirement<'_>,
+    compatible: Option<&Version>,
+    latest: Option<&Version>,
+) -> CargoResult<Row>
+    ensures ok { IfOk result (λ r. line_of r ≡ line_for job.entry.number (seen_of entry.now)
+        (text_in old.now)
+        (parts_in compatible.entry) (parts_in latest.entry)
+        (decision job.entry.options.now (case_for (seen_of entry.now) (text_in old.now)
+        (parts_in compatible.entry) (parts_in latest.entry)))) }
+    ensures refused { IfErr result IsMemory }
+{
+    let near = offer_of(alloc, compatible)?;
+    let far = offer_of(alloc, latest)?;
+    let renamed = entry.rename.is_some();
+    let decided = decide(
+        alloc,
+        job.options,
+        false,
+        renamed,
+        None,
+        old,
+        near.as_ref(),
+        far.as_ref(),
+    )?;
+    let latest = latest_text(alloc, near.as_ref(), far)?;
+    Ok(Row {
+        input: job.number,
+        name: String::from_str(alloc, entry.name.as_str())?,
+        place: copied_place(alloc, &entry.place)?,
+        rename: copied_rename(alloc, entry.rename.as_ref())?,
+        old: Some(String::from_str(alloc, old.text())?),
+        compatible: offered_text(near),
+        latest,
+        new: Some(decided.new),
+        reason: decided.reason,
+        change: decided.change,
+    })
+}
+
+/// The row of an entry with a requirement, over the ranking of what the index told of its name.
+fn row_with(
+    alloc: Global,
+    job: Job<'_>,
+    entry: &Entry,
+    old: &str,
+    ranked: Option<&Ranked>,
+) -> CargoResult<Row>
+    ensures ok { IfOk result (λ r. (answer : Option Answer) → IsRankingOf answer (option_copied ranked.entry)
+        → IsDecided job.entry.number job.entry.options.now
+        (versions_in (numbers_in job.entry.rust_version) answer)
+        (seen_of entry.now) old.now (line_of r)) }
+    ensures refused { IfErr result IsMemory }
+{
+    let old = Requirement::read(alloc, old)?;
+    let compatible = compatible_for(ranked, &old, job.rust_version);
+    let latest = latest_for(ranked, old.text(), job.rust_version);
+    let row = row_over(alloc, job, entry, &old, compatible, latest)?;
+    Ok(row)
+}
+
+/// Why an entry without a requirement stays as it is.
+fn dash_reason(source: &Source) -> Reason
+    ensures { result ≡ dash_reason (source_view source.now) }
+{
+    match source {
+        Source::Path => Reason::PathSource,
+        Source::Git | Source::Registry(_) => Reason::GitSource,
+    }
+}
+
+/// The row of an entry without a requirement.
+fn dash_row(alloc: Global, number: usize, entry: &Entry) -> CargoResult<Row>
+    ensures ok { IfOk result (λ r. line_of r ≡ dashes number (seen_of entry.now)) }
+    ensures refused { IfErr result IsMemory }
+{
+    Ok(Row {
+        input: number,
+        name: String::from_str(alloc, entry.name.as_str())?,
+        place: copied_place(alloc, &entry.place)?,
+        rename: copied_rename(alloc, entry.rename.as_ref())?,
+        old: None,
+        compatible: None,
+        latest: None,
+        new: None,
+        reason: Some(dash_reason(&entry.source)),
+        change: None,
+    })
+}
+
+/// The row of an entry, over the ranking of what the index told of its name.
+pub(crate) fn row_for(
+    alloc: Global,
+    job: Job<'_>,
+    entry: &Entry,
+    ranked: Option<&Ranked>,
+) -> CargoResult<Row>
+    ensures ok { IfOk result (λ r. (answer : Option Answer) → IsRankingOf answer (option_copied ranked.entry)
+        → IsRowOver job.entry.number job.entry.options.now
+        (versions_in (numbers_in job.entry.rust_version) answer)
+        (seen_of entry.now) (seen_of entry.now).old (line_of r)) }
+    ensures refused { IfErr result IsMemory }
+{
+    match &entry.old {
+        Some(old) => row_with(alloc, job, entry, old.as_str(), ranked),
+        None => dash_row(alloc, job.number, entry),
+    }
+}
+
+/// The row of an entry, over the answer that is kept for its name, which is ranked where it was not.
+pub(crate) fn kept_row<I: Index>(
+    alloc: Global,
+    job: Job<'_>,
+    registry: &Url,
+    entry: &Entry,
+    index: &mut IndexCache<I>,
+) -> CargoResult<Row>
+    ensures ok { IfOk result (λ r. IsRowOver job.entry.number job.entry.options.now
+        (versions_in (numbers_in job.entry.rust_version)
+        (kept_by index.new (serialize registry.now) (seen_of entry.now).name))
+        (seen_of entry.now) (seen_of entry.now).old (line_of r)) }
+    ensures index { index_of index.new ≡ index_of index.old }
+    ensures kept { kept_by index.new ≡ kept_by index.old }
+    ensures refused { IfErr result IsMemory }
+{
+    let name = entry.name.as_str();
+    index.rank_kept(alloc, registry, name)?;
+    let ranked = index.shown_ranking(registry, name);
+    row_for(alloc, job, entry, ranked)
+}

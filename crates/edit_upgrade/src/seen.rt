@@ -1,0 +1,110 @@
+//! The entries of a manifest that get a row.
+ghost use Rattle.std.specs.Prelude.{◌≡◌, IfErr, IfOk, Ok, map, option_and_then, option_map};
+ghost use Rattle.std.specs.List.{filter_map};
+ghost use Rattle.edit_base.specs.Errors.{IsMemory};
+ghost use Rattle.edit_document.specs.Items.{place_seen};
+ghost use Rattle.edit_record.specs.RecordViews.{record_view};
+ghost use Rattle.edit_entries.specs.EntryViews.{entry_view, literal_by};
+ghost use Rattle.edit_entries.specs.Entries.{Entry as Found};
+ghost use Rattle.edit_upgrade.specs.Found.{seen_of};
+ghost use Rattle.edit_upgrade.specs.Records.{seen_at, seen_by, with_row};
+
+use edit_base::CargoResult;
+use edit_document::Place;
+use edit_entries::{Said, literal_place};
+use edit_record::Dependency;
+use std::alloc::Global;
+
+/// Where the crate of an entry comes from.
+#[derive(Debug, Drop)]
+pub(crate) enum Source {
+    /// A registry, by its name where one is given.
+    Registry(Option<String>),
+    Git,
+    Path,
+}
+
+/// An entry that gets a row.
+#[derive(Debug, Drop)]
+pub(crate) struct Entry {
+    pub(crate) name: String,
+    pub(crate) rename: Option<String>,
+    pub(crate) place: Place,
+    /// Whether it is a string, which then is its version literal; else that is its member `version`.
+    pub(crate) bare: bool,
+    pub(crate) source: Source,
+    /// Its requirement, cut before the first `+`.
+    pub(crate) old: Option<String>,
+}
+
+/// The entry of a record at a place, where it gets a row.
+fn with_record(place: Place, bare: bool, dependency: Dependency) -> Option<Entry>
+    ensures { (e : Found) → e.place ≡ place_seen place.items → e.literal
+        ≡ literal_by bare (place_seen place.items)
+        → option_map seen_of result ≡ seen_by e (record_view dependency) }
+{
+    let Dependency {
+        name,
+        rename,
+        registry,
+        source,
+        ..
+    } = dependency;
+    let (source, old) = match source {
+        Some(edit_record::Source::Registry(source)) => {
+            (Source::Registry(registry), Some(source.version))
+        }
+        Some(edit_record::Source::Path(source)) => (Source::Path, source.version),
+        Some(edit_record::Source::Git(source)) => (Source::Git, source.version),
+        Some(edit_record::Source::Workspace(_)) => return None,
+        None => return None,
+    };
+    Some(Entry {
+        name,
+        rename,
+        place,
+        bare,
+        source,
+        old,
+    })
+}
+
+/// The entry, where it gets a row.
+fn with_row(found: edit_entries::Entry) -> Option<Entry>
+    ensures { option_map seen_of result ≡ with_row (entry_view found) }
+{
+    let edit_entries::Entry {
+        place,
+        bare,
+        said,
+        ..
+    } = found;
+    match said {
+        Said::Read(dependency) => with_record(place, bare, dependency),
+        Said::Unsupported(_) => None,
+    }
+}
+
+/// The entries that get a row, in order.
+pub(crate) fn with_rows(alloc: Global, found: Vec<edit_entries::Entry>) -> CargoResult<Vec<Entry>>
+    ensures ok { IfOk result
+        (λ es. map seen_of es.items ≡ filter_map with_row (map entry_view found.items)) }
+    ensures refused { IfErr result IsMemory }
+{
+    let mut entries = Vec::new(alloc);
+    'found: for entry in found {
+        match with_row(entry) {
+            Some(entry) => entries.push(entry)?,
+            None => {}
+        }
+    }
+    Ok(entries)
+}
+
+/// The place of the version literal of an entry.
+pub(crate) fn literal_of(alloc: Global, entry: &Entry) -> CargoResult<Place>
+    ensures ok { IfOk result (λ p. place_seen p.items ≡ (seen_of entry.now).literal) }
+    ensures refused { IfErr result IsMemory }
+{
+    literal_place(alloc, &entry.place, entry.bare)
+}

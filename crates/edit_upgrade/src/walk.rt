@@ -1,0 +1,159 @@
+//! A walk over the entries of an input: their looks, each once, and their rows.
+ghost use Rattle.std.specs.Prelude.{◌≡◌, ◌⊎◌, All, IfErr, IfOk, None, OnOk, Some, map, option_map, string_bytes};
+ghost use Rattle.edit_base.specs.Errors.{IsMemory};
+ghost use Rattle.edit_record.specs.Candidates.{numbers_in};
+ghost use Rattle.edit_sources.specs.Configured.{given};
+ghost use Rattle.edit_sources.specs.IndexCache.{index_of};
+ghost use Rattle.url.specs.Parts.{serialize};
+ghost use Rattle.edit_upgrade.specs.Addresses.{AreAddresses};
+ghost use Rattle.edit_upgrade.specs.Causes.{IsPassed, StopsAt, StopsFirst};
+ghost use Rattle.edit_upgrade.specs.Found.{seen_of};
+ghost use Rattle.edit_upgrade.specs.Lines.{line_of};
+ghost use Rattle.edit_upgrade.specs.Looked.{AreKept, AreSteps, IsEntryStep, Leaves};
+ghost use Rattle.edit_upgrade.specs.Looks.{kept_basis, kept_by};
+ghost use Rattle.edit_upgrade.specs.PairSets.{holds_pair};
+ghost use Rattle.edit_upgrade.specs.Records.{at_registry};
+ghost use Rattle.edit_upgrade.specs.Rows.{AreDecided, IsRowBy};
+ghost use Rattle.edit_upgrade.specs.Upgraded.{IsNeededFor, IsNeededIn};
+
+use crate::addresses::Addresses;
+use crate::looks::{Pairs, look_once};
+use crate::rows::{Job, kept_row, row_for};
+use crate::seen::{Entry, Source};
+use crate::upgrade::Look;
+use edit_base::CargoResult;
+use edit_report::Row;
+use edit_sources::cache::IndexCache;
+use edit_sources::index::Index;
+use std::alloc::Global;
+
+/// The looks that were made for a plan, with the set of their addresses and names.
+#[derive(Drop)]
+pub(crate) struct Books {
+    pub(crate) pairs: Pairs,
+    pub(crate) looks: Vec<Look>,
+}
+
+/// The row of an entry of a registry, for whose name a look is made there, unless that was done.
+fn registry_row<I: Index>(
+    alloc: Global,
+    job: Job<'_>,
+    entry: &Entry,
+    registry: Option<&str>,
+    addresses: &mut Addresses,
+    books: &mut Books,
+    index: &mut IndexCache<I>,
+) -> CargoResult<Row>
+    requires source { (seen_of entry.now).source ≡ at_registry (given registry) }
+    requires addresses { AreAddresses job.configs.now addresses.old }
+    ensures addresses { OnOk result (AreAddresses job.entry.configs.now addresses.new) }
+    ensures step { OnOk result (IsEntryStep job.entry.configs.now (seen_of entry.now)
+        (I.view (index_of index.old)).gives (kept_by index.old) (kept_by index.new)
+        books.old.looks.items books.new.looks.items
+        (holds_pair books.old.pairs) (holds_pair books.new.pairs)) }
+    ensures row { IfOk result (λ r. IsRowBy (kept_basis job.entry.number job.entry.options.now
+        (numbers_in job.entry.rust_version) job.entry.configs.now (kept_by index.new))
+        (seen_of entry.now) (line_of r)) }
+    ensures left { Leaves (IsNeededFor job.entry.configs.now (seen_of entry.now))
+        (I.view (index_of index.old)).gives
+        (I.view (index_of index.new)).gives (I.view (index_of index.old)).faults
+        (I.view (index_of index.new)).faults (kept_by index.old) (kept_by index.new) }
+    ensures refused { IfErr result (λ e. IsMemory e
+        ⊎ StopsAt job.entry.configs.now (I.view (index_of index.old)).gives (kept_by index.old)
+        (I.view (index_of index.old)).faults (I.view (index_of index.new)).faults (seen_of entry.now) e) }
+{
+    addresses.see(alloc, job.configs, registry)?;
+    let Some(url) = addresses.url(registry) else {
+        unreachable!()
+    };
+    let name = entry.name.as_str();
+    look_once(alloc, url, name, &mut books.pairs, &mut books.looks, index)?;
+    let row = kept_row(alloc, job, url, entry, index)?;
+    Ok(row)
+}
+
+/// The row of an entry, with the look that it needs.
+fn entry_row<I: Index>(
+    alloc: Global,
+    job: Job<'_>,
+    entry: &Entry,
+    addresses: &mut Addresses,
+    books: &mut Books,
+    index: &mut IndexCache<I>,
+) -> CargoResult<Row>
+    requires addresses { AreAddresses job.configs.now addresses.old }
+    ensures addresses { OnOk result (AreAddresses job.entry.configs.now addresses.new) }
+    ensures step { OnOk result (IsEntryStep job.entry.configs.now (seen_of entry.now)
+        (I.view (index_of index.old)).gives (kept_by index.old) (kept_by index.new)
+        books.old.looks.items books.new.looks.items
+        (holds_pair books.old.pairs) (holds_pair books.new.pairs)) }
+    ensures row { IfOk result (λ r. IsRowBy (kept_basis job.entry.number job.entry.options.now
+        (numbers_in job.entry.rust_version) job.entry.configs.now (kept_by index.new))
+        (seen_of entry.now) (line_of r)) }
+    ensures left { Leaves (IsNeededFor job.entry.configs.now (seen_of entry.now))
+        (I.view (index_of index.old)).gives
+        (I.view (index_of index.new)).gives (I.view (index_of index.old)).faults
+        (I.view (index_of index.new)).faults (kept_by index.old) (kept_by index.new) }
+    ensures refused { IfErr result (λ e. IsMemory e
+        ⊎ StopsAt job.entry.configs.now (I.view (index_of index.old)).gives (kept_by index.old)
+        (I.view (index_of index.old)).faults (I.view (index_of index.new)).faults (seen_of entry.now) e) }
+{
+    match &entry.source {
+        Source::Registry(Some(named)) => {
+            registry_row(
+                alloc,
+                job,
+                entry,
+                Some(named.as_str()),
+                addresses,
+                books,
+                index,
+            )
+        }
+        Source::Registry(None) => registry_row(alloc, job, entry, None, addresses, books, index),
+        Source::Git | Source::Path => {
+            let row = row_for(alloc, job, entry, None)?;
+            Ok(row)
+        }
+    }
+}
+
+/// The looks that entries need, each once, added to those that were made; and the rows of the entries over
+/// the
+/// answers that are kept.
+pub(crate) fn walk<I: Index>(
+    alloc: Global,
+    job: Job<'_>,
+    entries: &[Entry],
+    books: &mut Books,
+    index: &mut IndexCache<I>,
+) -> CargoResult<Vec<Row>>
+    requires kept { AreKept (holds_pair books.old.pairs) (kept_by index.old) }
+    ensures kept { OnOk result (AreKept (holds_pair books.new.pairs) (kept_by index.new)) }
+    ensures steps { OnOk result (AreSteps job.entry.configs.now (I.view (index_of index.old)).gives
+        (map seen_of entries.now) (kept_by index.old) (kept_by index.new)
+        books.old.looks.items books.new.looks.items
+        (holds_pair books.old.pairs) (holds_pair books.new.pairs)) }
+    ensures passed { OnOk result
+        (All (IsPassed job.entry.configs.now (kept_by index.new)) (map seen_of entries.now)) }
+    ensures rows { IfOk result (λ v. AreDecided (kept_basis job.entry.number job.entry.options.now
+        (numbers_in job.entry.rust_version) job.entry.configs.now (kept_by index.new))
+        (map seen_of entries.now) (map line_of v.items)) }
+    ensures left { Leaves (IsNeededIn job.entry.configs.now (map seen_of entries.now))
+        (I.view (index_of index.old)).gives (I.view (index_of index.new)).gives
+        (I.view (index_of index.old)).faults (I.view (index_of index.new)).faults
+        (kept_by index.old) (kept_by index.new) }
+    ensures refused { IfErr result (λ e. IsMemory e
+        ⊎ StopsFirst job.entry.configs.now (I.view (index_of index.old)).gives
+        (kept_by index.old) (kept_by index.new)
+        (I.view (index_of index.old)).faults (I.view (index_of index.new)).faults
+        (map seen_of entries.now) e) }
+{
+    let mut addresses = Addresses::new(alloc);
+    let mut rows = Vec::with_capacity(alloc, entries.len())?;
+    'entries: for entry in entries {
+        let row = entry_row(alloc, job, entry, &mut addresses, books, index)?;
+        rows.push(row)?;
+    }
+    Ok(rows)
+}

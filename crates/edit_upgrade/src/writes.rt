@@ -1,0 +1,102 @@
+//! What the rows of a manifest write into it.
+ghost use Rattle.std.specs.Prelude.{◌≡◌, ◌++◌, [], IfErr, IfOk, MatchOption, OnOk, length, map, option_to_list, string_bytes};
+ghost use Rattle.edit_base.specs.Errors.{IsMemory};
+ghost use Rattle.edit_syntax.specs.Grammar.{Text};
+ghost use Rattle.edit_document.specs.Ranges.{edits_seen};
+ghost use Rattle.edit_tree.specs.Shown.{ShowsTree};
+ghost use Rattle.edit_upgrade.specs.Outputs.{IsRewritten};
+ghost use Rattle.edit_tree.specs.Tree.{view_at};
+ghost use Rattle.edit_upgrade.specs.Found.{seen_of};
+ghost use Rattle.edit_upgrade.specs.Lines.{line_of};
+ghost use Rattle.edit_upgrade.specs.Records.{seen};
+ghost use Rattle.edit_upgrade.specs.Rows.{with_write, write_on, writes};
+
+use crate::seen::{Entry, literal_of};
+use edit_base::CargoResult;
+use edit_document::{Document, Place};
+use edit_report::Row;
+use std::alloc::Global;
+
+/// What a row writes at the version literal of its entry, where it has a change.
+fn edit_for(alloc: Global, entry: &Entry, row: &Row) -> CargoResult<Option<(Place, String)>>
+    ensures ok { IfOk result (λ o. edits_seen (option_to_list o)
+        ≡ with_write (write_on (seen_of entry.now) (line_of row.now)) []) }
+    ensures refused { IfErr result IsMemory }
+{
+    if entry.old.is_none() || row.change.is_none() {
+        return Ok(None);
+    }
+    match &row.new {
+        Some(text) => {
+            let place = literal_of(alloc, entry)?;
+            let text = String::from_str(alloc, text.as_str())?;
+            Ok(Some((place, text)))
+        }
+        None => Ok(None),
+    }
+}
+
+/// Adds what a row writes.
+fn push_edit(
+    alloc: Global,
+    edits: &mut Vec<(Place, String)>,
+    entry: &Entry,
+    row: &Row,
+) -> CargoResult<()>
+    ensures ok { OnOk result (edits_seen edits.new.items
+        ≡ edits_seen edits.old.items
+        ++ with_write (write_on (seen_of entry.now) (line_of row.now)) []) }
+    ensures refused { IfErr result IsMemory }
+{
+    let edit = edit_for(alloc, entry, row)?;
+    match edit {
+        Some(edit) => {
+            edits.push(edit)?;
+            Ok(())
+        }
+        None => Ok(()),
+    }
+}
+
+/// What the rows with a change write, each at the version literal of its entry.
+pub(crate) fn edits_of(
+    alloc: Global,
+    entries: &[Entry],
+    rows: &[Row],
+) -> CargoResult<Vec<(Place, String)>>
+    requires { length rows.now ≡ length entries.now }
+    ensures ok { IfOk result
+        (λ es. edits_seen es.items ≡ writes (map seen_of entries.now) (map line_of rows.now)) }
+    ensures refused { IfErr result IsMemory }
+{
+    let mut edits = Vec::new(alloc);
+    'rows: for (i, row) in rows.iter().enumerate() {
+        push_edit(alloc, &mut edits, &entries[i], row)?;
+    }
+    Ok(edits)
+}
+
+/// The text of a manifest with what its rows write, where they write something.
+pub(crate) fn written(
+    alloc: Global,
+    document: &Document,
+    entries: &[Entry],
+    rows: &[Row],
+) -> CargoResult<Option<String>>
+    requires shown { (form : Text) × ShowsTree document.now form
+        × (map seen_of entries.now ≡ seen (view_at form)) }
+    requires long { length rows.now ≡ length entries.now }
+    ensures ok { IfOk result
+        (λ o. MatchOption o (writes (map seen_of entries.now) (map line_of rows.now) ≡ [])
+        (λ s. IsRewritten document.now (writes (map seen_of entries.now) (map line_of rows.now))
+        (string_bytes s))) }
+    ensures refused { IfErr result IsMemory }
+{
+    let edits = edits_of(alloc, entries, rows)?;
+    if edits.is_empty() {
+        return Ok(None);
+    }
+    document.has_form();
+    let text = document.with_literals(alloc, &edits)?;
+    Ok(Some(text))
+}
