@@ -1,15 +1,15 @@
--- Texts, each once at its first place, as a set in the order of insertion keeps them.
-use Rattle.std.proofs.Common.{◌≡◌, ℕ, Bool, true, false, not, ◌&&◌, ◌||◌, List, [], ◌∷◌, ◌++◌, map, refl, sym, ap, ◌∙◌, if◌then◌else◌, append_assoc, append-nil, inl, inr, Option, Result}
-use Rattle.std.proofs.lemmas.List.{map-append}
+-- Texts, each once at its first place, and a set that has those that were kept.
+use Rattle.std.proofs.Common.{◌≡◌, ℕ, Bool, true, false, cond, not, ◌&&◌, ◌||◌, List, [], ◌∷◌, ◌++◌, BTreeSet, Bor, refl, sym, ap, ◌∙◌, if◌then◌else◌, append_assoc, append-nil, inl, inr, Option, Result}
 use Rattle.std.proofs.lemmas.List.Folds.{list_any-append}
-use Rattle.std.specs.Prelude.{String, string_bytes, filter}
-use Rattle.std.specs.declared.alloc.Global.{Global}
+use Rattle.std.proofs.lemmas.Map.Text.{is_eq-slice_cmp}
+use Rattle.std.specs.BTreeSet.{UpdatesBy, contains_by}
+use Rattle.std.specs.Cmp.Lexicographic.{slice_cmp}
 use Rattle.std.specs.List.{list_any}
-use Rattle.std.specs.String.{string_eq}
-use Rattle.indexmap.specs.IndexSet.{insert_all, insert_key}
+use Rattle.std.specs.Ordering.{nat_cmp}
+use Rattle.std.specs.Prelude.{filter}
 use Rattle.edit_tree.specs.Assertions.{same_bytes}
 use Rattle.edit_tree.proofs.SamePlace.{same_bytes_is}
-use Rattle.edit_document.proofs.SlotKeys.{word_is}
+use Rattle.edit_document.proofs.EntryPartViews.{same_texts}
 use Rattle.edit_base.specs.Errors.{IsMemory}
 use Rattle.edit_base.specs.declared.errors.Error.{Error}
 use Rattle.edit_record.specs.EntryRecords.{Refusal}
@@ -19,7 +19,7 @@ use Rattle.edit_record.specs.RecordViews.{IsRefused}
 -- ---- texts one after the other
 
 -- one of these texts
-abbrev is_old : List (List ℕ) → List ℕ → Bool
+abbrev pub is_old : List (List ℕ) → List ℕ → Bool
 is_old done u = list_any (λ s. same_bytes s u) done
 
 -- none of these texts
@@ -27,36 +27,56 @@ abbrev is_new : List (List ℕ) → List ℕ → Bool
 is_new done u = not (is_old done u)
 
 -- a text more, where it is new
-abbrev joins : List (List ℕ) → List ℕ → List (List ℕ)
+abbrev pub joins : List (List ℕ) → List ℕ → List (List ℕ)
 joins done u = if is_old done u then done else done ++ u ∷ []
 
 -- texts one after the other
-abbrev join_all : List (List ℕ) → List (List ℕ) → List (List ℕ)
+abbrev pub join_all : List (List ℕ) → List (List ℕ) → List (List ℕ)
 join_all done [] = done
 join_all done (s ∷ ss) = join_all (joins done s) ss
 
 -- ---- the set's own
 
-old_key : (k : String Global) (ks : List (String Global))
-    → list_any (string_eq k) ks ≡ is_old (map string_bytes ks) (string_bytes k)
-old_key k [] = refl
-old_key k (x ∷ xs) = rw (old_key k xs, word_is (string_bytes k) (string_bytes x)) refl
+-- whether a set has a text
+abbrev pub in_set : BTreeSet (Bor (List ℕ)) → List ℕ → Bool
+in_set set text = contains_by (λ k. slice_cmp nat_cmp text k.now) set
 
-key_joins : (ks : List (String Global)) (k : String Global)
-    → map string_bytes (insert_key string_eq ks k) ≡ joins (map string_bytes ks) (string_bytes k)
-key_joins ks k = by (list_any (string_eq k) ks) refl
+-- the set has exactly the texts that were kept
+abbrev pub HoldsThese : BTreeSet (Bor (List ℕ)) → List (List ℕ) → Type 0
+HoldsThese set done = (u : List ℕ) → in_set set u ≡ is_old done u
+
+either : (a b : Bool) → cond a true b ≡ (b || (a || false))
+either true true = refl
+either true false = refl
+either false true = refl
+either false false = refl
+
+-- a set that got a text
+in_more : (key : List ℕ) (old new : BTreeSet (Bor (List ℕ)))
+    → UpdatesBy (λ (x y : Bor (List ℕ)). slice_cmp nat_cmp x.now y.now)
+    (λ (k : Bor (List ℕ)). slice_cmp nat_cmp key k.now) old new true
+    → (u : List ℕ) → in_set new u ≡ cond (same_bytes key u) true (in_set old u)
+in_more key old new updates u =
+    updates.0 (record { ref_ptr = (0, 0); now = u }) ∙ ap (λ b. cond b true (in_set old u))
+    (is_eq-slice_cmp key u ∙ same_texts key u)
+
+-- a text that was kept, and the set that got it
+pub holds_joined : (key : List ℕ) (old new : BTreeSet (Bor (List ℕ))) (done : List (List ℕ))
+    → UpdatesBy (λ (x y : Bor (List ℕ)). slice_cmp nat_cmp x.now y.now)
+    (λ (k : Bor (List ℕ)). slice_cmp nat_cmp key k.now) old new true
+    → HoldsThese old done → HoldsThese new (joins done key)
+holds_joined key old new done updates holds u = by (is_old done key) refl
   where
-    by : (b : Bool) → list_any (string_eq k) ks ≡ b
-        → map string_bytes (insert_key string_eq ks k) ≡ joins (map string_bytes ks) (string_bytes k)
-    by true e = rw (e, sym (old_key k ks) ∙ e) refl
-    by false e = rw (e, sym (old_key k ks) ∙ e) (map-append string_bytes ks (k ∷ []))
-
-keys_join : (ks xs : List (String Global))
-    → map string_bytes (insert_all string_eq ks xs) ≡ join_all (map string_bytes ks) (map string_bytes xs)
-keys_join ks [] = refl
-keys_join ks (x ∷ xs) =
-    keys_join (insert_key string_eq ks x) xs
-    ∙ ap (λ d. join_all d (map string_bytes xs)) (key_joins ks x)
+    by : (b : Bool) → is_old done key ≡ b → in_set new u ≡ is_old (joins done key) u
+    by true e = rw e (in_more key old new updates u ∙ ap (cond (same_bytes key u) true) (holds u)
+        ∙ at_old (same_bytes key u) refl)
+      where
+        at_old : (c : Bool) → same_bytes key u ≡ c → cond c true (is_old done u) ≡ is_old done u
+        at_old true f = sym (ap (is_old done) (sym (same_bytes_is key u f)) ∙ e)
+        at_old false f = refl
+    by false e = rw e (in_more key old new updates u ∙ ap (cond (same_bytes key u) true) (holds u)
+        ∙ either (same_bytes key u) (is_old done u)
+        ∙ sym (list_any-append (λ s. same_bytes s u) done (key ∷ [])))
 
 -- ---- filters
 
@@ -120,11 +140,15 @@ all_new : (ss : List (List ℕ)) → filter (is_new []) ss ≡ ss
 all_new [] = refl
 all_new (s ∷ ss) = ap (λ l. s ∷ l) (all_new ss)
 
--- the texts of the set, in their order
-pub set_once : (xs : List (String Global))
-    → map string_bytes (insert_all string_eq [] xs) ≡ each_once (map string_bytes xs)
-set_once xs = keys_join [] xs ∙ joined_once [] (map string_bytes xs)
-    ∙ all_new (each_once (map string_bytes xs))
+-- texts one after the other are each once
+pub joined_all : (xs : List (List ℕ)) → join_all [] xs ≡ each_once xs
+joined_all xs = joined_once [] xs ∙ all_new (each_once xs)
+
+-- a text more
+pub join_more : (done xs : List (List ℕ)) (s : List ℕ)
+    → join_all done (xs ++ s ∷ []) ≡ joins (join_all done xs) s
+join_more done [] s = refl
+join_more done (x ∷ xs) s = join_more (joins done x) xs s
 
 -- ---- features that are refused
 

@@ -114,7 +114,7 @@ module _ (f : End → Option Change) (entry : Place) (xs : List WrittenEnd) (i :
       → Changed entry (filter_map f (ends_seen (take (i + 1) xs))) old mid
   none_asked old mid is h =
       let same = given ∙ ap (λ (o : Option Change). filter_map f (ends_seen (take i xs)) ++ cons_option o [])
-          is
+      is
       ∙ append-nil (filter_map f (ends_seen (take i xs))) in
       subst (λ cs. Changed entry cs old mid) (sym same) h
 

@@ -18,8 +18,8 @@ use super::sources::{GitSource, PathSource, Source};
 use super::write::path_field;
 use edit_base::errors::{CargoResult, Error};
 use edit_document::{Item, NewValue};
-use indexmap::IndexSet;
 use std::alloc::{AllocError, Global};
+use std::collections::BTreeSet;
 
 /// A member of an entry and how it ends: with a value, or not there.
 #[derive(Drop)]
@@ -158,11 +158,17 @@ fn old_features(alloc: Global, entry: Item<'_>) -> CargoResult<Option<Vec<String
 }
 
 /// Each text once, at its first place.
-fn each_once(alloc: Global, texts: Vec<String>) -> Result<Vec<String>, AllocError>
-    ensures { IfOk result (λ v. texts_view v ≡ each_once (texts_view texts)) }
+fn each_once(alloc: Global, texts: &[String]) -> Result<Vec<String>, AllocError>
+    ensures { IfOk result (λ v. texts_view v ≡ each_once (map string_bytes texts.now)) }
 {
-    let set: IndexSet<String> = texts.into_iter().collect(alloc)?;
-    let once = set.into_iter().collect(alloc)?;
+    let mut seen = BTreeSet::new(alloc);
+    let mut once = Vec::new(alloc);
+    'texts: for text in texts {
+        let added = seen.insert(text.as_str())?;
+        if added {
+            once.push(text.clone()?)?;
+        }
+    }
     Ok(once)
 }
 
@@ -174,7 +180,7 @@ fn joined_features(alloc: Global, entry: Item<'_>, new: &Vec<String>) -> CargoRe
 {
     let old = old_features(alloc, entry)?;
     let all = joined(old, new.clone()?)?;
-    Ok(NewValue::Strings(each_once(alloc, all)?))
+    Ok(NewValue::Strings(each_once(alloc, &all)?))
 }
 
 impl Dependency {

@@ -1,4 +1,4 @@
-use Rattle.std.proofs.Common.{◌++◌, ap, ◌∙◌}
+use Rattle.std.proofs.Common.{◌++◌, ap, map, string_bytes, ◌∙◌}
 use Rattle.edit_tree.specs.NewItems.{a_list}
 use Rattle.edit_record.specs.EntryUpdates.{each_once}
 use Rattle.edit_record.proofs.CopiedLists.{copied_texts}
@@ -8,4 +8,5 @@ pub returns-clause-ok : goal.returns-clause-ok
 returns-clause-ok c =
     let copy = copied_texts c.args.new.now c.in_ok-clone.field-0 c.in_ok-clone.ensures.cases.0 in
     ap a_list (c.in_ok-each_once.ensures
-    ∙ ap each_once (c.in_ok-all.ensures ∙ (λ i. c.in_ok-old.ensures.ok i ++ copy i)))
+    ∙ ap each_once (ap (map string_bytes) c.deref.ensures.value ∙ c.in_ok-all.ensures
+    ∙ (λ i. c.in_ok-old.ensures.ok i ++ copy i)))
