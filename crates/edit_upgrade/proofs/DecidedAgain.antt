@@ -1,6 +1,6 @@
 -- Deciding again over the same versions, where no requirement was given, changes nothing.
 use Rattle.std.proofs.Common.{◌≡◌, ◌∷◌, [], List, ℕ, Option, Some, None, Bool, true, false, map, refl, ap, ◌∙◌, sym, subst, inl, inr}
-use Rattle.std.specs.Prelude.{All, nat_eq, ◌||◌, if◌then◌else◌, is_ok}
+use Rattle.std.specs.Prelude.{All, nat_eq, ◌||◌, if◌then◌else◌, is_ok, is_some}
 use Rattle.std.specs.Cmp.Lexicographic.{nat_list_eq_equiv, pointwise}
 use Rattle.std.specs.List.{list_any}
 use Rattle.std.proofs.lemmas.Bool.{cases_Bool}
@@ -13,6 +13,9 @@ use Rattle.edit_version.specs.Selection.{IsCompatible, IsLatest, is_admitted, is
 use Rattle.edit_version.proofs.Orders.{greatest-has, greatest-same}
 use Rattle.edit_version.proofs.Outcomes.{form-of, text-outcome, valid-version}
 use Rattle.edit_upgrade.specs.Decision.{Case, decision, first_row, has_pin_read, is_pin, row_change, row_of, row_text, text_or, when}
+use Rattle.edit_upgrade.specs.Records.{Seen}
+use Rattle.edit_upgrade.specs.Rows.{case_for}
+use Rattle.edit_upgrade.specs.Words.{is_excluded, requirement_for}
 use Rattle.edit_upgrade.specs.declared.upgrade.Options.{Options}
 use Rattle.edit_upgrade.proofs.Narrowing.{latest-lands}
 use Rattle.edit_upgrade.proofs.RaisedAgain.{compatible-far, compatible-near, latest-settles}
@@ -37,6 +40,13 @@ pin-same old new h =
 -- a case without a given requirement
 abbrev pub case_of : Bool → Bool → List ℕ → Option Parts → Option Parts → Case
 case_of x r old near far = record { excluded = x; renamed = r; selected = None; old = old; compatible = near; latest = far }
+
+-- where words give no requirement, the decision for an entry is one without
+pub case-plain : (o : Options) (e : Seen) (old : List ℕ) (near far : Option Parts)
+    → requirement_for o e.name ≡ None
+    → case_for o e old near far ≡ case_of (is_excluded o e.name) (is_some e.rename) old near far
+case-plain o e old near far h =
+    ap (λ (s : Option (List ℕ)). record (case_for o e old near far) { selected = s }) h
 
 -- whether the entry may change to the latest version
 abbrev jump : Options → Bool → List ℕ → Bool

@@ -21,7 +21,7 @@ use Rattle.edit_version.proofs.Outcomes.{valid-version}
 use Rattle.edit_sources.proofs.AddressLemmas.{one_url}
 use Rattle.url.specs.Parts as url
 use Rattle.url.specs.Parts.{serialize}
-use Rattle.edit_upgrade.specs.Decision.{Outcome, compatible_text, decision, first_row, given, kept, latest_text, left_out, may_jump, row_change, row_of, row_text, text_or, to_compatible, to_latest, unless_old, unread, when}
+use Rattle.edit_upgrade.specs.Decision.{Case, Outcome, compatible_text, decision, first_row, given, kept, latest_text, left_out, may_jump, row_change, row_of, row_text, text_or, to_compatible, to_latest, unless_old, unread, when}
 use Rattle.edit_upgrade.specs.Headline.{HasNoChange}
 use Rattle.edit_upgrade.specs.Inputs.{Setting}
 use Rattle.edit_upgrade.specs.Looks.{told}
@@ -30,9 +30,10 @@ use Rattle.edit_sources.specs.Configured.{HasAddress}
 use Rattle.edit_sources.specs.declared.config.Config.{Config}
 use Rattle.edit_upgrade.specs.Rows.{AreVersionsFor, Basis, IsDecided, IsRowOver, Line, Needs, case_for, dashes, elsewhere, is_elsewhere, line_for, told_there, write_at, write_on}
 use Rattle.edit_upgrade.specs.Upgraded.{IsRow, basis_of}
+use Rattle.edit_upgrade.specs.Words.{is_excluded, requirement_for}
 use Rattle.edit_report.specs.declared.row.Change.{Change}
 use Rattle.edit_upgrade.specs.declared.upgrade.Options.{Options}
-use Rattle.edit_upgrade.proofs.DecidedAgain.{again, case_of}
+use Rattle.edit_upgrade.proofs.DecidedAgain.{again, case-plain, case_of}
 use Rattle.edit_upgrade.proofs.HeadlineRows.{offered-valid}
 use Rattle.edit_upgrade.proofs.TakenVersions.{far-some, near-some, newer-latest, when-some}
 use Rattle.edit_upgrade.proofs.WrittenEntries.{old_after, renew, renewed}
@@ -56,13 +57,13 @@ some-line : (i : ℕ) (o : Options) (xs : List Parts) (e : Seen) (old : List ℕ
 some-line i o xs e old =
     let near = some-greatest (is_admitted old) xs in
     let far = some-greatest (is_offered old) xs in (
-      line_for i e old near.0 far.0 (decision o (case_for e old near.0 far.0)),
+      line_for i e old near.0 far.0 (decision o (case_for o e old near.0 far.0)),
       record { near = near.0; far = far.0; compatible = near.1; latest = far.1; is = refl },
     )
 
 -- so has each
 some-row : (i : ℕ) (o : Options) (xs : List Parts) (e : Seen) (old : Option (List ℕ)) → (line : Line) × IsRowOver i o xs e old line
-some-row i o xs e None = (dashes i e, refl)
+some-row i o xs e None = (dashes i o e, refl)
 some-row i o xs e (Some old) = some-line i o xs e old
 
 -- an entry with another requirement takes the same versions
@@ -119,19 +120,22 @@ whole-of old other v t (Text s) valid e q h =
     subst (λ (x : List ℕ). cut x ≡ x) same (raised-whole old v s (valid-version v valid) q)
 
 -- so is the text that an entry gets
-whole-row : (b : Bool) (old : List ℕ) (l c : Option (List ℕ)) → cut old ≡ old → ((t : List ℕ) → l ≡ Some t → cut t ≡ t) → ((t : List ℕ) → c ≡ Some t → cut t ≡ t)
-    → cut (row_text old (first_row false None b l c)) ≡ row_text old (first_row false None b l c)
-whole-row false old l c h f g = h
-whole-row true old (Some t) c h f g = f t refl
-whole-row true old None (Some t) h f g = g t refl
-whole-row true old None None h f g = h
+whole-row : (x b : Bool) (old : List ℕ) (l c : Option (List ℕ)) → cut old ≡ old
+    → ((t : List ℕ) → l ≡ Some t → cut t ≡ t) → ((t : List ℕ) → c ≡ Some t → cut t ≡ t)
+    → cut (row_text old (first_row x None b l c)) ≡ row_text old (first_row x None b l c)
+whole-row true b old l c h f g = h
+whole-row false false old l c h f g = h
+whole-row false true old (Some t) c h f g = f t refl
+whole-row false true old None (Some t) h f g = g t refl
+whole-row false true old None None h f g = h
 
 -- so is the requirement of a decided row
-decided-whole : (o : Options) (xs : List Parts) (e : Seen) (old : List ℕ) (near far : Option Parts) → All IsValid xs → cut old ≡ old
-    → IsCompatible old xs near → IsLatest old xs far → cut (decision o (case_for e old near far)).new ≡ (decision o (case_for e old near far)).new
-decided-whole o xs e old near far all h ic il =
-    let k = case_for e old near far in
-    whole-row (is_ok (req_of old)) old (when (may_jump o k) (latest_text k)) (when o.compatible (compatible_text k)) h
+case-whole : (o : Options) (x r : Bool) (xs : List Parts) (old : List ℕ) (near far : Option Parts)
+    → All IsValid xs → cut old ≡ old → IsCompatible old xs near → IsLatest old xs far
+    → cut (decision o (case_of x r old near far)).new ≡ (decision o (case_of x r old near far)).new
+case-whole o x r xs old near far all h ic il =
+    let k = case_of x r old near far in
+    whole-row x (is_ok (req_of old)) old (when (may_jump o k) (latest_text k)) (when o.compatible (compatible_text k)) h
     (λ t q.
     let f = far-some old t far near (when-some (may_jump o k) (latest_text k) t q) in
     let valid = greatest-has IsValid (is_offered old) xs f.0 all (subst (λ (y : Option Parts). IsLatest old xs y) (newer-latest far near f.0 f.1) il) in
@@ -140,6 +144,15 @@ decided-whole o xs e old near far all h ic il =
     let n = near-some o old t near q in
     let valid = greatest-has IsValid (is_admitted old) xs n.0 all (subst (λ (y : Option Parts). IsCompatible old xs y) n.1 ic) in
     whole-of old old n.0 t (raise old n.0) valid h refl n.2)
+
+-- the same of an entry, where words give it no requirement
+decided-whole : (o : Options) (xs : List Parts) (e : Seen) (old : List ℕ) (near far : Option Parts)
+    → requirement_for o e.name ≡ None → All IsValid xs → cut old ≡ old
+    → IsCompatible old xs near → IsLatest old xs far
+    → cut (decision o (case_for o e old near far)).new ≡ (decision o (case_for o e old near far)).new
+decided-whole o xs e old near far plain all h ic il =
+    subst (λ (k : Case). cut (decision o k).new ≡ (decision o k).new) (sym (case-plain o e old near far plain))
+    (case-whole o (is_excluded o e.name) (is_some e.rename) xs old near far all h ic il)
 
 -- ---- the requirement that a row leaves
 
@@ -162,7 +175,7 @@ old-stays old kept h = refl
 -- so the row tells the old requirement
 line-stays : (i : ℕ) (o : Options) (xs : List Parts) (e : Seen) (old : List ℕ) (line : Line) → IsDecided i o xs e old line → line.change ≡ None → line.new ≡ Some old
 line-stays i o xs e old line d h =
-    let k = case_for e old d.near d.far in
+    let k = case_for o e old d.near d.far in
     let q : row_change old (row_of o k) ≡ None = sym (ap (λ (l : Line). l.change) d.is) ∙ h in
     ap (λ (l : Line). l.new) d.is ∙ ap (λ (x : List ℕ). Some x) (old-stays old (row_of o k) q)
 
@@ -184,21 +197,22 @@ abbrev HasNew : Seen → Line → Type 0
 HasNew e line = (new : List ℕ) × (line.new ≡ Some new) × (renew e line ≡ record e { old = Some new })
 
 -- by whether the row has a change
-new-by : (i : ℕ) (o : Options) (xs : List Parts) (e : Seen) (old : List ℕ) (line : Line) (c : Option Change) → All IsValid xs → e.old ≡ Some old → cut old ≡ old
+new-by : (i : ℕ) (o : Options) (xs : List Parts) (e : Seen) (old : List ℕ) (line : Line) (c : Option Change)
+    → requirement_for o e.name ≡ None → All IsValid xs → e.old ≡ Some old → cut old ≡ old
     → IsDecided i o xs e old line → line.change ≡ c → HasNew e line
-new-by i o xs e old line None all g h d q = (
+new-by i o xs e old line None plain all g h d q = (
   old,
   line-stays i o xs e old line d q,
   ap (λ (w : Option (Place × List ℕ)). record e { old = old_after w e.old }) (none-written e line q)
       ∙ ap (λ (x : Option (List ℕ)). record e { old = x }) g,
 )
-new-by i o xs e old line (Some kind) all g h d q =
-    let new = (decision o (case_for e old d.near d.far)).new in
+new-by i o xs e old line (Some kind) plain all g h d q =
+    let new = (decision o (case_for o e old d.near d.far)).new in
     let told : line.new ≡ Some new = ap (λ (l : Line). l.new) d.is in (
       new,
       told,
       ap (λ (w : Option (Place × List ℕ)). record e { old = old_after w e.old }) (some-written e old line kind new g q told)
-          ∙ ap (λ (x : List ℕ). record e { old = Some x }) (decided-whole o xs e old d.near d.far all h d.compatible d.latest),
+          ∙ ap (λ (x : List ℕ). record e { old = Some x }) (decided-whole o xs e old d.near d.far plain all h d.compatible d.latest),
     )
 
 -- ---- decided again
@@ -208,17 +222,23 @@ some-same : (a b : List ℕ) → Some a ≡ Some b → a ≡ b
 some-same a b h = cc h
 
 -- one entry, decided on the requirement that its row left
-entry-again : (i : ℕ) (o : Options) (xs : List Parts) (e f : Seen) (old : List ℕ) (line next : Line) (new : List ℕ) → All IsValid xs → f.rename ≡ e.rename
-    → IsDecided i o xs e old line → line.new ≡ Some new → IsDecided i o xs f new next → next.change ≡ None
-entry-again i o xs e f old line next new all same d n g =
-    let first = decision o (case_for e old d.near d.far) in
-    let text : new ≡ first.new = some-same new first.new (sym n ∙ ap (λ (l : Line). l.new) d.is) in
-    let near = subst (λ (x : List ℕ). IsCompatible x xs g.near) text g.compatible in
-    let far = subst (λ (x : List ℕ). IsLatest x xs g.far) text g.latest in
+entry-again : (i : ℕ) (o : Options) (xs : List Parts) (e : Seen) (old : List ℕ) (line next : Line) (new : List ℕ)
+    → requirement_for o e.name ≡ None → All IsValid xs → IsDecided i o xs e old line → line.new ≡ Some new
+    → IsDecided i o xs (record e { old = Some new }) new next → next.change ≡ None
+entry-again i o xs e old line next new plain all d n g =
+    let x = is_excluded o e.name in
+    let r = is_some e.rename in
+    let first = decision o (case_of x r old d.near d.far) in
+    let is : (decision o (case_for o e old d.near d.far)).new ≡ first.new
+    = ap (λ (k : Case). (decision o k).new) (case-plain o e old d.near d.far plain) in
+    let text : new ≡ first.new
+    = some-same new first.new (sym n ∙ ap (λ (l : Line). l.new) d.is ∙ ap (λ (t : List ℕ). Some t) is) in
+    let near = subst (λ (t : List ℕ). IsCompatible t xs g.near) text g.compatible in
+    let far = subst (λ (t : List ℕ). IsLatest t xs g.far) text g.latest in
     ap (λ (l : Line). l.change) g.is
-    ∙ ap (λ (r : Option (List ℕ)). (decision o (case_of false (is_some r) new g.near g.far)).change) same
-    ∙ ap (λ (x : List ℕ). (decision o (case_of false (is_some e.rename) x g.near g.far)).change) text
-    ∙ again o false (is_some e.rename) xs old d.near d.far g.near g.far all d.compatible d.latest near far
+    ∙ ap (λ (k : Case). (decision o k).change) (case-plain o e new g.near g.far plain)
+    ∙ ap (λ (t : List ℕ). (decision o (case_of x r t g.near g.far)).change) text
+    ∙ again o x r xs old d.near d.far g.near g.far all d.compatible d.latest near far
 
 pub one-named : (e : Seen) (named other : Option (List ℕ)) → e.source ≡ at_registry named → e.source ≡ at_registry other → named ≡ other
 one-named e named other p q = source-inj named other (sym p ∙ q)
@@ -245,30 +265,33 @@ same-versions s e xs ys (elsewhere other none) (told_there b need is) = absurd (
 same-versions s e xs ys (elsewhere other none) (elsewhere more nothing) = none ∙ sym nothing
 
 -- one entry by its requirement, where it has one
-row-again : (s : Setting) (e : Seen) (o : Option (List ℕ)) (l m : Line) → ((old : List ℕ) → e.old ≡ Some old → cut old ≡ old) → e.old ≡ o → IsRow s e l
+row-again : (s : Setting) (e : Seen) (o : Option (List ℕ)) (l m : Line)
+    → requirement_for s.options e.name ≡ None → ((old : List ℕ) → e.old ≡ Some old → cut old ≡ old) → e.old ≡ o → IsRow s e l
     → IsRow s (renew e l) m → m.change ≡ None
-row-again s e None l m h q d g =
+row-again s e None l m plain h q d g =
     let quiet : l.change ≡ None = ap (λ (x : Line). x.change)
     (subst (λ (x : Option (List ℕ)). IsRowOver s.input s.options d.versions e x l) q d.decided) in
     let old : (renew e l).old ≡ None = ap (λ (w : Option (Place × List ℕ)). old_after w e.old) (none-written e l quiet) ∙ q in
     ap (λ (x : Line). x.change) (subst (λ (x : Option (List ℕ)). IsRowOver s.input s.options g.versions (renew e l) x m) old g.decided)
-row-again s e (Some old) l m h q d g =
+row-again s e (Some old) l m plain h q d g =
     let first = subst (λ (x : Option (List ℕ)). IsRowOver s.input s.options d.versions e x l) q d.decided in
     let valid = offered-valid s e d.versions d.offered in
-    let n = new-by s.input s.options d.versions e old l l.change valid q (h old q) first refl in
+    let n = new-by s.input s.options d.versions e old l l.change plain valid q (h old q) first refl in
     let next : Seen = record e { old = Some n.0 } in
     let row = subst (λ (x : Seen). IsRow s x m) n.2 g in
     let same = same-versions s next row.versions d.versions row.offered (other-versions (basis_of s) e next d.versions refl refl d.offered) in
     let again = subst (λ (ys : List Parts). IsDecided s.input s.options ys next n.0 m) same row.decided in
-    entry-again s.input s.options d.versions e next old l m n.0 valid refl first n.1 again
+    entry-again s.input s.options d.versions e old l m n.0 plain valid first n.1 again
 
 -- all entries, decided on the requirements that their rows left
-pub all-again : (s : Setting) (es : List Seen) (ls ms : List Line) → AllByRecursion (λ e. (old : List ℕ) → e.old ≡ Some old → cut old ≡ old) es
+pub all-again : (s : Setting) (es : List Seen) (ls ms : List Line)
+    → ((name : List ℕ) → requirement_for s.options name ≡ None) → AllByRecursion (λ e. (old : List ℕ) → e.old ≡ Some old → cut old ≡ old) es
     → AllZip (IsRow s) es ls → AllZip (IsRow s) (renewed es ls) ms → All HasNoChange ms
-all-again s [] [] [] h d g = All-nil HasNoChange
-all-again s [] [] (m ∷ ms) h d g = absurd g
-all-again s [] (l ∷ ls) ms h d g = absurd d
-all-again s (e ∷ es) [] ms h d g = absurd d
-all-again s (e ∷ es) (l ∷ ls) [] h d g = absurd g
-all-again s (e ∷ es) (l ∷ ls) (m ∷ ms) h d g =
-    All-cons HasNoChange m ms (row-again s e e.old l m h.0 refl d.0 g.0) (all-again s es ls ms h.1 d.1 g.1)
+all-again s [] [] [] plain h d g = All-nil HasNoChange
+all-again s [] [] (m ∷ ms) plain h d g = absurd g
+all-again s [] (l ∷ ls) ms plain h d g = absurd d
+all-again s (e ∷ es) [] ms plain h d g = absurd d
+all-again s (e ∷ es) (l ∷ ls) [] plain h d g = absurd g
+all-again s (e ∷ es) (l ∷ ls) (m ∷ ms) plain h d g =
+    All-cons HasNoChange m ms (row-again s e e.old l m (plain e.name) h.0 refl d.0 g.0)
+    (all-again s es ls ms plain h.1 d.1 g.1)

@@ -84,13 +84,13 @@ read-admits text v a = rw a.1 refl
 pub line-narrows : (i : ℕ) (o : Options) (xs : List Parts) (e : Seen) (old : List ℕ) (line : Line) → All IsValid xs → IsDecided i o xs e old line → Narrows line
 line-narrows i o xs e old line all d =
     subst Narrows (sym d.is) (λ h.
-    let n = narrowing o xs (case_for e old d.near d.far) all d.compatible h in
-    (read-admits (decision o (case_for e old d.near d.far)).new n.0 n.2.0, λ v a. n.2.1 v a))
+    let n = narrowing o xs (case_for o e old d.near d.far) all d.compatible h in
+    (read-admits (decision o (case_for o e old d.near d.far)).new n.0 n.2.0, λ v a. n.2.1 v a))
 
 -- a decided row reaches its version
 pub line-reaches : (i : ℕ) (o : Options) (xs : List Parts) (e : Seen) (old : List ℕ) (line : Line) → All IsValid xs → IsDecided i o xs e old line → Reaches line
 line-reaches i o xs e old line all d =
-    let c = case_for e old d.near d.far in
+    let c = case_for o e old d.near d.far in
     let there : Reaches (line_for i e old d.near d.far (decision o c)) = record {
       compatible = λ h.
           let n = narrowing o xs c all d.compatible h in
@@ -140,26 +140,26 @@ pub line-latest : (i : ℕ) (o : Options) (xs : List Parts) (e : Seen) (old : Li
 line-latest i o xs e old line all d = subst LatestIsNotLess (sym d.is) (latest-of xs old d.near d.far all d.compatible d.latest)
 
 -- a row of dashes narrows nothing, reaches nothing and tells no version
-dashes-narrow : (i : ℕ) (e : Seen) → Narrows (dashes i e)
-dashes-narrow i e h = cc h
+dashes-narrow : (i : ℕ) (o : Options) (e : Seen) → Narrows (dashes i o e)
+dashes-narrow i o e h = cc h
 
-dashes-reach : (i : ℕ) (e : Seen) → Reaches (dashes i e)
-dashes-reach i e = record { compatible = λ h. cc h; latest = λ h. cc h }
+dashes-reach : (i : ℕ) (o : Options) (e : Seen) → Reaches (dashes i o e)
+dashes-reach i o e = record { compatible = λ h. cc h; latest = λ h. cc h }
 
-dashes-latest : (i : ℕ) (e : Seen) → LatestIsNotLess (dashes i e)
-dashes-latest i e h = cc h
+dashes-latest : (i : ℕ) (o : Options) (e : Seen) → LatestIsNotLess (dashes i o e)
+dashes-latest i o e h = cc h
 
 -- ---- all rows
 
 -- what holds of each decided row and of each row of dashes holds of a row
-row-has : (i : ℕ) (o : Options) (P : Line → Type 0) → ((e : Seen) → P (dashes i e))
+row-has : (i : ℕ) (o : Options) (P : Line → Type 0) → ((e : Seen) → P (dashes i o e))
     → ((xs : List Parts) (e : Seen) (old : List ℕ) (line : Line) → All IsValid xs → IsDecided i o xs e old line → P line)
     → (xs : List Parts) (e : Seen) (old : Option (List ℕ)) (line : Line) → All IsValid xs → IsRowOver i o xs e old line → P line
 row-has i o P d f xs e None line all h = subst P (sym h) (d e)
 row-has i o P d f xs e (Some old) line all h = f xs e old line all h
 
 -- so it holds of all rows
-all-rows : (s : Setting) (P : Line → Type 0) → ((e : Seen) → P (dashes s.input e))
+all-rows : (s : Setting) (P : Line → Type 0) → ((e : Seen) → P (dashes s.input s.options e))
     → ((xs : List Parts) (e : Seen) (old : List ℕ) (line : Line) → All IsValid xs → IsDecided s.input s.options xs e old line → P line)
     → (es : List Seen) (ls : List Line) → AllZip (IsRow s) es ls → All P ls
 all-rows s P d f [] [] h = All-nil P
@@ -172,17 +172,17 @@ all-rows s P d f (e ∷ es) (l ∷ ls) h =
 -- the rows of a manifest narrow
 pub rows-narrow : (s : Setting) (bytes : List ℕ) (lines : List Line) → HasRows s bytes lines → All Narrows lines
 rows-narrow s bytes lines h =
-    all-rows s Narrows (dashes-narrow s.input) (λ xs e old line all d. line-narrows s.input s.options xs e old line all d) (seen (view_at h.form)) lines h.decided
+    all-rows s Narrows (dashes-narrow s.input s.options) (λ xs e old line all d. line-narrows s.input s.options xs e old line all d) (seen (view_at h.form)) lines h.decided
 
 -- they reach their versions
 pub rows-reach : (s : Setting) (bytes : List ℕ) (lines : List Line) → HasRows s bytes lines → All Reaches lines
 rows-reach s bytes lines h =
-    all-rows s Reaches (dashes-reach s.input) (λ xs e old line all d. line-reaches s.input s.options xs e old line all d) (seen (view_at h.form)) lines h.decided
+    all-rows s Reaches (dashes-reach s.input s.options) (λ xs e old line all d. line-reaches s.input s.options xs e old line all d) (seen (view_at h.form)) lines h.decided
 
 -- their latest versions are not less
 pub rows-latest : (s : Setting) (bytes : List ℕ) (lines : List Line) → HasRows s bytes lines → All LatestIsNotLess lines
 rows-latest s bytes lines h =
-    all-rows s LatestIsNotLess (dashes-latest s.input) (λ xs e old line all d. line-latest s.input s.options xs e old line all d)
+    all-rows s LatestIsNotLess (dashes-latest s.input s.options) (λ xs e old line all d. line-latest s.input s.options xs e old line all d)
     (seen (view_at h.form)) lines h.decided
 
 -- each is a row of its input

@@ -9,6 +9,7 @@ pub mod WriteLemmas
 pub mod ListLemmas
 pub mod PlanLemmas
 pub mod TakenVersions
+pub mod WordLemmas
 pub mod Narrowing
 pub mod HeadlineRows
 pub mod RaisedAgain
@@ -28,3 +29,5 @@ pub mod DraftLemmas
 pub mod FurtherInputs
 pub mod DraftedInputs
 pub mod CauseLemmas
+pub mod MissingLemmas
+pub mod WordCauseLemmas

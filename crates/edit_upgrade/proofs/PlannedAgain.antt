@@ -19,9 +19,11 @@ use Rattle.edit_upgrade.specs.Outputs.{AreOutputs, HasOutputs, changed, unchange
 use Rattle.edit_upgrade.specs.Records.{Seen, seen}
 use Rattle.edit_upgrade.specs.Rows.{Line, with_write, writes}
 use Rattle.edit_upgrade.specs.Upgraded.{HasRows, IsNeededFor, IsNeededIn, IsRow}
+use Rattle.edit_upgrade.specs.Words.{WordsSelect}
 use Rattle.edit_report.specs.declared.output.Output.{Output}
 use Rattle.edit_upgrade.proofs.FixedPoint.{all-again, cut-whole, none-written, some-again}
 use Rattle.edit_upgrade.proofs.SeenFacts.{Stands, mapped-all, seen-apart, seen-stands, writes-strings}
+use Rattle.edit_upgrade.proofs.WordLemmas.{none_given}
 use Rattle.edit_upgrade.proofs.WrittenEntries.{renew, renewed, written-seen}
 
 -- the requirement of each seen entry is cut already
@@ -89,14 +91,14 @@ seen-always new form lines es b same f m = ap (λ (x : Text). seen (view_at x)) 
 
 -- what was read back stays
 settled-on : (s : Setting) (new : List ℕ) (form : Text) (lines : List Line) → AllZip (IsRow s) (seen (view_at form)) lines
-    → IsReadBack new form lines → IsFixedPoint s new
-settled-on s new form lines d b =
+    → IsReadBack new form lines → WordsSelect s.options → IsFixedPoint s new
+settled-on s new form lines d b select =
     let es = seen (view_at form) in
     let back = seen-back s new form lines d b in
     let same = seen-always new form lines (renewed es lines) b back in
     let rows = some-again s es lines d in
     let quiet : (again : List Line) → HasRows s new again → All HasNoChange again = λ again h.
-    all-again s es lines again (seen-whole (view_at form)) d (subst (λ (xs : List Seen). AllZip (IsRow s) xs again) (same h.form h.manifest) h.decided) in
+    all-again s es lines again (none_given s.options select) (seen-whole (view_at form)) d (subst (λ (xs : List Seen). AllZip (IsRow s) xs again) (same h.form h.manifest) h.decided) in
     record {
       lines = rows.0;
       rows = record {
@@ -111,9 +113,10 @@ settled-on s new form lines d b =
 
 -- the bytes that stand after a plan
 pub settled : (s : Setting) (path bytes : List ℕ) (lines : List Line) (outputs : List Output) → HasRows s bytes lines → HasOutputs path bytes lines outputs
-    → IsFixedPoint s (bytes_after bytes outputs)
-settled s path bytes lines outputs h g =
-    settled-on s (bytes_after bytes outputs) h.form lines h.decided (read-back path bytes h.form lines outputs h.manifest g)
+    → WordsSelect s.options → IsFixedPoint s (bytes_after bytes outputs)
+settled s path bytes lines outputs h g select =
+    settled-on s (bytes_after bytes outputs) h.form lines h.decided
+    (read-back path bytes h.form lines outputs h.manifest g) select
 
 -- ---- the looks that are needed
 

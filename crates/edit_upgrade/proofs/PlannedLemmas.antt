@@ -1,6 +1,8 @@
 -- The rows and looks of a manifest, from those of its entries.
 use Rattle.std.proofs.Common.{◌≡◌, [], List, ℕ, Result, Ok, Err, map, ap, ◌∙◌, sym, subst, inl, inr, ◌⊎◌, length}
-use Rattle.std.specs.Prelude.{All, IfErr, IsErrAnd, option_map}
+use Rattle.std.specs.Prelude.{◌&&◌, ◌||◌, All, Bool, IfErr, IsErrAnd, option_map}
+use Rattle.std.specs.List.{list_any}
+use Rattle.std.specs.Str.{bytes_eq}
 use Rattle.std.proofs.lemmas.List.{length-map}
 use Rattle.std.proofs.lemmas.Slice.Zip.{AllZip-long}
 use Rattle.edit_base.specs.Errors.{IsMemory}
@@ -21,11 +23,13 @@ use Rattle.edit_upgrade.specs.Lines.{line_of}
 use Rattle.edit_upgrade.specs.Lists.{AreWarnings, Told}
 use Rattle.edit_upgrade.specs.Looked.{AreSteps, Leaves}
 use Rattle.edit_upgrade.specs.Looks.{Kept, kept_basis}
+use Rattle.edit_upgrade.specs.Missing.{AddsNames, names_in}
 use Rattle.edit_upgrade.specs.PairSets.{holds_pair}
 use Rattle.edit_upgrade.specs.PlannedView.{AreSeen, IsShown, IsWalked}
 use Rattle.edit_upgrade.specs.Records.{Seen, seen}
 use Rattle.edit_upgrade.specs.Rows.{AreDecided, Basis, IsRowBy, Line}
 use Rattle.edit_upgrade.specs.Upgraded.{HasWarnings, IsNeededBy, IsNeededIn}
+use Rattle.edit_upgrade.specs.Words.{is_named, words_of}
 use Rattle.edit_upgrade.specs.declared.planned.Planned.{Planned}
 use Rattle.edit_upgrade.specs.declared.seen.Entry.{Entry}
 use Rattle.edit_upgrade.specs.declared.upgrade.Options.{Options}
@@ -156,4 +160,23 @@ planned-warnings number bytes d es ts same f shows whole w =
       manifest = subst (λ (x : List ℕ). IsManifest x f.0) same f.1;
       are = subst (λ (xs : List found.Entry). AreWarnings number xs ts)
           (whole ∙ ap (λ (t : Tree). entries t []) tree) w;
+    }
+
+-- the names of the entries of a document, added to those that are known, are those of the manifest
+pub planned-names : (o : Options) (bytes : List ℕ) (d : Shown) (es : List found.Entry)
+    (old new : List ℕ → Bool) → d.bytes ≡ bytes → (form : Text) × IsManifest d.bytes form
+    → ((form : Text) → IsManifest d.bytes form → ShowsTree d form) → es ≡ entries (tree_of d) []
+    → ((name : List ℕ) → new name
+    ≡ (old name || (is_named (words_of o) name && list_any (bytes_eq name) (names_in es))))
+    → AddsNames o bytes old new
+planned-names o bytes d es old new same f shows whole adds =
+    let tree : tree_of d ≡ view_at f.0 = λ i p. shows f.0 f.1 p i in
+    record {
+      names = names_in es;
+      have = record {
+        form = f.0;
+        manifest = subst (λ (x : List ℕ). IsManifest x f.0) same f.1;
+        are = ap names_in (whole ∙ ap (λ (t : Tree). entries t []) tree);
+      };
+      are = adds;
     }

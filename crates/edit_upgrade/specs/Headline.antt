@@ -9,6 +9,7 @@ use Rattle.edit_upgrade.specs.Inputs.{Setting, outputs_at, path_of}
 use Rattle.edit_upgrade.specs.Outputs.{HasOutputs}
 use Rattle.edit_upgrade.specs.Rows.{Line}
 use Rattle.edit_upgrade.specs.Upgraded.{HasRows, IsNeededBy}
+use Rattle.edit_upgrade.specs.Words.{WordsSelect}
 use Rattle.edit_report.specs.declared.row.Change.TheVariants as change
 use Rattle.edit_metadata.specs.declared.input.Input.{Input}
 use Rattle.edit_report.specs.declared.output.Output.{Output}
@@ -77,9 +78,10 @@ NeedSame configs bytes other = (address name : List ℕ) → IsNeededBy configs 
 abbrev pub left_of : Input → UpgradePlan → List ℕ
 left_of input p = bytes_after input.bytes.items (outputs_at (path_of input) p)
 
--- what the plan leaves of an input stays, planned again over the same looks
+-- where no word gives a requirement, what the plan leaves of an input stays, planned again over the same
+-- looks
 abbrev pub IsSettled : Setting → Input → UpgradePlan → Type 0
-IsSettled s input p = IsFixedPoint s (left_of input p)
+IsSettled s input p = WordsSelect s.options → IsFixedPoint s (left_of input p)
 
 -- what the plan leaves of an input needs the same looks
 abbrev pub NeedsAsBefore : Setting → Input → UpgradePlan → Type 0

@@ -18,3 +18,7 @@ pub mod Headline
 pub mod Addresses
 pub mod PairSets
 pub mod Drafts
+pub mod Words
+pub mod Picks
+pub mod WordCauses
+pub mod Missing

@@ -1,5 +1,5 @@
 -- What a plan tells besides its rows.
-use Rattle.std.specs.Prelude.{◌≡◌, [], map, ℕ, List, ◌++◌, codes, Bool, true, false, if◌then◌else◌, Option, Some, None, String, is_ok, option_and_then, option_map, string_bytes, string_cmp}
+use Rattle.std.specs.Prelude.{◌≡◌, map, ℕ, List, ◌++◌, codes, Bool, true, false, if◌then◌else◌, Option, Some, None, String, is_ok, option_and_then, option_map, string_bytes, string_cmp}
 use Rattle.std.specs.List.{AllZip, filter_map, list_any}
 use Rattle.std.specs.List.Sorted.{IsStrictlySortedBy}
 use Rattle.std.specs.Str.{bytes_eq}
@@ -111,6 +111,5 @@ pub record AreNames (names : List (List ℕ)) (told : List (String Global)) : Ty
 pub record Tells (p : UpgradePlan) : Type 0 where
   pub modified : AreNames (changed_names (map line_of p.rows.items)) p.modified.items
   pub git_crates : AreNames (git_names (map line_of p.rows.items)) p.git_crates.items
-  pub missing : p.missing.items ≡ []
   pub pinned : p.pinned_present ≡ list_any (λ r. is_held_pinned r.reason) p.rows.items
   pub incompatible : p.incompatible_present ≡ list_any (λ r. is_held_incompatible r.reason) p.rows.items

@@ -11,6 +11,7 @@ use Rattle.edit_sources.specs.Configured.{HasAddress}
 use Rattle.edit_sources.specs.declared.config.Config.{Config}
 use Rattle.edit_upgrade.specs.Decision.{Case, Choice, decision, newer, or_else, when}
 use Rattle.edit_upgrade.specs.Records.{Seen, Source, at_folder, at_registry, at_repository}
+use Rattle.edit_upgrade.specs.Words.{is_excluded, requirement_for}
 use Rattle.edit_report.specs.declared.row.Change.{Change}
 use Rattle.edit_upgrade.specs.declared.upgrade.Options.{Options}
 use Rattle.edit_report.specs.declared.row.Reason.{Reason}
@@ -37,12 +38,13 @@ pub record Line : Type 0 where
   pub reason : Option Reason
   pub change : Option Change
 
--- what is decided of an entry with this requirement, where words and excluded names play no part
-abbrev pub case_for : Seen → List ℕ → Option Parts → Option Parts → Case
-case_for e old near far = record {
-  excluded = false;
+-- what is decided of an entry with this requirement: whether it is left out, and the requirement that words
+-- give it, go by its name
+abbrev pub case_for : Options → Seen → List ℕ → Option Parts → Option Parts → Case
+case_for o e old near far = record {
+  excluded = is_excluded o e.name;
   renamed = is_some e.rename;
-  selected = None;
+  selected = requirement_for o e.name;
   old = old;
   compatible = near;
   latest = far;
@@ -70,17 +72,18 @@ pub record IsDecided (input : ℕ) (options : Options) (versions : List Parts) (
   pub far : Option Parts
   pub compatible : IsCompatible old versions near
   pub latest : IsLatest old versions far
-  pub is : line ≡ line_for input e old near far (decision options (case_for e old near far))
+  pub is : line ≡ line_for input e old near far (decision options (case_for options e old near far))
 
--- why an entry without a requirement stays as it is
-abbrev pub dash_reason : Source → Reason
-dash_reason at_folder = reason.PathSource
-dash_reason at_repository = reason.GitSource
-dash_reason (at_registry named) = reason.GitSource
+-- why an entry without a requirement stays as it is: it is left out, or its crate comes from elsewhere
+abbrev pub dash_reason : Bool → Source → Reason
+dash_reason true source = reason.Excluded
+dash_reason false at_folder = reason.PathSource
+dash_reason false at_repository = reason.GitSource
+dash_reason false (at_registry named) = reason.GitSource
 
 -- the row of an entry without a requirement: dashes, and a reason
-abbrev pub dashes : ℕ → Seen → Line
-dashes i e = record {
+abbrev pub dashes : ℕ → Options → Seen → Line
+dashes i o e = record {
   input = i;
   name = e.name;
   place = e.place;
@@ -89,13 +92,13 @@ dashes i e = record {
   compatible = None;
   latest = None;
   new = None;
-  reason = Some (dash_reason e.source);
+  reason = Some (dash_reason (is_excluded o e.name) e.source);
   change = None;
 }
 
 -- the row of an entry with this requirement or none, over versions
 abbrev pub IsRowOver : ℕ → Options → List Parts → Seen → Option (List ℕ) → Line → Type 0
-IsRowOver i o versions e None line = line ≡ dashes i e
+IsRowOver i o versions e None line = line ≡ dashes i o e
 IsRowOver i o versions e (Some old) line = IsDecided i o versions e old line
 
 -- the look that an entry needs: at the address of its registry, for its name

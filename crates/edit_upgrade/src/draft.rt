@@ -1,5 +1,6 @@
 //! What is planned of inputs, one after another.
 ghost use Rattle.std.specs.Prelude.{◌≡◌, ◌≢◌, ◌++◌, ◌⊎◌, [], List, ℕ, IfErr, IfOk, MatchOption, OnOk, false, map, string_bytes};
+ghost use Rattle.std.specs.BTreeSet.{contains_text};
 ghost use Rattle.edit_base.specs.Errors.{IsMemory};
 ghost use Rattle.edit_report.specs.declared.output.Output.{Output};
 ghost use Rattle.edit_sources.specs.IndexCache.{index_of};
@@ -9,15 +10,18 @@ ghost use Rattle.edit_upgrade.specs.Lines.{line_of};
 ghost use Rattle.edit_upgrade.specs.Lists.{Tells, warning_view};
 ghost use Rattle.edit_upgrade.specs.Looked.{AreKept, Leaves};
 ghost use Rattle.edit_upgrade.specs.Looks.{kept_by};
+ghost use Rattle.edit_upgrade.specs.Missing.{AddsNames};
 ghost use Rattle.edit_upgrade.specs.Outputs.{HasOutputs, IsOnlyOutput};
 ghost use Rattle.edit_upgrade.specs.PairSets.{holds_pair};
 ghost use Rattle.edit_upgrade.specs.PlannedView.{IsShown};
 ghost use Rattle.edit_upgrade.specs.Upgraded.{IsNeededBy};
 
+use crate::asked::Asked;
 use crate::lists::{git_crates, has_incompatible, has_pinned, modified_names};
 use crate::looks::Pairs;
+use crate::names::Names;
 use crate::planned::{Planned, plan_input};
-use crate::upgrade::{Options, UpgradePlan, Warning};
+use crate::upgrade::{UpgradePlan, Warning};
 use crate::walk::Books;
 use crate::writes::written;
 use edit_base::CargoResult;
@@ -31,6 +35,8 @@ use std::alloc::Global;
 #[derive(Drop)]
 pub(crate) struct Draft {
     pub(crate) books: Books,
+    /// The names of entries that words select.
+    pub(crate) known: Names,
     pub(crate) outputs: Vec<Output>,
     pub(crate) rows: Vec<Row>,
     pub(crate) warnings: Vec<Warning>,
@@ -41,6 +47,7 @@ impl Draft {
     pub(crate) fn new(alloc: Global) -> Draft
         ensures looks { result.books.looks.items ≡ [] }
         ensures pairs { (address name : List ℕ) → holds_pair result.books.pairs address name ≡ false }
+        ensures known { (name : List ℕ) → contains_text result.known name ≡ false }
         ensures outputs { result.outputs.items ≡ [] }
         ensures rows { result.rows.items ≡ [] }
         ensures warnings { result.warnings.items ≡ [] }
@@ -51,6 +58,7 @@ impl Draft {
         };
         Draft {
             books,
+            known: Names::new(alloc),
             outputs: Vec::new(alloc),
             rows: Vec::new(alloc),
             warnings: Vec::new(alloc),
@@ -99,6 +107,7 @@ fn add_planned(
 ) -> CargoResult<()>
     requires { IsShown input.now.bytes.items document.now planned }
     ensures books { draft.new.books ≡ draft.old.books }
+    ensures known { draft.new.known ≡ draft.old.known }
     ensures rows { OnOk result (draft.new.rows.items ≡ draft.old.rows.items ++ planned.rows.items) }
     ensures warnings { OnOk result
         (draft.new.warnings.items ≡ draft.old.warnings.items ++ planned.warnings.items) }
@@ -120,7 +129,7 @@ fn add_planned(
 pub(crate) fn add_input<I: Index>(
     alloc: Global,
     number: usize,
-    options: &Options,
+    asked: Asked<'_>,
     input: &Input,
     document: &Document,
     configs: &[Config],
@@ -130,8 +139,10 @@ pub(crate) fn add_input<I: Index>(
     requires document { document.now.bytes ≡ input.now.bytes.items }
     requires kept { AreKept (holds_pair draft.old.books.pairs) (kept_by index.old) }
     ensures kept { OnOk result (AreKept (holds_pair draft.new.books.pairs) (kept_by index.new)) }
-    ensures adds { OnOk result (AddsInput number options.now input.now configs.now
+    ensures adds { OnOk result (AddsInput number asked.entry.options.now input.now configs.now
         (I.view (index_of index.old)).gives (kept_by index.old) (kept_by index.new) draft.old draft.new) }
+    ensures known { OnOk result (AddsNames asked.entry.options.now input.now.bytes.items
+        (contains_text draft.old.known) (contains_text draft.new.known)) }
     ensures left { Leaves (IsNeededBy configs.now input.now.bytes.items) (I.view (index_of index.old)).gives
         (I.view (index_of index.new)).gives (I.view (index_of index.old)).faults
         (I.view (index_of index.new)).faults (kept_by index.old) (kept_by index.new) }
@@ -141,19 +152,21 @@ pub(crate) fn add_input<I: Index>(
         (I.view (index_of index.old)).faults (I.view (index_of index.new)).faults input.now.bytes.items e) }
 {
     let books = &mut draft.books;
+    let known = &mut draft.known;
     let planned = plan_input(
-        alloc, number, options, input, document, configs, books, index,
+        alloc, number, asked, input, document, configs, known, books, index,
     )?;
     add_planned(alloc, input, document, planned, draft)?;
     Ok(())
 }
 
 /// The plan that a draft without rows has.
-fn rowless(alloc: Global, draft: Draft) -> UpgradePlan
+fn rowless(alloc: Global, draft: Draft, missing: Vec<String>) -> UpgradePlan
     requires { draft.rows.items ≡ [] }
     ensures rows { (result.rows ≡ draft.rows) × (result.looks ≡ draft.books.looks) }
     ensures outputs { (result.outputs ≡ draft.outputs) × (result.warnings ≡ draft.warnings) }
     ensures lists { Tells result }
+    ensures missing { result.missing ≡ missing }
 {
     let books = draft.books;
     UpgradePlan {
@@ -161,7 +174,7 @@ fn rowless(alloc: Global, draft: Draft) -> UpgradePlan
         rows: draft.rows,
         looks: books.looks,
         warnings: draft.warnings,
-        missing: Vec::new(alloc),
+        missing,
         modified: Vec::new(alloc),
         git_crates: Vec::new(alloc),
         pinned_present: false,
@@ -170,14 +183,19 @@ fn rowless(alloc: Global, draft: Draft) -> UpgradePlan
 }
 
 /// The plan that a draft has, with what is told of its rows.
-pub(crate) fn finished(alloc: Global, draft: Draft) -> CargoResult<UpgradePlan>
+pub(crate) fn finished(
+    alloc: Global,
+    draft: Draft,
+    missing: Vec<String>,
+) -> CargoResult<UpgradePlan>
     ensures rows { IfOk result (λ p. (p.rows ≡ draft.rows) × (p.looks ≡ draft.books.looks)) }
     ensures outputs { IfOk result (λ p. (p.outputs ≡ draft.outputs) × (p.warnings ≡ draft.warnings)) }
     ensures lists { IfOk result Tells }
+    ensures missing { IfOk result (λ p. p.missing ≡ missing) }
     ensures refused { IfErr result (λ e. IsMemory e × (draft.rows.items ≢ [])) }
 {
     if draft.rows.is_empty() {
-        return Ok(rowless(alloc, draft));
+        return Ok(rowless(alloc, draft, missing));
     }
     let modified = modified_names(alloc, &draft.rows)?;
     let git_crates = git_crates(alloc, &draft.rows)?;
@@ -189,7 +207,7 @@ pub(crate) fn finished(alloc: Global, draft: Draft) -> CargoResult<UpgradePlan>
         rows: draft.rows,
         looks: books.looks,
         warnings: draft.warnings,
-        missing: Vec::new(alloc),
+        missing,
         modified,
         git_crates,
         pinned_present,

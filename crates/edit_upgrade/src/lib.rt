@@ -2,12 +2,15 @@
 #![tactic(auto)]
 
 mod addresses;
+mod asked;
 mod decide;
 mod draft;
 mod lists;
 mod looks;
+mod missing;
 mod names;
 mod offers;
+mod picks;
 mod plan;
 mod planned;
 mod requirement;

@@ -1,5 +1,6 @@
 //! The plan of an upgrade.
 ghost use Rattle.std.specs.Prelude.{◌≡◌, ◌≤◌, ◌⊎◌, [], All, IfErr, IfOk, IfSome, IsSome, IsUtf8, None, OnOk, length, map, option_copied, slice_get};
+ghost use Rattle.std.specs.BTreeSet.{contains_text};
 ghost use Rattle.edit_base.specs.Errors.{IsMemory};
 ghost use Rattle.edit_manifest.specs.Loaded.{IsBadManifest};
 ghost use Rattle.edit_sources.specs.Index.{SameOutcomes};
@@ -12,10 +13,15 @@ ghost use Rattle.edit_upgrade.specs.Lines.{line_of};
 ghost use Rattle.edit_upgrade.specs.Lists.{Tells};
 ghost use Rattle.edit_upgrade.specs.Looked.{AreKept, Leaves};
 ghost use Rattle.edit_upgrade.specs.Looks.{AddsNeeded, AreLooks, kept_by};
+ghost use Rattle.edit_upgrade.specs.Missing.{AddsNames, AreKnown, TellsMissing};
 ghost use Rattle.edit_upgrade.specs.PairSets.{holds_pair};
+ghost use Rattle.edit_upgrade.specs.WordCauses.{IsRefusedFor};
 ghost use Rattle.edit_upgrade.specs.Upgraded.{HasItsOutputs, HasItsRows, HasItsWarnings, IsNeeded, IsNeededBy};
 
+use crate::asked::Asked;
 use crate::draft::{Draft, add_input, finished};
+use crate::missing::unknown;
+use crate::picks::picks_of;
 use crate::upgrade::{Options, UpgradePlan};
 use edit_base::CargoResult;
 use edit_document::Document;
@@ -28,7 +34,7 @@ use std::alloc::Global;
 fn add_read<I: Index>(
     alloc: Global,
     number: usize,
-    options: &Options,
+    asked: Asked<'_>,
     input: &Input,
     document: Option<&Document>,
     configs: &[Config],
@@ -38,8 +44,10 @@ fn add_read<I: Index>(
     requires document { IfSome (option_copied document) (λ d. d.bytes ≡ input.now.bytes.items) }
     requires kept { AreKept (holds_pair draft.old.books.pairs) (kept_by index.old) }
     ensures kept { OnOk result (AreKept (holds_pair draft.new.books.pairs) (kept_by index.new)) }
-    ensures adds { OnOk result (AddsInput number options.now input.now configs.now
+    ensures adds { OnOk result (AddsInput number asked.entry.options.now input.now configs.now
         (I.view (index_of index.old)).gives (kept_by index.old) (kept_by index.new) draft.old draft.new) }
+    ensures known { OnOk result (AddsNames asked.entry.options.now input.now.bytes.items
+        (contains_text draft.old.known) (contains_text draft.new.known)) }
     ensures utf8 { OnOk result (option_copied document.entry ≡ None → IsUtf8 input.now.bytes.items) }
     ensures left { Leaves (IsNeededBy configs.now input.now.bytes.items) (I.view (index_of index.old)).gives
         (I.view (index_of index.new)).gives (I.view (index_of index.old)).faults
@@ -56,17 +64,13 @@ fn add_read<I: Index>(
 {
     match document {
         Some(document) => {
-            add_input(
-                alloc, number, options, input, document, configs, draft, index,
-            )?;
+            add_input(alloc, number, asked, input, document, configs, draft, index)?;
             Ok(())
         }
         None => {
             let manifest = Manifest::read_bytes(alloc, &input.bytes)?;
             let document = &manifest.document;
-            add_input(
-                alloc, number, options, input, document, configs, draft, index,
-            )?;
+            add_input(alloc, number, asked, input, document, configs, draft, index)?;
             Ok(())
         }
     }
@@ -82,7 +86,7 @@ fn document_at(documents: &[Document], i: usize) -> Option<&Document>
 /// What is planned of inputs: over their documents, or over those of their bytes where none is given.
 fn drafted<I: Index>(
     alloc: Global,
-    options: &Options,
+    asked: Asked<'_>,
     inputs: &[Input],
     documents: &[Document],
     configs: &[Vec<Config>],
@@ -91,9 +95,10 @@ fn drafted<I: Index>(
     requires documents { AreGiven inputs.now documents.now }
     requires configurations { length configs.now ≡ length inputs.now }
     requires paths { HaveDistinctPaths inputs.now }
-    ensures drafted { IfOk result (IsDraft options.now inputs.now configs.now
+    ensures drafted { IfOk result (IsDraft asked.entry.options.now inputs.now configs.now
         (I.view (index_of index.old)).gives
         (kept_by index.old) (kept_by index.new)) }
+    ensures known { IfOk result (λ d. AreKnown asked.entry.options.now inputs.now (contains_text d.known)) }
     ensures utf8 { OnOk result (documents.now ≡ [] → All (λ x. IsUtf8 x.bytes.items) inputs.now) }
     ensures left { Leaves (IsNeeded inputs.now configs.now) (I.view (index_of index.old)).gives
         (I.view (index_of index.new)).gives (I.view (index_of index.old)).faults
@@ -111,7 +116,7 @@ fn drafted<I: Index>(
     'inputs: for (i, input) in inputs.iter().enumerate() {
         let document = document_at(documents, i);
         let own = &configs[i];
-        add_read(alloc, i, options, input, document, own, &mut draft, index)?;
+        add_read(alloc, i, asked, input, document, own, &mut draft, index)?;
     }
     Ok(draft)
 }
@@ -142,21 +147,28 @@ fn plan_all<I: Index>(
         (λ p. AreLooks (IsNeeded inputs.now configs.now) (I.view (index_of index.old)).gives
         (kept_by index.old) (kept_by index.new) p.looks.items) }
     ensures lists { IfOk result Tells }
+    ensures missing { IfOk result (TellsMissing options.now inputs.now) }
     ensures kept { AddsNeeded (IsNeeded inputs.now configs.now) (I.view (index_of index.old)).gives
         (kept_by index.old) (kept_by index.new) }
     ensures index { SameOutcomes (I.view (index_of index.old)).gives (I.view (index_of index.new)).gives }
     ensures faults { (I.view (index_of index.old)).faults ≤ (I.view (index_of index.new)).faults }
     ensures given { IfErr result (λ e. length documents.now ≡ length inputs.now
-        → IsEntryCause inputs.now configs.now (I.view (index_of index.old)).gives
+        → IsRefusedFor options.now (IsEntryCause inputs.now configs.now (I.view (index_of index.old)).gives
         (kept_by index.old) (kept_by index.new)
-        (I.view (index_of index.old)).faults (I.view (index_of index.new)).faults e) }
+        (I.view (index_of index.old)).faults (I.view (index_of index.new)).faults) e) }
     ensures read { IfErr result (λ e. documents.now ≡ []
-        → IsCause inputs.now configs.now (I.view (index_of index.old)).gives
+        → IsRefusedFor options.now (IsCause inputs.now configs.now (I.view (index_of index.old)).gives
         (kept_by index.old) (kept_by index.new)
-        (I.view (index_of index.old)).faults (I.view (index_of index.new)).faults e) }
+        (I.view (index_of index.old)).faults (I.view (index_of index.new)).faults) e) }
 {
-    let draft = drafted(alloc, options, inputs, documents, configs, index)?;
-    let plan = finished(alloc, draft)?;
+    let picks = picks_of(alloc, options)?;
+    let asked = Asked {
+        options,
+        picks: &picks,
+    };
+    let draft = drafted(alloc, asked, inputs, documents, configs, index)?;
+    let missing = unknown(alloc, &picks.words.names, &draft.known)?;
+    let plan = finished(alloc, draft, missing)?;
     Ok(plan)
 }
 
@@ -172,8 +184,6 @@ pub fn plan_documents<I: Index>(
     requires documents { map (λ d. d.bytes) documents.now ≡ map (λ input. input.bytes.items) inputs.now }
     requires configurations { length configs.now ≡ length inputs.now }
     requires paths { HaveDistinctPaths inputs.now }
-    requires no_words { options.now.package.items ≡ [] }
-    requires no_exclusions { options.now.exclude.items ≡ [] }
     // each seen entry has one row: the decision over the greatest admissible versions that the looks tell of
     ensures rows { IfOk result (EachInput options.now inputs.now configs.now HasItsRows) }
     ensures rows_in_order { IfOk result (RowsInOrder inputs.now) }
@@ -188,10 +198,12 @@ pub fn plan_documents<I: Index>(
     ensures reach { IfOk result (λ p. All Reaches (map line_of p.rows.items)) }
     // where a compatible version is told, a latest one is, and is not less
     ensures latest { IfOk result (λ p. All LatestIsNotLess (map line_of p.rows.items)) }
-    // planned again over the same looks, the bytes that stand after the plan stay as they are
+    // where no word gives a requirement: planned again over the same looks, the bytes after the plan stay
     ensures fixed_point { IfOk result (EachInput options.now inputs.now configs.now IsSettled) }
     // and they need the same looks
     ensures needs { IfOk result (EachInput options.now inputs.now configs.now NeedsAsBefore) }
+    // the names that words select and that no entry of an input has
+    ensures missing { IfOk result (TellsMissing options.now inputs.now) }
     // each look that is needed, and no other
     ensures looks { IfOk result
         (λ p. AreLooks (IsNeeded inputs.now configs.now) (I.view (index_of index.old)).gives
@@ -202,20 +214,22 @@ pub fn plan_documents<I: Index>(
         (kept_by index.old) (kept_by index.new) }
     ensures index { SameOutcomes (I.view (index_of index.old)).gives (I.view (index_of index.new)).gives }
     ensures faults { (I.view (index_of index.old)).faults ≤ (I.view (index_of index.new)).faults }
-    ensures refused { IfErr result (IsEntryCause inputs.now configs.now (I.view (index_of index.old)).gives
-        (kept_by index.old) (kept_by index.new)
-        (I.view (index_of index.old)).faults (I.view (index_of index.new)).faults) }
+    // for the options, else for the first input and its first entry that stops the plan
+    ensures refused { IfErr result (IsRefusedFor options.now (IsEntryCause inputs.now configs.now
+        (I.view (index_of index.old)).gives (kept_by index.old) (kept_by index.new)
+        (I.view (index_of index.old)).faults (I.view (index_of index.new)).faults)) }
 {
     plan_all(alloc, options, inputs, documents, configs, index)
 }
 
 /// What an upgrade of manifests gives: their new bytes, a row for each entry that is seen, and the looks.
 ///
-/// So far no words or exclusions select entries. The inputs are planned one after another, each over its own
-/// configurations, and the looks are made once over all of them. Seen are the entries of all dependency
-/// tables of a manifest that `Dependency::from_toml` reads, but for those that take all from their workspace;
-/// on the others there are warnings. An entry of a registry is looked up at the registry's address, once for
-/// each address and name; one of a repository or a folder has its requirement alone, or a row without any.
+/// The words and the excluded names of the options are read first. Then the inputs are planned one after
+/// another, each over its own configurations, and the looks are made once over all of them. Seen are the
+/// entries of all dependency tables of a manifest that `Dependency::from_toml` reads, but for those that take
+/// all from their workspace; on the others there are warnings. An entry of a registry is looked up at the
+/// registry's address, once for each address and name, also where words or excluded names leave it out; one
+/// of a repository or a folder has its requirement alone, or a row without any.
 pub fn plan_upgrade<I: Index>(
     alloc: Global,
     options: &Options,
@@ -225,8 +239,6 @@ pub fn plan_upgrade<I: Index>(
 ) -> CargoResult<UpgradePlan>
     requires configurations { length configs.now ≡ length inputs.now }
     requires paths { HaveDistinctPaths inputs.now }
-    requires no_words { options.now.package.items ≡ [] }
-    requires no_exclusions { options.now.exclude.items ≡ [] }
     // each seen entry has one row: the decision over the greatest admissible versions that the looks tell of
     ensures rows { IfOk result (EachInput options.now inputs.now configs.now HasItsRows) }
     ensures rows_in_order { IfOk result (RowsInOrder inputs.now) }
@@ -241,10 +253,12 @@ pub fn plan_upgrade<I: Index>(
     ensures reach { IfOk result (λ p. All Reaches (map line_of p.rows.items)) }
     // where a compatible version is told, a latest one is, and is not less
     ensures latest { IfOk result (λ p. All LatestIsNotLess (map line_of p.rows.items)) }
-    // planned again over the same looks, the bytes that stand after the plan stay as they are
+    // where no word gives a requirement: planned again over the same looks, the bytes after the plan stay
     ensures fixed_point { IfOk result (EachInput options.now inputs.now configs.now IsSettled) }
     // and they need the same looks
     ensures needs { IfOk result (EachInput options.now inputs.now configs.now NeedsAsBefore) }
+    // the names that words select and that no entry of an input has
+    ensures missing { IfOk result (TellsMissing options.now inputs.now) }
     // each look that is needed, and no other
     ensures looks { IfOk result
         (λ p. AreLooks (IsNeeded inputs.now configs.now) (I.view (index_of index.old)).gives
@@ -255,9 +269,10 @@ pub fn plan_upgrade<I: Index>(
         (kept_by index.old) (kept_by index.new) }
     ensures index { SameOutcomes (I.view (index_of index.old)).gives (I.view (index_of index.new)).gives }
     ensures faults { (I.view (index_of index.old)).faults ≤ (I.view (index_of index.new)).faults }
-    ensures refused { IfErr result (IsCause inputs.now configs.now (I.view (index_of index.old)).gives
-        (kept_by index.old) (kept_by index.new)
-        (I.view (index_of index.old)).faults (I.view (index_of index.new)).faults) }
+    // for the options, else for the first input and its first entry that stops the plan
+    ensures refused { IfErr result (IsRefusedFor options.now (IsCause inputs.now configs.now
+        (I.view (index_of index.old)).gives (kept_by index.old) (kept_by index.new)
+        (I.view (index_of index.old)).faults (I.view (index_of index.new)).faults)) }
 {
     let documents = Vec::new(alloc);
     plan_all(alloc, options, inputs, &documents, configs, index)

@@ -1,5 +1,6 @@
 //! What is planned for one manifest.
 ghost use Rattle.std.specs.Prelude.{◌≡◌, ◌⊎◌, IfErr, IfOk, OnOk, length, map};
+ghost use Rattle.std.specs.BTreeSet.{contains_text};
 ghost use Rattle.edit_base.specs.Errors.{IsMemory};
 ghost use Rattle.edit_sources.specs.IndexCache.{index_of};
 ghost use Rattle.edit_upgrade.specs.Causes.{HasBadEntry};
@@ -8,14 +9,18 @@ ghost use Rattle.edit_upgrade.specs.Lines.{line_of};
 ghost use Rattle.edit_upgrade.specs.Lists.{warning_view};
 ghost use Rattle.edit_upgrade.specs.Looked.{AreKept, Leaves};
 ghost use Rattle.edit_upgrade.specs.Looks.{kept_by};
+ghost use Rattle.edit_upgrade.specs.Missing.{AddsNames};
 ghost use Rattle.edit_upgrade.specs.PairSets.{holds_pair};
 ghost use Rattle.edit_upgrade.specs.PlannedView.{AreSeen, IsShown, IsWalked};
 ghost use Rattle.edit_upgrade.specs.Upgraded.{HasWarnings, IsNeededBy};
 
+use crate::asked::Asked;
 use crate::lists::warnings_on;
+use crate::missing::add_names;
+use crate::names::Names;
 use crate::rows::Job;
 use crate::seen::{Entry, with_rows};
-use crate::upgrade::{Options, Warning};
+use crate::upgrade::Warning;
 use crate::walk::{Books, walk};
 use edit_base::CargoResult;
 use edit_document::Document;
@@ -39,7 +44,7 @@ pub(crate) struct Planned {
 fn plan_entries<I: Index>(
     alloc: Global,
     number: usize,
-    options: &Options,
+    asked: Asked<'_>,
     input: &Input,
     entries: &[Entry],
     configs: &[Config],
@@ -50,7 +55,7 @@ fn plan_entries<I: Index>(
     requires kept { AreKept (holds_pair books.old.pairs) (kept_by index.old) }
     ensures kept { OnOk result (AreKept (holds_pair books.new.pairs) (kept_by index.new)) }
     ensures long { IfOk result (λ v. length v.items ≡ length entries.now) }
-    ensures walked { IfOk result (λ v. IsWalked number options.now input.now configs.now
+    ensures walked { IfOk result (λ v. IsWalked number asked.entry.options.now input.now configs.now
         (I.view (index_of index.old)).gives (kept_by index.old) (kept_by index.new)
         books.old books.new (map line_of v.items)) }
     ensures left { Leaves (IsNeededBy configs.now input.now.bytes.items) (I.view (index_of index.old)).gives
@@ -65,7 +70,7 @@ fn plan_entries<I: Index>(
     let rust_version = input.rust_version;
     let job = Job {
         number,
-        options,
+        asked,
         rust_version,
         configs,
     };
@@ -77,10 +82,11 @@ fn plan_entries<I: Index>(
 pub(crate) fn plan_input<I: Index>(
     alloc: Global,
     number: usize,
-    options: &Options,
+    asked: Asked<'_>,
     input: &Input,
     document: &Document,
     configs: &[Config],
+    known: &mut Names,
     books: &mut Books,
     index: &mut IndexCache<I>,
 ) -> CargoResult<Planned>
@@ -88,11 +94,13 @@ pub(crate) fn plan_input<I: Index>(
     requires kept { AreKept (holds_pair books.old.pairs) (kept_by index.old) }
     ensures kept { OnOk result (AreKept (holds_pair books.new.pairs) (kept_by index.new)) }
     ensures shown { IfOk result (IsShown input.now.bytes.items document.now) }
-    ensures walked { IfOk result (λ p. IsWalked number options.now input.now configs.now
+    ensures walked { IfOk result (λ p. IsWalked number asked.entry.options.now input.now configs.now
         (I.view (index_of index.old)).gives (kept_by index.old) (kept_by index.new)
         books.old books.new (map line_of p.rows.items)) }
     ensures warnings { IfOk result (λ p. HasWarnings number input.now.bytes.items
         (map warning_view p.warnings.items)) }
+    ensures known { OnOk result (AddsNames asked.entry.options.now input.now.bytes.items
+        (contains_text known.old) (contains_text known.new)) }
     ensures left { Leaves (IsNeededBy configs.now input.now.bytes.items) (I.view (index_of index.old)).gives
         (I.view (index_of index.new)).gives (I.view (index_of index.old)).faults (I.view
         (index_of index.new)).faults
@@ -106,10 +114,9 @@ pub(crate) fn plan_input<I: Index>(
     // from which folder a path is meant shows in no row
     let found = entries(alloc, "", document)?;
     let warnings = warnings_on(alloc, number, &found)?;
+    add_names(alloc, asked, &found, known)?;
     let entries = with_rows(alloc, found)?;
-    let rows = plan_entries(
-        alloc, number, options, input, &entries, configs, books, index,
-    )?;
+    let rows = plan_entries(alloc, number, asked, input, &entries, configs, books, index)?;
     Ok(Planned {
         entries,
         rows,

@@ -15,10 +15,10 @@ ghost use Rattle.edit_upgrade.specs.Offers.{offered};
 ghost use Rattle.edit_upgrade.specs.Rankings.{IsRankingOf};
 ghost use Rattle.edit_upgrade.specs.Rows.{IsDecided, IsRowOver, case_for, dash_reason, dashes, line_for};
 
+use crate::asked::{Asked, is_excluded, requirement_for};
 use crate::decide::decide;
 use crate::offers::{Offer, offer_of};
 use crate::seen::{Entry, Source};
-use crate::upgrade::Options;
 use edit_base::CargoResult;
 use edit_document::copied_place;
 use edit_record::Requirement;
@@ -37,7 +37,7 @@ use url::Url;
 pub(crate) struct Job<'a> {
     /// The index of the input, from 0.
     pub(crate) number: usize,
-    pub(crate) options: &'a Options,
+    pub(crate) asked: Asked<'a>,
     pub(crate) rust_version: Option<RustVersion>,
     pub(crate) configs: &'a [Config],
 }
@@ -127,19 +127,21 @@ fn row_over(
     ensures ok { IfOk result (λ r. line_of r ≡ line_for job.entry.number (seen_of entry.now)
         (text_in old.now)
         (parts_in compatible.entry) (parts_in latest.entry)
-        (decision job.entry.options.now (case_for (seen_of entry.now) (text_in old.now)
-        (parts_in compatible.entry) (parts_in latest.entry)))) }
+        (decision job.entry.asked.options.now (case_for job.entry.asked.options.now
+        (seen_of entry.now) (text_in old.now) (parts_in compatible.entry) (parts_in latest.entry)))) }
     ensures refused { IfErr result IsMemory }
 {
     let near = offer_of(alloc, compatible)?;
     let far = offer_of(alloc, latest)?;
     let renamed = entry.rename.is_some();
+    let excluded = is_excluded(job.asked, entry.name.as_str());
+    let selected = requirement_for(job.asked, entry.name.as_str());
     let decided = decide(
         alloc,
-        job.options,
-        false,
+        job.asked.options,
+        excluded,
         renamed,
-        None,
+        selected,
         old,
         near.as_ref(),
         far.as_ref(),
@@ -168,7 +170,7 @@ fn row_with(
     ranked: Option<&Ranked>,
 ) -> CargoResult<Row>
     ensures ok { IfOk result (λ r. (answer : Option Answer) → IsRankingOf answer (option_copied ranked.entry)
-        → IsDecided job.entry.number job.entry.options.now
+        → IsDecided job.entry.number job.entry.asked.options.now
         (versions_in (numbers_in job.entry.rust_version) answer)
         (seen_of entry.now) old.now (line_of r)) }
     ensures refused { IfErr result IsMemory }
@@ -181,9 +183,12 @@ fn row_with(
 }
 
 /// Why an entry without a requirement stays as it is.
-fn dash_reason(source: &Source) -> Reason
-    ensures { result ≡ dash_reason (source_view source.now) }
+fn dash_reason(excluded: bool, source: &Source) -> Reason
+    ensures { result ≡ dash_reason excluded (source_view source.now) }
 {
+    if excluded {
+        return Reason::Excluded;
+    }
     match source {
         Source::Path => Reason::PathSource,
         Source::Git | Source::Registry(_) => Reason::GitSource,
@@ -191,12 +196,14 @@ fn dash_reason(source: &Source) -> Reason
 }
 
 /// The row of an entry without a requirement.
-fn dash_row(alloc: Global, number: usize, entry: &Entry) -> CargoResult<Row>
-    ensures ok { IfOk result (λ r. line_of r ≡ dashes number (seen_of entry.now)) }
+fn dash_row(alloc: Global, job: Job<'_>, entry: &Entry) -> CargoResult<Row>
+    ensures ok { IfOk result (λ r. line_of r
+        ≡ dashes job.entry.number job.entry.asked.options.now (seen_of entry.now)) }
     ensures refused { IfErr result IsMemory }
 {
+    let excluded = is_excluded(job.asked, entry.name.as_str());
     Ok(Row {
-        input: number,
+        input: job.number,
         name: String::from_str(alloc, entry.name.as_str())?,
         place: copied_place(alloc, &entry.place)?,
         rename: copied_rename(alloc, entry.rename.as_ref())?,
@@ -204,7 +211,7 @@ fn dash_row(alloc: Global, number: usize, entry: &Entry) -> CargoResult<Row>
         compatible: None,
         latest: None,
         new: None,
-        reason: Some(dash_reason(&entry.source)),
+        reason: Some(dash_reason(excluded, &entry.source)),
         change: None,
     })
 }
@@ -217,14 +224,14 @@ pub(crate) fn row_for(
     ranked: Option<&Ranked>,
 ) -> CargoResult<Row>
     ensures ok { IfOk result (λ r. (answer : Option Answer) → IsRankingOf answer (option_copied ranked.entry)
-        → IsRowOver job.entry.number job.entry.options.now
+        → IsRowOver job.entry.number job.entry.asked.options.now
         (versions_in (numbers_in job.entry.rust_version) answer)
         (seen_of entry.now) (seen_of entry.now).old (line_of r)) }
     ensures refused { IfErr result IsMemory }
 {
     match &entry.old {
         Some(old) => row_with(alloc, job, entry, old.as_str(), ranked),
-        None => dash_row(alloc, job.number, entry),
+        None => dash_row(alloc, job, entry),
     }
 }
 
@@ -236,7 +243,7 @@ pub(crate) fn kept_row<I: Index>(
     entry: &Entry,
     index: &mut IndexCache<I>,
 ) -> CargoResult<Row>
-    ensures ok { IfOk result (λ r. IsRowOver job.entry.number job.entry.options.now
+    ensures ok { IfOk result (λ r. IsRowOver job.entry.number job.entry.asked.options.now
         (versions_in (numbers_in job.entry.rust_version)
         (kept_by index.new (serialize registry.now) (seen_of entry.now).name))
         (seen_of entry.now) (seen_of entry.now).old (line_of r)) }

@@ -51,7 +51,7 @@ fn registry_row<I: Index>(
         (I.view (index_of index.old)).gives (kept_by index.old) (kept_by index.new)
         books.old.looks.items books.new.looks.items
         (holds_pair books.old.pairs) (holds_pair books.new.pairs)) }
-    ensures row { IfOk result (λ r. IsRowBy (kept_basis job.entry.number job.entry.options.now
+    ensures row { IfOk result (λ r. IsRowBy (kept_basis job.entry.number job.entry.asked.options.now
         (numbers_in job.entry.rust_version) job.entry.configs.now (kept_by index.new))
         (seen_of entry.now) (line_of r)) }
     ensures left { Leaves (IsNeededFor job.entry.configs.now (seen_of entry.now))
@@ -87,7 +87,7 @@ fn entry_row<I: Index>(
         (I.view (index_of index.old)).gives (kept_by index.old) (kept_by index.new)
         books.old.looks.items books.new.looks.items
         (holds_pair books.old.pairs) (holds_pair books.new.pairs)) }
-    ensures row { IfOk result (λ r. IsRowBy (kept_basis job.entry.number job.entry.options.now
+    ensures row { IfOk result (λ r. IsRowBy (kept_basis job.entry.number job.entry.asked.options.now
         (numbers_in job.entry.rust_version) job.entry.configs.now (kept_by index.new))
         (seen_of entry.now) (line_of r)) }
     ensures left { Leaves (IsNeededFor job.entry.configs.now (seen_of entry.now))
@@ -136,7 +136,7 @@ pub(crate) fn walk<I: Index>(
         (holds_pair books.old.pairs) (holds_pair books.new.pairs)) }
     ensures passed { OnOk result
         (All (IsPassed job.entry.configs.now (kept_by index.new)) (map seen_of entries.now)) }
-    ensures rows { IfOk result (λ v. AreDecided (kept_basis job.entry.number job.entry.options.now
+    ensures rows { IfOk result (λ v. AreDecided (kept_basis job.entry.number job.entry.asked.options.now
         (numbers_in job.entry.rust_version) job.entry.configs.now (kept_by index.new))
         (map seen_of entries.now) (map line_of v.items)) }
     ensures left { Leaves (IsNeededIn job.entry.configs.now (map seen_of entries.now))

@@ -1,9 +1,14 @@
 use Rattle.std.proofs.Common.{ap, map, subst, sym, ◌∙◌}
+use Rattle.std.specs.Prelude.{String}
+use Rattle.std.specs.BTreeSet.{contains_text}
+use Rattle.std.specs.declared.alloc.Global.{Global}
+use Rattle.std.specs.declared.collections.BTreeSet.{BTreeSet}
 use Rattle.std.proofs.lemmas.List.{map-append}
 use Rattle.edit_sources.specs.IndexCache.{index_of}
 use Rattle.edit_upgrade.specs.Lines.{line_of}
 use Rattle.edit_upgrade.specs.Lists.{warning_view}
 use Rattle.edit_upgrade.specs.Looks.{kept_by}
+use Rattle.edit_upgrade.specs.Missing.{AddsNames}
 use Rattle.edit_upgrade.specs.PlannedView.{IsWalked}
 use Rattle.edit_upgrade.specs.declared.walk.Books.{Books}
 use Rattle.edit_upgrade.proofs.draft.add_input.Goals as goal
@@ -16,7 +21,7 @@ returns-clause-adds g c =
       lines = map line_of planned.rows.items;
       outputs = own.0;
       told = map warning_view planned.warnings.items;
-      walked = subst (λ (books : Books). IsWalked c.args.number c.args.options.now c.args.input.now
+      walked = subst (λ (books : Books). IsWalked c.args.number c.args.asked.options.now c.args.input.now
           c.args.configs.now
           (g.I.Index.view (index_of c.args.index.now)).gives (kept_by c.args.index.now)
           (kept_by c.plan_input.new.index)
@@ -31,3 +36,9 @@ returns-clause-adds g c =
       told_are = ap (map warning_view) c.in_ok-add_planned.ensures.warnings
           ∙ map-append warning_view c.args.draft.now.warnings.items planned.warnings.items;
     }
+
+pub returns-clause-known : goal.returns-clause-known
+returns-clause-known g c =
+    subst (λ (known : BTreeSet (String Global) Global). AddsNames c.args.asked.options.now
+    c.args.input.now.bytes.items (contains_text c.args.draft.now.known) (contains_text known))
+    (sym c.in_ok-add_planned.ensures.known) c.in_ok-planned.ensures.known

@@ -8,13 +8,12 @@ use Rattle.edit_upgrade.proofs.draft.rowless.Goals as goal
 
 pub returns-clause-lists : goal.returns-clause-lists
 returns-clause-lists c = record {
-  modified = subst (λ (rs : List Row). AreNames (changed_names (map line_of rs)) c.new-2.result.items)
+  modified = subst (λ (rs : List Row). AreNames (changed_names (map line_of rs)) c.new.result.items)
+      (sym c.requires)
+      (no-names c.new.result.items c.new.ensures.items);
+  git_crates = subst (λ (rs : List Row). AreNames (git_names (map line_of rs)) c.new-2.result.items)
       (sym c.requires)
       (no-names c.new-2.result.items c.new-2.ensures.items);
-  git_crates = subst (λ (rs : List Row). AreNames (git_names (map line_of rs)) c.new-3.result.items)
-      (sym c.requires)
-      (no-names c.new-3.result.items c.new-3.ensures.items);
-  missing = c.new.ensures.items;
   pinned = sym (ap (list_any (λ (r : Row). is_held_pinned r.reason)) c.requires);
   incompatible = sym (ap (list_any (λ (r : Row). is_held_incompatible r.reason)) c.requires);
 }

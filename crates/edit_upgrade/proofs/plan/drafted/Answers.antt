@@ -1,5 +1,6 @@
 use Rattle.std.proofs.Common.{List, ap, arith, map, subst, sym, take, ◌∙◌}
 use Rattle.std.specs.Prelude.{All, IsUtf8, slice_get}
+use Rattle.std.specs.BTreeSet.{contains_text}
 use Rattle.std.specs.Global.{Vec}
 use Rattle.std.proofs.lemmas.List.{take_all}
 use Rattle.std.proofs.lemmas.List.Elements.{All-nil, All-push}
@@ -11,21 +12,25 @@ use Rattle.edit_upgrade.specs.Drafts.{IsDraft}
 use Rattle.edit_upgrade.specs.Lines.{line_of}
 use Rattle.edit_upgrade.specs.Lists.{warning_view}
 use Rattle.edit_upgrade.specs.Looks.{kept_by}
+use Rattle.edit_upgrade.specs.Missing.{AreKnown}
 use Rattle.edit_upgrade.specs.Upgraded.{IsNeeded, IsNeededBy}
 use Rattle.edit_upgrade.proofs.CauseLemmas.{given-refused, read-refused, with-configs, with-configs_read}
 use Rattle.edit_upgrade.proofs.EndLemmas.{get-at, get-past}
 use Rattle.edit_upgrade.proofs.FurtherInputs.{draft-next, draft-start, given-at, needed-at}
 use Rattle.edit_upgrade.proofs.LookUpLemmas.{leaves-more, leaves-same}
+use Rattle.edit_upgrade.proofs.MissingLemmas.{known-next, known-start}
 use Rattle.edit_upgrade.proofs.PlannedLemmas.{refusal-has}
 use Rattle.edit_upgrade.proofs.Steps.{taken-more}
 use Rattle.edit_upgrade.proofs.plan.drafted.Goals as goal
 
 pub inputs-init : goal.inputs-init
 inputs-init g c = record {
-  draft = draft-start c.args.options.now (g.I.Index.view (index_of c.args.index.now)).gives
+  draft = draft-start c.args.asked.options.now (g.I.Index.view (index_of c.args.index.now)).gives
       (kept_by c.args.index.now) c.new-draft.result
       c.new-draft.ensures.looks c.new-draft.ensures.pairs c.new-draft.ensures.outputs
       c.new-draft.ensures.rows c.new-draft.ensures.warnings;
+  known = known-start c.args.asked.options.now (contains_text c.new-draft.result.known)
+      c.new-draft.ensures.known;
   utf8 = λ e. All-nil (λ (x : Input). IsUtf8 x.bytes.items);
   left = leaves-same (IsNeeded c.args.inputs.now c.args.configs.now)
       (g.I.Index.view (index_of c.args.index.now)).gives
@@ -42,7 +47,7 @@ add_read-requires g c = record {
 
 pub inputs-preserved : goal.inputs-preserved
 inputs-preserved g c = record {
-  draft = draft-next c.args.options.now c.args.inputs.now c.args.configs.now c.inputs.i
+  draft = draft-next c.args.asked.options.now c.args.inputs.now c.args.configs.now c.inputs.i
       c.index-inputs-i.result c.index-configs-i.result c.deref.result.now
       (g.I.Index.view (index_of c.args.index.now)).gives (g.I.Index.view (index_of c.inputs.index)).gives
       (kept_by c.args.index.now) (kept_by c.inputs.index) (kept_by c.add_read.new.index) c.inputs.draft
@@ -51,6 +56,9 @@ inputs-preserved g c = record {
       c.index-configs-i.is c.deref.ensures.value
       c.inputs.invariant.draft c.inputs.invariant.left.same c.in_ok-add_read.ensures.left.adds.stays
       c.in_ok-add_read.ensures.adds c.in_ok-add_read.ensures.kept;
+  known = known-next c.args.asked.options.now c.args.inputs.now c.inputs.i c.index-inputs-i.result
+      (contains_text c.inputs.draft.known) (contains_text c.add_read.new.draft.known) c.inputs-test.true
+      c.index-inputs-i.is c.inputs.invariant.known c.in_ok-add_read.ensures.known;
   utf8 = λ e.
       let none = c.document_at-document.ensures ∙ ap (λ (ds : List Shown). slice_get ds c.inputs.i) e in
       subst (λ (xs : List Input). All (λ (x : Input). IsUtf8 x.bytes.items) xs)
@@ -78,13 +86,18 @@ returns-clause-drafted g c =
     let whole = take_all c.inputs.i c.args.inputs.now (omega (arith, c.inputs-test.false)) in
     let whole_configs = take_all c.inputs.i c.args.configs.now
     (omega (arith, c.inputs-test.false, c.requires.configurations)) in
-    subst (λ (xs : List Input). IsDraft c.args.options.now xs c.args.configs.now
+    subst (λ (xs : List Input). IsDraft c.args.asked.options.now xs c.args.configs.now
     (g.I.Index.view (index_of c.args.index.now)).gives (kept_by c.args.index.now)
     (kept_by c.inputs.index) c.inputs.draft) whole
-    (subst (λ (cs : List (Vec Config)). IsDraft c.args.options.now (take c.inputs.i c.args.inputs.now) cs
+    (subst (λ (cs : List (Vec Config)). IsDraft c.args.asked.options.now (take c.inputs.i c.args.inputs.now) cs
     (g.I.Index.view (index_of c.args.index.now)).gives (kept_by c.args.index.now)
     (kept_by c.inputs.index) c.inputs.draft)
     whole_configs c.inputs.invariant.draft)
+
+pub returns-clause-known : goal.returns-clause-known
+returns-clause-known g c =
+    subst (λ (xs : List Input). AreKnown c.args.asked.options.now xs (contains_text c.inputs.draft.known))
+    (take_all c.inputs.i c.args.inputs.now (omega (arith, c.inputs-test.false))) c.inputs.invariant.known
 
 pub returns-clause-utf8 : goal.returns-clause-utf8
 returns-clause-utf8 g c = λ e.
@@ -109,7 +122,7 @@ returns-in_err-add_read-clause-left g c =
 pub returns-in_err-add_read-clause-given : goal.returns-in_err-add_read-clause-given
 returns-in_err-add_read-clause-given g c =
     refusal-has c.from_residual.result c.in_err-add_read.field-0.0 _ c.from_residual.ensures.1
-    (λ long. given-refused c.args.options.now c.args.inputs.now c.args.configs.now
+    (λ long. given-refused c.args.asked.options.now c.args.inputs.now c.args.configs.now
     (g.I.Index.view (index_of c.args.index.now)).gives (g.I.Index.view (index_of c.inputs.index)).gives
     (kept_by c.args.index.now) (kept_by c.inputs.index) (kept_by c.add_read.new.index)
     (g.I.Index.view (index_of c.args.index.now)).faults
@@ -132,7 +145,7 @@ returns-in_err-add_read-clause-given g c =
 pub returns-in_err-add_read-clause-read : goal.returns-in_err-add_read-clause-read
 returns-in_err-add_read-clause-read g c =
     refusal-has c.from_residual.result c.in_err-add_read.field-0.0 _ c.from_residual.ensures.1
-    (λ e. read-refused c.args.options.now c.args.inputs.now c.args.configs.now
+    (λ e. read-refused c.args.asked.options.now c.args.inputs.now c.args.configs.now
     (g.I.Index.view (index_of c.args.index.now)).gives (g.I.Index.view (index_of c.inputs.index)).gives
     (kept_by c.args.index.now) (kept_by c.inputs.index) (kept_by c.add_read.new.index)
     (g.I.Index.view (index_of c.args.index.now)).faults

@@ -10,13 +10,13 @@ use Rattle.edit_upgrade.proofs.planned.plan_entries.Goals as goal
 
 pub returns-clause-long : goal.returns-clause-long
 returns-clause-long g c =
-    rows-long (kept_basis c.args.number c.args.options.now
+    rows-long (kept_basis c.args.number c.args.asked.options.now
     (option_map numbers_of c.args.input.now.rust_version) c.args.configs.now (kept_by c.walk.new.index))
     c.args.entries.now c.in_ok-rows.rows.items c.in_ok-rows.ensures.rows
 
 pub returns-clause-walked : goal.returns-clause-walked
 returns-clause-walked g c =
-    planned-walked c.args.number c.args.options.now c.args.input.now c.args.configs.now
+    planned-walked c.args.number c.args.asked.options.now c.args.input.now c.args.configs.now
     (g.I.Index.view (index_of c.args.index.now)).gives
     (kept_by c.args.index.now) (kept_by c.walk.new.index) c.args.books.now c.walk.new.books
     (map seen_of c.args.entries.now)

@@ -54,7 +54,7 @@ returns-in_err-row-clause-left g c =
 
 pub returns-clause-row : goal.returns-clause-row
 returns-clause-row g c =
-    registry-decided c.args.job.number c.args.job.options.now (option_map numbers_of c.args.job.rust_version) c.args.job.configs.now (kept_by c.kept_row.new.index)
+    registry-decided c.args.job.number c.args.job.asked.options.now (option_map numbers_of c.args.job.rust_version) c.args.job.configs.now (kept_by c.kept_row.new.index)
     (seen_of c.args.entry.now) (given c.args.registry) c.in-Some.url.now (line_of c.in_ok-row.row) c.requires.source
     (c.in_ok-see.ensures.are (given c.args.registry) c.in-Some.url.now (sym c.url.ensures ∙ ap option_copied c.in-Some.is)) c.in_ok-row.ensures.ok
 

@@ -33,7 +33,7 @@ entries-init g c =
       kept = c.requires.kept;
       steps = start kept c.args.books.now.looks.items (holds_pair c.args.books.now.pairs);
       passed = All-nil (IsPassed configs kept);
-      rows = subst (λ (rows : List Row). AreDecided (kept_basis c.args.job.number c.args.job.options.now
+      rows = subst (λ (rows : List Row). AreDecided (kept_basis c.args.job.number c.args.job.asked.options.now
           rust configs kept) [] (map line_of rows))
           (sym c.in_ok-rows.ensures.items) tt;
       left = leaves-same (IsNeededIn configs (map seen_of c.args.entries.now))
@@ -121,11 +121,11 @@ entries-preserved g c =
     let kept = entry-kept configs e last now next looks then_looks pairs then_pairs
     c.entries.invariant.kept step in
     let stays = c.in_ok-row.ensures.left.adds.stays in
-    let rows = rows-further c.args.job.number c.args.job.options.now rust configs now next front
+    let rows = rows-further c.args.job.number c.args.job.asked.options.now rust configs now next front
     (map line_of c.entries.rows.items) e
     (line_of c.in_ok-row.row) c.entries.invariant.passed stays c.entries.invariant.rows
     c.in_ok-row.ensures.row in
-    let basis = kept_basis c.args.job.number c.args.job.options.now rust configs next in
+    let basis = kept_basis c.args.job.number c.args.job.asked.options.now rust configs next in
     record {
       addresses = c.in_ok-row.ensures.addresses;
       kept = kept.0;

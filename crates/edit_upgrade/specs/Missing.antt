@@ -1,0 +1,55 @@
+-- The names that words select and that no entry has.
+use Rattle.std.specs.Prelude.{◌≡◌, ◌&&◌, ◌||◌, ℕ, List, [], Bool, Option, filter, map, not, option_map, string_bytes}
+use Rattle.std.specs.List.{AllZip, filter_map, list_any}
+use Rattle.std.specs.Str.{bytes_eq}
+use Rattle.edit_syntax.specs.Grammar.{Text}
+use Rattle.edit_tree.specs.Supported.{IsManifest}
+use Rattle.edit_tree.specs.Tree.{view_at}
+use Rattle.edit_entries.specs.Entries.{Entry, entries}
+use Rattle.edit_metadata.specs.declared.input.Input.{Input}
+use Rattle.edit_record.specs.EntryUpdates.{each_once}
+use Rattle.edit_version.specs.CrateWords.{word_name}
+use Rattle.edit_upgrade.specs.Words.{is_named, words_of}
+use Rattle.edit_upgrade.specs.declared.upgrade.Options.{Options}
+use Rattle.edit_upgrade.specs.declared.upgrade.UpgradePlan.{UpgradePlan}
+
+-- the crate's name of an entry that has a record
+abbrev pub name_of : Entry → Option (List ℕ)
+name_of e = option_map (λ r. r.name) e.said
+
+-- the crates' names of those entries, in their order
+abbrev pub names_in : List Entry → List (List ℕ)
+names_in es = filter_map name_of es
+
+-- the bytes are a manifest, and these are the names of its entries
+pub record HasNames (bytes : List ℕ) (names : List (List ℕ)) : Type 0 where
+  pub form : Text
+  pub manifest : IsManifest bytes form
+  pub are : names ≡ names_in (entries (view_at form) [])
+
+-- the name is among those of one of the inputs
+abbrev pub is_among : List (List (List ℕ)) → List ℕ → Bool
+is_among names name = list_any (list_any (bytes_eq name)) names
+
+-- the missing names: those of the words, each once in their order, that no entry of an input has
+pub record AreMissing (o : Options) (inputs : List Input) (missing : List (List ℕ)) : Type 0 where
+  pub names : List (List (List ℕ))
+  pub have : AllZip (λ input own. HasNames input.bytes.items own) inputs names
+  pub are : missing ≡ filter (λ name. not (is_among names name)) (each_once (map word_name (words_of o)))
+
+-- the plan tells the missing names
+abbrev pub TellsMissing : Options → List Input → UpgradePlan → Type 0
+TellsMissing o inputs p = AreMissing o inputs (map string_bytes p.missing.items)
+
+-- the names that are known of these inputs: those that words select, of their entries (own)
+pub record AreKnown (o : Options) (inputs : List Input) (known : List ℕ → Bool) : Type 0 where
+  pub names : List (List (List ℕ))
+  pub have : AllZip (λ input own. HasNames input.bytes.items own) inputs names
+  pub are : (name : List ℕ) → known name ≡ (is_named (words_of o) name && is_among names name)
+
+-- the names that are known then, with those of one manifest more (own)
+pub record AddsNames (o : Options) (bytes : List ℕ) (old new : List ℕ → Bool) : Type 0 where
+  pub names : List (List ℕ)
+  pub have : HasNames bytes names
+  pub are : (name : List ℕ) → new name
+      ≡ (old name || (is_named (words_of o) name && list_any (bytes_eq name) names))

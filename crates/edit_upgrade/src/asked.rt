@@ -1,0 +1,45 @@
+//! What options ask for, of entries by their names.
+ghost use Rattle.std.specs.Prelude.{◌≡◌, ℕ, List, option_copied};
+ghost use Rattle.std.specs.BTreeSet.{contains_text};
+ghost use Rattle.std.specs.List.{list_any};
+ghost use Rattle.std.specs.Str.{bytes_eq};
+ghost use Rattle.edit_upgrade.specs.Picks.{has_name, kept_requirement};
+ghost use Rattle.edit_upgrade.specs.Words.{excluded_of, is_excluded, is_named, requirement_for, words_of};
+
+use crate::picks::{Picks, has_name, kept_requirement};
+use crate::upgrade::Options;
+
+/// Options, with their words and excluded names as they were read.
+#[derive(Clone, Copy)]
+pub(crate) struct Asked<'a> {
+    pub(crate) options: &'a Options,
+    pub(crate) picks: &'a Picks,
+    ghost named: { (n : List ℕ) → has_name picks.now.words n ≡ is_named (words_of options.now) n },
+    ghost given: { (n : List ℕ) → kept_requirement picks.now.words n ≡ requirement_for options.now n },
+    ghost excluded: { (n : List ℕ)
+        → contains_text picks.now.excluded n ≡ list_any (bytes_eq n) (excluded_of options.now) },
+}
+
+/// Whether words select entries of this name.
+pub(crate) fn is_named(asked: Asked<'_>, name: &str) -> bool
+    ensures { result ≡ is_named (words_of asked.entry.options.now) name.now }
+{
+    has_name(&asked.picks.words, name)
+}
+
+/// Whether entries of this name are left out.
+pub(crate) fn is_excluded(asked: Asked<'_>, name: &str) -> bool
+    ensures { result ≡ is_excluded asked.entry.options.now name.now }
+{
+    if !asked.options.package.is_empty() && !is_named(asked, name) {
+        return true;
+    }
+    asked.picks.excluded.contains(name)
+}
+
+/// The requirement that words give to entries of this name.
+pub(crate) fn requirement_for<'a>(asked: Asked<'a>, name: &str) -> Option<&'a str>
+    ensures { option_copied result ≡ requirement_for asked.entry.options.now name.now }
+{
+    kept_requirement(&asked.picks.words, name)
+}

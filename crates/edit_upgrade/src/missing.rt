@@ -1,0 +1,83 @@
+//! The names that words select and that no entry has.
+ghost use Rattle.std.specs.Prelude.{◌≡◌, ◌≢◌, ◌&&◌, ◌||◌, ◌++◌, [], ◌∷◌, ℕ, List, if◌then◌else◌, IfErr, IfOk, OnOk, filter, map, not, string_bytes};
+ghost use Rattle.std.specs.BTreeSet.{contains_text};
+ghost use Rattle.std.specs.List.{list_any};
+ghost use Rattle.std.specs.Str.{bytes_eq};
+ghost use Rattle.edit_base.specs.Errors.{IsMemory};
+ghost use Rattle.edit_base.specs.declared.errors.Error.TheVariants as error;
+ghost use Rattle.edit_entries.specs.EntryViews.{entry_view};
+ghost use Rattle.edit_upgrade.specs.Missing.{names_in};
+ghost use Rattle.edit_upgrade.specs.Words.{is_named, words_of};
+
+use crate::asked::{Asked, is_named};
+use crate::names::{Names, add_name};
+use edit_base::CargoResult;
+use edit_entries::{Entry, Said};
+use std::alloc::Global;
+
+/// Adds the name of an entry, where words select it.
+fn add_entry(alloc: Global, asked: Asked<'_>, entry: &Entry, known: &mut Names) -> CargoResult<()>
+    ensures ok { OnOk result ((name : List ℕ) → contains_text known.new name
+        ≡ (contains_text known.old name || (is_named (words_of asked.entry.options.now) name
+        && list_any (bytes_eq name) (names_in (entry_view entry.now ∷ []))))) }
+    ensures refused { IfErr result IsMemory }
+{
+    let Said::Read(dependency) = &entry.said else {
+        return Ok(());
+    };
+    let name = dependency.name.as_str();
+    if is_named(asked, name) {
+        add_name(alloc, known, name)?;
+    }
+    Ok(())
+}
+
+/// Adds the names of entries that words select.
+pub(crate) fn add_names(
+    alloc: Global,
+    asked: Asked<'_>,
+    found: &[Entry],
+    known: &mut Names,
+) -> CargoResult<()>
+    ensures ok { OnOk result ((name : List ℕ) → contains_text known.new name
+        ≡ (contains_text known.old name || (is_named (words_of asked.entry.options.now) name
+        && list_any (bytes_eq name) (names_in (map entry_view found.now))))) }
+    ensures refused { IfErr result IsMemory }
+{
+    'found: for entry in found {
+        add_entry(alloc, asked, entry, known)?;
+    }
+    Ok(())
+}
+
+/// Adds a name, where it is not known.
+fn push_unknown(
+    alloc: Global,
+    known: &Names,
+    missing: &mut Vec<String>,
+    name: &str,
+) -> CargoResult<()>
+    ensures ok { OnOk result (map string_bytes missing.new.items ≡ map string_bytes missing.old.items
+        ++ (if contains_text known.now name.now then [] else name.now ∷ [])) }
+    ensures refused { IfErr result (λ e. e ≡ error.Memory) }
+{
+    if known.contains(name) {
+        return Ok(());
+    }
+    let name = String::from_str(alloc, name)?;
+    missing.push(name)?;
+    Ok(())
+}
+
+/// The names of this list that are not known, in their order.
+pub(crate) fn unknown(alloc: Global, names: &[String], known: &Names) -> CargoResult<Vec<String>>
+    ensures ok { IfOk result (λ v. map string_bytes v.items
+        ≡ filter (λ name. not (contains_text known.now name)) (map string_bytes names.now)) }
+    ensures refused { IfErr result (λ e. (e ≡ error.Memory) × (names.now ≢ [])) }
+{
+    let mut missing = Vec::new(alloc);
+    'names: for name in names {
+        push_unknown(alloc, known, &mut missing, name.as_str())?;
+    }
+    Ok(missing)
+}

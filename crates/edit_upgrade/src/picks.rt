@@ -1,0 +1,114 @@
+//! Package words and excluded names, as they are read.
+ghost use Rattle.std.specs.Prelude.{◌≡◌, ◌≢◌, ◌++◌, [], ◌∷◌, ℕ, List, if◌then◌else◌, IfErr, IfOk, OnOk, map, option_copied, string_bytes};
+ghost use Rattle.std.specs.BTreeSet.{contains_text};
+ghost use Rattle.std.specs.List.{list_any};
+ghost use Rattle.std.specs.Str.{bytes_eq};
+ghost use Rattle.edit_base.specs.Errors.{IsMemory};
+ghost use Rattle.edit_base.specs.declared.errors.Error.TheVariants as error;
+ghost use Rattle.edit_version.specs.CrateWords.{IsRefusedWord};
+ghost use Rattle.edit_upgrade.specs.Picks.{AddsWord, ArePicks, AreWordsRead, has_name, kept_requirement};
+ghost use Rattle.edit_upgrade.specs.WordCauses.{IsOptionCause, StopsAtWord};
+
+use crate::names::{Names, add_name};
+use crate::upgrade::Options;
+use edit_base::CargoResult;
+use edit_version::CrateSpec;
+use std::alloc::Global;
+use std::collections::{BTreeMap, BTreeSet};
+
+/// Package words that were read.
+#[derive(Drop)]
+pub(crate) struct Words {
+    /// Their names, each once at its first place.
+    pub(crate) names: Vec<String>,
+    /// What the last word of each name requires.
+    pub(crate) requirements: BTreeMap<String, Option<String>>,
+}
+
+/// What options ask for by names.
+#[derive(Drop)]
+pub(crate) struct Picks {
+    pub(crate) words: Words,
+    pub(crate) excluded: Names,
+}
+
+/// Whether a word of this name was read.
+pub(crate) fn has_name(words: &Words, name: &str) -> bool
+    ensures { result ≡ has_name words.now name.now }
+{
+    words.requirements.contains_key(name)
+}
+
+/// The requirement that is kept for this name.
+pub(crate) fn kept_requirement<'a>(words: &'a Words, name: &str) -> Option<&'a str>
+    ensures { option_copied result ≡ kept_requirement words.now name.now }
+{
+    match words.requirements.get(name) {
+        Some(Some(req)) => Some(req.as_str()),
+        Some(None) | None => None,
+    }
+}
+
+/// Keeps a name, where it is new.
+fn add_first(alloc: Global, words: &mut Words, name: &str) -> CargoResult<()>
+    ensures names { OnOk result (map string_bytes words.new.names.items
+        ≡ map string_bytes words.old.names.items ++ (if has_name words.old name.now then [] else name.now ∷ [])) }
+    ensures requirements { words.new.requirements ≡ words.old.requirements }
+    ensures refused { IfErr result (λ e. e ≡ error.Memory) }
+{
+    if has_name(words, name) {
+        return Ok(());
+    }
+    let name = String::from_str(alloc, name)?;
+    words.names.push(name)?;
+    Ok(())
+}
+
+/// Reads one word more.
+fn add_word(alloc: Global, words: &mut Words, word: &str) -> CargoResult<()>
+    ensures ok { OnOk result (AddsWord word.now words.old words.new) }
+    ensures refused { IfErr result (IsRefusedWord word.now) }
+{
+    let CrateSpec { name, version_req } = CrateSpec::resolve(alloc, word)?;
+    add_first(alloc, words, name.as_str())?;
+    words.requirements.insert(name, version_req)?;
+    Ok(())
+}
+
+/// Reads words, in their order.
+fn read_words(alloc: Global, words: &[String]) -> CargoResult<Words>
+    ensures ok { IfOk result (AreWordsRead (map string_bytes words.now)) }
+    ensures refused { IfErr result (StopsAtWord (map string_bytes words.now)) }
+{
+    let mut read = Words {
+        names: Vec::new(alloc),
+        requirements: BTreeMap::new(alloc),
+    };
+    'words: for word in words {
+        add_word(alloc, &mut read, word.as_str())?;
+    }
+    Ok(read)
+}
+
+/// The set of these names.
+fn name_set(alloc: Global, names: &[String]) -> CargoResult<Names>
+    ensures ok { IfOk result (λ s. (name : List ℕ)
+        → contains_text s name ≡ list_any (bytes_eq name) (map string_bytes names.now)) }
+    ensures refused { IfErr result (λ e. IsMemory e × (names.now ≢ [])) }
+{
+    let mut set = BTreeSet::new(alloc);
+    'names: for name in names {
+        add_name(alloc, &mut set, name.as_str())?;
+    }
+    Ok(set)
+}
+
+/// Reads the package words of options, and then their excluded names.
+pub(crate) fn picks_of(alloc: Global, options: &Options) -> CargoResult<Picks>
+    ensures ok { IfOk result (ArePicks options.now) }
+    ensures refused { IfErr result (IsOptionCause options.now) }
+{
+    let words = read_words(alloc, &options.package)?;
+    let excluded = name_set(alloc, &options.exclude)?;
+    Ok(Picks { words, excluded })
+}
