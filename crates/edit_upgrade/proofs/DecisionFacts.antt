@@ -1,4 +1,4 @@
--- One worked decision for each row that can come while no words select and no names are excluded.
+-- Worked decisions, one for each row that can come.
 use Rattle.std.proofs.Common.{◌≡◌, ℕ, List, [], Option, Some, None, true, false, refl}
 use Rattle.std.specs.Prelude.{codes}
 use Rattle.std.specs.Fmt.{digits}
@@ -61,3 +61,10 @@ pub explicit_pinned : (o : Options) → o.pinned ≡ false → o.incompatible �
     → decision o (given (codes "1.1") (entry (codes "=1.0.0") (Some (version 1 0 0)) (Some (version 1 2 3)))) ≡ record { new = codes "=1.0.0"; change = None; reason = Some reason.Pinned }
 unfolding semver_on_literals digits
 explicit_pinned o p i c = rw (p, i, c) refl
+
+-- an entry that is left out stays
+pub excluded_stays : (o : Options)
+    → decision o (record (entry (codes "1.0") (Some (version 1 2 3)) (Some (version 1 2 3))) { excluded = true })
+    ≡ record { new = codes "1.0"; change = None; reason = Some reason.Excluded }
+unfolding semver_on_literals digits
+excluded_stays o = refl
