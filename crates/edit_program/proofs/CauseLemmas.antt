@@ -1,10 +1,10 @@
 -- Why an upgrade is refused, from why a part of it is.
 use Rattle.std.proofs.Common.{◌≡◌, ◌≤◌, ℕ, List, Bool, true, false, Option, Some, None, Result, Ok, Err, ◌∙◌, sym, subst, inl, inr, arith}
-use Rattle.std.specs.Prelude.{◌⊎◌, IfErr, IsErrAnd, is_some}
+use Rattle.std.specs.Prelude.{◌≢◌, ◌⊎◌, [], IfErr, IsErrAnd, is_some}
 use Rattle.edit_base.specs.Errors.{IsMemory}
 use Rattle.edit_base.specs.declared.errors.DeviceCall.TheVariants as call
 use Rattle.edit_base.specs.declared.errors.Error.{Error}
-use Rattle.edit_base.specs.declared.errors.Error.TheVariants.{NoManifest, Output}
+use Rattle.edit_base.specs.declared.errors.Error.TheVariants.{Locked, NoManifest, Output}
 use Rattle.edit_version.specs.RustVersions.{Numbers}
 use Rattle.edit_sources.specs.ConfigurationFiles.{AreConfigs, ConfigsFail, HasFailed}
 use Rattle.edit_store.specs.Store.{Files, SameFiles, StandsAt}
@@ -16,9 +16,12 @@ use Rattle.edit_manifest.specs.Located.IsManifestAt.{named, nearest}
 use Rattle.edit_manifest.specs.Located.IsManifestPath.{specified}
 use Rattle.edit_manifest.proofs.Faults.{fault_later}
 use Rattle.edit_manifest.proofs.PassedWords.{as_before}
-use Rattle.edit_program.specs.Causes.{IsIndexCause, IsManifestCause, IsPlanCause, IsUpgradeCause}
+use Rattle.edit_program.specs.Causes.{IsIndexCause, IsManifestCause, IsPlanCause, IsStopCause, IsUpgradeCause}
+use Rattle.edit_upgrade.specs.declared.upgrade.Options.{Options}
+use Rattle.edit_report.specs.declared.output.Output.{Output as Outputs}
+use Rattle.edit_report.specs.declared.row.Row.{Row}
 use Rattle.edit_program.specs.declared.refusal.Refusal.{Refusal}
-use Rattle.edit_program.specs.Upgrading.{AreRead, IsIndexRead, IsManifestRead}
+use Rattle.edit_program.specs.Upgrading.{AreRead, IsIndexRead, IsManifestRead, IsPlanned}
 
 no_file : (o : Option (List ℕ)) → is_some o ≡ true → None ≡ o → ⊥
 no_file o some none = let bad : false ≡ true = subst (λ (x : Option (List ℕ)). is_some x ≡ true) (sym none)
@@ -176,15 +179,37 @@ plan_cause tells old current home named_path index_named path bytes rust configs
     })))))
 
 -- memory ran out at what is printed, or it was not taken
-pub stream_cause : (b c : ℕ) (e : Error) → IsMemory e ⊎ (e ≡ Output) → (e ≡ Output) ⊎ IsFault call.Write b c e
-stream_cause b c e (inl memory) = inr (inl memory)
-stream_cause b c e (inr unwritten) = inl unwritten
+pub stream_cause : (b c : ℕ) (L : Type 0) (e : Error) → IsMemory e ⊎ (e ≡ Output)
+    → (e ≡ Output) ⊎ (IsFault call.Write b c e ⊎ L)
+stream_cause b c L e (inl memory) = inr (inl (inl memory))
+stream_cause b c L e (inr unwritten) = inl unwritten
 
--- what is printed was not taken, or a write failed behind all
-pub deliver_cause : (tells : Bool) (files : Files) (current : List ℕ) (home : Option (List ℕ))
-    (named_path index_named : List ℕ) (a b c : ℕ) (e : Error) → a ≤ b
-    → (e ≡ Output) ⊎ IsFault call.Write b c e
-    → IsUpgradeCause tells files current home named_path index_named a c e
-deliver_cause tells files current home named_path index_named a b c e le (inl unwritten) = inr (inl unwritten)
-deliver_cause tells files current home named_path index_named a b c e le (inr fault) =
-    inl (inr (inr (fault_later call.Write a b c e le fault)))
+-- what is printed was not taken, a write failed, or the manifest is locked and something is to be written,
+-- behind all
+pub stop_cause : (tells : Bool) (files : Files) (current : List ℕ) (home : Option (List ℕ))
+    (named_path index_named path bytes : List ℕ) (rust : Option Numbers) (configs : List Config)
+    (index : FileIndex) (rows : List Row) (outputs : List Outputs) (o : Options) (a b c : ℕ) (e : Error)
+    → a ≤ b
+    → (tells ≡ true → AreRead files current home named_path index_named path bytes rust configs index)
+    → IsPlanned o path bytes rust configs index rows outputs
+    → (e ≡ Output) ⊎ (IsFault call.Write b c e ⊎ ((e ≡ Locked) × (o.locked ≡ true) × (outputs ≢ [])))
+    → IsStopCause tells files current home named_path index_named o a c e
+stop_cause tells files current home named_path index_named path bytes rust configs index rows outputs o a b c e
+    le read planned (inl unwritten) = inl (inr (inl unwritten))
+stop_cause tells files current home named_path index_named path bytes rust configs index rows outputs o a b c e
+    le read planned (inr (inl fault)) = inl (inl (inr (inr (fault_later call.Write a b c e le fault))))
+stop_cause tells files current home named_path index_named path bytes rust configs index rows outputs o a b c e
+    le read planned (inr (inr locked)) = inr (λ t. record {
+      path = path;
+      bytes = bytes;
+      rust = rust;
+      configs = configs;
+      index = index;
+      rows = rows;
+      outputs = outputs;
+      read = read t;
+      planned = planned;
+      locked = locked.1;
+      some = locked.2;
+      is = locked.0;
+    })

@@ -4,6 +4,7 @@ use Rattle.clap.specs.Words.{fault_of}
 use Rattle.clap.specs.declared.error.kind.ErrorKind.TheVariants as kind
 use Rattle.clap.proofs.OnLiterals.{clap_on_literals}
 use Rattle.edit_program.specs.CommandLine.{edit_app}
+use Rattle.edit_program.specs.Filled.{filled}
 
 taken : fault_of edit_app (codes "upgrade" ∷ codes "--manifest-path" ∷ codes "m" ∷ codes
     "--index-file" ∷ codes "i" ∷ []) ≡ []
@@ -34,3 +35,15 @@ help = refl
 version : fault_of edit_app (codes "upgrade" ∷ codes "-V" ∷ []) ≡ kind.DisplayVersion ∷ []
 unfolding clap_on_literals edit_app
 version = refl
+
+options : fault_of edit_app (codes "upgrade" ∷ codes "--manifest-path" ∷ codes "m" ∷ codes "--index-file"
+    ∷ codes "i" ∷ codes "-nvq" ∷ codes "-i" ∷ codes "allow" ∷ codes "--locked" ∷ codes "--pinned=no" ∷ []) ≡ []
+unfolding clap_on_literals edit_app
+options = refl
+
+filled_in : filled (codes "upgrade" ∷ codes "-i" ∷ codes "--pinned" ∷ codes "false" ∷ codes "--recursive"
+    ∷ codes "--" ∷ codes "-i" ∷ [])
+    ≡ codes "upgrade" ∷ codes "-i" ∷ codes "allow" ∷ codes "--pinned" ∷ codes "false" ∷ codes "--recursive"
+    ∷ codes "true" ∷ codes "--" ∷ codes "-i" ∷ []
+unfolding filled
+filled_in = refl

@@ -1,18 +1,18 @@
 -- What the matches of the command line say of its words.
-use Rattle.std.proofs.Common.{◌≡◌, ◌≢◌, ℕ, List, [], Bool, Option, Some, None, Result, Ok, Err, Bor, true, arith, ap, inl, inr, refl, subst, sym, ◌∙◌}
-use Rattle.std.specs.Prelude.{◌⊎◌, IfErr, IfOk, IsErrAnd, OnErr, codes, option_map, unwrap_or}
-use Rattle.clap.specs.Words.{App, HasMatchesOf, IsAmong, HasKind, Row, Text, fault_of, first_value, found_of, is_simple, is_simple_and_free, Kinds, kind_of, rows_of, subcommand_name_of, subcommand_of, subcommand_rows_of, takes}
+use Rattle.std.proofs.Common.{◌≡◌, ◌≢◌, ℕ, List, [], Bool, Option, Some, None, Result, Ok, Err, true, arith, ap, inl, inr, refl, subst, sym, ◌∙◌}
+use Rattle.std.specs.Prelude.{◌⊎◌, IfErr, IfOk, IsErrAnd, OnErr, codes, option_map}
+use Rattle.clap.specs.Words.{App, HasMatchesOf, IsAmong, HasKind, Row, Text, fault_of, found_of, is_simple, is_simple_and_free, Kinds, kind_of, rows_of, subcommand_name_of, subcommand_of, subcommand_rows_of, takes}
 use Rattle.clap.specs.declared.error.Error.{Error}
 use Rattle.clap.specs.declared.error.kind.ErrorKind.TheVariants.{OutOfMemory}
 use Rattle.clap.specs.declared.parser.ArgMatches.{ArgMatches}
 use Rattle.clap.specs.declared.parser.matches.ArgMatches.TheViews.{out-ArgMatches}
-use Rattle.clap.proofs.WalkLemmas.{first_value-rows}
-use Rattle.edit_program.specs.CommandLine.{AsksFor, edit_app, value_of}
+use Rattle.edit_program.specs.CommandLine.{AskForOptions, AsksFor, HasBadStatus, HaveBadStatus, edit_app, value_of}
 use Rattle.edit_base.specs.Errors.{IsMemory}
 use Rattle.edit_base.specs.declared.errors.Error.{Error as CargoError}
 use Rattle.edit_base.specs.declared.errors.Error.TheVariants.{Output}
 use Rattle.edit_store.specs.Store.{Files, SameFiles}
-use Rattle.edit_program.specs.Causes.{IsUpgradeCause}
+use Rattle.edit_program.specs.Causes.{IsStopCause}
+use Rattle.edit_upgrade.specs.declared.upgrade.Options.{Options}
 use Rattle.edit_program.specs.Upgrading.{IsBroken}
 use Rattle.edit_program.specs.Runs.{AreAtFault, AreNotTaken, IsAnswered, IsDone, IsRefused, IsRunCause, status_of}
 use Rattle.edit_program.specs.declared.refusal.Refusal.{Refusal}
@@ -31,38 +31,45 @@ pub taken_by : (app : App) (words : List Text) → app ≡ edit_app
 taken_by app words is taken = ap (λ (a : App). fault_of a words) (sym is)
     ∙ taken (ap is_simple_and_free is ∙ free)
 
-or_other : (o : Option (Bor (List ℕ))) (d : Bor (List ℕ))
-    → (unwrap_or o d).now ≡ unwrap_or (option_map (λ (s : Bor (List ℕ)). s.now) o) d.now
-or_other None d = refl
-or_other (Some s) d = refl
-
--- the text of an option, by the rows of the matches
-pub value_is : (m : ArgMatches) (id other : Text) (o : Option (Bor (List ℕ))) (r d : Bor (List ℕ))
-    → option_map (λ (s : Bor (List ℕ)). s.now) o ≡ first_value (found_of m) id → r ≡ unwrap_or o d
-    → d.now ≡ other
-    → r.now ≡ value_of id other (rows_of (found_of m))
-value_is m id other o r d found is same =
-    ap (λ (x : Bor (List ℕ)). x.now) is ∙ or_other o d
-    ∙ ap (unwrap_or (option_map (λ (s : Bor (List ℕ)). s.now) o)) same
-    ∙ ap (λ x. unwrap_or x other) (found ∙ first_value-rows (found_of m) id)
+-- the rows of the subcommand that was entered are those of its matches
+entered_by : (app : App) (words : List Text) (m sub : ArgMatches) → app ≡ edit_app
+    → HasMatchesOf app words m
+    → Some (rows_of (found_of sub)) ≡ option_map (λ (p : Text × List Row). p.1) (subcommand_rows_of m)
+    → option_map (λ (p : Text × List Row). p.1) (subcommand_of edit_app words) ≡ Some (rows_of (found_of sub))
+entered_by app words m sub is matches rows =
+    ap (λ (a : App). option_map (λ (p : Text × List Row). p.1) (subcommand_of a words)) (sym is)
+    ∙ sym (ap (option_map (λ (p : Text × List Row). p.1)) (matches (ap is_simple is ∙ simple)).1)
+    ∙ sym rows
 
 -- what the words ask for
-pub asks_for : (app : App) (words : List Text) (m sub : ArgMatches) (manifest index : Text) → app ≡ edit_app
-    → HasMatchesOf app words m
+pub asks_for : (app : App) (words : List Text) (m sub : ArgMatches) (manifest index : Text) (o : Options)
+    → app ≡ edit_app → HasMatchesOf app words m
     → (is_simple_and_free app ≡ true → fault_of app words ≡ [])
     → Some (rows_of (found_of sub)) ≡ option_map (λ (p : Text × List Row). p.1) (subcommand_rows_of m)
     → manifest ≡ value_of (codes "manifest-path") (codes "Cargo.toml") (rows_of (found_of sub))
     → index ≡ value_of (codes "index-file") (codes "index.json") (rows_of (found_of sub))
-    → AsksFor words manifest index
-asks_for app words m sub manifest index is matches taken rows manifest_is index_is = record {
+    → AskForOptions (rows_of (found_of sub)) o
+    → AsksFor words manifest index o
+asks_for app words m sub manifest index o is matches taken rows manifest_is index_is options_are = record {
   taken = taken_by app words is taken;
   rows = rows_of (found_of sub);
-  entered =
-      ap (λ (a : App). option_map (λ (p : Text × List Row). p.1) (subcommand_of a words)) (sym is)
-      ∙ sym (ap (option_map (λ (p : Text × List Row). p.1)) (matches (ap is_simple is ∙ simple)).1)
-      ∙ sym rows;
+  entered = entered_by app words m sub is matches rows;
   manifest_is = manifest_is;
   index_is = index_is;
+  options_are = options_are;
+}
+
+-- a value that is none of its option's
+pub bad_status : (app : App) (words : List Text) (m sub : ArgMatches) → app ≡ edit_app
+    → HasMatchesOf app words m
+    → (is_simple_and_free app ≡ true → fault_of app words ≡ [])
+    → Some (rows_of (found_of sub)) ≡ option_map (λ (p : Text × List Row). p.1) (subcommand_rows_of m)
+    → HasBadStatus (rows_of (found_of sub)) → HaveBadStatus words
+bad_status app words m sub is matches taken rows bad = record {
+  taken = taken_by app words is taken;
+  rows = rows_of (found_of sub);
+  entered = entered_by app words m sub is matches rows;
+  bad = bad;
 }
 
 -- words that are refused, and not for want of memory, are not taken
@@ -160,20 +167,21 @@ shown_why app words e (Err x) current home tells files before now is passes kind
 
 -- why an upgrade that the words ask for is refused is why the run is
 pub upgrade_why : (words : List Text) (current : List ℕ) (home : Option (List ℕ)) (tells : Bool)
-    (files : Files) (before now : ℕ) (e : CargoError) (manifest index : Text)
-    → AsksFor words manifest index → IsUpgradeCause tells files current home manifest index before now e
+    (files : Files) (before now : ℕ) (e : CargoError) (manifest index : Text) (o : Options)
+    → AsksFor words manifest index o → IsStopCause tells files current home manifest index o before now e
     → IsRunCause words current home tells files before now e
-upgrade_why words current home tells files before now e manifest index asks cause =
-    inr (inr (record { manifest = manifest; index = index; asks = asks; cause = cause }))
+upgrade_why words current home tells files before now e manifest index o asks cause =
+    inr (inr (record { manifest = manifest; index = index; options = o; asks = asks; cause = cause }))
 
 -- an upgrade that was refused at its write or behind it is one for what the words ask
 pub upgrade_refused : (words : List Text) (Shows : List ℕ → Type 0) (current : List ℕ)
-    (home : Option (List ℕ)) (old new : Files) (manifest index : Text) → AsksFor words manifest index
-    → SameFiles old new ⊎ IsBroken Shows current home manifest index old new
+    (home : Option (List ℕ)) (old new : Files) (manifest index : Text) (o : Options)
+    → AsksFor words manifest index o
+    → SameFiles old new ⊎ IsBroken Shows current home manifest index o old new
     → IsRefused words Shows current home old new
-upgrade_refused words Shows current home old new manifest index asks (inl same) = inl same
-upgrade_refused words Shows current home old new manifest index asks (inr broken) =
-    inr (record { manifest = manifest; index = index; asks = asks; broken = broken })
+upgrade_refused words Shows current home old new manifest index o asks (inl same) = inl same
+upgrade_refused words Shows current home old new manifest index o asks (inr broken) =
+    inr (record { manifest = manifest; index = index; options = o; asks = asks; broken = broken })
 
 -- what holds in any case holds of a refusal
 pub on_any : {T E : Type 0} (r : Result T E) (P : Type 0) → P → OnErr r P

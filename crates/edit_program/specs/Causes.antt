@@ -1,8 +1,8 @@
 -- Why an upgrade is refused.
-use Rattle.std.specs.Prelude.{◌≡◌, ◌⊎◌, ℕ, List, Bool, true, Option, Some, None}
+use Rattle.std.specs.Prelude.{◌≡◌, ◌≢◌, ◌⊎◌, ℕ, List, [], Bool, true, Option, Some, None}
 use Rattle.edit_base.specs.declared.errors.DeviceCall.TheVariants as call
 use Rattle.edit_base.specs.declared.errors.Error.{Error}
-use Rattle.edit_base.specs.declared.errors.Error.TheVariants.{NoManifest, NoPath, Output}
+use Rattle.edit_base.specs.declared.errors.Error.TheVariants.{Locked, NoManifest, NoPath, Output as Unwritten}
 use Rattle.edit_version.specs.RustVersions.{Numbers}
 use Rattle.edit_sources.specs.ConfigurationFiles.{AreConfigs, ConfigsFail}
 use Rattle.edit_sources.specs.FileIndex.{FileGives}
@@ -12,10 +12,13 @@ use Rattle.edit_sources.specs.declared.config.Config.{Config}
 use Rattle.edit_sources.specs.declared.file_index.FileIndex.{FileIndex}
 use Rattle.edit_store.specs.declared.store.Kind.TheVariants.{Folder}
 use Rattle.edit_upgrade.specs.Causes.{HasBadEntry}
+use Rattle.edit_upgrade.specs.declared.upgrade.Options.{Options}
+use Rattle.edit_report.specs.declared.output.Output.{Output}
+use Rattle.edit_report.specs.declared.row.Row.{Row}
 use Rattle.edit_manifest.specs.Loaded.{IsBadManifest}
 use Rattle.edit_upgrade.specs.Looks.{Kept}
 use Rattle.edit_manifest.specs.Located.{HasNoManifest, IsFault, IsManifestPath}
-use Rattle.edit_program.specs.Upgrading.{AreRead, IsAbsoluteOf, IsManifestRead}
+use Rattle.edit_program.specs.Upgrading.{AreRead, IsAbsoluteOf, IsManifestRead, IsPlanned}
 
 -- where the manifest that is named would be, a folder stands
 pub record IsFolderThere (files : Files) (current named : List ℕ) (e : Error) : Type 0 where
@@ -100,9 +103,32 @@ abbrev pub IsFailure : ℕ → ℕ → Error → Type 0
 IsFailure before now e =
     IsFault call.Kind before now e ⊎ (IsFault call.Read before now e ⊎ IsFault call.Write before now e)
 
--- why an upgrade is refused: memory or the device failed, a stream did not take what is printed, or something
+-- why an upgrade is refused, but for a lock: memory or the device failed, a stream did not take what is printed, or something
 -- is wrong with the files
 abbrev pub IsUpgradeCause : Bool → Files → List ℕ → Option (List ℕ) → List ℕ → List ℕ → ℕ → ℕ → Error → Type 0
 IsUpgradeCause tells files current home named index_named before now e =
     IsFailure before now e
-    ⊎ ((e ≡ Output) ⊎ (tells ≡ true → IsWrong files current home named index_named e))
+    ⊎ ((e ≡ Unwritten) ⊎ (tells ≡ true → IsWrong files current home named index_named e))
+
+-- the manifest is locked, and its plan has something to write
+pub record IsLockedOut (files : Files) (current : List ℕ) (home : Option (List ℕ))
+    (named index_named : List ℕ) (options : Options) (e : Error) : Type 0 where
+  pub path : List ℕ
+  pub bytes : List ℕ
+  pub rust : Option Numbers
+  pub configs : List Config
+  pub index : FileIndex
+  pub rows : List Row
+  pub outputs : List Output
+  pub read : AreRead files current home named index_named path bytes rust configs index
+  pub planned : IsPlanned options path bytes rust configs index rows outputs
+  pub locked : options.locked ≡ true
+  pub some : outputs ≢ []
+  pub is : e ≡ Locked
+
+-- why an upgrade is refused
+abbrev pub IsStopCause : Bool → Files → List ℕ → Option (List ℕ) → List ℕ → List ℕ → Options → ℕ → ℕ → Error
+    → Type 0
+IsStopCause tells files current home named index_named options before now e =
+    IsUpgradeCause tells files current home named index_named before now e
+    ⊎ (tells ≡ true → IsLockedOut files current home named index_named options e)

@@ -1,8 +1,10 @@
 -- The command line: what the words of the program ask for.
-use Rattle.std.specs.Prelude.{◌≡◌, List, [], Some, true, codes, option_map, unwrap_or}
-use Rattle.clap.specs.Words.{App, Row, Rule, Shape, Text, fault_of, first_of, new_app, new_rule, subcommand_of, with_rule, with_subcommand}
-use Rattle.clap.specs.declared.builder.action.ArgAction.TheVariants.{Set}
-use Rattle.clap.specs.declared.builder.value_parser.ValueParser.TheVariants.{NonEmptyString}
+use Rattle.std.specs.Prelude.{◌≡◌, ◌⊎◌, ◌-◌, ℕ, ℤ, Bool, List, [], ◌∷◌, Option, Some, None, true, false, codes, if◌then◌else◌, min, nat_lt, negsuc, option_map, pos, unwrap_or}
+use Rattle.std.specs.Str.{bytes_eq}
+use Rattle.clap.specs.Words.{App, Row, Rule, Shape, Text, count_of, fault_of, first_of, new_app, new_rule, subcommand_of, with_rule, with_subcommand}
+use Rattle.clap.specs.declared.builder.action.ArgAction.TheVariants.{Count, Set, SetTrue}
+use Rattle.clap.specs.declared.builder.value_parser.ValueParser.TheVariants as value
+use Rattle.edit_upgrade.specs.declared.upgrade.Options.{Options}
 
 -- an option that must be given, with one value, which is not the empty text
 abbrev pub option_rule : Text → Rule
@@ -11,15 +13,60 @@ option_rule id =
       long = Some id;
       action = Some Set;
       value_names = 1;
-      parser = Some NonEmptyString;
+      parser = Some value.NonEmptyString;
       required = true;
     }
+
+-- an option that may be given, with one value
+abbrev pub choice_rule : Text → Rule
+choice_rule id =
+    record (new_rule id) {
+      long = Some id;
+      action = Some Set;
+      value_names = 1;
+      parser = Some value.String;
+    }
+
+-- a flag
+abbrev pub flag_rule : Text → Rule
+flag_rule id = record (new_rule id) { long = Some id; action = Some SetTrue }
+
+-- a flag with a letter, of which the uses are counted
+abbrev pub count_rule : Text → ℕ → Rule
+count_rule id letter =
+    record (new_rule id) { long = Some id; short = Some letter; action = Some Count }
+
+-- the options that name files
+abbrev pub places : List Rule
+places = option_rule (codes "manifest-path") ∷ option_rule (codes "index-file") ∷ []
+
+-- the flags
+abbrev pub switches : List Rule
+switches =
+    record (flag_rule (codes "dry-run")) { short = Some 110 }
+    ∷ flag_rule (codes "locked")
+    ∷ count_rule (codes "verbose") 118
+    ∷ count_rule (codes "quiet") 113
+    ∷ []
+
+-- the options that say what may be upgraded, two of them ignored where they are not given
+abbrev pub choices : List Rule
+choices =
+    record (choice_rule (codes "compatible")) { defaults = codes "allow" ∷ [] }
+    ∷ record (choice_rule (codes "incompatible")) { short = Some 105; defaults = codes "ignore" ∷ [] }
+    ∷ record (choice_rule (codes "pinned")) { defaults = codes "ignore" ∷ [] }
+    ∷ record (choice_rule (codes "recursive")) { parser = Some value.Bool }
+    ∷ []
+
+-- a command with these rules too, in their order
+abbrev pub with_rules : App → List Rule → App
+with_rules a [] = a
+with_rules a (rule ∷ rules) = with_rules (with_rule a rule) rules
 
 -- the subcommand `upgrade`
 abbrev pub upgrade_app : App
 upgrade_app =
-    with_rule (with_rule (new_app (codes "upgrade")) (option_rule (codes "manifest-path")))
-    (option_rule (codes "index-file"))
+    with_rules (with_rules (with_rules (new_app (codes "upgrade")) places) switches) choices
 
 -- the program's own settings
 abbrev pub top_shape : Shape
@@ -34,14 +81,61 @@ top_shape = record (new_app (codes "cargo-edit")).top {
 unfoldable pub edit_app : App
 edit_app = with_subcommand (record { top = top_shape; subs = [] }) upgrade_app.top
 
--- the value of an option among the matches of `upgrade`, which is there
+-- the value of an option among the matches of `upgrade`, or this other one where it has none
 abbrev pub value_of : Text → Text → List Row → Text
 value_of id other rows = unwrap_or (first_of id rows) other
 
--- the command line takes the words, which ask to upgrade this manifest by this index file
-pub record AsksFor (words : List Text) (manifest index : Text) : Type 0 where
+-- whether a flag is given
+abbrev pub is_given : Text → List Row → Bool
+is_given id rows = bytes_eq (value_of id [] rows) (codes "true")
+
+-- what a value says of what may be upgraded: that it is allowed or ignored, or nothing
+abbrev pub status_of_value : Text → Option Bool
+status_of_value text =
+    if bytes_eq text (codes "allow") then Some true
+    else (if bytes_eq text (codes "true") then Some true
+    else (if bytes_eq text (codes "ignore") then Some false
+    else (if bytes_eq text (codes "false") then Some false else None)))
+
+-- what the value of an option says
+abbrev pub status_of : Text → List Row → Option Bool
+status_of id rows = status_of_value (value_of id [] rows)
+
+-- how much is reported, by how often more and less of it are asked for
+abbrev pub verbosity_of : ℕ → ℕ → ℤ
+verbosity_of more less = if nat_lt more less then negsuc 0 else pos (min (more - less) 4)
+
+-- the options that the matches of `upgrade` ask for
+pub record AskForOptions (rows : List Row) (o : Options) : Type 0 where
+  pub compatible : status_of (codes "compatible") rows ≡ Some o.compatible
+  pub incompatible : status_of (codes "incompatible") rows ≡ Some o.incompatible
+  pub pinned : status_of (codes "pinned") rows ≡ Some o.pinned
+  pub dry_run : o.dry_run ≡ is_given (codes "dry-run") rows
+  pub locked : o.locked ≡ is_given (codes "locked") rows
+  pub recursive : o.recursive ≡ option_map (λ v. bytes_eq v (codes "true")) (first_of (codes "recursive") rows)
+  pub verbosity : o.verbosity
+      ≡ verbosity_of (count_of (codes "verbose") rows) (count_of (codes "quiet") rows)
+  pub no_words : o.package.items ≡ []
+  pub no_exclusions : o.exclude.items ≡ []
+
+-- one of the values is none that its option has
+abbrev pub HasBadStatus : List Row → Type 0
+HasBadStatus rows =
+    (status_of (codes "compatible") rows ≡ None)
+    ⊎ ((status_of (codes "incompatible") rows ≡ None) ⊎ (status_of (codes "pinned") rows ≡ None))
+
+-- the command line takes the words, which ask to upgrade this manifest by this index file, with these options
+pub record AsksFor (words : List Text) (manifest index : Text) (o : Options) : Type 0 where
   pub taken : fault_of edit_app words ≡ []
   pub rows : List Row
   pub entered : option_map (λ p. p.1) (subcommand_of edit_app words) ≡ Some rows
   pub manifest_is : manifest ≡ value_of (codes "manifest-path") (codes "Cargo.toml") rows
   pub index_is : index ≡ value_of (codes "index-file") (codes "index.json") rows
+  pub options_are : AskForOptions rows o
+
+-- the command line takes the words, and one of their values is none that its option has
+pub record HaveBadStatus (words : List Text) : Type 0 where
+  pub taken : fault_of edit_app words ≡ []
+  pub rows : List Row
+  pub entered : option_map (λ p. p.1) (subcommand_of edit_app words) ≡ Some rows
+  pub bad : HasBadStatus rows

@@ -1,4 +1,5 @@
 pub mod Causes
 pub mod CommandLine
+pub mod Filled
 pub mod Runs
 pub mod Upgrading

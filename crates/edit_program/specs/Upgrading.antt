@@ -1,5 +1,5 @@
 -- What an upgrade of one manifest reads, plans and writes.
-use Rattle.std.specs.Prelude.{◌≡◌, ◌⊎◌, ℕ, List, [], All, true, false, IsSome, Option, Some, None, Ok, codes, map, option_and_then, pos, slice_get, string_bytes}
+use Rattle.std.specs.Prelude.{◌≡◌, ◌⊎◌, ◌||◌, if◌then◌else◌, ℕ, List, [], All, true, IsSome, Option, Some, None, Ok, codes, map, option_and_then, slice_get, string_bytes}
 use Rattle.edit_base.specs.Paths.{IsNormalOf, joined}
 use Rattle.edit_tree.specs.Assertions.{at, key}
 use Rattle.edit_syntax.specs.Grammar.{Text}
@@ -68,14 +68,6 @@ pub record IsIndexRead (files : Files) (current named : List ℕ) (index : FileI
   pub is : files path ≡ Some bytes
   pub holds : HoldsLines index bytes
 
--- what is allowed where no word says otherwise: compatible versions alone
-pub record IsDefault (o : Options) : Type 0 where
-  pub compatible : o.compatible ≡ true
-  pub incompatible : o.incompatible ≡ false
-  pub pinned : o.pinned ≡ false
-  pub no_words : o.package.items ≡ []
-  pub no_exclusions : o.exclude.items ≡ []
-
 -- what an upgrade rests on was read: the manifest that is named, its configurations, and the index file
 pub record AreRead (files : Files) (current : List ℕ) (home : Option (List ℕ))
     (named index_named path bytes : List ℕ) (rust : Option Numbers) (configs : List Config)
@@ -91,16 +83,18 @@ alone options rust configs looks =
 
 -- the plan for a manifest with its configurations over an index: what the index gives for each name that is
 -- needed decides the rows, and the outputs are what the rows write
-pub record IsPlanned (path bytes : List ℕ) (rust : Option Numbers) (configs : List Config)
-    (index : FileIndex) (rows : List Row) (outputs : List Output) : Type 0 where
-  pub options : Options
-  pub default : IsDefault options
+pub record IsPlanned (options : Options) (path bytes : List ℕ) (rust : Option Numbers)
+    (configs : List Config) (index : FileIndex) (rows : List Row) (outputs : List Output) : Type 0 where
   pub looks : List Look
   pub complete : (address name : List ℕ) → IsNeededBy configs bytes address name
       → IsSome (look_at looks address name)
   pub given : All (λ look. FileGives index (string_bytes look.name) (Ok (answer_of look.answer))) looks
   pub decided : HasRows (alone options rust configs looks) bytes (map line_of rows)
   pub writes : HasOutputs path bytes (map line_of rows) outputs
+
+-- the output that is to be written: none at a dry run, and none where the manifest is locked
+abbrev pub written_output : Options → List Output → Option Output
+written_output o outputs = if o.dry_run || o.locked then None else slice_get outputs 0
 
 -- an output stands in its file, and each other file is as it was; without an output each file is
 abbrev pub IsWritten : Option Output → Files → Files → Type 0
@@ -113,11 +107,11 @@ abbrev pub IsTorn : Option Output → Files → Files → Type 0
 IsTorn None old new = ⊥
 IsTorn (Some output) old new = SameBut (string_bytes output.path) old new
 
--- the files were read, a plan was made for the manifest that is named, and this holds of its output, and this
--- of the table of its rows
+-- the files were read, a plan was made for the manifest that is named, with nothing to write where it is
+-- locked, and this holds of the output that is to be written, and this of the table of the rows
 pub record IsPlannedTo (Leaves : Option Output → Files → Files → Type 0) (Shows : List ℕ → Type 0)
-    (current : List ℕ) (home : Option (List ℕ)) (named index_named : List ℕ) (old new : Files)
-    : Type 0 where
+    (current : List ℕ) (home : Option (List ℕ)) (named index_named : List ℕ) (options : Options)
+    (old new : Files) : Type 0 where
   pub path : List ℕ
   pub bytes : List ℕ
   pub rust : Option Numbers
@@ -126,24 +120,26 @@ pub record IsPlannedTo (Leaves : Option Output → Files → Files → Type 0) (
   pub rows : List Row
   pub outputs : List Output
   pub read : AreRead old current home named index_named path bytes rust configs index
-  pub planned : IsPlanned path bytes rust configs index rows outputs
-  pub shows : Shows (report_text (pos 0) rows)
-  pub leaves : Leaves (slice_get outputs 0) old new
+  pub planned : IsPlanned options path bytes rust configs index rows outputs
+  pub shows : Shows (report_text options.verbosity rows)
+  pub unlocked : options.locked ≡ true → outputs ≡ []
+  pub leaves : Leaves (written_output options outputs) old new
 
 -- the manifest that is named was upgraded: its plan's output was written, behind the table
-abbrev pub IsUpgraded : (List ℕ → Type 0) → List ℕ → Option (List ℕ) → List ℕ → List ℕ → Files → Files
+abbrev pub IsUpgraded : (List ℕ → Type 0) → List ℕ → Option (List ℕ) → List ℕ → List ℕ → Options → Files → Files
     → Type 0
-IsUpgraded Shows current home named index_named old new =
-    IsPlannedTo IsWritten Shows current home named index_named old new
+IsUpgraded Shows current home named index_named options old new =
+    IsPlannedTo IsWritten Shows current home named index_named options old new
 
 -- the same up to the write, which was refused
-abbrev pub IsCutShort : (List ℕ → Type 0) → List ℕ → Option (List ℕ) → List ℕ → List ℕ → Files → Files
+abbrev pub IsCutShort : (List ℕ → Type 0) → List ℕ → Option (List ℕ) → List ℕ → List ℕ → Options → Files → Files
     → Type 0
-IsCutShort Shows current home named index_named old new =
-    IsPlannedTo IsTorn Shows current home named index_named old new
+IsCutShort Shows current home named index_named options old new =
+    IsPlannedTo IsTorn Shows current home named index_named options old new
 
 -- an upgrade that was refused at its write, or behind it at the notes
-abbrev pub IsBroken : (List ℕ → Type 0) → List ℕ → Option (List ℕ) → List ℕ → List ℕ → Files → Files → Type 0
-IsBroken Shows current home named index_named old new =
-    IsCutShort Shows current home named index_named old new
-    ⊎ IsUpgraded Shows current home named index_named old new
+abbrev pub IsBroken : (List ℕ → Type 0) → List ℕ → Option (List ℕ) → List ℕ → List ℕ → Options → Files → Files
+    → Type 0
+IsBroken Shows current home named index_named options old new =
+    IsCutShort Shows current home named index_named options old new
+    ⊎ IsUpgraded Shows current home named index_named options old new

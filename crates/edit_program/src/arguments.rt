@@ -1,18 +1,12 @@
-//! The command line: which words there are, and what they ask for.
-ghost use Rattle.std.specs.Prelude.{◌≡◌, IfOk, codes, false};
-ghost use Rattle.clap.specs.Words.{app_of, found_of, rows_of, rule_of};
-ghost use Rattle.edit_program.specs.CommandLine.{edit_app, option_rule, value_of};
+//! The command line: which words there are.
+ghost use Rattle.std.specs.Prelude.{◌≡◌, [], ◌∷◌, IfOk, false};
+ghost use Rattle.clap.specs.Words.{app_of, rule_of};
+ghost use Rattle.clap.specs.declared.builder.command.Command.TheViews.{out-Command as fields_of};
+ghost use Rattle.edit_program.specs.CommandLine.{choice_rule, choices, count_rule, edit_app, flag_rule, option_rule, places, switches, upgrade_app, with_rules};
 
 use clap::builder::ValueParser;
-use clap::{Arg, ArgAction, ArgMatches, Command};
+use clap::{Arg, ArgAction, Command};
 use std::alloc::{AllocError, Global};
-
-/// What the words of `upgrade` ask for.
-#[derive(Debug, Clone, Copy)]
-pub(crate) struct UpgradeWords<'a> {
-    pub(crate) manifest_path: &'a str,
-    pub(crate) index_file: &'a str,
-}
 
 /// An option that must be given, with a value that is not empty.
 fn option<'a>(alloc: Global, id: &'a str, value: &'a str, about: &'a str) -> Arg<'a>
@@ -28,9 +22,47 @@ fn option<'a>(alloc: Global, id: &'a str, value: &'a str, about: &'a str) -> Arg
         .value_parser(ValueParser::NonEmptyString)
 }
 
-/// The program's command line.
-pub(crate) fn command<'a>(alloc: Global) -> Result<Command<'a>, AllocError>
-    ensures { IfOk result (λ c. app_of c ≡ edit_app) }
+/// An option that may be given, with a value.
+fn choice<'a>(alloc: Global, id: &'a str, value: &'a str, about: &'a str) -> Arg<'a>
+    ensures rule { rule_of result ≡ choice_rule id.entry.now }
+    ensures local { result.global ≡ false }
+{
+    Arg::new(alloc, id)
+        .long(id)
+        .value_name(value)
+        .help(about)
+        .action(ArgAction::Set)
+        .value_parser(ValueParser::String)
+}
+
+/// A flag.
+fn flag<'a>(alloc: Global, id: &'a str, about: &'a str) -> Arg<'a>
+    ensures rule { rule_of result ≡ flag_rule id.entry.now }
+    ensures local { result.global ≡ false }
+{
+    Arg::new(alloc, id)
+        .long(id)
+        .help(about)
+        .action(ArgAction::SetTrue)
+}
+
+/// A flag with a letter, of which the uses are counted.
+fn counted<'a>(alloc: Global, id: &'a str, letter: char, about: &'a str) -> Arg<'a>
+    ensures rule { rule_of result ≡ count_rule id.entry.now letter }
+    ensures local { result.global ≡ false }
+{
+    Arg::new(alloc, id)
+        .short(letter)
+        .long(id)
+        .help(about)
+        .action(ArgAction::Count)
+}
+
+/// Adds the options that name files.
+fn with_places<'a>(alloc: Global, command: Command<'a>) -> Result<Command<'a>, AllocError>
+    ensures app { IfOk result (λ c. app_of c ≡ with_rules (app_of command.entry) places) }
+    ensures local { IfOk result (λ c. (fields_of command.entry).has_globals ≡ false
+        → (fields_of c).has_globals ≡ false) }
 {
     let manifest = option(
         alloc,
@@ -44,10 +76,85 @@ pub(crate) fn command<'a>(alloc: Global) -> Result<Command<'a>, AllocError>
         "FILE",
         "Index lines, as a registry's index has them",
     );
-    let upgrade = Command::new(alloc, "upgrade")
-        .about("Raises the dependency requirements of a manifest")
-        .arg(manifest)?
-        .arg(index)?;
+    command.arg(manifest)?.arg(index)
+}
+
+/// Adds the flags.
+fn with_switches<'a>(alloc: Global, command: Command<'a>) -> Result<Command<'a>, AllocError>
+    ensures app { IfOk result (λ c. app_of c ≡ with_rules (app_of command.entry) switches) }
+    ensures local { IfOk result (λ c. (fields_of command.entry).has_globals ≡ false
+        → (fields_of c).has_globals ≡ false) }
+{
+    let dry_run = flag(
+        alloc,
+        "dry-run",
+        "Prints what would change, and changes nothing",
+    );
+    let locked = flag(alloc, "locked", "Refuses to change the manifest");
+    let verbose = counted(alloc, "verbose", 'v', "Reports more");
+    let quiet = counted(alloc, "quiet", 'q', "Reports less");
+    command
+        .arg(dry_run.short('n'))?
+        .arg(locked)?
+        .arg(verbose)?
+        .arg(quiet)
+}
+
+/// Adds the options that say what may be upgraded.
+fn with_choices<'a>(alloc: Global, command: Command<'a>) -> Result<Command<'a>, AllocError>
+    ensures app { IfOk result (λ c. app_of c ≡ with_rules (app_of command.entry) choices) }
+    ensures local { IfOk result (λ c. (fields_of command.entry).has_globals ≡ false
+        → (fields_of c).has_globals ≡ false) }
+{
+    let compatible = choice(
+        alloc,
+        "compatible",
+        "allow|ignore",
+        "Upgrades to the latest compatible version",
+    );
+    let incompatible = choice(
+        alloc,
+        "incompatible",
+        "allow|ignore",
+        "Upgrades to the latest incompatible version",
+    );
+    let pinned = choice(
+        alloc,
+        "pinned",
+        "allow|ignore",
+        "Upgrades pinned requirements to the latest version",
+    );
+    let recursive = choice(
+        alloc,
+        "recursive",
+        "true|false",
+        "Updates locked dependencies recursively",
+    );
+    command
+        .arg(compatible.default_value("allow"))?
+        .arg(incompatible.short('i').default_value("ignore"))?
+        .arg(pinned.default_value("ignore"))?
+        .arg(recursive.value_parser(ValueParser::Bool))
+}
+
+/// The subcommand `upgrade`.
+fn upgrade_command<'a>(alloc: Global) -> Result<Command<'a>, AllocError>
+    ensures app { IfOk result (λ c. app_of c ≡ upgrade_app) }
+    ensures local { IfOk result (λ c. (fields_of c).has_globals ≡ false) }
+{
+    let upgrade = Command::new(alloc, "upgrade").about(
+        "Raises the dependency requirements of a manifest",
+    );
+    let upgrade = with_places(alloc, upgrade)?;
+    let upgrade = with_switches(alloc, upgrade)?;
+    with_choices(alloc, upgrade)
+}
+
+/// The program's command line.
+pub(crate) fn command<'a>(alloc: Global) -> Result<Command<'a>, AllocError>
+    ensures { IfOk result (λ c. app_of c ≡ edit_app) }
+{
+    let upgrade = upgrade_command(alloc)?;
     Command::new(alloc, "cargo-edit")
         .version("0.13.14")
         .about("Edits the dependency requirements and versions of Cargo.toml files")
@@ -56,17 +163,4 @@ pub(crate) fn command<'a>(alloc: Global) -> Result<Command<'a>, AllocError>
         .propagate_version(true)
         .subcommand_required(true)
         .subcommand(upgrade)
-}
-
-/// What matched words of `upgrade` ask for.
-pub(crate) fn upgrade_words<'a>(matches: &ArgMatches<'a>) -> UpgradeWords<'a>
-    ensures manifest { result.manifest_path.now
-        ≡ value_of (codes "manifest-path") (codes "Cargo.toml") (rows_of (found_of matches.now)) }
-    ensures index { result.index_file.now
-        ≡ value_of (codes "index-file") (codes "index.json") (rows_of (found_of matches.now)) }
-{
-    UpgradeWords {
-        manifest_path: matches.get_str("manifest-path").unwrap_or("Cargo.toml"),
-        index_file: matches.get_str("index-file").unwrap_or("index.json"),
-    }
 }

@@ -2,6 +2,8 @@
 #![tactic(auto)]
 
 mod arguments;
+mod asked;
+mod filled;
 mod locate;
 mod notes;
 mod own;
@@ -9,5 +11,6 @@ mod program;
 mod refusal;
 mod reported;
 mod upgrade;
+mod written;
 
 pub use program::run;

@@ -3,9 +3,9 @@ ghost use Rattle.std.specs.Prelude.{◌≡◌, ◌⊎◌, IfErr};
 ghost use Rattle.edit_base.specs.Errors.{IsMemory};
 ghost use Rattle.edit_base.specs.declared.errors.Error.TheVariants.{Output};
 
-use cargo_edit::UpgradePlan;
+use cargo_edit::{Options, UpgradePlan};
 use edit_base::CargoResult;
-use edit_report::{Reason, Row, name_text, reason_text, shell_note, shown};
+use edit_report::{Reason, Row, name_text, reason_text, shell_note, shell_warn, shown};
 use std::alloc::{AllocError, Global};
 use std::collections::BTreeSet;
 use std::io;
@@ -118,11 +118,11 @@ fn print_hidden<E: io::Write>(
     shell_note(err, text.as_str())
 }
 
-/// Prints the notes on a plan.
+/// Prints the notes on a plan, and at a dry run that nothing was written.
 pub(crate) fn print_notes<E: io::Write>(
     alloc: Global,
     plan: &UpgradePlan,
-    verbosity: i8,
+    options: &Options,
     err: &mut E,
 ) -> CargoResult<()>
     ensures refused { IfErr result (λ e. IsMemory e ⊎ (e ≡ Output)) }
@@ -139,5 +139,9 @@ pub(crate) fn print_notes<E: io::Write>(
             "Re-run with `--incompatible` to upgrade incompatible version requirements",
         )?;
     }
-    print_hidden(alloc, plan.rows.as_slice(), verbosity, err)
+    print_hidden(alloc, plan.rows.as_slice(), options.verbosity, err)?;
+    if options.dry_run {
+        shell_warn(err, "aborting upgrade due to dry run")?;
+    }
+    Ok(())
 }

@@ -1,8 +1,8 @@
 //! The command `upgrade`: reads, plans, then writes.
-ghost use Rattle.std.specs.Prelude.{◌≡◌, ◌⊎◌, ◌≤◌, IfErr, IfOk, OnErr, OnOk, option_copied, option_map, pos, slice_get, string_bytes, true};
+ghost use Rattle.std.specs.Prelude.{◌≡◌, ◌≢◌, ◌⊎◌, ◌≤◌, [], IfErr, IfOk, OnErr, OnOk, option_copied, option_map, string_bytes, true};
 ghost use Rattle.std.specs.Io.KnownBytes.{Appends};
 ghost use Rattle.edit_base.specs.Errors.{IsMemory};
-ghost use Rattle.edit_base.specs.declared.errors.Error.TheVariants.{Output as unwritten};
+ghost use Rattle.edit_base.specs.declared.errors.Error.TheVariants.{Locked, Output as unwritten};
 ghost use Rattle.edit_report.specs.Table.{report_text};
 ghost use Rattle.edit_base.specs.declared.errors.DeviceCall.TheVariants as call;
 ghost use Rattle.edit_version.specs.RustVersions.{numbers_of};
@@ -10,15 +10,16 @@ ghost use Rattle.edit_sources.specs.Configured.{given};
 ghost use Rattle.edit_store.specs.Store.{OnlyReads, SameFiles};
 ghost use Rattle.edit_manifest.specs.Located.{IsFault};
 ghost use Rattle.edit_manifest.specs.Loaded.{IsBadManifest};
-ghost use Rattle.edit_program.specs.Causes.{IsIndexCause, IsManifestCause, IsPlanCause, IsUpgradeCause};
-ghost use Rattle.edit_program.specs.Upgrading.{AreRead, HasRust, IsBroken, IsDefault, IsIndexRead, IsManifestRead, IsPlanned, IsTorn, IsUpgraded, IsWritten};
+ghost use Rattle.edit_program.specs.Causes.{IsIndexCause, IsManifestCause, IsPlanCause, IsStopCause, IsUpgradeCause};
+ghost use Rattle.edit_program.specs.Upgrading.{AreRead, HasRust, IsBroken, IsIndexRead, IsManifestRead, IsPlanned, IsTorn, IsUpgraded, IsWritten, written_output};
 
-use crate::arguments::UpgradeWords;
+use crate::asked::UpgradeWords;
 use crate::locate::{absolute, manifest_path};
 use crate::notes::print_notes;
 use crate::own::{own_name, own_rust_version};
 use crate::refusal::{RunResult, at_byte, at_path};
 use crate::reported::print_report;
+use crate::written::{check_lock, written_output};
 use cargo_edit::{Input, Options, Output, UpgradePlan, plan_documents};
 use edit_base::{CargoResult, Error};
 use edit_document::Document;
@@ -152,33 +153,19 @@ fn read_sources<S: Store>(
     })
 }
 
-/// What is allowed where no word says otherwise.
-fn default_options(alloc: Global) -> Options
-    ensures { IsDefault result }
-{
-    Options {
-        compatible: true,
-        incompatible: false,
-        pinned: false,
-        package: Vec::new(alloc),
-        exclude: Vec::new(alloc),
-        dry_run: false,
-        locked: false,
-        recursive: None,
-        verbosity: 0,
-    }
-}
-
 /// The plan for a manifest with its configurations over an index.
 fn plan_for(
     alloc: Global,
+    options: &Options,
     manifest: &ReadManifest,
     configs: &Vec<Config>,
     index: FileIndex,
 ) -> CargoResult<UpgradePlan>
-    requires { manifest.now.document.bytes ≡ manifest.now.input.bytes.items }
+    requires document { manifest.now.document.bytes ≡ manifest.now.input.bytes.items }
+    requires no_words { options.now.package.items ≡ [] }
+    requires no_exclusions { options.now.exclude.items ≡ [] }
     ensures ok { IfOk result (λ p.
-        IsPlanned (string_bytes manifest.now.input.path) manifest.now.input.bytes.items
+        IsPlanned options.now (string_bytes manifest.now.input.path) manifest.now.input.bytes.items
         (option_map numbers_of manifest.now.input.rust_version) configs.now.items index p.rows.items
         p.outputs.items) }
     ensures refused { IfErr result (λ e. IsMemory e
@@ -188,8 +175,7 @@ fn plan_for(
     let inputs = from_ref(&manifest.input);
     let documents = from_ref(&manifest.document);
     let configs = from_ref(configs);
-    let options = default_options(alloc);
-    let plan = plan_documents(alloc, &options, inputs, documents, configs, &mut cache)?;
+    let plan = plan_documents(alloc, options, inputs, documents, configs, &mut cache)?;
     Ok(plan)
 }
 
@@ -218,6 +204,7 @@ fn deliver<S: Store, O: io::Write, E: io::Write>(
     alloc: Global,
     name: &str,
     plan: &UpgradePlan,
+    options: &Options,
     files: &mut S,
     out: &mut O,
     err: &mut E,
@@ -225,20 +212,27 @@ fn deliver<S: Store, O: io::Write, E: io::Write>(
     ensures tells { (S.view files.new).tells ≡ (S.view files.old).tells }
     ensures later { (S.view files.old).faults ≤ (S.view files.new).faults }
     ensures done { OnOk result (
-        Appends (O.contents out.old) (O.contents out.new) (report_text (pos 0) plan.now.rows.items)
-        × ((S.view files.old).tells ≡ true → IsWritten (slice_get plan.now.outputs.items 0)
+        Appends (O.contents out.old) (O.contents out.new)
+        (report_text options.now.verbosity plan.now.rows.items)
+        × (options.now.locked ≡ true → plan.now.outputs.items ≡ [])
+        × ((S.view files.old).tells ≡ true → IsWritten (written_output options.now plan.now.outputs.items)
         (S.view files.old).file_at (S.view files.new).file_at)) }
     ensures stopped { OnErr result (SameFiles (S.view files.old).file_at (S.view files.new).file_at
-        ⊎ (Appends (O.contents out.old) (O.contents out.new) (report_text (pos 0) plan.now.rows.items)
-        × (IsTorn (slice_get plan.now.outputs.items 0) (S.view files.old).file_at (S.view files.new).file_at
-        ⊎ ((S.view files.old).tells ≡ true → IsWritten (slice_get plan.now.outputs.items 0)
+        ⊎ (Appends (O.contents out.old) (O.contents out.new)
+        (report_text options.now.verbosity plan.now.rows.items)
+        × (options.now.locked ≡ true → plan.now.outputs.items ≡ [])
+        × (IsTorn (written_output options.now plan.now.outputs.items)
+        (S.view files.old).file_at (S.view files.new).file_at
+        ⊎ ((S.view files.old).tells ≡ true → IsWritten (written_output options.now plan.now.outputs.items)
         (S.view files.old).file_at (S.view files.new).file_at)))) }
     ensures cause { IfErr result (λ r. r.error ≡ unwritten
-        ⊎ IsFault call.Write (S.view files.old).faults (S.view files.new).faults r.error) }
+        ⊎ (IsFault call.Write (S.view files.old).faults (S.view files.new).faults r.error
+        ⊎ ((r.error ≡ Locked) × (options.now.locked ≡ true) × (plan.now.outputs.items ≢ [])))) }
 {
-    print_report(alloc, name, plan, 0, out, err)?;
-    write_output(alloc, files, plan.outputs.first())?;
-    print_notes(alloc, plan, 0, err)?;
+    print_report(alloc, name, plan, options.verbosity, out, err)?;
+    check_lock(options, plan)?;
+    write_output(alloc, files, written_output(options, plan))?;
+    print_notes(alloc, plan, options, err)?;
     Ok(())
 }
 
@@ -253,21 +247,23 @@ pub(crate) fn upgrade<S: Store, O: io::Write, E: io::Write>(
     out: &mut O,
     err: &mut E,
 ) -> RunResult<()>
+    requires no_words { words.now.options.package.items ≡ [] }
+    requires no_exclusions { words.now.options.exclude.items ≡ [] }
     ensures tells { (S.view files.new).tells ≡ (S.view files.old).tells }
     ensures done { OnOk result ((S.view files.old).tells ≡ true
         → IsUpgraded (Appends (O.contents out.old) (O.contents out.new)) current.now
-        (given cargo_home.entry) words.now.manifest_path.now words.now.index_file.now
+        (given cargo_home.entry) words.now.manifest_path.now words.now.index_file.now words.now.options
         (S.view files.old).file_at (S.view files.new).file_at) }
     // a refusal before the write leaves each file as it was
     ensures refused { OnErr result ((S.view files.old).tells ≡ true
         → SameFiles (S.view files.old).file_at (S.view files.new).file_at
         ⊎ IsBroken (Appends (O.contents out.old) (O.contents out.new)) current.now
-        (given cargo_home.entry) words.now.manifest_path.now words.now.index_file.now
+        (given cargo_home.entry) words.now.manifest_path.now words.now.index_file.now words.now.options
         (S.view files.old).file_at (S.view files.new).file_at) }
     // and each refusal has its cause
-    ensures why { IfErr result (λ r. IsUpgradeCause (S.view files.old).tells
+    ensures why { IfErr result (λ r. IsStopCause (S.view files.old).tells
         (S.view files.old).file_at current.now (given cargo_home.entry)
-        words.now.manifest_path.now words.now.index_file.now
+        words.now.manifest_path.now words.now.index_file.now words.now.options
         (S.view files.old).faults (S.view files.new).faults r.error) }
 {
     let sources = read_sources(alloc, words, current, cargo_home, files)?;
@@ -276,7 +272,7 @@ pub(crate) fn upgrade<S: Store, O: io::Write, E: io::Write>(
         configs,
         index,
     } = sources;
-    let plan = plan_for(alloc, &manifest, &configs, index)?;
+    let plan = plan_for(alloc, &words.options, &manifest, &configs, index)?;
     let name = manifest.input.name.as_str();
-    deliver(alloc, name, &plan, files, out, err)
+    deliver(alloc, name, &plan, &words.options, files, out, err)
 }

@@ -68,10 +68,15 @@ fn outcome<S: Store>(alloc: Global, words: &[&str], folder: &str, files: &mut S)
     shown(alloc, status, after.as_deref(), &out, &err)
 }
 
-/// The words of a row.
+/// The words of a row; behind a `-` the usual ones, and then those of the row.
 fn words_of<'a>(alloc: Global, text: &'a str) -> Option<Vec<&'a str>> {
-    let text = if text == "-" { WORDS } else { text };
-    let words = text.split_ascii_whitespace();
+    let (usual, own) = match text.strip_prefix("-") {
+        Some(own) => (WORDS, own),
+        None => ("", text),
+    };
+    let words = usual
+        .split_ascii_whitespace()
+        .chain(own.split_ascii_whitespace());
     words
         .map(|word| if word == "''" { "" } else { word })
         .collect(alloc)

@@ -15,6 +15,11 @@ const UNREAD: &str = "[dependencies]\nserde = 'one'\na.workspace = true\n";
 
 const PINNED: &str = "[dependencies]\nserde = '=1.0.0'\n[dev-dependencies]\nserde = '0.9'\n";
 
+const RAISED_PAST: &str = "[dependencies]\nserde = '=1.0.0'\n[dev-dependencies]\nserde = \"1.2\"\n";
+
+const RAISED_ALL: &str =
+    "[dependencies]\nserde = \"=1.2.3\"\n[dev-dependencies]\nserde = \"1.2\"\n";
+
 const MANY: &str = "[dependencies]\na = '1'\nb = '1'\nc = '1'\nd = '1'\n";
 
 const REGISTRIES: &str = "[registries]\nr = { index = \"file:///r\" }\n";
@@ -41,20 +46,32 @@ For more information, try '--help'.
 @upgrade --help|\
 0 Raises the dependency requirements of a manifest
 
-Usage: cargo-edit upgrade --manifest-path <PATH> --index-file <FILE>
+Usage: cargo-edit upgrade [OPTIONS] --manifest-path <PATH> --index-file <FILE>
 
 Options:
-      --manifest-path <PATH>  The manifest, or a folder with one
-      --index-file <FILE>     Index lines, as a registry's index has them
-  -h, --help                  Print help
-  -V, --version               Print version
+      --manifest-path <PATH>         The manifest, or a folder with one
+      --index-file <FILE>            Index lines, as a registry's index has them
+  -n, --dry-run                      Prints what would change, and changes nothing
+      --locked                       Refuses to change the manifest
+  -v, --verbose...                   Reports more
+  -q, --quiet...                     Reports less
+      --compatible <allow|ignore>    Upgrades to the latest compatible version [default: allow]
+  -i, --incompatible <allow|ignore>  Upgrades to the latest incompatible version [default: ignore]
+      --pinned <allow|ignore>        Upgrades pinned requirements to the latest version [default: ignore]
+      --recursive <true|false>       Updates locked dependencies recursively [possible values: true, false]
+  -h, --help                         Print help
+  -V, --version                      Print version
+@- --pinned=maybe|\
+2 error: invalid value 'maybe' for '--pinned <allow|ignore>'
+
+For more information, try '--help'.
 @upgrade -V|\
 0 cargo-edit-upgrade 0.13.14
 ";
 
-/// Each row: what it shows, the files, which call of the store fails (99: none), the words (`-`: the usual
-/// ones, `''` an empty one), and the status, the manifest afterwards and what was printed on standard output
-/// and standard error.
+/// Each row: what it shows, the files, which call of the store fails (99: none), the words (behind a `-` the
+/// usual ones come first, `''` is an empty one), and the status, the manifest afterwards and what was printed
+/// on standard output and standard error.
 pub(super) const ROWS: &str = "\
 raises one manifest|mi|99|-|0 raised name  old req compatible latest new req
 ====  ======= ========== ====== =======
@@ -119,6 +136,55 @@ note: Re-run with `--verbose` to show more dependencies
 @more names than three|qi|99|-|0 held     Checking virtual workspace's dependencies
 note: Re-run with `--verbose` to show more dependencies
   latest: 4 packages
+@a dry run|mi|99|- -n --recursive|0 manifest name  old req compatible latest new req
+====  ======= ========== ====== =======
+serde 1.0     1.2.3      1.2.3  1.2    
+    Checking virtual workspace's dependencies
+warning: aborting upgrade due to dry run
+@a lock|mi|99|- --locked --dry-run|1 manifest name  old req compatible latest new req
+====  ======= ========== ====== =======
+serde 1.0     1.2.3      1.2.3  1.2    
+    Checking virtual workspace's dependencies
+Error: cannot upgrade due to `--locked`
+@a lock with nothing to raise, and all rows|aj|99|- --locked -v --verbose|0 up to date \
+name old req compatible latest new req
+==== ======= ========== ====== =======
+a    1       1.0.0      1.0.0  1      
+    Checking virtual workspace's dependencies
+@more is told|wi|99|- -v|0 held     Checking virtual workspace's dependencies
+warning: keeping serde, unreadable requirement `one`
+warning: ignoring a, source is workspace
+note: Re-run with `--verbose --verbose` to show more dependencies
+  latest: serde
+@no more than less|wi|99|- -vvq --quiet|0 held     Checking virtual workspace's dependencies
+warning: keeping serde, unreadable requirement `one`
+note: Re-run with `--verbose` to show more dependencies
+  latest: serde
+@rows that are held back|pi|99|- -v --pinned false -i ignore|0 held \
+name  old req compatible latest new req note        
+====  ======= ========== ====== ======= ====        
+serde =1.0.0  -          1.2.3  =1.0.0  pinned      
+serde 0.9     -          1.2.3  0.9     incompatible
+    Checking virtual workspace's dependencies
+note: Re-run with `--pinned` to upgrade pinned version requirements
+note: Re-run with `--incompatible` to upgrade incompatible version requirements
+@past the requirement|pi|99|- -i|0 raised past name  old req compatible latest new req
+====  ======= ========== ====== =======
+serde 0.9     -          1.2.3  1.2    
+    Checking virtual workspace's dependencies
+note: Re-run with `--pinned` to upgrade pinned version requirements
+note: Re-run with `--verbose` to show more dependencies
+  pinned: serde
+@past all requirements|pi|99|- --pinned --incompatible=true --recursive false|\
+0 raised all name  old req compatible latest new req
+====  ======= ========== ====== =======
+serde =1.0.0  -          1.2.3  =1.2.3 
+serde 0.9     -          1.2.3  1.2    
+    Checking virtual workspace's dependencies
+@not even what is compatible|mi|99|- --compatible ignore|0 manifest     \
+Checking virtual workspace's dependencies
+note: Re-run with `--verbose` to show more dependencies
+  compatible: serde
 @the write fails after four bytes|mi|9|-|1 cut name  old req compatible latest new req
 ====  ======= ========== ====== =======
 serde 1.0     1.2.3      1.2.3  1.2    
@@ -134,6 +200,10 @@ help|mi|99|upgrade --help|0 manifest \
 @a flag that none has|mi|99|upgrade --nope|2 manifest \
 @no index file|mi|99|upgrade --manifest-path Cargo.toml|2 manifest \
 @no manifest|mi|99|upgrade --index-file index.json|2 manifest \
+@a value behind the one that was filled in|mi|99|- --pinned maybe|2 manifest \
+@a value that only others have|mi|99|- --recursive=allow|2 manifest \
+@an option twice|mi|99|- -i -i|2 manifest \
+@an option behind the end of options|mi|99|- -- -i|2 manifest \
 @an empty path of a manifest|mi|99|upgrade --manifest-path '' --index-file index.json|2 manifest \
 @an empty path behind an equals sign|mi|99|upgrade --manifest-path= --index-file index.json|2 manifest \
 @an empty path of an index file|mi|99|upgrade --manifest-path Cargo.toml --index-file ''|2 manifest \
@@ -188,6 +258,10 @@ pub(super) fn name_of(bytes: &[u8]) -> &'static str {
         "manifest"
     } else if bytes == RAISED.as_bytes() {
         "raised"
+    } else if bytes == RAISED_PAST.as_bytes() {
+        "raised past"
+    } else if bytes == RAISED_ALL.as_bytes() {
+        "raised all"
     } else if bytes == ODD_NAME.as_bytes() {
         "odd name"
     } else if bytes == OF_A_REGISTRY.as_bytes() {

@@ -1,8 +1,8 @@
-use Rattle.std.proofs.Common.{◌≡◌, Bor, List, ℕ, codes, inr, map, refl, rules}
+use Rattle.std.proofs.Common.{◌≡◌, Bor, List, ℕ, codes, inl, inr, map, refl, rules}
 use Rattle.clap.specs.Words.{app_of}
 use Rattle.edit_program.specs.CommandLine.{AsksFor}
 use Rattle.edit_program.proofs.CauseLemmas.{refusal_has}
-use Rattle.edit_program.proofs.CommandLemmas.{asks_for, name_met, no_text, on_any, shown_done, shown_fault, shown_why, taken_by, the_text, upgrade_refused, upgrade_why}
+use Rattle.edit_program.proofs.CommandLemmas.{asks_for, bad_status, name_met, no_text, on_any, shown_done, shown_fault, shown_why, taken_by, the_text, upgrade_refused, upgrade_why}
 use Rattle.edit_program.proofs.program.answer.Goals as goal
 use Rattle.edit_program.proofs.program.answer.Goals.{in_default-via-in-Some+in_default, in_default-via-in_default}
 
@@ -29,7 +29,7 @@ returns-in-Err-clause-why g c =
 pub returns-in_default-clause-fault : goal.returns-in_default-clause-fault
 returns-in_default-clause-fault g c _ = (
   refl,
-  inr (record {
+  inr (inl (record {
     taken = taken_by (app_of c.in_ok-command.command) _ c.in_ok-command.ensures c.in-Ok.ensures.kinds;
     other = λ name.
         let met = name_met (app_of c.in_ok-command.command)
@@ -42,43 +42,52 @@ returns-in_default-clause-fault g c _ = (
               different same
           | in_default-via-in_default w ↦ no_text _ c.subcommand.result _ w.in_default.is met
         ];
-  }),
+  })),
+)
+
+pub returns-in-Err-upgrade_words-clause-fault : goal.returns-in-Err-upgrade_words-clause-fault
+returns-in-Err-upgrade_words-clause-fault g c _ = (
+  c.refuse_value.ensures,
+  inr (inr (bad_status (app_of c.in_ok-command.command) _ c.in-Ok.matches c.in-Some-upgrade-default.matches.now
+      c.in_ok-command.ensures c.in-Ok.ensures.matches c.in-Ok.ensures.kinds
+      c.in-Some-upgrade-default.ensures.rows c.in-Err-upgrade_words.ensures.refused)),
 )
 
 pub returns-in_err-upgrade-clause-refused : goal.returns-in_err-upgrade-clause-refused
 returns-in_err-upgrade-clause-refused g c =
     let asks : AsksFor (map (λ (w : Bor (List ℕ)). w.now) c.args.words.now)
-    c.upgrade_words-words.result.manifest_path.now c.upgrade_words-words.result.index_file.now =
-    asks_for (app_of c.in_ok-command.command) _ c.in-Ok.matches c.in-Some-upgrade-default.matches.now _ _
+    c.in-Ok-upgrade_words.words.manifest_path.now c.in-Ok-upgrade_words.words.index_file.now c.in-Ok-upgrade_words.words.options =
+    asks_for (app_of c.in_ok-command.command) _ c.in-Ok.matches c.in-Some-upgrade-default.matches.now _ _ _
     c.in_ok-command.ensures c.in-Ok.ensures.matches c.in-Ok.ensures.kinds
-    c.in-Some-upgrade-default.ensures.rows c.upgrade_words-words.ensures.manifest
-    c.upgrade_words-words.ensures.index
+    c.in-Some-upgrade-default.ensures.rows c.in-Ok-upgrade_words.ensures.manifest
+    c.in-Ok-upgrade_words.ensures.index c.in-Ok-upgrade_words.ensures.options
     in
     on_any c.from_residual-in_err-upgrade.result _
-    (λ t. upgrade_refused _ _ c.args.current.now _ _ _ _ _ asks (c.in_err-upgrade.ensures.refused t))
+    (λ t. upgrade_refused _ _ c.args.current.now _ _ _ _ _ _ asks (c.in_err-upgrade.ensures.refused t))
 
 pub returns-in_err-upgrade-clause-why : goal.returns-in_err-upgrade-clause-why
 returns-in_err-upgrade-clause-why g c =
     let asks : AsksFor (map (λ (w : Bor (List ℕ)). w.now) c.args.words.now)
-    c.upgrade_words-words.result.manifest_path.now c.upgrade_words-words.result.index_file.now =
-    asks_for (app_of c.in_ok-command.command) _ c.in-Ok.matches c.in-Some-upgrade-default.matches.now _ _
+    c.in-Ok-upgrade_words.words.manifest_path.now c.in-Ok-upgrade_words.words.index_file.now c.in-Ok-upgrade_words.words.options =
+    asks_for (app_of c.in_ok-command.command) _ c.in-Ok.matches c.in-Some-upgrade-default.matches.now _ _ _
     c.in_ok-command.ensures c.in-Ok.ensures.matches c.in-Ok.ensures.kinds
-    c.in-Some-upgrade-default.ensures.rows c.upgrade_words-words.ensures.manifest
-    c.upgrade_words-words.ensures.index
+    c.in-Some-upgrade-default.ensures.rows c.in-Ok-upgrade_words.ensures.manifest
+    c.in-Ok-upgrade_words.ensures.index c.in-Ok-upgrade_words.ensures.options
     in
     refusal_has c.from_residual-in_err-upgrade.result c.in_err-upgrade.field-0.0 _
     c.from_residual-in_err-upgrade.ensures.1
     (upgrade_why _ c.args.current.now _ _ (g.S.Store.view c.args.files.now).file_at _ _
-    c.in_err-upgrade.field-0.0.error _ _ asks c.in_err-upgrade.ensures.why)
+    c.in_err-upgrade.field-0.0.error _ _ _ asks c.in_err-upgrade.ensures.why)
 
 pub returns-clause-done : goal.returns-clause-done
 returns-clause-done g c zero t = inr (record {
-  manifest = c.upgrade_words-words.result.manifest_path.now;
-  index = c.upgrade_words-words.result.index_file.now;
+  manifest = c.in-Ok-upgrade_words.words.manifest_path.now;
+  index = c.in-Ok-upgrade_words.words.index_file.now;
+  options = c.in-Ok-upgrade_words.words.options;
   asks = asks_for (app_of c.in_ok-command.command) (map (λ (w : Bor (List ℕ)). w.now) c.args.words.now)
-      c.in-Ok.matches c.in-Some-upgrade-default.matches.now _ _
+      c.in-Ok.matches c.in-Some-upgrade-default.matches.now _ _ _
       c.in_ok-command.ensures c.in-Ok.ensures.matches c.in-Ok.ensures.kinds
-      c.in-Some-upgrade-default.ensures.rows c.upgrade_words-words.ensures.manifest
-      c.upgrade_words-words.ensures.index;
+      c.in-Some-upgrade-default.ensures.rows c.in-Ok-upgrade_words.ensures.manifest
+      c.in-Ok-upgrade_words.ensures.index c.in-Ok-upgrade_words.ensures.options;
   upgraded = c.in_ok-upgrade.ensures.done t;
 })

@@ -13,14 +13,12 @@ use Rattle.edit_program.proofs.upgrade.plan_for.Goals as goal
 
 pub returns-clause-ok : goal.returns-clause-ok
 returns-clause-ok c =
-    let o = c.default_options-options.result in
+    let o = c.args.options.now in
     let x = c.args.manifest.now.input in
     let own = c.args.configs.now in
     let p = c.in_ok-plan.plan in
     let all = all_rows _ p (ap length c.from_ref-inputs.ensures.value) c.in_ok-plan.ensures.rows_in_order in
     record {
-      options = o;
-      default = c.default_options-options.ensures;
       looks = p.looks.items;
       complete = λ address name need.
           c.in_ok-plan.ensures.looks.complete address name

@@ -1,7 +1,6 @@
-use Rattle.std.proofs.Common.{refl}
-use Rattle.std.specs.Prelude.{codes}
-use Rattle.edit_program.proofs.CommandLemmas.{value_is}
-use Rattle.edit_program.proofs.arguments.upgrade_words.Goals as goal
+use Rattle.std.proofs.Common.{codes, refl}
+use Rattle.edit_program.proofs.AskedLemmas.{value_is}
+use Rattle.edit_program.proofs.asked.upgrade_words.Goals as goal
 
 pub returns-clause-manifest : goal.returns-clause-manifest
 returns-clause-manifest c = value_is c.args.matches.now (codes "manifest-path") (codes "Cargo.toml")

@@ -1,0 +1,39 @@
+-- What the matches say of an option.
+use Rattle.std.proofs.Common.{◌≡◌, ℕ, List, Option, Some, None, Bor, ap, refl, ◌∙◌, sym}
+use Rattle.std.specs.Prelude.{option_map, unwrap_or}
+use Rattle.clap.specs.Words.{Text, first_value, first_of, found_of, rows_of}
+use Rattle.clap.specs.declared.parser.ArgMatches.{ArgMatches}
+use Rattle.clap.proofs.WalkLemmas.{first_value-rows}
+use Rattle.edit_program.specs.CommandLine.{value_of}
+
+or_other : (o : Option (Bor (List ℕ))) (d : Bor (List ℕ))
+    → (unwrap_or o d).now ≡ unwrap_or (option_map (λ (s : Bor (List ℕ)). s.now) o) d.now
+or_other None d = refl
+or_other (Some s) d = refl
+
+-- the text of an option, by the rows of the matches
+pub value_is : (m : ArgMatches) (id other : Text) (o : Option (Bor (List ℕ))) (r d : Bor (List ℕ))
+    → option_map (λ (s : Bor (List ℕ)). s.now) o ≡ first_value (found_of m) id → r ≡ unwrap_or o d
+    → d.now ≡ other
+    → r.now ≡ value_of id other (rows_of (found_of m))
+value_is m id other o r d found is same =
+    ap (λ (x : Bor (List ℕ)). x.now) is ∙ or_other o d
+    ∙ ap (unwrap_or (option_map (λ (s : Bor (List ℕ)). s.now) o)) same
+    ∙ ap (λ x. unwrap_or x other) (found ∙ first_value-rows (found_of m) id)
+
+-- what is made of the text of an option, where it has one
+pub some_is : {A : Type 0} (f : Text → A) (m : ArgMatches) (id : Text) (o : Option (Bor (List ℕ)))
+    (v : Bor (List ℕ)) → o ≡ Some v
+    → option_map (λ (s : Bor (List ℕ)). s.now) o ≡ first_value (found_of m) id
+    → Some (f v.now) ≡ option_map f (first_of id (rows_of (found_of m)))
+some_is f m id o v is found =
+    ap (λ (p : Option (Bor (List ℕ))). option_map f (option_map (λ (s : Bor (List ℕ)). s.now) p)) (sym is)
+    ∙ ap (option_map f) (found ∙ first_value-rows (found_of m) id)
+
+-- and where it has none
+pub none_is : {A : Type 0} (f : Text → A) (m : ArgMatches) (id : Text) (o : Option (Bor (List ℕ))) → o ≡ None
+    → option_map (λ (s : Bor (List ℕ)). s.now) o ≡ first_value (found_of m) id
+    → None ≡ option_map f (first_of id (rows_of (found_of m)))
+none_is f m id o is found =
+    ap (λ (p : Option (Bor (List ℕ))). option_map f (option_map (λ (s : Bor (List ℕ)). s.now) p)) (sym is)
+    ∙ ap (option_map f) (found ∙ first_value-rows (found_of m) id)

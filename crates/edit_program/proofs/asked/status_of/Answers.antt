@@ -1,0 +1,16 @@
+use Rattle.std.proofs.Common.{[], ◌∙◌, ap, refl, sym}
+use Rattle.edit_program.specs.CommandLine.{status_of_value}
+use Rattle.edit_program.proofs.AskedLemmas.{value_is}
+use Rattle.edit_program.proofs.asked.status_of.Goals as goal
+
+pub returns-in-Some-clause-ok : goal.returns-in-Some-clause-ok
+returns-in-Some-clause-ok c =
+    sym (ap status_of_value (value_is c.args.matches.now c.args.option.now [] c.get_str.result
+    c.unwrap_or-value.result _ c.get_str.ensures c.unwrap_or-value.ensures refl))
+    ∙ sym c.in-Some.ensures
+
+pub returns-in-None-clause-refused : goal.returns-in-None-clause-refused
+returns-in-None-clause-refused c =
+    sym (ap status_of_value (value_is c.args.matches.now c.args.option.now [] c.get_str.result
+    c.unwrap_or-value.result _ c.get_str.ensures c.unwrap_or-value.ensures refl))
+    ∙ sym c.in-None.ensures

@@ -1,0 +1,43 @@
+use Rattle.std.proofs.Common.{Bor, List, ℕ, map, rules, subst, true, ◌≡◌, ◌≢◌}
+use Rattle.std.specs.Prelude.{IfErr, IfOk, OnErr}
+use Rattle.std.specs.Io.KnownBytes.{Appends}
+use Rattle.edit_sources.specs.Configured.{given}
+use Rattle.edit_program.specs.Filled.{filled}
+use Rattle.edit_program.specs.Runs.{AreAtFault, IsDone, IsRefused, IsRunCause}
+use Rattle.edit_program.proofs.program.answer_given.Goals as goal
+
+pub returns-clause-fault : goal.returns-clause-fault
+returns-clause-fault g c =
+    let same : map (λ (w : Bor (List ℕ)). w.now) c.as_slice.result.now
+    ≡ filled (map (λ (w : Bor (List ℕ)). w.now) c.args.words.now) = search rules in
+    subst (λ (ws : List (List ℕ)). IfOk c.answer.result
+    (λ s. s ≢ 0 → (s ≡ 2) × AreAtFault ws)) same c.answer.ensures.fault
+
+pub returns-clause-done : goal.returns-clause-done
+returns-clause-done g c =
+    let same : map (λ (w : Bor (List ℕ)). w.now) c.as_slice.result.now
+    ≡ filled (map (λ (w : Bor (List ℕ)). w.now) c.args.words.now) = search rules in
+    subst (λ (ws : List (List ℕ)). IfOk c.answer.result
+    (λ s. s ≡ 0 → (g.S.Store.view c.args.files.now).tells ≡ true
+    → IsDone ws (Appends (g.O.Write.contents c.args.out.now) (g.O.Write.contents c.answer.new.out))
+    c.args.current.now (given c.args.cargo_home) (g.S.Store.view c.args.files.now).file_at
+    (g.S.Store.view c.answer.new.files).file_at)) same c.answer.ensures.done
+
+pub returns-clause-refused : goal.returns-clause-refused
+returns-clause-refused g c =
+    let same : map (λ (w : Bor (List ℕ)). w.now) c.as_slice.result.now
+    ≡ filled (map (λ (w : Bor (List ℕ)). w.now) c.args.words.now) = search rules in
+    subst (λ (ws : List (List ℕ)). OnErr c.answer.result
+    ((g.S.Store.view c.args.files.now).tells ≡ true
+    → IsRefused ws (Appends (g.O.Write.contents c.args.out.now) (g.O.Write.contents c.answer.new.out))
+    c.args.current.now (given c.args.cargo_home) (g.S.Store.view c.args.files.now).file_at
+    (g.S.Store.view c.answer.new.files).file_at)) same c.answer.ensures.refused
+
+pub returns-clause-why : goal.returns-clause-why
+returns-clause-why g c =
+    let same : map (λ (w : Bor (List ℕ)). w.now) c.as_slice.result.now
+    ≡ filled (map (λ (w : Bor (List ℕ)). w.now) c.args.words.now) = search rules in
+    subst (λ (ws : List (List ℕ)). IfErr c.answer.result
+    (λ r. IsRunCause ws c.args.current.now (given c.args.cargo_home) (g.S.Store.view c.args.files.now).tells
+    (g.S.Store.view c.args.files.now).file_at (g.S.Store.view c.args.files.now).faults
+    (g.S.Store.view c.answer.new.files).faults r.error)) same c.answer.ensures.why

@@ -1,0 +1,46 @@
+-- Words with the values that are left out of them.
+use Rattle.std.specs.Prelude.{Bool, false, List, [], ◌∷◌, ◌++◌, Option, Some, None, codes, if◌then◌else◌, slice_get}
+use Rattle.std.specs.List.{list_any}
+use Rattle.std.specs.Option.{option_map_or}
+use Rattle.std.specs.Str.{bytes_eq}
+use Rattle.clap.specs.Words.{Text}
+
+-- the values of what may be upgraded: allowed, or ignored
+abbrev pub statuses : List Text
+statuses = codes "allow" ∷ codes "true" ∷ codes "ignore" ∷ codes "false" ∷ []
+
+-- the options that have such a value
+abbrev pub status_options : List Text
+status_options = codes "--compatible" ∷ codes "-i" ∷ codes "--incompatible" ∷ codes "--pinned" ∷ []
+
+-- whether a text is one of these
+abbrev pub is_one : List Text → Text → Bool
+is_one texts text = list_any (λ other. bytes_eq text other) texts
+
+-- the values of an option that may stand without one; the first of them is the one that it then has
+abbrev pub values_behind : Text → List Text
+values_behind word =
+    if is_one status_options word then statuses
+    else (if bytes_eq word (codes "--recursive") then codes "true" ∷ codes "false" ∷ [] else [])
+
+-- the value that such an option gets where the next word is none of its values
+abbrev pub missing_value : List Text → Option Text → Option Text
+missing_value values next =
+    if option_map_or (is_one values) next false then None else slice_get values 0
+
+-- the value, where there is one
+abbrev pub option_list : Option Text → List Text
+option_list None = []
+option_list (Some value) = value ∷ []
+
+-- what is added behind a word before this next one: behind a word `--` nothing
+abbrev pub added : Bool → Text → Option Text → List Text
+added ended word next =
+    if ended then [] else option_list (missing_value (values_behind word) next)
+
+-- the words, with a value behind each option that stands without one, before a word `--`
+unfoldable pub filled : List Text → List Text
+filled [] = []
+filled (word ∷ rest) =
+    let ended = bytes_eq word (codes "--") in
+    word ∷ added ended word (slice_get rest 0) ++ (if ended then rest else filled rest)

@@ -1,0 +1,106 @@
+//! What matched words ask for.
+ghost use Rattle.std.specs.Prelude.{◌≡◌, IfErr, IfOk, codes, option_map};
+ghost use Rattle.std.specs.Str.{bytes_eq};
+ghost use Rattle.clap.specs.Words.{first_of, found_of, rows_of};
+ghost use Rattle.edit_program.specs.CommandLine.{AskForOptions, HasBadStatus, is_given, status_of, status_of_value, value_of, verbosity_of};
+
+use cargo_edit::Options;
+use clap::ArgMatches;
+use std::alloc::Global;
+
+/// What the words of `upgrade` ask for.
+#[derive(Debug, Drop)]
+pub(crate) struct UpgradeWords<'a> {
+    pub(crate) manifest_path: &'a str,
+    pub(crate) index_file: &'a str,
+    pub(crate) options: Options,
+}
+
+/// A value that its option does not have.
+#[derive(Debug, Clone, Copy)]
+pub(crate) struct BadStatus<'a> {
+    pub(crate) option: &'a str,
+    pub(crate) value: &'a str,
+}
+
+/// Whether a flag is given.
+fn is_given(matches: &ArgMatches<'_>, id: &str) -> bool
+    ensures { result ≡ is_given id.now (rows_of (found_of matches.now)) }
+{
+    matches.get_str(id).unwrap_or("") == "true"
+}
+
+/// What a value says of what may be upgraded: that it is allowed or ignored, or nothing.
+fn status_of_value(value: &str) -> Option<bool>
+    ensures { result ≡ status_of_value value.now }
+{
+    match value {
+        "allow" | "true" => Some(true),
+        "ignore" | "false" => Some(false),
+        _ => None,
+    }
+}
+
+/// What the value of an option says.
+fn status_of<'a>(matches: &ArgMatches<'a>, option: &'static str) -> Result<bool, BadStatus<'a>>
+    ensures ok { IfOk result (λ s. status_of option.now (rows_of (found_of matches.now)) ≡ Some s) }
+    ensures refused { IfErr result (λ _. status_of option.now (rows_of (found_of matches.now)) ≡ None) }
+{
+    let value = matches.get_str(option).unwrap_or("");
+    match status_of_value(value) {
+        Some(status) => Ok(status),
+        None => Err(BadStatus { option, value }),
+    }
+}
+
+/// Whether locked dependencies are updated recursively, where that is said.
+fn recursive(matches: &ArgMatches<'_>) -> Option<bool>
+    ensures { result ≡ option_map (λ v. bytes_eq v (codes "true"))
+        (first_of (codes "recursive") (rows_of (found_of matches.now))) }
+{
+    match matches.get_str("recursive") {
+        Some(value) => Some(value == "true"),
+        None => None,
+    }
+}
+
+/// How much is reported.
+fn verbosity(more: u8, less: u8) -> i8
+    ensures { result ≡ verbosity_of more less }
+{
+    if more < less {
+        -1
+    } else {
+        (more - less).min(4) as i8
+    }
+}
+
+/// What matched words of `upgrade` ask for.
+pub(crate) fn upgrade_words<'a>(
+    alloc: Global,
+    matches: &ArgMatches<'a>,
+) -> Result<UpgradeWords<'a>, BadStatus<'a>>
+    ensures manifest { IfOk result (λ w. w.manifest_path.now
+        ≡ value_of (codes "manifest-path") (codes "Cargo.toml") (rows_of (found_of matches.now))) }
+    ensures index { IfOk result (λ w. w.index_file.now
+        ≡ value_of (codes "index-file") (codes "index.json") (rows_of (found_of matches.now))) }
+    ensures options { IfOk result (λ w. AskForOptions (rows_of (found_of matches.now)) w.options) }
+    ensures refused { IfErr result (λ _. HasBadStatus (rows_of (found_of matches.now))) }
+{
+    let options = Options {
+        compatible: status_of(matches, "compatible")?,
+        incompatible: status_of(matches, "incompatible")?,
+        pinned: status_of(matches, "pinned")?,
+        package: Vec::new(alloc),
+        exclude: Vec::new(alloc),
+        dry_run: is_given(matches, "dry-run"),
+        locked: is_given(matches, "locked"),
+        recursive: recursive(matches),
+        verbosity: verbosity(matches.get_count("verbose"), matches.get_count("quiet")),
+    };
+    Ok(UpgradeWords {
+        manifest_path: matches.get_str("manifest-path").unwrap_or("Cargo.toml"),
+        index_file: matches.get_str("index-file").unwrap_or("index.json"),
+        options,
+    })
+}
