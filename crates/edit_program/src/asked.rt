@@ -4,8 +4,8 @@ ghost use Rattle.std.specs.Str.{bytes_eq};
 ghost use Rattle.clap.specs.Words.{first_of, found_of, rows_of};
 ghost use Rattle.edit_program.specs.CommandLine.{AskForOptions, HasBadStatus, is_given, status_of, status_of_value, value_of, verbosity_of};
 
-use cargo_edit::Options;
 use clap::ArgMatches;
+use edit_upgrade::Options;
 use std::alloc::Global;
 
 /// What the words of `upgrade` ask for.

@@ -3,9 +3,9 @@ ghost use Rattle.std.specs.Prelude.{◌≡◌, ◌⊎◌, IfErr};
 ghost use Rattle.edit_base.specs.Errors.{IsMemory};
 ghost use Rattle.edit_base.specs.declared.errors.Error.TheVariants.{Output};
 
-use cargo_edit::{Options, UpgradePlan};
 use edit_base::CargoResult;
 use edit_report::{Reason, Row, name_text, reason_text, shell_note, shell_warn, shown};
+use edit_upgrade::{Options, UpgradePlan};
 use std::alloc::{AllocError, Global};
 use std::collections::BTreeSet;
 use std::io;

@@ -5,9 +5,9 @@ ghost use Rattle.edit_base.specs.Errors.{IsMemory};
 ghost use Rattle.edit_base.specs.declared.errors.Error.TheVariants.{Output};
 ghost use Rattle.edit_report.specs.Table.{report_text};
 
-use cargo_edit::{UpgradePlan, Warning};
 use edit_base::CargoResult;
 use edit_report::{shell_status, shell_warn, shell_write_stdout, table_text};
+use edit_upgrade::{UpgradePlan, Warning};
 use std::alloc::Global;
 use std::io;
 

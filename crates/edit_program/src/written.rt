@@ -3,8 +3,9 @@ ghost use Rattle.std.specs.Prelude.{◌≡◌, ◌≢◌, [], IfErr, OnOk, optio
 ghost use Rattle.edit_base.specs.declared.errors.Error.TheVariants.{Locked};
 ghost use Rattle.edit_program.specs.Upgrading.{written_output};
 
-use cargo_edit::{Options, Output, UpgradePlan};
 use edit_base::{CargoResult, Error};
+use edit_report::Output;
+use edit_upgrade::{Options, UpgradePlan};
 
 /// Refuses a plan that has something to write, where the manifest is locked.
 pub(crate) fn check_lock(options: &Options, plan: &UpgradePlan) -> CargoResult<()>

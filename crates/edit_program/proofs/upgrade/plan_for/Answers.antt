@@ -1,12 +1,14 @@
 use Rattle.std.proofs.Common.{List, ap, length, refl, subst}
 use Rattle.edit_sources.specs.FileIndex.{FileGives}
 use Rattle.edit_sources.specs.IndexCache.{index_of}
+use Rattle.edit_upgrade.specs.Causes.{IsEntryCause}
 use Rattle.edit_upgrade.specs.Inputs.{path_of, rows_of, setting_of}
 use Rattle.edit_upgrade.specs.Looks.{kept_by}
 use Rattle.edit_upgrade.specs.Outputs.{HasOutputs}
 use Rattle.edit_upgrade.specs.Upgraded.{HasItsOutputs, HasItsRows, HasRows}
 use Rattle.edit_report.specs.declared.output.Output.{Output}
 use Rattle.edit_upgrade.proofs.InputLemmas.{needed-first, of-each, of-entry_cause, only-outputs}
+use Rattle.edit_upgrade.proofs.WordCauseLemmas.{never-refused}
 use Rattle.edit_program.proofs.CauseLemmas.{refusal_same}
 use Rattle.edit_program.proofs.PlanLemmas.{all_rows, no_plan, one_given}
 use Rattle.edit_program.proofs.upgrade.plan_for.Goals as goal
@@ -49,4 +51,9 @@ returns-in_err-plan-clause-refused c =
     (of-entry_cause c.from_ref-inputs.result.now c.from_ref-configs.result.now x own
     (λ address name outcome. FileGives (index_of c.new-cache.result) name outcome)
     (kept_by c.new-cache.result) (kept_by c.plan_documents.new.index) 0 0 e
-    c.from_ref-inputs.ensures.value c.from_ref-configs.ensures.value c.in_err-plan.ensures.refused))
+    c.from_ref-inputs.ensures.value c.from_ref-configs.ensures.value
+    (never-refused c.args.options.now
+    (IsEntryCause c.from_ref-inputs.result.now c.from_ref-configs.result.now
+    (λ address name outcome. FileGives (index_of c.new-cache.result) name outcome)
+    (kept_by c.new-cache.result) (kept_by c.plan_documents.new.index) 0 0) e
+    c.requires.no_words c.requires.no_exclusions c.in_err-plan.ensures.refused)))
