@@ -1,0 +1,3 @@
+pub mod Kept
+mod UpdateFacts
+pub mod Entries
