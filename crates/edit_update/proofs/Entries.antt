@@ -63,7 +63,8 @@ insert-seen (e ∷ es) name pin =
     (ap (λ l. entry_seen e ∷ l) (insert-seen es name pin))
 
 -- a word more
-pub word-more : (words : List (List ℕ)) (word : List ℕ) → pins_of (words ++ word ∷ []) ≡ with_word (pins_of words) word
+pub word-more : (words : List (List ℕ)) (word : List ℕ)
+    → pins_of (words ++ word ∷ []) ≡ with_word (pins_of words) word
 word-more words word = fold-append with_word [] words (word ∷ [])
 
 -- a comparator more

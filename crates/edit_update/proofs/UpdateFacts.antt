@@ -51,8 +51,8 @@ unfolding semver_on_literals digits
 modified_name = refl
 
 -- none where nothing was modified, at a dry run, and where the lock file may not change
-nothing_modified : update_calls (record (usual (codes "serde")) { modified = [] }) (workspace_of (serde ∷ []))
-    ≡ []
+nothing_modified :
+    update_calls (record (usual (codes "serde")) { modified = [] }) (workspace_of (serde ∷ [])) ≡ []
 nothing_modified = refl
 
 dry_run : update_calls (record (usual (codes "serde")) { dry_run = true }) (workspace_of (serde ∷ [])) ≡ []
@@ -86,7 +86,8 @@ from_repository name version = package_of name version (Some (codes "git+https:/
 
 repositories : update_calls
     (record (usual (codes "b")) { git_crates = codes "g" ∷ []; recursive = Some false })
-    (workspace_of (from_repository (codes "g") (2, 0, 0, [], []) ∷ from_repository (codes "h") (1, 0, 0, [], [])
+    (workspace_of (from_repository (codes "g") (2, 0, 0, [], [])
+    ∷ from_repository (codes "h") (1, 0, 0, [], [])
     ∷ package_of (codes "g") (3, 0, 0, [], []) (Some (codes "registry+x"))
     ∷ from_repository (codes "g") (1, 0, 0, codes "rc.1", codes "b") ∷ []))
     ≡ call_of (codes "--package" ∷ codes "g@2.0.0" ∷ codes "--package" ∷ codes "g@1.0.0-rc.1+b"
@@ -95,7 +96,8 @@ unfolding semver_on_literals digits
 repositories = refl
 
 -- the last word of a name stands, and names stand in byte order
-last_word : pins_of (codes "b@1.0.0" ∷ codes "a" ∷ codes "b" ∷ []) ≡ (codes "a", None) ∷ (codes "b", None) ∷ []
+last_word : pins_of (codes "b@1.0.0" ∷ codes "a" ∷ codes "b" ∷ [])
+    ≡ (codes "a", None) ∷ (codes "b", None) ∷ []
 unfolding semver_on_literals digits
 last_word = refl
 

@@ -30,7 +30,7 @@ asked_by plan options = record {
 abbrev pub is_due : Asked → Bool
 is_due a = not (length a.modified == 0) && not a.dry_run && not a.locked
 
--- dependencies of the modified packages are updated as well: as it is said, else where versions are raised to
+-- what modified packages depend on is updated as well: as it is said, else where versions are raised to
 -- compatible ones
 abbrev pub is_recursive : Asked → Bool
 is_recursive a = option_map_or (λ said. said) a.recursive a.compatible

@@ -21,7 +21,7 @@ pub record Pin : Type 0 where
   pub comparators : List Held
   pub version : Parts
 
--- the operator is `>` or `<`, behind which stands a version that is not admitted
+-- the operator is `>` or `<`, which do not admit the version behind them
 abbrev pub is_strict : Op → Bool
 is_strict op.Greater = true
 is_strict op.Less = true
@@ -58,8 +58,8 @@ pin_of text = option_and_then pin_by (requirement_read text)
 abbrev pub word_pin : List ℕ → Option Pin
 word_pin word = option_and_then pin_of (word_requirement word)
 
--- names in byte order, and the pin of each that has one, after one word more: it takes the place of an earlier
--- word of its name
+-- names in byte order, each with its pin, after one word more: it takes the place of an earlier word of its
+-- name
 abbrev pub with_word : List (List ℕ × Option Pin) → List ℕ → List (List ℕ × Option Pin)
 with_word pins word = insert_entry (slice_cmp nat_cmp) pins (word_name word) (word_pin word)
 

@@ -1,5 +1,5 @@
--- The calls of `cargo update` that follow an upgrade, as lists of words (The Cargo Book, "cargo update"; which
--- calls are made, and their order, is own, after cargo-edit).
+-- The calls of `cargo update` that follow an upgrade, as lists of words (The Cargo Book, "cargo update").
+-- Which calls are made, and their order, is this project's own, after cargo-edit.
 use Rattle.std.specs.Prelude.{ℕ, List, [], ◌∷◌, ◌++◌, Bool, false, ◌&&◌, if◌then◌else◌, Option, codes, is_none, map, nat_eq}
 use Rattle.std.specs.List.{filter, flat_map, list_any, starts_with}
 use Rattle.std.specs.Option.{option_map_or}

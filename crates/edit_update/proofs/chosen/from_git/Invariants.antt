@@ -5,4 +5,5 @@ use Rattle.edit_update.specs.UpdateCalls.{from_git}
 use Rattle.edit_update.proofs.chosen.from_git.Given as goal
 
 abbrev pub invariant-packages : goal.invariant-packages
-invariant-packages l = packages_said (nows l.found.items) ≡ from_git (map string_bytes l.fn.names) (packages_said (take l.package-index l.packages))
+invariant-packages l = packages_said (nows l.found.items)
+    ≡ from_git (map string_bytes l.fn.names) (packages_said (take l.package-index l.packages))

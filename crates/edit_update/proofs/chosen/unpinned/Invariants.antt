@@ -6,4 +6,5 @@ use Rattle.edit_update.specs.UpdateCalls.{unpinned}
 use Rattle.edit_update.proofs.chosen.unpinned.Given as goal
 
 abbrev pub invariant-packages : goal.invariant-packages
-invariant-packages l = packages_said (nows l.found.items) ≡ unpinned (pins_seen l.pins) (map string_bytes l.fn.names) (packages_said (take l.package-index l.packages))
+invariant-packages l = packages_said (nows l.found.items)
+    ≡ unpinned (pins_seen l.pins) (map string_bytes l.fn.names) (packages_said (take l.package-index l.packages))

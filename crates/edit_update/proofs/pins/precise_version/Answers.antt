@@ -20,13 +20,15 @@ comparators-preserved c =
     elim c.match-named.branch [
       | in-Some w ↦
           let v = parts_of w.in-Some.version in
-          let e : Some v ≡ named_version x = sym (ap (option_map parts_of) w.in-Some.is) ∙ c.in_ok-named.ensures in
+          let e : Some v ≡ named_version x =
+          sym (ap (option_map parts_of) w.in-Some.is) ∙ c.in_ok-named.ensures in
           ap (option_map parts_of) w.best-is ∙ ap Some w.greater.ensures
           ∙ ap (λ (o : Option Parts). Some (pick full_order o v)) c.comparators.invariant
           ∙ sym (greatest-more named v) ∙ sym (precise-more before x (Some v) e)
           ∙ ap precise_version (sym more)
       | in-None w ↦
-          let e : None ≡ named_version x = sym (ap (option_map parts_of) w.in-None.is) ∙ c.in_ok-named.ensures in
+          let e : None ≡ named_version x =
+          sym (ap (option_map parts_of) w.in-None.is) ∙ c.in_ok-named.ensures in
           ap (option_map parts_of) w.best-is ∙ c.comparators.invariant
           ∙ sym (precise-more before x None e ∙ ap greatest (append-nil named))
           ∙ ap precise_version (sym more)

@@ -5,4 +5,5 @@ use Rattle.edit_update.proofs.pins.precise_version.Given as goal
 
 abbrev pub invariant-comparators : goal.invariant-comparators
 invariant-comparators l =
-    option_map parts_of l.best ≡ precise_version (map comparator_view (take l.comparator-index l.comparators))
+    option_map parts_of l.best
+    ≡ precise_version (map comparator_view (take l.comparator-index l.comparators))

@@ -24,7 +24,8 @@ returns-in_err-spec-clause-refused c =
       after = map string_bytes (drop (suc i) words);
       split = names-split string_bytes words i c.word-item.result c.words-test.true c.word-item.is;
       read = c.words.invariant.read;
-      refused = subst (λ (w : List ℕ). IsRefusedWord w e) c.as_str.ensures.value c.in_err-spec.ensures.refused;
+      refused = subst (λ (w : List ℕ). IsRefusedWord w e) c.as_str.ensures.value
+          c.in_err-spec.ensures.refused;
     }) in
     search (rules, why)
 
@@ -47,7 +48,8 @@ words-preserved c =
           ∙ insert-seen c.words.pins.entries c.in_ok-spec.spec.name c.in_ok-pin.pin
           ∙ ap (λ es. insert_entry (slice_cmp nat_cmp) es key pin) c.words.invariant.pins
           ∙ ap (λ (k : List ℕ). insert_entry (slice_cmp nat_cmp) (pins_of before) k pin) said.crate_name
-          ∙ ap (λ (p : Option spec.Pin). insert_entry (slice_cmp nat_cmp) (pins_of before) (word_name word) p) is_pin
+          ∙ ap (λ (p : Option spec.Pin). insert_entry (slice_cmp nat_cmp) (pins_of before) (word_name word) p)
+          is_pin
           ∙ ap (with_word (pins_of before)) c.as_str.ensures.value
           ∙ sym (word-more before own) ∙ ap pins_of (sym more);
       read = subst (All IsRead) (sym more) (All-push IsRead before own c.words.invariant.read

@@ -22,7 +22,8 @@ pins-preserved c =
     let step : c.pins.name-iterator ≡ (c.in-Some.name.now, c.in-Some.pin.now) ∷ c.next.new.self =
     rest_more deref_pair c.pins.name-iterator c.next.new.self c.next.result
     (c.in-Some.name, c.in-Some.pin) c.in-Some.is c.next.ensures.steps in
-    let those : packages_said (group c.in_ok-groups.groups name) ≡ named (string_bytes c.in-Some.name.now) packages =
+    let those : packages_said (group c.in_ok-groups.groups name)
+    ≡ named (string_bytes c.in-Some.name.now) packages =
     ap packages_said (c.in_ok-groups.ensures name) ∙ group-said name c.args.packages.now
     ∙ ap (λ k. named k packages) c.as_str.ensures.value in
     let pin = option_map pin_seen c.in-Some.pin.now in

@@ -14,8 +14,9 @@ returns-clause-calls c =
     let manifest = c.as_str-2.ensures.value ∙ c.in_ok-manifest.ensures.text
     ∙ ap (λ root. joined root (codes "Cargo.toml")) c.as_str.ensures.value in
     let packages = packages_said c.args.workspace.now.packages.items in
+    let path = joined (string_bytes c.args.workspace.now.root) (codes "Cargo.toml") in
     c.in_ok-calls.ensures
-    ∙ ap (λ (ps : List Package). calls_for c.as_str-2.result.now asked (packages_said ps)) c.deref-2.ensures.value
+    ∙ ap (λ (ps : List Package). calls_for c.as_str-2.result.now asked (packages_said ps))
+    c.deref-2.ensures.value
     ∙ ap (λ m. calls_for m asked packages) manifest
-    ∙ sym (ap (λ (b : Bool). cond b (calls_for (joined (string_bytes c.args.workspace.now.root) (codes "Cargo.toml"))
-    asked packages) []) due)
+    ∙ sym (ap (λ (b : Bool). cond b (calls_for path asked packages) []) due)
