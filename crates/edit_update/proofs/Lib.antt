@@ -1,3 +1,4 @@
-pub mod Kept
-mod UpdateFacts
 pub mod Entries
+pub mod Kept
+mod PinFacts
+mod UpdateFacts
