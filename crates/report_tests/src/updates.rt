@@ -33,19 +33,14 @@ fn package_json(alloc: Global, word: &str) -> Result<String, Fail> {
 
 /// The metadata of a workspace at `/w` with these packages.
 fn metadata(alloc: Global, packages: &str) -> Result<String, Fail> {
-    let mut all = text(
-        alloc,
-        "{\"workspace_root\":\"/w\",\"workspace_members\":[],\"packages\":[",
-    )?;
-    for (n, word) in packages.split_whitespace().enumerate() {
-        if n > 0 {
-            all.push(',')?;
-        }
-        let package = package_json(alloc, word)?;
-        all.push_str(package.as_str())?;
+    let mut parts = Vec::new(alloc);
+    for word in packages.split_whitespace() {
+        parts.push(package_json(alloc, word)?)?;
     }
-    all.push_str("]}")?;
-    Ok(all)
+    let said = parts.join(alloc, ",")?;
+    Ok(format!(in alloc;
+        "{{\"workspace_root\":\"/w\",\"workspace_members\":[],\"packages\":[{said}]}}"
+    )?)
 }
 
 /// A plan that modified these names, with these names of repositories.
@@ -91,19 +86,11 @@ fn options_of(alloc: Global, flags: &str, words: &str) -> Result<Options, Fail> 
 
 /// Calls, each behind a semicolon but the first.
 fn shown(alloc: Global, calls: &[Vec<String>]) -> Result<String, Fail> {
-    let mut all = String::new(alloc);
-    for (n, call) in calls.iter().enumerate() {
-        if n > 0 {
-            all.push_str("; ")?;
-        }
-        for (m, word) in call.iter().enumerate() {
-            if m > 0 {
-                all.push(' ')?;
-            }
-            all.push_str(word.as_str())?;
-        }
+    let mut lines = Vec::new(alloc);
+    for call in calls {
+        lines.push(call.join(alloc, " ")?)?;
     }
-    Ok(all)
+    Ok(lines.join(alloc, "; ")?)
 }
 
 /// The calls for a row: letters, words, modified names, names of repositories, packages.
