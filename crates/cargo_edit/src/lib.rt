@@ -27,6 +27,11 @@ pub use edit_report::{
 pub use edit_set_version::{BumpLevel, TargetVersion, set_version};
 pub use edit_sources::config::read_configs;
 pub use edit_sources::registry::{registry_url, resolve};
-pub use edit_sources::{Config, ConfigSource, FileIndex, Index, IndexCache, IndexKrate, LocalIndex, Ranked};
+pub use edit_sources::{
+    Config, ConfigSource, FileIndex, Index, IndexCache, IndexKrate, LocalIndex, Ranked,
+};
 pub use edit_store::{FaultStore, HostStore, Kind, MemoryStore, Store};
-pub use edit_upgrade::{Look, Options, UpgradePlan, Warning, plan_documents, plan_upgrade, upgrade};
+pub use edit_update::update_calls;
+pub use edit_upgrade::{
+    Look, Options, UpgradePlan, Warning, plan_documents, plan_upgrade, upgrade,
+};

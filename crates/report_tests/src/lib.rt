@@ -7,3 +7,5 @@
 mod messages;
 #[cfg(test)]
 mod tables;
+#[cfg(test)]
+mod updates;

@@ -1,0 +1,4 @@
+pub mod Entries
+pub mod Kept
+mod PinFacts
+mod UpdateFacts

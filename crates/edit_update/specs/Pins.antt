@@ -1,0 +1,86 @@
+-- The requirements that words select with a precise version (own, after cargo-edit; the operators are those
+-- of Cargo reference, "Specifying Dependencies").
+use Rattle.std.specs.Prelude.{◌≡◌, ℕ, List, [], ◌++◌, ◌∷◌, Bool, true, false, if◌then◌else◌, Option, Some, None, All, option_and_then, option_map}
+use Rattle.std.specs.BTreeMap.{insert_entry}
+use Rattle.std.specs.Cmp.Lexicographic.{slice_cmp}
+use Rattle.std.specs.List.{filter_map, fold}
+use Rattle.std.specs.Map.{lookup}
+use Rattle.std.specs.Ordering.{nat_cmp}
+use Rattle.std.specs.Str.{bytes_eq}
+use Rattle.semver.specs.Parse.{Held, Parts}
+use Rattle.semver.specs.declared.Op.{Op}
+use Rattle.semver.specs.declared.Op.TheVariants as op
+use Rattle.edit_base.specs.declared.errors.Error.{Error}
+use Rattle.edit_version.specs.CrateWords.{IsReadOrAbsent, IsRefusedWord, unfit, word_name, word_requirement}
+use Rattle.edit_version.specs.Greatest.{advance}
+use Rattle.edit_version.specs.Requirement.{requirement_read}
+use Rattle.edit_version.specs.VersionOrder.{full_order}
+
+-- a requirement with its precise version: its comparators, and the greatest version that they name
+pub record Pin : Type 0 where
+  pub comparators : List Held
+  pub version : Parts
+
+-- the operator is `>` or `<`, which do not admit the version behind them
+abbrev pub is_strict : Op → Bool
+is_strict op.Greater = true
+is_strict op.Less = true
+is_strict o = false
+
+-- the version of three numbers and a pre-release, where all three are given
+abbrev pub full_version : ℕ → Option ℕ → Option ℕ → List ℕ → Option Parts
+full_version major None patch pre = None
+full_version major (Some minor) None pre = None
+full_version major (Some minor) (Some patch) pre = Some (major, minor, patch, pre, [])
+
+-- the version that a comparator names: one with three numbers, and not behind `>` or `<`
+abbrev pub named_version : Held → Option Parts
+named_version c = if is_strict c.0 then None else full_version c.1 c.2 c.3 c.4
+
+-- the greatest of versions, none where there are none
+abbrev pub greatest : List Parts → Option Parts
+greatest versions = fold (advance (λ v. true) full_order) None versions
+
+-- the greatest version that comparators name
+abbrev pub precise_version : List Held → Option Parts
+precise_version comparators = greatest (filter_map named_version comparators)
+
+-- comparators with their precise version, where they have one
+abbrev pub pin_by : List Held → Option Pin
+pin_by comparators =
+    option_map (λ v. record { comparators = comparators; version = v }) (precise_version comparators)
+
+-- the requirement that a text is, where it is one that has a precise version
+abbrev pub pin_of : List ℕ → Option Pin
+pin_of text = option_and_then pin_by (requirement_read text)
+
+-- the requirement of a word, where it has a precise version
+abbrev pub word_pin : List ℕ → Option Pin
+word_pin word = option_and_then pin_of (word_requirement word)
+
+-- names in byte order, each with its pin, after one word more: it takes the place of an earlier word of its
+-- name
+abbrev pub with_word : List (List ℕ × Option Pin) → List ℕ → List (List ℕ × Option Pin)
+with_word pins word = insert_entry (slice_cmp nat_cmp) pins (word_name word) (word_pin word)
+
+-- the names that words select, in byte order, each with the pin of its last word, where that has one
+abbrev pub pins_of : List (List ℕ) → List (List ℕ × Option Pin)
+pins_of words = fold with_word [] words
+
+-- the pin of a name, where it has one
+abbrev pub pin_at : List (List ℕ × Option Pin) → List ℕ → Option Pin
+pin_at pins name = option_and_then (λ pin. pin) (lookup (bytes_eq name) pins)
+
+-- a word is read: its name is fit, and so is its requirement, if it has one
+pub record IsRead (word : List ℕ) : Type 0 where
+  pub fit : unfit (word_name word) ≡ []
+  pub readable : IsReadOrAbsent (word_requirement word)
+
+-- the first word that is not read, with its refusal
+pub record IsFirstRefused (words : List (List ℕ)) (e : Error) : Type 0 where
+  pub before : List (List ℕ)
+  pub word : List ℕ
+  pub after : List (List ℕ)
+  pub split : words ≡ before ++ word ∷ after
+  pub read : All IsRead before
+  pub refused : IsRefusedWord word e

@@ -1,0 +1,11 @@
+//! The calls of `cargo update` that follow an upgrade.
+#![tactic(auto)]
+
+mod call;
+mod chosen;
+mod groups;
+mod pins;
+mod precise;
+pub mod update;
+
+pub use update::update_calls;
