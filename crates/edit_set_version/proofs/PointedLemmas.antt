@@ -18,7 +18,7 @@ pub cons_one : {B : Type 0} (o : Option B) (ys : List B) → option_to_list o ++
 cons_one None ys = refl
 cons_one (Some y) ys = refl
 
-alone : {B : Type 0} (o : Option B) → cons_option o [] ≡ option_to_list o
+pub alone : {B : Type 0} (o : Option B) → cons_option o [] ≡ option_to_list o
 alone None = refl
 alone (Some y) = refl
 

@@ -2,11 +2,17 @@
 #![tactic(auto)]
 
 mod bump;
+mod bumps;
+mod choose;
 pub mod contract;
+mod crates;
+mod follow;
 pub mod laws;
 mod names;
+mod numbers;
 pub mod plan;
 pub mod pointed;
+mod reach;
 pub mod set_version;
 
 pub use plan::{Selection, SetVersionPlan};
