@@ -47,6 +47,14 @@ among_all f (y ∷ ys) (suc i) x within is =
     let there = among_all f ys i x (omega (arith, within)) is in
     (suc there.0, omega (arith, there.1), there.2)
 
+pub element_among : {X : Type 0} (xs : List X) (i : ℕ) (x : X) → i < length xs → x ≡ get_or xs i x
+    → Contains xs x
+element_among [] i x within is = absurd (omega (arith, within))
+element_among (y ∷ ys) zero x within is = (zero, omega arith, sym is)
+element_among (y ∷ ys) (suc i) x within is =
+    let there = element_among ys i x (omega (arith, within)) is in
+    (suc there.0, omega (arith, there.1), there.2)
+
 -- the same elements, where two tests agree
 pub filter_same : {X : Type 0} (p q : X → Bool) → ((x : X) → p x ≡ q x) → (xs : List X)
     → filter p xs ≡ filter q xs

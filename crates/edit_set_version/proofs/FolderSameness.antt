@@ -8,7 +8,7 @@ use Rattle.std.proofs.lemmas.List.{reverse-append, reverse-reverse}
 use Rattle.edit_document.proofs.EntryPartViews.{same_texts}
 use Rattle.edit_tree.specs.Assertions.{same_bytes}
 use Rattle.edit_tree.proofs.SamePlace.{same_bytes_is, same_bytes_self}
-use Rattle.edit_set_version.specs.Folders.{Folder, folder_of, names_of, same_folder}
+use Rattle.edit_set_version.specs.Folders.{Folder, folder_of, same_folder}
 use Rattle.edit_set_version.specs.FolderTexts.{folder_text}
 use Rattle.edit_set_version.proofs.ReachedFolders.{IsFolderName, named, unspelled, way_up}
 

@@ -1,5 +1,5 @@
 -- The requirements that follow a bump, with the numbers of their bumps.
-use Rattle.std.proofs.Common.{◌≡◌, ◌∙◌, ◌<◌, ℕ, zero, arith, List, [], ◌∷◌, ◌++◌, Bool, true, false, cond, map, Option, Some, None, option_map, refl, ap, sym, subst, inl, inr}
+use Rattle.std.proofs.Common.{◌≡◌, ◌∙◌, ℕ, zero, arith, List, [], ◌∷◌, ◌++◌, cond, map, Option, Some, None, option_map, refl, ap, sym, subst, inl, inr}
 use Rattle.std.specs.Prelude.{Contains, codes, nat_eq, option_to_list}
 use Rattle.std.specs.declared.collections.BTreeMap.{BTreeMap}
 use Rattle.std.specs.List.{cons_option, filter_map, starts_with}

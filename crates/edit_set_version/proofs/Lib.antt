@@ -15,3 +15,4 @@ pub mod FolderSameness
 pub mod NumberLemmas
 pub mod FollowerLemmas
 pub mod ChoiceLemmas
+pub mod GroupedBumps

@@ -1,14 +1,14 @@
 -- The normal form of a path spells the folder that it leads to, and folders that differ are spelled
 -- otherwise.
-use Rattle.std.proofs.Common.{◌≡◌, ◌∙◌, ℕ, List, [], ◌∷◌, ◌++◌, Bool, true, false, refl, sym, ap, subst, inl, inr, reverse, cond}
+use Rattle.std.proofs.Common.{◌≡◌, ◌∙◌, ℕ, List, [], ◌∷◌, ◌++◌, Bool, true, false, refl, sym, ap, inl, inr, reverse, cond}
 use Rattle.std.specs.Prelude.{◌==◌, ◌||◌, codes}
-use Rattle.std.specs.List.{AllByRecursion, flat_map, onto_first, slice_split}
+use Rattle.std.specs.List.{AllByRecursion, flat_map, onto_first}
 use Rattle.std.proofs.lemmas.Bool.{cases_Bool}
-use Rattle.std.proofs.lemmas.List.{append_assoc, reverse-reverse}
+use Rattle.std.proofs.lemmas.List.{reverse-reverse}
 use Rattle.edit_tree.specs.Assertions.{same_bytes}
 use Rattle.edit_base.specs.Paths.{IsNormalOf, absolute, parts_of}
 use Rattle.edit_set_version.specs.FolderTexts.{folder_text}
-use Rattle.edit_set_version.specs.Folders.{Folder, above, along, folder_of, further, names_of, reached}
+use Rattle.edit_set_version.specs.Folders.{Folder, above, along, folder_of, further, names_of}
 use Rattle.edit_set_version.proofs.FolderLemmas.{along_normal}
 
 -- ---- parts of texts

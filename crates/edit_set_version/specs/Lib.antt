@@ -12,6 +12,7 @@ pub mod Numbers
 pub mod Followers
 pub mod Pointed
 pub mod PlanLines
+pub mod ToldLines
 pub mod Follows
 pub mod PlanCauses
 pub mod Selections

@@ -17,7 +17,7 @@ use edit_base::CargoResult;
 use std::alloc::Global;
 
 /// The build metadata that is given.
-fn metadata_of(selection: &Selection) -> Option<&str>
+pub(crate) fn metadata_of(selection: &Selection) -> Option<&str>
     ensures { option_copied result ≡ (asked_of selection.now).metadata }
 {
     match &selection.metadata {

@@ -8,12 +8,16 @@ pub mod contract;
 mod crates;
 mod follow;
 pub mod laws;
+mod lines;
+mod manifests;
 mod names;
 mod numbers;
 pub mod plan;
 pub mod pointed;
 mod reach;
 pub mod set_version;
+mod shared;
+mod writes;
 
 pub use plan::{Selection, SetVersionPlan};
 pub use pointed::{PathEntry, path_entries};
