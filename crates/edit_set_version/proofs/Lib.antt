@@ -16,3 +16,4 @@ pub mod NumberLemmas
 pub mod FollowerLemmas
 pub mod ChoiceLemmas
 pub mod GroupedBumps
+pub mod ProjectMembers

@@ -1,7 +1,11 @@
 -- The crates of a workspace and their next versions, as the program has them.
-use Rattle.std.specs.Prelude.{List, map, string_bytes}
+use Rattle.std.specs.Prelude.{◌≡◌, List, map, string_bytes}
 use Rattle.semver.specs.Identifiers.{parts_of}
-use Rattle.edit_tree.specs.Shown.{tree_of}
+use Rattle.edit_manifest.specs.declared.manifest.Manifest.{Manifest}
+use Rattle.edit_metadata.specs.declared.input.Input.{Input}
+use Rattle.edit_syntax.specs.Grammar.{Text}
+use Rattle.edit_tree.specs.Shown.{ShowsTree, tree_of}
+use Rattle.edit_tree.specs.Supported.{IsManifest}
 use Rattle.edit_set_version.specs.Chosen.{Member}
 use Rattle.edit_set_version.specs.SetVersioned.{Bump}
 use Rattle.edit_set_version.specs.declared.crates.Bump.{Bump as Bumping}
@@ -27,3 +31,10 @@ bump_seen b = record { member = member_of b.member; next = parts_of b.next }
 -- the same in their order
 abbrev pub bumps_seen : List Bumping → List Bump
 bumps_seen bs = map bump_seen bs
+
+-- the manifest is that of an input: it has its bytes, and shows the tree of their form
+pub record IsReadOf (i : Input) (m : Manifest) : Type 0 where
+  pub bytes : m.document.bytes ≡ i.bytes.items
+  pub form : Text
+  pub manifest : IsManifest i.bytes.items form
+  pub shows : ShowsTree m.document form

@@ -1,8 +1,11 @@
-use Rattle.std.proofs.Common.{◌∙◌, ◌++◌, ◌∷◌, [], ap, inr, map, subst, sym, take}
-use Rattle.std.proofs.lemmas.List.{map_more, map_push}
+use Rattle.std.proofs.Common.{◌≡◌, ◌∙◌, ◌+◌, ◌++◌, ◌∷◌, [], ap, inr, subst, sym, take}
+use Rattle.std.proofs.lemmas.List.{take_more}
+use Rattle.std.specs.List.{AllZip}
+use Rattle.std.proofs.lemmas.Slice.Zip.{all_zipped_more}
+use Rattle.edit_tree.specs.Supported.{IsManifest}
+use Rattle.edit_set_version.specs.Crates.{IsReadOf}
 use Rattle.std.proofs.lemmas.Result.{err_from_is_err_and}
 use Rattle.edit_manifest.specs.Loaded.{IsBadManifest}
-use Rattle.edit_metadata.specs.declared.input.Input.{Input}
 use Rattle.edit_set_version.proofs.ChoiceLemmas.{element_among}
 use Rattle.edit_set_version.proofs.manifests.manifests_of.Goals as goal
 
@@ -10,14 +13,19 @@ pub inputs-preserved : goal.inputs-preserved
 inputs-preserved c =
     let i = c.inputs.input-index in
     let all = c.args.inputs.now in
-    ap (map (λ m. m.document.bytes)) c.in_ok-push.ensures.items
-    ∙ map_push (λ m. m.document.bytes) c.inputs.manifests.items c.in_ok-manifest.manifest
-    ∙ ap (λ bs. bs ++ c.in_ok-manifest.manifest.document.bytes ∷ []) c.inputs.invariant
-    ∙ ap (λ b. map (λ (x : Input). x.bytes.items) (take i all) ++ b ∷ [])
-    (c.in_ok-manifest.ensures.bytes ∙ c.deref.ensures.value)
-    ∙ sym (map_more (λ (x : Input). x.bytes.items) all i c.input-item.result c.inputs-test.true
-    ∙ ap (λ (x : Input). map (λ (y : Input). y.bytes.items) (take i all) ++ x.bytes.items ∷ [])
-    (sym c.input-item.is))
+    let own = c.input-item.result in
+    let found = c.in_ok-manifest.ensures.found in
+    let more : take (i + 1) all ≡ take i all ++ own ∷ []
+    = take_more all i own c.inputs-test.true ∙ ap (λ x. take i all ++ x ∷ []) (sym c.input-item.is) in
+    subst (AllZip IsReadOf (take (i + 1) all)) (sym c.in_ok-push.ensures.items)
+    (subst (λ xs. AllZip IsReadOf xs (c.inputs.manifests.items ++ c.in_ok-manifest.manifest ∷ [])) (sym more)
+    (all_zipped_more IsReadOf (take i all) c.inputs.manifests.items own c.in_ok-manifest.manifest
+    c.inputs.invariant (record {
+      bytes = c.in_ok-manifest.ensures.bytes ∙ c.deref.ensures.value;
+      form = found.0;
+      manifest = subst (λ bs. IsManifest bs found.0) c.deref.ensures.value found.1;
+      shows = found.2;
+    })))
 
 pub returns-in_err-manifest-clause-refused : goal.returns-in_err-manifest-clause-refused
 returns-in_err-manifest-clause-refused c =
