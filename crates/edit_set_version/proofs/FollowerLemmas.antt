@@ -26,7 +26,11 @@ use Rattle.edit_set_version.proofs.ReachedFolders.{way_on}
 -- a folder that is reached is one that a path names
 pub reached_named : (file path : List ℕ) → (way : List ℕ) × (names_of way ≡ reached file path)
 reached_named file path = elim (cases_Bool (starts_with nat_eq path (codes "/"))) [
-  | inl absolute ↦ (path, sym (ap (λ b. cond b (names_of path) (along (folder_of file) (parts_of path))) absolute))
+  | inl absolute ↦ (
+    path,
+    sym (ap (λ b. cond b (names_of path) (along (folder_of file)
+        (parts_of path))) absolute),
+  )
   | inr relative ↦ (
     file ++ (codes "/../" ++ path),
     way_on file path

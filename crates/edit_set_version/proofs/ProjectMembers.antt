@@ -85,7 +85,8 @@ told_manifests [] = refl
 told_manifests (c ∷ cs) = ap (λ ms. manifest_of (package_said c.told.now) ∷ ms) (told_manifests cs)
 
 -- what metadata tell of crates, by their packages
-pub said_of : (cs : List Crate) (ps : List (Bor Package)) → map (λ (c : Crate). c.told.now) cs ≡ map (λ p. p.now) ps
+pub said_of : (cs : List Crate) (ps : List (Bor Package))
+    → map (λ (c : Crate). c.told.now) cs ≡ map (λ p. p.now) ps
     → told_of cs ≡ map (λ (p : Bor Package). package_said p.now) ps
 said_of cs ps same = of_crates cs ∙ ap (map package_said) same ∙ of_packages ps
   where
@@ -94,7 +95,8 @@ said_of cs ps same = of_crates cs ∙ ap (map package_said) same ∙ of_packages
     of_crates (x ∷ xs) = ap (λ ys. package_said x.told.now ∷ ys) (of_crates xs)
 
     of_packages : (xs : List (Bor Package))
-        → map package_said (map (λ (p : Bor Package). p.now) xs) ≡ map (λ (p : Bor Package). package_said p.now) xs
+        → map package_said (map (λ (p : Bor Package). p.now) xs)
+        ≡ map (λ (p : Bor Package). package_said p.now) xs
     of_packages [] = refl
     of_packages (x ∷ xs) = ap (λ ys. package_said x.now ∷ ys) (of_packages xs)
 
@@ -109,7 +111,8 @@ counted w is last =
 
 -- crates that stand beside the last inputs of a workspace are its members
 pub members_last : (w : WorkspaceSaid) (is : List Input) (ms : List Manifest) (cs : List Crate) (n : ℕ)
-    (last : LastInputs w is) → AllZip IsReadOf is ms → n ≡ length last.before → told_of cs ≡ members w.packages
+    (last : LastInputs w is) → AllZip IsReadOf is ms → n ≡ length last.before
+    → told_of cs ≡ members w.packages
     → inputs_of cs ≡ drop n is → map (λ (c : Crate). c.manifest.now) cs ≡ drop n ms
     → AllZip (IsMemberOf is) (members w.packages) (members_of cs)
 members_last w is ms cs n last read long told ins mans =

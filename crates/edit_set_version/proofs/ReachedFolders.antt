@@ -39,7 +39,8 @@ parts_more (x ∷ xs) b =
     let rest = has_first xs in
     elim (cases_Bool (is_slash x)) [
       | inl slash ↦ rw slash (ap (λ (l : List (List ℕ)). [] ∷ l) (parts_more xs b))
-      | inr other ↦ rw other (ap (onto_first x) (parts_more xs b ∙ ap (λ (l : List (List ℕ)). l ++ parts_of b) rest.1.1)
+      | inr other ↦ rw other (ap (onto_first x) (parts_more xs b
+          ∙ ap (λ (l : List (List ℕ)). l ++ parts_of b) rest.1.1)
           ∙ ap (λ (l : List (List ℕ)). onto_first x l ++ parts_of b) (sym rest.1.1))
     ]
 
@@ -56,7 +57,8 @@ way_up file =
     ∙ along_append [] (parts_of file) (codes ".." ∷ [])
 
 -- the folder that a relative path in it leads to
-pub way_on : (file path : List ℕ) → names_of (file ++ (codes "/../" ++ path)) ≡ along (folder_of file) (parts_of path)
+pub way_on : (file path : List ℕ)
+    → names_of (file ++ (codes "/../" ++ path)) ≡ along (folder_of file) (parts_of path)
 way_on file path =
     ap (along []) (parts_more file (codes "../" ++ path)
     ∙ ap (λ (l : List (List ℕ)). parts_of file ++ l) (parts_more (codes "..") path))
@@ -91,7 +93,8 @@ parts_free (x ∷ xs) = elim (cases_Bool (is_slash x)) [
   | inr other ↦ rw other (onto_free x (parts_of xs) other (parts_free xs))
 ]
 
-above_names : (folder : Folder) → AllByRecursion IsFolderName folder → AllByRecursion IsFolderName (above folder)
+above_names : (folder : Folder) → AllByRecursion IsFolderName folder
+    → AllByRecursion IsFolderName (above folder)
 above_names [] h = tt
 above_names (n ∷ ns) h = h.1
 
@@ -109,7 +112,8 @@ along_names : (folder : Folder) (parts : List (List ℕ)) → AllByRecursion IsF
 along_names folder [] h a = h
 along_names folder (p ∷ ps) h a =
     along_names (further folder p) ps
-    (further_by folder p (same_bytes p []) (same_bytes p (codes ".")) (same_bytes p (codes "..")) refl h a.0) a.1
+    (further_by folder p (same_bytes p []) (same_bytes p (codes ".")) (same_bytes p
+    (codes "..")) refl h a.0) a.1
 
 -- the names of the folder that a path names
 pub named : (path : List ℕ) → AllByRecursion IsFolderName (names_of path)

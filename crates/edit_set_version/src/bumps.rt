@@ -64,7 +64,8 @@ fn push_bump<'a>(
     ensures bumpable { OnOk result (IsBumpable (bump (target_of target.now)
         (asked_of selection.now).metadata (member_of found.entry).version)) }
     ensures refused { IfErr result (λ e. IsMemory e ⊎ IsUnbumped (bump (target_of target.now)
-        (asked_of selection.now).metadata (member_of found.entry).version) (member_of found.entry).version e) }
+        (asked_of selection.now).metadata (member_of found.entry).version)
+        (member_of found.entry).version e) }
 {
     let bump = bump_of(alloc, target, selection, found)?;
     match bump {

@@ -26,7 +26,8 @@ crates-preserved c =
     record {
       seen = c.in_ok-push_bump.ensures.ok
           ∙ ap (λ bs. bs ++ option_to_list (bump_of t a own)) c.crates.invariant.seen
-          ∙ sym (some_more (bump_of t a) member_of all i c.found-item.result c.crates-test.true c.found-item.is);
+          ∙ sym (some_more (bump_of t a) member_of all i c.found-item.result c.crates-test.true
+          c.found-item.is);
       bumpable = subst (All Fits) (sym more)
           (All-push Fits (members_of (take i all)) own c.crates.invariant.bumpable
           c.in_ok-push_bump.ensures.bumpable);

@@ -11,7 +11,8 @@ use Rattle.edit_set_version.proofs.bumps.bumps_of.Given as goal
 abbrev pub invariant-crates : goal.invariant-crates
 invariant-crates l = record {
   seen : bumps_seen l.bumps.items
-      ≡ filter_map (bump_of (target_of l.target) (asked_of l.selection)) (members_of (take l.found-index l.crates));
+      ≡ filter_map (bump_of (target_of l.target) (asked_of l.selection)) (members_of
+      (take l.found-index l.crates));
   bumpable : All (λ m. IsBumpable (bump (target_of l.target) (asked_of l.selection).metadata m.version))
       (members_of (take l.found-index l.crates));
 }

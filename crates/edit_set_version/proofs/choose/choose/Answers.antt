@@ -91,4 +91,5 @@ returns-clause-excluded c =
     let more : members_of c.in_ok-others.others.items ≡ added a ms
     = c.in_ok-others.ensures.ok ∙ ap (λ n. if n == 0 then [] else filter (is_in Others w) ms) long
     ∙ ap (λ xs. if length (inheriting a ms) == 0 then [] else xs) (others_part a w ms is) in
-    ap (filter held) (sym (ap members_of c.deref-2.ensures.value ∙ more)) ∙ c.in_ok-check_excluded.ensures.none
+    ap (filter held) (sym (ap members_of c.deref-2.ensures.value ∙ more))
+    ∙ c.in_ok-check_excluded.ensures.none

@@ -13,7 +13,8 @@ crates-preserved c =
     let own = member_of c.found-item.result in
     c.in_ok-push_where.ensures.ok
     ∙ ap (λ b. members_of c.crates.list.items ++ (if b then own ∷ [] else []))
-    (c.contains-keep.ensures ∙ ap (λ (t : List ℕ). contains_text c.in_ok-excluded.excluded t) c.as_str.ensures.value
+    (c.contains-keep.ensures
+    ∙ ap (λ (t : List ℕ). contains_text c.in_ok-excluded.excluded t) c.as_str.ensures.value
     ∙ c.in_ok-excluded.ensures.ok own.name
     ∙ ap (λ xs. is_among (map string_bytes xs) own.name) c.deref.ensures.value)
     ∙ ap (λ ms. ms ++ (if test own then own ∷ [] else [])) c.crates.invariant

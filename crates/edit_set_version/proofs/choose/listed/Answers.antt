@@ -14,7 +14,8 @@ crates-preserved c =
     ap texts c.in_ok-push.ensures.items
     ∙ map_push (λ x. x.now) c.crates.names.items c.as_str.result
     ∙ ap (λ ts. ts ++ c.as_str.result.now ∷ []) c.crates.invariant
-    ∙ ap (λ t. map (λ (m : Member). m.name) (members_of (take c.crates.found-index c.args.crates.now)) ++ t ∷ [])
+    ∙ ap (λ t. map (λ (m : Member). m.name) (members_of
+    (take c.crates.found-index c.args.crates.now)) ++ t ∷ [])
     c.as_str.ensures.value
     ∙ sym (each_more (λ (m : Member). m.name) member_of c.args.crates.now c.crates.found-index
     c.found-item.result c.crates-test.true c.found-item.is)

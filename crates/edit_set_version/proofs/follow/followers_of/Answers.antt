@@ -14,7 +14,8 @@ entries-preserved c =
     record {
       seen = λ bs tells.
           c.in_ok-push_follower.ensures.ok bs tells
-          ∙ ap (λ fs. fs ++ option_to_list (numbered bs file (pointed_view e))) (c.entries.invariant.seen bs tells)
+          ∙ ap (λ fs. fs ++ option_to_list (numbered bs file (pointed_view e)))
+          (c.entries.invariant.seen bs tells)
           ∙ sym (numbered_more bs file c.entries.yielded e);
       rest = ap pointed_views (append_assoc c.entries.yielded (e ∷ []) c.next.new.self.rest.items
           ∙ ap (λ xs. c.entries.yielded ++ xs) (sym c.in-Some.ensures.steps.0)) ∙ c.entries.invariant.rest;
@@ -34,6 +35,8 @@ returns-in_err-push_follower-clause-refused c =
 pub entries-init : goal.entries-init
 entries-init c = record {
   seen = λ bs tells. ap (map follower_seen) c.new-followers.ensures.items;
-  rest = ap pointed_views c.into_iter-entry-iterator.ensures.into_iter_gives.0 ∙ c.in_ok-entries.ensures.entries;
-  risen = subst (All HasRisen) (sym c.new-followers.ensures.items) (λ k d below. absurd (omega (arith, below)));
+  rest = ap pointed_views c.into_iter-entry-iterator.ensures.into_iter_gives.0
+      ∙ c.in_ok-entries.ensures.entries;
+  risen = subst (All HasRisen) (sym c.new-followers.ensures.items) (λ k d below. absurd (omega
+      (arith, below)));
 }

@@ -39,6 +39,7 @@ returns-clause-ok c = λ q.
     ∙ same_by_text own there (names_above c.args.path.now) (named q)))
     ∙ put_first numbered_seen (get_by_text c.args.numbers.now (folder_text there)) (same_folder own there)
     c.args.bump
-    (λ same. ap (λ t. is_some (get_by_text c.args.numbers.now (folder_text t))) (sym (same_folder_is own there same))
+    (λ same. ap (λ t. is_some (get_by_text c.args.numbers.now (folder_text t))) (sym
+    (same_folder_is own there same))
     ∙ ap (λ t. is_some (get_by_text c.args.numbers.now t)) (sym text)
     ∙ sym c.contains_key.ensures ∙ c.if-contains_key.false)

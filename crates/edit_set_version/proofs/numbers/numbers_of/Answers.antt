@@ -19,7 +19,8 @@ bumps-preserved c = λ q.
     = map_more bump_seen c.args.bumps.now n c.index-bumps-number.result c.bumps-test.true
     ∙ ap (λ b. old ++ bump_seen b ∷ []) (sym c.index-bumps-number.is) in
     let long : length old ≡ n =
-    length-map (take n c.args.bumps.now) bump_seen ∙ length-take-le n c.args.bumps.now c.bumps.auto.number-end in
+    length-map (take n c.args.bumps.now) bump_seen
+    ∙ length-take-le n c.args.bumps.now c.bumps.auto.number-end in
     c.in_ok-add_bump.ensures.ok q
     ∙ ap (λ o. option_or o (if same_folder (folder_of c.as_str-path.result.now) (names_of q)
     then Some (n, own.next) else None)) (c.bumps.invariant q)

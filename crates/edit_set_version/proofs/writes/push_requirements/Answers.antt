@@ -15,7 +15,8 @@ followers-preserved c = λ all.
     let f = c.follower-item.result in
     let was = edits_seen c.args.edits.now.items in
     let old = filter_map requirement_edit (map following_of (take i fs)) in
-    c.in_ok-push_requirement.ensures.ok (subst HasRisen (sym c.follower-item.is) (all i f c.followers-test.true))
+    c.in_ok-push_requirement.ensures.ok (subst HasRisen (sym c.follower-item.is)
+    (all i f c.followers-test.true))
     ∙ ap (λ es. es ++ option_to_list (requirement_edit (following_of f))) (c.followers.invariant all)
     ∙ append_assoc was old (option_to_list (requirement_edit (following_of f)))
     ∙ ap (λ es. was ++ es) (sym (some_more requirement_edit following_of fs i f c.followers-test.true
