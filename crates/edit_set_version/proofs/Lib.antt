@@ -10,3 +10,10 @@ pub mod NameLemmas
 mod BumpRows
 pub mod PlanRows
 mod PlanTexts
+pub mod ReachedFolders
+pub mod FolderSameness
+pub mod NumberLemmas
+pub mod FollowerLemmas
+pub mod ChoiceLemmas
+pub mod GroupedBumps
+pub mod ProjectMembers

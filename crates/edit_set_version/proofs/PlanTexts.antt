@@ -1,5 +1,5 @@
 -- Set-version plans at small workspaces: what is written and told, as texts.
-use Rattle.std.proofs.Common.{◌≡◌, List, [], ◌∷◌, None, refl, false}
+use Rattle.std.proofs.Common.{◌≡◌, [], ◌∷◌, None, refl, false}
 use Rattle.std.specs.Prelude.{codes}
 use Rattle.std.specs.Fmt.{digits}
 use Rattle.semver.specs.Parse.{Parts}

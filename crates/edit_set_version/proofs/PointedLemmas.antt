@@ -8,7 +8,7 @@ use Rattle.edit_tree.specs.Assertions.{Place, at, key}
 use Rattle.edit_manifest.specs.Tables.{Tree, dependency_tables, member_names}
 use Rattle.edit_set_version.specs.Entries.{entries_in, path_member, requirement, text_at}
 use Rattle.edit_set_version.specs.Folders.{reached}
-use Rattle.edit_set_version.specs.Pointed.{Pointed, led, pointed, pointed_at, pointed_in, pointed_named, pointed_with}
+use Rattle.edit_set_version.specs.Pointed.{led, pointed, pointed_at, pointed_in, pointed_named, pointed_with}
 use Rattle.edit_set_version.specs.SetVersioned.{Bump, Following, following, following_at, followings, next_in}
 use Rattle.edit_set_version.proofs.EntriesStay.{flat_same}
 
@@ -18,7 +18,7 @@ pub cons_one : {B : Type 0} (o : Option B) (ys : List B) → option_to_list o ++
 cons_one None ys = refl
 cons_one (Some y) ys = refl
 
-alone : {B : Type 0} (o : Option B) → cons_option o [] ≡ option_to_list o
+pub alone : {B : Type 0} (o : Option B) → cons_option o [] ≡ option_to_list o
 alone None = refl
 alone (Some y) = refl
 

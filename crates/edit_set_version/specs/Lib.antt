@@ -2,11 +2,17 @@ pub mod Levels
 pub mod Bumps
 pub mod BumpCauses
 pub mod Folders
+pub mod FolderTexts
 pub mod Chosen
 pub mod Entries
 pub mod SetVersioned
+pub mod Crates
+pub mod Wanted
+pub mod Numbers
+pub mod Followers
 pub mod Pointed
 pub mod PlanLines
+pub mod ToldLines
 pub mod Follows
 pub mod PlanCauses
 pub mod Selections

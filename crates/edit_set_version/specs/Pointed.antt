@@ -1,10 +1,10 @@
 -- The path dependencies of a manifest that have a text requirement (Cargo reference, "Specifying
 -- Dependencies", Specifying path dependencies).
-use Rattle.std.specs.Prelude.{ℕ, List, Option, Some, None, if◌then◌else◌, map, option_map, option_to_list, string_bytes}
-use Rattle.std.specs.List.{filter_map, flat_map}
+use Rattle.std.specs.Prelude.{ℕ, List, Option, Some, None, map, option_map, option_to_list, string_bytes}
+use Rattle.std.specs.List.{flat_map}
 use Rattle.edit_tree.specs.Assertions.{Place, at, key}
 use Rattle.edit_document.specs.Items.{place_seen}
-use Rattle.edit_manifest.specs.Tables.{Tree, dependency_tables, is_table_like, member_names}
+use Rattle.edit_manifest.specs.Tables.{Tree, dependency_tables, member_names}
 use Rattle.edit_set_version.specs.Entries.{path_member, requirement, text_at}
 use Rattle.edit_set_version.specs.Folders.{reached}
 use Rattle.edit_set_version.specs.SetVersioned.{Bump, Following, next_in}

@@ -2,12 +2,22 @@
 #![tactic(auto)]
 
 mod bump;
+mod bumps;
+mod choose;
 pub mod contract;
+mod crates;
+mod follow;
 pub mod laws;
+mod lines;
+mod manifests;
 mod names;
+mod numbers;
 pub mod plan;
 pub mod pointed;
+mod reach;
 pub mod set_version;
+mod shared;
+mod writes;
 
 pub use plan::{Selection, SetVersionPlan};
 pub use pointed::{PathEntry, path_entries};

@@ -16,7 +16,7 @@ use std::alloc::Global;
 use std::collections::BTreeSet;
 
 /// Names in byte order, each once.
-type Names = BTreeSet<String>;
+pub(crate) type Names = BTreeSet<String>;
 
 /// Adds a name, and says whether it is new.
 fn add_name(alloc: Global, names: &mut Names, name: &str) -> CargoResult<bool>
@@ -54,6 +54,19 @@ fn member_names(alloc: Global, packages: &[Package]) -> CargoResult<Names>
         add_member(alloc, &mut names, package)?;
     }
     Ok(names)
+}
+
+/// The names of a list, each once.
+pub(crate) fn name_set(alloc: Global, names: &[String]) -> CargoResult<Names>
+    ensures ok { IfOk result (λ s. (q : List ℕ)
+        → contains_text s q ≡ is_among (map string_bytes names.now) q) }
+    ensures refused { IfErr result IsMemory }
+{
+    let mut set = BTreeSet::new(alloc);
+    'names: for name in names {
+        add_name(alloc, &mut set, name.as_str())?;
+    }
+    Ok(set)
 }
 
 /// Adds a name to those that are known, and to those that are missing where it is new.

@@ -1,4 +1,4 @@
-use Rattle.std.proofs.Common.{◌≡◌, ◌≢◌, List, [], ap, inr, map, refl, string_bytes, sym, ◌∙◌}
+use Rattle.std.proofs.Common.{◌≡◌, ◌≢◌, [], ap, inr, map, refl, string_bytes, sym, ◌∙◌}
 use Rattle.edit_metadata.specs.Workspaces.{packages_said}
 use Rattle.edit_set_version.specs.Chosen.{missing}
 use Rattle.edit_set_version.specs.Missing.{absent, names_of}

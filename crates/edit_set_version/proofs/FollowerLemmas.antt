@@ -1,0 +1,123 @@
+-- The requirements that follow a bump, with the numbers of their bumps.
+use Rattle.std.proofs.Common.{◌≡◌, ◌∙◌, ℕ, zero, arith, List, [], ◌∷◌, ◌++◌, cond, map, Option, Some, None, option_map, refl, ap, sym, subst, inl, inr}
+use Rattle.std.specs.Prelude.{Contains, codes, nat_eq, option_to_list}
+use Rattle.std.specs.declared.collections.BTreeMap.{BTreeMap}
+use Rattle.std.specs.List.{cons_option, filter_map, starts_with}
+use Rattle.std.specs.Prelude.{String}
+use Rattle.std.specs.declared.alloc.Global.{Global}
+use Rattle.std.proofs.lemmas.Bool.{cases_Bool}
+use Rattle.std.proofs.lemmas.List.{map-append, map_push}
+use Rattle.std.proofs.lemmas.List.Elements.{Contains-append_right, filter_map-append}
+use Rattle.semver.specs.Parse.{Parts}
+use Rattle.edit_base.specs.Paths.{parts_of}
+use Rattle.edit_base.specs.declared.errors.Error.{Error}
+use Rattle.edit_manifest.specs.Tables.{Tree}
+use Rattle.edit_set_version.specs.Folders.{along, folder_of, names_of, reached}
+use Rattle.edit_set_version.specs.Followers.{IsUnfollowed, IsUnled, all_numbered, fixed, lacks, memory, numbered, stays}
+use Rattle.edit_set_version.specs.Numbers.{TellsFirst, first_in, told_in}
+use Rattle.edit_set_version.specs.Pointed.{Pointed, led, pointed, pointed_view, pointed_views}
+use Rattle.edit_set_version.specs.SetVersioned.{Bump, Following, followings}
+use Rattle.edit_set_version.specs.declared.pointed.PathEntry.{PathEntry}
+use Rattle.edit_set_version.specs.declared.numbers.Numbered.{Numbered}
+use Rattle.edit_set_version.proofs.NumberLemmas.{next_first}
+use Rattle.edit_set_version.proofs.PointedLemmas.{alone, followings_pointed}
+use Rattle.edit_set_version.proofs.ReachedFolders.{way_on}
+
+-- a folder that is reached is one that a path names
+pub reached_named : (file path : List ℕ) → (way : List ℕ) × (names_of way ≡ reached file path)
+reached_named file path = elim (cases_Bool (starts_with nat_eq path (codes "/"))) [
+  | inl absolute ↦ (
+    path,
+    sym (ap (λ b. cond b (names_of path) (along (folder_of file)
+        (parts_of path))) absolute),
+  )
+  | inr relative ↦ (
+    file ++ (codes "/../" ++ path),
+    way_on file path
+        ∙ sym (ap (λ b. cond b (names_of path) (along (folder_of file) (parts_of path))) relative),
+  )
+]
+
+-- what the map tells of the folder that is reached
+pub tells_reached : (bs : List Bump) (numbers : BTreeMap (String Global) Numbered Global) (file path : List ℕ)
+    → TellsFirst bs numbers → told_in numbers (reached file path) ≡ first_in bs (reached file path)
+tells_reached bs numbers file path tells =
+    let way = reached_named file path in
+    subst (λ folder. told_in numbers folder ≡ first_in bs folder) way.1 (tells way.0)
+
+-- the requirement of an entry, by what the map tells
+pub numbered_by : (bs : List Bump) (numbers : BTreeMap (String Global) Numbered Global) (file : List ℕ)
+    (q : Pointed) (o : Option (ℕ × Parts)) → TellsFirst bs numbers → o ≡ told_in numbers (reached file q.path)
+    → numbered bs file q
+    ≡ option_map (λ (n : ℕ × Parts). (n.0, record { place = q.place; text = q.text; next = n.1 })) o
+numbered_by bs numbers file q o tells is =
+    ap (option_map (λ (n : ℕ × Parts). (n.0, record { place = q.place; text = q.text; next = n.1 })))
+    (sym (is ∙ tells_reached bs numbers file q.path tells))
+
+-- without its number
+pub led_numbered : (bs : List Bump) (file : List ℕ) (q : Pointed)
+    → led bs file q ≡ option_map (λ (n : ℕ × Following). n.1) (numbered bs file q)
+led_numbered bs file q =
+    ap (option_map (λ (v : Parts). record { place = q.place; text = q.text; next = v }))
+    (next_first bs (reached file q.path)) ∙ both (first_in bs (reached file q.path))
+  where
+    both : (o : Option (ℕ × Parts))
+        → option_map (λ (v : Parts). record { place = q.place; text = q.text; next = v })
+        (option_map (λ (n : ℕ × Parts). n.1) o)
+        ≡ option_map (λ (n : ℕ × Following). n.1)
+        (option_map (λ (n : ℕ × Parts). (n.0, record { place = q.place; text = q.text; next = n.1 })) o)
+    both None = refl
+    both (Some n) = refl
+
+-- all of a manifest without their numbers
+pub followings_numbered : (bs : List Bump) (file : List ℕ) (t : Tree)
+    → followings bs file t ≡ map (λ (n : ℕ × Following). n.1) (all_numbered bs file t)
+followings_numbered bs file t = followings_pointed bs file t ∙ each (pointed t)
+  where
+    kept : (o : Option (ℕ × Following)) (ns : List (ℕ × Following))
+        → cons_option (option_map (λ (n : ℕ × Following). n.1) o) (map (λ (n : ℕ × Following). n.1) ns)
+        ≡ map (λ (n : ℕ × Following). n.1) (cons_option o ns)
+    kept None ns = refl
+    kept (Some n) ns = refl
+
+    each : (qs : List Pointed)
+        → filter_map (led bs file) qs ≡ map (λ (n : ℕ × Following). n.1) (filter_map (numbered bs file) qs)
+    each [] = refl
+    each (q ∷ qs) =
+        ap (λ (fs : List Following). cons_option (led bs file q) fs) (each qs)
+        ∙ ap (λ o. cons_option o (map (λ (n : ℕ × Following). n.1) (filter_map (numbered bs file) qs)))
+        (led_numbered bs file q)
+        ∙ kept (numbered bs file q) (filter_map (numbered bs file) qs)
+
+-- one entry more
+pub numbered_more : (bs : List Bump) (file : List ℕ) (es : List PathEntry) (e : PathEntry)
+    → filter_map (numbered bs file) (pointed_views (es ++ e ∷ []))
+    ≡ filter_map (numbered bs file) (pointed_views es) ++ option_to_list (numbered bs file (pointed_view e))
+numbered_more bs file es e =
+    ap (filter_map (numbered bs file)) (map_push pointed_view es e)
+    ∙ filter_map-append (numbered bs file) (pointed_views es) (pointed_view e ∷ [])
+    ∙ ap (λ (ns : List (ℕ × Following)). filter_map (numbered bs file) (pointed_views es) ++ ns)
+    (alone (numbered bs file (pointed_view e)))
+
+-- ---- refusals
+
+-- what an entry gives is among what all give
+led_among : (bs : List Bump) (file : List ℕ) (xs : List Pointed) (q : Pointed) (ys : List Pointed)
+    (f : Following) → led bs file q ≡ Some f → Contains (filter_map (led bs file) (xs ++ q ∷ ys)) f
+led_among bs file xs q ys f is =
+    subst (λ (fs : List Following). Contains fs f) (sym (filter_map-append (led bs file) xs (q ∷ ys)))
+    (Contains-append_right (filter_map (led bs file) xs) (filter_map (led bs file) (q ∷ ys)) f
+    (subst (λ (o : Option Following). Contains (cons_option o (filter_map (led bs file) ys)) f) (sym is)
+    (zero, omega arith, refl)))
+
+-- an entry that cannot follow stands for its manifest
+pub unfollowed : (bs : List Bump) (file : List ℕ) (t : Tree) (es : List PathEntry) (e : PathEntry)
+    (rest : List PathEntry) (why : Error) → pointed_views (es ++ e ∷ rest) ≡ pointed t
+    → IsUnled bs file (pointed_view e) why → IsUnfollowed bs file t why
+unfollowed bs file t es e rest why all (lacks none) = memory none
+unfollowed bs file t es e rest why all (stays f is refused) =
+    fixed f
+    (subst (λ (fs : List Following). Contains fs f)
+    (ap (filter_map (led bs file))
+    (sym (map-append pointed_view es (e ∷ rest)) ∙ all) ∙ sym (followings_pointed bs file t))
+    (led_among bs file (pointed_views es) (pointed_view e) (pointed_views rest) f is)) refused

@@ -1,0 +1,48 @@
+use Rattle.std.proofs.Common.{◌≡◌, ◌∙◌, ◌+◌, ◌++◌, ◌∷◌, [], ap, inl, inr, subst, sym, take}
+use Rattle.std.specs.Prelude.{All, option_to_list}
+use Rattle.std.proofs.lemmas.List.{map_more}
+use Rattle.std.proofs.lemmas.List.Elements.{All-push}
+use Rattle.std.proofs.lemmas.Result.{err_from_is_err_and}
+use Rattle.edit_set_version.specs.Bumps.{bump, target_of}
+use Rattle.edit_set_version.specs.Chosen.{Member}
+use Rattle.edit_set_version.specs.Crates.{member_of, members_of}
+use Rattle.edit_set_version.specs.PlanRefused.{IsBumpable}
+use Rattle.edit_set_version.specs.Selections.{asked_of}
+use Rattle.edit_set_version.specs.SetVersioned.{bump_of}
+use Rattle.edit_set_version.proofs.ChoiceLemmas.{among_all, some_more}
+use Rattle.edit_set_version.proofs.bumps.bumps_of.Goals as goal
+
+pub crates-preserved : goal.crates-preserved
+crates-preserved c =
+    let t = target_of c.args.target.now in
+    let a = asked_of c.args.selection.now in
+    let i = c.crates.found-index in
+    let all = c.args.crates.now in
+    let own = member_of c.found-item.result in
+    let Fits : Member → Type 0 = λ m. IsBumpable (bump t a.metadata m.version) in
+    let more : members_of (take (i + 1) all) ≡ members_of (take i all) ++ own ∷ []
+    = map_more member_of all i c.found-item.result c.crates-test.true
+    ∙ ap (λ z. members_of (take i all) ++ member_of z ∷ []) (sym c.found-item.is) in
+    record {
+      seen = c.in_ok-push_bump.ensures.ok
+          ∙ ap (λ bs. bs ++ option_to_list (bump_of t a own)) c.crates.invariant.seen
+          ∙ sym (some_more (bump_of t a) member_of all i c.found-item.result c.crates-test.true
+          c.found-item.is);
+      bumpable = subst (All Fits) (sym more)
+          (All-push Fits (members_of (take i all)) own c.crates.invariant.bumpable
+          c.in_ok-push_bump.ensures.bumpable);
+    }
+
+pub returns-in_err-push_bump-clause-refused : goal.returns-in_err-push_bump-clause-refused
+returns-in_err-push_bump-clause-refused c =
+    let p = err_from_is_err_and c.from_residual.result c.from_residual.ensures.1 in
+    let own = member_of c.found-item.result in
+    rw (p.1, p.2) (elim c.in_err-push_bump.ensures.refused [
+      | inl none ↦ inl none
+      | inr why ↦ inr (
+        own,
+        among_all member_of c.args.crates.now c.crates.found-index c.found-item.result
+            c.crates-test.true c.found-item.is,
+        why,
+      )
+    ])

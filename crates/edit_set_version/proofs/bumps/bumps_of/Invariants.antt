@@ -1,0 +1,18 @@
+use Rattle.std.proofs.Common.{◌≡◌, take}
+use Rattle.std.specs.Prelude.{All}
+use Rattle.std.specs.List.{filter_map}
+use Rattle.edit_set_version.specs.Bumps.{bump, target_of}
+use Rattle.edit_set_version.specs.Crates.{bumps_seen, members_of}
+use Rattle.edit_set_version.specs.PlanRefused.{IsBumpable}
+use Rattle.edit_set_version.specs.Selections.{asked_of}
+use Rattle.edit_set_version.specs.SetVersioned.{bump_of}
+use Rattle.edit_set_version.proofs.bumps.bumps_of.Given as goal
+
+abbrev pub invariant-crates : goal.invariant-crates
+invariant-crates l = record {
+  seen : bumps_seen l.bumps.items
+      ≡ filter_map (bump_of (target_of l.target) (asked_of l.selection)) (members_of
+      (take l.found-index l.crates));
+  bumpable : All (λ m. IsBumpable (bump (target_of l.target) (asked_of l.selection).metadata m.version))
+      (members_of (take l.found-index l.crates));
+}

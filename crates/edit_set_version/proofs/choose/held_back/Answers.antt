@@ -1,0 +1,22 @@
+use Rattle.std.proofs.Common.{List, ℕ, [], ◌∷◌, ◌++◌, ◌∙◌, Bool, ap, sym, map, string_bytes}
+use Rattle.std.specs.Prelude.{if◌then◌else◌}
+use Rattle.std.specs.BTreeSet.{contains_text}
+use Rattle.edit_set_version.specs.Chosen.{Member, is_among}
+use Rattle.edit_set_version.specs.Crates.{member_of, members_of}
+use Rattle.edit_set_version.specs.Selections.{asked_of}
+use Rattle.edit_set_version.proofs.ChoiceLemmas.{kept_more}
+use Rattle.edit_set_version.proofs.choose.held_back.Goals as goal
+
+pub crates-preserved : goal.crates-preserved
+crates-preserved c =
+    let test : Member → Bool = λ m. is_among (asked_of c.args.selection.now).exclude m.name in
+    let own = member_of c.found-item.result in
+    c.in_ok-push_where.ensures.ok
+    ∙ ap (λ b. members_of c.crates.list.items ++ (if b then own ∷ [] else []))
+    (c.contains-keep.ensures
+    ∙ ap (λ (t : List ℕ). contains_text c.in_ok-excluded.excluded t) c.as_str.ensures.value
+    ∙ c.in_ok-excluded.ensures.ok own.name
+    ∙ ap (λ xs. is_among (map string_bytes xs) own.name) c.deref.ensures.value)
+    ∙ ap (λ ms. ms ++ (if test own then own ∷ [] else [])) c.crates.invariant
+    ∙ sym (kept_more test member_of c.args.crates.now c.crates.found-index c.found-item.result
+    c.crates-test.true c.found-item.is)

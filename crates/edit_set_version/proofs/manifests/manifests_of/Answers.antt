@@ -1,0 +1,40 @@
+use Rattle.std.proofs.Common.{◌≡◌, ◌∙◌, ◌+◌, ◌++◌, ◌∷◌, [], ap, inr, subst, sym, take}
+use Rattle.std.proofs.lemmas.List.{take_more}
+use Rattle.std.specs.List.{AllZip}
+use Rattle.std.proofs.lemmas.Slice.Zip.{all_zipped_more}
+use Rattle.edit_tree.specs.Supported.{IsManifest}
+use Rattle.edit_set_version.specs.Crates.{IsReadOf}
+use Rattle.std.proofs.lemmas.Result.{err_from_is_err_and}
+use Rattle.edit_manifest.specs.Loaded.{IsBadManifest}
+use Rattle.edit_set_version.proofs.ChoiceLemmas.{element_among}
+use Rattle.edit_set_version.proofs.manifests.manifests_of.Goals as goal
+
+pub inputs-preserved : goal.inputs-preserved
+inputs-preserved c =
+    let i = c.inputs.input-index in
+    let all = c.args.inputs.now in
+    let own = c.input-item.result in
+    let found = c.in_ok-manifest.ensures.found in
+    let more : take (i + 1) all ≡ take i all ++ own ∷ []
+    = take_more all i own c.inputs-test.true ∙ ap (λ x. take i all ++ x ∷ []) (sym c.input-item.is) in
+    subst (AllZip IsReadOf (take (i + 1) all)) (sym c.in_ok-push.ensures.items)
+    (subst (λ xs. AllZip IsReadOf xs (c.inputs.manifests.items ++ c.in_ok-manifest.manifest ∷ [])) (sym more)
+    (all_zipped_more IsReadOf (take i all) c.inputs.manifests.items own c.in_ok-manifest.manifest
+    c.inputs.invariant (record {
+      bytes = c.in_ok-manifest.ensures.bytes ∙ c.deref.ensures.value;
+      form = found.0;
+      manifest = subst (λ bs. IsManifest bs found.0) c.deref.ensures.value found.1;
+      shows = found.2;
+    })))
+
+pub returns-in_err-manifest-clause-refused : goal.returns-in_err-manifest-clause-refused
+returns-in_err-manifest-clause-refused c =
+    let p = err_from_is_err_and c.from_residual-in_err-manifest.result
+    c.from_residual-in_err-manifest.ensures.1 in
+    rw (p.1, p.2) (inr (
+      c.input-item.result,
+      element_among c.args.inputs.now c.inputs.input-index c.input-item.result c.inputs-test.true
+          c.input-item.is,
+      subst (λ bs. IsBadManifest bs c.in_err-manifest.field-0.0) c.deref.ensures.value
+          c.in_err-manifest.ensures.refused,
+    ))

@@ -1,0 +1,40 @@
+-- The crates of a workspace and their next versions, as the program has them.
+use Rattle.std.specs.Prelude.{◌≡◌, List, map, string_bytes}
+use Rattle.semver.specs.Identifiers.{parts_of}
+use Rattle.edit_manifest.specs.declared.manifest.Manifest.{Manifest}
+use Rattle.edit_metadata.specs.declared.input.Input.{Input}
+use Rattle.edit_syntax.specs.Grammar.{Text}
+use Rattle.edit_tree.specs.Shown.{ShowsTree, tree_of}
+use Rattle.edit_tree.specs.Supported.{IsManifest}
+use Rattle.edit_set_version.specs.Chosen.{Member}
+use Rattle.edit_set_version.specs.SetVersioned.{Bump}
+use Rattle.edit_set_version.specs.declared.crates.Bump.{Bump as Bumping}
+use Rattle.edit_set_version.specs.declared.crates.Crate.{Crate}
+
+-- a crate, as a member
+abbrev pub member_of : Crate → Member
+member_of c = record {
+  name = string_bytes c.told.now.name;
+  version = parts_of c.told.now.version;
+  path = string_bytes c.input.now.path;
+  tree = tree_of c.manifest.now.document;
+}
+
+-- crates in their order
+abbrev pub members_of : List Crate → List Member
+members_of cs = map member_of cs
+
+-- a crate and its next version
+abbrev pub bump_seen : Bumping → Bump
+bump_seen b = record { member = member_of b.member; next = parts_of b.next }
+
+-- the same in their order
+abbrev pub bumps_seen : List Bumping → List Bump
+bumps_seen bs = map bump_seen bs
+
+-- the manifest is that of an input: it has its bytes, and shows the tree of their form
+pub record IsReadOf (i : Input) (m : Manifest) : Type 0 where
+  pub bytes : m.document.bytes ≡ i.bytes.items
+  pub form : Text
+  pub manifest : IsManifest i.bytes.items form
+  pub shows : ShowsTree m.document form

@@ -1,0 +1,30 @@
+-- The first bump of the crate in a folder, and a map that tells it (own).
+use Rattle.std.specs.Prelude.{◌≡◌, ℕ, suc, List, [], ◌∷◌, Option, Some, None, String, if◌then◌else◌, option_map}
+use Rattle.std.specs.BTreeMap.{get_by_text}
+use Rattle.std.specs.declared.alloc.Global.{Global}
+use Rattle.std.specs.declared.collections.BTreeMap.{BTreeMap}
+use Rattle.semver.specs.Identifiers.{parts_of}
+use Rattle.semver.specs.Parse.{Parts}
+use Rattle.edit_set_version.specs.FolderTexts.{folder_text}
+use Rattle.edit_set_version.specs.Folders.{Folder, folder_of, names_of, same_folder}
+use Rattle.edit_set_version.specs.SetVersioned.{Bump}
+use Rattle.edit_set_version.specs.declared.numbers.Numbered.{Numbered}
+
+-- the number of the first bump of the crate in a folder, and its next version
+abbrev pub first_in : List Bump → Folder → Option (ℕ × Parts)
+first_in [] folder = None
+first_in (b ∷ bs) folder =
+    if same_folder (folder_of b.member.path) folder then Some (0, b.next)
+    else option_map (λ n. (suc n.0, n.1)) (first_in bs folder)
+
+-- a number and a next version, as the program has them
+abbrev pub numbered_seen : Numbered → ℕ × Parts
+numbered_seen n = (n.number, parts_of n.next.now)
+
+-- what a map has at the text of a folder
+abbrev pub told_in : BTreeMap (String Global) Numbered Global → Folder → Option (ℕ × Parts)
+told_in numbers folder = option_map numbered_seen (get_by_text numbers (folder_text folder))
+
+-- the map tells the first bump of the crate in each folder that a path names
+abbrev pub TellsFirst : List Bump → BTreeMap (String Global) Numbered Global → Type 0
+TellsFirst bs numbers = (path : List ℕ) → told_in numbers (names_of path) ≡ first_in bs (names_of path)

@@ -1,0 +1,99 @@
+//! The next versions of the crates that get one.
+ghost use Rattle.std.specs.Prelude.{◌≡◌, ◌⊎◌, ◌++◌, All, Contains, IfErr, IfOk, OnOk, option_copied, option_map, option_to_list};
+ghost use Rattle.std.specs.List.{filter_map};
+ghost use Rattle.edit_base.specs.Errors.{IsMemory};
+ghost use Rattle.edit_set_version.specs.BumpCauses.{IsUnbumped};
+ghost use Rattle.edit_set_version.specs.Bumps.{bump, target_of};
+ghost use Rattle.edit_set_version.specs.Chosen.{Member};
+ghost use Rattle.edit_set_version.specs.Crates.{bump_seen, bumps_seen, member_of, members_of};
+ghost use Rattle.edit_set_version.specs.PlanRefused.{IsBumpable};
+ghost use Rattle.edit_set_version.specs.Selections.{asked_of};
+ghost use Rattle.edit_set_version.specs.SetVersioned.{bump_of};
+
+use crate::crates::{Bump, Crate};
+use crate::plan::Selection;
+use crate::set_version::TargetVersion;
+use edit_base::CargoResult;
+use std::alloc::Global;
+
+/// The build metadata that is given.
+pub(crate) fn metadata_of(selection: &Selection) -> Option<&str>
+    ensures { option_copied result ≡ (asked_of selection.now).metadata }
+{
+    match &selection.metadata {
+        Some(metadata) => Some(metadata.as_str()),
+        None => None,
+    }
+}
+
+/// The bump of a crate, where its version becomes another.
+fn bump_of<'a>(
+    alloc: Global,
+    target: &TargetVersion,
+    selection: &Selection,
+    found: Crate<'a>,
+) -> CargoResult<Option<Bump<'a>>>
+    ensures ok { IfOk result (λ o. option_map bump_seen o
+        ≡ bump_of (target_of target.now) (asked_of selection.now) (member_of found.entry)) }
+    ensures bumpable { OnOk result (IsBumpable (bump (target_of target.now)
+        (asked_of selection.now).metadata (member_of found.entry).version)) }
+    ensures refused { IfErr result (IsUnbumped (bump (target_of target.now)
+        (asked_of selection.now).metadata (member_of found.entry).version) (member_of found.entry).version) }
+{
+    let metadata = metadata_of(selection);
+    let next = target.bump(alloc, &found.told.version, metadata)?;
+    match next {
+        Some(next) => Ok(Some(Bump {
+            member: found,
+            next,
+        })),
+        None => Ok(None),
+    }
+}
+
+/// Adds the bump of a crate, where its version becomes another.
+fn push_bump<'a>(
+    alloc: Global,
+    target: &TargetVersion,
+    selection: &Selection,
+    found: Crate<'a>,
+    bumps: &mut Vec<Bump<'a>>,
+) -> CargoResult<()>
+    ensures ok { OnOk result (bumps_seen bumps.new.items ≡ bumps_seen bumps.old.items
+        ++ option_to_list (bump_of (target_of target.now) (asked_of selection.now) (member_of found.entry))) }
+    ensures bumpable { OnOk result (IsBumpable (bump (target_of target.now)
+        (asked_of selection.now).metadata (member_of found.entry).version)) }
+    ensures refused { IfErr result (λ e. IsMemory e ⊎ IsUnbumped (bump (target_of target.now)
+        (asked_of selection.now).metadata (member_of found.entry).version)
+        (member_of found.entry).version e) }
+{
+    let bump = bump_of(alloc, target, selection, found)?;
+    match bump {
+        Some(bump) => {
+            bumps.push(bump)?;
+            Ok(())
+        }
+        None => Ok(()),
+    }
+}
+
+/// The bumps of crates, in their order: of each whose version becomes another.
+pub(crate) fn bumps_of<'a>(
+    alloc: Global,
+    target: &TargetVersion,
+    selection: &Selection,
+    crates: &[Crate<'a>],
+) -> CargoResult<Vec<Bump<'a>>>
+    ensures ok { IfOk result (λ bs. bumps_seen bs.items
+        ≡ filter_map (bump_of (target_of target.now) (asked_of selection.now)) (members_of crates.now)) }
+    ensures bumpable { OnOk result (All (λ m. IsBumpable (bump (target_of target.now)
+        (asked_of selection.now).metadata m.version)) (members_of crates.now)) }
+    ensures refused { IfErr result (λ e. IsMemory e ⊎ ((m : Member) × Contains (members_of crates.now) m
+        × IsUnbumped (bump (target_of target.now) (asked_of selection.now).metadata m.version) m.version e)) }
+{
+    let mut bumps = Vec::new(alloc);
+    'crates: for found in crates {
+        push_bump(alloc, target, selection, *found, &mut bumps)?;
+    }
+    Ok(bumps)
+}

@@ -1,0 +1,123 @@
+//! The crates of a workspace with their manifests, and their next versions.
+ghost use Rattle.std.specs.Prelude.{◌≡◌, ◌≤◌, ◌-◌, ◌++◌, ◌∷◌, [], if◌then◌else◌, IfErr, IfOk, OnOk, drop, length, map};
+ghost use Rattle.std.specs.List.{AllZip};
+ghost use Rattle.edit_base.specs.Errors.{IsMemory};
+ghost use Rattle.edit_metadata.specs.Metadata.{members};
+ghost use Rattle.edit_metadata.specs.Workspaces.{package_said, packages_said, workspace_said};
+ghost use Rattle.edit_set_version.specs.Crates.{IsReadOf, members_of};
+ghost use Rattle.edit_set_version.specs.Projects.{AreInputsOf, IsMemberOf};
+
+use edit_base::CargoResult;
+use edit_manifest::Manifest;
+use edit_metadata::{Input, Package, Workspace};
+use semver::Version;
+use std::alloc::Global;
+
+/// A crate of a workspace: what metadata tell of it, its input, and its manifest.
+#[derive(Clone, Copy)]
+pub(crate) struct Crate<'a> {
+    pub(crate) told: &'a Package,
+    pub(crate) input: &'a Input,
+    pub(crate) manifest: &'a Manifest,
+}
+
+/// A crate and its next version.
+#[derive(Drop)]
+pub(crate) struct Bump<'a> {
+    pub(crate) member: Crate<'a>,
+    pub(crate) next: Version,
+}
+
+/// Adds a package, where it is a member.
+fn push_member<'a>(found: &'a Package, members: &mut Vec<&'a Package>) -> CargoResult<()>
+    ensures ok { OnOk result (map (λ p. package_said p.now) members.new.items
+        ≡ map (λ p. package_said p.now) members.old.items
+        ++ (if found.entry.now.member then package_said found.entry.now ∷ [] else [])) }
+    ensures refused { IfErr result IsMemory }
+{
+    if !found.member {
+        return Ok(());
+    }
+    members.push(found)?;
+    Ok(())
+}
+
+/// The members among packages, in their order.
+pub(crate) fn members_in<'a>(
+    alloc: Global,
+    packages: &'a [Package],
+) -> CargoResult<Vec<&'a Package>>
+    ensures ok { IfOk result (λ v. map (λ p. package_said p.now) v.items
+        ≡ members (packages_said packages.entry.now)) }
+    ensures refused { IfErr result IsMemory }
+{
+    let mut list = Vec::new(alloc);
+    'packages: for found in packages {
+        push_member(found, &mut list)?;
+    }
+    Ok(list)
+}
+
+/// Packages with their inputs and manifests, each at the same place in its list.
+pub(crate) fn crates_with<'a>(
+    alloc: Global,
+    members: &[&'a Package],
+    inputs: &'a [Input],
+    manifests: &'a [Manifest],
+) -> CargoResult<Vec<Crate<'a>>>
+    requires inputs { length inputs.now ≡ length members.now }
+    requires manifests { length manifests.now ≡ length members.now }
+    ensures told { IfOk result (λ cs. map (λ c. c.told.now) cs.items ≡ map (λ p. p.now) members.entry.now) }
+    ensures inputs { IfOk result (λ cs. map (λ c. c.input.now) cs.items ≡ inputs.entry.now) }
+    ensures manifests { IfOk result (λ cs. map (λ c. c.manifest.now) cs.items ≡ manifests.entry.now) }
+    ensures refused { IfErr result IsMemory }
+{
+    let mut crates = Vec::with_capacity(alloc, members.len())?;
+    'members: for i in 0..members.len() {
+        let found = Crate {
+            told: members[i],
+            input: &inputs[i],
+            manifest: &manifests[i],
+        };
+        crates.push(found)?;
+    }
+    Ok(crates)
+}
+
+/// The same of inputs and manifests of which the last ones are those of the members.
+fn crates_last<'a>(
+    alloc: Global,
+    members: &[&'a Package],
+    inputs: &'a [Input],
+    manifests: &'a [Manifest],
+) -> CargoResult<Vec<Crate<'a>>>
+    requires inputs { length members.now ≤ length inputs.now }
+    requires manifests { length manifests.now ≡ length inputs.now }
+    ensures told { IfOk result (λ cs. map (λ c. c.told.now) cs.items ≡ map (λ p. p.now) members.entry.now) }
+    ensures inputs { IfOk result (λ cs. map (λ c. c.input.now) cs.items
+        ≡ drop (length inputs.entry.now - length members.entry.now) inputs.entry.now) }
+    ensures manifests { IfOk result (λ cs. map (λ c. c.manifest.now) cs.items
+        ≡ drop (length inputs.entry.now - length members.entry.now) manifests.entry.now) }
+    ensures refused { IfErr result IsMemory }
+{
+    let skip = inputs.len() - members.len();
+    crates_with(alloc, members, &inputs[skip..], &manifests[skip..])
+}
+
+/// The members of a workspace, with their inputs and manifests.
+pub(crate) fn crates_of<'a>(
+    alloc: Global,
+    workspace: &'a Workspace,
+    inputs: &'a [Input],
+    manifests: &'a [Manifest],
+) -> CargoResult<Vec<Crate<'a>>>
+    requires inputs { AreInputsOf (workspace_said workspace.now) inputs.now }
+    requires manifests { AllZip IsReadOf inputs.now manifests.now }
+    ensures ok { IfOk result (λ cs. AllZip (IsMemberOf inputs.entry.now)
+        (members (workspace_said workspace.entry.now).packages) (members_of cs.items)) }
+    ensures refused { IfErr result IsMemory }
+{
+    let members = members_in(alloc, &workspace.packages)?;
+    let crates = crates_last(alloc, &members, inputs, manifests)?;
+    Ok(crates)
+}

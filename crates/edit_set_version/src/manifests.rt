@@ -1,0 +1,26 @@
+//! The manifests that a plan is made over.
+ghost use Rattle.std.specs.Prelude.{◌⊎◌, Contains, IfErr, IfOk};
+ghost use Rattle.std.specs.List.{AllZip};
+ghost use Rattle.edit_base.specs.Errors.{IsMemory};
+ghost use Rattle.edit_manifest.specs.Loaded.{IsBadManifest};
+ghost use Rattle.edit_metadata.specs.declared.input.Input.{Input};
+ghost use Rattle.edit_set_version.specs.Crates.{IsReadOf};
+
+use edit_base::CargoResult;
+use edit_manifest::Manifest;
+use edit_metadata::Input;
+use std::alloc::Global;
+
+/// The manifests of inputs, in their order.
+pub(crate) fn manifests_of(alloc: Global, inputs: &[Input]) -> CargoResult<Vec<Manifest>>
+    ensures ok { IfOk result (λ ms. AllZip IsReadOf inputs.now ms.items) }
+    ensures refused { IfErr result (λ e. IsMemory e
+        ⊎ ((i : Input) × Contains inputs.now i × IsBadManifest i.bytes.items e)) }
+{
+    let mut manifests = Vec::with_capacity(alloc, inputs.len())?;
+    'inputs: for input in inputs {
+        let manifest = Manifest::read_bytes(alloc, &input.bytes)?;
+        manifests.push(manifest)?;
+    }
+    Ok(manifests)
+}

@@ -1,0 +1,73 @@
+//! The bumps by the folders of their crates.
+ghost use Rattle.std.specs.Prelude.{◌≡◌, ℕ, List, Some, None, if◌then◌else◌, IfErr, IfOk, OnOk, option_map};
+ghost use Rattle.std.specs.Option.{option_or};
+ghost use Rattle.edit_base.specs.Errors.{IsMemory};
+ghost use Rattle.edit_set_version.specs.Crates.{bumps_seen};
+ghost use Rattle.edit_set_version.specs.Folders.{folder_of, names_of, reached, same_folder};
+ghost use Rattle.edit_set_version.specs.Numbers.{TellsFirst, numbered_seen, told_in};
+
+use crate::crates::Bump;
+use crate::reach::{folder_of, reached};
+use edit_base::CargoResult;
+use semver::Version;
+use std::alloc::Global;
+use std::collections::BTreeMap;
+
+/// The number of a bump, and its next version.
+#[derive(Clone, Copy)]
+pub(crate) struct Numbered<'a> {
+    pub(crate) number: usize,
+    pub(crate) next: &'a Version,
+}
+
+/// Bumps by the folders of their crates, in normal form.
+pub(crate) type Numbers<'a> = BTreeMap<String, Numbered<'a>>;
+
+/// Adds the bump of a crate by the path of its manifest, where none has its folder.
+fn add_bump<'a>(
+    alloc: Global,
+    numbers: &mut Numbers<'a>,
+    path: &str,
+    bump: Numbered<'a>,
+) -> CargoResult<()>
+    ensures ok { OnOk result ((q : List ℕ) → told_in numbers.new (names_of q)
+        ≡ option_or (told_in numbers.old (names_of q))
+        (if same_folder (folder_of path.now) (names_of q) then Some (numbered_seen bump.entry) else None)) }
+    ensures refused { IfErr result IsMemory }
+{
+    let folder = folder_of(alloc, path)?;
+    if numbers.contains_key(folder.as_str()) {
+        return Ok(());
+    }
+    numbers.insert(folder, bump)?;
+    Ok(())
+}
+
+/// The bumps by the folders of their crates; of several in one folder the first.
+pub(crate) fn numbers_of<'a>(alloc: Global, bumps: &'a [Bump<'_>]) -> CargoResult<Numbers<'a>>
+    ensures ok { IfOk result (TellsFirst (bumps_seen bumps.entry.now)) }
+    ensures refused { IfErr result IsMemory }
+{
+    let mut numbers = BTreeMap::new(alloc);
+    'bumps: for (number, bump) in bumps.iter().enumerate() {
+        let next = &bump.next;
+        let path = bump.member.input.path.as_str();
+        add_bump(alloc, &mut numbers, path, Numbered { number, next })?;
+    }
+    Ok(numbers)
+}
+
+/// The bump of the crate that a path leads to which stands in the manifest at an absolute path.
+pub(crate) fn bump_at<'a>(
+    alloc: Global,
+    numbers: &Numbers<'a>,
+    file: &str,
+    path: &str,
+) -> CargoResult<Option<Numbered<'a>>>
+    ensures ok { IfOk result (λ o. option_map numbered_seen o
+        ≡ told_in numbers.now (reached file.now path.now)) }
+    ensures refused { IfErr result IsMemory }
+{
+    let folder = reached(alloc, file, path)?;
+    Ok(numbers.get(folder.as_str()).copied())
+}

@@ -1,0 +1,34 @@
+//! The folders that paths lead to, as texts in normal form.
+ghost use Rattle.std.specs.Prelude.{◌≡◌, IfErr, IfOk, string_bytes};
+ghost use Rattle.edit_base.specs.Errors.{IsMemory};
+ghost use Rattle.edit_set_version.specs.FolderTexts.{folder_text};
+ghost use Rattle.edit_set_version.specs.Folders.{folder_of, reached};
+
+use edit_base::CargoResult;
+use edit_base::paths::normal;
+use std::alloc::Global;
+
+/// The folder of the file at an absolute path, in normal form.
+pub(crate) fn folder_of(alloc: Global, file: &str) -> CargoResult<String>
+    ensures ok { IfOk result (λ s. string_bytes s ≡ folder_text (folder_of file.now)) }
+    ensures refused { IfErr result IsMemory }
+{
+    let way = format!(in alloc; "{file}/..")?;
+    let text = normal(alloc, way.as_str())?;
+    Ok(text)
+}
+
+/// The folder that a path leads to which stands in the file at an absolute path, in normal form: the path
+/// itself where it is absolute, else from the file's folder on.
+pub(crate) fn reached(alloc: Global, file: &str, path: &str) -> CargoResult<String>
+    ensures ok { IfOk result (λ s. string_bytes s ≡ folder_text (reached file.now path.now)) }
+    ensures refused { IfErr result IsMemory }
+{
+    if path.starts_with('/') {
+        let text = normal(alloc, path)?;
+        return Ok(text);
+    }
+    let way = format!(in alloc; "{file}/../{path}")?;
+    let text = normal(alloc, way.as_str())?;
+    Ok(text)
+}

@@ -1,0 +1,95 @@
+//! What a plan writes into a manifest.
+ghost use Rattle.std.specs.Prelude.{◌≡◌, ◌++◌, ◌∷◌, [], All, IfErr, IfOk, OnOk, map, option_to_list};
+ghost use Rattle.std.specs.List.{filter_map};
+ghost use Rattle.semver.specs.Identifiers.{parts_of, parts_text};
+ghost use Rattle.edit_base.specs.Errors.{IsMemory};
+ghost use Rattle.edit_document.specs.Ranges.{edits_seen};
+ghost use Rattle.edit_manifest.specs.Versions.{package_version, shared_version};
+ghost use Rattle.edit_set_version.specs.Followers.{HasRisen, following_of};
+ghost use Rattle.edit_set_version.specs.SetVersioned.{requirement_edit};
+
+use crate::follow::Follower;
+use edit_base::CargoResult;
+use edit_document::{Place, member_place};
+use semver::Version;
+use std::alloc::Global;
+
+/// A place, and the text that is written there.
+pub(crate) type Edit = (Place, String);
+
+/// What a requirement that follows writes, where it becomes another text.
+fn requirement_edit(alloc: Global, follower: &Follower<'_>) -> CargoResult<Option<Edit>>
+    ensures ok { IfOk result (λ o. HasRisen follower.now → edits_seen (option_to_list o)
+        ≡ option_to_list (requirement_edit (following_of follower.now))) }
+    ensures refused { IfErr result IsMemory }
+{
+    match &follower.risen {
+        Some(text) => {
+            let place = member_place(alloc, &follower.place, "version")?;
+            let text = String::from_str(alloc, text.as_str())?;
+            Ok(Some((place, text)))
+        }
+        None => Ok(None),
+    }
+}
+
+/// Adds what a requirement that follows writes.
+fn push_requirement(
+    alloc: Global,
+    follower: &Follower<'_>,
+    edits: &mut Vec<Edit>,
+) -> CargoResult<()>
+    ensures ok { OnOk result (HasRisen follower.now → edits_seen edits.new.items
+        ≡ edits_seen edits.old.items ++ option_to_list (requirement_edit (following_of follower.now))) }
+    ensures refused { IfErr result IsMemory }
+{
+    let edit = requirement_edit(alloc, follower)?;
+    match edit {
+        Some(edit) => {
+            edits.push(edit)?;
+            Ok(())
+        }
+        None => Ok(()),
+    }
+}
+
+/// Adds what the requirements that follow write, in their order.
+pub(crate) fn push_requirements(
+    alloc: Global,
+    followers: &[Follower<'_>],
+    edits: &mut Vec<Edit>,
+) -> CargoResult<()>
+    ensures ok { OnOk result (All HasRisen followers.now → edits_seen edits.new.items
+        ≡ edits_seen edits.old.items ++ filter_map requirement_edit (map following_of followers.now)) }
+    ensures refused { IfErr result IsMemory }
+{
+    'followers: for follower in followers {
+        push_requirement(alloc, follower, edits)?;
+    }
+    Ok(())
+}
+
+/// What a bumped crate that does not inherit its version writes.
+pub(crate) fn own_edit(alloc: Global, next: &Version) -> CargoResult<Edit>
+    ensures ok { IfOk result (λ e. edits_seen (e ∷ [])
+        ≡ (package_version, parts_text (parts_of next.now)) ∷ []) }
+    ensures refused { IfErr result IsMemory }
+{
+    let table = member_place(alloc, &[], "package")?;
+    let place = member_place(alloc, &table, "version")?;
+    let text = format!(in alloc; "{next}")?;
+    Ok((place, text))
+}
+
+/// What the next version of the workspace writes.
+pub(crate) fn shared_edit(alloc: Global, next: &Version) -> CargoResult<Edit>
+    ensures ok { IfOk result (λ e. edits_seen (e ∷ [])
+        ≡ (shared_version, parts_text (parts_of next.now)) ∷ []) }
+    ensures refused { IfErr result IsMemory }
+{
+    let workspace = member_place(alloc, &[], "workspace")?;
+    let table = member_place(alloc, &workspace, "package")?;
+    let place = member_place(alloc, &table, "version")?;
+    let text = format!(in alloc; "{next}")?;
+    Ok((place, text))
+}
