@@ -132,9 +132,10 @@ fn texts_of(alloc: Global, words: &[&str]) -> Option<String> {
 
 /// Succeeds where the words of a row print what it wants.
 fn text_holds(alloc: Global, row: &str) -> Result<(), Fail> {
-    let words = words_of(alloc, field(row, 0)).ok_or("no words")?;
+    let (words, text) = row.split_once('|').ok_or("no text wanted")?;
+    let words = words_of(alloc, words).ok_or("no words")?;
     let seen = texts_of(alloc, words.as_slice()).ok_or("no text")?;
-    same(row, seen.as_str(), field(row, 1))
+    same(row, seen.as_str(), text)
 }
 
 #[test]
