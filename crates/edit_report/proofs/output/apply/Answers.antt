@@ -3,7 +3,7 @@ use Rattle.std.proofs.Common.{◌∙◌, arith, subst}
 use Rattle.edit_report.proofs.ApplyLemmas.{on_refusal, stopped_at, written_more}
 use Rattle.edit_report.specs.Applied.{IsWhole, path_of}
 use Rattle.edit_report.specs.declared.output.Output.{Output}
-use Rattle.edit_sources.specs.Store.{SameBut}
+use Rattle.edit_store.specs.Store.{SameBut}
 use Rattle.edit_report.proofs.output.apply.Goals as goal
 
 pub returns-in_err-write_output-clause-stopped : goal.returns-in_err-write_output-clause-stopped

@@ -1,7 +1,7 @@
 use Rattle.std.proofs.Common.{ℕ, Global, Vec, ap}
 use Rattle.edit_report.specs.declared.output.Output.{Output}
-use Rattle.cargo_edit.proofs.PlanLemmas.{only-output}
-use Rattle.cargo_edit.proofs.draft.outputs_of.Goals as goal
+use Rattle.edit_upgrade.proofs.PlanLemmas.{only-output}
+use Rattle.edit_upgrade.proofs.draft.outputs_of.Goals as goal
 
 pub returns-in_ok-push-in-Some-clause-ok : goal.returns-in_ok-push-in-Some-clause-ok
 returns-in_ok-push-in-Some-clause-ok c =
