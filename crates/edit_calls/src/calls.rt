@@ -1,7 +1,11 @@
 //! Edits by words. Each tells whether it was made: not where its conditions do not hold.
 use crate::words::Words;
 use edit_document::{CargoResult, Document, NewValue, Step};
+use edit_record::Dependency;
 use std::alloc::Global;
+
+/// The folder that paths of entries are seen from.
+const ROOT: &str = "/";
 
 /// Inserts a member.
 fn insert(
@@ -74,6 +78,29 @@ fn replace_entry(
     Ok(true)
 }
 
+/// Reads the record of an entry, gives it more features, and updates the entry with it.
+fn update(
+    alloc: Global,
+    document: &mut Document,
+    place: &[Step],
+    words: &mut Words<'_>,
+) -> CargoResult<bool> {
+    let features = words.take_texts(alloc)?;
+    let Some(Step::Key(key)) = place.last() else {
+        return Ok(false);
+    };
+    let Some(item) = document.item(place) else {
+        return Ok(false);
+    };
+    if place.len() > 70 {
+        return Ok(false);
+    }
+    let dependency = Dependency::from_toml(alloc, ROOT, key.as_str(), item)?;
+    let dependency = dependency.extend_features(alloc, features)?;
+    dependency.update_toml(alloc, ROOT, document, place)?;
+    Ok(true)
+}
+
 /// Makes the edit that the words name.
 pub(crate) fn edit(
     alloc: Global,
@@ -88,6 +115,7 @@ pub(crate) fn edit(
         "set_value" => set_value(alloc, document, &place, words.take_value(alloc)?),
         "set_literal" => set_literal(alloc, document, &place, words.take()),
         "replace_entry" => replace_entry(alloc, document, &place, words),
+        "update" => update(alloc, document, &place, words),
         _ => Ok(false),
     }
 }

@@ -6,6 +6,7 @@
 //!     edit_calls FILE set_value STEP.. = VALUE
 //!     edit_calls FILE set_literal STEP.. = TEXT
 //!     edit_calls FILE replace_entry STEP.. = ENTRY
+//!     edit_calls FILE update STEP.. = N FEATURE ..
 //!
 //! A step is `.NAME` or `#INDEX`. VALUE is `text TEXT`, `truth true`, `truth false` or `list N TEXT ..`;
 //! ENTRY is a VALUE, `table N NAME VALUE ..` or `dotted`. It prints `done`, `no such place`, or `refused`, a

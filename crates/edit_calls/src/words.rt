@@ -51,18 +51,21 @@ impl<'a> Words<'a> {
         Ok(place)
     }
 
+    /// A number and so many texts.
+    pub(crate) fn take_texts(&mut self, alloc: Global) -> Result<Vec<String>, AllocError> {
+        let mut texts = Vec::new(alloc);
+        for _ in 0..self.take_number() {
+            texts.push(String::from_str(alloc, self.take())?)?;
+        }
+        Ok(texts)
+    }
+
     /// A value of a kind: `text` and a text, `truth` and `true` or `false`, `list`, a number and so many
     /// texts.
     fn take_value_of(&mut self, alloc: Global, kind: &str) -> Result<NewValue, AllocError> {
         match kind {
             "truth" => Ok(NewValue::Bool(self.take() == "true")),
-            "list" => {
-                let mut texts = Vec::new(alloc);
-                for _ in 0..self.take_number() {
-                    texts.push(String::from_str(alloc, self.take())?)?;
-                }
-                Ok(NewValue::Strings(texts))
-            }
+            "list" => Ok(NewValue::Strings(self.take_texts(alloc)?)),
             _ => Ok(NewValue::Str(String::from_str(alloc, self.take())?)),
         }
     }

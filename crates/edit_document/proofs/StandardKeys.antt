@@ -7,10 +7,12 @@ use Rattle.edit_document.proofs.FromReader.{Shows, IsNone, shows, is_none}
 use Rattle.edit_tree.proofs.OnTexts.{on_texts}
 
 -- "Comment"
-pub comment : Shows (codes "# This is a full-line comment\nkey = \"value\"  # This is a comment at the end of a line\nanother = \"# This is not a comment\"")
+pub comment : Shows (codes
+    "# This is a full-line comment\nkey = \"value\"  # This is a comment at the end of a line\nanother = \"# This is not a comment\"")
     (key (codes "another") ∷ []) (string (codes "# This is not a comment"))
 unfolding on_texts
-comment = shows (codes "# This is a full-line comment\nkey = \"value\"  # This is a comment at the end of a line\nanother = \"# This is not a comment\"") (key (codes "another") ∷ []) (string (codes "# This is not a comment")) refl refl
+comment = shows (codes
+    "# This is a full-line comment\nkey = \"value\"  # This is a comment at the end of a line\nanother = \"# This is not a comment\"") (key (codes "another") ∷ []) (string (codes "# This is not a comment")) refl refl
 
 -- "Key/Value Pair"
 pub pair : Shows (codes "key = \"value\"") (key (codes "key") ∷ []) (string (codes "value"))
@@ -36,11 +38,14 @@ bare_keys = shows (codes "key = \"value\"\nbare_key = \"value\"\nbare-key = \"va
 
 -- "Keys": quoted
 pub quoted_keys : Shows (codes "\"127.0.0.1\" = \"value\"\n\"character encoding\" = \"value\"\n\"" ++
-    (202 ∷ 142 ∷ 199 ∷ 157 ∷ 202 ∷ 158 ∷ codes "\" = \"value\"\n'key2' = \"value\"\n'quoted \"value\"' = \"value\""))
+    (202 ∷ 142 ∷ 199 ∷ 157 ∷ 202 ∷ 158
+        ∷ codes "\" = \"value\"\n'key2' = \"value\"\n'quoted \"value\"' = \"value\""))
     (key (202 ∷ 142 ∷ 199 ∷ 157 ∷ 202 ∷ 158 ∷ []) ∷ []) (string (codes "value"))
 unfolding on_texts
 quoted_keys = shows (codes "\"127.0.0.1\" = \"value\"\n\"character encoding\" = \"value\"\n\"" ++
-    (202 ∷ 142 ∷ 199 ∷ 157 ∷ 202 ∷ 158 ∷ codes "\" = \"value\"\n'key2' = \"value\"\n'quoted \"value\"' = \"value\"")) (key (202 ∷ 142 ∷ 199 ∷ 157 ∷ 202 ∷ 158 ∷ []) ∷ []) (string (codes "value")) refl refl
+    (202 ∷ 142 ∷ 199 ∷ 157 ∷ 202 ∷ 158
+        ∷ codes "\" = \"value\"\n'key2' = \"value\"\n'quoted \"value\"' = \"value\""))
+        (key (202 ∷ 142 ∷ 199 ∷ 157 ∷ 202 ∷ 158 ∷ []) ∷ []) (string (codes "value")) refl refl
 
 -- "Keys": quoted, a literal string
 pub literal_key : Shows (codes "'quoted \"value\"' = \"value\"")
@@ -66,7 +71,9 @@ pub dotted_keys : Shows
     (codes "name = \"Orange\"\nphysical.color = \"orange\"\nphysical.shape = \"round\"\nsite.\"google.com\" = true")
     (key (codes "physical") ∷ []) (table (key (codes "color") ∷ key (codes "shape") ∷ []))
 unfolding on_texts
-dotted_keys = shows (codes "name = \"Orange\"\nphysical.color = \"orange\"\nphysical.shape = \"round\"\nsite.\"google.com\" = true") (key (codes "physical") ∷ []) (table (key (codes "color") ∷ key (codes "shape") ∷ [])) refl refl
+dotted_keys = shows (codes
+    "name = \"Orange\"\nphysical.color = \"orange\"\nphysical.shape = \"round\"\nsite.\"google.com\" = true")
+    (key (codes "physical") ∷ []) (table (key (codes "color") ∷ key (codes "shape") ∷ [])) refl refl
 
 -- "Keys": dotted, a quoted part
 pub dotted_quoted_key : Shows (codes "site.\"google.com\" = true")

@@ -13,10 +13,13 @@ unfolding on_texts
 empty_table = shows (codes "[table]") (key (codes "table") ∷ []) (table []) refl refl
 
 -- "Table"
-pub tables : Shows (codes "[table-1]\nkey1 = \"some string\"\nkey2 = 123\n\n[table-2]\nkey1 = \"another string\"\nkey2 = 456")
+pub tables : Shows (codes
+    "[table-1]\nkey1 = \"some string\"\nkey2 = 123\n\n[table-2]\nkey1 = \"another string\"\nkey2 = 456")
     (key (codes "table-2") ∷ []) (table (key (codes "key1") ∷ key (codes "key2") ∷ []))
 unfolding on_texts
-tables = shows (codes "[table-1]\nkey1 = \"some string\"\nkey2 = 123\n\n[table-2]\nkey1 = \"another string\"\nkey2 = 456") (key (codes "table-2") ∷ []) (table (key (codes "key1") ∷ key (codes "key2") ∷ [])) refl refl
+tables = shows (codes
+    "[table-1]\nkey1 = \"some string\"\nkey2 = 123\n\n[table-2]\nkey1 = \"another string\"\nkey2 = 456")
+    (key (codes "table-2") ∷ []) (table (key (codes "key1") ∷ key (codes "key2") ∷ [])) refl refl
 
 -- "Table": a quoted name
 pub quoted_header : Shows (codes "[dog.\"tater.man\"]\ntype.name = \"pug\"")
@@ -70,7 +73,8 @@ pub root_table : Shows
     (codes "# Top-level table begins.\nname = \"Fido\"\nbreed = \"pug\"\n\n# Top-level table ends.\n[owner]\nname = \"Regina Dogman\"\nmember_since = 1999-08-04")
     [] (table (key (codes "name") ∷ key (codes "breed") ∷ key (codes "owner") ∷ []))
 unfolding on_texts
-root_table = shows (codes "# Top-level table begins.\nname = \"Fido\"\nbreed = \"pug\"\n\n# Top-level table ends.\n[owner]\nname = \"Regina Dogman\"\nmember_since = 1999-08-04") [] (table (key (codes "name") ∷ key (codes "breed") ∷ key (codes "owner") ∷ [])) refl refl
+root_table = shows (codes
+    "# Top-level table begins.\nname = \"Fido\"\nbreed = \"pug\"\n\n# Top-level table ends.\n[owner]\nname = \"Regina Dogman\"\nmember_since = 1999-08-04") [] (table (key (codes "name") ∷ key (codes "breed") ∷ key (codes "owner") ∷ [])) refl refl
 
 -- "Table": tables by dotted keys
 pub tables_by_dotted_keys : Shows

@@ -151,7 +151,8 @@ pub mixed_array : Shows
     (codes "numbers = [ 0.1, 0.2, 0.5, 1, 2, 5 ]\ncontributors = [\n  \"Foo Bar <foo@example.com>\",\n  { name = \"Baz Qux\", email = \"bazqux@example.com\", url = \"https://example.com/bazqux\" }\n]")
     (key (codes "contributors") ∷ index 1 ∷ key (codes "name") ∷ []) (string (codes "Baz Qux"))
 unfolding on_texts
-mixed_array = shows (codes "numbers = [ 0.1, 0.2, 0.5, 1, 2, 5 ]\ncontributors = [\n  \"Foo Bar <foo@example.com>\",\n  { name = \"Baz Qux\", email = \"bazqux@example.com\", url = \"https://example.com/bazqux\" }\n]") (key (codes "contributors") ∷ index 1 ∷ key (codes "name") ∷ []) (string (codes "Baz Qux")) refl refl
+mixed_array = shows (codes
+    "numbers = [ 0.1, 0.2, 0.5, 1, 2, 5 ]\ncontributors = [\n  \"Foo Bar <foo@example.com>\",\n  { name = \"Baz Qux\", email = \"bazqux@example.com\", url = \"https://example.com/bazqux\" }\n]") (key (codes "contributors") ∷ index 1 ∷ key (codes "name") ∷ []) (string (codes "Baz Qux")) refl refl
 
 -- "Array": over several lines, with a comma at the end
 pub array_over_lines : Shows

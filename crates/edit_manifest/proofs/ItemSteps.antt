@@ -27,7 +27,8 @@ split_map {A} {B} f xs i x h e =
 pub none_left : {A B : Type 0} (f : A → B) (xs : List A) (i : ℕ) → length xs ≤ i → map f (drop i xs) ≡ []
 none_left {A} {B} f xs i le = ap (map f) (drop_all i xs le)
 
-flat_of : {A B : Type 0} (f : A → B) (g : B → List ℕ) (xs : List A) → flat_map (λ x. g (f x)) xs ≡ flat_map g (map f xs)
+flat_of : {A B : Type 0} (f : A → B) (g : B → List ℕ) (xs : List A)
+    → flat_map (λ x. g (f x)) xs ≡ flat_map g (map f xs)
 flat_of f g [] = refl
 flat_of f g (x ∷ xs) = ap (λ l. g (f x) ++ l) (flat_of f g xs)
 

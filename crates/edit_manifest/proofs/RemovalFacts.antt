@@ -64,7 +64,8 @@ pub the_root : missing_table (node_at (([], table []) ∷ [])) [] ≡ None
 the_root = refl
 
 -- an empty table goes, and the empty root stays
-pub a_bare_table : bare_table (node_at ((keyed (codes "d" ∷ []), inline_table []) ∷ [])) (keyed (codes "d" ∷ []))
+pub a_bare_table : bare_table (node_at ((keyed (codes "d" ∷ []), inline_table []) ∷ []))
+    (keyed (codes "d" ∷ []))
     ≡ keyed (codes "d" ∷ []) ∷ []
 a_bare_table = refl
 

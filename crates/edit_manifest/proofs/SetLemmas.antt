@@ -23,7 +23,8 @@ edited_here place text t =
     ap (λ b. cond b (Some (string text)) (emptied (one_edit place text) t place)) (same_place_self place)
 
 -- what stands above the place is as it was
-edited_above : (place : Place) (s : Step) (text : List ℕ) (t : Tree) → edited (at place s) text t place ≡ t place
+edited_above : (place : Place) (s : Step) (text : List ℕ) (t : Tree)
+    → edited (at place s) text t place ≡ t place
 edited_above place s text t =
     ap (λ b. cond b (Some (string text)) (emptied (one_edit (at place s) text) t place))
     (other_place (at place s) place (not_below place s))
@@ -41,7 +42,8 @@ member_answered t u place literal text None reads e same = absurd cc
 member_answered t u place literal text (Some view) reads e same =
     let is : version_member place ≡ literal = ok_same (version_member place) literal e in
     let above : u place ≡ t place =
-    same place ∙ ap (λ l. edited l text t place) (sym is) ∙ edited_above place (key (codes "version")) text t in
+    same place ∙ ap (λ l. edited l text t place) (sym is) ∙ edited_above place (key (codes "version")) text t
+        in
     let here : u (version_member place) ≡ Some (string text) =
     same (version_member place) ∙ ap (λ l. edited l text t (version_member place)) (sym is)
     ∙ edited_here (version_member place) text t in

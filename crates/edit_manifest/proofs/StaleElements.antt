@@ -24,17 +24,20 @@ module _ (t : Tree) (held : Bool) (name : List ℕ) (array : Place) where
       → stale_back t held name array n ≡ at array (index m) ∷ stale_back t held name array m
   back_goes n m e h =
       ap (stale_back t held name array) e
-      ∙ ap (λ b. cond b (at array (index m) ∷ stale_back t held name array m) (stale_back t held name array m)) h
+      ∙ ap (λ b. cond b (at array (index m) ∷ stale_back t held name array m)
+          (stale_back t held name array m)) h
 
   -- one that stays
   pub back_stays : (n m : ℕ) → n ≡ suc m → goes held name (t (at array (index m))) ≡ false
       → stale_back t held name array n ≡ stale_back t held name array m
   back_stays n m e h =
       ap (stale_back t held name array) e
-      ∙ ap (λ b. cond b (at array (index m) ∷ stale_back t held name array m) (stale_back t held name array m)) h
+      ∙ ap (λ b. cond b (at array (index m) ∷ stale_back t held name array m)
+          (stale_back t held name array m)) h
 
   -- one that goes is told, and then those before it
-  pub told_goes : (n m : ℕ) (xs new : List (Vec WrittenStep)) (x : Vec WrittenStep) (all : List Place) → n ≡ suc m
+  pub told_goes : (n m : ℕ) (xs new : List (Vec WrittenStep)) (x : Vec WrittenStep) (all : List Place)
+      → n ≡ suc m
       → goes held name (t (at array (index m))) ≡ true → new ≡ xs ++ x ∷ []
       → place_seen x.items ≡ at array (index m)
       → places_seen xs ++ stale_back t held name array n ≡ all
@@ -55,7 +58,8 @@ module _ (t : Tree) (held : Bool) (name : List ℕ) (array : Place) where
   told_stays n m xs all e h told = sym (ap (λ l. places_seen xs ++ l) (back_stays n m e h)) ∙ told
 
   -- all of an array's
-  of_view : (v : View) → is_static_array v ≡ true → elements_of array (Some v) ≡ elements_back array (count_in v)
+  of_view : (v : View) → is_static_array v ≡ true → elements_of array (Some v)
+      ≡ elements_back array (count_in v)
   of_view (static_array n) e = refl
   of_view (string s) e = absurd cc
   of_view (truth b) e = absurd cc
@@ -79,20 +83,24 @@ module _ (t : Tree) (held : Bool) (name : List ℕ) (array : Place) where
 
   pub stale_all : (v : View) → t array ≡ Some v → is_static_array v ≡ true
       → stale_in t held name array ≡ stale_back t held name array (count_in v)
-  stale_all v e is = ap (λ ps. filter (λ p. goes held name (t p)) ps) (ap (elements_of array) e ∙ of_view v is)
+  stale_all v e is = ap (λ ps. filter (λ p. goes held name (t p)) ps)
+      (ap (elements_of array) e ∙ of_view v is)
 
   pub stale_none : (v : View) → t array ≡ Some v → is_static_array v ≡ false → stale_in t held name array ≡ []
-  stale_none v e is = ap (λ ps. filter (λ p. goes held name (t p)) ps) (ap (elements_of array) e ∙ of_other v is)
+  stale_none v e is = ap (λ ps. filter (λ p. goes held name (t p)) ps)
+      (ap (elements_of array) e ∙ of_other v is)
 
 -- ---- tests
 
 -- the first one that is left passes
-pub any_here : (test : Place → Bool) (ps : List Place) (p : Place) (more : List Place) → ps ≡ p ∷ more → test p ≡ true
+pub any_here : (test : Place → Bool) (ps : List Place) (p : Place) (more : List Place) → ps ≡ p ∷ more
+    → test p ≡ true
     → list_any test ps ≡ true
 any_here test ps p more e h = ap (list_any test) e ∙ ap (λ b. b || list_any test more) h
 
 -- it does not
-pub any_next : (test : Place → Bool) (ps : List Place) (p : Place) (more : List Place) → ps ≡ p ∷ more → test p ≡ false
+pub any_next : (test : Place → Bool) (ps : List Place) (p : Place) (more : List Place) → ps ≡ p ∷ more
+    → test p ≡ false
     → list_any test ps ≡ list_any test more
 any_next test ps p more e h = ap (list_any test) e ∙ ap (λ b. b || list_any test more) h
 

@@ -20,19 +20,23 @@ use Rattle.edit_manifest.specs.Tables.{Tree, member_names}
 abbrev AllOutlive : List Place → List Place → Type 0
 AllOutlive xs ys = AllByRecursion (λ x. AllByRecursion (Outlives x) ys) xs
 
-all_append : (P : Place → Type 0) (xs ys : List Place) → AllByRecursion P xs → AllByRecursion P ys → AllByRecursion P (xs ++ ys)
+all_append : (P : Place → Type 0) (xs ys : List Place) → AllByRecursion P xs → AllByRecursion P ys
+    → AllByRecursion P (xs ++ ys)
 all_append P [] ys a b = b
 all_append P (x ∷ xs) ys a b = (a.0, all_append P xs ys a.1 b)
 
-all_filter : (P : Place → Type 0) (test : Place → Bool) (xs : List Place) → AllByRecursion P xs → AllByRecursion P (filter test xs)
+all_filter : (P : Place → Type 0) (test : Place → Bool) (xs : List Place) → AllByRecursion P xs
+    → AllByRecursion P (filter test xs)
 all_filter P test [] a = tt
 all_filter P test (x ∷ xs) a = go (test x) (all_filter P test xs a.1)
   where
-    go : (b : Bool) → AllByRecursion P (filter test xs) → AllByRecursion P (cond b (x ∷ filter test xs) (filter test xs))
+    go : (b : Bool) → AllByRecursion P (filter test xs) → AllByRecursion P
+        (cond b (x ∷ filter test xs) (filter test xs))
     go true rest = (a.0, rest)
     go false rest = rest
 
-all_weaker : (P Q : Place → Type 0) → ((x : Place) → P x → Q x) → (xs : List Place) → AllByRecursion P xs → AllByRecursion Q xs
+all_weaker : (P Q : Place → Type 0) → ((x : Place) → P x → Q x) → (xs : List Place) → AllByRecursion P xs
+    → AllByRecursion Q xs
 all_weaker P Q f [] a = tt
 all_weaker P Q f (x ∷ xs) a = (f x a.0, all_weaker P Q f xs a.1)
 
@@ -77,7 +81,8 @@ not_less : (i j : ℕ) → j < i → nat_lt i j ≡ false
 not_less i j lt = search (arith)
 
 -- those of a feature do not move for a later one
-later_element : (f : List ℕ) (i j : ℕ) → j < i → Outlives (at (of_feature f) (index i)) (at (of_feature f) (index j))
+later_element : (f : List ℕ) (i j : ℕ) → j < i → Outlives (at (of_feature f) (index i))
+    (at (of_feature f) (index j))
 later_element f i j lt = by_test (same_bytes f f)
     (λ h. (
       ap (λ b. b && (i == j && true)) h ∙ ap (λ b. b && true) (not_same i j lt),
@@ -117,7 +122,8 @@ elements_in_turn f (Some (table ms)) = tt
 elements_own : (f : List ℕ) (o : Option View) → AllByRecursion (IsOf f) (elements_of (of_feature f) o)
 elements_own f None = tt
 elements_own f (Some (static_array n)) =
-    all_weaker (IsElement f n) (IsOf f) (λ q h. (h.0, h.2)) (elements_back (of_feature f) n) (back_elements f n)
+    all_weaker (IsElement f n) (IsOf f) (λ q h. (h.0, h.2)) (elements_back (of_feature f) n)
+        (back_elements f n)
 elements_own f (Some (string s)) = tt
 elements_own f (Some (truth b)) = tt
 elements_own f (Some (whole s)) = tt
@@ -161,15 +167,18 @@ module _ (t : Tree) (held : Bool) (name : List ℕ) where
       all_filter (IsOf f) (λ p. goes held name (t p)) (elements_of (of_feature f) (t (of_feature f)))
       (elements_own f (t (of_feature f)))
 
-  apart_elements : (f g : List ℕ) → same_bytes f g ≡ false → (p q : Place) → IsOf f p → IsOf g q → Outlives p q
+  apart_elements : (f g : List ℕ) → same_bytes f g ≡ false → (p q : Place) → IsOf f p → IsOf g q
+      → Outlives p q
   apart_elements f g e p q a b = rw (a.1, b.1) (other_feature f g a.0 b.0 e)
 
-  behind : (f : List ℕ) (p : Place) → IsOf f p → (ns : List (List ℕ)) → AllByRecursion (λ m. same_bytes f m ≡ false) ns
+  behind : (f : List ℕ) (p : Place) → IsOf f p → (ns : List (List ℕ))
+      → AllByRecursion (λ m. same_bytes f m ≡ false) ns
       → AllByRecursion (Outlives p) (of_names ns)
   behind f p a [] h = tt
   behind f p a (n ∷ ns) h =
       all_append (Outlives p) (stale_in t held name (of_feature n)) (of_names ns)
-      (all_weaker (IsOf n) (Outlives p) (λ q b. apart_elements f n h.0 p q a b) (stale_in t held name (of_feature n)) (stale_own n))
+      (all_weaker (IsOf n) (Outlives p) (λ q b. apart_elements f n h.0 p q a b)
+          (stale_in t held name (of_feature n)) (stale_own n))
       (behind f p a ns h.1)
 
   names_turn : (ns : List (List ℕ)) → Distinct ns → AreInTurn (of_names ns)
@@ -200,7 +209,8 @@ module _ (t : Tree) (held : Bool) (name : List ℕ) where
   strings_filter (p ∷ ps) = go (goes held name (t p)) refl (strings_filter ps)
     where
       go : (b : Bool) → goes held name (t p) ≡ b → AreStrings t (filter (λ p. goes held name (t p)) ps)
-          → AreStrings t (cond b (p ∷ filter (λ p. goes held name (t p)) ps) (filter (λ p. goes held name (t p)) ps))
+          → AreStrings t (cond b (p ∷ filter (λ p. goes held name (t p)) ps)
+              (filter (λ p. goes held name (t p)) ps))
       go true e rest = (string_goes (t p) e, rest)
       go false e rest = rest
 
@@ -211,8 +221,10 @@ module _ (t : Tree) (held : Bool) (name : List ℕ) where
       (strings_filter (elements_of (of_feature n) (t (of_feature n)))) (names_strings ns)
 
 -- the names of a document's features are distinct
-feature_names : (form : Text) (t : Tree) → ((p : Place) → t p ≡ view_at form p) → Distinct (member_names (t features))
-feature_names form t shows = rw (shows features) (go (view_at form features) (apart_view (assertions form) features))
+feature_names : (form : Text) (t : Tree) → ((p : Place) → t p ≡ view_at form p)
+    → Distinct (member_names (t features))
+feature_names form t shows = rw (shows features) (go (view_at form features)
+    (apart_view (assertions form) features))
   where
     go : (o : Option View) → ((i j : ℕ) (n : List ℕ) → slice_get (names_in (viewed o)) i ≡ Some n
         → slice_get (names_in (viewed o)) j ≡ Some n → i ≡ j) → Distinct (member_names o)
@@ -224,16 +236,19 @@ pub stale_turns : (form : Text) (t : Tree) (name : List ℕ) → ((p : Place) �
     → AreInTurn (stale_strings t name)
 stale_turns form t name shows = go (is_offered t name) (is_plain (t features))
   where
-    go : (b c : Bool) → AreInTurn (cond b [] (cond c (of_names t (is_held t name) name (member_names (t features))) []))
+    go : (b c : Bool) → AreInTurn (cond b [] (cond c (of_names t (is_held t name) name
+        (member_names (t features))) []))
     go true c = tt
-    go false true = names_turn t (is_held t name) name (member_names (t features)) (feature_names form t shows)
+    go false true = names_turn t (is_held t name) name (member_names (t features))
+        (feature_names form t shows)
     go false false = tt
 
 -- and they are strings
 pub stale_are_strings : (t : Tree) (name : List ℕ) → AreStrings t (stale_strings t name)
 stale_are_strings t name = go (is_offered t name) (is_plain (t features))
   where
-    go : (b c : Bool) → AreStrings t (cond b [] (cond c (of_names t (is_held t name) name (member_names (t features))) []))
+    go : (b c : Bool) → AreStrings t (cond b [] (cond c (of_names t (is_held t name) name
+        (member_names (t features))) []))
     go true c = tt
     go false true = names_strings t (is_held t name) name (member_names (t features))
     go false false = tt

@@ -14,11 +14,13 @@ use Rattle.edit_tree.proofs.SamePlace.{same_place_is}
 use Rattle.edit_manifest.specs.Removals.{HasString, Outlives}
 
 -- a value is asserted by itself, so it stays where it is not in what goes
-value_stays : (made xs : List Assertion) (gone q : Place) (v : Value) → AreMade made xs → is_within gone q ≡ false
+value_stays : (made xs : List Assertion) (gone q : Place) (v : Value) → AreMade made xs
+    → is_within gone q ≡ false
     → kind_at xs q ≡ Some (leaf v) → kind_at (staying gone xs) q ≡ Some (leaf v)
 value_stays made [] gone q v all out e = absurd cc
 value_stays made (x ∷ xs) gone q v all out e =
-    by_test (same_place x.place q) here (λ other. there other (value_stays made xs gone q v all.1 out (rest other)))
+    by_test (same_place x.place q) here (λ other. there other
+        (value_stays made xs gone q v all.1 out (rest other)))
   where
     kept : Bool → Option Kind
     kept b = kind_at (cond (not b) (x ∷ staying gone xs) (staying gone xs)) q
@@ -42,7 +44,8 @@ value_stays made (x ∷ xs) gone q v all out e =
         by_test (is_within gone x.by) (λ h. ap kept h ∙ more) (λ h. ap kept h ∙ ap first other ∙ more)
 
 -- what a string's value says, whatever else is asserted
-said : (made xs : List Assertion) (q : Place) (v : Value) (text : List ℕ) → view_of_value made q v ≡ string text
+said : (made xs : List Assertion) (q : Place) (v : Value) (text : List ℕ)
+    → view_of_value made q v ≡ string text
     → view_of_value xs q v ≡ string text
 said made xs q (basic ps) text e = e
 said made xs q (literal t) text e = e
@@ -87,7 +90,8 @@ same_string _ _ text e (tables ms ns h) = absurd cc
 same_string _ _ text e (inline_tables ms ns h) = absurd cc
 
 -- a string of a document, in the tree that is left
-pub string_stays : (form : Text) (gone q : Place) (new : Tree) → Removed gone (assertions form) new → Outlives gone q
+pub string_stays : (form : Text) (gone q : Place) (new : Tree) → Removed gone (assertions form) new
+    → Outlives gone q
     → HasString (view_at form) q → HasString new q
 string_stays form gone [] new removed out h = absurd cc
 string_stays form gone (s ∷ ss) new removed out h =
@@ -98,4 +102,5 @@ string_stays form gone (s ∷ ss) new removed out h =
     let left : tree_left gone made q ≡ Some (string h.0) =
     ap (λ o. option_map (shrunk gone q) (option_map (view_of_kind (staying gone made) q) o)) stays
     ∙ ap (λ v. Some (shrunk gone q v)) (is.says (staying gone made)) in
-    (h.0, ap new (sym out.1) ∙ same_string (tree_left gone made q) (new (moved gone q)) h.0 left (removed.elsewhere q out.0))
+    (h.0, ap new (sym out.1) ∙ same_string (tree_left gone made q) (new (moved gone q)) h.0 left
+        (removed.elsewhere q out.0))

@@ -37,9 +37,11 @@ member_keyed n [] = refl
 member_keyed n (m ∷ ns) = member_keyed m ns
 
 -- a member that was removed is not there
-pub member_gone : (p : Place) (n : List ℕ) (form : Text) (new : Tree) → Removed (at p (key n)) (assertions form) new
+pub member_gone : (p : Place) (n : List ℕ) (form : Text) (new : Tree)
+    → Removed (at p (key n)) (assertions form) new
     → new (at p (key n)) ≡ None
-member_gone p n form new removed = removed.nothing_there (member_at p n) (at p (key n)) (inside_self (at p (key n)))
+member_gone p n form new removed = removed.nothing_there (member_at p n) (at p (key n))
+    (inside_self (at p (key n)))
 
 -- nor is what stood in a table that was
 pub inner_gone : (path : List (List ℕ)) (p : Place) (n : List ℕ) (form : Text) (new : Tree) → p ≡ keyed path
@@ -88,12 +90,14 @@ bare_some t (s ∷ ss) inner e = ap (λ b. cond b ((s ∷ ss) ∷ []) []) e
 
 -- ---- both removals
 
-module _ (path : List (List ℕ)) (name : List ℕ) (old : Shown) (form : Text) (r p : Place) (table : r ≡ keyed path)
+module _ (path : List (List ℕ)) (name : List ℕ) (old : Shown) (form : Text) (r p : Place)
+    (table : r ≡ keyed path)
     (entry : p ≡ at r (key name)) (reads : IsManifest old.bytes form) where
   place_is : p ≡ entry_of path name
   place_is = entry ∙ ap (λ q. at q (key name)) table
 
-  pub taken_out : (middle new : Shown) (g : Text) → missing_table (tree_of old) path ≡ None → (tree_of old p ≡ None → ⊥)
+  pub taken_out : (middle new : Shown) (g : Text) → missing_table (tree_of old) path ≡ None
+      → (tree_of old p ≡ None → ⊥)
       → middle.bytes ≡ removed_text p form → IsManifest middle.bytes g → ShowsTree middle g
       → Without (bare_table (tree_of middle) r) middle.bytes new.bytes → TakesOut path name old new
   taken_out middle new g tables stood bytes again shows rest = record {
@@ -105,7 +109,8 @@ module _ (path : List (List ℕ)) (name : List ℕ) (old : Shown) (form : Text) 
     form = g;
     reads = again;
     emptied = subst (λ (ps : List Place). Without ps middle.bytes new.bytes)
-        (ap (bare_table (tree_of middle)) table ∙ bare_same (tree_of middle) (view_at g) (keyed path) (shows (keyed path)))
+        (ap (bare_table (tree_of middle)) table ∙ bare_same (tree_of middle) (view_at g) (keyed path)
+            (shows (keyed path)))
         rest;
   }
 
@@ -134,7 +139,8 @@ module _ (path : List (List ℕ)) (name : List ℕ) (old : Shown) (form : Text) 
 
   -- its table cannot
   pub table_kept : (middle : Shown) (g : Text) (e : Error) → missing_table (tree_of old) path ≡ None
-      → (tree_of old p ≡ None → ⊥) → middle.bytes ≡ removed_text p form → IsManifest middle.bytes g → ShowsTree middle g
+      → (tree_of old p ≡ None → ⊥) → middle.bytes ≡ removed_text p form → IsManifest middle.bytes g
+          → ShowsTree middle g
       → IsMemory e ⊎ ((e ≡ EditRefused) × OneStays (bare_table (tree_of middle) r) middle.bytes)
       → IsNotTakenOut path name old e
   table_kept middle g e tables stood bytes again shows (inl memory) = inl memory
@@ -145,6 +151,7 @@ module _ (path : List (List ℕ)) (name : List ℕ) (old : Shown) (form : Text) 
             (subst (λ q. Without (q ∷ []) old.bytes middle.bytes) place_is
             (without_one p form old.bytes middle.bytes reads bytes)) again
             (subst (λ (ps : List Place). OneStays ps middle.bytes)
-            (ap (bare_table (tree_of middle)) table ∙ bare_same (tree_of middle) (view_at g) (keyed path) (shows (keyed path)))
+            (ap (bare_table (tree_of middle)) table ∙ bare_same (tree_of middle) (view_at g) (keyed path)
+                (shows (keyed path)))
             why.1),
       )

@@ -13,7 +13,8 @@ use Rattle.edit_manifest.proofs.StayingStrings.{string_stays}
 -- the text without one item
 pub without_one : (place : Place) (form : Text) (old new : List ℕ) → IsManifest old form
     → new ≡ removed_text place form → Without (place ∷ []) old new
-without_one place form old new reads e = next place [] form old new reads (rw e (none (removed_text place form)))
+without_one place form old new reads e = next place [] form old new reads
+    (rw e (none (removed_text place form)))
 
 -- and without one more
 pub without_more : (places : List Place) (place : Place) (form : Text) (old middle new : List ℕ)
@@ -21,7 +22,8 @@ pub without_more : (places : List Place) (place : Place) (form : Text) (old midd
     → Without (places ++ place ∷ []) old new
 without_more _ place form _ middle new (none bytes) reads e = without_one place form middle new reads e
 without_more _ place form _ middle new (next p more g old last is rest) reads e =
-    next p (more ++ place ∷ []) g old new is (without_more more place form (removed_text p g) last new rest reads e)
+    next p (more ++ place ∷ []) g old new is (without_more more place form (removed_text p g) last new rest
+        reads e)
 
 -- the first cannot be removed
 pub first_stays : (place : Place) (more : List Place) (old : List ℕ) → RemoveFails place old

@@ -50,7 +50,8 @@ members_of_two : member_manifests workspace.packages ≡
 members_of_two = refl
 
 -- a member without one counts for nothing
-least_of_some : least (None ∷ Some (1, 71, 0) ∷ None ∷ Some (1, 70, 9) ∷ Some (2, 0, 0) ∷ []) ≡ Some (1, 70, 9)
+least_of_some : least (None ∷ Some (1, 71, 0) ∷ None ∷ Some (1, 70, 9) ∷ Some (2, 0, 0) ∷ [])
+    ≡ Some (1, 70, 9)
 least_of_some = refl
 
 least_of_none : least (None ∷ None ∷ []) ≡ None

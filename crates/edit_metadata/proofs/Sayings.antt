@@ -18,7 +18,8 @@ use Rattle.edit_metadata.proofs.Zipped.{zipped-as, zipped-once}
 
 -- ---- versions
 
-read-ok : (text : List ℕ) (r : Result Parts semver_error.Error) (v : Parts) → version_parts text ≡ r → result_ok r ≡ Some v → IsReadable v
+read-ok : (text : List ℕ) (r : Result Parts semver_error.Error) (v : Parts) → version_parts text ≡ r
+    → result_ok r ≡ Some v → IsReadable v
 read-ok text (Ok p) v read is = readable-read text v (read ∙ ap Ok (some-same p v is))
 read-ok text (Err e) v read is = cc is
 
@@ -27,17 +28,21 @@ read-some None v is = cc is
 read-some (Some text) v is = read-ok text (version_parts text) v refl is
 
 -- the versions of packages that are said can be read
-pub versions-readable : (listed : List ℕ → Bool) (ds : List Data) (ps : List Package) → AllZip (SaysPackage listed) ds (map package_said ps)
+pub versions-readable : (listed : List ℕ → Bool) (ds : List Data) (ps : List Package)
+    → AllZip (SaysPackage listed) ds (map package_said ps)
     → (k : ℕ) (p : Package) → k < length ps → IsReadable (parts_of (slice_index_or ps k p).version)
 versions-readable listed ds [] all k p within = absurd (omega arith)
 versions-readable listed [] (q ∷ ps) all k p within = absurd all
-versions-readable listed (d ∷ ds) (q ∷ ps) all zero p within = read-some (text_at (codes "version") d) (parts_of q.version) all.0.version
-versions-readable listed (d ∷ ds) (q ∷ ps) all (suc k) p within = versions-readable listed ds ps all.1 k p (omega (arith, within))
+versions-readable listed (d ∷ ds) (q ∷ ps) all zero p within = read-some (text_at (codes "version") d)
+    (parts_of q.version) all.0.version
+versions-readable listed (d ∷ ds) (q ∷ ps) all (suc k) p within = versions-readable listed ds ps all.1 k p
+    (omega (arith, within))
 
 -- ---- ids
 
 -- a package, where the same ids are listed
-pub says-as : (f g : List ℕ → Bool) → ((id : List ℕ) → f id ≡ g id) → (d : Data) (p : PackageSaid) → SaysPackage f d p → SaysPackage g d p
+pub says-as : (f g : List ℕ → Bool) → ((id : List ℕ) → f id ≡ g id) → (d : Data) (p : PackageSaid)
+    → SaysPackage f d p → SaysPackage g d p
 says-as f g same d p says = record {
   name = says.name;
   id = says.id;
@@ -50,7 +55,8 @@ says-as f g same d p says = record {
 }
 
 -- packages, where the same ids are listed
-pub packages-as : (f g : List ℕ → Bool) → ((id : List ℕ) → f id ≡ g id) → (ds : List Data) (ps : List PackageSaid)
+pub packages-as : (f g : List ℕ → Bool) → ((id : List ℕ) → f id ≡ g id)
+    → (ds : List Data) (ps : List PackageSaid)
     → AllZip (SaysPackage f) ds ps → AllZip (SaysPackage g) ds ps
 packages-as f g same ds ps = zipped-as (SaysPackage f) (SaysPackage g) ds ps (says-as f g same)
 
@@ -59,11 +65,14 @@ pub ids-once : (ds : List Data) (xs ys : List (List ℕ)) → AllZip IsText ds x
 ids-once ds xs ys = zipped-once IsText ds xs ys (λ d x y a b. some-same x y (sym a ∙ b))
 
 -- the packages of a workspace that is said, over the values and the ids that stand there
-pub packages-within : (d : Data) (w : WorkspaceSaid) (listed said : List Data) (ids : List (List ℕ)) → SaysWorkspace d w
-    → values_at (codes "workspace_members") d ≡ Some listed → AllZip IsText listed ids → values_at (codes "packages") d ≡ Some said
+pub packages-within : (d : Data) (w : WorkspaceSaid) (listed said : List Data) (ids : List (List ℕ))
+    → SaysWorkspace d w
+    → values_at (codes "workspace_members") d ≡ Some listed → AllZip IsText listed ids
+        → values_at (codes "packages") d ≡ Some said
     → AllZip (SaysPackage (is_listed ids)) said w.packages
 packages-within d w listed said ids says members are packages =
     let same = some-same says.listed listed (sym says.has_members ∙ members) in
     let own = ids-once listed says.ids ids (subst (λ xs. AllZip IsText xs says.ids) same says.are_ids) are in
     subst (λ xs. AllZip (SaysPackage (is_listed xs)) said w.packages) own
-    (subst (λ xs. AllZip (SaysPackage (is_listed says.ids)) xs w.packages) (some-same says.said said (sym says.has_packages ∙ packages)) says.packages)
+    (subst (λ xs. AllZip (SaysPackage (is_listed says.ids)) xs w.packages)
+        (some-same says.said said (sym says.has_packages ∙ packages)) says.packages)

@@ -123,7 +123,8 @@ all_new (s ∷ ss) = ap (λ l. s ∷ l) (all_new ss)
 -- the texts of the set, in their order
 pub set_once : (xs : List (String Global))
     → map string_bytes (insert_all string_eq [] xs) ≡ each_once (map string_bytes xs)
-set_once xs = keys_join [] xs ∙ joined_once [] (map string_bytes xs) ∙ all_new (each_once (map string_bytes xs))
+set_once xs = keys_join [] xs ∙ joined_once [] (map string_bytes xs)
+    ∙ all_new (each_once (map string_bytes xs))
 
 -- ---- features that are refused
 

@@ -124,7 +124,8 @@ path-read : (root : List ℕ) (r : EntryRecord) (dep path : List ℕ) (version :
 path-read root r dep path None = rw (no_git r, no_version r) refl
 path-read root r dep path (Some v) = rw (no_git r) refl
 
-pub origin-read : (root : List ℕ) (r : EntryRecord) (dep : List ℕ) (registry : Option (List ℕ)) (origin : Origin)
+pub origin-read : (root : List ℕ) (r : EntryRecord) (dep : List ℕ) (registry : Option (List ℕ))
+    (origin : Origin)
     → IsPlainSource registry origin
     → origin_in root r dep (origin_members root (Some origin)) ≡ Ok (origin_again root origin)
 origin-read root r dep registry (from_registry version) h = rw (no_git r, no_path r) refl

@@ -113,7 +113,8 @@ module _ (f : End → Option Change) (entry : Place) (xs : List WrittenEnd) (i :
       → Changed entry (filter_map f (ends_seen (take i xs))) old mid
       → Changed entry (filter_map f (ends_seen (take (i + 1) xs))) old mid
   none_asked old mid is h =
-      let same = given ∙ ap (λ (o : Option Change). filter_map f (ends_seen (take i xs)) ++ cons_option o []) is
+      let same = given ∙ ap (λ (o : Option Change). filter_map f (ends_seen (take i xs)) ++ cons_option o [])
+          is
       ∙ append-nil (filter_map f (ends_seen (take i xs))) in
       subst (λ cs. Changed entry cs old mid) (sym same) h
 
@@ -204,15 +205,18 @@ entry_ends i d place root r es same there is =
 decided : (d : Shown) (form : Text) (place : Place) (v : Option View) (b c : Bool)
     → tree_of d place ≡ v → b ≡ (is_one_statement form place && is_slight v) → b ≡ c
     → (is_one_statement form place && is_slight (tree_of d place)) ≡ c
-decided d form place v b c here is same = ap (λ o. is_one_statement form place && is_slight o) here ∙ sym is ∙ same
+decided d form place v b c here is same = ap (λ o. is_one_statement form place && is_slight o) here ∙ sym is
+    ∙ same
 
-pub item_other : (d : Shown) (form : Text) (place : Place) (root : List ℕ) (r : EntryRecord) (v : Option View) (b : Bool)
+pub item_other : (d : Shown) (form : Text) (place : Place) (root : List ℕ) (r : EntryRecord) (v : Option View)
+    (b : Bool)
     → ShowsTree d form → tree_of d place ≡ v → b ≡ (is_one_statement form place && is_slight v) → b ≡ true
     → update_in form place root r ≡ replaced_by (item_of root r)
 item_other d form place root r v b shows here is same =
     is_other d form place root r shows (decided d form place v b true here is same)
 
-pub item_changed : (i : Item) (d : Shown) (form : Text) (place : Place) (root : List ℕ) (r : EntryRecord) (es : List End)
+pub item_changed : (i : Item) (d : Shown) (form : Text) (place : Place) (root : List ℕ) (r : EntryRecord)
+    (es : List End)
     (v : Option View) (b : Bool)
     → ShowsTree d form → document_of i ≡ d → place_of i ≡ place → es ≡ ends (shown_at i) root r
     → tree_of d place ≡ v → b ≡ (is_one_statement form place && is_slight v) → b ≡ false

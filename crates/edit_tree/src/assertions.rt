@@ -157,7 +157,7 @@ fn add(
 }
 
 /// Adds an element to an array. Answers its number, or nothing where it would have more than 80 steps.
-pub fn add_element(
+pub(crate) fn add_element(
     alloc: Global,
     nodes: &mut Vec<Node>,
     number: usize,
@@ -193,7 +193,7 @@ pub fn add_element(
 
 /// Asserts a member of the node of a number: the one of the name where there is one, else a new one. Answers
 /// the number of the node whose place is taken, or nothing where it may not be.
-pub fn assert_member(
+pub(crate) fn assert_member(
     alloc: Global,
     text: &str,
     nodes: &mut Vec<Node>,
@@ -220,7 +220,7 @@ pub fn assert_member(
 
 /// The number of the table in which the last part of a key stands,
 /// from the table of a number on: each part before it takes a place.
-pub fn reach(
+pub(crate) fn reach(
     alloc: Global,
     text: &str,
     nodes: &mut Vec<Node>,

@@ -23,7 +23,7 @@ impl Walk {
     }
 
     /// The waiting key becomes a header.
-    pub fn head(&mut self, alloc: Global, text: &str) -> CargoResult<bool>
+    pub(crate) fn head(&mut self, alloc: Global, text: &str) -> CargoResult<bool>
         ensures goes { (st : State) → Walks text.now self.old st
             → IfOk result (Goes text.now self.new (headed st)) }
         ensures refused { IfErr result IsMemory }
@@ -45,7 +45,7 @@ impl Walk {
     }
 
     /// The waiting key becomes the header of an element.
-    pub fn head_element(&mut self, alloc: Global, text: &str) -> CargoResult<bool>
+    pub(crate) fn head_element(&mut self, alloc: Global, text: &str) -> CargoResult<bool>
         ensures goes { (st : State) → Walks text.now self.old st
             → IfOk result (Goes text.now self.new (element_headed st)) }
         ensures refused { IfErr result IsMemory }

@@ -1,10 +1,10 @@
-//! What the statements of a document assert, the table of nodes that a walk over its marks makes of them, and,
-//! as definitions, what each edit of a document writes and means.
+//! What the statements of a document assert, the table of nodes that a walk over its marks makes of them,
+//! and, as definitions, what each edit of a document writes and means.
 #![tactic(auto)]
 
-pub mod assertions;
+mod assertions;
 pub mod cut;
-pub mod heads;
+mod heads;
 pub mod nodes;
 pub mod walk;
 pub mod words;

@@ -147,7 +147,7 @@ fn push_exact(list: &mut Vec<Member>, member: Member) -> CargoResult<()>
 }
 
 impl Members {
-    pub fn none(alloc: Global) -> Members
+    pub(crate) fn none(alloc: Global) -> Members
         ensures empty { (text : List ℕ) → entries_of text result ≡ [] }
         ensures indexed { (text : List ℕ) → IsIndexed text result }
     {
@@ -194,7 +194,7 @@ impl Members {
     }
 
     /// Adds a member.
-    pub fn insert(
+    pub(crate) fn insert(
         &mut self,
         alloc: Global,
         text: &str,
@@ -281,7 +281,7 @@ pub fn words_in<'a>(text: &'a str, words: &'a Words) -> &'a str
 }
 
 /// The same words once more.
-pub fn copied(alloc: Global, words: &Words) -> CargoResult<Words>
+pub(crate) fn copied(alloc: Global, words: &Words) -> CargoResult<Words>
     ensures same { (text : List ℕ) → IfOk result (λ copy. bytes_of text copy ≡ bytes_of text words.now) }
     ensures refused { IfErr result IsMemory }
 {

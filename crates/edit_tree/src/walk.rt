@@ -18,9 +18,9 @@ use std::alloc::Global;
 /// The nodes so far; the numbers of the header and of the arrays and inline tables that are open, the
 /// innermost last; and the parts of the key that waits for its value: the last one, and those before it.
 #[derive(Drop)]
-pub struct Walk {
-    pub nodes: Vec<Node>,
-    pub tables: Vec<usize>,
+pub(crate) struct Walk {
+    pub(crate) nodes: Vec<Node>,
+    pub(crate) tables: Vec<usize>,
     fronts: Vec<Words>,
     name: Option<Words>,
 }
@@ -87,7 +87,7 @@ impl Walk {
     }
 
     /// The waiting key takes a place below a table. Answers the number of its node.
-    pub fn settle(
+    pub(crate) fn settle(
         &mut self,
         alloc: Global,
         text: &str,

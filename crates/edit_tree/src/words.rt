@@ -37,7 +37,7 @@ pub fn words_of(alloc: Global, text: &str, mark: Mark) -> CargoResult<Words>
 }
 
 /// What the token of a string, a number, a date or a time shows.
-pub fn worded(alloc: Global, text: &str, mark: Mark) -> CargoResult<Content>
+pub(crate) fn worded(alloc: Global, text: &str, mark: Mark) -> CargoResult<Content>
     ensures shows { (name : List ℕ) → SaysAt text.now mark name
         → IfOk result (λ c. shape_of text.now c ≡ shape_said mark.kind name) }
     ensures refused { IfErr result IsMemory }

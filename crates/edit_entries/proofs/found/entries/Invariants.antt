@@ -7,4 +7,5 @@ use Rattle.edit_entries.specs.EntryViews.{entry_view}
 use Rattle.edit_entries.proofs.found.entries.Given as goal
 
 abbrev pub invariant-tables : goal.invariant-tables
-invariant-tables l = map entry_view l.entries.items ≡ flat_map (entries_of (tree_of l.document) l.root) (places_seen (take l.table-index l.table-items))
+invariant-tables l = map entry_view l.entries.items ≡ flat_map (entries_of (tree_of l.document) l.root)
+    (places_seen (take l.table-index l.table-items))

@@ -16,8 +16,10 @@ pub places-init : goal.places-init
 places-init c =
     let same = c.in_ok-left.ensures.same in
     record {
-      without = subst (λ d. Without [] c.args.document.now.bytes d.bytes) (sym same) (none c.args.document.now.bytes);
-      strings = subst (λ d. AreStrings (tree_of d) (places_seen c.args.places.now)) (sym same) c.requires.strings;
+      without = subst (λ d. Without [] c.args.document.now.bytes d.bytes) (sym same)
+          (none c.args.document.now.bytes);
+      strings = subst (λ d. AreStrings (tree_of d) (places_seen c.args.places.now)) (sym same)
+          c.requires.strings;
       apart = c.requires.apart;
     }
 
@@ -69,7 +71,8 @@ places-preserved c =
     let done = c.in_ok-remove.ensures {u = tt} in
     record {
       without = subst (λ ps. Without ps c.args.document.now.bytes c.remove.new.self.bytes) (sym taken)
-          (without_more front place form.0 _ _ _ c.places.invariant.without form.1 (done.bytes form.0 form.1));
+          (without_more front place form.0 _ _ _ c.places.invariant.without form.1
+              (done.bytes form.0 form.1));
       strings = strings_left form.0 place rest (tree_of c.remove.new.self) (done.tree form.0 form.1) turns.0
           (strings_along (tree_of c.places.left) (view_at form.0) rest shows strings.1);
       apart = turns.1;

@@ -5,4 +5,5 @@ use Rattle.edit_metadata.specs.Workspaces.{member_paths, packages_said}
 use Rattle.edit_metadata.proofs.folders.member_folders.Given as goal
 
 abbrev pub invariant-packages : goal.invariant-packages
-invariant-packages l = AllZip IsManifestFolder (member_paths (packages_said (take l.package-index l.packages))) (map string_bytes l.folders.items)
+invariant-packages l = AllZip IsManifestFolder (member_paths
+    (packages_said (take l.package-index l.packages))) (map string_bytes l.folders.items)

@@ -17,7 +17,8 @@ returns-in_err-inputs-clause-refused g c =
     let why : IsNoInput (g.S.Store.view c.args.store.now) (g.S.Store.view c.member_inputs.new.store)
     (manifests said) c.in_err-inputs.field-0.0
     = no-input-among (g.S.Store.view c.args.store.now) (g.S.Store.view c.member_inputs.new.store)
-    (member_manifests (packages_said c.deref.result.now)) _ _ (λ m has. Contains-append_right (root_manifest said ∷ [])
+    (member_manifests (packages_said c.deref.result.now)) _ _
+        (λ m has. Contains-append_right (root_manifest said ∷ [])
     (member_manifests said.packages) m
     (subst (λ ps. Contains (member_manifests (packages_said ps)) m) c.deref.ensures.value has))
     c.in_err-inputs.ensures.refused in
@@ -65,7 +66,8 @@ returns-clause-inputs g c =
     let input = c.in_ok-input.input in
     let root : IsInputOf asked (root_manifest said) input = record {
       name = c.in_ok-input.ensures.name;
-      path = subst (λ s. IsNormalOf (root_manifest said).path (string_bytes s)) (sym c.in_ok-input.ensures.path)
+      path = subst (λ s. IsNormalOf (root_manifest said).path (string_bytes s))
+          (sym c.in_ok-input.ensures.path)
           c.in_ok-root.ensures.path;
       rust_version = ap (option_map numbers_of) c.in_ok-input.ensures.rust_version
           ∙ c.rust_version_for-own.ensures

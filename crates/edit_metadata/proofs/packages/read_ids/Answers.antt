@@ -11,7 +11,8 @@ values-preserved c =
     let ids = c.values.invariant.0 in
     let key = c.in-Some.id.now in (
       ids ++ key ∷ [],
-      zipped-more view IsText c.args.values.now ids c.values.value-index c.value-item.result key c.values-test.true c.value-item.is c.values.invariant.1 (sym c.in-Some.ensures),
+      zipped-more view IsText c.args.values.now ids c.values.value-index c.value-item.result key
+          c.values-test.true c.value-item.is c.values.invariant.1 (sym c.in-Some.ensures),
       λ id. holds-more key c.values.ids c.insert.new.self c.in_ok-insert.ensures.updates id
           ∙ ap (λ b. cond (bytes_eq key id) true b) (c.values.invariant.2 id)
           ∙ sym (is_listed-more ids key id),
@@ -20,6 +21,7 @@ values-preserved c =
 pub returns-in_default : goal.returns-in_default
 returns-in_default c = inr (
   refl,
-  none-zipped view IsText c.args.values.now c.values.value-index c.value-item.result c.values-test.true c.value-item.is
+  none-zipped view IsText c.args.values.now c.values.value-index c.value-item.result c.values-test.true
+      c.value-item.is
       (λ y says. cc (c.in_default.ensures ∙ says)),
 )

@@ -7,4 +7,5 @@ use Rattle.serde_json.specs.View.{view}
 use Rattle.edit_metadata.proofs.packages.read_packages.Given as goal
 
 abbrev pub invariant-values : goal.invariant-values
-invariant-values l = AllZip (SaysPackage (holds l.ids)) (map view (take l.value-index l.values)) (map package_said l.packages.items)
+invariant-values l = AllZip (SaysPackage (holds l.ids)) (map view (take l.value-index l.values))
+    (map package_said l.packages.items)

@@ -12,8 +12,11 @@ returns-in_err-packages c =
     let why : IsUnsaid (SaysWorkspace d) c.in_err-packages.field-0.0
     = ⊎_elim (λ memory. inl memory) (λ unsaid. inr (
       unsaid.0,
-      λ w says. unsaid.1 w.packages (packages-as (is_listed c.in_ok-ids.ensures.0) (holds c.in_ok-ids.ids) (λ id. sym (c.in_ok-ids.ensures.2 id)) (map view c.in-Some-values_at.packages.now) w.packages
-          (packages-within d w (map view c.in-Some.ids.now) (map view c.in-Some-values_at.packages.now) c.in_ok-ids.ensures.0 says (sym c.in-Some.ensures) c.in_ok-ids.ensures.1 (sym c.in-Some-values_at.ensures))),
+      λ w says. unsaid.1 w.packages (packages-as (is_listed c.in_ok-ids.ensures.0) (holds c.in_ok-ids.ids)
+          (λ id. sym (c.in_ok-ids.ensures.2 id)) (map view c.in-Some-values_at.packages.now) w.packages
+          (packages-within d w (map view c.in-Some.ids.now) (map view c.in-Some-values_at.packages.now)
+              c.in_ok-ids.ensures.0 says (sym c.in-Some.ensures) c.in_ok-ids.ensures.1
+              (sym c.in-Some-values_at.ensures))),
     )) c.in_err-packages.ensures in
     search (rules, why)
 
@@ -27,5 +30,7 @@ returns c = record {
   are_ids = c.in_ok-ids.ensures.1;
   said = map view c.in-Some-values_at.packages.now;
   has_packages = sym c.in-Some-values_at.ensures;
-  packages = packages-as (holds c.in_ok-ids.ids) (is_listed c.in_ok-ids.ensures.0) c.in_ok-ids.ensures.2 (map view c.in-Some-values_at.packages.now) (packages_said c.in_ok-packages.packages.items) c.in_ok-packages.ensures;
+  packages = packages-as (holds c.in_ok-ids.ids) (is_listed c.in_ok-ids.ensures.0) c.in_ok-ids.ensures.2
+      (map view c.in-Some-values_at.packages.now) (packages_said c.in_ok-packages.packages.items)
+      c.in_ok-packages.ensures;
 }

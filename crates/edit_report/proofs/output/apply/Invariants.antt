@@ -6,5 +6,6 @@ abbrev pub invariant-loop-output : goal.invariant-loop-output
 invariant-loop-output g l = record {
   tells : (g.S.Store.view l.store).tells ≡ (g.S.Store.view l.initial.store).tells;
   later : (g.S.Store.view l.initial.store).faults ≤ (g.S.Store.view l.store).faults;
-  written : AreWritten (take l.output-index l.outputs) (g.S.Store.view l.initial.store) (g.S.Store.view l.store);
+  written : AreWritten (take l.output-index l.outputs) (g.S.Store.view l.initial.store)
+      (g.S.Store.view l.store);
 }

@@ -20,5 +20,6 @@ returns-then-is_table_like-clause-record c =
     let dep = c.args.key.now in
     let same = ap (entry_record item root dep) c.stands.ensures
     ∙ table_entry item root dep (view_of c.args.item) (sym c.if-is_table_like.ensures) in
-    subst (λ (x : Result EntryRecord Refusal). IfOk c.table_record.result (λ d. x ≡ Ok (record_view d))) (sym same)
+    subst (λ (x : Result EntryRecord Refusal). IfOk c.table_record.result (λ d. x ≡ Ok (record_view d)))
+        (sym same)
     c.table_record.ensures.ok

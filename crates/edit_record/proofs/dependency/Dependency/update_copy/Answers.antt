@@ -18,7 +18,8 @@ replace_entry-requires-clause-one c = λ form is.
 
 pub replace_entry-requires-clause-entry : goal.replace_entry-requires-clause-entry
 replace_entry-requires-clause-entry c =
-    subst IsEntry (sym c.in_ok-new.ensures.item) (is_entry c.args.crate_root.now (record_view c.args.self.now))
+    subst IsEntry (sym c.in_ok-new.ensures.item) (is_entry c.args.crate_root.now
+        (record_view c.args.self.now))
 
 pub returns-then-is_replaced-clause-text : goal.returns-then-is_replaced-clause-text
 returns-then-is_replaced-clause-text c =
@@ -64,7 +65,8 @@ returns-in_err-write_members-clause-refused c =
             let place = place_seen c.args.entry.now in
             let all = c.in_ok-ends.ends.items in
             let becomes = item_changed c.in-Some.item c.args.document.now form place c.args.crate_root.now
-            (record_view c.args.self.now) (ends_seen all) _ _ (c.has_form.ensures.shows form is) c.in-Some.ensures.0
+            (record_view c.args.self.now) (ends_seen all) _ _ (c.has_form.ensures.shows form is)
+                c.in-Some.ensures.0
             c.in-Some.ensures.1 c.in_ok-ends.ensures.ok c.in-Some.ensures.2 (c.is_replaced.ensures form is)
             c.if-is_replaced.false in
             subst (λ u. BecomingFails place u c.args.document.now.bytes) (sym becomes)
@@ -110,7 +112,8 @@ returns-clause-refused c =
             let old = c.args.document.now.bytes in
             let mid = c.write_members.new.document.bytes in
             let becomes = item_changed c.in-Some.item c.args.document.now form place c.args.crate_root.now
-            (record_view c.args.self.now) (ends_seen all) _ _ (c.has_form.ensures.shows form is) c.in-Some.ensures.0
+            (record_view c.args.self.now) (ends_seen all) _ _ (c.has_form.ensures.shows form is)
+                c.in-Some.ensures.0
             c.in-Some.ensures.1 c.in_ok-ends.ensures.ok c.in-Some.ensures.2 (c.is_replaced.ensures form is)
             c.if-is_replaced.false in
             subst (λ u. BecomingFails place u old) (sym becomes)

@@ -15,7 +15,8 @@ returns-in-BasicPart-clause-text c said says = c.decoded.ensures.text said
     (basic_line c.args.content.now said
     (basic_says c.args.kind c.args.content.now said c.in-BasicPart.is says))
 
-pub returns-in_ok-from_str-in-MultiLiteralString-clause-text : goal.returns-in_ok-from_str-in-MultiLiteralString-clause-text
+pub returns-in_ok-from_str-in-MultiLiteralString-clause-text :
+    goal.returns-in_ok-from_str-in-MultiLiteralString-clause-text
 returns-in_ok-from_str-in-MultiLiteralString-clause-text c said says =
     (c.in_ok-from_str-in-MultiLiteralString.ensures {u = tt}).ok ∙ c.past_break-in-MultiLiteralString.ensures
     ∙ raw_content c.args.content.now said
