@@ -22,6 +22,15 @@ pub(crate) fn text_named(name: &str) -> &str {
     }
 }
 
+/// `no` for a text that is no document.
+fn refused(alloc: Global, error: Error) -> Result<String, Fail> {
+    let refusal = told(alloc, error)?;
+    if refusal.as_str() == "1 Unable to parse Cargo.toml" {
+        return text(alloc, "no");
+    }
+    Ok(refusal)
+}
+
 /// `yes` where a document shows the text that was read.
 fn read(alloc: Global, document: &Document, source: &str) -> Result<String, Fail> {
     let printed = format!(in alloc; "{document}")?;
@@ -45,8 +54,7 @@ pub(crate) fn answer(alloc: Global, call: &str, argument: &str) -> Result<String
     let source = text_named(argument);
     match Document::read(alloc, source) {
         Ok(document) => asked(alloc, &document, call, source),
-        Err(Error::NotToml { .. }) => text(alloc, "no"),
-        Err(error) => told(alloc, error),
+        Err(error) => refused(alloc, error),
     }
 }
 
