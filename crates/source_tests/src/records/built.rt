@@ -73,15 +73,21 @@ fn copy_told(alloc: Global, record: &Dependency, copy: &Dependency) -> Result<St
     Ok(told)
 }
 
+/// What a copy of a record says.
+fn copied(alloc: Global, record: &Dependency) -> Result<String, Fail> {
+    let copy = record.try_clone(alloc)?;
+    copy_told(alloc, record, &copy)
+}
+
 /// What a copy of the record of a row says.
-fn copied(alloc: Global, name: &str, parts: &str) -> Result<String, Fail> {
+fn built(alloc: Global, name: &str, parts: &str) -> Result<String, Fail> {
     let record = record_of(alloc, name, parts)?;
-    copy_told(alloc, &record, &record.try_clone(alloc)?)
+    copied(alloc, &record)
 }
 
 #[test]
 fn built_records(rt: HostRuntime) -> Result<(), Fail> {
-    rows_hold(rt.alloc(), BUILT, LINES, copied)
+    rows_hold(rt.alloc(), BUILT, LINES, built)
 }
 
 /// How a record compares to that of other parts.

@@ -170,14 +170,19 @@ fn look_below(rt: &HostRuntime, folder: &str, name: &str) -> Result<String, Fail
     look(rt.alloc(), &mut index, row.as_str())
 }
 
+/// Makes the looks of the table below a folder, which is removed then.
+fn looks_below(rt: &HostRuntime, folder: &str) -> Result<(), Fail> {
+    lay_out(rt, folder)?;
+    for row in IN_A_FOLDER.lines() {
+        let seen = look_below(rt, folder, field(row, 0))?;
+        same(row, seen.as_str(), field(row, 1))?;
+    }
+    fs::remove_dir_all(rt, folder)?;
+    Ok(())
+}
+
 #[test]
 fn looks_in_a_real_folder(rt: HostRuntime) -> Result<(), Fail> {
     let folder = folder(&rt, "index")?;
-    lay_out(&rt, folder.as_str())?;
-    for row in IN_A_FOLDER.lines() {
-        let seen = look_below(&rt, folder.as_str(), field(row, 0))?;
-        same(row, seen.as_str(), field(row, 1))?;
-    }
-    fs::remove_dir_all(&rt, folder.as_str())?;
-    Ok(())
+    looks_below(&rt, folder.as_str())
 }
