@@ -1,20 +1,23 @@
 //! What is answered to a question about a text.
 use super::arrays::ARRAYS;
+use super::edits::parted;
+use super::inline_lines::STANDARD;
 use super::keys::FRUITS;
-use super::shown::{place_of, shown};
+use super::shown::shown;
 use super::texts::MANIFEST;
 use edit_base::Error;
-use edit_document::{Document, Step};
+use edit_document::Document;
 use std::alloc::{AllocError, Global};
 use std::test::Fail;
 use test_rows::{made, text, told};
 
 /// The text of a name, or the text itself.
-fn text_named(name: &str) -> &str {
+pub(crate) fn text_named(name: &str) -> &str {
     match name {
         "arrays" => ARRAYS,
         "fruits" => FRUITS,
         "manifest" => MANIFEST,
+        "standard" => STANDARD,
         text => text,
     }
 }
@@ -36,46 +39,21 @@ fn read(alloc: Global, document: &Document, source: &str) -> Result<String, Fail
     text(alloc, if is_kept { "yes" } else { "another text" })
 }
 
-/// The text of a document with another string at a place, or `no value` where none was written there.
-fn set_at(
-    alloc: Global,
-    document: &mut Document,
-    place: &[Step],
-    string: &str,
-) -> Result<String, Fail> {
-    let is_value = document.is_value(place);
-    if !is_value {
-        return text(alloc, "no value");
-    }
-    match document.set_literal(alloc, place, string) {
-        Ok(()) => made(alloc, document.text(alloc)),
-        Err(error) => told(alloc, error),
-    }
-}
-
-/// The same, of a place and a string with a space between them.
-fn set(alloc: Global, document: &mut Document, words: &str) -> Result<String, Fail> {
-    let (place, string) = words.split_once(' ').unwrap_or((words, ""));
-    let place = place_of(alloc, place)?;
-    set_at(alloc, document, &place, string)
-}
-
 /// What is answered about a document.
-fn asked(alloc: Global, document: &mut Document, call: &str, text: &str) -> Result<String, Fail> {
-    let (question, rest) = call.split_once(' ').unwrap_or((call, ""));
-    match question {
-        "read" => read(alloc, document, text),
-        "set" => set(alloc, document, rest),
-        _ => shown(alloc, document, question, rest),
+fn asked(alloc: Global, document: &Document, call: &str, text: &str) -> Result<String, Fail> {
+    let (question, place) = parted(call);
+    if question == "read" {
+        return read(alloc, document, text);
     }
+    shown(alloc, document, question, place)
 }
 
-/// What is answered about a text: `read` and a remark, `set` with a place and a string, or a question and a
+/// What is answered about a text, `no` where it is no document: `read` and a remark, or a question and a
 /// place.
 pub(crate) fn answer(alloc: Global, call: &str, argument: &str) -> Result<String, Fail> {
-    let text = text_named(argument);
-    match Document::read(alloc, text) {
-        Ok(mut document) => asked(alloc, &mut document, call, text),
+    let source = text_named(argument);
+    match Document::read(alloc, source) {
+        Ok(document) => asked(alloc, &document, call, source),
         Err(error) => refused(alloc, error),
     }
 }

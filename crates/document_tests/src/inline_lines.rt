@@ -1,14 +1,14 @@
 //! Rows of inline tables over several lines (TOML 1.1.0, "Inline Table"), accepted and refused; a row
 //! ends at `~`.
-use super::answers::{answer, deep};
-use std::alloc::Global;
+use super::answers::answer;
 use std::test::Fail;
-use test_rows::{LINES, TILDES, rows_hold};
+use test_rows::{TILDES, rows_hold};
 
-/// Line ends, LF and CR LF, and comments between the pairs, a comma after the last one, in one another
-/// and beside arrays; then texts that no standard allows: a comma without a pair before it, two commas,
-/// no comma, a newline inside a pair.
-const READ: &str = "\
+/// Line ends, LF and CR LF, and comments between the pairs, a comma after the last one, in one another and
+/// beside arrays; then texts that no standard allows: a comma without a pair before it, two commas, no
+/// comma, a newline inside a pair. Then what the inline tables of the standard show, and what stands in
+/// inline tables over several lines.
+const ROWS: &str = "\
 yes|read a line end behind the brace|x = {\na = 1 }~\
 yes|read a line end before the closing brace|x = { a = 1\n}~\
 yes|read a line end before a comma|x = { a = 1\n, b = 2 }~\
@@ -52,15 +52,34 @@ no|read no end|x = {\n  a = 1,\n~\
 no|read a bracket for the brace|x = {\n  a = 1,\n]~\
 no|read a member twice|x = {\n  a = 1,\n  a = 2,\n}~\
 no|read a table that goes on below|x = {\n  a = 1,\n}\nx.b = 2~\
-no|read two pairs on a line|x = {\n  a = 1,\n} y = 1";
-
-#[test]
-fn reads_exactly_inline_tables_over_lines(rt: HostRuntime) -> Result<(), Fail> {
-    rows_hold(rt.alloc(), READ, TILDES, answer)
-}
+no|read two pairs on a line|x = {\n  a = 1,\n} y = 1~\
+yes|read|standard~\
+name point animal contact|keys|standard~\
+inline table|type name|standard~\
+first last|keys name|standard~\
+2|len point|standard~\
+integer|type point/y|standard~\
+pug|string animal/type/name|standard~\
+inline table|type contact|standard~\
+personal work|keys contact|standard~\
+inline table|type contact/personal|standard~\
+name email|keys contact/personal|standard~\
+Donald Duck|string contact/personal/name|standard~\
+donald@duckburg.com|string contact/personal/email|standard~\
+inline table|type contact/work|standard~\
+2|len contact/work|standard~\
+Coin cleaner|string contact/work/name|standard~\
+donald@ScroogeCorp.com|string contact/work/email|standard~\
+-|type contact/name|standard~\
+a b|keys x|x = { # one\r\n  a = 1, # two\r\n  b = 'y'\r\n  , # three\r\n}\r\n~\
+y|string x/b|x = { # one\r\n  a = 1, # two\r\n  b = 'y'\r\n  , # three\r\n}\r\n~\
+0|len x|x = { # a = 1\n}~\
+inline table|type x|x = { # a = 1\n}~\
+2|len x/a|x = {\n  a = [\n    1, # one\n    { b = 'c', },\n  ],\n}~\
+c|string x/a/#1/b|x = {\n  a = [\n    1, # one\n    { b = 'c', },\n  ],\n}";
 
 /// The inline tables of the standard's section.
-const STANDARD: &str = "\
+pub(crate) const STANDARD: &str = "\
 name = { first = \"Tom\", last = \"Preston-Werner\" }
 point = {x=1, y=2}
 animal = { type.name = \"pug\" }
@@ -76,63 +95,7 @@ contact = {
 }
 ";
 
-/// What they show: the answer, and what is asked.
-const PLACES: &str = "\
-yes|read
-name point animal contact|keys
-inline table|type name
-first last|keys name
-2|len point
-integer|type point/y
-pug|string animal/type/name
-inline table|type contact
-personal work|keys contact
-inline table|type contact/personal
-name email|keys contact/personal
-Donald Duck|string contact/personal/name
-donald@duckburg.com|string contact/personal/email
-inline table|type contact/work
-2|len contact/work
-Coin cleaner|string contact/work/name
-donald@ScroogeCorp.com|string contact/work/email
--|type contact/name";
-
-/// What is answered about the standard's inline tables.
-fn of_the_standard(alloc: Global, call: &str, _row: &str) -> Result<String, Fail> {
-    answer(alloc, call, STANDARD)
-}
-
 #[test]
-fn shows_the_inline_tables_of_the_standard(rt: HostRuntime) -> Result<(), Fail> {
-    rows_hold(rt.alloc(), PLACES, LINES, of_the_standard)
-}
-
-/// What stands in inline tables over several lines, and strings that are set there.
-const SHOWN: &str = "\
-a b|keys x|x = { # one\r\n  a = 1, # two\r\n  b = 'y'\r\n  , # three\r\n}\r\n~\
-y|string x/b|x = { # one\r\n  a = 1, # two\r\n  b = 'y'\r\n  , # three\r\n}\r\n~\
-0|len x|x = { # a = 1\n}~\
-inline table|type x|x = { # a = 1\n}~\
-2|len x/a|x = {\n  a = [\n    1, # one\n    { b = 'c', },\n  ],\n}~\
-c|string x/a/#1/b|x = {\n  a = [\n    1, # one\n    { b = 'c', },\n  ],\n}~\
-x = { # one\r\n  a = 1, # two\r\n  b = \"z\"\r\n  , # three\r\n}\r\n|set x/b z|\
-x = { # one\r\n  a = 1, # two\r\n  b = 'y'\r\n  , # three\r\n}\r\n~\
-x = {\n  a = [\n    \"z\", # one\n  ],\n}|set x/a/#0 z|x = {\n  a = [\n    '''\n1''', # one\n  ],\n}~\
-x = {\n  a = [\n    1, # one\n    { b = \"z\", },\n  ],\n}|set x/a/#1/b z|\
-x = {\n  a = [\n    1, # one\n    { b = 'c', },\n  ],\n}";
-
-#[test]
-fn shows_and_sets_inline_tables_over_lines(rt: HostRuntime) -> Result<(), Fail> {
-    rows_hold(rt.alloc(), SHOWN, TILDES, answer)
-}
-
-/// In one another, over several lines, with a comma after the last pair: 79 around an empty one are
-/// read, 80 are not.
-const DEEP: &str = "\
-yes|79|a = ^{\na = ^{\n}^,\n}^~\
-no|80|a = ^{\na = ^{\n}^,\n}^";
-
-#[test]
-fn counts_the_steps_of_inline_tables_over_lines(rt: HostRuntime) -> Result<(), Fail> {
-    rows_hold(rt.alloc(), DEEP, TILDES, deep)
+fn reads_and_shows_inline_tables_over_lines(rt: HostRuntime) -> Result<(), Fail> {
+    rows_hold(rt.alloc(), ROWS, TILDES, answer)
 }

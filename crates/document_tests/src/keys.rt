@@ -2,10 +2,10 @@
 //! Tables", with strings in the place of numbers.
 use super::answers::answer;
 use std::test::Fail;
-use test_rows::{LINES, TILDES, rows_hold};
+use test_rows::{TILDES, rows_hold};
 
-/// Documents.
-const READ: &str = "\
+/// Texts that are documents, then texts that are none, and what stands at the places of one.
+const ROWS: &str = "\
 yes|read|key = \"value\"
 bare_key = \"value\"
 bare-key = \"value\"
@@ -78,10 +78,7 @@ b.c = true
 [[a]]
 b.c = true
 ~yes|read|\u{feff}~yes|read|\u{feff}[a]
-";
-
-/// Texts that are no documents.
-const REFUSED: &str = "\
+~\
 no|read|name = \"Tom\"
 name = \"Pradyun\"
 ~no|read|spelling = \"favorite\"
@@ -157,17 +154,38 @@ b = true
 ~no|read|\u{feff}\u{feff}[a]
 ~no|read|
 \u{feff}[a]
-";
-
-#[test]
-fn reads_keys_and_headers(rt: HostRuntime) -> Result<(), Fail> {
-    rows_hold(rt.alloc(), READ, TILDES, answer)
-}
-
-#[test]
-fn refuses_keys_and_headers(rt: HostRuntime) -> Result<(), Fail> {
-    rows_hold(rt.alloc(), REFUSED, TILDES, answer)
-}
+~\
+table|item physical|fruits~\
+string|item physical/color|fruits~\
+inline table|item animal|fruits~\
+inline table|item animal/type|fruits~\
+string|item animal/type/name|fruits~\
+array of tables|item fruits|fruits~\
+table|item fruits/#0|fruits~\
+string|item fruits/#0/name|fruits~\
+table|item fruits/#0/physical|fruits~\
+string|item fruits/#0/physical/color|fruits~\
+array of tables|item fruits/#0/varieties|fruits~\
+string|item fruits/#0/varieties/#0/name|fruits~\
+string|item fruits/#0/varieties/#1/name|fruits~\
+-|item fruits/#0/varieties/#2|fruits~\
+string|item fruits/#1/name|fruits~\
+-|item fruits/#1/physical|fruits~\
+string|item fruits/#1/varieties/#0/name|fruits~\
+-|item fruits/#1/varieties/#1|fruits~\
+-|item fruits/#2|fruits~\
+-|item fruits/name|fruits~\
+-|item fruits/physical|fruits~\
+-|item physical/#0|fruits~\
+table|item x|fruits~\
+table|item x/y|fruits~\
+table|item x/y/z|fruits~\
+2|len fruits|fruits~\
+|keys fruits|fruits~\
+false|is_table_like fruits|fruits~\
+-|array fruits|fruits~\
+banana|string fruits/#1/name|fruits~\
+physical animal fruits x|keys|fruits";
 
 /// A document, of which rows name the places.
 pub(crate) const FRUITS: &str = "\
@@ -198,41 +216,7 @@ name = \"plantain\"
 [x]
 ";
 
-/// What stands at a place.
-const FRUIT_PLACES: &str = "\
-table|item physical|fruits
-string|item physical/color|fruits
-inline table|item animal|fruits
-inline table|item animal/type|fruits
-string|item animal/type/name|fruits
-array of tables|item fruits|fruits
-table|item fruits/#0|fruits
-string|item fruits/#0/name|fruits
-table|item fruits/#0/physical|fruits
-string|item fruits/#0/physical/color|fruits
-array of tables|item fruits/#0/varieties|fruits
-string|item fruits/#0/varieties/#0/name|fruits
-string|item fruits/#0/varieties/#1/name|fruits
--|item fruits/#0/varieties/#2|fruits
-string|item fruits/#1/name|fruits
--|item fruits/#1/physical|fruits
-string|item fruits/#1/varieties/#0/name|fruits
--|item fruits/#1/varieties/#1|fruits
--|item fruits/#2|fruits
--|item fruits/name|fruits
--|item fruits/physical|fruits
--|item physical/#0|fruits
-table|item x|fruits
-table|item x/y|fruits
-table|item x/y/z|fruits
-2|len fruits|fruits
-|keys fruits|fruits
-false|is_table_like fruits|fruits
--|array fruits|fruits
-banana|string fruits/#1/name|fruits
-physical animal fruits x|keys|fruits";
-
 #[test]
-fn shows_keys_and_headers(rt: HostRuntime) -> Result<(), Fail> {
-    rows_hold(rt.alloc(), FRUIT_PLACES, LINES, answer)
+fn reads_and_shows_keys_and_headers(rt: HostRuntime) -> Result<(), Fail> {
+    rows_hold(rt.alloc(), ROWS, TILDES, answer)
 }

@@ -9,6 +9,8 @@ mod answers;
 #[cfg(test)]
 mod arrays;
 #[cfg(test)]
+mod edits;
+#[cfg(test)]
 mod entry_views;
 #[cfg(test)]
 mod inline_lines;

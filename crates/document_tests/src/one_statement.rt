@@ -3,8 +3,8 @@ use super::answers::answer;
 use std::test::Fail;
 use test_rows::{TILDES, rows_hold};
 
-/// Dotted keys with one member and with several, headers, inline tables, elements, the root, and places where
-/// nothing stands.
+/// Dotted keys with one member and with several, headers, inline tables, elements, the root, and places
+/// where nothing stands.
 const ONE_STATEMENT: &str = "\
 true|one_statement a|a = 1\n~\
 true|one_statement a|a.workspace = true\n~\

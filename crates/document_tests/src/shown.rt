@@ -72,17 +72,22 @@ fn answer_of(alloc: Global, item: Item<'_>, question: &str) -> Result<String, Fa
     }
 }
 
-/// The type of what stands at a place, found by the place as a whole; `-` for nothing.
-fn type_at(alloc: Global, document: &Document, place: &str) -> Result<String, AllocError> {
+/// What a document answers to a question about a place as a whole: whether one statement alone names it, or
+/// the type of what stands there.
+fn shown_whole(
+    alloc: Global,
+    document: &Document,
+    question: &str,
+    place: &str,
+) -> Result<String, Fail> {
     let place = place_of(alloc, place)?;
-    let name = document.item(&place).map_or("-", |item| item.type_name());
-    String::from_str(alloc, name)
-}
-
-/// Whether one statement alone names a place.
-fn is_one_statement(alloc: Global, document: &Document, place: &str) -> Result<String, Fail> {
-    let place = place_of(alloc, place)?;
-    text(alloc, word(document.one_statement(&place)))
+    if question == "one_statement" {
+        return text(alloc, word(document.one_statement(&place)));
+    }
+    text(
+        alloc,
+        document.item(&place).map_or("-", |item| item.type_name()),
+    )
 }
 
 /// What is answered to a question about a place below an item; `-` where nothing stands.
@@ -105,11 +110,8 @@ pub(crate) fn shown(
     question: &str,
     place: &str,
 ) -> Result<String, Fail> {
-    if question == "item" {
-        return Ok(type_at(alloc, document, place)?);
-    }
-    if question == "one_statement" {
-        return is_one_statement(alloc, document, place);
+    if question == "item" || question == "one_statement" {
+        return shown_whole(alloc, document, question, place);
     }
     match document.item(&[]) {
         Some(root) => shown_below(alloc, root, question, place),

@@ -9,7 +9,7 @@ pub(crate) const MANIFEST: &str =
     "[dependencies]\nserde = { version = '1.0', optional = true } # keep\n";
 
 /// Whether a text is read, what it is, and the text; a row ends at `~` (the examples of TOML 1.0.0,
-/// "Comment", "Key/Value Pair", "String", "Boolean", and texts near them).
+/// "Comment", "Key/Value Pair", "String", "Boolean", and texts near them). Then what a manifest shows.
 const DOCUMENTS: &str = "\
 yes|read nothing|~\
 yes|read an empty header|[a]\n~\
@@ -50,63 +50,58 @@ yes|read truths|bool1 = true\nbool2 = false\n~\
 no|read a truth in capital letters|a = True\n~\
 2|len p|[[p]]\n[p.q]\n[[p]]\n[p.q]\n~\
 table|type p/#0/q|[[p]]\n[p.q]\n[[p]]\n[p.q]\n~\
-table|type p/#1/q|[[p]]\n[p.q]\n[[p]]\n[p.q]\n";
-
-#[test]
-fn reads_exactly_documents(rt: HostRuntime) -> Result<(), Fail> {
-    rows_hold(rt.alloc(), DOCUMENTS, TILDES, answer)
-}
-
-/// What a manifest shows.
-const MANIFEST_PLACES: &str = "\
-yes|read|manifest
-table|type|manifest
-table|type dependencies|manifest
-true|is_table_like dependencies|manifest
-false|is_inline_table dependencies|manifest
-inline table|type dependencies/serde|manifest
-true|is_inline_table dependencies/serde|manifest
-2|len dependencies/serde|manifest
-version optional|keys dependencies/serde|manifest
-1.0|string dependencies/serde/version|manifest
-true|is_str dependencies/serde/version|manifest
-string|type dependencies/serde/version|manifest
--|truth dependencies/serde/version|manifest
-0|len dependencies/serde/version|manifest
-true|truth dependencies/serde/optional|manifest
-boolean|type dependencies/serde/optional|manifest
--|array dependencies/serde/optional|manifest
--|type dependencies/serde/#0|manifest
+table|type p/#1/q|[[p]]\n[p.q]\n[[p]]\n[p.q]\n~\
+yes|read|manifest~\
+table|type|manifest~\
+table|type dependencies|manifest~\
+true|is_table_like dependencies|manifest~\
+false|is_inline_table dependencies|manifest~\
+inline table|type dependencies/serde|manifest~\
+true|is_inline_table dependencies/serde|manifest~\
+2|len dependencies/serde|manifest~\
+version optional|keys dependencies/serde|manifest~\
+1.0|string dependencies/serde/version|manifest~\
+true|is_str dependencies/serde/version|manifest~\
+string|type dependencies/serde/version|manifest~\
+-|truth dependencies/serde/version|manifest~\
+0|len dependencies/serde/version|manifest~\
+true|truth dependencies/serde/optional|manifest~\
+boolean|type dependencies/serde/optional|manifest~\
+-|array dependencies/serde/optional|manifest~\
+-|type dependencies/serde/#0|manifest~\
 -|type dependencies/serde/features|manifest";
 
 #[test]
-fn shows_what_was_read(rt: HostRuntime) -> Result<(), Fail> {
-    rows_hold(rt.alloc(), MANIFEST_PLACES, LINES, answer)
+fn reads_and_shows_documents(rt: HostRuntime) -> Result<(), Fail> {
+    rows_hold(rt.alloc(), DOCUMENTS, TILDES, answer)
 }
 
 /// Whether a text is read, how often each second of its parts between carets stands there, and the parts:
 /// headers and keys of 79, 80 and 81 parts, the last one beside the others; inline tables and arrays, 1 to
-/// 81 in one another.
+/// 81 in one another; inline tables over several lines, with a comma after the last pair: 79 around an
+/// empty one are read, 80 are not. A row ends at `~`.
 const DEEP: &str = "\
-yes|79|[^a.^a]
-no|80|[^a.^a]
-yes|79|^a.^a = true
-no|80|^a.^a = true
-yes|78|[[^a.^a]]
-no|79|[[^a.^a]]
-yes|78|a = { ^a.^a = true }
-no|79|a = { ^a.^a = true }
-yes|0|a = ^{ a = ^{}^}^
-yes|79|a = ^{ a = ^{}^}^
-no|80|a = ^{ a = ^{}^}^
-yes|79|a = ^[^1^]^
-no|80|a = ^[^1^]^
-yes|80|a = ^[^^]^
-no|81|a = ^[^^]^";
+yes|79|[^a.^a]~\
+no|80|[^a.^a]~\
+yes|79|^a.^a = true~\
+no|80|^a.^a = true~\
+yes|78|[[^a.^a]]~\
+no|79|[[^a.^a]]~\
+yes|78|a = { ^a.^a = true }~\
+no|79|a = { ^a.^a = true }~\
+yes|0|a = ^{ a = ^{}^}^~\
+yes|79|a = ^{ a = ^{}^}^~\
+no|80|a = ^{ a = ^{}^}^~\
+yes|79|a = ^[^1^]^~\
+no|80|a = ^[^1^]^~\
+yes|80|a = ^[^^]^~\
+no|81|a = ^[^^]^~\
+yes|79|a = ^{\na = ^{\n}^,\n}^~\
+no|80|a = ^{\na = ^{\n}^,\n}^";
 
 #[test]
 fn counts_the_steps_of_a_place(rt: HostRuntime) -> Result<(), Fail> {
-    rows_hold(rt.alloc(), DEEP, LINES, deep)
+    rows_hold(rt.alloc(), DEEP, TILDES, deep)
 }
 
 /// Whether the first bytes of the manifest are read.

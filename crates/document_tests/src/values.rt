@@ -3,10 +3,11 @@ use super::answers::answer;
 use std::test::Fail;
 use test_rows::{TILDES, rows_hold};
 
-/// The type that the value of `a` is told to have, `no` where the text is refused, and the text; a row ends
-/// at `~` (TOML 1.0.0, "Integer", "Float", "Offset Date-Time", "Local Date-Time", "Local Date", "Local
-/// Time").
-const NUMBERS: &str = "\
+/// The type that the value of `a` is told to have, `no` where the text is refused, and the text; a row
+/// ends at `~` (TOML 1.0.0, "Integer", "Float", "Offset Date-Time", "Local Date-Time", "Local Date",
+/// "Local Time"). Then the string at a place, `-` where another value stands there, or `no` where the text
+/// is refused, and the text (TOML 1.0.0, "String").
+const VALUES: &str = "\
 integer|type a|a = +99~\
 integer|type a|a = 0~\
 integer|type a|a = -17~\
@@ -42,16 +43,7 @@ no|type a|a = 1979-05-27T~\
 no|type a|a = 07:32~\
 no|type a|a = 07:32:00.~\
 no|type a|a = 1979-05-27T07:32:00+7~\
-yes|read several values|[a]\nb = { c = 1, d = -2.5 }\ne = 1979-05-27\n";
-
-#[test]
-fn tells_numbers_and_dates(rt: HostRuntime) -> Result<(), Fail> {
-    rows_hold(rt.alloc(), NUMBERS, TILDES, answer)
-}
-
-/// The string at a place, `-` where another value stands there, or `no` where the text is refused, and the
-/// text; a row ends at `~` (TOML 1.0.0, "String").
-const STRINGS: &str = "\
+yes|read several values|[a]\nb = { c = 1, d = -2.5 }\ne = 1979-05-27\n~\
 |string a|a = \"\"\"\"\"\"~\
 Roses are red\nViolets are blue|string a|a = \"\"\"\nRoses are red\nViolets are blue\"\"\"~\
 Roses\r\nare|string a|a = \"\"\"\r\nRoses\r\nare\"\"\" # red~\
@@ -79,6 +71,6 @@ no|string a|a = '''\u{7}'''~\
 \"\\\"a\\\"\" = \"\\b\\t\\n\\f\\r\\\"\\\\\\u00e9\\U0001F600\"\n";
 
 #[test]
-fn reads_strings(rt: HostRuntime) -> Result<(), Fail> {
-    rows_hold(rt.alloc(), STRINGS, TILDES, answer)
+fn reads_values(rt: HostRuntime) -> Result<(), Fail> {
+    rows_hold(rt.alloc(), VALUES, TILDES, answer)
 }

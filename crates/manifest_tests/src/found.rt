@@ -4,24 +4,30 @@ use edit_store::{FaultStore, MemoryStore, Store};
 use semver::Version;
 use std::alloc::Global;
 use std::test::Fail;
-use test_rows::{field, made, same, text, told};
+use test_rows::{field, made, same, told};
 
-/// Paths of files, each with its text.
+/// Paths of files, each with its text; the last one has none.
 const FILES: &str = "\
 /w/Cargo.toml|[package]
 /w/a/src/lib.rs|x
 /w/b/Cargo.toml/x|a folder
 /w/c/own.toml|version = 1
 /w/d/Cargo.toml|no manifest
-/x/y/z|x";
+/v/Cargo.toml|package.version = '1.0.0' # v
+/x/y/z|x
+/w/e/Cargo.toml|";
 
-/// A store of these files.
-fn store_of(alloc: Global, rows: &str) -> Result<MemoryStore, Fail> {
+/// A store of these files, of which a call fails.
+fn store_of(alloc: Global, at: u64) -> Result<FaultStore, Fail> {
     let mut store = MemoryStore::new(alloc);
-    for row in rows.lines() {
-        store.write(alloc, field(row, 0), field(row, 1).as_bytes())?;
+    for row in FILES.lines() {
+        let bytes = match field(row, 1) {
+            "" => b"a\xff".as_slice(),
+            text => text.as_bytes(),
+        };
+        store.write(alloc, field(row, 0), bytes)?;
     }
-    Ok(store)
+    Ok(FaultStore::new(store, at, 0))
 }
 
 /// The path that is specified, none for a hyphen.
@@ -32,25 +38,9 @@ fn specified(word: &str) -> Option<&str> {
     Some(word)
 }
 
-/// The path of the manifest that is found.
-fn found<S: Store>(alloc: Global, store: &mut S, row: &str) -> Result<String, Fail> {
-    made(
-        alloc,
-        find(alloc, store, specified(field(row, 2)), field(row, 3)),
-    )
-}
-
-/// The path and the text of the manifest that is found and read.
-fn loaded<S: Store>(alloc: Global, store: &mut S, row: &str) -> Result<String, Fail> {
-    match LocalManifest::find(alloc, store, specified(field(row, 2)), field(row, 3)) {
-        Ok(local) => Ok(format!(in alloc; "{} {}", local.path, local.manifest)?),
-        Err(error) => told(alloc, error),
-    }
-}
-
 /// The text of the manifest that is read at a path.
-fn opened<S: Store>(alloc: Global, store: &mut S, row: &str) -> Result<String, Fail> {
-    match LocalManifest::try_new(alloc, store, field(row, 2)) {
+fn opened<S: Store>(alloc: Global, store: &mut S, path: &str) -> Result<String, Fail> {
+    match LocalManifest::try_new(alloc, store, path) {
         Ok(local) => Ok(format!(in alloc; "{}", local.manifest)?),
         Err(error) => told(alloc, error),
     }
@@ -64,8 +54,45 @@ fn read(alloc: Global, bytes: &[u8]) -> Result<String, Fail> {
     }
 }
 
-/// What is wanted; whether the manifest is found, loaded, opened or read; the path that is specified, `-` for
-/// none, or the bytes; the current folder.
+/// Gives a manifest's package another version.
+fn raise(alloc: Global, local: &mut LocalManifest) -> Result<(), Fail> {
+    let version = Version::parse(alloc, "0.2.0")?;
+    local.set_package_version(alloc, &version)?;
+    Ok(())
+}
+
+/// The text that stands in the file of a manifest once it is written.
+fn written<S: Store>(alloc: Global, store: &mut S, local: &LocalManifest) -> Result<String, Fail> {
+    match local.write(alloc, store) {
+        Ok(()) => opened(alloc, store, local.path.as_str()),
+        Err(error) => told(alloc, error),
+    }
+}
+
+/// What becomes of a manifest: its path and its text, or what is written where its package is raised.
+fn of_local<S: Store>(
+    alloc: Global,
+    store: &mut S,
+    local: &mut LocalManifest,
+    call: &str,
+) -> Result<String, Fail> {
+    if call != "write" {
+        return Ok(format!(in alloc; "{} {}", local.path, local.manifest)?);
+    }
+    raise(alloc, local)?;
+    written(alloc, store, local)
+}
+
+/// The same of the manifest that is found and read.
+fn loaded<S: Store>(alloc: Global, store: &mut S, row: &str) -> Result<String, Fail> {
+    match LocalManifest::find(alloc, store, specified(field(row, 2)), field(row, 3)) {
+        Ok(mut local) => of_local(alloc, store, &mut local, field(row, 1)),
+        Err(error) => told(alloc, error),
+    }
+}
+
+/// What is wanted; whether the manifest is found, loaded, written, opened or read; the path that is
+/// specified, `-` for none, or the bytes; the current folder.
 const ROWS: &str = "\
 /w/Cargo.toml|find|-|/w/a
 /w/Cargo.toml|find|-|/w/a/src
@@ -89,29 +116,10 @@ const ROWS: &str = "\
 5 Failed to read manifest contents|open|/w/nothing|
 5 Failed to read manifest contents|open|/w|
 1 Unable to parse Cargo.toml|open|/w/d/Cargo.toml|
+2 Failed to read manifest contents|open|/w/e/Cargo.toml|
+package.version = \"0.2.0\" # v|write|-|/v
 [package] # é|read|[package] # é|
 1 Unable to parse Cargo.toml|read|[package|";
-
-/// What becomes of a row.
-fn answer<S: Store>(alloc: Global, store: &mut S, row: &str) -> Result<String, Fail> {
-    match field(row, 1) {
-        "find" => found(alloc, store, row),
-        "load" => loaded(alloc, store, row),
-        "read" => read(alloc, field(row, 2).as_bytes()),
-        _ => opened(alloc, store, row),
-    }
-}
-
-#[test]
-fn finds_manifests(rt: HostRuntime) -> Result<(), Fail> {
-    let alloc = rt.alloc();
-    let mut store = store_of(alloc, FILES)?;
-    for row in ROWS.lines() {
-        let seen = answer(alloc, &mut store, row)?;
-        same(row, seen.as_str(), field(row, 0))?;
-    }
-    Ok(())
-}
 
 /// The same, where the first call fails.
 const FAULTS: &str = "\
@@ -120,11 +128,26 @@ const FAULTS: &str = "\
 3 Failed to look at a path|load|-|/w/a
 3 Failed to read a file|open|/w/Cargo.toml|";
 
-#[test]
-fn tells_faults(rt: HostRuntime) -> Result<(), Fail> {
-    let alloc = rt.alloc();
-    for row in FAULTS.lines() {
-        let mut store = FaultStore::new(store_of(alloc, FILES)?, 0, 0);
+/// The same, where the third call fails.
+const WRITE_FAULTS: &str = "3 Failed to write updated Cargo.toml|write|-|/v";
+
+/// What becomes of a row.
+fn answer<S: Store>(alloc: Global, store: &mut S, row: &str) -> Result<String, Fail> {
+    match field(row, 1) {
+        "find" => made(
+            alloc,
+            find(alloc, store, specified(field(row, 2)), field(row, 3)),
+        ),
+        "read" => read(alloc, field(row, 2).as_bytes()),
+        "open" => opened(alloc, store, field(row, 2)),
+        _ => loaded(alloc, store, row),
+    }
+}
+
+/// Succeeds where each row of a table gives what it wants over files of which a call fails.
+fn hold(alloc: Global, table: &str, at: u64) -> Result<(), Fail> {
+    for row in table.lines() {
+        let mut store = store_of(alloc, at)?;
         let seen = answer(alloc, &mut store, row)?;
         same(row, seen.as_str(), field(row, 0))?;
     }
@@ -132,48 +155,9 @@ fn tells_faults(rt: HostRuntime) -> Result<(), Fail> {
 }
 
 #[test]
-fn refuses_what_is_not_utf_8(rt: HostRuntime) -> Result<(), Fail> {
-    let alloc = rt.alloc();
-    let mut store = MemoryStore::new(alloc);
-    store.write(alloc, "/w/Cargo.toml", &[b'a', 255])?;
-    let seen = opened(alloc, &mut store, "||/w/Cargo.toml")?;
-    same(
-        "not UTF-8",
-        seen.as_str(),
-        "2 Failed to read manifest contents",
-    )
-}
-
-/// The manifest of `/w` with another version of its package, written to its file.
-fn written<S: Store>(alloc: Global, store: &mut S) -> Result<String, Fail> {
-    let mut local = LocalManifest::find(alloc, store, None, "/w")?;
-    let version = Version::parse(alloc, "0.2.0")?;
-    local.set_package_version(alloc, &version)?;
-    match local.write(alloc, store) {
-        Ok(()) => text(alloc, "written"),
-        Err(error) => told(alloc, error),
+fn finds_reads_and_writes_manifests(rt: HostRuntime) -> Result<(), Fail> {
+    for (table, at) in [(ROWS, 99), (FAULTS, 0), (WRITE_FAULTS, 2)] {
+        hold(rt.alloc(), table, at)?;
     }
-}
-
-#[test]
-fn tells_a_write_that_fails(rt: HostRuntime) -> Result<(), Fail> {
-    let alloc = rt.alloc();
-    let inner = store_of(alloc, "/w/Cargo.toml|package.version = '1.0.0' # v")?;
-    let mut store = FaultStore::new(inner, 2, 0);
-    let refused = written(alloc, &mut store)?;
-    same(
-        "a fault",
-        refused.as_str(),
-        "3 Failed to write updated Cargo.toml",
-    )
-}
-
-#[test]
-fn writes_the_text(rt: HostRuntime) -> Result<(), Fail> {
-    let alloc = rt.alloc();
-    let mut store = store_of(alloc, "/w/Cargo.toml|package.version = '1.0.0' # v")?;
-    let done = written(alloc, &mut store)?;
-    same("written", done.as_str(), "written")?;
-    let seen = opened(alloc, &mut store, "||/w/Cargo.toml")?;
-    same("the file", seen.as_str(), "package.version = \"0.2.0\" # v")
+    Ok(())
 }

@@ -22,18 +22,19 @@ fn table_of(alloc: Global, kind: &str, target: &str) -> Result<DepTable, Fail> {
     Ok(table.set_target(alloc, target)?)
 }
 
-/// The name of a table, and its target.
-fn answer(alloc: Global, kind: &str, target: &str) -> Result<String, Fail> {
-    let table = table_of(alloc, kind, target)?;
-    let copy = table.try_clone(alloc)?;
+/// The name of a table, and the target of its copy.
+fn shown(alloc: Global, table: &DepTable, copy: &DepTable) -> Result<String, Fail> {
     if copy != table {
         return text(alloc, "another copy");
     }
-    let target = match &copy.target {
-        Some(target) => target.as_str(),
-        None => "all",
-    };
+    let target = copy.target.as_ref().map_or("all", |target| target.as_str());
     Ok(format!(in alloc; "{} {target}", table.kind_table())?)
+}
+
+/// The name of a table of a kind, and its target.
+fn answer(alloc: Global, kind: &str, target: &str) -> Result<String, Fail> {
+    let table = table_of(alloc, kind, target)?;
+    shown(alloc, &table, &table.try_clone(alloc)?)
 }
 
 /// The name of a kind's table, and the target; the kind and the target.

@@ -1,70 +1,7 @@
 //! Rows of entries that are removed, and of features that name them.
-use edit_base::CargoResult;
-use edit_manifest::Manifest;
-use std::alloc::Global;
+use super::calls::answer;
 use std::test::Fail;
-use test_rows::{TILDES, rows_hold, text, told};
-
-/// The steps of a path with a slash between them; the root for a hyphen.
-fn steps(alloc: Global, names: &str) -> Result<Vec<String>, Fail> {
-    let mut path = Vec::new(alloc);
-    if names == "-" {
-        return Ok(path);
-    }
-    for name in names.split('/') {
-        path.push(String::from_str(alloc, name)?)?;
-    }
-    Ok(path)
-}
-
-/// The text of a manifest after a call, or what its refusal says, where the text is as it was then.
-fn after(
-    alloc: Global,
-    manifest: &Manifest,
-    before: &str,
-    answer: CargoResult<()>,
-) -> Result<String, Fail> {
-    match answer {
-        Ok(()) => Ok(format!(in alloc; "{manifest}")?),
-        Err(error) if manifest.document.as_str() == before => told(alloc, error),
-        Err(_) => text(alloc, "refused and changed"),
-    }
-}
-
-/// Removes an entry, and tells the text or the refusal.
-fn removed(alloc: Global, manifest: &mut Manifest, words: &str) -> Result<String, Fail> {
-    let (path, name) = words.split_once(' ').unwrap_or((words, ""));
-    let path = steps(alloc, path)?;
-    let before = format!(in alloc; "{manifest}")?;
-    let answer = manifest.remove_from_table(alloc, &path, name);
-    after(alloc, manifest, before.as_str(), answer)
-}
-
-/// What becomes of a manifest by a word and what stands behind it.
-fn changed(alloc: Global, manifest: &mut Manifest, call: &str) -> Result<String, Fail> {
-    let (word, rest) = call.split_once(' ').unwrap_or((call, ""));
-    match word {
-        "remove" => removed(alloc, manifest, rest),
-        "twice" => {
-            let first = removed(alloc, manifest, rest)?;
-            let second = removed(alloc, manifest, rest)?;
-            Ok(format!(in alloc; "{first}then {second}")?)
-        }
-        _ => {
-            let before = format!(in alloc; "{manifest}")?;
-            let answer = manifest.gc_dep(alloc, rest);
-            after(alloc, manifest, before.as_str(), answer)
-        }
-    }
-}
-
-/// What becomes of the manifest that a text is.
-fn answer(alloc: Global, call: &str, source: &str) -> Result<String, Fail> {
-    match Manifest::read(alloc, source) {
-        Ok(mut manifest) => changed(alloc, &mut manifest, call),
-        Err(error) => told(alloc, error),
-    }
-}
+use test_rows::{TILDES, rows_hold};
 
 /// What is left, the call and the text; a row ends at `~`. A path has a slash between its steps, and `-` is
 /// the root. The first row is the example of the original's documentation.
@@ -102,11 +39,6 @@ then 9 The dependency `a` could not be found in ``.|twice - a|a = \"1\"\n~\
 9 The dependency `b` could not be found in `target.x.dependencies`.|remove target/x/dependencies b|\
 [target.x.dependencies]\na = \"1\"\n";
 
-#[test]
-fn removes_entries(rt: HostRuntime) -> Result<(), Fail> {
-    rows_hold(rt.alloc(), REMOVED, TILDES, answer)
-}
-
 /// The same of features (Cargo reference, "Features", "Optional dependencies" and "Dependency features").
 const CLEARED: &str = "\
 [features]\nx = [\"other\"]\n|clear dep|[features]\nx = [\"dep\", \"dep/std\", \"other\"]\n~\
@@ -119,7 +51,8 @@ dependencies.dep.optional = true\nfeatures.x = [\"dep\"]\n|clear dep|\
 dependencies.dep.optional = true\nfeatures.x = [\"dep\"]\n~\
 [target.x.dev-dependencies.dep]\noptional = true\n[features]\nx = [\"dep\"]\n|clear dep|\
 [target.x.dev-dependencies.dep]\noptional = true\n[features]\nx = [\"dep\"]\n~\
-[dependencies]\ndep = \"1\"\n[build-dependencies]\ndep = { optional = true }\n[features]\nx = [\"dep\"]\n|clear dep|\
+[dependencies]\ndep = \"1\"\n[build-dependencies]\ndep = { optional = true }\n[features]\nx = [\"dep\"]\n|\
+clear dep|\
 [dependencies]\ndep = \"1\"\n[build-dependencies]\ndep = { optional = true }\n[features]\nx = [\"dep\"]\n~\
 [dependencies]\ndep = \"1\"\n[features]\nx = [\"dep/a\"]\n|clear dep|\
 [dependencies]\ndep = \"1\"\n[features]\nx = [\"dep\", \"dep/a\"]\n~\
@@ -141,6 +74,7 @@ features = { x = [\"dep\"] }\n|clear dep|features = { x = [\"dep\"] }\n~\
 [features]\r\nx = [\r\n  # one\r\n  \"dep\", # two\r\n  \"other\",\r\n]\r\n";
 
 #[test]
-fn clears_features(rt: HostRuntime) -> Result<(), Fail> {
+fn removes_entries_and_clears_features(rt: HostRuntime) -> Result<(), Fail> {
+    rows_hold(rt.alloc(), REMOVED, TILDES, answer)?;
     rows_hold(rt.alloc(), CLEARED, TILDES, answer)
 }

@@ -40,15 +40,19 @@ fn place(alloc: Global, table: Option<Place>) -> Result<String, Fail> {
 }
 
 /// The dependency tables of a manifest, or the one that the members of its workspace share.
-fn answer(alloc: Global, call: &str, source: &str) -> Result<String, Fail> {
-    let manifest = match Manifest::read(alloc, source) {
-        Ok(manifest) => manifest,
-        Err(error) => return told(alloc, error),
-    };
+fn asked(alloc: Global, manifest: &Manifest, call: &str) -> Result<String, Fail> {
     if call == "shared" {
         return place(alloc, manifest.get_workspace_dependency_table_mut(alloc)?);
     }
     places(alloc, &manifest.get_dependency_tables_mut(alloc)?)
+}
+
+/// The same, of the manifest that a text is.
+fn answer(alloc: Global, call: &str, source: &str) -> Result<String, Fail> {
+    match Manifest::read(alloc, source) {
+        Ok(manifest) => asked(alloc, &manifest, call),
+        Err(error) => told(alloc, error),
+    }
 }
 
 /// The tables in the order of a walk, member by member, and the call and the text; a row ends at `~` (Cargo
@@ -87,12 +91,14 @@ fn tells_the_dependency_tables(rt: HostRuntime) -> Result<(), Fail> {
     rows_hold(rt.alloc(), TABLES, TILDES, answer)
 }
 
+/// The copy of a place.
+fn copied(alloc: Global, steps: &[Step]) -> Result<String, Fail> {
+    place(alloc, Some(copied_place(alloc, steps)?))
+}
+
 #[test]
 fn copies_a_place(rt: HostRuntime) -> Result<(), Fail> {
-    let alloc = rt.alloc();
-    let mut steps = Vec::new(alloc);
-    steps.push(Step::Key(text(alloc, "bin")?))?;
-    steps.push(Step::Index(2))?;
-    let copy = copied_place(alloc, &steps)?;
-    same("a place", place(alloc, Some(copy))?.as_str(), "bin/#2")
+    let steps = [Step::Key(text(rt.alloc(), "bin")?), Step::Index(2)];
+    let seen = copied(rt.alloc(), &steps)?;
+    same("a place", seen.as_str(), "bin/#2")
 }

@@ -1,103 +1,7 @@
 //! Rows of versions that a manifest names.
-use edit_base::CargoResult;
-use edit_document::{Document, Place, Step};
-use edit_manifest::{Manifest, get_dep_version, set_dep_version};
-use semver::Version;
-use std::alloc::Global;
+use super::calls::answer;
 use std::test::Fail;
-use test_rows::{TILDES, rows_hold, text, told};
-
-/// The place of names with a slash between them.
-fn place_of(alloc: Global, names: &str) -> Result<Place, Fail> {
-    let mut place = Vec::new(alloc);
-    for name in names.split('/') {
-        place.push(Step::Key(String::from_str(alloc, name)?))?;
-    }
-    Ok(place)
-}
-
-/// The text of a manifest after a call, or what its refusal says, behind the text where that is not as it
-/// was.
-fn after(
-    alloc: Global,
-    manifest: &Manifest,
-    source: &str,
-    answer: CargoResult<()>,
-) -> Result<String, Fail> {
-    match answer {
-        Ok(()) => Ok(format!(in alloc; "{manifest}")?),
-        Err(error) if manifest.document.as_str() == source => told(alloc, error),
-        Err(_) => text(alloc, "refused and changed"),
-    }
-}
-
-/// The requirement of the entry at a place.
-fn requirement(alloc: Global, document: &Document, names: &str) -> Result<String, Fail> {
-    let place = place_of(alloc, names)?;
-    let Some(item) = document.item(&place) else {
-        return text(alloc, "nothing");
-    };
-    match get_dep_version(item) {
-        Ok(version) => text(alloc, version),
-        Err(error) => told(alloc, error),
-    }
-}
-
-/// The version of the workspace.
-fn shared(alloc: Global, manifest: &Manifest) -> Result<String, Fail> {
-    match manifest.get_workspace_version(alloc)? {
-        Some(version) => Ok(format!(in alloc; "{version}")?),
-        None => text(alloc, "none"),
-    }
-}
-
-/// Sets the requirement of the entry at a place, and tells the text if the new one is answered then.
-fn set_requirement(
-    alloc: Global,
-    manifest: &mut Manifest,
-    source: &str,
-    words: &str,
-) -> Result<String, Fail> {
-    let (names, new) = words.split_once(' ').unwrap_or((words, ""));
-    let place = place_of(alloc, names)?;
-    let answer = set_dep_version(alloc, &mut manifest.document, &place, new);
-    let is_set = answer.is_ok();
-    let told = after(alloc, manifest, source, answer)?;
-    let again = requirement(alloc, &manifest.document, names)?;
-    if is_set && again.as_str() != new {
-        return text(alloc, "another requirement");
-    }
-    Ok(told)
-}
-
-/// What is answered about a manifest to a word and what stands behind it.
-fn asked(alloc: Global, manifest: &mut Manifest, source: &str, call: &str) -> Result<String, Fail> {
-    let (word, rest) = call.split_once(' ').unwrap_or((call, ""));
-    match word {
-        "inherited" => Ok(format!(in alloc; "{}", manifest.version_is_inherited())?),
-        "shared" => shared(alloc, manifest),
-        "requirement" => requirement(alloc, &manifest.document, rest),
-        "require" => set_requirement(alloc, manifest, source, rest),
-        "package" => {
-            let version = Version::parse(alloc, rest)?;
-            let answer = manifest.set_package_version(alloc, &version);
-            after(alloc, manifest, source, answer)
-        }
-        _ => {
-            let version = Version::parse(alloc, rest)?;
-            let answer = manifest.set_workspace_version(alloc, &version);
-            after(alloc, manifest, source, answer)
-        }
-    }
-}
-
-/// What is answered about a copy of the manifest that a text is.
-fn answer(alloc: Global, call: &str, source: &str) -> Result<String, Fail> {
-    match Manifest::read(alloc, source) {
-        Ok(manifest) => asked(alloc, &mut manifest.try_clone(alloc)?, source, call),
-        Err(error) => told(alloc, error),
-    }
-}
+use test_rows::{TILDES, rows_hold};
 
 /// What is answered, the call and the text; a row ends at `~` (Cargo reference, "The Manifest Format", The
 /// version field; "Workspaces", The package table).
@@ -121,11 +25,6 @@ package.version = \"1.0.0-rc.1+b\"\n|package 1.0.0-rc.1+b|package.version = 'x'\
 none|shared|[workspace.package]\nversion = '1.0'\n~\
 none|shared|[workspace.package]\nversion = 1\n~\
 none|shared|[workspace]\nmembers = []\n";
-
-#[test]
-fn tells_and_sets_versions(rt: HostRuntime) -> Result<(), Fail> {
-    rows_hold(rt.alloc(), VERSIONS, TILDES, answer)
-}
 
 /// The same of requirements of entries (Cargo reference, "Specifying Dependencies").
 const REQUIREMENTS: &str = "\
@@ -151,6 +50,7 @@ a = { version = \"2\" }\n|require a 2|a = { version = [ 1, 2 ] }\n~\
 13 No version literal to set|require a 2|[a.version]\nworkspace = true\n";
 
 #[test]
-fn tells_and_sets_requirements(rt: HostRuntime) -> Result<(), Fail> {
+fn tells_and_sets_versions(rt: HostRuntime) -> Result<(), Fail> {
+    rows_hold(rt.alloc(), VERSIONS, TILDES, answer)?;
     rows_hold(rt.alloc(), REQUIREMENTS, TILDES, answer)
 }

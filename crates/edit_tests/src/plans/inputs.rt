@@ -1,6 +1,8 @@
 //! A plan of two manifests of distinct folders.
 use super::upgrade::{index_of, input_at, options_of};
 use cargo_edit::{UpgradePlan, plan_upgrade};
+use edit_base::CargoResult;
+use edit_sources::{FileIndex, IndexCache};
 use std::alloc::Global;
 use std::str;
 use std::test::Fail;
@@ -21,9 +23,8 @@ fn telling(alloc: Global, plan: &UpgradePlan) -> Result<String, Fail> {
     Ok(told)
 }
 
-#[test]
-fn a_crate_that_two_manifests_have(rt: HostRuntime) -> Result<(), Fail> {
-    let alloc = rt.alloc();
+/// The plan of the manifests of two folders.
+fn planned(alloc: Global, index: &mut IndexCache<FileIndex>) -> CargoResult<UpgradePlan> {
     let first = b"[dependencies]\nx = \"1.0\"\n";
     let second = b"[dependencies]\ny = \"1.2\"\nx = \"1.1\"\n";
     let inputs = [
@@ -32,10 +33,18 @@ fn a_crate_that_two_manifests_have(rt: HostRuntime) -> Result<(), Fail> {
     ];
     let configs = [Vec::new(alloc), Vec::new(alloc)];
     let options = options_of(alloc, "");
+    plan_upgrade(alloc, &options, &inputs, &configs, index)
+}
+
+/// What is told of it.
+fn outcome(alloc: Global) -> Result<String, Fail> {
     let mut index = index_of(alloc, "x y", "1.0.0 1.2.3 2.0.0")?;
-    let plan = plan_upgrade(alloc, &options, &inputs, &configs, &mut index)?;
-    let seen = telling(alloc, &plan)?;
-    let want = "\
+    let plan = planned(alloc, &mut index)?;
+    telling(alloc, &plan)
+}
+
+/// What is told of two manifests, one crate of which both have.
+const TWO: &str = "\
 /w/a/Cargo.toml: [dependencies]
 x = \"1.2\"
 
@@ -48,6 +57,9 @@ x = \"1.2\"
 1 x Some(\"1.2\")
 looks: 2
 ";
-    same("two manifests", seen.as_str(), want)?;
-    Ok(())
+
+#[test]
+fn a_crate_that_two_manifests_have(rt: HostRuntime) -> Result<(), Fail> {
+    let seen = outcome(rt.alloc())?;
+    same("two manifests", seen.as_str(), TWO)
 }

@@ -132,22 +132,6 @@ fn is_settled(plan: &UpgradePlan) -> bool {
     plan.outputs.is_empty() && plan.rows.iter().all(|row| row.change.is_none())
 }
 
-/// Whether the plan for what a plan writes changes nothing.
-fn settles(
-    alloc: Global,
-    flags: &str,
-    plan: &UpgradePlan,
-    index: &mut IndexCache<FileIndex>,
-) -> bool {
-    match plan.outputs.first() {
-        Some(output) => match planned(alloc, flags, &output.bytes, index) {
-            Ok(next) => is_settled(&next),
-            Err(_) => false,
-        },
-        None => true,
-    }
-}
-
 /// What is told of a plan: what it writes, a line for each row and each warning, and how many looks
 /// were made.
 fn telling(alloc: Global, plan: &UpgradePlan) -> Result<String, Fail> {
@@ -159,21 +143,43 @@ fn telling(alloc: Global, plan: &UpgradePlan) -> Result<String, Fail> {
     Ok(told)
 }
 
-/// What is told of the plan for a manifest, if the plan for what it writes changes nothing.
-pub(crate) fn outcome(
+/// What is told of a plan, if the plan for what it writes changes nothing.
+fn settled(
+    alloc: Global,
+    flags: &str,
+    plan: &UpgradePlan,
+    index: &mut IndexCache<FileIndex>,
+) -> Result<String, Fail> {
+    let Some(output) = plan.outputs.first() else {
+        return telling(alloc, plan);
+    };
+    let next = planned(alloc, flags, &output.bytes, index)?;
+    if !is_settled(&next) {
+        return text(alloc, "changes again");
+    }
+    telling(alloc, plan)
+}
+
+/// The same of the plan for a manifest.
+fn outcome_over(
     alloc: Global,
     flags: &str,
     bytes: &[u8],
     index: &mut IndexCache<FileIndex>,
 ) -> Result<String, Fail> {
     match planned(alloc, flags, bytes, index) {
-        Ok(plan) => {
-            if settles(alloc, flags, &plan, index) {
-                telling(alloc, &plan)
-            } else {
-                text(alloc, "changes again")
-            }
-        }
+        Ok(plan) => settled(alloc, flags, &plan, index),
         Err(error) => told(alloc, error),
     }
+}
+
+/// A part of a call, which stand with semicolons between them.
+fn part(call: &str, n: usize) -> &str {
+    call.split(';').nth(n).unwrap_or("")
+}
+
+/// What is told of the plan for a manifest, with the options, the names and the versions of a call.
+pub(crate) fn outcome(alloc: Global, call: &str, bytes: &[u8]) -> Result<String, Fail> {
+    let mut index = index_of(alloc, part(call, 1), part(call, 2))?;
+    outcome_over(alloc, part(call, 0), bytes, &mut index)
 }

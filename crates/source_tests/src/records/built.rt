@@ -5,10 +5,10 @@ use super::written_rows::record_of;
 use edit_record::{Dependency, Source};
 use std::alloc::Global;
 use std::test::Fail;
-use test_rows::{LINES, rows_hold};
+use test_rows::{LINES, rows_hold, text};
 
-/// What a copy of a record says that these parts gave, and which of the four its source is; the crate's name,
-/// and the parts.
+/// What a copy of a record says that these parts gave, and which of the four its source is; the crate's
+/// name, and the parts.
 const BUILT: &str = "\
 x@1.0 x 1.0 - - - -, registry|x|registry=1.0+a
 a@1.0.0 a 1.0.0 - - - -, registry|a|registry=1.0.0+a
@@ -54,11 +54,6 @@ less, two hashes|available features=a|rename=d
 equal, one hash|available features=a|available features=a
 less, two hashes|bare|available features=a";
 
-/// The record of a crate that has these parts.
-fn built(alloc: Global, name: &str, parts: &str) -> Result<Dependency, Fail> {
-    Ok(record_of(alloc, name, parts).ok().ok_or("a record")?)
-}
-
 /// Which of the four a source is.
 fn kind(source: &Source) -> &'static str {
     let registry = source.as_registry().map_or("", |_| "registry");
@@ -67,28 +62,44 @@ fn kind(source: &Source) -> &'static str {
     source.as_workspace().map_or(git, |_| "workspace")
 }
 
-/// What a copy of the record of a row says.
-fn copied(alloc: Global, name: &str, parts: &str) -> Result<String, Fail> {
-    let record = built(alloc, name, parts)?;
-    let copy = record.try_clone(alloc).ok().ok_or("a copy")?;
+/// What the copy of a record says.
+fn copy_told(alloc: Global, record: &Dependency, copy: &Dependency) -> Result<String, Fail> {
     if copy != record {
-        return Err(Fail::from("another copy"));
+        return text(alloc, "another copy");
     }
-    let kind = copy.source().map_or("none", kind);
-    let told = record_told(alloc, &copy)?;
-    Ok(format!(in alloc; "{told}, {kind}")?)
+    let mut told = record_told(alloc, copy)?;
+    told.push_str(", ")?;
+    told.push_str(copy.source().map_or("none", kind))?;
+    Ok(told)
+}
+
+/// What a copy of a record says.
+fn copied(alloc: Global, record: &Dependency) -> Result<String, Fail> {
+    let copy = record.try_clone(alloc)?;
+    copy_told(alloc, record, &copy)
+}
+
+/// What a copy of the record of a row says.
+fn built(alloc: Global, name: &str, parts: &str) -> Result<String, Fail> {
+    let record = record_of(alloc, name, parts)?;
+    copied(alloc, &record)
 }
 
 #[test]
 fn built_records(rt: HostRuntime) -> Result<(), Fail> {
-    rows_hold(rt.alloc(), BUILT, LINES, copied)
+    rows_hold(rt.alloc(), BUILT, LINES, built)
+}
+
+/// How a record compares to that of other parts.
+fn compared_to(alloc: Global, one: &Dependency, parts: &str) -> Result<String, Fail> {
+    let other = record_of(alloc, "x", parts)?;
+    compared(alloc, one, &other)
 }
 
 /// How the records of these parts compare.
 fn compared_parts(alloc: Global, one: &str, other: &str) -> Result<String, Fail> {
-    let one = built(alloc, "x", one)?;
-    let other = built(alloc, "x", other)?;
-    compared(alloc, &one, &other)
+    let one = record_of(alloc, "x", one)?;
+    compared_to(alloc, &one, other)
 }
 
 #[test]

@@ -6,7 +6,7 @@ use edit_record::{
 };
 use std::alloc::{AllocError, Global};
 use std::test::Fail;
-use test_rows::{LINES, rows_hold, same, text, told};
+use test_rows::{LINES, rows_hold, text, told};
 
 /// Versions, whether they are yanked, and the Rust version that they ask for.
 const ENTRIES: &str = "\
@@ -44,8 +44,7 @@ fn rust_version(alloc: Global, text: &str) -> Result<Option<RustVersion>, Fail> 
     if text.is_empty() {
         return Ok(None);
     }
-    let version = RustVersion::from_str(alloc, text).ok();
-    Ok(Some(version.ok_or("a Rust version")?))
+    Ok(Some(RustVersion::from_str(alloc, text)?))
 }
 
 /// The version that a requirement chooses.
@@ -118,9 +117,9 @@ fn numbers(alloc: Global, version: RustVersion) -> Result<String, Fail> {
 
 /// How the Rust versions of two texts compare.
 fn compared_texts(alloc: Global, texts: &str) -> Result<String, Fail> {
-    let (one, other) = texts.split_once(' ').ok_or("two Rust versions")?;
-    let one = rust_version(alloc, one)?.ok_or("a Rust version")?;
-    let other = rust_version(alloc, other)?.ok_or("a Rust version")?;
+    let (one, other) = texts.split_once(' ').unwrap_or((texts, ""));
+    let one = RustVersion::from_str(alloc, one)?;
+    let other = RustVersion::from_str(alloc, other)?;
     compared(alloc, &one, &other)
 }
 
@@ -151,12 +150,19 @@ fn rust_versions(rt: HostRuntime) -> Result<(), Fail> {
     rows_hold(rt.alloc(), RUST_VERSIONS, LINES, rust)
 }
 
-/// Whether a version suits the Rust version that it asks for, and none, and not another one.
-fn suited(candidate: &Candidate, other: RustVersion) -> &'static str {
-    if candidate.is_for(candidate.rust_version)
-        && candidate.is_for(None)
-        && !candidate.is_for(Some(other))
-    {
+/// A Rust version that no entry asks for.
+const OTHER: RustVersion = RustVersion {
+    major: 1,
+    minor: 2,
+    patch: 3,
+};
+
+/// Whether a version suits the Rust version that it asks for, and none, and not another one between the
+/// least and the greatest.
+fn suited(candidate: &Candidate) -> &'static str {
+    let is_between = RustVersion::MIN < OTHER && OTHER < RustVersion::MAX;
+    let is_suited = candidate.is_for(candidate.rust_version) && candidate.is_for(None);
+    if is_between && is_suited && !candidate.is_for(Some(OTHER)) {
         "its own"
     } else {
         "others"
@@ -164,9 +170,9 @@ fn suited(candidate: &Candidate, other: RustVersion) -> &'static str {
 }
 
 /// Which Rust versions an entry suits, `-` where it is not read.
-fn read(alloc: Global, entry: &IndexVersion, other: RustVersion) -> Result<String, Fail> {
+fn read(alloc: Global, entry: &IndexVersion) -> Result<String, Fail> {
     match read_candidate(alloc, entry) {
-        Ok(Some(candidate)) => text(alloc, suited(&candidate, other)),
+        Ok(Some(candidate)) => text(alloc, suited(&candidate)),
         Ok(None) => text(alloc, "-"),
         Err(error) => told(alloc, error),
     }
@@ -180,23 +186,21 @@ fn depended(alloc: Global, entry: &IndexVersion) -> Result<String, Fail> {
     }
 }
 
-/// The copy of an entry that asks for Rust 1.70.
-fn copied(alloc: Global) -> Result<IndexVersion, Fail> {
-    let entry = entry(alloc, "1.0.0", false, "1.70")?;
-    Ok(entry.try_clone(alloc).ok().ok_or("a copy")?)
+/// What is told of the copy of an entry that asks for Rust 1.70.
+fn copied(alloc: Global, call: &str, _row: &str) -> Result<String, Fail> {
+    let copy = entry(alloc, "1.0.0", false, "1.70")?.try_clone(alloc)?;
+    match call {
+        "suits" => read(alloc, &copy),
+        _ => depended(alloc, &copy),
+    }
 }
 
 #[test]
 fn entries_are_read(rt: HostRuntime) -> Result<(), Fail> {
-    let three = RustVersion {
-        major: 1,
-        minor: 2,
-        patch: 3,
-    };
-    assert!(rt; RustVersion::MIN < three && three < RustVersion::MAX);
-    let entry = copied(rt.alloc())?;
-    let seen = read(rt.alloc(), &entry, three)?;
-    same("suits", seen.as_str(), "its own")?;
-    let seen = depended(rt.alloc(), &entry)?;
-    same("dependency", seen.as_str(), "x 1.0.0 -")
+    rows_hold(
+        rt.alloc(),
+        "its own|suits\nx 1.0.0 -|depends",
+        LINES,
+        copied,
+    )
 }

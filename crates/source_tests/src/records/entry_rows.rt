@@ -1,10 +1,10 @@
 //! Rows of entries of a dependency table, each with its record or its refusal.
-use edit_base::CargoResult;
-use edit_document::{Document, Step};
+use super::parts::entry_at;
+use edit_document::Document;
 use edit_record::Dependency;
 use std::alloc::{AllocError, Global};
 use std::test::Fail;
-use test_rows::{LINES, rows_hold, told};
+use test_rows::{LINES, rows_hold, text, told, unfolded};
 
 /// What an entry says, its key, and what stands below `[dependencies]`, with `@` for a line's end. A record
 /// is told by its text, its key, its requirement, its registry, its features, its default features and
@@ -114,37 +114,42 @@ fn features(alloc: Global, texts: Option<&Vec<String>>) -> Result<String, AllocE
 }
 
 /// What a record says.
-pub(crate) fn record_told(alloc: Global, record: &Dependency) -> Result<String, AllocError> {
+pub(crate) fn record_told(alloc: Global, record: &Dependency) -> Result<String, Fail> {
     let key = record.toml_key();
     let version = record.version().unwrap_or("-");
     let registry = record.registry().unwrap_or("-");
     let features = features(alloc, record.features.as_ref())?;
     let default_features = truth(record.default_features());
     let optional = truth(record.optional());
-    format!(in alloc;
+    Ok(format!(in alloc;
         "{record} {key} {version} {registry} {features} {default_features} {optional}"
-    )
+    )?)
 }
 
-/// The record of an entry of a document.
-fn read(alloc: Global, document: &Document, key: &str) -> Result<CargoResult<Dependency>, Fail> {
-    let place = vec![in alloc; Step::Key(String::from_str(alloc, "dependencies")?)]?;
-    let table = document.item(&place).ok_or("a table")?;
-    let item = table.get(key).ok_or("an entry")?;
-    Ok(Dependency::from_toml(alloc, "/foo", key, item))
+/// What the entry of a key says.
+fn read(alloc: Global, document: &Document, key: &str) -> Result<String, Fail> {
+    let Some(item) = entry_at(document, key) else {
+        return text(alloc, "no entry");
+    };
+    match Dependency::from_toml(alloc, "/foo", key, item) {
+        Ok(record) => record_told(alloc, &record),
+        Err(error) => told(alloc, error),
+    }
+}
+
+/// What the entry of a key of a manifest says.
+fn read_text(alloc: Global, text: &str, key: &str) -> Result<String, Fail> {
+    match Document::read(alloc, text) {
+        Ok(document) => read(alloc, &document, key),
+        Err(error) => told(alloc, error),
+    }
 }
 
 /// What the entry of a row says.
 fn entry(alloc: Global, key: &str, entries: &str) -> Result<String, Fail> {
-    let entries = entries.replace(alloc, "@", "\n")?;
-    let text = format!(in alloc; "[dependencies]\n{entries}")?;
-    let document = Document::read(alloc, text.as_str())
-        .ok()
-        .ok_or("a document")?;
-    match read(alloc, &document, key)? {
-        Ok(record) => Ok(record_told(alloc, &record)?),
-        Err(error) => told(alloc, error),
-    }
+    let mut text = text(alloc, "[dependencies]\n")?;
+    text.push_str(unfolded(alloc, entries)?.as_str())?;
+    read_text(alloc, text.as_str(), key)
 }
 
 #[test]

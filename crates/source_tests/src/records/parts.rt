@@ -1,5 +1,6 @@
 //! What the tests of records make and tell.
 use edit_base::CargoResult;
+use edit_document::{Document, Item};
 use edit_record::{Dependency, IndexVersion};
 use edit_version::upgrade_requirement;
 use semver::{Version, VersionReq};
@@ -37,6 +38,11 @@ pub(crate) fn entry(
         yanked,
         rust_version: asked,
     })
+}
+
+/// The entry of a key among a document's dependencies.
+pub(crate) fn entry_at<'a>(document: &'a Document, key: &str) -> Option<Item<'a>> {
+    document.item(&[])?.get("dependencies")?.get(key)
 }
 
 /// The name of a dependency, its version and its new name; `-` for none.

@@ -5,7 +5,8 @@ use std::alloc::Global;
 use std::test::Fail;
 use test_rows::{LINES, SEMICOLONS, rows_hold, text};
 
-/// The text that is written, `-` for none, a name, the requirement and the version.
+/// The text that is written, `-` for none, a name, the requirement and the version. Then what is written at
+/// 1.0.0, 1.1.0, 1.1.1 and 2.0.0, and the requirement.
 const RAISED: &str = "\
 2|bare major|1|2.3.4
 ^1.2|caret stays|^1.0|1.2.0
@@ -32,21 +33,7 @@ const RAISED: &str = "\
 15 Support for modifying <2 is currently unsupported|first inequality of two|1, <2, >1|2.0.0
 15 Support for modifying <=1.2.3-rc.1 is currently unsupported|inequality without build|<=1.2.3-rc.1+b|2.0.0
 14 Invalid version requirement `one`|no requirement|one|1.0.0
-14 Invalid version requirement ``|empty||1.0.0";
-
-/// The text that a requirement and a version lead to.
-fn raised(alloc: Global, _name: &str, argument: &str) -> Result<String, Fail> {
-    let (req, version) = argument.split_once('|').unwrap_or((argument, ""));
-    upgraded(alloc, req, version)
-}
-
-#[test]
-fn requirements_are_raised(rt: HostRuntime) -> Result<(), Fail> {
-    rows_hold(rt.alloc(), RAISED, LINES, raised)
-}
-
-/// What is written at 1.0.0, 1.1.0, 1.1.1 and 2.0.0, and the requirement.
-const SIGNS: &str = "\
+14 Invalid version requirement ``|empty||1.0.0
 - - - 2|signs|1
 - - - ^2|signs|^1
 - - - ~2|signs|~1
@@ -63,21 +50,27 @@ const SIGNS: &str = "\
 - 1.1.* 1.1.* 2.0.*|signs|1.0.*";
 
 /// The texts that a requirement is raised to at four versions.
-fn signs(alloc: Global, _call: &str, req: &str) -> Result<String, Fail> {
-    let mut texts = String::new(alloc);
-    for version in ["1.0.0", "1.1.0", "1.1.1", "2.0.0"] {
-        let text = upgraded(alloc, req, version)?;
-        if !texts.is_empty() {
-            texts.push(' ')?;
-        }
-        texts.push_str(text.as_str())?;
+fn signs(alloc: Global, req: &str) -> Result<String, Fail> {
+    let mut texts = upgraded(alloc, req, "1.0.0")?;
+    for version in ["1.1.0", "1.1.1", "2.0.0"] {
+        texts.push(' ')?;
+        texts.push_str(upgraded(alloc, req, version)?.as_str())?;
     }
     Ok(texts)
 }
 
+/// The text that a requirement and a version lead to.
+fn raised(alloc: Global, name: &str, argument: &str) -> Result<String, Fail> {
+    if name == "signs" {
+        return signs(alloc, argument);
+    }
+    let (req, version) = argument.split_once('|').unwrap_or((argument, ""));
+    upgraded(alloc, req, version)
+}
+
 #[test]
-fn each_sign_is_raised(rt: HostRuntime) -> Result<(), Fail> {
-    rows_hold(rt.alloc(), SIGNS, LINES, signs)
+fn requirements_are_raised(rt: HostRuntime) -> Result<(), Fail> {
+    rows_hold(rt.alloc(), RAISED, LINES, raised)
 }
 
 /// Whether the text allows a pre-release, the requirement, a version that it admits, and one that it does

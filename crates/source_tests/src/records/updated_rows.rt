@@ -4,12 +4,15 @@ use super::written_rows::record;
 use edit_base::CargoResult;
 use edit_document::{Document, Place, Step};
 use edit_record::Dependency;
-use std::alloc::Global;
+use std::alloc::{AllocError, Global};
 use std::test::Fail;
-use test_rows::{LINES, rows_hold, told, unfolded};
+use test_rows::{LINES, rows_hold, text, told, unfolded};
 
-/// Strings, and tables of one member that one pair names: another entry stands there.
-const REPLACED: &str = "\
+/// Strings, and tables of one member that one pair names: another entry stands there. Inline tables.
+/// Features: those of the entry and then those of the record, each once. Tables with a header of their
+/// own, and entries of dotted keys. Then what is neither a string nor a table, which is refused, and then
+/// the manifest is as it was.
+const UPDATED: &str = "\
 x = \"2\"|x = \"1\"|registry=2
 x = { version = \"2\", optional = true }|x = \"1\"|registry=2;optional=true
 x = \"2\" # keep|x = \"1\" # keep|registry=2
@@ -30,10 +33,7 @@ x = \"2\"|x.version = \"1\"|registry=2
 x.workspace = true|x.version = \"1\"|workspace=
 x = { version = \"2\", optional = true }@y = \"1\"|x.workspace = true@y = \"1\"|registry=2;optional=true
 dependencies = { x = \"2\" }|dependencies = { x = \"1\" }|registry=2
-dependencies = { x = \"2\", y = \"1\" }|dependencies = { x.version = \"1\", y = \"1\" }|registry=2";
-
-/// Inline tables.
-const INLINE: &str = "\
+dependencies = { x = \"2\", y = \"1\" }|dependencies = { x.version = \"1\", y = \"1\" }|registry=2
 serde = { version = \"2\", features = [\"a\", \"b\"], optional = true }|\
 serde = { version = \"1\", features = [\"a\"] }|registry=2;features=b a;optional=true
 x = { git = \"u\", tag = \"t\" }|x = { git = \"u\", branch = \"b\" }|bare tag=t
@@ -72,10 +72,7 @@ registry=2;optional=true
 x = { version = \"2\" }@y = { path = \"p\" }|\
 x = { path = \"p\", version = \"1\" }@y = { path = \"p\" }|registry=2
 dependencies = { x.version = \"2\", x.optional = true }|\
-dependencies = { x.version = \"1\", x.path = \"p\" }|registry=2;optional=true";
-
-/// Features: those of the entry and then those of the record, each once.
-const FEATURES: &str = "\
+dependencies = { x.version = \"1\", x.path = \"p\" }|registry=2;optional=true
 x = { version = \"2\", features = [\"a\", \"b\", \"c\"] }|\
 x = { version = \"1\", features = [\"a\", \"b\", \"a\"] }|registry=2;features=c b c
 x = { version = \"2\", features = [\"a\"] }|x = { version = \"1\", features = [ 'a', ] }|registry=2;features=
@@ -86,10 +83,7 @@ x = { version = \"2\", optional = true, features = [\"b\", \"a\"] }|x = { versio
 registry=2;features=b a;optional=true
 x = { version = \"2\" }|x = { version = \"1\", features = [\"a\"] }|registry=2
 [dependencies.x]@version = \"2\"@features = [\"a\", \"b\"]@|\
-[dependencies.x]@version = \"1\"@features = [@  \"a\", # why@]@|registry=2;features=b";
-
-/// Tables with a header of their own, and entries of dotted keys.
-const TABLES: &str = "\
+[dependencies.x]@version = \"1\"@features = [@  \"a\", # why@]@|registry=2;features=b
 [dependencies.x]@version = \"2\"|[dependencies.x]@version = \"1\"|registry=2
 [dependencies.x]@version = \"2\" # c@optional = true|[dependencies.x]@version = \"1\" # c|\
 registry=2;optional=true
@@ -103,10 +97,7 @@ versioned path=/bar
 x.version = \"2\"@x.features = [\"a\", \"b\"]@x.optional = true@|x.version = \"1\"@x.features = [\"a\"]@|\
 registry=2;features=b;optional=true
 x.version = \"2\" # c@y = \"1\"@|x.version = \"1\" # c@x.path = \"p\"@y = \"1\"@|registry=2
-y = \"1\"@|x.optional = true@x.features = [\"a\"]@y = \"1\"@|inherited features=a";
-
-/// What is neither a string nor a table is refused, and then the manifest is as it was.
-const REFUSED: &str = "\
+y = \"1\"@|x.optional = true@x.features = [\"a\"]@y = \"1\"@|inherited features=a
 x = 1, 49 Edit would change more than its place|x = 1|registry=2
 x = [], 49 Edit would change more than its place|x = []|registry=2
 [[dependencies.x]]@version = \"1\"@, 49 Edit would change more than its place|\
@@ -115,68 +106,89 @@ x = [], 49 Edit would change more than its place|x = []|registry=2
 /// The header above a manifest of entries alone.
 const HEADER: &str = "[dependencies]\n";
 
-/// The place of the first dependency.
-fn first_place(alloc: Global, document: &Document) -> Result<Place, Fail> {
-    let mut place = vec![in alloc; Step::Key(String::from_str(alloc, "dependencies")?)]?;
-    let table = document.item(&place).ok_or("a table")?;
-    let key = table.keys().next().ok_or("an entry")?;
+/// The key of the first dependency.
+fn first_key(document: &Document) -> Option<&str> {
+    document.item(&[])?.get("dependencies")?.keys().next()
+}
+
+/// The place of a dependency.
+fn place_of(alloc: Global, key: &str) -> Result<Place, AllocError> {
+    let mut place = Vec::new(alloc);
+    place.push(Step::Key(String::from_str(alloc, "dependencies")?))?;
     place.push(Step::Key(String::from_str(alloc, key)?))?;
     Ok(place)
 }
 
-/// The manifest that is left, and why it was refused where it was.
-fn left(alloc: Global, document: &mut Document, record: &Dependency) -> Result<String, Fail> {
-    let place = first_place(alloc, document)?;
-    document.item(&place).ok_or("an entry")?;
-    if place.len() > 70 {
-        return Err(Fail::new(format_args!("a place of {} steps", place.len())));
+/// Updates the entry at a place of at most 70 steps; whether there is one.
+fn update(
+    alloc: Global,
+    document: &mut Document,
+    record: &Dependency,
+    place: &[Step],
+) -> CargoResult<bool> {
+    if place.len() > 70 || document.item(place).is_none() {
+        return Ok(false);
     }
-    let answer = record.update_toml(alloc, "/foo", document, &place);
+    record.update_toml(alloc, "/foo", document, place)?;
+    Ok(true)
+}
+
+/// What is left of a manifest, and why it was refused where it was.
+fn shown(alloc: Global, document: &Document, refusal: &str) -> Result<String, Fail> {
     let text = document.as_str();
     let text = text.strip_prefix(HEADER).unwrap_or(text);
-    let text = text.replace(alloc, '\n', "@")?;
-    match answer {
-        Ok(()) => Ok(text),
-        Err(error) => {
-            let error = told(alloc, error)?;
-            Ok(format!(in alloc; "{text}, {error}")?)
-        }
+    let mut left = text.replace(alloc, '\n', "@")?;
+    if !refusal.is_empty() {
+        left.push_str(", ")?;
+        left.push_str(refusal)?;
+    }
+    Ok(left)
+}
+
+/// The same after an update of the entry at a place.
+fn left(
+    alloc: Global,
+    document: &mut Document,
+    record: &Dependency,
+    place: &[Step],
+) -> Result<String, Fail> {
+    match update(alloc, document, record, place) {
+        Ok(true) => shown(alloc, document, ""),
+        Ok(false) => text(alloc, "no entry"),
+        Err(error) => shown(alloc, document, told(alloc, error)?.as_str()),
+    }
+}
+
+/// The same after an update of the first dependency.
+fn first_left(alloc: Global, document: &mut Document, record: &Dependency) -> Result<String, Fail> {
+    let place = place_of(alloc, first_key(document).unwrap_or(""))?;
+    left(alloc, document, record, &place)
+}
+
+/// What a manifest is after an update of its first dependency.
+fn updated_text(alloc: Global, text: &str, record: &Dependency) -> Result<String, Fail> {
+    match Document::read(alloc, text) {
+        Ok(mut document) => first_left(alloc, &mut document, record),
+        Err(error) => told(alloc, error),
     }
 }
 
 /// The manifest of a row: below a header where it has none.
-fn manifest(alloc: Global, text: &str) -> CargoResult<Document> {
-    let is_whole = text.starts_with('[') || text.starts_with("dependencies");
+fn manifest(alloc: Global, lines: &str) -> Result<String, Fail> {
+    let is_whole = lines.starts_with('[') || lines.starts_with("dependencies");
     let header = if is_whole { "" } else { HEADER };
-    let text = format!(in alloc; "{header}{text}")?;
-    Document::read(alloc, text.as_str())
+    let lines = unfolded(alloc, lines)?;
+    Ok(format!(in alloc; "{header}{lines}")?)
 }
 
-/// What a manifest is after an update of its first dependency.
-fn updated(alloc: Global, text: &str, parts: &str) -> Result<String, Fail> {
-    let text = unfolded(alloc, text)?;
-    let mut document = manifest(alloc, text.as_str()).ok().ok_or("a document")?;
-    let record = record(alloc, parts).ok().ok_or("a record")?;
-    left(alloc, &mut document, &record)
-}
-
-#[test]
-fn entries_are_replaced(rt: HostRuntime) -> Result<(), Fail> {
-    rows_hold(rt.alloc(), REPLACED, LINES, updated)
+/// What the manifest of a row is after an update of its first dependency.
+fn updated(alloc: Global, lines: &str, parts: &str) -> Result<String, Fail> {
+    let manifest = manifest(alloc, lines)?;
+    let record = record(alloc, parts)?;
+    updated_text(alloc, manifest.as_str(), &record)
 }
 
 #[test]
-fn members_are_updated(rt: HostRuntime) -> Result<(), Fail> {
-    rows_hold(rt.alloc(), INLINE, LINES, updated)?;
-    rows_hold(rt.alloc(), FEATURES, LINES, updated)
-}
-
-#[test]
-fn tables_are_updated(rt: HostRuntime) -> Result<(), Fail> {
-    rows_hold(rt.alloc(), TABLES, LINES, updated)
-}
-
-#[test]
-fn refused_updates_change_nothing(rt: HostRuntime) -> Result<(), Fail> {
-    rows_hold(rt.alloc(), REFUSED, LINES, updated)
+fn entries_are_updated(rt: HostRuntime) -> Result<(), Fail> {
+    rows_hold(rt.alloc(), UPDATED, LINES, updated)
 }

@@ -1,12 +1,13 @@
 //! Rows of records and their new entries: what is written, the folder of the manifest, and what the record
 //! says, its parts between semicolons.
+use super::parts::entry_at;
 use edit_base::CargoResult;
-use edit_document::{Document, NewItem, Step};
+use edit_document::{Document, NewItem};
 use edit_record::{Dependency, GitSource, PathSource, RegistrySource, Source, WorkspaceSource};
 use std::alloc::{AllocError, Global};
 use std::collections::BTreeMap;
 use std::test::Fail;
-use test_rows::{LINES, rows_hold};
+use test_rows::{LINES, made, rows_hold, text};
 
 /// Each source alone and with each part that an entry can have; where another entry is written of what is
 /// read, that one comes second.
@@ -45,10 +46,7 @@ registry=1;registry name=n;rename=d;default features=true;features=a;optional=tr
 /// The words of a text; the empty text has none.
 fn words(alloc: Global, text: &str) -> Result<Vec<String>, AllocError> {
     let mut words = Vec::new(alloc);
-    if text.is_empty() {
-        return Ok(words);
-    }
-    for word in text.split(' ') {
+    for word in text.split_terminator(' ') {
         words.push(String::from_str(alloc, word)?)?;
     }
     Ok(words)
@@ -85,23 +83,45 @@ fn versioned(alloc: Global, git: GitSource, part: &str, text: &str) -> CargoResu
 
 /// The source that a part names.
 fn source(alloc: Global, part: &str, text: &str) -> CargoResult<Source> {
-    Ok(match part {
-        "registry" => Source::from(RegistrySource::new(alloc, text)?),
-        "path" => Source::from(PathSource::new(alloc, text)?),
-        "versioned path" => Source::from(PathSource::new(alloc, text)?.set_version(alloc, "3")?),
-        "path version" => Source::from(PathSource::new(alloc, "/w/x")?.set_version(alloc, text)?),
-        "git" => Source::from(GitSource::new(alloc, text)?),
-        "workspace" => Source::from(WorkspaceSource::new()),
-        _ => Source::from(repository(alloc, part, text)?),
-    })
+    match part {
+        "registry" => Ok(Source::from(RegistrySource::new(alloc, text)?)),
+        "git" => Ok(Source::from(GitSource::new(alloc, text)?)),
+        "workspace" => Ok(Source::from(WorkspaceSource::new())),
+        "path" | "versioned path" | "path version" => path(alloc, part, text),
+        _ => Ok(Source::from(repository(alloc, part, text)?)),
+    }
 }
 
-/// The record whose crate has one feature.
-fn available(alloc: Global, record: Dependency, text: &str) -> CargoResult<Dependency> {
+/// A folder, with a version or without.
+fn path(alloc: Global, part: &str, text: &str) -> CargoResult<Source> {
+    let source = PathSource::new(alloc, if part == "path version" { "/w/x" } else { text })?;
+    match part {
+        "path" => Ok(Source::from(source)),
+        "path version" => Ok(Source::from(source.set_version(alloc, text)?)),
+        _ => Ok(Source::from(source.set_version(alloc, "3")?)),
+    }
+}
+
+/// The features that a crate has: one, which has two others.
+fn features_of(alloc: Global, name: &str) -> CargoResult<BTreeMap<String, Vec<String>>> {
     let mut features = BTreeMap::new(alloc);
-    let name = String::from_str(alloc, text)?;
-    features.insert(name, words(alloc, "b c")?)?;
-    Ok(record.set_available_features(features))
+    let others = words(alloc, "b c")?;
+    features.insert(String::from_str(alloc, name)?, others)?;
+    Ok(features)
+}
+
+/// The record with features.
+fn with_features(
+    alloc: Global,
+    record: Dependency,
+    part: &str,
+    words: Vec<String>,
+) -> CargoResult<Dependency> {
+    match part {
+        "features" => Ok(record.set_features(words)),
+        "inherited features" => Ok(record.set_inherited_features(words)),
+        _ => record.extend_features(alloc, words),
+    }
 }
 
 /// The record with one part more.
@@ -110,12 +130,24 @@ fn with_part(alloc: Global, record: Dependency, part: &str, text: &str) -> Cargo
         "bare" => Ok(record),
         "rename" => record.set_rename(alloc, text),
         "registry name" => record.set_registry(alloc, text),
-        "features" => Ok(record.set_features(words(alloc, text)?)),
-        "more features" => record.extend_features(alloc, words(alloc, text)?),
-        "inherited features" => Ok(record.set_inherited_features(words(alloc, text)?)),
-        "available features" => available(alloc, record, text),
         "default features" => Ok(record.set_default_features(text == "true")),
         "optional" => Ok(record.set_optional(text == "true")),
+        _ => with_values(alloc, record, part, text),
+    }
+}
+
+/// The same of a part that has several words, or is a source.
+fn with_values(
+    alloc: Global,
+    record: Dependency,
+    part: &str,
+    text: &str,
+) -> CargoResult<Dependency> {
+    match part {
+        "features" | "more features" | "inherited features" => {
+            with_features(alloc, record, part, words(alloc, text)?)
+        }
+        "available features" => Ok(record.set_available_features(features_of(alloc, text)?)),
         _ => Ok(record.set_source(source(alloc, part, text)?)),
     }
 }
@@ -136,45 +168,55 @@ pub(crate) fn record(alloc: Global, parts: &str) -> CargoResult<Dependency> {
 }
 
 /// How an entry is written: as a value, or by a dotted key.
-fn told(alloc: Global, item: &NewItem) -> CargoResult<String> {
+fn told(alloc: Global, item: &NewItem) -> Result<String, Fail> {
     match item {
-        NewItem::Inline { dotted: true, .. } => Ok(String::from_str(alloc, ".workspace = true")?),
-        _ => item.text(alloc),
+        NewItem::Inline { dotted: true, .. } => text(alloc, ".workspace = true"),
+        _ => made(alloc, item.text(alloc)),
     }
-}
-
-/// The record that is read of an entry.
-fn read(alloc: Global, root: &str, key: &str, entry: &str) -> Result<Dependency, Fail> {
-    let equals = if entry.starts_with('.') { "" } else { " = " };
-    let text = format!(in alloc; "[dependencies]\n{key}{equals}{entry}")?;
-    let document = Document::read(alloc, text.as_str());
-    let document = document.ok().ok_or("a document")?;
-    let place = vec![in alloc; Step::Key(String::from_str(alloc, "dependencies")?)]?;
-    let item = document.item(&place).ok_or("a table")?;
-    let item = item.get(key).ok_or("an entry")?;
-    Ok(
-        Dependency::from_toml(alloc, root, key, item)
-            .ok()
-            .ok_or("a record")?,
-    )
 }
 
 /// The entry of a record.
 fn entry(alloc: Global, root: &str, record: &Dependency) -> Result<String, Fail> {
-    let item = record.to_toml(alloc, root).ok().ok_or("an entry")?;
-    Ok(told(alloc, &item).ok().ok_or("a text")?)
+    let item = record.to_toml(alloc, root)?;
+    told(alloc, &item)
+}
+
+/// The entry of what is read of an entry of a document.
+fn entry_again(alloc: Global, root: &str, key: &str, document: &Document) -> Result<String, Fail> {
+    let Some(item) = entry_at(document, key) else {
+        return text(alloc, "no entry");
+    };
+    let record = Dependency::from_toml(alloc, root, key, item)?;
+    entry(alloc, root, &record)
+}
+
+/// The same of a manifest.
+fn text_again(alloc: Global, root: &str, key: &str, text: &str) -> Result<String, Fail> {
+    let document = Document::read(alloc, text)?;
+    entry_again(alloc, root, key, &document)
+}
+
+/// The entry of what is read of an entry.
+fn again(alloc: Global, root: &str, key: &str, entry: &str) -> Result<String, Fail> {
+    let equals = if entry.starts_with('.') { "" } else { " = " };
+    let text = format!(in alloc; "[dependencies]\n{key}{equals}{entry}")?;
+    text_again(alloc, root, key, text.as_str())
+}
+
+/// An entry, and where it is another one the entry of what is read of it.
+fn both(alloc: Global, root: &str, key: &str, first: &str) -> Result<String, Fail> {
+    let again = again(alloc, root, key, first)?;
+    if again.as_str() == first {
+        return Ok(again);
+    }
+    Ok(format!(in alloc; "{first}, then {again}")?)
 }
 
 /// The entry of a row, and where it is another one the entry of what is read of it.
 fn written(alloc: Global, root: &str, parts: &str) -> Result<String, Fail> {
-    let record = record(alloc, parts).ok().ok_or("a record")?;
+    let record = record(alloc, parts)?;
     let first = entry(alloc, root, &record)?;
-    let again = read(alloc, root, record.toml_key(), first.as_str())?;
-    let again = entry(alloc, root, &again)?;
-    if again == first {
-        return Ok(first);
-    }
-    Ok(format!(in alloc; "{first}, then {again}")?)
+    both(alloc, root, record.toml_key(), first.as_str())
 }
 
 #[test]

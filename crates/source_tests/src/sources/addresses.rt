@@ -1,43 +1,42 @@
 //! Addresses under configuration files.
 use super::looks::put;
-use edit_store::MemoryStore;
 use edit_sources::config::{Config, read_configs};
 use edit_sources::registry::{registry_url, resolve};
+use edit_store::MemoryStore;
 use std::alloc::Global;
 use std::test::Fail;
-use test_rows::{field, same, text, told, unfolded, word};
+use test_rows::{LINES, field, rows_hold, same, text, told, unfolded, word};
 
-/// A name, a registry, its address or a refusal, and up to two files, each a path and its lines.
-const FILES_THAT_COUNT: &str = "\
-no configuration||sparse+https://index.crates.io/
-near before far|r|file:///near|/w/.cargo/config.toml|registries.r.index = 'file:///near'@|\
+/// The address of a registry or a refusal, a name, the registry, and up to two files, each a path and its
+/// lines: which files count, and where a chain of sources leads to the address.
+const ADDRESSES: &str = "\
+sparse+https://index.crates.io/|no configuration|
+file:///near|near before far|r|/w/.cargo/config.toml|registries.r.index = 'file:///near'@|\
 /.cargo/config.toml|registries.r.index = 'file:///far'@
-config before config.toml|r|file:///near|/w/.cargo/config.toml|registries.r.index = 'file:///far'@|\
+file:///near|config before config.toml|r|/w/.cargo/config.toml|registries.r.index = 'file:///far'@|\
 /w/.cargo/config|registries.r.index = 'file:///near'@
-the home of cargo last|r|file:///near|/.cargo/config.toml|registries.r.index = 'file:///near'@|/home/config|\
-registries.r.index = 'file:///far'@
-the home of cargo|r|file:///near|/home/config.toml|registries.r.index = 'file:///near'@
-only files count|r|file:///near|/w/.cargo/config/x|registries.r.index = 'file:///far'@|\
+file:///near|the home of cargo last|r|/.cargo/config.toml|registries.r.index = 'file:///near'@|\
+/home/config|registries.r.index = 'file:///far'@
+file:///near|the home of cargo|r|/home/config.toml|registries.r.index = 'file:///near'@
+file:///near|only files count|r|/w/.cargo/config/x|registries.r.index = 'file:///far'@|\
 /w/.cargo/config.toml|registries.r.index = 'file:///near'@
-no TOML||31 invalid cargo config at /w/.cargo/config.toml|/w/.cargo/config.toml|a = ";
-
-/// The same, where a chain of sources leads to the address.
-const CHAINS: &str = "\
-the default address|sparse+https://index.crates.io/|sparse+https://index.crates.io/
-no such registry|r|32 The registry 'r' could not be found
-registries before source|r|file:///a|/w/.cargo/config.toml|\
+31 invalid cargo config at /w/.cargo/config.toml|no TOML||/w/.cargo/config.toml|a = 
+sparse+https://index.crates.io/|the default address|sparse+https://index.crates.io/
+32 The registry 'r' could not be found|no such registry|r
+file:///a|registries before source|r|/w/.cargo/config.toml|\
 registries.r.index = 'file:///a'@source.r.replace-with = 'z'@
-a replaced default||file:///idx|/w/.cargo/config.toml|\
+file:///idx|a replaced default||/w/.cargo/config.toml|\
 source.crates-io.replace-with = 'local'@source.local.registry = 'file:///idx'@
-no address at the end||34 missing `registry`|/w/.cargo/config.toml|\
+34 missing `registry`|no address at the end||/w/.cargo/config.toml|\
 source.crates-io.replace-with = 'local'@[source.local]@
-a circle|x|33 The source 'x' could not be found|/w/.cargo/config.toml|\
+33 The source 'x' could not be found|a circle|x|/w/.cargo/config.toml|\
 [source.x]@replace-with = 'y'@[source.y]@replace-with = 'x'@
-replaced by itself|x|33 The source 'x' could not be found|/w/.cargo/config.toml|[source.x]@replace-with = 'x'@
-the default by its address|a|sparse+https://index.crates.io/|/w/.cargo/config.toml|\
+33 The source 'x' could not be found|replaced by itself|x|/w/.cargo/config.toml|\
+[source.x]@replace-with = 'x'@
+sparse+https://index.crates.io/|the default by its address|a|/w/.cargo/config.toml|\
 source.a.replace-with = 'sparse+https://index.crates.io/'@\
 source.'sparse+https://index.crates.io/'.directory = 'v'@
-no URL|r|35 invalid `registry` field|/w/.cargo/config.toml|registries.r.index = 'no url'@";
+35 invalid `registry` field|no URL|r|/w/.cargo/config.toml|registries.r.index = 'no url'@";
 
 /// The address of a registry under files, or the refusal.
 fn address(alloc: Global, store: &mut MemoryStore, registry: &str) -> Result<String, Fail> {
@@ -52,74 +51,58 @@ fn address(alloc: Global, store: &mut MemoryStore, registry: &str) -> Result<Str
     }
 }
 
-/// The files of a row.
-fn files(alloc: Global, row: &str) -> Result<MemoryStore, Fail> {
-    let mut store = MemoryStore::new(alloc);
-    if !field(row, 3).is_empty() {
-        put(alloc, &mut store, field(row, 3), field(row, 4))?;
+/// Puts a file of a row into a store, where the row has one.
+fn put_file(alloc: Global, store: &mut MemoryStore, path: &str, lines: &str) -> Result<(), Fail> {
+    if path.is_empty() {
+        return Ok(());
     }
-    if !field(row, 5).is_empty() {
-        put(alloc, &mut store, field(row, 5), field(row, 6))?;
-    }
-    Ok(store)
+    put(alloc, store, path, lines)
 }
 
 /// What a row's registry gives under its files.
-fn outcome(alloc: Global, row: &str) -> Result<String, Fail> {
-    let mut store = files(alloc, row)?;
-    address(alloc, &mut store, field(row, 1))
+fn outcome(alloc: Global, _name: &str, row: &str) -> Result<String, Fail> {
+    let mut store = MemoryStore::new(alloc);
+    put_file(alloc, &mut store, field(row, 1), field(row, 2))?;
+    put_file(alloc, &mut store, field(row, 3), field(row, 4))?;
+    address(alloc, &mut store, field(row, 0))
 }
 
 #[test]
-fn files_that_count(rt: HostRuntime) -> Result<(), Fail> {
-    for row in FILES_THAT_COUNT.lines() {
-        let seen = outcome(rt.alloc(), row)?;
-        same(row, seen.as_str(), field(row, 2))?;
-    }
-    Ok(())
+fn addresses(rt: HostRuntime) -> Result<(), Fail> {
+    rows_hold(rt.alloc(), ADDRESSES, LINES, outcome)
 }
 
-#[test]
-fn chains(rt: HostRuntime) -> Result<(), Fail> {
-    for row in CHAINS.lines() {
-        let seen = outcome(rt.alloc(), row)?;
-        same(row, seen.as_str(), field(row, 2))?;
-    }
-    Ok(())
-}
-
-/// A name, whether the lines are a configuration, and the lines.
+/// Whether the lines are a configuration, a name, and the lines.
 const CONFIGURATIONS: &str = "\
-nothing|read|
-all else is ignored|read|[build]@jobs = 1@[registries.r]@token = 3@[source.s]@git = 'x'@
-no TOML|31 invalid cargo config at /c|[source
-registries is a text|31 invalid cargo config at /c|registries = 'r'
-a registry is a text|31 invalid cargo config at /c|registries.r = 'r'
-an index is a number|31 invalid cargo config at /c|registries.r.index = 1
-source is a list|31 invalid cargo config at /c|source = []
-a source is a number|31 invalid cargo config at /c|source.s = 1
-an address is a table|31 invalid cargo config at /c|source.s.registry.a = 1
-a replacement is a truth|31 invalid cargo config at /c|source.s.replace-with = true";
+read|nothing|
+read|all else is ignored|[build]@jobs = 1@[registries.r]@token = 3@[source.s]@git = 'x'@
+31 invalid cargo config at /c|no TOML|[source
+31 invalid cargo config at /c|registries is a text|registries = 'r'
+31 invalid cargo config at /c|a registry is a text|registries.r = 'r'
+31 invalid cargo config at /c|an index is a number|registries.r.index = 1
+31 invalid cargo config at /c|source is a list|source = []
+31 invalid cargo config at /c|a source is a number|source.s = 1
+31 invalid cargo config at /c|an address is a table|source.s.registry.a = 1
+31 invalid cargo config at /c|a replacement is a truth|source.s.replace-with = true
+31 invalid cargo config at /c|no UTF-8|";
 
 /// Whether bytes are a configuration, or the refusal.
 fn reading(alloc: Global, bytes: &[u8]) -> Result<String, Fail> {
     word(alloc, Config::read(alloc, "/c", bytes), "read")
 }
 
-/// Whether a field's lines are a configuration, or the refusal.
-fn reading_lines(alloc: Global, lines: &str) -> Result<String, Fail> {
+/// Whether the lines of a row are a configuration, or the refusal.
+fn reading_lines(alloc: Global, name: &str, lines: &str) -> Result<String, Fail> {
+    if name == "no UTF-8" {
+        return reading(alloc, b"\xff");
+    }
     let lines = unfolded(alloc, lines)?;
     reading(alloc, lines.as_bytes())
 }
 
 #[test]
 fn configurations(rt: HostRuntime) -> Result<(), Fail> {
-    for row in CONFIGURATIONS.lines() {
-        let seen = reading_lines(rt.alloc(), field(row, 2))?;
-        same(row, seen.as_str(), field(row, 1))?;
-    }
-    let seen = reading(rt.alloc(), b"\xff")?;
-    same("no UTF-8", seen.as_str(), "31 invalid cargo config at /c")
+    rows_hold(rt.alloc(), CONFIGURATIONS, LINES, reading_lines)
 }
 
 /// The lines of the one file that counts.

@@ -1,7 +1,7 @@
 //! Answers and rankings that are kept.
-use super::looks::{TWO, entries, files_of};
+use super::looks::{entries, files_of};
 use crate::records::parts::chosen;
-use edit_sources::{FileIndex, Index, IndexCache, IndexKrate, LocalIndex, Ranked};
+use edit_sources::{Index, IndexCache, IndexKrate, LocalIndex, Ranked};
 use edit_store::FaultStore;
 use semver::VersionReq;
 use std::alloc::Global;
@@ -176,12 +176,20 @@ fn replace<I: Index + Drop>(cache: &mut IndexCache<I>, index: I) {
     let _old = cache.replace_index(index);
 }
 
+/// Makes calls over one index after the other, each with its files and the call of its store that fails.
+fn kept(alloc: Global, indexes: &[(&str, u64, &str)]) -> Result<(), Fail> {
+    let mut cache = IndexCache::new(alloc, failing(alloc, "", 0)?);
+    for (files, at, rows) in indexes {
+        replace(&mut cache, failing(alloc, files, *at)?);
+        calls(alloc, &mut cache, rows)?;
+    }
+    Ok(())
+}
+
 #[test]
 fn no_refusal_is_kept(rt: HostRuntime) -> Result<(), Fail> {
-    let mut cache = IndexCache::new(rt.alloc(), failing(rt.alloc(), BROKEN, 9)?);
-    calls(rt.alloc(), &mut cache, OVER_BROKEN)?;
-    replace(&mut cache, failing(rt.alloc(), REPAIRED, 0)?);
-    calls(rt.alloc(), &mut cache, OVER_REPAIRED)
+    let indexes = [(BROKEN, 9, OVER_BROKEN), (REPAIRED, 0, OVER_REPAIRED)];
+    kept(rt.alloc(), &indexes)
 }
 
 /// Paths with lines: those of one are read, of the other the last is cut short.
@@ -210,14 +218,15 @@ the other answer|shown|b||b 2.0.0.";
 
 #[test]
 fn a_refused_ranking_is_not_kept(rt: HostRuntime) -> Result<(), Fail> {
-    let mut cache = IndexCache::new(rt.alloc(), failing(rt.alloc(), HALF_BROKEN, 9)?);
-    calls(rt.alloc(), &mut cache, OVER_HALF_BROKEN)?;
-    replace(&mut cache, failing(rt.alloc(), REPAIRED, 0)?);
-    calls(rt.alloc(), &mut cache, AFTER_HALF_BROKEN)
+    let first = (HALF_BROKEN, 9, OVER_HALF_BROKEN);
+    kept(rt.alloc(), &[first, (REPAIRED, 0, AFTER_HALF_BROKEN)])
 }
 
+/// A path, and a line.
+const ONE: &str = "/idx/1/b|{\"name\":\"b\",\"vers\":\"2.0.0\"}@";
+
 /// The call whose answer is kept.
-const OVER_TWO: &str = "an answer|fetch|b||done";
+const OVER_ONE: &str = "an answer|fetch|b||done";
 
 /// The calls when the index has no line any more.
 const OVER_NONE: &str = "\
@@ -229,25 +238,17 @@ no such name|has version|a|2.0.0|None
 forgotten|forget|b||done
 asked once more|has|b||false";
 
-/// A cache over lines.
-fn cache_over(alloc: Global, lines: &[u8]) -> Result<IndexCache<FileIndex>, Fail> {
-    let index = FileIndex::read(alloc, lines)?;
-    Ok(IndexCache::new(alloc, index))
-}
-
 #[test]
 fn an_answer_stays(rt: HostRuntime) -> Result<(), Fail> {
-    let mut cache = cache_over(rt.alloc(), TWO)?;
-    calls(rt.alloc(), &mut cache, OVER_TWO)?;
-    replace(&mut cache, FileIndex::read(rt.alloc(), b"")?);
-    calls(rt.alloc(), &mut cache, OVER_NONE)
+    kept(rt.alloc(), &[(ONE, 9, OVER_ONE), ("", 9, OVER_NONE)])
 }
 
-/// Lines with equal versions, one that is no version, and a yanked one.
-const FIVE: &[u8] =
-    b"{\"name\":\"a\",\"vers\":\"1.0.0+a\"}\n{\"name\":\"a\",\"vers\":\"1.2.0\",\"rust_version\":\"1.70\"}\n\
-{\"name\":\"a\",\"vers\":\"1.0.0+b\"}\n{\"name\":\"a\",\"vers\":\"bad\"}\n\
-{\"name\":\"a\",\"vers\":\"1.3.0\",\"yanked\":true}\n";
+/// A path, and lines with equal versions, one that is no version, and a yanked one.
+const FIVE: &str = "\
+/idx/1/a|{\"name\":\"a\",\"vers\":\"1.0.0+a\"}@\
+{\"name\":\"a\",\"vers\":\"1.2.0\",\"rust_version\":\"1.70\"}@\
+{\"name\":\"a\",\"vers\":\"1.0.0+b\"}@{\"name\":\"a\",\"vers\":\"bad\"}@\
+{\"name\":\"a\",\"vers\":\"1.3.0\",\"yanked\":true}@";
 
 /// The calls over them.
 const OVER_FIVE: &str = "\
@@ -258,7 +259,7 @@ the greatest|choice|a|1|a 1.2.0 -
 none|choice|a|2|-";
 
 /// The line of the next index.
-const NEXT: &[u8] = b"{\"name\":\"a\",\"vers\":\"2.0.0\"}";
+const NEXT: &str = "/idx/1/a|{\"name\":\"a\",\"vers\":\"2.0.0\"}";
 
 /// The calls over it.
 const OVER_NEXT: &str = "\
@@ -271,8 +272,5 @@ no such name|ranked|b||none";
 
 #[test]
 fn ranked_once(rt: HostRuntime) -> Result<(), Fail> {
-    let mut cache = cache_over(rt.alloc(), FIVE)?;
-    calls(rt.alloc(), &mut cache, OVER_FIVE)?;
-    replace(&mut cache, FileIndex::read(rt.alloc(), NEXT)?);
-    calls(rt.alloc(), &mut cache, OVER_NEXT)
+    kept(rt.alloc(), &[(FIVE, 9, OVER_FIVE), (NEXT, 9, OVER_NEXT)])
 }

@@ -5,48 +5,36 @@ use edit_store::{HostStore, MemoryStore, Store};
 use std::alloc::Global;
 use std::fs;
 use std::test::Fail;
-use test_rows::{field, same, text, told, unfolded, word};
+use test_rows::{LINES, field, rows_hold, same, text, told, unfolded, word};
 use url::Url;
 
-/// A name, the refusal, and the lines.
+/// The refusal, a name, and the lines.
 const BAD_LINES: &str = "\
-no version|30 Invalid index line 1|{\"name\":\"a\"}
-no object|30 Invalid index line 1|[]
-yanked by a text|30 Invalid index line 1|{\"name\":\"a\",\"vers\":\"1.0.0\",\"yanked\":\"no\"}
-the second line|30 Invalid index line 2|{\"name\":\"a\",\"vers\":\"1.0.0\"}@{\"name\":\"a\"";
+30 Invalid index line 1|no version|{\"name\":\"a\"}
+30 Invalid index line 1|no object|[]
+30 Invalid index line 1|yanked by a text|{\"name\":\"a\",\"vers\":\"1.0.0\",\"yanked\":\"no\"}
+30 Invalid index line 2|the second line|{\"name\":\"a\",\"vers\":\"1.0.0\"}@{\"name\":\"a\"
+30 Invalid index line 1|too deep|
+30 Invalid index line 1|no UTF-8|";
 
 /// What is told of the lines of an index.
 fn reading(alloc: Global, bytes: &[u8]) -> Result<String, Fail> {
     word(alloc, FileIndex::read(alloc, bytes), "read")
 }
 
-/// What is told of a field's lines.
-fn reading_lines(alloc: Global, lines: &str) -> Result<String, Fail> {
-    let lines = unfolded(alloc, lines)?;
+/// What is told of the lines of a row.
+fn reading_lines(alloc: Global, name: &str, lines: &str) -> Result<String, Fail> {
+    let lines = match name {
+        "no UTF-8" => return reading(alloc, b"\xFF"),
+        "too deep" => "[".repeat(alloc, 1000)?,
+        _ => unfolded(alloc, lines)?,
+    };
     reading(alloc, lines.as_bytes())
 }
 
 #[test]
 fn bad_lines(rt: HostRuntime) -> Result<(), Fail> {
-    for row in BAD_LINES.lines() {
-        let seen = reading_lines(rt.alloc(), field(row, 2))?;
-        same(row, seen.as_str(), field(row, 1))?;
-    }
-    Ok(())
-}
-
-/// What is told of a line of brackets.
-fn reading_brackets(alloc: Global, count: usize) -> Result<String, Fail> {
-    let brackets = "[".repeat(alloc, count)?;
-    reading(alloc, brackets.as_bytes())
-}
-
-#[test]
-fn bad_bytes(rt: HostRuntime) -> Result<(), Fail> {
-    let seen = reading_brackets(rt.alloc(), 1000)?;
-    same("too deep", seen.as_str(), "30 Invalid index line 1")?;
-    let seen = reading(rt.alloc(), b"\xFF")?;
-    same("no UTF-8", seen.as_str(), "30 Invalid index line 1")
+    rows_hold(rt.alloc(), BAD_LINES, LINES, reading_lines)
 }
 
 /// The entries of an answer, a yanked one with `!`.
@@ -69,7 +57,8 @@ fn look<I: Index>(alloc: Global, index: &mut I, row: &str) -> Result<String, Fai
     }
 }
 
-/// Makes the looks of a table in turn, without a fault. Behind what its look needs, a row has what is wanted.
+/// Makes the looks of a table in turn, without a fault. Behind what its look needs, a row has what is
+/// wanted.
 fn looks<I: Index>(alloc: Global, index: &mut I, rows: &str) -> Result<(), Fail> {
     for row in rows.lines() {
         let seen = look(alloc, index, row)?;
@@ -82,7 +71,7 @@ fn looks<I: Index>(alloc: Global, index: &mut I, rows: &str) -> Result<(), Fail>
 }
 
 /// The lines of two crates.
-pub(crate) const TWO: &[u8] =
+const TWO: &[u8] =
     b"{\"name\":\"a\",\"vers\":\"1.0.0\"}\r\n \t\n{\"name\":\"b\",\"vers\":\"2.0.0\"}\n\
 {\"name\":\"a\",\"vers\":\"1.1.0\",\"yanked\":true,\"rust_version\":null}\n";
 
@@ -181,14 +170,19 @@ fn look_below(rt: &HostRuntime, folder: &str, name: &str) -> Result<String, Fail
     look(rt.alloc(), &mut index, row.as_str())
 }
 
+/// Makes the looks of the table below a folder, which is removed then.
+fn looks_below(rt: &HostRuntime, folder: &str) -> Result<(), Fail> {
+    lay_out(rt, folder)?;
+    for row in IN_A_FOLDER.lines() {
+        let seen = look_below(rt, folder, field(row, 0))?;
+        same(row, seen.as_str(), field(row, 1))?;
+    }
+    fs::remove_dir_all(rt, folder)?;
+    Ok(())
+}
+
 #[test]
 fn looks_in_a_real_folder(rt: HostRuntime) -> Result<(), Fail> {
     let folder = folder(&rt, "index")?;
-    lay_out(&rt, folder.as_str())?;
-    for row in IN_A_FOLDER.lines() {
-        let seen = look_below(&rt, folder.as_str(), field(row, 0))?;
-        same(row, seen.as_str(), field(row, 1))?;
-    }
-    fs::remove_dir_all(&rt, folder.as_str())?;
-    Ok(())
+    looks_below(&rt, folder.as_str())
 }
