@@ -199,7 +199,7 @@ module _ (form : Text) (place : Place) (name : List ℕ) (v : NewValue)
       let made : in_dotted place m form ≡ Some (dotted_line ch.one m r.0) =
       ch.is ∙ dotted_is place m ch.one
       ∙ ap₂ (λ (t : Bool) (o : Option (List ℕ)). cond t (option_map (dotted_line ch.one m) o) None) r.1 r.2
-          in (
+      in (
         ch.one,
         ch.among,
         sym r.3,

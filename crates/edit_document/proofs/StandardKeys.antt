@@ -39,13 +39,13 @@ bare_keys = shows (codes "key = \"value\"\nbare_key = \"value\"\nbare-key = \"va
 -- "Keys": quoted
 pub quoted_keys : Shows (codes "\"127.0.0.1\" = \"value\"\n\"character encoding\" = \"value\"\n\"" ++
     (202 ∷ 142 ∷ 199 ∷ 157 ∷ 202 ∷ 158
-        ∷ codes "\" = \"value\"\n'key2' = \"value\"\n'quoted \"value\"' = \"value\""))
+    ∷ codes "\" = \"value\"\n'key2' = \"value\"\n'quoted \"value\"' = \"value\""))
     (key (202 ∷ 142 ∷ 199 ∷ 157 ∷ 202 ∷ 158 ∷ []) ∷ []) (string (codes "value"))
 unfolding on_texts
 quoted_keys = shows (codes "\"127.0.0.1\" = \"value\"\n\"character encoding\" = \"value\"\n\"" ++
     (202 ∷ 142 ∷ 199 ∷ 157 ∷ 202 ∷ 158
-        ∷ codes "\" = \"value\"\n'key2' = \"value\"\n'quoted \"value\"' = \"value\""))
-        (key (202 ∷ 142 ∷ 199 ∷ 157 ∷ 202 ∷ 158 ∷ []) ∷ []) (string (codes "value")) refl refl
+    ∷ codes "\" = \"value\"\n'key2' = \"value\"\n'quoted \"value\"' = \"value\""))
+    (key (202 ∷ 142 ∷ 199 ∷ 157 ∷ 202 ∷ 158 ∷ []) ∷ []) (string (codes "value")) refl refl
 
 -- "Keys": quoted, a literal string
 pub literal_key : Shows (codes "'quoted \"value\"' = \"value\"")

@@ -12,11 +12,11 @@ ghost use Rattle.edit_syntax.specs.Marks.{IsReadRefusal};
 ghost use Rattle.edit_document.specs.Items.{place_numbered, view_numbered, names_in, count_in, place_seen, Shows, Numbers};
 
 use crate::item::Item;
-use edit_tree::nodes::{Content, Node, words_in};
 use crate::place::Step;
-use edit_tree::walk::nodes_of;
 use edit_base::errors::CargoResult;
 use edit_syntax::read::read_marks;
+use edit_tree::nodes::{Content, Node, words_in};
+use edit_tree::walk::nodes_of;
 use std::alloc::Global;
 use std::fmt;
 use std::marker::Model;

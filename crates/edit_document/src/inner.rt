@@ -17,11 +17,11 @@ use crate::document::Document;
 use crate::inline::{from_start, with_lead};
 use crate::inside::{begins, behind_one};
 use crate::place::Step;
-use edit_tree::cut::between;
 use crate::way::{Way, along};
 use edit_base::errors::CargoResult;
 use edit_syntax::read::gaps::past_gap;
 use edit_syntax::read::steps::{past_name, past_value};
+use edit_tree::cut::between;
 use std::alloc::Global;
 
 /// A member of an inline table whose key goes on behind a place. The spots from its key, behind the part that

@@ -22,10 +22,10 @@ use crate::inner::{Inner, with_inner};
 use crate::locate::{Entry, entries};
 use crate::new_item::{NewValue, push_member};
 use crate::place::Step;
-use edit_tree::cut::between;
 use crate::spots::{with_line, with_section, with_text};
 use edit_base::errors::CargoResult;
 use edit_syntax::past_mark;
+use edit_tree::cut::between;
 use std::alloc::Global;
 
 /// The last statement of the place's own.

@@ -15,13 +15,13 @@ ghost use Rattle.edit_tree.specs.SlotTexts.{AreSaid, StandsAt};
 ghost use Rattle.edit_document.specs.Remainders.{Leaves, Keeps};
 ghost use Rattle.edit_tree.specs.WalkState.{SaysAt};
 
-use edit_tree::nodes::words_in;
 use crate::place::Step;
-use edit_tree::words::words_of;
 use edit_base::errors::CargoResult;
 use edit_syntax::read::Mark;
 use edit_syntax::read::gaps::past_gap;
 use edit_syntax::read::steps::{past_blanks, past_name, past_value};
+use edit_tree::nodes::words_in;
+use edit_tree::words::words_of;
 use std::alloc::{AllocError, Global};
 
 /// Whether a byte comes first.

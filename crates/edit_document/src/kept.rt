@@ -9,8 +9,8 @@ ghost use Rattle.edit_tree.specs.Supported.{IsManifest};
 ghost use Rattle.edit_tree.specs.Taking as taking;
 
 use crate::document::Document;
-use edit_tree::nodes::Taken;
 use crate::place::Step;
+use edit_tree::nodes::Taken;
 
 /// Whether a place is taken by a value, or by a header of its own.
 fn is_own(taken: Taken) -> bool

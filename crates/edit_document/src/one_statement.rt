@@ -8,8 +8,8 @@ ghost use Rattle.edit_document.specs.OneStatement.{HasMember, Answers};
 ghost use Rattle.edit_tree.specs.Supported.{IsManifest};
 
 use crate::document::Document;
-use edit_tree::nodes::Taken;
 use crate::place::Step;
+use edit_tree::nodes::Taken;
 
 /// What a node tells of the statements that name its place.
 #[derive(Clone, Copy)]

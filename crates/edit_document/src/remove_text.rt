@@ -16,9 +16,9 @@ use crate::document::Document;
 use crate::inside::{begins, value_without};
 use crate::locate::entries;
 use crate::place::Step;
-use edit_tree::cut::between;
 use edit_base::errors::CargoResult;
 use edit_syntax::past_mark;
+use edit_tree::cut::between;
 use std::alloc::Global;
 
 /// The text without the statements that name the place or one below it, and without the blank and comment

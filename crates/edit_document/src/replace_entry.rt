@@ -22,10 +22,10 @@ use crate::locate::{Entry, entries};
 use crate::members::table_spots;
 use crate::new_item::{NewItem, push_entry};
 use crate::place::Step;
-use edit_tree::cut::between;
 use crate::way::{Way, key_end};
 use edit_base::errors::{CargoResult, Error};
 use edit_syntax::{Mark, first_line};
+use edit_tree::cut::between;
 use std::alloc::Global;
 
 /// Whether it is a pair that names the place or one below it.

@@ -8,11 +8,11 @@ ghost use Rattle.edit_document.specs.Standings as standings;
 ghost use Rattle.edit_document.specs.Entries as entries_seen;
 ghost use Rattle.edit_document.specs.EntrySpots as spots_seen;
 
-use edit_tree::nodes::words_in;
 use crate::place::Step;
-use edit_tree::words::words_of;
 use edit_base::errors::CargoResult;
 use edit_syntax::{Mark, MarkKind};
+use edit_tree::nodes::words_in;
+use edit_tree::words::words_of;
 use std::alloc::Global;
 
 /// How a place stands to one that is looked for: on the way

@@ -43,7 +43,7 @@ member_answered t u place literal text (Some view) reads e same =
     let is : version_member place ≡ literal = ok_same (version_member place) literal e in
     let above : u place ≡ t place =
     same place ∙ ap (λ l. edited l text t place) (sym is) ∙ edited_above place (key (codes "version")) text t
-        in
+    in
     let here : u (version_member place) ≡ Some (string text) =
     same (version_member place) ∙ ap (λ l. edited l text t (version_member place)) (sym is)
     ∙ edited_here (version_member place) text t in

@@ -25,7 +25,7 @@ module _ (t : Tree) (held : Bool) (name : List ℕ) (array : Place) where
   back_goes n m e h =
       ap (stale_back t held name array) e
       ∙ ap (λ b. cond b (at array (index m) ∷ stale_back t held name array m)
-          (stale_back t held name array m)) h
+      (stale_back t held name array m)) h
 
   -- one that stays
   pub back_stays : (n m : ℕ) → n ≡ suc m → goes held name (t (at array (index m))) ≡ false
@@ -33,7 +33,7 @@ module _ (t : Tree) (held : Bool) (name : List ℕ) (array : Place) where
   back_stays n m e h =
       ap (stale_back t held name array) e
       ∙ ap (λ b. cond b (at array (index m) ∷ stale_back t held name array m)
-          (stale_back t held name array m)) h
+      (stale_back t held name array m)) h
 
   -- one that goes is told, and then those before it
   pub told_goes : (n m : ℕ) (xs new : List (Vec WrittenStep)) (x : Vec WrittenStep) (all : List Place)

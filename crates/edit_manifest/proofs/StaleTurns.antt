@@ -123,7 +123,7 @@ elements_own : (f : List ℕ) (o : Option View) → AllByRecursion (IsOf f) (ele
 elements_own f None = tt
 elements_own f (Some (static_array n)) =
     all_weaker (IsElement f n) (IsOf f) (λ q h. (h.0, h.2)) (elements_back (of_feature f) n)
-        (back_elements f n)
+    (back_elements f n)
 elements_own f (Some (string s)) = tt
 elements_own f (Some (truth b)) = tt
 elements_own f (Some (whole s)) = tt
@@ -178,7 +178,7 @@ module _ (t : Tree) (held : Bool) (name : List ℕ) where
   behind f p a (n ∷ ns) h =
       all_append (Outlives p) (stale_in t held name (of_feature n)) (of_names ns)
       (all_weaker (IsOf n) (Outlives p) (λ q b. apart_elements f n h.0 p q a b)
-          (stale_in t held name (of_feature n)) (stale_own n))
+      (stale_in t held name (of_feature n)) (stale_own n))
       (behind f p a ns h.1)
 
   names_turn : (ns : List (List ℕ)) → Distinct ns → AreInTurn (of_names ns)
@@ -210,7 +210,7 @@ module _ (t : Tree) (held : Bool) (name : List ℕ) where
     where
       go : (b : Bool) → goes held name (t p) ≡ b → AreStrings t (filter (λ p. goes held name (t p)) ps)
           → AreStrings t (cond b (p ∷ filter (λ p. goes held name (t p)) ps)
-              (filter (λ p. goes held name (t p)) ps))
+          (filter (λ p. goes held name (t p)) ps))
       go true e rest = (string_goes (t p) e, rest)
       go false e rest = rest
 

@@ -20,7 +20,7 @@ value_stays : (made xs : List Assertion) (gone q : Place) (v : Value) → AreMad
 value_stays made [] gone q v all out e = absurd cc
 value_stays made (x ∷ xs) gone q v all out e =
     by_test (same_place x.place q) here (λ other. there other
-        (value_stays made xs gone q v all.1 out (rest other)))
+    (value_stays made xs gone q v all.1 out (rest other)))
   where
     kept : Bool → Option Kind
     kept b = kind_at (cond (not b) (x ∷ staying gone xs) (staying gone xs)) q
@@ -101,6 +101,8 @@ string_stays form gone (s ∷ ss) new removed out h =
     let stays = value_stays made made gone q is.value (are_made form) out.0 is.kind in
     let left : tree_left gone made q ≡ Some (string h.0) =
     ap (λ o. option_map (shrunk gone q) (option_map (view_of_kind (staying gone made) q) o)) stays
-    ∙ ap (λ v. Some (shrunk gone q v)) (is.says (staying gone made)) in
-    (h.0, ap new (sym out.1) ∙ same_string (tree_left gone made q) (new (moved gone q)) h.0 left
-        (removed.elsewhere q out.0))
+    ∙ ap (λ v. Some (shrunk gone q v)) (is.says (staying gone made)) in (
+      h.0,
+      ap new (sym out.1) ∙ same_string (tree_left gone made q) (new (moved gone q)) h.0 left
+          (removed.elsewhere q out.0),
+    )

@@ -110,7 +110,7 @@ module _ (path : List (List ℕ)) (name : List ℕ) (old : Shown) (form : Text) 
     reads = again;
     emptied = subst (λ (ps : List Place). Without ps middle.bytes new.bytes)
         (ap (bare_table (tree_of middle)) table ∙ bare_same (tree_of middle) (view_at g) (keyed path)
-            (shows (keyed path)))
+        (shows (keyed path)))
         rest;
   }
 
@@ -140,7 +140,7 @@ module _ (path : List (List ℕ)) (name : List ℕ) (old : Shown) (form : Text) 
   -- its table cannot
   pub table_kept : (middle : Shown) (g : Text) (e : Error) → missing_table (tree_of old) path ≡ None
       → (tree_of old p ≡ None → ⊥) → middle.bytes ≡ removed_text p form → IsManifest middle.bytes g
-          → ShowsTree middle g
+      → ShowsTree middle g
       → IsMemory e ⊎ ((e ≡ EditRefused) × OneStays (bare_table (tree_of middle) r) middle.bytes)
       → IsNotTakenOut path name old e
   table_kept middle g e tables stood bytes again shows (inl memory) = inl memory
@@ -152,6 +152,6 @@ module _ (path : List (List ℕ)) (name : List ℕ) (old : Shown) (form : Text) 
             (without_one p form old.bytes middle.bytes reads bytes)) again
             (subst (λ (ps : List Place). OneStays ps middle.bytes)
             (ap (bare_table (tree_of middle)) table ∙ bare_same (tree_of middle) (view_at g) (keyed path)
-                (shows (keyed path)))
+            (shows (keyed path)))
             why.1),
       )

@@ -23,7 +23,7 @@ pub without_more : (places : List Place) (place : Place) (form : Text) (old midd
 without_more _ place form _ middle new (none bytes) reads e = without_one place form middle new reads e
 without_more _ place form _ middle new (next p more g old last is rest) reads e =
     next p (more ++ place ∷ []) g old new is (without_more more place form (removed_text p g) last new rest
-        reads e)
+    reads e)
 
 -- the first cannot be removed
 pub first_stays : (place : Place) (more : List Place) (old : List ℕ) → RemoveFails place old

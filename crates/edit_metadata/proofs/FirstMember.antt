@@ -20,7 +20,7 @@ pub find-none : {X : Type 0} (p : X → Bool) (xs : List X) (i : ℕ) (x : X) �
     → find p (take (i + 1) xs) ≡ None
 find-none p xs i x within is none fails =
     ap (find p) (take_more xs i x within ∙ ap (λ y. take i xs ++ y ∷ []) (sym is))
-        ∙ find-past p (take i xs) (x ∷ []) none ∙ ap (λ b. cond b (Some x) None) fails
+    ∙ find-past p (take i xs) (x ∷ []) none ∙ ap (λ b. cond b (Some x) None) fails
 
 -- the first one that passes
 pub find-here : {X : Type 0} (p : X → Bool) (xs : List X) (i : ℕ) (x : X) → i < length xs → x ≡ get_or xs i x
@@ -28,6 +28,6 @@ pub find-here : {X : Type 0} (p : X → Bool) (xs : List X) (i : ℕ) (x : X) �
     → find p xs ≡ Some x
 find-here p xs i x within is none passes =
     ap (find p) (sym (take-append-drop i xs) ∙ ap (λ ys. take i xs ++ ys)
-        (drop_more xs i x within ∙ ap (λ y. y ∷ drop (i + 1) xs) (sym is)))
+    (drop_more xs i x within ∙ ap (λ y. y ∷ drop (i + 1) xs) (sym is)))
     ∙ find-past p (take i xs) (x ∷ drop (i + 1) xs) none ∙ ap
-        (λ b. cond b (Some x) (find p (drop (i + 1) xs))) passes
+    (λ b. cond b (Some x) (find p (drop (i + 1) xs))) passes

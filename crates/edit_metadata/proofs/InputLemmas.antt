@@ -29,7 +29,7 @@ pub least-more : (ps : List Package) (i : ℕ) (p : Package) → i < length ps �
     ≡ lesser (least (member_versions (packages_said (take i ps)))) (option_map numbers_of p.rust_version)
 least-more ps i p within is member =
     ap (λ xs. least (map (λ (x : PackageSaid). x.rust_version) xs))
-        (members-more ps i p true within is member)
+    (members-more ps i p true within is member)
     ∙ ap least (map-append (λ (x : PackageSaid). x.rust_version) (members (packages_said (take i ps)))
     (package_said p ∷ []))
     ∙ fold-append lesser _ (member_versions (packages_said (take i ps)))
@@ -70,7 +70,7 @@ manifests-append : (ps qs : List Package)
 manifests-append ps qs =
     ap member_manifests (map-append package_said ps qs)
     ∙ ap (map manifest_of) (filter-append (λ (x : PackageSaid). x.member) (packages_said ps)
-        (packages_said qs))
+    (packages_said qs))
     ∙ map-append manifest_of (members (packages_said ps)) (members (packages_said qs))
 
 -- the manifest of a member is among them

@@ -13,7 +13,7 @@ one p b is = ap (λ x. cond x (p ∷ []) []) is
 pub members-more : (ps : List Package) (i : ℕ) (p : Package) (b : Bool) → i < length ps → p ≡ get_or ps i p
     → p.member ≡ b
     → members (packages_said (take (i + 1) ps)) ≡ members (packages_said (take i ps))
-        ++ cond b (package_said p ∷ []) []
+    ++ cond b (package_said p ∷ []) []
 members-more ps i p b within is member =
     ap (λ xs. members (packages_said xs)) (take_more ps i p within ∙ ap (λ x. take i ps ++ x ∷ []) (sym is))
     ∙ ap members (map-append package_said (take i ps) (p ∷ []))
@@ -24,15 +24,15 @@ members-more ps i p b within is member =
 pub paths-more : (ps : List Package) (i : ℕ) (p : Package) → i < length ps → p ≡ get_or ps i p
     → p.member ≡ true
     → member_paths (packages_said (take (i + 1) ps)) ≡ member_paths (packages_said (take i ps))
-        ++ string_bytes p.manifest_path ∷ []
+    ++ string_bytes p.manifest_path ∷ []
 paths-more ps i p within is member =
     ap (map (λ (x : PackageSaid). x.manifest_path)) (members-more ps i p true within is member)
     ∙ map-append (λ (x : PackageSaid). x.manifest_path) (members (packages_said (take i ps)))
-        (package_said p ∷ [])
+    (package_said p ∷ [])
 
 pub paths-kept : (ps : List Package) (i : ℕ) (p : Package) → i < length ps → p ≡ get_or ps i p
     → p.member ≡ false
     → member_paths (packages_said (take (i + 1) ps)) ≡ member_paths (packages_said (take i ps))
 paths-kept ps i p within is member =
     ap (map (λ (x : PackageSaid). x.manifest_path)) (members-more ps i p false within is member
-        ∙ append-nil (members (packages_said (take i ps))))
+    ∙ append-nil (members (packages_said (take i ps))))

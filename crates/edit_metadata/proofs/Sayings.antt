@@ -68,11 +68,11 @@ ids-once ds xs ys = zipped-once IsText ds xs ys (λ d x y a b. some-same x y (sy
 pub packages-within : (d : Data) (w : WorkspaceSaid) (listed said : List Data) (ids : List (List ℕ))
     → SaysWorkspace d w
     → values_at (codes "workspace_members") d ≡ Some listed → AllZip IsText listed ids
-        → values_at (codes "packages") d ≡ Some said
+    → values_at (codes "packages") d ≡ Some said
     → AllZip (SaysPackage (is_listed ids)) said w.packages
 packages-within d w listed said ids says members are packages =
     let same = some-same says.listed listed (sym says.has_members ∙ members) in
     let own = ids-once listed says.ids ids (subst (λ xs. AllZip IsText xs says.ids) same says.are_ids) are in
     subst (λ xs. AllZip (SaysPackage (is_listed xs)) said w.packages) own
     (subst (λ xs. AllZip (SaysPackage (is_listed says.ids)) xs w.packages)
-        (some-same says.said said (sym says.has_packages ∙ packages)) says.packages)
+    (some-same says.said said (sym says.has_packages ∙ packages)) says.packages)

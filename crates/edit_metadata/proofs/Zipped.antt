@@ -25,7 +25,7 @@ pub zipped-more : {X A B : Type 0} (f : X → A) (R : A → B → Type 0) (xs : 
     → AllZip R (map f (take i xs)) ys → R (f x) y → AllZip R (map f (take (i + 1) xs)) (ys ++ y ∷ [])
 zipped-more f R xs ys i x y within is all fits =
     subst (λ zs. AllZip R zs (ys ++ y ∷ [])) (sym (map_more f xs i x within
-        ∙ ap (λ z. map f (take i xs) ++ f z ∷ []) (sym is)))
+    ∙ ap (λ z. map f (take i xs) ++ f z ∷ []) (sym is)))
     (all_zipped_more R (map f (take i xs)) ys (f x) y all fits)
 
 -- another relation that holds where the first does

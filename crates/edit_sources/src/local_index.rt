@@ -7,8 +7,8 @@ ghost use Rattle.edit_sources.specs.LocalIndex.{LocalGives, NumbersLine, local_v
 use crate::index::{Index, IndexKrate};
 use crate::index_lines::read_lines;
 use crate::index_path::index_path;
-use edit_store::store::Store;
 use edit_base::errors::CargoResult;
+use edit_store::store::Store;
 use std::alloc::Global;
 use url::Url;
 

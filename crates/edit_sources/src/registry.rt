@@ -8,8 +8,8 @@ ghost use Rattle.url.specs.Parts.{Parts};
 ghost use Rattle.edit_sources.specs.Configured.{given, HasAddress, IsNoUrl, HasNoUrl};
 
 use crate::config::{Config, read_configs};
-use edit_store::store::Store;
 use edit_base::{CargoResult, Error};
+use edit_store::store::Store;
 use std::alloc::Global;
 use url::{ParseError, Url};
 

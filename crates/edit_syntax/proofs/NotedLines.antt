@@ -52,7 +52,7 @@ header_noted old mid new bytes key_end rest k opened key noted closed ended =
     let sound = header_sound 0 bytes (s, rest) opened here in
     let tail : key_end ≡ blanks key_end ++ (right_bracket ∷ rest) =
     blank_parts key_end (right_bracket ∷ rest) (past_some right_bracket _ rest (omega arith) (sym closed))
-        in (
+    in (
       s,
       here,
       header_marks kinds.Header old mid new bytes key_end rest

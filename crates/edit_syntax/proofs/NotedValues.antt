@@ -63,7 +63,7 @@ pair_noted n read sound old mid new text key_end rest k (Ok after) key noted eq 
     let tail = pair_tail n read key_end rest after.now v sound eq h.1 in
     let same : key_marks k key_end
     ≡ key_marks k (blanks key_end ++ (equals ∷ (blanks rest ++ value v after.now))) = ap (key_marks k) tail
-        in (
+    in (
       p,
       pair_here read text key_end rest after.now k v key eq h.1,
       h.2 ∙

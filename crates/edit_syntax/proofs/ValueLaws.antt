@@ -41,8 +41,7 @@ pair_sound n read sound text x e =
     blank_parts a.0.1 (equals ∷ (blanks b.0 ++ value c.0.0 c.0.1)) (past_some equals _ b.0 (omega arith) b.1 ∙
     ap (λ (r : List ℕ). equals ∷ r) one) in
     subst (λ (y : Pair × List ℕ). (text ≡ pair_text y.0 y.1) × IsPair n y.0)
-    (some_is (record { key = a.0.0; before = blanks a.0.1; behind = blanks b.0; value = c.0.0 }, c.0.1) x c.2)
-        (
+    (some_is (record { key = a.0.0; before = blanks a.0.1; behind = blanks b.0; value = c.0.0 }, c.0.1) x c.2) (
       k.0 ∙ ap (key a.0.0) two,
       record { key = k.1; before = run_all is_blank a.0.1; behind = run_all is_blank b.0; value = v.1 },
     )

@@ -9,9 +9,9 @@ ghost use Rattle.edit_sources.specs.ConfigurationFiles.{IsUpwards, IsSearched, I
 ghost use Rattle.edit_store.specs.Store.{OnlyReads};
 
 use super::Config;
-use edit_store::store::Store;
 use edit_base::CargoResult;
 use edit_base::paths::{folder, join};
+use edit_store::store::Store;
 use std::alloc::{AllocError, Global};
 
 /// The folders of a file, from its own upwards to the root.

@@ -16,4 +16,4 @@ without-requires-clause-apart c =
     let form = c.has_form.ensures.some in
     subst AreInTurn (sym c.in_ok-places.ensures.ok ∙ ap places_seen (sym c.deref.ensures.value))
     (stale_turns form.0 (tree_of c.args.document.now) c.args.name.now
-        (c.has_form.ensures.shows form.0 form.1))
+    (c.has_form.ensures.shows form.0 form.1))

@@ -15,13 +15,13 @@ elements-preserved c =
     let doc : document_of c.in-Some-as_array.elements ≡ d =
     c.in-Some-as_array.ensures.1 ∙ c.in-Some.ensures.0 in
     let place : place_of c.in-Some-as_array.elements ≡ array = c.in-Some-as_array.ensures.2
-        ∙ c.in-Some.ensures.1 in
+    ∙ c.in-Some.ensures.1 in
     let found : Finds d (at array (index m)) c.at.result =
     subst (λ e. Finds e (at array (index m)) c.at.result) doc
     (subst (λ q. Finds (document_of c.in-Some-as_array.elements) (at q (index m)) c.at.result) place
-        c.at.ensures) in
+    c.at.ensures) in
     told_stays (tree_of d) c.args.gone.is_held c.args.gone.name.now array c.elements.left m
-        c.elements.places.items _ more
+    c.elements.places.items _ more
     (sym (c.goes.ensures d (at array (index m)) found) ∙ c.if-goes.false) c.elements.invariant
 
 pub elements-preserved-in-Continue-branch-2 : goal.elements-preserved-in-Continue-branch-2
@@ -33,13 +33,13 @@ elements-preserved-in-Continue-branch-2 c =
     let doc : document_of c.in-Some-as_array.elements ≡ d =
     c.in-Some-as_array.ensures.1 ∙ c.in-Some.ensures.0 in
     let place : place_of c.in-Some-as_array.elements ≡ array = c.in-Some-as_array.ensures.2
-        ∙ c.in-Some.ensures.1 in
+    ∙ c.in-Some.ensures.1 in
     let found : Finds d (at array (index m)) c.at.result =
     subst (λ e. Finds e (at array (index m)) c.at.result) doc
     (subst (λ q. Finds (document_of c.in-Some-as_array.elements) (at q (index m)) c.at.result) place
-        c.at.ensures) in
+    c.at.ensures) in
     told_goes (tree_of d) c.args.gone.is_held c.args.gone.name.now array c.elements.left m
-        c.elements.places.items
+    c.elements.places.items
     c.push.new.self.items c.in_ok-place.place _ more
     (sym (c.goes.ensures d (at array (index m)) found) ∙ c.if-goes.true) c.in_ok-push.ensures.items
     c.in_ok-place.ensures.ok c.elements.invariant

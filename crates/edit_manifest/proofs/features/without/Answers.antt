@@ -72,7 +72,7 @@ places-preserved c =
     record {
       without = subst (λ ps. Without ps c.args.document.now.bytes c.remove.new.self.bytes) (sym taken)
           (without_more front place form.0 _ _ _ c.places.invariant.without form.1
-              (done.bytes form.0 form.1));
+          (done.bytes form.0 form.1));
       strings = strings_left form.0 place rest (tree_of c.remove.new.self) (done.tree form.0 form.1) turns.0
           (strings_along (tree_of c.places.left) (view_at form.0) rest shows strings.1);
       apart = turns.1;

@@ -5,5 +5,8 @@ use Rattle.edit_manifest.proofs.remove.no_entry.Goals as goal
 
 pub returns-in-Ok-join : goal.returns-in-Ok-join
 returns-in-Ok-join c =
-    inr (c.in-Ok.ensures.ok, c.in-Ok-join.ensures.ok ∙ joined_map string_bytes (codes ".")
-        c.args.table_path.now)
+    inr (
+      c.in-Ok.ensures.ok,
+      c.in-Ok-join.ensures.ok ∙ joined_map string_bytes (codes ".")
+          c.args.table_path.now,
+    )

@@ -14,7 +14,7 @@ returns-then-is_empty-clause-without c =
     let bytes = c.args.document.now.bytes in
     subst (λ ps. Without ps bytes bytes)
     (sym (bare_root (tree_of c.args.document.now) (place_seen c.args.table.now)
-        (root_is c.args.table.now (sym c.is_empty.ensures ∙ c.if-is_empty.true))))
+    (root_is c.args.table.now (sym c.is_empty.ensures ∙ c.if-is_empty.true))))
     (none bytes)
 
 pub returns-then-not-is_bare-clause-without : goal.returns-then-not-is_bare-clause-without
@@ -34,7 +34,7 @@ returns-clause-without c =
     IfOk-weaker c.remove.result _ _
     (λ u bytes. subst (λ ps. Without ps old.bytes c.remove.new.self.bytes)
     (sym (bare_some (tree_of old) place (root_not c.args.table.now
-        (sym c.is_empty.ensures ∙ c.if-is_empty.false)) (sym is ∙ c.if-not-is_bare.false)))
+    (sym c.is_empty.ensures ∙ c.if-is_empty.false)) (sym is ∙ c.if-not-is_bare.false)))
     (without_one place form.0 old.bytes c.remove.new.self.bytes form.1 (bytes form.0 form.1)))
     c.remove.ensures.bytes
 
@@ -44,7 +44,7 @@ returns-clause-gone c =
     IfOk-weaker c.remove.result _ _
     (λ u tree path name e absent. inner_gone path (place_seen c.args.table.now) name form.0
     (tree_of c.remove.new.self) e (root_not c.args.table.now (sym c.is_empty.ensures ∙ c.if-is_empty.false))
-        (tree form.0 form.1))
+    (tree form.0 form.1))
     c.remove.ensures.tree
 
 pub returns-clause-refused : goal.returns-clause-refused
@@ -58,7 +58,7 @@ returns-clause-refused c =
       r.0,
       subst (λ ps. OneStays ps old.bytes)
           (sym (bare_some (tree_of old) place (root_not c.args.table.now
-              (sym c.is_empty.ensures ∙ c.if-is_empty.false)) (sym is ∙ c.if-not-is_bare.false)))
+          (sym c.is_empty.ensures ∙ c.if-is_empty.false)) (sym is ∙ c.if-not-is_bare.false)))
           (first_stays place [] old.bytes r.1),
     )) why)
     c.remove.ensures.refused

@@ -25,14 +25,14 @@ returns-in_err-remove-clause-refused c =
     let stands : (tree_of old p ≡ None → ⊥) =
     subst (λ q. tree_of old (place_seen q) ≡ None → ⊥) (c.deref-2.ensures.value ∙ sym c.deref-3.ensures.value)
     (found_stands old (place_seen c.deref-2.result.now) c.item.result c.item.ensures
-        (c.is_none.ensures ∙ ap not c.if-is_none.false)) in
+    (c.is_none.ensures ∙ ap not c.if-is_none.false)) in
     let form = c.has_form.ensures.some in
     let same = c.in_ok-left.ensures.same in
     let why : IsNotTakenOut path c.args.name.now old c.in_err-remove.field-0.0 =
     entry_kept path c.args.name.now old form.0 r p table entry form.1 c.in_err-remove.field-0.0
-        (sym c.in_default.ensures) stands
+    (sym c.in_default.ensures) stands
     (subst (λ d. IsMemory c.in_err-remove.field-0.0 ⊎ ((c.in_err-remove.field-0.0 ≡ EditRefused)
-        × RemoveFails p d.bytes))
+    × RemoveFails p d.bytes))
     same c.in_err-remove.ensures.refused) in
     let stop = c.from_residual-in_err-remove in
     let e = err_from_is_err_and stop.result stop.ensures.1 in
@@ -48,18 +48,18 @@ returns-in_err-remove_bare-clause-refused c =
     let entry : p ≡ at r (key c.args.name.now) =
     ap place_seen c.deref-3.ensures.value ∙ c.in_ok-entry.ensures.ok
     ∙ ap (λ q. at (place_seen q) (key c.args.name.now)) (c.deref.ensures.value ∙ sym c.deref-4.ensures.value)
-        in
+    in
     let stands : (tree_of old p ≡ None → ⊥) =
     subst (λ q. tree_of old (place_seen q) ≡ None → ⊥) (c.deref-2.ensures.value ∙ sym c.deref-3.ensures.value)
     (found_stands old (place_seen c.deref-2.result.now) c.item.result c.item.ensures
-        (c.is_none.ensures ∙ ap not c.if-is_none.false)) in
+    (c.is_none.ensures ∙ ap not c.if-is_none.false)) in
     let form = c.has_form.ensures.some in
     let same = c.in_ok-left.ensures.same in
     let reads = subst (λ d. IsManifest d.bytes form.0) (sym same) form.1 in
     let again = c.has_form-2.ensures.some in
     let why : IsNotTakenOut path c.args.name.now old c.in_err-remove_bare.field-0.0 =
     table_kept path c.args.name.now old form.0 r p table entry form.1 c.remove.new.self again.0
-        c.in_err-remove_bare.field-0.0
+    c.in_err-remove_bare.field-0.0
     (sym c.in_default.ensures) stands (c.in_ok-remove.ensures.bytes form.0 reads) again.1
     (c.has_form-2.ensures.shows again.0 again.1) c.in_err-remove_bare.ensures.refused in
     let stop = c.from_residual-in_err-remove_bare in
@@ -76,11 +76,11 @@ returns-clause-text c =
     let entry : p ≡ at r (key c.args.name.now) =
     ap place_seen c.deref-3.ensures.value ∙ c.in_ok-entry.ensures.ok
     ∙ ap (λ q. at (place_seen q) (key c.args.name.now)) (c.deref.ensures.value ∙ sym c.deref-4.ensures.value)
-        in
+    in
     let stands : (tree_of old p ≡ None → ⊥) =
     subst (λ q. tree_of old (place_seen q) ≡ None → ⊥) (c.deref-2.ensures.value ∙ sym c.deref-3.ensures.value)
     (found_stands old (place_seen c.deref-2.result.now) c.item.result c.item.ensures
-        (c.is_none.ensures ∙ ap not c.if-is_none.false)) in
+    (c.is_none.ensures ∙ ap not c.if-is_none.false)) in
     let form = c.has_form.ensures.some in
     let same = c.in_ok-left.ensures.same in
     let reads = subst (λ d. IsManifest d.bytes form.0) (sym same) form.1 in

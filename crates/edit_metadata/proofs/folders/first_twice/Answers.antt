@@ -22,9 +22,9 @@ texts-preserved c =
     let more : map string_bytes (take (c.texts.text-index + 1) c.args.texts.now) ≡ old ++ text ∷ []
     = map_more string_bytes c.args.texts.now c.texts.text-index c.text-item.result c.texts-test.true
     ∙ ap (λ t. old ++ string_bytes t ∷ []) (sym c.text-item.is)
-        ∙ ap (λ t. old ++ t ∷ []) (sym c.as_str-text.ensures.value) in
+    ∙ ap (λ t. old ++ t ∷ []) (sym c.as_str-text.ensures.value) in
     let none : is_listed old text ≡ false = sym (c.texts.invariant.1 text)
-        ∙ new-text c.in_ok-added.added _ c.in_ok-added.ensures.added c.if-not-added.false in (
+    ∙ new-text c.in_ok-added.added _ c.in_ok-added.ensures.added c.if-not-added.false in (
       subst (AllPairs (λ (a b : List ℕ). a ≢ b)) (sym more) (apart-more old text c.texts.invariant.0 none),
       λ t. holds-more text c.texts.seen c.insert.new.self c.in_ok-added.ensures.updates t
           ∙ ap (cond (bytes_eq text t) true) (c.texts.invariant.1 t)
@@ -36,23 +36,23 @@ returns-then-not-added c =
     let old = map string_bytes (take c.texts.text-index c.args.texts.now) in
     let text = c.as_str-text.result.now in
     let listed : is_listed old text ≡ true = sym (c.texts.invariant.1 text)
-        ∙ old-text c.in_ok-added.added _ c.in_ok-added.ensures.added c.if-not-added.true in
+    ∙ old-text c.in_ok-added.added _ c.in_ok-added.ensures.added c.if-not-added.true in
     record {
       before = old;
       after = map string_bytes (drop (c.texts.text-index + 1) c.args.texts.now);
       later = ap (map string_bytes) (sym (take-append-drop c.texts.text-index c.args.texts.now)
           ∙ ap (λ xs. take c.texts.text-index c.args.texts.now ++ xs)
-              (drop_more c.args.texts.now c.texts.text-index c.text-item.result c.texts-test.true))
+          (drop_more c.args.texts.now c.texts.text-index c.text-item.result c.texts-test.true))
           ∙ map-append string_bytes (take c.texts.text-index c.args.texts.now) _
           ∙ ap (λ t. old ++ string_bytes t ∷ map string_bytes
-              (drop (c.texts.text-index + 1) c.args.texts.now)) (sym c.text-item.is)
+          (drop (c.texts.text-index + 1) c.args.texts.now)) (sym c.text-item.is)
           ∙ ap (λ t. old ++ t ∷ map string_bytes (drop (c.texts.text-index + 1) c.args.texts.now))
-              (sym c.as_str-text.ensures.value);
+          (sym c.as_str-text.ensures.value);
       earlier = listed-has old text listed;
     }
 
 pub returns : goal.returns
 returns c =
     let all : take c.texts.text-index c.args.texts.now ≡ c.args.texts.now = search
-        (rules, take-length c.args.texts.now) in
+    (rules, take-length c.args.texts.now) in
     subst (λ xs. AllPairs (λ (a b : List ℕ). a ≢ b) (map string_bytes xs)) all c.texts.invariant.0

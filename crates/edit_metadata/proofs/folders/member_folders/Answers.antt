@@ -15,21 +15,21 @@ packages-preserved c =
     elim c.if-package.branch [
       | then-package+in_ok-folder+in_ok-push w ↦
           let pushed = ap (λ v. map string_bytes v.items) w.folders-is
-              ∙ ap (map string_bytes) w.in_ok-push.ensures.items
-              ∙ map_push string_bytes c.packages.folders.items w.in_ok-folder.folder in
+          ∙ ap (map string_bytes) w.in_ok-push.ensures.items
+          ∙ map_push string_bytes c.packages.folders.items w.in_ok-folder.folder in
           subst (AllZip IsManifestFolder (member_paths (packages_said (take (i + 1) c.args.packages.now))))
-              (sym pushed)
+          (sym pushed)
           (subst (λ ps. AllZip IsManifestFolder ps (map string_bytes c.packages.folders.items
-              ++ string_bytes w.in_ok-folder.folder ∷ []))
+          ++ string_bytes w.in_ok-folder.folder ∷ []))
           (sym (paths-more c.args.packages.now i c.package-item.result c.packages-test.true c.package-item.is
-              w.if-package.true))
+          w.if-package.true))
           (all_zipped_more IsManifestFolder paths (map string_bytes c.packages.folders.items) _ _
-              c.packages.invariant (subst (λ p. IsManifestFolder p (string_bytes w.in_ok-folder.folder))
-              w.as_str.ensures.value w.in_ok-folder.ensures.ok)))
+          c.packages.invariant (subst (λ p. IsManifestFolder p (string_bytes w.in_ok-folder.folder))
+          w.as_str.ensures.value w.in_ok-folder.ensures.ok)))
       | else-package w ↦
           subst (λ v. AllZip IsManifestFolder (member_paths (packages_said
-              (take (i + 1) c.args.packages.now))) (map string_bytes v.items)) (sym w.folders-is)
+          (take (i + 1) c.args.packages.now))) (map string_bytes v.items)) (sym w.folders-is)
           (subst (λ ps. AllZip IsManifestFolder ps (map string_bytes c.packages.folders.items))
           (sym (paths-kept c.args.packages.now i c.package-item.result c.packages-test.true c.package-item.is
-              w.if-package.false)) c.packages.invariant)
+          w.if-package.false)) c.packages.invariant)
     ]

@@ -16,7 +16,7 @@ returns-in_err-bytes-clause-refused g c =
         path = c.as_str-3.result.now;
         is_normal = subst (λ p. IsNormalOf p c.as_str-3.result.now) c.as_str-2.ensures.value
             (subst (IsNormalOf c.as_str-2.result.now) (sym c.as_str-3.ensures.value)
-                c.in_ok-path.ensures.text);
+            c.in_ok-path.ensures.text);
         absent = none.1 tells;
       },
     )) c.in_err-bytes.ensures.refused in

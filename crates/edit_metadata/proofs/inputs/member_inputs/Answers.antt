@@ -43,7 +43,7 @@ packages-preserved g c =
                 (reads-on _ _ _ before.store w.in_ok-input.ensures.reads);
             inputs = subst (AllZip (IsInputOf asked) (member_manifests (packages_said (take (i + 1) ps))))
                 (sym pushed) (subst (λ ms. AllZip (IsInputOf asked) ms (old ++ input ∷ [])) (sym more)
-                    zipped);
+                zipped);
             bytes = λ tells. subst (All (IsReadFrom first.file_at)) (sym pushed)
                 (All-push (IsReadFrom first.file_at) old input (before.bytes tells)
                 (sym (before.store.files (string_bytes input.path))

@@ -18,7 +18,7 @@ returns-in_err-inputs-clause-refused g c =
     (manifests said) c.in_err-inputs.field-0.0
     = no-input-among (g.S.Store.view c.args.store.now) (g.S.Store.view c.member_inputs.new.store)
     (member_manifests (packages_said c.deref.result.now)) _ _
-        (λ m has. Contains-append_right (root_manifest said ∷ [])
+    (λ m has. Contains-append_right (root_manifest said ∷ [])
     (member_manifests said.packages) m
     (subst (λ ps. Contains (member_manifests (packages_said ps)) m) c.deref.ensures.value has))
     c.in_err-inputs.ensures.refused in

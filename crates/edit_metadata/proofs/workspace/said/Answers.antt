@@ -20,7 +20,7 @@ pub returns-in-Ok-clause-refused : goal.returns-in-Ok-clause-refused
 returns-in-Ok-clause-refused c =
     let d = view c.in-Ok.value in
     err-as c.said_by.result (λ (w : Workspace). SaysWorkspace d (workspace_said w))
-        (IsUnsaid (SaysWorkspace d)) (λ e. IsMemory e ⊎ ((e ≡ Metadata) × SayNothing c.args.json.now))
+    (IsUnsaid (SaysWorkspace d)) (λ e. IsMemory e ⊎ ((e ≡ Metadata) × SayNothing c.args.json.now))
     (λ e. ⊎_elim (λ memory. inl memory) (λ unsaid. inr (
       unsaid.0,
       λ w are. unsaid.1 w (subst (λ v. SaysWorkspace v w) (some-same are.value d

@@ -15,8 +15,8 @@ returns-in_err-packages c =
       λ w says. unsaid.1 w.packages (packages-as (is_listed c.in_ok-ids.ensures.0) (holds c.in_ok-ids.ids)
           (λ id. sym (c.in_ok-ids.ensures.2 id)) (map view c.in-Some-values_at.packages.now) w.packages
           (packages-within d w (map view c.in-Some.ids.now) (map view c.in-Some-values_at.packages.now)
-              c.in_ok-ids.ensures.0 says (sym c.in-Some.ensures) c.in_ok-ids.ensures.1
-              (sym c.in-Some-values_at.ensures))),
+          c.in_ok-ids.ensures.0 says (sym c.in-Some.ensures) c.in_ok-ids.ensures.1
+          (sym c.in-Some-values_at.ensures))),
     )) c.in_err-packages.ensures in
     search (rules, why)
 

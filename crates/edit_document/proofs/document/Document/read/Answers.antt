@@ -47,7 +47,7 @@ returns-clause-found c =
     let d = read_done c.args.text.now c.as_bytes.result.now c.in_ok-marks.marks.items c.as_slice.result.now
     c.in_ok-nodes.nodes.items c.utf8.text c.as_bytes.ensures.value
     (c.in_ok-marks.ensures {u = tt}).found c.as_slice.ensures.value (c.in_ok-nodes.ensures {u = tt}).nodes
-        in (
+    in (
       d.0,
       d.1.manifest,
       subst (λ (b : List ℕ). ShowsTree (shown_by b (0, length c.args.text.now)) d.0)
