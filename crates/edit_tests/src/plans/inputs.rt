@@ -32,7 +32,7 @@ fn planned(alloc: Global, index: &mut IndexCache<FileIndex>) -> CargoResult<Upgr
         input_at(alloc, "/w/b/Cargo.toml", second)?,
     ];
     let configs = [Vec::new(alloc), Vec::new(alloc)];
-    let options = options_of(alloc, "");
+    let options = options_of(alloc, "")?;
     plan_upgrade(alloc, &options, &inputs, &configs, index)
 }
 

@@ -1,8 +1,9 @@
 //! Rows of plans: what is told of a plan, what it is made with, and the manifest. Lines end with `@`. What is
 //! told is the manifest afterwards, `-` where nothing is written; a line for each row, with the requirement,
 //! the compatible version, the latest one, the new requirement, the reason and the change; a line for each
-//! warning; and how many looks were made. A plan is made with options (`i` incompatible, `p` pinned), with
-//! names, and with the versions that each of them has.
+//! warning; one for each missing name; and how many looks were made. A plan is made with options (`i`
+//! incompatible, `p` pinned, `n` not compatible), with names, with the versions that each of them has, and,
+//! behind what the row shows, with package words and excluded names.
 use super::upgrade::outcome;
 use std::alloc::Global;
 use std::test::Fail;
@@ -78,6 +79,41 @@ i;x;2.0.0;LF|[dependencies]@x = { # c@  version = \"1\",@  optional = true,@}@
 [dependencies]\r@x = { # c\r@  version = \"2\",\r@  optional = true,\r@}\r@@1 - 2.0.0 2 None Some(Latest)@\
 looks: 1@|i;x;2.0.0;CR LF|[dependencies]\r@x = { # c\r@  version = \"1\",\r@  optional = true,\r@}\r@";
 
+/// Package words and excluded names, the last two parts of a call.
+const WORDS: &str = "\
+[dependencies]@serde = { version = \"1.2\", optional = true } # keep@@\
+1.0 1.2.3 1.2.3 1.2 None Some(Compatible)@missing nothere@looks: 1@|\
+;serde;1.2.3;a name that no entry has;serde nothere|[dependencies]@\
+serde = { version = '1.0', optional = true } # keep@
+-@=1.0.0 1.0.0 1.1.0 =1.0.0 Some(Pinned) None@looks: 1@|;x;1.0.0 1.1.0;a pinned entry;x@2|[dependencies]@\
+x = '=1.0.0'@
+[dependencies]@x = \"2\"@@=1.0.0 1.0.0 1.1.0 2 None Some(Explicit)@looks: 1@|\
+p;x;1.0.0 1.1.0;a requirement for a pinned one;x@2|[dependencies]@x = '=1.0.0'@
+[dependencies]@docopt = \"99999.0.0\"@@0.8 0.8.1 0.8.1 99999.0.0 None Some(Explicit)@looks: 1@|\
+n;docopt;0.8.1;a version that no index has;docopt@99999.0.0|[dependencies]@docopt = '0.8'@
+-@1.0 1.2.0 1.2.0 1.0 Some(Excluded) None@looks: 1@|;x;1.0.0 1.2.0;excluded;;x|[dependencies]@x = '1.0'@
+-@1.0 1.2.3 1.2.3 1.0 Some(Excluded) None@missing y@looks: 1@|;x;1.2.3;both;y x;x|[dependencies]@x = '1.0'@
+-@1.0 1.2.3 1.2.3 1.0 Some(Excluded) None@missing y@missing z@looks: 1@|;x;1.2.3;each name once;y z y|\
+[dependencies]@x = '1.0'@
+[dependencies]@x = \"1.2\"@@1.0 1.2.3 1.2.3 1.2 None Some(Compatible)@looks: 1@|\
+;x;1.2.3;the last word of a name has no requirement;x@2 x|[dependencies]@x = '1.0'@
+[dependencies]@x = \"1.1\"@@1.0 1.2.3 1.2.3 1.1 None Some(Explicit)@looks: 1@|\
+;x;1.2.3;the last word of a name has one;x x@1.1|[dependencies]@x = '1.0'@
+-@1.0 1.2.3 1.2.3 1.0 Some(Latest) None@looks: 1@|;x;1.2.3;the same requirement;x@1.0|[dependencies]@x = '1.0'@
+-@1.0 1.2.3 1.2.3 1.0 Some(Excluded) None@missing y@looks: 1@|;x;1.2.3;another name;y@2|[dependencies]@\
+x = '1.0'@
+[dependencies]@x = { package = 'y', version = \"1.2\" }@@1.0 1.2.3 1.2.3 1.2 None Some(Compatible)@\
+looks: 1@|;y;1.2.3;the crate's name;y|[dependencies]@x = { package = 'y', version = '1.0' }@
+-@1.0 1.2.3 1.2.3 1.0 Some(Excluded) None@missing x@looks: 1@|;y;1.2.3;the key of a renamed one;x|\
+[dependencies]@x = { package = 'y', version = '1.0' }@
+-@- - - - Some(Excluded) None@looks: 0@|;x;1.2.3;a folder, excluded;;x|[dependencies]@x = { path = '../x' }@
+-@- - - - Some(PathSource) None@looks: 0@|;x;1.2.3;a folder, selected;x|[dependencies]@x = { path = '../x' }@
+-@ignoring x, source is workspace@looks: 0@|;x;1.2.3;the workspace's is not missing;x|[dependencies]@\
+x = { workspace = true }@
+20 Invalid name `a/b`: /|;x;1.2.3;no name;a/b|[dependencies]@x = '1.0'@
+20 Invalid name `a/b`: /|;x;1.2.3;a name before its requirement;x a/b@one|[dependencies]@x = '1.0'@
+14 Invalid version requirement `one`|;x;1.2.3;the first word;x@one a/b|[dependencies]@x = '1.0'@";
+
 /// Manifests for which no plan is made, and the empty one, for which nothing is written, told or looked up.
 const REFUSED: &str = "\
 1 Unable to parse Cargo.toml|;x;1.0.0;no document|[dependencies]@x = \"1@
@@ -105,6 +141,11 @@ fn worked_rows(rt: HostRuntime) -> Result<(), Fail> {
 #[test]
 fn entries_of_every_kind(rt: HostRuntime) -> Result<(), Fail> {
     rows_hold(rt.alloc(), ENTRIES, LINES, told_of)
+}
+
+#[test]
+fn words_and_excluded_names(rt: HostRuntime) -> Result<(), Fail> {
+    rows_hold(rt.alloc(), WORDS, LINES, told_of)
 }
 
 #[test]

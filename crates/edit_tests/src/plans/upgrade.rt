@@ -21,33 +21,50 @@ pub(crate) fn input_at(alloc: Global, path: &str, bytes: &[u8]) -> CargoResult<I
     })
 }
 
-/// The options of a plan. Among the flags are `i` for incompatible and `p` for pinned.
-pub(crate) fn options_of(alloc: Global, flags: &str) -> Options
-    ensures words { result.package.items ≡ [] }
-    ensures exclusions { result.exclude.items ≡ [] }
-{
-    Options {
-        compatible: true,
+/// The words of a text, between spaces.
+fn words_in(alloc: Global, text: &str) -> CargoResult<Vec<String>> {
+    let mut words = Vec::new(alloc);
+    for word in text.split(' ') {
+        if !word.is_empty() {
+            words.push(String::from_str(alloc, word)?)?;
+        }
+    }
+    Ok(words)
+}
+
+/// A part of a call, which stand with semicolons between them.
+fn part(call: &str, n: usize) -> &str {
+    call.split(';').nth(n).unwrap_or("")
+}
+
+/// The options of a call. Among its flags are `i` for incompatible, `p` for pinned and `n` for not
+/// compatible; its fifth part are package words, its sixth excluded names.
+pub(crate) fn options_of(alloc: Global, call: &str) -> CargoResult<Options> {
+    let flags = part(call, 0);
+    let package = words_in(alloc, part(call, 4))?;
+    let exclude = words_in(alloc, part(call, 5))?;
+    Ok(Options {
+        compatible: !flags.contains('n'),
         incompatible: flags.contains('i'),
         pinned: flags.contains('p'),
-        package: Vec::new(alloc),
-        exclude: Vec::new(alloc),
+        package,
+        exclude,
         dry_run: false,
         locked: false,
         recursive: None,
         verbosity: 0,
-    }
+    })
 }
 
 /// A plan of one manifest.
 fn planned(
     alloc: Global,
-    flags: &str,
+    call: &str,
     bytes: &[u8],
     index: &mut IndexCache<FileIndex>,
 ) -> CargoResult<UpgradePlan> {
     let inputs = [input_at(alloc, "/w/Cargo.toml", bytes)?];
-    let options = options_of(alloc, flags);
+    let options = options_of(alloc, call)?;
     let configs = [Vec::new(alloc)];
     plan_upgrade(alloc, &options, &inputs, &configs, index)
 }
@@ -127,18 +144,27 @@ fn push_warnings(told: &mut String, plan: &UpgradePlan) -> Result<(), Fail> {
     Ok(())
 }
 
+/// Adds the missing names of a plan, where there are some.
+fn push_missing(told: &mut String, plan: &UpgradePlan) -> Result<(), Fail> {
+    for name in &plan.missing {
+        writeln!(told, "missing {name}")?;
+    }
+    Ok(())
+}
+
 /// Whether a plan changes nothing.
 fn is_settled(plan: &UpgradePlan) -> bool {
     plan.outputs.is_empty() && plan.rows.iter().all(|row| row.change.is_none())
 }
 
-/// What is told of a plan: what it writes, a line for each row and each warning, and how many looks
-/// were made.
+/// What is told of a plan: what it writes, a line for each row, each warning and each missing name, and
+/// how many looks were made.
 fn telling(alloc: Global, plan: &UpgradePlan) -> Result<String, Fail> {
     let mut told = text(alloc, written(plan))?;
     told.push_str("\n")?;
     push_rows(&mut told, plan)?;
     push_warnings(&mut told, plan)?;
+    push_missing(&mut told, plan)?;
     writeln!(told, "looks: {}", plan.looks.len())?;
     Ok(told)
 }
@@ -146,14 +172,14 @@ fn telling(alloc: Global, plan: &UpgradePlan) -> Result<String, Fail> {
 /// What is told of a plan, if the plan for what it writes changes nothing.
 fn settled(
     alloc: Global,
-    flags: &str,
+    call: &str,
     plan: &UpgradePlan,
     index: &mut IndexCache<FileIndex>,
 ) -> Result<String, Fail> {
     let Some(output) = plan.outputs.first() else {
         return telling(alloc, plan);
     };
-    let next = planned(alloc, flags, &output.bytes, index)?;
+    let next = planned(alloc, call, &output.bytes, index)?;
     if !is_settled(&next) {
         return text(alloc, "changes again");
     }
@@ -163,23 +189,18 @@ fn settled(
 /// The same of the plan for a manifest.
 fn outcome_over(
     alloc: Global,
-    flags: &str,
+    call: &str,
     bytes: &[u8],
     index: &mut IndexCache<FileIndex>,
 ) -> Result<String, Fail> {
-    match planned(alloc, flags, bytes, index) {
-        Ok(plan) => settled(alloc, flags, &plan, index),
+    match planned(alloc, call, bytes, index) {
+        Ok(plan) => settled(alloc, call, &plan, index),
         Err(error) => told(alloc, error),
     }
-}
-
-/// A part of a call, which stand with semicolons between them.
-fn part(call: &str, n: usize) -> &str {
-    call.split(';').nth(n).unwrap_or("")
 }
 
 /// What is told of the plan for a manifest, with the options, the names and the versions of a call.
 pub(crate) fn outcome(alloc: Global, call: &str, bytes: &[u8]) -> Result<String, Fail> {
     let mut index = index_of(alloc, part(call, 1), part(call, 2))?;
-    outcome_over(alloc, part(call, 0), bytes, &mut index)
+    outcome_over(alloc, call, bytes, &mut index)
 }
