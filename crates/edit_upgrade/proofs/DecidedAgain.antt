@@ -12,14 +12,15 @@ use Rattle.edit_version.specs.Requirement.{Nothing, Raised, Text, Unread, Unsupp
 use Rattle.edit_version.specs.Selection.{IsCompatible, IsLatest, is_admitted, is_offered}
 use Rattle.edit_version.proofs.Orders.{greatest-has, greatest-same}
 use Rattle.edit_version.proofs.Outcomes.{form-of, text-outcome, valid-version}
-use Rattle.edit_upgrade.specs.Decision.{Case, decision, first_row, has_pin_read, is_pin, row_change, row_of, row_text, text_or, when}
+use Rattle.edit_upgrade.specs.Decision.{Case, decision, first_row, has_pin_read, is_pin, is_too_low, newer, row_change, row_of, row_text, text_or, unless, when}
 use Rattle.edit_upgrade.specs.Records.{Seen}
 use Rattle.edit_upgrade.specs.Rows.{case_for}
 use Rattle.edit_upgrade.specs.Words.{is_excluded, requirement_for}
 use Rattle.edit_upgrade.specs.declared.upgrade.Options.{Options}
+use Rattle.edit_upgrade.proofs.LowAgain.{low-again}
 use Rattle.edit_upgrade.proofs.Narrowing.{latest-lands}
 use Rattle.edit_upgrade.proofs.RaisedAgain.{compatible-far, compatible-near, latest-settles}
-use Rattle.edit_upgrade.proofs.TakenVersions.{far-some, far_text, near-some, near_text, newer-latest, when-some}
+use Rattle.edit_upgrade.proofs.TakenVersions.{far-some, far_text, near-some, near_text, newer-latest, unless-some, when-some}
 
 -- ---- pinned entries
 
@@ -38,13 +39,13 @@ pin-same old new h =
 -- ---- the second decision
 
 -- a case without a given requirement
-abbrev pub case_of : Bool → Bool → List ℕ → Option Parts → Option Parts → Case
-case_of x r old near far = record { excluded = x; renamed = r; selected = None; old = old; compatible = near; latest = far }
+abbrev pub case_of : Bool → Bool → Bool → List ℕ → Option Parts → Option Parts → Case
+case_of x r m old near far = record { excluded = x; renamed = r; never_lower = m; selected = None; old = old; compatible = near; latest = far }
 
 -- where words give no requirement, the decision for an entry is one without
 pub case-plain : (o : Options) (e : Seen) (old : List ℕ) (near far : Option Parts)
     → requirement_for o e.name ≡ None
-    → case_for o e old near far ≡ case_of (is_excluded o e.name) (is_some e.rename) old near far
+    → case_for o e old near far ≡ case_of (is_excluded o e.name) (is_some e.rename) o.never_lower old near far
 case-plain o e old near far h =
     ap (λ (s : Option (List ℕ)). record (case_for o e old near far) { selected = s }) h
 
@@ -71,99 +72,123 @@ rest-none old true b = refl
 rest-none old false true = refl
 rest-none old false false = refl
 
+-- the text for the latest version, where that is not too low
+abbrev far_for : Bool → List ℕ → Option Parts → Option Parts → Option (List ℕ)
+far_for m t far near = unless (is_too_low m t (newer far near)) (far_text t far near)
+
+-- without a text there is none that is not too low
+quiet-for : (b low : Bool) (a : Option (List ℕ)) → a ≡ None → when b (unless low a) ≡ None
+quiet-for true true a h = refl
+quiet-for true false a h = h
+quiet-for false low a h = refl
+
 -- where no other text can be written, the text stays
-stays : (o : Options) (x r : Bool) (t : List ℕ) (near far : Option Parts) → when (jump o r t) (far_text t far near) ≡ None
-    → when o.compatible (near_text t near) ≡ None → row_change t (row_of o (case_of x r t near far)) ≡ None
-stays o x r t near far h g = rw (h, g) (rest-none t x (is_ok (req_of t)))
+stays : (o : Options) (x r m : Bool) (t : List ℕ) (near far : Option Parts) → when (jump o r t) (far_for m t far near) ≡ None
+    → when o.compatible (near_text t near) ≡ None → row_change t (row_of o (case_of x r m t near far)) ≡ None
+stays o x r m t near far h g = rw (h, g) (rest-none t x (is_ok (req_of t)))
 
 -- the latest version was written
-latest-row : (o : Options) (r : Bool) (xs : List Parts) (old t : List ℕ) (near0 far0 near far : Option Parts) → All IsValid xs
+latest-row : (o : Options) (r m : Bool) (xs : List Parts) (old t : List ℕ) (near0 far0 near far : Option Parts) → All IsValid xs
     → IsLatest old xs far0 → far_text old far0 near0 ≡ Some t → IsCompatible t xs near → IsLatest t xs far
-    → row_change t (row_of o (case_of false r t near far)) ≡ None
-latest-row o r xs old t near0 far0 near far all islatest h isnear isfar =
+    → row_change t (row_of o (case_of false r m t near far)) ≡ None
+latest-row o r m xs old t near0 far0 near far all islatest h isnear isfar =
     let f = far-some old t far0 near0 h in
     let kept = subst (λ (x : Option Parts). IsLatest old xs x) (newer-latest far0 near0 f.0 f.1) islatest in
     let l = latest-lands old f.0 t (greatest-has IsValid (is_offered old) xs f.0 all kept) kept.kept f.2 in
     let s = latest-settles xs old t f.0 far near l kept isfar isnear in
-    stays o false r t near far
-    (ap (λ (x : Option (List ℕ)). when (jump o r t) x) s.0 ∙ when-none (jump o r t))
+    stays o false r m t near far
+    (quiet-for (jump o r t) (is_too_low m t (newer far near)) (far_text t far near) s.0)
     (ap (λ (x : Option (List ℕ)). when o.compatible x) s.1 ∙ when-none o.compatible)
 
 -- writing the old text is no change
-self-none : (o : Options) (r : Bool) (old : List ℕ) (near far : Option Parts) → is_ok (req_of old) ≡ true
-    → when (jump o r old) (far_text old far near) ≡ None → when o.compatible (near_text old near) ≡ Some old
-    → row_change old (row_of o (case_of false r old near far)) ≡ None
-self-none o r old near far b h g =
+self-none : (o : Options) (r m : Bool) (old : List ℕ) (near far : Option Parts) → is_ok (req_of old) ≡ true
+    → when (jump o r old) (far_for m old far near) ≡ None → when o.compatible (near_text old near) ≡ Some old
+    → row_change old (row_of o (case_of false r m old near far)) ≡ None
+self-none o r m old near far b h g =
     let self : pointwise nat_eq old old ≡ true = nat_list_eq_equiv.refl old in
     rw (b, h, g, self) refl
 
+-- after the compatible version was written, no later one that is not too low is
+for-compatible : (o : Options) (r m : Bool) (xs : List Parts) (old t : List ℕ) (u : Parts) (far0 far : Option Parts) → All IsValid xs
+    → raise old u ≡ Text t → IsCompatible old xs (Some u) → IsLatest old xs far0 → far_for m old far0 (Some u) ≡ None → IsLatest t xs far
+    → when (jump o r t) (far_for m t far (Some u)) ≡ None
+for-compatible o r m xs old t u far0 far all raised near islatest none isfar = elim (cases_Bool (is_too_low m old (newer far0 (Some u)))) [
+  | inl low ↦
+      let again = low-again m xs old t u far0 far all raised near islatest low isfar in
+      rw again (when-none (jump o r t))
+  | inr high ↦
+      let first : far_text old far0 (Some u) ≡ None = rw high at none in
+      quiet-for (jump o r t) (is_too_low m t (newer far (Some u))) (far_text t far (Some u))
+      (compatible-far xs old t u far0 far all raised near islatest first isfar)
+]
+
 -- the compatible version was written
-compatible-row : (o : Options) (r : Bool) (xs : List Parts) (old t : List ℕ) (u : Parts) (far0 near far : Option Parts) (raised : Raised)
+compatible-row : (o : Options) (r m : Bool) (xs : List Parts) (old t : List ℕ) (u : Parts) (far0 near far : Option Parts) (raised : Raised)
     → All IsValid xs → is_ok (req_of old) ≡ true → raise old u ≡ raised → text_or old raised ≡ Some t → IsCompatible old xs (Some u) → IsLatest old xs far0
-    → when (jump o r old) (far_text old far0 (Some u)) ≡ None → when o.compatible (near_text old (Some u)) ≡ Some t
-    → IsCompatible t xs near → IsLatest t xs far → row_change t (row_of o (case_of false r t near far)) ≡ None
-compatible-row o r xs old t u far0 near far Unread all b e h iscomp islatest none some isnear isfar = cc h
-compatible-row o r xs old t u far0 near far Nothing all b e h iscomp islatest none some isnear isfar = cc h
-compatible-row o r xs old t u far0 near far (Unsupported d) all b e h iscomp islatest none some isnear isfar =
+    → when (jump o r old) (far_for m old far0 (Some u)) ≡ None → when o.compatible (near_text old (Some u)) ≡ Some t
+    → IsCompatible t xs near → IsLatest t xs far → row_change t (row_of o (case_of false r m t near far)) ≡ None
+compatible-row o r m xs old t u far0 near far Unread all b e h iscomp islatest none some isnear isfar = cc h
+compatible-row o r m xs old t u far0 near far Nothing all b e h iscomp islatest none some isnear isfar = cc h
+compatible-row o r m xs old t u far0 near far (Unsupported d) all b e h iscomp islatest none some isnear isfar =
     let same : old ≡ t = cc h in
     let near1 = subst (λ (x : List ℕ). IsCompatible x xs near) (sym same) isnear in
     let far1 = subst (λ (x : List ℕ). IsLatest x xs far) (sym same) isfar in
     let n : near ≡ Some u = greatest-same (is_admitted old) xs near (Some u) near1 iscomp in
     let f : far ≡ far0 = greatest-same (is_offered old) xs far far0 far1 islatest in
-    subst (λ (x : List ℕ). row_change x (row_of o (case_of false r x near far)) ≡ None) same
-    (self-none o r old near far b
-    (ap (λ (x : Option Parts). when (jump o r old) (far_text old x near)) f
-    ∙ ap (λ (x : Option Parts). when (jump o r old) (far_text old far0 x)) n ∙ none)
+    subst (λ (x : List ℕ). row_change x (row_of o (case_of false r m x near far)) ≡ None) same
+    (self-none o r m old near far b
+    (ap (λ (x : Option Parts). when (jump o r old) (far_for m old x near)) f
+    ∙ ap (λ (x : Option Parts). when (jump o r old) (far_for m old far0 x)) n ∙ none)
     (ap (λ (x : Option Parts). when o.compatible (near_text old x)) n ∙ some ∙ ap (λ (x : List ℕ). Some x) (sym same)))
-compatible-row o r xs old t u far0 near far (Text s) all b e h iscomp islatest none some isnear isfar =
+compatible-row o r m xs old t u far0 near far (Text s) all b e h iscomp islatest none some isnear isfar =
     let same : s ≡ t = cc h in
     let raised : raise old u ≡ Text t = e ∙ ap Text same in
     let c = compatible-near xs old t u near all raised iscomp isnear in
     let valid = greatest-has IsValid (is_admitted old) xs u all iscomp in
     let pins = pin-same old t (form-of old u t (valid-version u valid) (text-outcome old u t raised)).0 in
     let jumps : jump o r t ≡ jump o r old = ap (λ (p : Bool). if r || p then o.pinned else o.incompatible) pins in
-    let quiet : when (jump o r t) (far_text t far near) ≡ None = elim (cases_Bool (jump o r old)) [
+    let quiet : when (jump o r t) (far_for m t far near) ≡ None = elim (cases_Bool (jump o r old)) [
       | inl on ↦
-          let first = when-on (jump o r old) (far_text old far0 (Some u)) on none in
-          let last = compatible-far xs old t u far0 far all raised iscomp islatest first isfar in
-          ap (λ (x : Option Parts). when (jump o r t) (far_text t far x)) c.0
-          ∙ ap (λ (x : Option (List ℕ)). when (jump o r t) x) last ∙ when-none (jump o r t)
-      | inr off ↦ when-off (jump o r t) (far_text t far near) (jumps ∙ off)
+          let first = when-on (jump o r old) (far_for m old far0 (Some u)) on none in
+          ap (λ (x : Option Parts). when (jump o r t) (far_for m t far x)) c.0
+          ∙ for-compatible o r m xs old t u far0 far all raised iscomp islatest first isfar
+      | inr off ↦ when-off (jump o r t) (far_for m t far near) (jumps ∙ off)
     ] in
-    stays o false r t near far quiet (ap (λ (x : Option (List ℕ)). when o.compatible x) c.1 ∙ when-none o.compatible)
+    stays o false r m t near far quiet (ap (λ (x : Option (List ℕ)). when o.compatible x) c.1 ∙ when-none o.compatible)
 
 -- the text that stands in a row that was the first to hold
 abbrev stands : Bool → List ℕ → Bool → Option (List ℕ) → Option (List ℕ) → List ℕ
 stands x old b l c = row_text old (first_row x None b l c)
 
 -- whichever text the entry got, it stays
-rows : (o : Options) (x r : Bool) (xs : List Parts) (old : List ℕ) (near0 far0 near far : Option Parts) (b : Bool) (l c : Option (List ℕ))
+rows : (o : Options) (x r m : Bool) (xs : List Parts) (old : List ℕ) (near0 far0 near far : Option Parts) (b : Bool) (l c : Option (List ℕ))
     → All IsValid xs → IsCompatible old xs near0 → IsLatest old xs far0
-    → is_ok (req_of old) ≡ b → when (jump o r old) (far_text old far0 near0) ≡ l → when o.compatible (near_text old near0) ≡ c
+    → is_ok (req_of old) ≡ b → when (jump o r old) (far_for m old far0 near0) ≡ l → when o.compatible (near_text old near0) ≡ c
     → IsCompatible (stands x old b l c) xs near → IsLatest (stands x old b l c) xs far
-    → row_change (stands x old b l c) (row_of o (case_of x r (stands x old b l c) near far)) ≡ None
-rows o true r xs old near0 far0 near far b l c all iscomp islatest p q s isnear isfar = refl
-rows o false r xs old near0 far0 near far false l c all iscomp islatest p q s isnear isfar = rw p refl
-rows o false r xs old near0 far0 near far true (Some t) c all iscomp islatest p q s isnear isfar =
-    latest-row o r xs old t near0 far0 near far all islatest (when-some (jump o r old) (far_text old far0 near0) t q) isnear isfar
-rows o false r xs old near0 far0 near far true None (Some t) all iscomp islatest p q s isnear isfar =
+    → row_change (stands x old b l c) (row_of o (case_of x r m (stands x old b l c) near far)) ≡ None
+rows o true r m xs old near0 far0 near far b l c all iscomp islatest p q s isnear isfar = refl
+rows o false r m xs old near0 far0 near far false l c all iscomp islatest p q s isnear isfar = rw p refl
+rows o false r m xs old near0 far0 near far true (Some t) c all iscomp islatest p q s isnear isfar =
+    let u = unless-some (is_too_low m old (newer far0 near0)) (far_text old far0 near0) t (when-some (jump o r old) (far_for m old far0 near0) t q) in
+    latest-row o r m xs old t near0 far0 near far all islatest u.1 isnear isfar
+rows o false r m xs old near0 far0 near far true None (Some t) all iscomp islatest p q s isnear isfar =
     let n = near-some o old t near0 s in
     let first = subst (λ (y : Option Parts). IsCompatible old xs y) n.1 iscomp in
-    let none = subst (λ (y : Option Parts). when (jump o r old) (far_text old far0 y) ≡ None) n.1 q in
+    let none = subst (λ (y : Option Parts). when (jump o r old) (far_for m old far0 y) ≡ None) n.1 q in
     let some = subst (λ (y : Option Parts). when o.compatible (near_text old y) ≡ Some t) n.1 s in
-    compatible-row o r xs old t n.0 far0 near far (raise old n.0) all p refl n.2 first islatest none some isnear isfar
-rows o false r xs old near0 far0 near far true None None all iscomp islatest p q s isnear isfar =
+    compatible-row o r m xs old t n.0 far0 near far (raise old n.0) all p refl n.2 first islatest none some isnear isfar
+rows o false r m xs old near0 far0 near far true None None all iscomp islatest p q s isnear isfar =
     let n : near ≡ near0 = greatest-same (is_admitted old) xs near near0 isnear iscomp in
     let f : far ≡ far0 = greatest-same (is_offered old) xs far far0 isfar islatest in
-    stays o false r old near far
-    (ap (λ (y : Option Parts). when (jump o r old) (far_text old y near)) f ∙ ap (λ (y : Option Parts). when (jump o r old) (far_text old far0 y)) n ∙ q)
+    stays o false r m old near far
+    (ap (λ (y : Option Parts). when (jump o r old) (far_for m old y near)) f ∙ ap (λ (y : Option Parts). when (jump o r old) (far_for m old far0 y)) n ∙ q)
     (ap (λ (y : Option Parts). when o.compatible (near_text old y)) n ∙ s)
 
 -- the requirement that an entry got, decided again, stays
-pub again : (o : Options) (x r : Bool) (xs : List Parts) (old : List ℕ) (near0 far0 near far : Option Parts) → All IsValid xs
+pub again : (o : Options) (x r m : Bool) (xs : List Parts) (old : List ℕ) (near0 far0 near far : Option Parts) → All IsValid xs
     → IsCompatible old xs near0 → IsLatest old xs far0
-    → IsCompatible (decision o (case_of x r old near0 far0)).new xs near → IsLatest (decision o (case_of x r old near0 far0)).new xs far
-    → (decision o (case_of x r (decision o (case_of x r old near0 far0)).new near far)).change ≡ None
-again o x r xs old near0 far0 near far all iscomp islatest isnear isfar =
-    rows o x r xs old near0 far0 near far (is_ok (req_of old)) (when (jump o r old) (far_text old far0 near0)) (when o.compatible (near_text old near0))
+    → IsCompatible (decision o (case_of x r m old near0 far0)).new xs near → IsLatest (decision o (case_of x r m old near0 far0)).new xs far
+    → (decision o (case_of x r m (decision o (case_of x r m old near0 far0)).new near far)).change ≡ None
+again o x r m xs old near0 far0 near far all iscomp islatest isnear isfar =
+    rows o x r m xs old near0 far0 near far (is_ok (req_of old)) (when (jump o r old) (far_for m old far0 near0)) (when o.compatible (near_text old near0))
     all iscomp islatest refl refl refl isnear isfar

@@ -15,7 +15,7 @@ version major minor patch = (major, minor, patch, [], [])
 
 -- an entry with this requirement, its compatible version and its latest one
 abbrev entry : List ℕ → Option Parts → Option Parts → Case
-entry old near far = record { excluded = false; renamed = false; selected = None; old = old; compatible = near; latest = far }
+entry old near far = record { excluded = false; renamed = false; never_lower = false; selected = None; old = old; compatible = near; latest = far }
 
 -- the compatible version is taken
 pub compatible_taken : (o : Options) → o.pinned ≡ false → o.incompatible ≡ false → o.compatible ≡ true
@@ -45,6 +45,58 @@ incompatible_left o p i c = rw (p, i, c) refl
 pub unreadable_stays : (o : Options) → decision o (entry (codes "one") None (Some (version 1 0 0))) ≡ record { new = codes "one"; change = None; reason = Some reason.Latest }
 unfolding semver_on_literals digits
 unreadable_stays o = refl
+
+-- the same entry, where requirements are never to be lowered
+abbrev floored : Case → Case
+floored e = record e { never_lower = true }
+
+-- a pre-release of a version of three numbers
+abbrev pre_release : ℕ → ℕ → ℕ → List ℕ → Parts
+pre_release major minor patch pre = (major, minor, patch, pre, [])
+
+-- a latest version below the floor is not taken
+pub lower_left : (o : Options) → o.pinned ≡ false → o.incompatible ≡ true → o.compatible ≡ true
+    → decision o (floored (entry (codes "2.0") None (Some (version 1 9 0)))) ≡ record { new = codes "2.0"; change = None; reason = Some reason.Latest }
+unfolding semver_on_literals digits
+lower_left o p i c = rw (i, c) refl
+
+-- nor is a lower pre-release
+pub lower_pre_left : (o : Options) → o.pinned ≡ false → o.incompatible ≡ true → o.compatible ≡ true
+    → decision o (floored (entry (codes "2.0.0-rc.2") None (Some (pre_release 2 0 0 (codes "rc.1")))))
+    ≡ record { new = codes "2.0.0-rc.2"; change = None; reason = Some reason.Latest }
+unfolding semver_on_literals digits
+lower_pre_left o p i c = rw (i, c) refl
+
+-- without the option it is
+pub lower_pre_taken : (o : Options) → o.pinned ≡ false → o.incompatible ≡ true → o.compatible ≡ true
+    → decision o (entry (codes "2.0.0-rc.2") None (Some (pre_release 2 0 0 (codes "rc.1"))))
+    ≡ record { new = codes "2.0.0-rc.1"; change = Some change.Latest; reason = None }
+unfolding semver_on_literals digits
+lower_pre_taken o p i c = rw i refl
+
+-- the floor of `>1.5, <2` is 1.5.0
+pub lower_pinned_left : (o : Options) → o.pinned ≡ true → o.compatible ≡ true
+    → decision o (floored (entry (codes ">1.5, <2") None (Some (version 1 4 0)))) ≡ record { new = codes ">1.5, <2"; change = None; reason = Some reason.Latest }
+unfolding semver_on_literals digits
+lower_pinned_left o p c = rw (p, c) refl
+
+-- without the option the version is taken
+pub lower_pinned_taken : (o : Options) → o.pinned ≡ true → o.compatible ≡ true
+    → decision o (entry (codes ">1.5, <2") None (Some (version 1 4 0))) ≡ record { new = codes "1.4.0"; change = Some change.Latest; reason = None }
+unfolding semver_on_literals digits
+lower_pinned_taken o p c = rw p refl
+
+-- `<2` has no floor
+pub endless_taken : (o : Options) → o.pinned ≡ true → o.compatible ≡ true
+    → decision o (floored (entry (codes "<2") (Some (version 1 5 0)) (Some (version 3 0 0)))) ≡ record { new = codes "3.0.0"; change = Some change.Latest; reason = None }
+unfolding semver_on_literals digits
+endless_taken o p c = rw p refl
+
+-- what was written then stays
+pub endless_again : (o : Options) → o.pinned ≡ true → o.incompatible ≡ true → o.compatible ≡ true
+    → decision o (floored (entry (codes "3.0.0") (Some (version 3 0 0)) (Some (version 3 0 0)))) ≡ record { new = codes "3.0.0"; change = None; reason = Some reason.Latest }
+unfolding semver_on_literals digits
+endless_again o p i c = rw (i, c) refl
 
 -- an entry for which a word gives this requirement
 abbrev given : List ℕ → Case → Case

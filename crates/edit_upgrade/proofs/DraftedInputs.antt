@@ -1,5 +1,5 @@
 -- What is said of a plan of inputs, from what is planned of each.
-use Rattle.std.proofs.Common.{◌≡◌, List, ℕ, Some, ◌<◌, sym, subst, length, map, arith}
+use Rattle.std.proofs.Common.{◌≡◌, List, ℕ, Some, ◌<◌, refl, sym, subst, length, map, arith}
 use Rattle.std.specs.Prelude.{All, option_map, slice_get}
 use Rattle.std.specs.Global.{Vec}
 use Rattle.edit_tree.specs.Tree.{view_at}
@@ -107,16 +107,22 @@ module _ (o : Options) (first : Outcomes) (old now : Kept) (inputs : List Input)
       (path_of x) x.bytes.items (rows_of i plan)
       (outputs_at (path_of x) plan) (rows-at i x own e f) (p.each i x own e f).writes)
 
-  -- what holds of the rows of each input holds of all rows
-  pub all-lines : (P : Line → Type 0) → length configs ≡ length inputs
-      → ((s : Setting) (bytes : List ℕ) (lines : List Line) → HasRows s bytes lines → All P lines)
+  -- what holds of the rows of each input under these options holds of all rows
+  pub all-lines_under : (P : Line → Type 0) → length configs ≡ length inputs
+      → ((s : Setting) (bytes : List ℕ) (lines : List Line) → s.options ≡ o → HasRows s bytes lines → All P lines)
       → All P (map line_of plan.rows.items)
-  all-lines P long each =
+  all-lines_under P long each =
       subst (λ (l : List Line). All P l) (sym p.rows_in_order)
       (all-flat P (λ i. rows_of i plan) (below (length inputs))
       (all-below (λ i. All P (rows_of i plan)) (length inputs) (λ i low.
       let x = get-some inputs i low in
       let same : i < length configs = omega (arith, low, long) in
       let own = get-some configs i same in
-      each (setting_of i o x.0 own.0.items plan.looks.items) x.0.bytes.items (rows_of i plan)
+      each (setting_of i o x.0 own.0.items plan.looks.items) x.0.bytes.items (rows_of i plan) refl
       (rows-at i x.0 own.0 x.1 own.1))))
+
+  -- what holds of the rows of each input holds of all rows
+  pub all-lines : (P : Line → Type 0) → length configs ≡ length inputs
+      → ((s : Setting) (bytes : List ℕ) (lines : List Line) → HasRows s bytes lines → All P lines)
+      → All P (map line_of plan.rows.items)
+  all-lines P long each = all-lines_under P long (λ s bytes lines same h. each s bytes lines h)

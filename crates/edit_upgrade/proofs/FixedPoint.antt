@@ -21,7 +21,7 @@ use Rattle.edit_version.proofs.Outcomes.{valid-version}
 use Rattle.edit_sources.proofs.AddressLemmas.{one_url}
 use Rattle.url.specs.Parts as url
 use Rattle.url.specs.Parts.{serialize}
-use Rattle.edit_upgrade.specs.Decision.{Case, Outcome, compatible_text, decision, first_row, given, kept, latest_text, left_out, may_jump, row_change, row_of, row_text, text_or, to_compatible, to_latest, unless_old, unread, when}
+use Rattle.edit_upgrade.specs.Decision.{Case, Outcome, compatible_text, decision, first_row, given, is_too_low, kept, latest_text, left_out, may_jump, newer, row_change, row_of, row_text, text_or, to_compatible, to_latest, unless_old, unread, when}
 use Rattle.edit_upgrade.specs.Headline.{HasNoChange}
 use Rattle.edit_upgrade.specs.Inputs.{Setting}
 use Rattle.edit_upgrade.specs.Looks.{told}
@@ -35,7 +35,7 @@ use Rattle.edit_report.specs.declared.row.Change.{Change}
 use Rattle.edit_upgrade.specs.declared.upgrade.Options.{Options}
 use Rattle.edit_upgrade.proofs.DecidedAgain.{again, case-plain, case_of}
 use Rattle.edit_upgrade.proofs.HeadlineRows.{offered-valid}
-use Rattle.edit_upgrade.proofs.TakenVersions.{far-some, near-some, newer-latest, when-some}
+use Rattle.edit_upgrade.proofs.TakenVersions.{far-some, far_text, near-some, newer-latest, unless-some, when-some}
 use Rattle.edit_upgrade.proofs.WrittenEntries.{old_after, renew, renewed}
 
 -- ---- there are rows for each list of entries
@@ -130,14 +130,15 @@ whole-row false true old None (Some t) h f g = g t refl
 whole-row false true old None None h f g = h
 
 -- so is the requirement of a decided row
-case-whole : (o : Options) (x r : Bool) (xs : List Parts) (old : List ℕ) (near far : Option Parts)
+case-whole : (o : Options) (x r m : Bool) (xs : List Parts) (old : List ℕ) (near far : Option Parts)
     → All IsValid xs → cut old ≡ old → IsCompatible old xs near → IsLatest old xs far
-    → cut (decision o (case_of x r old near far)).new ≡ (decision o (case_of x r old near far)).new
-case-whole o x r xs old near far all h ic il =
-    let k = case_of x r old near far in
+    → cut (decision o (case_of x r m old near far)).new ≡ (decision o (case_of x r m old near far)).new
+case-whole o x r m xs old near far all h ic il =
+    let k = case_of x r m old near far in
     whole-row x (is_ok (req_of old)) old (when (may_jump o k) (latest_text k)) (when o.compatible (compatible_text k)) h
     (λ t q.
-    let f = far-some old t far near (when-some (may_jump o k) (latest_text k) t q) in
+    let u = unless-some (is_too_low m old (newer far near)) (far_text old far near) t (when-some (may_jump o k) (latest_text k) t q) in
+    let f = far-some old t far near u.1 in
     let valid = greatest-has IsValid (is_offered old) xs f.0 all (subst (λ (y : Option Parts). IsLatest old xs y) (newer-latest far near f.0 f.1) il) in
     whole-of old (plain_text f.0) f.0 t (raise old f.0) valid (plain-whole f.0 valid) refl f.2)
     (λ t q.
@@ -152,7 +153,7 @@ decided-whole : (o : Options) (xs : List Parts) (e : Seen) (old : List ℕ) (nea
     → cut (decision o (case_for o e old near far)).new ≡ (decision o (case_for o e old near far)).new
 decided-whole o xs e old near far plain all h ic il =
     subst (λ (k : Case). cut (decision o k).new ≡ (decision o k).new) (sym (case-plain o e old near far plain))
-    (case-whole o (is_excluded o e.name) (is_some e.rename) xs old near far all h ic il)
+    (case-whole o (is_excluded o e.name) (is_some e.rename) o.never_lower xs old near far all h ic il)
 
 -- ---- the requirement that a row leaves
 
@@ -228,7 +229,7 @@ entry-again : (i : ℕ) (o : Options) (xs : List Parts) (e : Seen) (old : List �
 entry-again i o xs e old line next new plain all d n g =
     let x = is_excluded o e.name in
     let r = is_some e.rename in
-    let first = decision o (case_of x r old d.near d.far) in
+    let first = decision o (case_of x r o.never_lower old d.near d.far) in
     let is : (decision o (case_for o e old d.near d.far)).new ≡ first.new
     = ap (λ (k : Case). (decision o k).new) (case-plain o e old d.near d.far plain) in
     let text : new ≡ first.new
@@ -237,8 +238,8 @@ entry-again i o xs e old line next new plain all d n g =
     let far = subst (λ (t : List ℕ). IsLatest t xs g.far) text g.latest in
     ap (λ (l : Line). l.change) g.is
     ∙ ap (λ (k : Case). (decision o k).change) (case-plain o e new g.near g.far plain)
-    ∙ ap (λ (t : List ℕ). (decision o (case_of x r t g.near g.far)).change) text
-    ∙ again o x r xs old d.near d.far g.near g.far all d.compatible d.latest near far
+    ∙ ap (λ (t : List ℕ). (decision o (case_of x r o.never_lower t g.near g.far)).change) text
+    ∙ again o x r o.never_lower xs old d.near d.far g.near g.far all d.compatible d.latest near far
 
 pub one-named : (e : Seen) (named other : Option (List ℕ)) → e.source ≡ at_registry named → e.source ≡ at_registry other → named ≡ other
 one-named e named other p q = source-inj named other (sym p ∙ q)

@@ -22,13 +22,14 @@ use Rattle.edit_record.proofs.Entries.{all-valid}
 use Rattle.edit_version.proofs.Orders.{greatest-has, precedence_total}
 use Rattle.edit_sources.specs.Index.{answer_of}
 use Rattle.edit_upgrade.specs.Decision.{decision, newer, or_else}
-use Rattle.edit_upgrade.specs.Headline.{IsVersionTold, LatestIsNotLess, Narrows, Reaches}
+use Rattle.edit_upgrade.specs.Headline.{IsVersionTold, KeepsFloor, LatestIsNotLess, Narrows, Reaches}
 use Rattle.edit_upgrade.specs.Inputs.{Setting}
 use Rattle.edit_upgrade.specs.Looks.{Answer, look_at, versions_in}
 use Rattle.edit_upgrade.specs.Records.{Seen, seen}
 use Rattle.edit_upgrade.specs.Rows.{AreVersionsFor, IsDecided, IsRowOver, Line, case_for, dashes, elsewhere, line_for, told_there}
 use Rattle.edit_upgrade.specs.Upgraded.{HasRows, IsRow, basis_of}
 use Rattle.edit_upgrade.specs.declared.upgrade.Options.{Options}
+use Rattle.edit_upgrade.proofs.KeptFloors.{compatible-kept, latest-kept}
 use Rattle.edit_upgrade.proofs.Narrowing.{latest-not-less, narrowing, reach}
 
 -- ---- versions
@@ -61,7 +62,7 @@ reversed Equal s h = refl
 reversed Greater s h = cc h
 
 -- a version that is not less in the full order is not less by precedence
-not-less : (u v : Parts) → is_le (full_order u v) ≡ true → is_ge (precedence v u) ≡ true
+pub not-less : (u v : Parts) → is_le (full_order u v) ≡ true → is_ge (precedence v u) ≡ true
 not-less u v h = ap is_ge (precedence_total.antisymm v u) ∙ reversed (precedence u v) _ h
 
 -- an order that is its own reverse is not less
@@ -135,6 +136,17 @@ latest-of xs old (Some u) far all a b h =
       t.2,
     )
 
+-- a decided row keeps its floor, where requirements are never to be lowered
+pub line-floor : (i : ℕ) (o : Options) (xs : List Parts) (e : Seen) (old : List ℕ) (line : Line) → o.never_lower ≡ true → All IsValid xs
+    → IsDecided i o xs e old line → KeepsFloor line
+line-floor i o xs e old line on all d =
+    let c = case_for o e old d.near d.far in
+    let there : KeepsFloor (line_for i e old d.near d.far (decision o c)) = λ h. elim h [
+      | inl far ↦ latest-kept o xs c all d.latest on far
+      | inr near ↦ compatible-kept o xs c all d.compatible near
+    ] in
+    subst KeepsFloor (sym d.is) there
+
 -- a decided row's latest version is not less
 pub line-latest : (i : ℕ) (o : Options) (xs : List Parts) (e : Seen) (old : List ℕ) (line : Line) → All IsValid xs → IsDecided i o xs e old line → LatestIsNotLess line
 line-latest i o xs e old line all d = subst LatestIsNotLess (sym d.is) (latest-of xs old d.near d.far all d.compatible d.latest)
@@ -148,6 +160,9 @@ dashes-reach i o e = record { compatible = λ h. cc h; latest = λ h. cc h }
 
 dashes-latest : (i : ℕ) (o : Options) (e : Seen) → LatestIsNotLess (dashes i o e)
 dashes-latest i o e h = cc h
+
+dashes-floor : (i : ℕ) (o : Options) (e : Seen) → KeepsFloor (dashes i o e)
+dashes-floor i o e h f has = absurd has
 
 -- ---- all rows
 
@@ -183,6 +198,12 @@ rows-reach s bytes lines h =
 pub rows-latest : (s : Setting) (bytes : List ℕ) (lines : List Line) → HasRows s bytes lines → All LatestIsNotLess lines
 rows-latest s bytes lines h =
     all-rows s LatestIsNotLess (dashes-latest s.input s.options) (λ xs e old line all d. line-latest s.input s.options xs e old line all d)
+    (seen (view_at h.form)) lines h.decided
+
+-- they keep their floors, where requirements are never to be lowered
+pub rows-floor : (s : Setting) (bytes : List ℕ) (lines : List Line) → s.options.never_lower ≡ true → HasRows s bytes lines → All KeepsFloor lines
+rows-floor s bytes lines on h =
+    all-rows s KeepsFloor (dashes-floor s.input s.options) (λ xs e old line all d. line-floor s.input s.options xs e old line on all d)
     (seen (view_at h.form)) lines h.decided
 
 -- each is a row of its input

@@ -1,3 +1,5 @@
+pub mod LowerLemmas
+pub mod FloorLemmas
 pub mod Pins
 pub mod Steps
 pub mod Bytes
@@ -11,8 +13,10 @@ pub mod PlanLemmas
 pub mod TakenVersions
 pub mod WordLemmas
 pub mod Narrowing
+pub mod KeptFloors
 pub mod HeadlineRows
 pub mod RaisedAgain
+pub mod LowAgain
 pub mod DecidedAgain
 pub mod WrittenEntries
 pub mod FixedPoint

@@ -14,10 +14,10 @@ use Rattle.edit_version.proofs.Lands.{Lands, outcome-lands, plain-lands}
 use Rattle.edit_version.proofs.Offers.{admitted-offered}
 use Rattle.edit_version.proofs.Orders.{full_total, greatest-has}
 use Rattle.edit_version.proofs.Outcomes.{admitted, narrower-of, text-outcome, valid-version}
-use Rattle.edit_upgrade.specs.Decision.{Case, compatible_text, decision, is_set_aside, latest_text, may_jump, newer, text_or, unless, when}
+use Rattle.edit_upgrade.specs.Decision.{Case, compatible_text, decision, is_set_aside, is_too_low, latest_text, may_jump, newer, text_or, unless, when}
 use Rattle.edit_report.specs.declared.row.Change.TheVariants as change
 use Rattle.edit_upgrade.specs.declared.upgrade.Options.{Options}
-use Rattle.edit_upgrade.proofs.TakenVersions.{compatible-taken, far-some, latest-taken, near-some, newer-latest, when-some}
+use Rattle.edit_upgrade.proofs.TakenVersions.{compatible-taken, far-some, far_text, latest-taken, near-some, newer-latest, unless-some, when-some}
 
 -- the requirement that the compatible version was written into narrows the old one
 narrow-of : (xs : List Parts) (old t : List ℕ) (u : Parts) (r : Raised) → All IsValid xs → IsCompatible old xs (Some u)
@@ -66,7 +66,9 @@ pub reach : (o : Options) (xs : List Parts) (c : Case) → All IsValid xs → Is
 reach o xs c all islatest h =
     let k = latest-taken c.old c.excluded (unless (is_set_aside o c) c.selected) (is_ok (req_of c.old)) (when (may_jump o c) (latest_text c))
     (when o.compatible (compatible_text c)) h in
-    let f = far-some c.old k.0 c.latest c.compatible (when-some (may_jump o c) (latest_text c) k.0 k.1) in
+    let u = unless-some (is_too_low c.never_lower c.old (newer c.latest c.compatible)) (far_text c.old c.latest c.compatible) k.0
+    (when-some (may_jump o c) (latest_text c) k.0 k.1) in
+    let f = far-some c.old k.0 c.latest c.compatible u.1 in
     let far = subst (λ (x : Option Parts). IsLatest c.old xs x) (newer-latest c.latest c.compatible f.0 f.1) islatest in
     let valid = greatest-has IsValid (is_offered c.old) xs f.0 all far in
     let l = latest-lands c.old f.0 k.0 valid far.kept f.2 in

@@ -5,7 +5,7 @@ use Rattle.std.specs.Cmp.Lexicographic.{pointwise}
 use Rattle.std.proofs.lemmas.Bool.{cases_Bool}
 use Rattle.semver.specs.Parse.{Parts}
 use Rattle.edit_version.specs.Requirement.{plain_text, raise}
-use Rattle.edit_upgrade.specs.Decision.{first_row, newer, row_change, row_text, text_or, unless_old, when}
+use Rattle.edit_upgrade.specs.Decision.{first_row, newer, row_change, row_text, text_or, unless, unless_old, when}
 use Rattle.edit_report.specs.declared.row.Change.{Change}
 use Rattle.edit_report.specs.declared.row.Change.TheVariants as change
 use Rattle.edit_upgrade.specs.declared.upgrade.Options.{Options}
@@ -22,6 +22,11 @@ near_text t near = option_and_then (λ v. text_or t (raise t v)) near
 pub when-some : (b : Bool) (a : Option (List ℕ)) (t : List ℕ) → when b a ≡ Some t → a ≡ Some t
 when-some true a t h = h
 when-some false a t h = cc h
+
+-- a text that is not left out is there
+pub unless-some : (b : Bool) (a : Option (List ℕ)) (t : List ℕ) → unless b a ≡ Some t → (b ≡ false) × (a ≡ Some t)
+unless-some true a t h = cc h
+unless-some false a t h = (refl, h)
 
 -- a newer version is the latest one
 pub newer-latest : (far near : Option Parts) (v : Parts) → newer far near ≡ Some v → far ≡ Some v

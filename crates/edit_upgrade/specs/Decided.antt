@@ -9,10 +9,11 @@ use Rattle.edit_upgrade.specs.declared.decide.Decided.{Decided}
 use Rattle.edit_upgrade.specs.declared.offers.Offer.{Offer}
 
 -- what the decision rests on, as the program has it (own)
-abbrev pub case_view : Bool → Bool → Option (List ℕ) → List ℕ → Option Offer → Option Offer → Case
-case_view excluded renamed selected old compatible latest = record {
+abbrev pub case_view : Bool → Bool → Bool → Option (List ℕ) → List ℕ → Option Offer → Option Offer → Case
+case_view excluded renamed never_lower selected old compatible latest = record {
   excluded = excluded;
   renamed = renamed;
+  never_lower = never_lower;
   selected = selected;
   old = old;
   compatible = offered compatible;

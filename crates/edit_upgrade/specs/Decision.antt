@@ -11,6 +11,7 @@ use Rattle.edit_version.specs.Requirement.{Raised, Unread, Nothing, Unsupported,
 use Rattle.edit_version.specs.Requirement.{plain_text}
 use Rattle.edit_report.specs.declared.row.Change.{Change}
 use Rattle.edit_report.specs.declared.row.Change.TheVariants as change
+use Rattle.edit_upgrade.specs.Floors.{is_below}
 use Rattle.edit_upgrade.specs.declared.upgrade.Options.{Options}
 use Rattle.edit_report.specs.declared.row.Reason.{Reason}
 use Rattle.edit_report.specs.declared.row.Reason.TheVariants as reason
@@ -20,6 +21,8 @@ pub record Case : Type 0 where
   -- the package words or the excluded names leave the entry out
   pub excluded : Bool
   pub renamed : Bool
+  -- a latest version below the floor of the old requirement is no candidate
+  pub never_lower : Bool
   -- the requirement that a package word gives
   pub selected : Option (List ℕ)
   -- the version text, cut before the first `+`
@@ -65,9 +68,19 @@ text_or other Nothing = None
 text_or other (Unsupported c) = Some other
 text_or other (Text t) = Some t
 
--- for the latest version: where the old text cannot be raised, the version itself
+-- nothing where the test holds
+abbrev pub unless : {A : Type 0} → Bool → Option A → Option A
+unless true a = None
+unless false a = a
+
+-- the requirement is never to be lowered, and the newer version is lower than its floor
+abbrev pub is_too_low : Bool → List ℕ → Option Parts → Bool
+is_too_low never old far = never && is_below old far
+
+-- for the latest version: where the old text cannot be raised, the version itself; none where that would lower
 abbrev pub latest_text : Case → Option (List ℕ)
-latest_text c = option_and_then (λ v. text_or (plain_text v) (raise c.old v)) (newer c.latest c.compatible)
+latest_text c = unless (is_too_low c.never_lower c.old (newer c.latest c.compatible))
+    (option_and_then (λ v. text_or (plain_text v) (raise c.old v)) (newer c.latest c.compatible))
 
 -- for the compatible version: where the old text cannot be raised, the old text
 abbrev pub compatible_text : Case → Option (List ℕ)
@@ -78,11 +91,6 @@ compatible_text c = option_and_then (λ v. text_or c.old (raise c.old v)) c.comp
 -- a requirement was given, but the entry is pinned and pinned entries are not to change
 abbrev pub is_set_aside : Options → Case → Bool
 is_set_aside o c = is_some c.selected && is_pinned c && not o.pinned
-
--- nothing where the test holds
-abbrev pub unless : {A : Type 0} → Bool → Option A → Option A
-unless true a = None
-unless false a = a
 
 -- nothing where the test does not hold
 abbrev pub when : {A : Type 0} → Bool → Option A → Option A

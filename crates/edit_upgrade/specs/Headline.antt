@@ -1,11 +1,13 @@
 -- What holds of every plan: what a change leaves of a requirement, which version it reaches, and that
 -- planning again changes nothing.
-use Rattle.std.specs.Prelude.{◌≡◌, ◌↔◌, ℕ, List, [], ◌∷◌, All, Option, Some, None, Ok, IsOk, IsSome, IsTrue, length}
+use Rattle.std.specs.Prelude.{◌≡◌, ◌↔◌, ◌⊎◌, ℕ, List, [], ◌∷◌, All, Option, Some, None, Ok, IsOk, IsSome, IsTrue, length, map}
 use Rattle.std.specs.Ordering.{is_ge}
 use Rattle.semver.specs.Parse.{Parts, req_of, version_parts}
 use Rattle.edit_version.specs.Laws.{Admits, precedence}
 use Rattle.edit_sources.specs.declared.config.Config.{Config}
+use Rattle.edit_upgrade.specs.Floors.{HasFloor}
 use Rattle.edit_upgrade.specs.Inputs.{Setting, outputs_at, path_of}
+use Rattle.edit_upgrade.specs.Lines.{line_of}
 use Rattle.edit_upgrade.specs.Outputs.{HasOutputs}
 use Rattle.edit_upgrade.specs.Rows.{Line}
 use Rattle.edit_upgrade.specs.Upgraded.{HasRows, IsNeededBy}
@@ -13,6 +15,7 @@ use Rattle.edit_upgrade.specs.Words.{WordsSelect}
 use Rattle.edit_report.specs.declared.row.Change.TheVariants as change
 use Rattle.edit_metadata.specs.declared.input.Input.{Input}
 use Rattle.edit_report.specs.declared.output.Output.{Output}
+use Rattle.edit_upgrade.specs.declared.upgrade.Options.{Options}
 use Rattle.edit_upgrade.specs.declared.upgrade.UpgradePlan.{UpgradePlan}
 
 -- a requirement that `semver` reads is told
@@ -49,6 +52,22 @@ abbrev pub LatestIsNotLess : Line → Type 0
 LatestIsNotLess line = IsSome line.compatible
     → (u : Parts) × (v : Parts) × IsVersionTold line.compatible u × IsVersionTold line.latest v
     × IsTrue (is_ge (precedence v u))
+
+-- a requirement with this floor is told
+abbrev pub IsFloorTold : Option (List ℕ) → Parts → Type 0
+IsFloorTold None f = ⊥
+IsFloorTold (Some text) f = HasFloor text f
+
+-- where the change is Latest or Compatible and the old requirement has a floor, the new one has one that is
+-- not lower
+abbrev pub KeepsFloor : Line → Type 0
+KeepsFloor line = (line.change ≡ Some change.Latest) ⊎ (line.change ≡ Some change.Compatible)
+    → (f : Parts) → IsFloorTold line.old f
+    → (g : Parts) × IsFloorTold line.new g × IsTrue (is_ge (precedence g f))
+
+-- where requirements are never to be lowered, no row lowers its floor
+abbrev pub NeverLowers : Options → UpgradePlan → Type 0
+NeverLowers o p = IsTrue o.never_lower → All KeepsFloor (map line_of p.rows.items)
 
 -- a row without a change
 abbrev pub HasNoChange : Line → Type 0

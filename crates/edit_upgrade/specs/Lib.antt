@@ -1,3 +1,4 @@
+pub mod Floors
 pub mod Decision
 pub mod Decided
 pub mod Rankings

@@ -44,6 +44,7 @@ abbrev pub case_for : Options → Seen → List ℕ → Option Parts → Option 
 case_for o e old near far = record {
   excluded = is_excluded o e.name;
   renamed = is_some e.rename;
+  never_lower = o.never_lower;
   selected = requirement_for o e.name;
   old = old;
   compatible = near;

@@ -2,13 +2,14 @@
 ghost use Rattle.edit_base.specs.Errors.{IsMemory};
 ghost use Rattle.edit_report.specs.declared.row.Reason.TheVariants as reason;
 ghost use Rattle.std.specs.Prelude.{◌≡◌, if◌then◌else◌, Some, None, false, IfErr, IfOk, option_and_then, option_copied, option_map, string_bytes};
-ghost use Rattle.edit_upgrade.specs.Decision.{decision, newer, or_else, same_text, text_or, unless_old};
+ghost use Rattle.edit_upgrade.specs.Decision.{decision, is_too_low, newer, or_else, same_text, text_or, unless, unless_old};
 ghost use Rattle.edit_upgrade.specs.Decided.{case_view, choice_view, decision_by, jumps_by, raised_choice};
 ghost use Rattle.edit_upgrade.specs.Offers.{offered};
 ghost use Rattle.edit_version.specs.ReadRequirement.{text_in};
 ghost use Rattle.edit_version.specs.Requirement.{plain_text, raise};
 ghost use Rattle.semver.specs.Identifiers.{parts_of};
 
+use crate::floors::is_below;
 use crate::offers::Offer;
 use crate::requirement::{Pin, pin_of};
 use crate::upgrade::Options;
@@ -45,16 +46,20 @@ fn candidate(
     }
 }
 
-/// The text for the latest version, where that is newer than the compatible one.
+/// The text for the latest version, where that is newer than the compatible one, and not below the floor of a
+/// requirement that is never to be lowered.
 fn latest_candidate(
     alloc: Global,
+    never_lower: bool,
     old: &Requirement<'_>,
     compatible: Option<&Offer<'_>>,
     latest: Option<&Offer<'_>>,
 ) -> CargoResult<Option<String>>
     ensures text { IfOk result (λ o. option_map string_bytes o
-        ≡ option_and_then (λ v. text_or (plain_text v) (raise (text_in old.now) v))
-        (newer (offered (option_copied latest.entry)) (offered (option_copied compatible.entry)))) }
+        ≡ unless (is_too_low never_lower (text_in old.now)
+        (newer (offered (option_copied latest.entry)) (offered (option_copied compatible.entry))))
+        (option_and_then (λ v. text_or (plain_text v) (raise (text_in old.now) v))
+        (newer (offered (option_copied latest.entry)) (offered (option_copied compatible.entry))))) }
     ensures refused { IfErr result IsMemory }
 {
     let Some(latest) = latest else {
@@ -65,6 +70,9 @@ fn latest_candidate(
         if text == compatible.text.as_str() {
             return Ok(None);
         }
+    }
+    if never_lower && is_below(old, latest.version) {
+        return Ok(None);
     }
     candidate(alloc, old, latest.version, text)
 }
@@ -241,7 +249,7 @@ pub(crate) fn decide(
     latest: Option<&Offer<'_>>,
 ) -> CargoResult<Decided>
     ensures decided { IfOk result (λ d. choice_view d ≡ decision options.now
-        (case_view excluded renamed (option_copied selected.entry) (text_in old.now)
+        (case_view excluded renamed options.now.never_lower (option_copied selected.entry) (text_in old.now)
         (option_copied compatible.entry) (option_copied latest.entry))) }
     ensures refused { IfErr result IsMemory }
 {
@@ -249,7 +257,7 @@ pub(crate) fn decide(
         return Ok(keep(alloc, old.text(), Reason::Excluded)?);
     }
     let pin = pin_of(renamed, old);
-    let far = latest_candidate(alloc, old, compatible, latest)?;
+    let far = latest_candidate(alloc, options.never_lower, old, compatible, latest)?;
     let near = compatible_candidate(alloc, old, compatible)?;
     Ok(decide_by(alloc, options, pin, selected, old.text(), far, near)?)
 }

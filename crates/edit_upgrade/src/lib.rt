@@ -5,6 +5,7 @@ mod addresses;
 mod asked;
 mod decide;
 mod draft;
+mod floors;
 mod lists;
 mod looks;
 mod missing;

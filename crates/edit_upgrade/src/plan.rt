@@ -7,7 +7,7 @@ ghost use Rattle.edit_sources.specs.Index.{SameOutcomes};
 ghost use Rattle.edit_sources.specs.IndexCache.{index_of};
 ghost use Rattle.edit_upgrade.specs.Causes.{HasBadEntry, IsCause, IsEntryCause};
 ghost use Rattle.edit_upgrade.specs.Drafts.{AddsInput, AreGiven, IsDraft};
-ghost use Rattle.edit_upgrade.specs.Headline.{IsSettled, LatestIsNotLess, Narrows, NeedsAsBefore, Reaches};
+ghost use Rattle.edit_upgrade.specs.Headline.{IsSettled, LatestIsNotLess, Narrows, NeedsAsBefore, NeverLowers, Reaches};
 ghost use Rattle.edit_upgrade.specs.Inputs.{EachInput, HaveDistinctPaths, OutputsInOrder, RowsInOrder};
 ghost use Rattle.edit_upgrade.specs.Lines.{line_of};
 ghost use Rattle.edit_upgrade.specs.Lists.{Tells};
@@ -141,6 +141,7 @@ fn plan_all<I: Index>(
     ensures narrowing { IfOk result (λ p. All Narrows (map line_of p.rows.items)) }
     ensures reach { IfOk result (λ p. All Reaches (map line_of p.rows.items)) }
     ensures latest { IfOk result (λ p. All LatestIsNotLess (map line_of p.rows.items)) }
+    ensures never_lower { IfOk result (NeverLowers options.now) }
     ensures fixed_point { IfOk result (EachInput options.now inputs.now configs.now IsSettled) }
     ensures needs { IfOk result (EachInput options.now inputs.now configs.now NeedsAsBefore) }
     ensures looks { IfOk result
@@ -198,6 +199,8 @@ pub fn plan_documents<I: Index>(
     ensures reach { IfOk result (λ p. All Reaches (map line_of p.rows.items)) }
     // where a compatible version is told, a latest one is, and is not less
     ensures latest { IfOk result (λ p. All LatestIsNotLess (map line_of p.rows.items)) }
+    // with the option, no change to a latest or compatible version lowers the floor of a requirement
+    ensures never_lower { IfOk result (NeverLowers options.now) }
     // where no word gives a requirement: planned again over the same looks, the bytes after the plan stay
     ensures fixed_point { IfOk result (EachInput options.now inputs.now configs.now IsSettled) }
     // and they need the same looks
@@ -253,6 +256,8 @@ pub fn plan_upgrade<I: Index>(
     ensures reach { IfOk result (λ p. All Reaches (map line_of p.rows.items)) }
     // where a compatible version is told, a latest one is, and is not less
     ensures latest { IfOk result (λ p. All LatestIsNotLess (map line_of p.rows.items)) }
+    // with the option, no change to a latest or compatible version lowers the floor of a requirement
+    ensures never_lower { IfOk result (NeverLowers options.now) }
     // where no word gives a requirement: planned again over the same looks, the bytes after the plan stay
     ensures fixed_point { IfOk result (EachInput options.now inputs.now configs.now IsSettled) }
     // and they need the same looks

@@ -13,6 +13,9 @@ pub struct Options {
     pub incompatible: bool,
     /// Raise pinned entries to the latest version.
     pub pinned: bool,
+    /// Take no latest version below the floor of a requirement: the greatest version that one of its
+    /// comparators other than `<` and `<=` names.
+    pub never_lower: bool,
     pub package: Vec<String>,
     pub exclude: Vec<String>,
     pub dry_run: bool,

@@ -4,14 +4,15 @@ use Rattle.std.specs.BTreeSet.{contains_text}
 use Rattle.std.specs.Global.{Vec}
 use Rattle.std.specs.declared.alloc.Global.{Global}
 use Rattle.edit_sources.specs.IndexCache.{index_of}
-use Rattle.edit_upgrade.specs.Headline.{LatestIsNotLess, Narrows, Reaches}
+use Rattle.edit_upgrade.specs.Headline.{KeepsFloor, LatestIsNotLess, Narrows, Reaches}
 use Rattle.edit_upgrade.specs.Lines.{line_of}
 use Rattle.edit_upgrade.specs.Lists.{warning_view}
 use Rattle.edit_upgrade.specs.Looks.{kept_by}
 use Rattle.edit_upgrade.specs.Words.{words_of}
+use Rattle.edit_upgrade.specs.declared.upgrade.Options.{Options}
 use Rattle.edit_upgrade.proofs.CauseLemmas.{finish-refused, rows-some}
-use Rattle.edit_upgrade.proofs.DraftedInputs.{all-lines, all-needs, all-outputs, all-rows_each, all-settled, all-warnings, finished-draft}
-use Rattle.edit_upgrade.proofs.HeadlineRows.{rows-latest, rows-narrow, rows-reach}
+use Rattle.edit_upgrade.proofs.DraftedInputs.{all-lines, all-lines_under, all-needs, all-outputs, all-rows_each, all-settled, all-warnings, finished-draft}
+use Rattle.edit_upgrade.proofs.HeadlineRows.{rows-floor, rows-latest, rows-narrow, rows-reach}
 use Rattle.edit_upgrade.proofs.MissingLemmas.{missing-are}
 use Rattle.edit_upgrade.proofs.PlannedLemmas.{refusal-has}
 use Rattle.edit_upgrade.proofs.WordCauseLemmas.{memory-at}
@@ -115,6 +116,18 @@ returns-clause-latest g c =
     c.args.inputs.now c.args.configs.now c.in_ok-draft.draft c.in_ok-plan.plan
     c.in_ok-draft.ensures.drafted c.in_ok-plan.ensures.rows c.in_ok-plan.ensures.outputs)
     LatestIsNotLess c.requires.configurations rows-latest
+
+pub returns-clause-never_lower : goal.returns-clause-never_lower
+returns-clause-never_lower g c = λ on.
+    all-lines_under c.args.options.now (g.I.Index.view (index_of c.args.index.now)).gives
+    (kept_by c.args.index.now) (kept_by c.drafted.new.index)
+    c.args.inputs.now c.args.configs.now c.in_ok-plan.plan
+    (finished-draft c.args.options.now (g.I.Index.view (index_of c.args.index.now)).gives
+    (kept_by c.args.index.now) (kept_by c.drafted.new.index)
+    c.args.inputs.now c.args.configs.now c.in_ok-draft.draft c.in_ok-plan.plan
+    c.in_ok-draft.ensures.drafted c.in_ok-plan.ensures.rows c.in_ok-plan.ensures.outputs)
+    KeepsFloor c.requires.configurations
+    (λ s bytes lines same h. rows-floor s bytes lines (ap (λ (o : Options). o.never_lower) same ∙ on) h)
 
 pub returns-clause-looks : goal.returns-clause-looks
 returns-clause-looks g c =
