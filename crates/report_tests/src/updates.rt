@@ -81,6 +81,7 @@ fn options_of(alloc: Global, flags: &str, words: &str) -> Result<Options, Fail> 
         locked: flags.contains('l'),
         recursive: recursive_of(flags),
         verbosity: 0,
+        never_lower: false,
     })
 }
 

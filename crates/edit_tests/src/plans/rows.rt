@@ -2,7 +2,8 @@
 //! told is the manifest afterwards, `-` where nothing is written; a line for each row, with the requirement,
 //! the compatible version, the latest one, the new requirement, the reason and the change; a line for each
 //! warning; one for each missing name; and how many looks were made. A plan is made with options (`i`
-//! incompatible, `p` pinned, `n` not compatible), with names, with the versions that each of them has, and,
+//! incompatible, `p` pinned, `l` never lower, `n` not compatible), with names, with the versions that each of
+//! them has, and,
 //! behind what the row shows, with package words and excluded names.
 use super::upgrade::outcome;
 use std::alloc::Global;
@@ -114,6 +115,20 @@ x = { workspace = true }@
 20 Invalid name `a/b`: /|;x;1.2.3;a name before its requirement;x a/b@one|[dependencies]@x = '1.0'@
 14 Invalid version requirement `one`|;x;1.2.3;the first word;x@one a/b|[dependencies]@x = '1.0'@";
 
+/// Requirements that are never to be lowered, each beside what is written without that option.
+const NEVER_LOWER: &str = "\
+-@2.0 - 1.9.0 2.0 Some(Latest) None@looks: 1@|il;x;1.9.0 2.1.0!|[dependencies]@x = '2.0'@
+-@2.0.0-rc.2 - 2.0.0-rc.1 2.0.0-rc.2 Some(Latest) None@looks: 1@|il;x;2.0.0-rc.1|[dependencies]@\
+x = '2.0.0-rc.2'@
+[dependencies]@x = \"2.0.0-rc.1\"@@2.0.0-rc.2 - 2.0.0-rc.1 2.0.0-rc.1 None Some(Latest)@looks: 1@|\
+i;x;2.0.0-rc.1|[dependencies]@x = '2.0.0-rc.2'@
+-@>1.5, <2 - 1.4.0 >1.5, <2 Some(Latest) None@looks: 1@|ipl;x;1.4.0|[dependencies]@x = '>1.5, <2'@
+[dependencies]@x = \"1.4.0\"@@>1.5, <2 - 1.4.0 1.4.0 None Some(Latest)@looks: 1@|ip;x;1.4.0|\
+[dependencies]@x = '>1.5, <2'@
+[dependencies]@x = \"3.0.0\"@@<2 1.5.0 3.0.0 3.0.0 None Some(Latest)@looks: 1@|ipl;x;1.5.0 3.0.0|\
+[dependencies]@x = '<2'@
+-@3.0.0 3.0.0 3.0.0 3.0.0 Some(Latest) None@looks: 1@|ipl;x;1.5.0 3.0.0|[dependencies]@x = '3.0.0'@";
+
 /// Manifests for which no plan is made, and the empty one, for which nothing is written, told or looked up.
 const REFUSED: &str = "\
 1 Unable to parse Cargo.toml|;x;1.0.0;no document|[dependencies]@x = \"1@
@@ -146,6 +161,11 @@ fn entries_of_every_kind(rt: HostRuntime) -> Result<(), Fail> {
 #[test]
 fn words_and_excluded_names(rt: HostRuntime) -> Result<(), Fail> {
     rows_hold(rt.alloc(), WORDS, LINES, told_of)
+}
+
+#[test]
+fn requirements_that_are_never_lowered(rt: HostRuntime) -> Result<(), Fail> {
+    rows_hold(rt.alloc(), NEVER_LOWER, LINES, told_of)
 }
 
 #[test]

@@ -37,8 +37,8 @@ fn part(call: &str, n: usize) -> &str {
     call.split(';').nth(n).unwrap_or("")
 }
 
-/// The options of a call. Among its flags are `i` for incompatible, `p` for pinned and `n` for not
-/// compatible; its fifth part are package words, its sixth excluded names.
+/// The options of a call. Among its flags are `i` for incompatible, `p` for pinned, `l` for never lower and
+/// `n` for not compatible; its fifth part are package words, its sixth excluded names.
 pub(crate) fn options_of(alloc: Global, call: &str) -> CargoResult<Options> {
     let flags = part(call, 0);
     let package = words_in(alloc, part(call, 4))?;
@@ -47,6 +47,7 @@ pub(crate) fn options_of(alloc: Global, call: &str) -> CargoResult<Options> {
         compatible: !flags.contains('n'),
         incompatible: flags.contains('i'),
         pinned: flags.contains('p'),
+        never_lower: flags.contains('l'),
         package,
         exclude,
         dry_run: false,
