@@ -1,10 +1,10 @@
 -- What the matches say of an option.
-use Rattle.std.proofs.Common.{◌≡◌, ℕ, List, Option, Some, None, Bor, ap, refl, ◌∙◌, sym}
-use Rattle.std.specs.Prelude.{option_map, unwrap_or}
-use Rattle.clap.specs.Words.{Text, first_value, first_of, found_of, rows_of}
+use Rattle.std.proofs.Common.{◌≡◌, ℕ, List, Option, Some, None, Bor, ap, map, refl, ◌∙◌, sym}
+use Rattle.std.specs.Prelude.{[], option_map, unwrap_or}
+use Rattle.clap.specs.Words.{Text, first_value, first_of, found_of, matched_of, raw_values, rows_of}
 use Rattle.clap.specs.declared.parser.ArgMatches.{ArgMatches}
-use Rattle.clap.proofs.WalkLemmas.{first_value-rows}
-use Rattle.edit_program.specs.CommandLine.{value_of}
+use Rattle.clap.proofs.WalkLemmas.{first_value-rows, raw_values-rows}
+use Rattle.edit_program.specs.CommandLine.{value_of, values_of}
 
 or_other : (o : Option (Bor (List ℕ))) (d : Bor (List ℕ))
     → (unwrap_or o d).now ≡ unwrap_or (option_map (λ (s : Bor (List ℕ)). s.now) o) d.now
@@ -37,3 +37,32 @@ pub none_is : {A : Type 0} (f : Text → A) (m : ArgMatches) (id : Text) (o : Op
 none_is f m id o is found =
     ap (λ (p : Option (Bor (List ℕ))). option_map f (option_map (λ (s : Bor (List ℕ)). s.now) p)) (sym is)
     ∙ ap (option_map f) (found ∙ first_value-rows (found_of m) id)
+
+-- the values of an option, by the rows of the matches
+pub values_are : (m : ArgMatches) (id : Text) (o : Option (Bor (List (Bor Text))))
+    → option_map (λ (s : Bor (List (Bor Text))). map (λ (v : Bor Text). v.now) s.now) o
+    ≡ option_map raw_values (matched_of (found_of m) id)
+    → unwrap_or (option_map (λ (s : Bor (List (Bor Text))). map (λ (v : Bor Text). v.now) s.now) o) []
+    ≡ values_of id (rows_of (found_of m))
+values_are m id o found = ap (λ (x : Option (List Text)). unwrap_or x []) (found ∙ raw_values-rows (found_of m) id)
+
+-- and where there are some
+pub values_there : (m : ArgMatches) (id : Text) (o : Option (Bor (List (Bor Text)))) (s : Bor (List (Bor Text)))
+    → o ≡ Some s
+    → option_map (λ (s : Bor (List (Bor Text))). map (λ (v : Bor Text). v.now) s.now) o
+    ≡ option_map raw_values (matched_of (found_of m) id)
+    → map (λ (v : Bor Text). v.now) s.now ≡ values_of id (rows_of (found_of m))
+values_there m id o s is found =
+    ap (λ (p : Option (Bor (List (Bor Text)))).
+    unwrap_or (option_map (λ (s : Bor (List (Bor Text))). map (λ (v : Bor Text). v.now) s.now) p) []) (sym is)
+    ∙ values_are m id o found
+
+-- and where there are none
+pub values_absent : (m : ArgMatches) (id : Text) (o : Option (Bor (List (Bor Text)))) → o ≡ None
+    → option_map (λ (s : Bor (List (Bor Text))). map (λ (v : Bor Text). v.now) s.now) o
+    ≡ option_map raw_values (matched_of (found_of m) id)
+    → [] ≡ values_of id (rows_of (found_of m))
+values_absent m id o is found =
+    ap (λ (p : Option (Bor (List (Bor Text)))).
+    unwrap_or (option_map (λ (s : Bor (List (Bor Text))). map (λ (v : Bor Text). v.now) s.now) p) []) (sym is)
+    ∙ values_are m id o found

@@ -4,7 +4,7 @@ use Rattle.std.specs.Prelude.{◌≢◌, ◌⊎◌, [], IfErr, IsErrAnd, is_some
 use Rattle.edit_base.specs.Errors.{IsMemory}
 use Rattle.edit_base.specs.declared.errors.DeviceCall.TheVariants as call
 use Rattle.edit_base.specs.declared.errors.Error.{Error}
-use Rattle.edit_base.specs.declared.errors.Error.TheVariants.{Locked, NoManifest, Output}
+use Rattle.edit_base.specs.declared.errors.Error.TheVariants.{NoManifest, Output}
 use Rattle.edit_version.specs.RustVersions.{Numbers}
 use Rattle.edit_sources.specs.ConfigurationFiles.{AreConfigs, ConfigsFail, HasFailed}
 use Rattle.edit_store.specs.Store.{Files, SameFiles, StandsAt}
@@ -16,7 +16,7 @@ use Rattle.edit_manifest.specs.Located.IsManifestAt.{named, nearest}
 use Rattle.edit_manifest.specs.Located.IsManifestPath.{specified}
 use Rattle.edit_manifest.proofs.Faults.{fault_later}
 use Rattle.edit_manifest.proofs.PassedWords.{as_before}
-use Rattle.edit_program.specs.Causes.{IsIndexCause, IsManifestCause, IsPlanCause, IsStopCause, IsUpgradeCause}
+use Rattle.edit_program.specs.Causes.{AreTold, IsHeldBack, IsIndexCause, IsManifestCause, IsPlanCause, IsStopCause, IsUpgradeCause}
 use Rattle.edit_upgrade.specs.declared.upgrade.Options.{Options}
 use Rattle.edit_report.specs.declared.output.Output.{Output as Outputs}
 use Rattle.edit_report.specs.declared.row.Row.{Row}
@@ -131,7 +131,7 @@ index_cause tells told telling old mid now current home named_path index_named p
     inl (inr (inl (fault_later call.Read a c d e (omega (arith, le1, le2)) fault)))
 index_cause tells told telling old mid now current home named_path index_named path at bytes rust configs a b
     c d e same_told same_telling same1 same2 le1 le2 here manifest configured (inr wrong) =
-    inr (inr (λ t. inr (inr (inl (record {
+    inr (inr (λ t. inr (inr (record {
       path = path;
       bytes = bytes;
       rust = rust;
@@ -140,7 +140,7 @@ index_cause tells told telling old mid now current home named_path index_named p
       configured = configured_before old mid home path at configs same1 here (configured (same_told ∙ t));
       cause = as_before (λ files. IsIndexCause files current index_named e) old now
           (λ place. same2 place ∙ same1 place) (wrong (same_telling ∙ (same_told ∙ t)));
-    })))))
+    }))))
 
 -- what was read, one file after another, was read
 pub are_read : (tells told telling : Bool) (old mid now : Files) (current : List ℕ) (home : Option (List ℕ))
@@ -161,14 +161,14 @@ are_read tells told telling old mid now current home named_path index_named path
 -- a plan that is not made behind all
 pub plan_cause : (tells : Bool) (old : Files) (current : List ℕ) (home : Option (List ℕ))
     (named_path index_named path bytes : List ℕ) (rust : Option Numbers) (configs : List Config)
-    (index : FileIndex) (a c : ℕ) (e : Error)
+    (index : FileIndex) (o : Options) (a c : ℕ) (e : Error)
     → (tells ≡ true → AreRead old current home named_path index_named path bytes rust configs index)
-    → IsMemory e ⊎ IsPlanCause bytes configs index e
-    → IsUpgradeCause tells old current home named_path index_named a c e
-plan_cause tells old current home named_path index_named path bytes rust configs index a c e read
-    (inl memory) = inl (inl (inl memory))
-plan_cause tells old current home named_path index_named path bytes rust configs index a c e read
-    (inr wrong) = inr (inr (λ t. inr (inr (inr (record {
+    → IsMemory e ⊎ IsPlanCause o bytes configs index e
+    → IsStopCause tells old current home named_path index_named o a c e
+plan_cause tells old current home named_path index_named path bytes rust configs index o a c e read
+    (inl memory) = inl (inl (inl (inl memory)))
+plan_cause tells old current home named_path index_named path bytes rust configs index o a c e read
+    (inr wrong) = inr (inl (λ t. record {
       path = path;
       bytes = bytes;
       rust = rust;
@@ -176,7 +176,7 @@ plan_cause tells old current home named_path index_named path bytes rust configs
       index = index;
       read = read t;
       cause = wrong;
-    })))))
+    }))
 
 -- memory ran out at what is printed, or it was not taken
 pub stream_cause : (b c : ℕ) (L : Type 0) (e : Error) → IsMemory e ⊎ (e ≡ Output)
@@ -184,22 +184,28 @@ pub stream_cause : (b c : ℕ) (L : Type 0) (e : Error) → IsMemory e ⊎ (e �
 stream_cause b c L e (inl memory) = inr (inl (inl memory))
 stream_cause b c L e (inr unwritten) = inl unwritten
 
--- what is printed was not taken, a write failed, or the manifest is locked and something is to be written,
--- behind all
+-- names that are missing were told, or memory ran out for them
+pub names_cause : (b c : ℕ) (o : Options) (outputs : List Outputs) (missing : List (List ℕ)) (e : Error)
+    → IsMemory e ⊎ ((missing ≢ []) × AreTold missing e)
+    → (e ≡ Output) ⊎ (IsFault call.Write b c e ⊎ IsHeldBack o outputs missing e)
+names_cause b c o outputs missing e (inl memory) = inr (inl (inl memory))
+names_cause b c o outputs missing e (inr told) = inr (inr (inr told))
+
+-- what is printed was not taken, a write failed, or the upgrade is refused for its plan, behind all
 pub stop_cause : (tells : Bool) (files : Files) (current : List ℕ) (home : Option (List ℕ))
     (named_path index_named path bytes : List ℕ) (rust : Option Numbers) (configs : List Config)
-    (index : FileIndex) (rows : List Row) (outputs : List Outputs) (o : Options) (a b c : ℕ) (e : Error)
-    → a ≤ b
+    (index : FileIndex) (rows : List Row) (outputs : List Outputs) (missing : List (List ℕ)) (o : Options)
+    (a b c : ℕ) (e : Error) → a ≤ b
     → (tells ≡ true → AreRead files current home named_path index_named path bytes rust configs index)
-    → IsPlanned o path bytes rust configs index rows outputs
-    → (e ≡ Output) ⊎ (IsFault call.Write b c e ⊎ ((e ≡ Locked) × (o.locked ≡ true) × (outputs ≢ [])))
+    → IsPlanned o path bytes rust configs index rows outputs missing
+    → (e ≡ Output) ⊎ (IsFault call.Write b c e ⊎ IsHeldBack o outputs missing e)
     → IsStopCause tells files current home named_path index_named o a c e
-stop_cause tells files current home named_path index_named path bytes rust configs index rows outputs o a b c e
-    le read planned (inl unwritten) = inl (inr (inl unwritten))
-stop_cause tells files current home named_path index_named path bytes rust configs index rows outputs o a b c e
-    le read planned (inr (inl fault)) = inl (inl (inr (inr (fault_later call.Write a b c e le fault))))
-stop_cause tells files current home named_path index_named path bytes rust configs index rows outputs o a b c e
-    le read planned (inr (inr locked)) = inr (λ t. record {
+stop_cause tells files current home named_path index_named path bytes rust configs index rows outputs missing o
+    a b c e le read planned (inl unwritten) = inl (inr (inl unwritten))
+stop_cause tells files current home named_path index_named path bytes rust configs index rows outputs missing o
+    a b c e le read planned (inr (inl fault)) = inl (inl (inr (inr (fault_later call.Write a b c e le fault))))
+stop_cause tells files current home named_path index_named path bytes rust configs index rows outputs missing o
+    a b c e le read planned (inr (inr held)) = inr (inr (λ t. record {
       path = path;
       bytes = bytes;
       rust = rust;
@@ -208,8 +214,7 @@ stop_cause tells files current home named_path index_named path bytes rust confi
       rows = rows;
       outputs = outputs;
       read = read t;
+      missing = missing;
       planned = planned;
-      locked = locked.1;
-      some = locked.2;
-      is = locked.0;
-    })
+      held = held;
+    }))

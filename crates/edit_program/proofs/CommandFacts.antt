@@ -37,7 +37,8 @@ unfolding clap_on_literals edit_app
 version = refl
 
 options : fault_of edit_app (codes "upgrade" ∷ codes "--manifest-path" ∷ codes "m" ∷ codes "--index-file"
-    ∷ codes "i" ∷ codes "-nvq" ∷ codes "-i" ∷ codes "allow" ∷ codes "--locked" ∷ codes "--pinned=no" ∷ []) ≡ []
+    ∷ codes "i" ∷ codes "-nvq" ∷ codes "-i" ∷ codes "allow" ∷ codes "--locked" ∷ codes "--pinned=no"
+    ∷ codes "-pa" ∷ codes "--exclude=b" ∷ codes "--package" ∷ codes "c" ∷ []) ≡ []
 unfolding clap_on_literals edit_app
 options = refl
 

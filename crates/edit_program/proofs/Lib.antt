@@ -2,6 +2,7 @@ pub mod AskedLemmas
 pub mod CauseLemmas
 pub mod CommandFacts
 pub mod CommandLemmas
+pub mod CopyLemmas
 pub mod FilledLemmas
 pub mod LocalLemmas
 pub mod PlanLemmas

@@ -1,8 +1,9 @@
 -- Why an upgrade is refused.
-use Rattle.std.specs.Prelude.{◌≡◌, ◌≢◌, ◌⊎◌, ℕ, List, [], Bool, true, Option, Some, None}
+use Rattle.std.specs.Prelude.{◌≡◌, ◌≢◌, ◌⊎◌, ℕ, List, [], Bool, map, string_bytes, true, Option, Some, None}
 use Rattle.edit_base.specs.declared.errors.DeviceCall.TheVariants as call
+use Rattle.edit_base.specs.declared.errors.details.MissingKind.TheVariants as kind
 use Rattle.edit_base.specs.declared.errors.Error.{Error}
-use Rattle.edit_base.specs.declared.errors.Error.TheVariants.{Locked, NoManifest, NoPath, Output as Unwritten}
+use Rattle.edit_base.specs.declared.errors.Error.TheVariants.{DependenciesMissing, Locked, NoManifest, NoPath, Output as Unwritten}
 use Rattle.edit_version.specs.RustVersions.{Numbers}
 use Rattle.edit_sources.specs.ConfigurationFiles.{AreConfigs, ConfigsFail}
 use Rattle.edit_sources.specs.FileIndex.{FileGives}
@@ -12,6 +13,7 @@ use Rattle.edit_sources.specs.declared.config.Config.{Config}
 use Rattle.edit_sources.specs.declared.file_index.FileIndex.{FileIndex}
 use Rattle.edit_store.specs.declared.store.Kind.TheVariants.{Folder}
 use Rattle.edit_upgrade.specs.Causes.{HasBadEntry}
+use Rattle.edit_upgrade.specs.WordCauses.{IsRefusedFor}
 use Rattle.edit_upgrade.specs.declared.upgrade.Options.{Options}
 use Rattle.edit_report.specs.declared.output.Output.{Output}
 use Rattle.edit_report.specs.declared.row.Row.{Row}
@@ -72,46 +74,61 @@ pub record HasNoIndex (files : Files) (current : List ℕ) (home : Option (List 
   pub configured : AreConfigs files path home configs
   pub cause : IsIndexCause files current index_named e
 
--- why there is no plan for a manifest that was read with its configurations: the registry of an entry has no
--- address, or a look in the index is refused, and no answer was known before
-pub record IsPlanCause (bytes : List ℕ) (configs : List Config) (index : FileIndex) (e : Error)
+-- the registry of an entry has no address, or a look in the index is refused, and no answer was known before
+pub record HasBadLook (bytes : List ℕ) (configs : List Config) (index : FileIndex) (e : Error)
     : Type 0 where
   pub kept : Kept
   pub cause : HasBadEntry configs (λ address name outcome. FileGives index name outcome)
       (λ address name. None) kept 0 0 bytes e
 
+-- why there is no plan for a manifest that was read with its configurations: for the package words, or for an
+-- entry
+abbrev pub IsPlanCause : Options → List ℕ → List Config → FileIndex → Error → Type 0
+IsPlanCause options bytes configs index e = IsRefusedFor options (HasBadLook bytes configs index) e
+
 -- all were read, and there is no plan
 pub record HasNoPlan (files : Files) (current : List ℕ) (home : Option (List ℕ)) (named index_named : List ℕ)
-    (e : Error) : Type 0 where
+    (options : Options) (e : Error) : Type 0 where
   pub path : List ℕ
   pub bytes : List ℕ
   pub rust : Option Numbers
   pub configs : List Config
   pub index : FileIndex
   pub read : AreRead files current home named index_named path bytes rust configs index
-  pub cause : IsPlanCause bytes configs index e
+  pub cause : IsPlanCause options bytes configs index e
 
 -- what is wrong with the files that are named, or with a configuration
 abbrev pub IsWrong : Files → List ℕ → Option (List ℕ) → List ℕ → List ℕ → Error → Type 0
 IsWrong files current home named index_named e =
     IsManifestCause files current named e
-    ⊎ (HasNoConfigs files current home named e
-    ⊎ (HasNoIndex files current home named index_named e ⊎ HasNoPlan files current home named index_named e))
+    ⊎ (HasNoConfigs files current home named e ⊎ HasNoIndex files current home named index_named e)
 
 -- memory ran out, or the device failed and the count of faults rose
 abbrev pub IsFailure : ℕ → ℕ → Error → Type 0
 IsFailure before now e =
     IsFault call.Kind before now e ⊎ (IsFault call.Read before now e ⊎ IsFault call.Write before now e)
 
--- why an upgrade is refused, but for a lock: memory or the device failed, a stream did not take what is printed, or something
--- is wrong with the files
+-- why an upgrade is refused, but for its plan: memory or the device failed, a stream did not take what is
+-- printed, or something is wrong with the files
 abbrev pub IsUpgradeCause : Bool → Files → List ℕ → Option (List ℕ) → List ℕ → List ℕ → ℕ → ℕ → Error → Type 0
 IsUpgradeCause tells files current home named index_named before now e =
     IsFailure before now e
     ⊎ ((e ≡ Unwritten) ⊎ (tells ≡ true → IsWrong files current home named index_named e))
 
--- the manifest is locked, and its plan has something to write
-pub record IsLockedOut (files : Files) (current : List ℕ) (home : Option (List ℕ))
+-- names are told that no entry has
+abbrev pub AreTold : List (List ℕ) → Error → Type 0
+AreTold missing (DependenciesMissing told) =
+    (told.kind ≡ kind.Dependency) × (map string_bytes told.names.items ≡ missing)
+AreTold missing other = ⊥
+
+-- why an upgrade is refused for its plan: the manifest is locked, and there is something to write, or names are
+-- missing, and are told
+abbrev pub IsHeldBack : Options → List Output → List (List ℕ) → Error → Type 0
+IsHeldBack options outputs missing e =
+    ((e ≡ Locked) × (options.locked ≡ true) × (outputs ≢ [])) ⊎ ((missing ≢ []) × AreTold missing e)
+
+-- all were read, and for its plan the upgrade is refused
+pub record IsStopped (files : Files) (current : List ℕ) (home : Option (List ℕ))
     (named index_named : List ℕ) (options : Options) (e : Error) : Type 0 where
   pub path : List ℕ
   pub bytes : List ℕ
@@ -120,15 +137,15 @@ pub record IsLockedOut (files : Files) (current : List ℕ) (home : Option (List
   pub index : FileIndex
   pub rows : List Row
   pub outputs : List Output
+  pub missing : List (List ℕ)
   pub read : AreRead files current home named index_named path bytes rust configs index
-  pub planned : IsPlanned options path bytes rust configs index rows outputs
-  pub locked : options.locked ≡ true
-  pub some : outputs ≢ []
-  pub is : e ≡ Locked
+  pub planned : IsPlanned options path bytes rust configs index rows outputs missing
+  pub held : IsHeldBack options outputs missing e
 
 -- why an upgrade is refused
 abbrev pub IsStopCause : Bool → Files → List ℕ → Option (List ℕ) → List ℕ → List ℕ → Options → ℕ → ℕ → Error
     → Type 0
 IsStopCause tells files current home named index_named options before now e =
     IsUpgradeCause tells files current home named index_named before now e
-    ⊎ (tells ≡ true → IsLockedOut files current home named index_named options e)
+    ⊎ ((tells ≡ true → HasNoPlan files current home named index_named options e)
+    ⊎ (tells ≡ true → IsStopped files current home named index_named options e))

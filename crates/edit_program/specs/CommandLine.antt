@@ -1,9 +1,10 @@
 -- The command line: what the words of the program ask for.
 use Rattle.std.specs.Prelude.{◌≡◌, ◌⊎◌, ◌-◌, ℕ, ℤ, Bool, List, [], ◌∷◌, Option, Some, None, true, false, codes, if◌then◌else◌, min, nat_lt, negsuc, option_map, pos, unwrap_or}
 use Rattle.std.specs.Str.{bytes_eq}
-use Rattle.clap.specs.Words.{App, Row, Rule, Shape, Text, count_of, fault_of, first_of, new_app, new_rule, subcommand_of, with_rule, with_subcommand}
-use Rattle.clap.specs.declared.builder.action.ArgAction.TheVariants.{Count, Set, SetTrue}
+use Rattle.clap.specs.Words.{App, Row, Rule, Shape, Text, all_of, count_of, fault_of, first_of, new_app, new_rule, subcommand_of, with_rule, with_subcommand}
+use Rattle.clap.specs.declared.builder.action.ArgAction.TheVariants.{Append, Count, Set, SetTrue}
 use Rattle.clap.specs.declared.builder.value_parser.ValueParser.TheVariants as value
+use Rattle.edit_upgrade.specs.Words.{excluded_of, words_of}
 use Rattle.edit_upgrade.specs.declared.upgrade.Options.{Options}
 
 -- an option that must be given, with one value, which is not the empty text
@@ -23,6 +24,16 @@ choice_rule id =
     record (new_rule id) {
       long = Some id;
       action = Some Set;
+      value_names = 1;
+      parser = Some value.String;
+    }
+
+-- an option that may be given any number of times, each time with one value
+abbrev pub list_rule : Text → Rule
+list_rule id =
+    record (new_rule id) {
+      long = Some id;
+      action = Some Append;
       value_names = 1;
       parser = Some value.String;
     }
@@ -58,6 +69,13 @@ choices =
     ∷ record (choice_rule (codes "recursive")) { parser = Some value.Bool }
     ∷ []
 
+-- the options that say which entries may be upgraded
+abbrev pub selections : List Rule
+selections =
+    record (list_rule (codes "package")) { short = Some 112 }
+    ∷ list_rule (codes "exclude")
+    ∷ []
+
 -- a command with these rules too, in their order
 abbrev pub with_rules : App → List Rule → App
 with_rules a [] = a
@@ -66,7 +84,8 @@ with_rules a (rule ∷ rules) = with_rules (with_rule a rule) rules
 -- the subcommand `upgrade`
 abbrev pub upgrade_app : App
 upgrade_app =
-    with_rules (with_rules (with_rules (new_app (codes "upgrade")) places) switches) choices
+    with_rules (with_rules (with_rules (with_rules (new_app (codes "upgrade")) places) switches) choices)
+    selections
 
 -- the program's own settings
 abbrev pub top_shape : Shape
@@ -84,6 +103,10 @@ edit_app = with_subcommand (record { top = top_shape; subs = [] }) upgrade_app.t
 -- the value of an option among the matches of `upgrade`, or this other one where it has none
 abbrev pub value_of : Text → Text → List Row → Text
 value_of id other rows = unwrap_or (first_of id rows) other
+
+-- the values of an option, of all its uses
+abbrev pub values_of : Text → List Row → List Text
+values_of id rows = unwrap_or (all_of id rows) []
 
 -- whether a flag is given
 abbrev pub is_given : Text → List Row → Bool
@@ -115,8 +138,8 @@ pub record AskForOptions (rows : List Row) (o : Options) : Type 0 where
   pub recursive : o.recursive ≡ option_map (λ v. bytes_eq v (codes "true")) (first_of (codes "recursive") rows)
   pub verbosity : o.verbosity
       ≡ verbosity_of (count_of (codes "verbose") rows) (count_of (codes "quiet") rows)
-  pub no_words : o.package.items ≡ []
-  pub no_exclusions : o.exclude.items ≡ []
+  pub packages : words_of o ≡ values_of (codes "package") rows
+  pub exclusions : excluded_of o ≡ values_of (codes "exclude") rows
 
 -- one of the values is none that its option has
 abbrev pub HasBadStatus : List Row → Type 0

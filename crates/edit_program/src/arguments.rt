@@ -2,7 +2,7 @@
 ghost use Rattle.std.specs.Prelude.{◌≡◌, [], ◌∷◌, IfOk, false};
 ghost use Rattle.clap.specs.Words.{app_of, rule_of};
 ghost use Rattle.clap.specs.declared.builder.command.Command.TheViews.{out-Command as fields_of};
-ghost use Rattle.edit_program.specs.CommandLine.{choice_rule, choices, count_rule, edit_app, flag_rule, option_rule, places, switches, upgrade_app, with_rules};
+ghost use Rattle.edit_program.specs.CommandLine.{choice_rule, choices, count_rule, edit_app, flag_rule, list_rule, option_rule, places, selections, switches, upgrade_app, with_rules};
 
 use clap::builder::ValueParser;
 use clap::{Arg, ArgAction, Command};
@@ -32,6 +32,19 @@ fn choice<'a>(alloc: Global, id: &'a str, value: &'a str, about: &'a str) -> Arg
         .value_name(value)
         .help(about)
         .action(ArgAction::Set)
+        .value_parser(ValueParser::String)
+}
+
+/// An option that may be given any number of times, each time with a value.
+fn list<'a>(alloc: Global, id: &'a str, value: &'a str, about: &'a str) -> Arg<'a>
+    ensures rule { rule_of result ≡ list_rule id.entry.now }
+    ensures local { result.global ≡ false }
+{
+    Arg::new(alloc, id)
+        .long(id)
+        .value_name(value)
+        .help(about)
+        .action(ArgAction::Append)
         .value_parser(ValueParser::String)
 }
 
@@ -137,6 +150,27 @@ fn with_choices<'a>(alloc: Global, command: Command<'a>) -> Result<Command<'a>, 
         .arg(recursive.value_parser(ValueParser::Bool))
 }
 
+/// Adds the options that say which entries may be upgraded.
+fn with_selections<'a>(alloc: Global, command: Command<'a>) -> Result<Command<'a>, AllocError>
+    ensures app { IfOk result (λ c. app_of c ≡ with_rules (app_of command.entry) selections) }
+    ensures local { IfOk result (λ c. (fields_of command.entry).has_globals ≡ false
+        → (fields_of c).has_globals ≡ false) }
+{
+    let package = list(
+        alloc,
+        "package",
+        "PKGID[@<VERSION>]",
+        "Crate to be upgraded",
+    );
+    let exclude = list(
+        alloc,
+        "exclude",
+        "PKGID",
+        "Crates to exclude and not upgrade",
+    );
+    command.arg(package.short('p'))?.arg(exclude)
+}
+
 /// The subcommand `upgrade`.
 fn upgrade_command<'a>(alloc: Global) -> Result<Command<'a>, AllocError>
     ensures app { IfOk result (λ c. app_of c ≡ upgrade_app) }
@@ -147,7 +181,8 @@ fn upgrade_command<'a>(alloc: Global) -> Result<Command<'a>, AllocError>
     );
     let upgrade = with_places(alloc, upgrade)?;
     let upgrade = with_switches(alloc, upgrade)?;
-    with_choices(alloc, upgrade)
+    let upgrade = with_choices(alloc, upgrade)?;
+    with_selections(alloc, upgrade)
 }
 
 /// The program's command line.

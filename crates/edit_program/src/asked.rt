@@ -1,12 +1,13 @@
 //! What matched words ask for.
-ghost use Rattle.std.specs.Prelude.{◌≡◌, IfErr, IfOk, codes, option_map};
+ghost use Rattle.std.specs.Prelude.{◌≡◌, ◌≢◌, IfErr, IfOk, codes, map, option_map, string_bytes};
 ghost use Rattle.std.specs.Str.{bytes_eq};
 ghost use Rattle.clap.specs.Words.{first_of, found_of, rows_of};
-ghost use Rattle.edit_program.specs.CommandLine.{AskForOptions, HasBadStatus, is_given, status_of, status_of_value, value_of, verbosity_of};
+ghost use Rattle.edit_program.specs.declared.asked.WordsError.TheVariants as words;
+ghost use Rattle.edit_program.specs.CommandLine.{AskForOptions, HasBadStatus, is_given, status_of, status_of_value, value_of, values_of, verbosity_of};
 
 use clap::ArgMatches;
 use edit_upgrade::Options;
-use std::alloc::Global;
+use std::alloc::{AllocError, Global};
 
 /// What the words of `upgrade` ask for.
 #[derive(Debug, Drop)]
@@ -21,6 +22,21 @@ pub(crate) struct UpgradeWords<'a> {
 pub(crate) struct BadStatus<'a> {
     pub(crate) option: &'a str,
     pub(crate) value: &'a str,
+}
+
+/// Why matched words are not read.
+#[derive(Debug, Drop)]
+pub(crate) enum WordsError<'a> {
+    Memory,
+    Status(BadStatus<'a>),
+}
+
+impl<'a> From<AllocError> for WordsError<'a> {
+    ghost from_gives = { λ _ e. e ≡ words.Memory };
+
+    fn from(_error: AllocError) -> WordsError<'a> {
+        WordsError::Memory
+    }
 }
 
 /// Whether a flag is given.
@@ -42,14 +58,14 @@ fn status_of_value(value: &str) -> Option<bool>
 }
 
 /// What the value of an option says.
-fn status_of<'a>(matches: &ArgMatches<'a>, option: &'static str) -> Result<bool, BadStatus<'a>>
+fn status_of<'a>(matches: &ArgMatches<'a>, option: &'static str) -> Result<bool, WordsError<'a>>
     ensures ok { IfOk result (λ s. status_of option.now (rows_of (found_of matches.now)) ≡ Some s) }
     ensures refused { IfErr result (λ _. status_of option.now (rows_of (found_of matches.now)) ≡ None) }
 {
     let value = matches.get_str(option).unwrap_or("");
     match status_of_value(value) {
         Some(status) => Ok(status),
-        None => Err(BadStatus { option, value }),
+        None => Err(WordsError::Status(BadStatus { option, value })),
     }
 }
 
@@ -75,24 +91,46 @@ fn verbosity(more: u8, less: u8) -> i8
     }
 }
 
+/// These texts, on memory of their own.
+fn copied_texts(alloc: Global, texts: &[&str]) -> Result<Vec<String>, AllocError>
+    ensures { IfOk result (λ v. map string_bytes v.items ≡ map (λ t. t.now) texts.now) }
+{
+    let mut copies = Vec::new(alloc);
+    'texts: for text in texts {
+        copies.push(String::from_str(alloc, *text)?)?;
+    }
+    Ok(copies)
+}
+
+/// The values of an option, of all its uses.
+fn values_of(alloc: Global, matches: &ArgMatches<'_>, id: &str) -> Result<Vec<String>, AllocError>
+    ensures { IfOk result (λ v. map string_bytes v.items
+        ≡ values_of id.now (rows_of (found_of matches.now))) }
+{
+    match matches.get_strs(id) {
+        Some(texts) => copied_texts(alloc, texts),
+        None => Ok(Vec::new(alloc)),
+    }
+}
+
 /// What matched words of `upgrade` ask for.
 pub(crate) fn upgrade_words<'a>(
     alloc: Global,
     matches: &ArgMatches<'a>,
-) -> Result<UpgradeWords<'a>, BadStatus<'a>>
+) -> Result<UpgradeWords<'a>, WordsError<'a>>
     ensures manifest { IfOk result (λ w. w.manifest_path.now
         ≡ value_of (codes "manifest-path") (codes "Cargo.toml") (rows_of (found_of matches.now))) }
     ensures index { IfOk result (λ w. w.index_file.now
         ≡ value_of (codes "index-file") (codes "index.json") (rows_of (found_of matches.now))) }
     ensures options { IfOk result (λ w. AskForOptions (rows_of (found_of matches.now)) w.options) }
-    ensures refused { IfErr result (λ _. HasBadStatus (rows_of (found_of matches.now))) }
+    ensures refused { IfErr result (λ e. e ≢ words.Memory → HasBadStatus (rows_of (found_of matches.now))) }
 {
     let options = Options {
         compatible: status_of(matches, "compatible")?,
         incompatible: status_of(matches, "incompatible")?,
         pinned: status_of(matches, "pinned")?,
-        package: Vec::new(alloc),
-        exclude: Vec::new(alloc),
+        package: values_of(alloc, matches, "package")?,
+        exclude: values_of(alloc, matches, "exclude")?,
         dry_run: is_given(matches, "dry-run"),
         locked: is_given(matches, "locked"),
         recursive: recursive(matches),

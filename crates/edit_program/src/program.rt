@@ -9,7 +9,7 @@ ghost use Rattle.edit_program.specs.Filled.{filled};
 ghost use Rattle.edit_program.specs.Runs.{IsDone, AreAtFault, IsRefused, IsRunCause, status_of};
 
 use crate::arguments::command;
-use crate::asked::{BadStatus, upgrade_words};
+use crate::asked::{BadStatus, WordsError, upgrade_words};
 use crate::filled::filled_words;
 use crate::refusal::{Refusal, RunResult};
 use crate::upgrade::upgrade;
@@ -97,7 +97,8 @@ fn answer<S: Store, O: io::Write, E: io::Write>(
     };
     let words = match upgrade_words(alloc, matches) {
         Ok(words) => words,
-        Err(bad) => return Ok(refuse_value(&bad, err)),
+        Err(WordsError::Memory) => return Err(Refusal::from(Error::Memory)),
+        Err(WordsError::Status(bad)) => return Ok(refuse_value(&bad, err)),
     };
     upgrade(alloc, &words, current, cargo_home, files, out, err)?;
     Ok(0)

@@ -1,8 +1,8 @@
 //! The command `upgrade`: reads, plans, then writes.
-ghost use Rattle.std.specs.Prelude.{◌≡◌, ◌≢◌, ◌⊎◌, ◌≤◌, [], IfErr, IfOk, OnErr, OnOk, option_copied, option_map, string_bytes, true};
+ghost use Rattle.std.specs.Prelude.{◌≡◌, ◌⊎◌, ◌≤◌, [], IfErr, IfOk, OnErr, OnOk, map, option_copied, option_map, string_bytes, true};
 ghost use Rattle.std.specs.Io.KnownBytes.{Appends};
 ghost use Rattle.edit_base.specs.Errors.{IsMemory};
-ghost use Rattle.edit_base.specs.declared.errors.Error.TheVariants.{Locked, Output as unwritten};
+ghost use Rattle.edit_base.specs.declared.errors.Error.TheVariants.{Output as unwritten};
 ghost use Rattle.edit_report.specs.Table.{report_text};
 ghost use Rattle.edit_base.specs.declared.errors.DeviceCall.TheVariants as call;
 ghost use Rattle.edit_version.specs.RustVersions.{numbers_of};
@@ -10,7 +10,7 @@ ghost use Rattle.edit_sources.specs.Configured.{given};
 ghost use Rattle.edit_store.specs.Store.{OnlyReads, SameFiles};
 ghost use Rattle.edit_manifest.specs.Located.{IsFault};
 ghost use Rattle.edit_manifest.specs.Loaded.{IsBadManifest};
-ghost use Rattle.edit_program.specs.Causes.{IsIndexCause, IsManifestCause, IsPlanCause, IsStopCause, IsUpgradeCause};
+ghost use Rattle.edit_program.specs.Causes.{IsHeldBack, IsIndexCause, IsManifestCause, IsPlanCause, IsStopCause, IsUpgradeCause};
 ghost use Rattle.edit_program.specs.Upgrading.{AreRead, HasRust, IsBroken, IsIndexRead, IsManifestRead, IsPlanned, IsTorn, IsUpgraded, IsWritten, written_output};
 
 use crate::asked::UpgradeWords;
@@ -19,7 +19,7 @@ use crate::notes::print_notes;
 use crate::own::{own_name, own_rust_version};
 use crate::refusal::{RunResult, at_byte, at_path};
 use crate::reported::print_report;
-use crate::written::{check_lock, written_output};
+use crate::written::{check_lock, check_names, written_output};
 use edit_base::{CargoResult, Error};
 use edit_document::Document;
 use edit_manifest::Manifest;
@@ -164,14 +164,12 @@ fn plan_for(
     index: FileIndex,
 ) -> CargoResult<UpgradePlan>
     requires document { manifest.now.document.bytes ≡ manifest.now.input.bytes.items }
-    requires no_words { options.now.package.items ≡ [] }
-    requires no_exclusions { options.now.exclude.items ≡ [] }
     ensures ok { IfOk result (λ p.
         IsPlanned options.now (string_bytes manifest.now.input.path) manifest.now.input.bytes.items
         (option_map numbers_of manifest.now.input.rust_version) configs.now.items index p.rows.items
-        p.outputs.items) }
+        p.outputs.items (map string_bytes p.missing.items)) }
     ensures refused { IfErr result (λ e. IsMemory e
-        ⊎ IsPlanCause manifest.now.input.bytes.items configs.now.items index e) }
+        ⊎ IsPlanCause options.now manifest.now.input.bytes.items configs.now.items index e) }
 {
     let mut cache = IndexCache::new(alloc, index);
     let inputs = from_ref(&manifest.input);
@@ -201,7 +199,8 @@ fn write_output<S: Store>(alloc: Global, files: &mut S, output: Option<&Output>)
     }
 }
 
-/// Prints the report of a plan for one manifest, writes its output, and prints the notes.
+/// Prints the report of a plan for one manifest, writes its output, refuses missing names, and prints the
+/// notes.
 fn deliver<S: Store, O: io::Write, E: io::Write>(
     alloc: Global,
     name: &str,
@@ -217,6 +216,7 @@ fn deliver<S: Store, O: io::Write, E: io::Write>(
         Appends (O.contents out.old) (O.contents out.new)
         (report_text options.now.verbosity plan.now.rows.items)
         × (options.now.locked ≡ true → plan.now.outputs.items ≡ [])
+        × (map string_bytes plan.now.missing.items ≡ [])
         × ((S.view files.old).tells ≡ true → IsWritten (written_output options.now plan.now.outputs.items)
         (S.view files.old).file_at (S.view files.new).file_at)) }
     ensures stopped { OnErr result (SameFiles (S.view files.old).file_at (S.view files.new).file_at
@@ -229,11 +229,12 @@ fn deliver<S: Store, O: io::Write, E: io::Write>(
         (S.view files.old).file_at (S.view files.new).file_at)))) }
     ensures cause { IfErr result (λ r. r.error ≡ unwritten
         ⊎ (IsFault call.Write (S.view files.old).faults (S.view files.new).faults r.error
-        ⊎ ((r.error ≡ Locked) × (options.now.locked ≡ true) × (plan.now.outputs.items ≢ [])))) }
+        ⊎ IsHeldBack options.now plan.now.outputs.items (map string_bytes plan.now.missing.items) r.error)) }
 {
     print_report(alloc, name, plan, options.verbosity, out, err)?;
     check_lock(options, plan)?;
     write_output(alloc, files, written_output(options, plan))?;
+    check_names(alloc, plan)?;
     print_notes(alloc, plan, options, err)?;
     Ok(())
 }
@@ -249,14 +250,12 @@ pub(crate) fn upgrade<S: Store, O: io::Write, E: io::Write>(
     out: &mut O,
     err: &mut E,
 ) -> RunResult<()>
-    requires no_words { words.now.options.package.items ≡ [] }
-    requires no_exclusions { words.now.options.exclude.items ≡ [] }
     ensures tells { (S.view files.new).tells ≡ (S.view files.old).tells }
     ensures done { OnOk result ((S.view files.old).tells ≡ true
         → IsUpgraded (Appends (O.contents out.old) (O.contents out.new)) current.now
         (given cargo_home.entry) words.now.manifest_path.now words.now.index_file.now words.now.options
         (S.view files.old).file_at (S.view files.new).file_at) }
-    // a refusal before the write leaves each file as it was
+    // a refusal before the write leaves each file as it was, and one for missing names is behind it
     ensures refused { OnErr result ((S.view files.old).tells ≡ true
         → SameFiles (S.view files.old).file_at (S.view files.new).file_at
         ⊎ IsBroken (Appends (O.contents out.old) (O.contents out.new)) current.now

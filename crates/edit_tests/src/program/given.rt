@@ -59,6 +59,8 @@ Options:
   -i, --incompatible <allow|ignore>  Upgrades to the latest incompatible version [default: ignore]
       --pinned <allow|ignore>        Upgrades pinned requirements to the latest version [default: ignore]
       --recursive <true|false>       Updates locked dependencies recursively [possible values: true, false]
+  -p, --package <PKGID[@<VERSION>]>  Crate to be upgraded
+      --exclude <PKGID>              Crates to exclude and not upgrade
   -h, --help                         Print help
   -V, --version                      Print version
 @- --pinned=maybe|\
@@ -185,6 +187,20 @@ serde 0.9     -          1.2.3  1.2
 Checking virtual workspace's dependencies
 note: Re-run with `--verbose` to show more dependencies
   compatible: serde
+@a word that no entry has|mi|99|- -p serde -p nothere|1 raised name  old req compatible latest new req
+====  ======= ========== ====== =======
+serde 1.0     1.2.3      1.2.3  1.2    
+    Checking virtual workspace's dependencies
+Error: dependency nothere doesn't exist
+@a word that names no crate|mi|99|- -p a/b|1 manifest Error: Invalid name `a/b`: /
+@a word with a requirement|mi|99|- -n -p serde@1.1|0 manifest name  old req compatible latest new req
+====  ======= ========== ====== =======
+serde 1.0     1.2.3      1.2.3  1.1    
+    Checking virtual workspace's dependencies
+warning: aborting upgrade due to dry run
+@an excluded entry|mi|99|- --exclude a --exclude serde|0 manifest     Checking virtual workspace's dependencies
+note: Re-run with `--verbose` to show more dependencies
+  excluded: serde
 @the write fails after four bytes|mi|9|-|1 cut name  old req compatible latest new req
 ====  ======= ========== ====== =======
 serde 1.0     1.2.3      1.2.3  1.2    

@@ -45,12 +45,12 @@ returns-in_default-clause-fault g c _ = (
   })),
 )
 
-pub returns-in-Err-upgrade_words-clause-fault : goal.returns-in-Err-upgrade_words-clause-fault
-returns-in-Err-upgrade_words-clause-fault g c _ = (
+pub returns-in-Err-Status-clause-fault : goal.returns-in-Err-Status-clause-fault
+returns-in-Err-Status-clause-fault g c _ = (
   c.refuse_value.ensures,
   inr (inr (bad_status (app_of c.in_ok-command.command) _ c.in-Ok.matches c.in-Some-upgrade-default.matches.now
       c.in_ok-command.ensures c.in-Ok.ensures.matches c.in-Ok.ensures.kinds
-      c.in-Some-upgrade-default.ensures.rows c.in-Err-upgrade_words.ensures.refused)),
+      c.in-Some-upgrade-default.ensures.rows (c.in-Err-Status.ensures.refused (λ memory. cc memory)))),
 )
 
 pub returns-in_err-upgrade-clause-refused : goal.returns-in_err-upgrade-clause-refused

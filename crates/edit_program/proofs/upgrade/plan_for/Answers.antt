@@ -8,9 +8,8 @@ use Rattle.edit_upgrade.specs.Outputs.{HasOutputs}
 use Rattle.edit_upgrade.specs.Upgraded.{HasItsOutputs, HasItsRows, HasRows}
 use Rattle.edit_report.specs.declared.output.Output.{Output}
 use Rattle.edit_upgrade.proofs.InputLemmas.{needed-first, of-each, of-entry_cause, only-outputs}
-use Rattle.edit_upgrade.proofs.WordCauseLemmas.{never-refused}
 use Rattle.edit_program.proofs.CauseLemmas.{refusal_same}
-use Rattle.edit_program.proofs.PlanLemmas.{all_rows, no_plan, one_given}
+use Rattle.edit_program.proofs.PlanLemmas.{all_rows, missing_alone, no_plan, one_given}
 use Rattle.edit_program.proofs.upgrade.plan_for.Goals as goal
 
 pub returns-clause-ok : goal.returns-clause-ok
@@ -38,6 +37,8 @@ returns-clause-ok c =
           c.in_ok-plan.ensures.outputs_in_order)
           (of-each o c.from_ref-inputs.result.now c.from_ref-configs.result.now HasItsOutputs p x own
           c.from_ref-inputs.ensures.value c.from_ref-configs.ensures.value c.in_ok-plan.ensures.outputs));
+      lacks = missing_alone o c.from_ref-inputs.result.now x _ c.from_ref-inputs.ensures.value
+          c.in_ok-plan.ensures.missing;
     }
 
 pub returns-in_err-plan-clause-refused : goal.returns-in_err-plan-clause-refused
@@ -46,14 +47,14 @@ returns-in_err-plan-clause-refused c =
     let own = c.args.configs.now in
     let e = c.in_err-plan.field-0.0 in
     refusal_same c.from_residual.result e _ c.from_residual.ensures.1
-    (no_plan c.new-cache.result c.args.index x.bytes.items own.items (kept_by c.plan_documents.new.index) e
+    (no_plan c.args.options.now c.new-cache.result c.args.index x.bytes.items own.items
+    (kept_by c.plan_documents.new.index)
+    (IsEntryCause c.from_ref-inputs.result.now c.from_ref-configs.result.now
+    (λ address name outcome. FileGives (index_of c.new-cache.result) name outcome)
+    (kept_by c.new-cache.result) (kept_by c.plan_documents.new.index) 0 0) e
     c.new-cache.ensures.index c.new-cache.ensures.empty
     (of-entry_cause c.from_ref-inputs.result.now c.from_ref-configs.result.now x own
     (λ address name outcome. FileGives (index_of c.new-cache.result) name outcome)
     (kept_by c.new-cache.result) (kept_by c.plan_documents.new.index) 0 0 e
-    c.from_ref-inputs.ensures.value c.from_ref-configs.ensures.value
-    (never-refused c.args.options.now
-    (IsEntryCause c.from_ref-inputs.result.now c.from_ref-configs.result.now
-    (λ address name outcome. FileGives (index_of c.new-cache.result) name outcome)
-    (kept_by c.new-cache.result) (kept_by c.plan_documents.new.index) 0 0) e
-    c.requires.no_words c.requires.no_exclusions c.in_err-plan.ensures.refused)))
+    c.from_ref-inputs.ensures.value c.from_ref-configs.ensures.value)
+    c.in_err-plan.ensures.refused)
