@@ -40,7 +40,7 @@ zero_later None = refl
 zero_later (Some m) = ap (λ b. if b then Some m.1 else None) (eqb-suc-zero m.0)
 
 -- what holds of all holds of one in the middle
-middle : {A : Type 0} (P : A → Type 0) (xs : List A) (y : A) (ys : List A)
+pub middle : {A : Type 0} (P : A → Type 0) (xs : List A) (y : A) (ys : List A)
     → AllByRecursion P (xs ++ y ∷ ys) → P y
 middle P [] y ys all = all.0
 middle P (x ∷ xs) y ys all = middle P xs y ys all.1

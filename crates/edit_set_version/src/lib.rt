@@ -14,6 +14,7 @@ mod names;
 mod numbers;
 pub mod plan;
 pub mod pointed;
+mod project;
 mod reach;
 pub mod set_version;
 mod shared;
