@@ -12,6 +12,7 @@ use Rattle.edit_set_version.specs.Followers.{all_numbered, numbered}
 use Rattle.edit_set_version.specs.Numbers.{first_in}
 use Rattle.edit_set_version.specs.Pointed.{Pointed, led, pointed}
 use Rattle.edit_set_version.specs.SetVersioned.{Bump, Following, followings, next_in}
+use Rattle.edit_set_version.specs.ToldLines.{following_number}
 use Rattle.edit_set_version.proofs.FolderSameness.{same_folder_is, same_folder_self}
 use Rattle.edit_set_version.proofs.PointedLemmas.{followings_pointed}
 
@@ -76,10 +77,6 @@ alone_first (x ∷ xs) b after folder apart =
           rw other (alone_first xs b after folder apart.1
           ∙ sym (of_later (length xs) (first_in (xs ++ b ∷ after) folder)))
     ]
-
--- the requirement, where its bump has this number
-abbrev pub following_number : ℕ → ℕ × Following → Option Following
-following_number n f = if f.0 == n then Some f.1 else None
 
 -- the requirement of an entry that follows one bump
 alone_led : (before : List Bump) (b : Bump) (after : List Bump) (file : List ℕ) (q : Pointed)

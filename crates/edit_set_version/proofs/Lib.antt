@@ -20,3 +20,6 @@ pub mod ProjectMembers
 pub mod ProjectRoot
 pub mod FolderParents
 pub mod ApartBumps
+pub mod LineLists
+pub mod ManifestLines
+pub mod LinesTogether

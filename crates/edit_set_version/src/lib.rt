@@ -18,6 +18,8 @@ mod project;
 mod reach;
 pub mod set_version;
 mod shared;
+mod told;
+mod walk;
 mod writes;
 
 pub use plan::{Selection, SetVersionPlan};
