@@ -35,7 +35,8 @@ updates_in_parts name xs ys n (l ∷ ls) =
 pub no_updates : (name : List ℕ) (n : ℕ) (ls : List (List Told)) → with_updates name [] n ls ≡ ls
 no_updates name n [] = refl
 no_updates name n (l ∷ ls) =
-    ap (λ l. l ∷ with_updates name [] (suc n) ls) (append-nil l) ∙ ap (λ ls. l ∷ ls) (no_updates name (suc n) ls)
+    ap (λ l. l ∷ with_updates name [] (suc n) ls) (append-nil l)
+    ∙ ap (λ ls. l ∷ ls) (no_updates name (suc n) ls)
 
 -- a number is not another
 other_number : (m n : ℕ) → m < n → (m == n) ≡ false
@@ -94,11 +95,12 @@ pub line_past : (ls : List Lines) (n : ℕ) (line : Told) → length ls ≤ n
     → lists_told ls ≡ with_line n line (lists_told ls)
 line_past [] n line past = refl
 line_past (l ∷ ls) zero line past = absurd (omega (arith, past))
-line_past (l ∷ ls) (suc n) line past = ap (λ xs. map line_told l.items ∷ xs) (line_past ls n line (omega (arith, past)))
+line_past (l ∷ ls) (suc n) line past =
+    ap (λ xs. map line_told l.items ∷ xs) (line_past ls n line (omega (arith, past)))
 
 -- a line more at the end of a list
-pub line_put : (ls : List Lines) (n : ℕ) (old new : Lines) (line : String Global × String Global) → n < length ls
-    → old ≡ get_or ls n old → new.items ≡ old.items ++ line ∷ []
+pub line_put : (ls : List Lines) (n : ℕ) (old new : Lines) (line : String Global × String Global)
+    → n < length ls → old ≡ get_or ls n old → new.items ≡ old.items ++ line ∷ []
     → lists_told (slice_set ls n new) ≡ with_line n (line_told line) (lists_told ls)
 line_put [] n old new line within is more = absurd (omega (arith, within))
 line_put (l ∷ ls) zero old new line within is more =

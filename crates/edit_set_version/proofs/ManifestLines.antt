@@ -57,7 +57,8 @@ one_manifest bs m n ls =
 pub no_manifests : (bs : List Bump) (n : ℕ) (ls : List (List Told)) → with_manifests bs [] n ls ≡ ls
 no_manifests bs n [] = refl
 no_manifests bs n (l ∷ ls) =
-    ap (λ x. x ∷ with_manifests bs [] (suc n) ls) (append-nil l) ∙ ap (λ xs. l ∷ xs) (no_manifests bs (suc n) ls)
+    ap (λ x. x ∷ with_manifests bs [] (suc n) ls) (append-nil l)
+    ∙ ap (λ xs. l ∷ xs) (no_manifests bs (suc n) ls)
 
 -- ---- the members' manifests
 

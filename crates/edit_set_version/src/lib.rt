@@ -16,6 +16,7 @@ pub mod plan;
 pub mod pointed;
 mod project;
 mod reach;
+mod rows;
 pub mod set_version;
 mod shared;
 mod told;

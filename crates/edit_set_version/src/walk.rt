@@ -95,7 +95,8 @@ fn push_members(
     Ok(())
 }
 
-/// Adds the lines of the manifests of a project: the root's first, and then the other members' in their order.
+/// Adds the lines of the manifests of a project: the root's, and then those of the other members in their
+/// order.
 fn push_project(
     alloc: Global,
     numbers: &Numbers<'_>,

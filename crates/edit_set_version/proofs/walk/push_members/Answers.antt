@@ -26,4 +26,5 @@ members-preserved c = λ bs tells.
     c.in_ok-push_member.ensures.ok bs tells
     ∙ ap (with_manifests bs own 0) (c.members.invariant bs tells)
     ∙ sym (manifests_in_parts bs (other_manifests root (members_of (take i cs))) own 0 was)
-    ∙ ap (λ ms. with_manifests bs ms 0 was) (sym (others_more root cs i x c.members-test.true c.found-item.is))
+    ∙ ap (λ ms. with_manifests bs ms 0 was)
+    (sym (others_more root cs i x c.members-test.true c.found-item.is))

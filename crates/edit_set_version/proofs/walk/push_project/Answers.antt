@@ -37,7 +37,8 @@ returns-in_err-push_members-clause-refused c =
     rw (p.1, p.2) (λ bs tells. unfollowed_last bs (first ∷ [])
     (other_manifests path (members_of project.members.items)) e
     (subst (λ cs. HasUnfollowed bs (other_manifests path (members_of cs)) e) c.deref.ensures.value
-    (subst (λ r. HasUnfollowed bs (other_manifests r (members_of c.deref.result.now)) e) c.as_str.ensures.value
+    (subst (λ r. HasUnfollowed bs (other_manifests r (members_of c.deref.result.now)) e)
+    c.as_str.ensures.value
     (c.in_err-push_members.ensures.refused bs tells))))
 
 pub returns-clause-ok : goal.returns-clause-ok
