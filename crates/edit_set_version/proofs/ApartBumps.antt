@@ -17,7 +17,7 @@ use Rattle.edit_set_version.specs.Projects.{IsMemberOf, IsProject}
 use Rattle.edit_set_version.specs.SetVersioned.{Bump, Project, bump_of, bumps}
 use Rattle.edit_set_version.proofs.FolderParents.{folder_named}
 use Rattle.edit_set_version.proofs.FolderSameness.{same_folder_is}
-use Rattle.edit_set_version.proofs.GroupedBumps.{AreApart}
+use Rattle.edit_set_version.specs.Apart.{AreApart}
 use Rattle.edit_set_version.proofs.ProjectRoot.{one_normal}
 use Rattle.edit_set_version.proofs.TablePlaces.{all_append}
 use Rattle.edit_set_version.proofs.WrittenPlaces.{all_filter_map, option_cases}

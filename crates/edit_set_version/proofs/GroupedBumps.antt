@@ -7,6 +7,7 @@ use Rattle.std.proofs.Math.Dec.{eqb-suc-suc, eqb-suc-zero, eqb-zero-suc}
 use Rattle.std.proofs.lemmas.Bool.{cases_Bool}
 use Rattle.semver.specs.Parse.{Parts}
 use Rattle.edit_manifest.specs.Tables.{Tree}
+use Rattle.edit_set_version.specs.Apart.{AreApart}
 use Rattle.edit_set_version.specs.Folders.{Folder, folder_of, reached, same_folder}
 use Rattle.edit_set_version.specs.Followers.{all_numbered, numbered}
 use Rattle.edit_set_version.specs.Numbers.{first_in}
@@ -15,13 +16,6 @@ use Rattle.edit_set_version.specs.SetVersioned.{Bump, Following, followings, nex
 use Rattle.edit_set_version.specs.ToldLines.{following_number}
 use Rattle.edit_set_version.proofs.FolderSameness.{same_folder_is, same_folder_self}
 use Rattle.edit_set_version.proofs.PointedLemmas.{followings_pointed}
-
--- the crates of bumps stand in folders of their own
-abbrev pub AreApart : List Bump → Type 0
-AreApart [] = Unit {0}
-AreApart (b ∷ bs) =
-    AllByRecursion (λ c. same_folder (folder_of b.member.path) (folder_of c.member.path) ≡ false) bs
-    × AreApart bs
 
 -- the next version, where the number is this one
 abbrev pub of_number : ℕ → ℕ × Parts → Option Parts

@@ -3,10 +3,11 @@ use Rattle.std.proofs.Common.{◌≡◌, ◌∙◌, ℕ, suc, arith, List, [], �
 use Rattle.std.specs.List.{filter_map, flat_map}
 use Rattle.std.proofs.lemmas.List.{append_assoc}
 use Rattle.edit_set_version.specs.Followers.{all_numbered}
-use Rattle.edit_set_version.specs.PlanLines.{Named, lines_of, manifests, updates}
+use Rattle.edit_set_version.specs.PlanLines.{Named, Told, lines_of, manifests, updates}
 use Rattle.edit_set_version.specs.SetVersioned.{Bump, Project, followings}
 use Rattle.edit_set_version.specs.ToldLines.{bump_told, following_number, manifests_told, update_told, updates_told, with_manifests}
-use Rattle.edit_set_version.proofs.GroupedBumps.{AreApart, alone_followings}
+use Rattle.edit_set_version.proofs.GroupedBumps.{alone_followings}
+use Rattle.edit_set_version.specs.Apart.{AreApart}
 
 -- what a manifest tells for the bump with a number
 updates_are : (all before : List Bump) (b : Bump) (rest : List Bump) (n : ℕ) → all ≡ before ++ b ∷ rest
@@ -46,3 +47,14 @@ lists_are all p before (b ∷ rest) n is at apart =
 pub lists_together : (p : Project) (bs : List Bump) → AreApart bs
     → with_manifests bs (manifests p) 0 (map (λ (b : Bump). bump_told b ∷ []) bs) ≡ map (lines_of p) bs
 lists_together p bs apart = lists_are bs p [] bs 0 refl refl apart
+
+-- lists in a row
+in_a_row : {X : Type 0} (f : X → List Told) (xs : List X) → flat_map (λ l. l) (map f xs) ≡ flat_map f xs
+in_a_row f [] = refl
+in_a_row f (x ∷ xs) = ap (λ ls. f x ++ ls) (in_a_row f xs)
+
+-- the lines of all bumps in a row
+pub lines_in_a_row : (p : Project) (bs : List Bump) → AreApart bs
+    → flat_map (λ l. l) (with_manifests bs (manifests p) 0 (map (λ (b : Bump). bump_told b ∷ []) bs))
+    ≡ flat_map (lines_of p) bs
+lines_in_a_row p bs apart = ap (flat_map (λ l. l)) (lists_together p bs apart) ∙ in_a_row (lines_of p) bs
