@@ -48,7 +48,8 @@ other_texts m c differ = elim (cases_Bool (same_folder (folder_of m.path) (folde
 later_all : {X : Type 0} (R : X → X → Type 0) (x : X) (xs : List X)
     → ((j : ℕ) (d : X) → j < length xs → R x (slice_index_or xs j d)) → AllByRecursion (R x) xs
 later_all R x [] h = tt
-later_all R x (y ∷ ys) h = (h zero y (omega arith), later_all R x ys (λ j d w. h (suc j) d (omega (arith, w))))
+later_all R x (y ∷ ys) h =
+    (h zero y (omega arith), later_all R x ys (λ j d w. h (suc j) d (omega (arith, w))))
 
 -- the same of texts that members have
 members_apart : (ms : List Member) → AllPairs (λ (a b : List ℕ). a ≢ b) (map folder_told ms) → StandApart ms

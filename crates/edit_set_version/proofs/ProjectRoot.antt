@@ -47,8 +47,10 @@ tree_beside is ms n i m path read within input manifest at =
         → i ≡ get_or is n i → m ≡ get_or ms n m → Contains is i × IsReadOf i m
     beside [] ms n read within ei em = absurd (omega (arith, within))
     beside (j ∷ js) [] n read within ei em = absurd read
-    beside (j ∷ js) (k ∷ ks) zero read within ei em =
-        ((zero, omega arith, sym ei), subst (λ x. IsReadOf i x) (sym em) (subst (λ x. IsReadOf x k) (sym ei) read.0))
+    beside (j ∷ js) (k ∷ ks) zero read within ei em = (
+      (zero, omega arith, sym ei),
+      subst (λ x. IsReadOf i x) (sym em) (subst (λ x. IsReadOf x k) (sym ei) read.0),
+    )
     beside (j ∷ js) (k ∷ ks) (suc n) read within ei em =
         let later = beside js ks n read.1 (omega (arith, within)) ei em in
         ((suc later.0.0, omega (arith, later.0.1), later.0.2), later.1)
