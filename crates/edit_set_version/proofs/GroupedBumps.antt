@@ -7,20 +7,15 @@ use Rattle.std.proofs.Math.Dec.{eqb-suc-suc, eqb-suc-zero, eqb-zero-suc}
 use Rattle.std.proofs.lemmas.Bool.{cases_Bool}
 use Rattle.semver.specs.Parse.{Parts}
 use Rattle.edit_manifest.specs.Tables.{Tree}
+use Rattle.edit_set_version.specs.Apart.{AreApart}
 use Rattle.edit_set_version.specs.Folders.{Folder, folder_of, reached, same_folder}
 use Rattle.edit_set_version.specs.Followers.{all_numbered, numbered}
 use Rattle.edit_set_version.specs.Numbers.{first_in}
 use Rattle.edit_set_version.specs.Pointed.{Pointed, led, pointed}
 use Rattle.edit_set_version.specs.SetVersioned.{Bump, Following, followings, next_in}
+use Rattle.edit_set_version.specs.ToldLines.{following_number}
 use Rattle.edit_set_version.proofs.FolderSameness.{same_folder_is, same_folder_self}
 use Rattle.edit_set_version.proofs.PointedLemmas.{followings_pointed}
-
--- the crates of bumps stand in folders of their own
-abbrev pub AreApart : List Bump → Type 0
-AreApart [] = Unit {0}
-AreApart (b ∷ bs) =
-    AllByRecursion (λ c. same_folder (folder_of b.member.path) (folder_of c.member.path) ≡ false) bs
-    × AreApart bs
 
 -- the next version, where the number is this one
 abbrev pub of_number : ℕ → ℕ × Parts → Option Parts
@@ -40,7 +35,7 @@ zero_later None = refl
 zero_later (Some m) = ap (λ b. if b then Some m.1 else None) (eqb-suc-zero m.0)
 
 -- what holds of all holds of one in the middle
-middle : {A : Type 0} (P : A → Type 0) (xs : List A) (y : A) (ys : List A)
+pub middle : {A : Type 0} (P : A → Type 0) (xs : List A) (y : A) (ys : List A)
     → AllByRecursion P (xs ++ y ∷ ys) → P y
 middle P [] y ys all = all.0
 middle P (x ∷ xs) y ys all = middle P xs y ys all.1
@@ -76,10 +71,6 @@ alone_first (x ∷ xs) b after folder apart =
           rw other (alone_first xs b after folder apart.1
           ∙ sym (of_later (length xs) (first_in (xs ++ b ∷ after) folder)))
     ]
-
--- the requirement, where its bump has this number
-abbrev pub following_number : ℕ → ℕ × Following → Option Following
-following_number n f = if f.0 == n then Some f.1 else None
 
 -- the requirement of an entry that follows one bump
 alone_led : (before : List Bump) (b : Bump) (after : List Bump) (file : List ℕ) (q : Pointed)

@@ -17,3 +17,9 @@ pub mod FollowerLemmas
 pub mod ChoiceLemmas
 pub mod GroupedBumps
 pub mod ProjectMembers
+pub mod ProjectRoot
+pub mod FolderParents
+pub mod ApartBumps
+pub mod LineLists
+pub mod ManifestLines
+pub mod LinesTogether

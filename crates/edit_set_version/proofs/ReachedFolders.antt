@@ -13,7 +13,7 @@ use Rattle.edit_set_version.proofs.FolderLemmas.{along_normal}
 
 -- ---- parts of texts
 
-abbrev is_slash : ℕ → Bool
+abbrev pub is_slash : ℕ → Bool
 is_slash b = b == 47
 
 -- a part before another
@@ -86,7 +86,7 @@ onto_free x [] h a = ((h, tt), tt)
 onto_free x (p ∷ ps) h a = ((h, a.0), a.1)
 
 -- the parts of a text have no slash
-parts_free : (text : List ℕ) → AllByRecursion HasNoSlash (parts_of text)
+pub parts_free : (text : List ℕ) → AllByRecursion HasNoSlash (parts_of text)
 parts_free [] = (tt, tt)
 parts_free (x ∷ xs) = elim (cases_Bool (is_slash x)) [
   | inl slash ↦ rw slash (tt, parts_free xs)
@@ -121,13 +121,13 @@ named path = along_names [] (parts_of path) tt (parts_free path)
 
 -- ---- folders that differ
 
-after : (n : List ℕ) (ns : List (List ℕ)) → HasNoSlash n → AllByRecursion HasNoSlash ns
+pub after : (n : List ℕ) (ns : List (List ℕ)) → HasNoSlash n → AllByRecursion HasNoSlash ns
     → parts_of (n ++ flat_map (λ m. 47 ∷ m) ns) ≡ n ∷ ns
 after [] [] h a = refl
 after [] (m ∷ ms) h a = ap (λ (l : List (List ℕ)). [] ∷ l) (after m ms a.0 a.1)
 after (c ∷ cs) ns h a = rw h.0 (ap (onto_first c) (after cs ns h.1 a))
 
-free_of : (ns : List (List ℕ)) → AllByRecursion IsFolderName ns → AllByRecursion HasNoSlash ns
+pub free_of : (ns : List (List ℕ)) → AllByRecursion IsFolderName ns → AllByRecursion HasNoSlash ns
 free_of [] h = tt
 free_of (n ∷ ns) h = (h.0.0, free_of ns h.1)
 

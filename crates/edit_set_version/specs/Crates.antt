@@ -7,9 +7,10 @@ use Rattle.edit_syntax.specs.Grammar.{Text}
 use Rattle.edit_tree.specs.Shown.{ShowsTree, tree_of}
 use Rattle.edit_tree.specs.Supported.{IsManifest}
 use Rattle.edit_set_version.specs.Chosen.{Member}
-use Rattle.edit_set_version.specs.SetVersioned.{Bump}
+use Rattle.edit_set_version.specs.SetVersioned.{Bump, Project}
 use Rattle.edit_set_version.specs.declared.crates.Bump.{Bump as Bumping}
 use Rattle.edit_set_version.specs.declared.crates.Crate.{Crate}
+use Rattle.edit_set_version.specs.declared.project.ProjectRead.{ProjectRead}
 
 -- a crate, as a member
 abbrev pub member_of : Crate → Member
@@ -31,6 +32,14 @@ bump_seen b = record { member = member_of b.member; next = parts_of b.next }
 -- the same in their order
 abbrev pub bumps_seen : List Bumping → List Bump
 bumps_seen bs = map bump_seen bs
+
+-- the root and the members, as a project
+abbrev pub project_seen : ProjectRead → Project
+project_seen p = record {
+  path = string_bytes p.root.input.now.path;
+  tree = tree_of p.root.manifest.now.document;
+  members = members_of p.members.items;
+}
 
 -- the manifest is that of an input: it has its bytes, and shows the tree of their form
 pub record IsReadOf (i : Input) (m : Manifest) : Type 0 where

@@ -6,6 +6,7 @@ pub mod FolderTexts
 pub mod Chosen
 pub mod Entries
 pub mod SetVersioned
+pub mod Apart
 pub mod Crates
 pub mod Wanted
 pub mod Numbers

@@ -14,9 +14,13 @@ mod names;
 mod numbers;
 pub mod plan;
 pub mod pointed;
+mod project;
 mod reach;
+mod rows;
 pub mod set_version;
 mod shared;
+mod told;
+mod walk;
 mod writes;
 
 pub use plan::{Selection, SetVersionPlan};

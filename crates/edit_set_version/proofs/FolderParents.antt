@@ -1,0 +1,175 @@
+-- The folder of a manifest, as the text before the last slash of its normal path and by names.
+use Rattle.std.proofs.Common.{◌≡◌, ◌∙◌, ◌<◌, ℕ, arith, List, [], ◌∷◌, ◌++◌, Bool, true, false, refl, sym, ap, subst, reverse, cond, length, length-append}
+use Rattle.std.specs.Prelude.{◌||◌, codes, slice_index}
+use Rattle.std.specs.List.{AllByRecursion, flat_map}
+use Rattle.std.proofs.lemmas.List.{append_assoc, append-nil, reverse-append, reverse-reverse}
+use Rattle.edit_tree.specs.Assertions.{same_bytes}
+use Rattle.edit_base.specs.Paths.{HasNoSlash as IsSlashless, IsFolderOf, IsNormalOf, absolute, parts_of}
+use Rattle.edit_base.specs.Paths.IsFolderOf.{above as before, below_root, bare}
+use Rattle.edit_set_version.specs.FolderTexts.{folder_text}
+use Rattle.edit_set_version.specs.Folders.{Folder, above, along, folder_of, further, names_of}
+use Rattle.edit_set_version.proofs.GroupedBumps.{middle}
+use Rattle.edit_set_version.proofs.ReachedFolders.{HasNoSlash, IsFolderName, after, is_slash, normal_text, parts_free}
+
+-- a name that a walk keeps
+abbrev pub IsKept : List ℕ → Type 0
+IsKept name =
+    IsFolderName name × ((same_bytes name (codes ".") ≡ false) × (same_bytes name (codes "..") ≡ false))
+
+-- ---- what a walk keeps
+
+above_kept : (folder : Folder) → AllByRecursion IsKept folder → AllByRecursion IsKept (above folder)
+above_kept [] h = tt
+above_kept (n ∷ ns) h = h.1
+
+-- one part further, by the three tests
+further_kept : (folder : Folder) (part : List ℕ) (a b c : Bool) → same_bytes part [] ≡ a
+    → same_bytes part (codes ".") ≡ b → same_bytes part (codes "..") ≡ c
+    → AllByRecursion IsKept folder → HasNoSlash part
+    → AllByRecursion IsKept (cond (a || b) folder (cond c (above folder) (part ∷ folder)))
+further_kept folder part true b c ea eb ec h free = h
+further_kept folder part false true c ea eb ec h free = h
+further_kept folder part false false true ea eb ec h free = above_kept folder h
+further_kept folder part false false false ea eb ec h free = (((free, ea), (eb, ec)), h)
+
+along_kept : (folder : Folder) (parts : List (List ℕ)) → AllByRecursion IsKept folder
+    → AllByRecursion HasNoSlash parts → AllByRecursion IsKept (along folder parts)
+along_kept folder [] h free = h
+along_kept folder (p ∷ ps) h free =
+    along_kept (further folder p) ps
+    (further_kept folder p (same_bytes p []) (same_bytes p (codes ".")) (same_bytes p (codes "..")) refl refl
+    refl h free.0) free.1
+
+-- the names of the folder that a path names are kept
+pub names_kept : (path : List ℕ) → AllByRecursion IsKept (names_of path)
+names_kept path = along_kept [] (parts_of path) tt (parts_free path)
+
+-- ---- the walk along a normal form
+
+-- names with a slash before each
+abbrev pub slashed : List (List ℕ) → List ℕ
+slashed names = flat_map (λ n. 47 ∷ n) names
+
+further_on : (folder : Folder) (name : List ℕ) → IsKept name → further folder name ≡ name ∷ folder
+further_on folder name kept = rw (kept.0.1, kept.1.0, kept.1.1) refl
+
+-- each of them is gone along
+along_on : (folder : Folder) (names : List (List ℕ)) → AllByRecursion IsKept names
+    → along folder names ≡ reverse names ++ folder
+along_on folder [] kept = refl
+along_on folder (n ∷ ns) kept =
+    ap (λ f. along f ns) (further_on folder n kept.0) ∙ along_on (n ∷ folder) ns kept.1
+    ∙ sym (ap (λ xs. xs ++ folder) (reverse-append (n ∷ []) ns) ∙ append_assoc (reverse ns) (n ∷ []) folder)
+
+kept_free : (names : List (List ℕ)) → AllByRecursion IsKept names → AllByRecursion HasNoSlash names
+kept_free [] kept = tt
+kept_free (n ∷ ns) kept = (kept.0.0.0, kept_free ns kept.1)
+
+kept_append : (xs ys : List (List ℕ)) → AllByRecursion IsKept xs → AllByRecursion IsKept ys
+    → AllByRecursion IsKept (xs ++ ys)
+kept_append [] ys a b = b
+kept_append (x ∷ xs) ys a b = (a.0, kept_append xs ys a.1 b)
+
+kept_reversed : (xs : List (List ℕ)) → AllByRecursion IsKept xs → AllByRecursion IsKept (reverse xs)
+kept_reversed [] a = tt
+kept_reversed (x ∷ xs) a =
+    subst (AllByRecursion IsKept) (sym (reverse-append (x ∷ []) xs))
+    (kept_append (reverse xs) (x ∷ []) (kept_reversed xs a.1) (a.0, tt))
+
+-- the names of the path of kept names
+names_absolute : (names : List (List ℕ)) → AllByRecursion IsKept names
+    → names_of (absolute names) ≡ reverse names
+names_absolute [] kept = refl
+names_absolute (n ∷ ns) kept =
+    ap (along []) (after [] (n ∷ ns) tt (kept_free (n ∷ ns) kept))
+    ∙ along_on [] (n ∷ ns) kept ∙ append-nil (reverse (n ∷ ns))
+
+-- a folder is named by its text
+pub names_text : (folder : Folder) → AllByRecursion IsKept folder → names_of (folder_text folder) ≡ folder
+names_text folder kept =
+    names_absolute (reverse folder) (kept_reversed folder kept) ∙ reverse-reverse folder
+
+-- ---- the text before the last slash
+
+-- a slash stands in the middle
+slash_at : (c d : List ℕ) → slice_index (c ++ 47 ∷ d) (length c) ≡ 47
+slash_at [] d = refl
+slash_at (x ∷ c) d = slash_at c d
+
+slash_inside : (text c d : List ℕ) → IsSlashless text → text ≡ c ++ 47 ∷ d → ⊥
+slash_inside text c d none is =
+    let free = subst IsSlashless is none in
+    let long = length-append c (47 ∷ d) in
+    free (length c) (omega (arith, long)) (slash_at c d)
+
+-- what stands before the last slash
+before_last : (a b c d : List ℕ) → IsSlashless b → HasNoSlash d → a ++ 47 ∷ b ≡ c ++ 47 ∷ d → a ≡ c
+before_last [] b [] d hb hd e = refl
+before_last [] b (y ∷ c) d hb hd e =
+    let t : b ≡ c ++ 47 ∷ d = cc e in
+    absurd (slash_inside b c d hb t)
+before_last (x ∷ a) b [] d hb hd e =
+    let t : d ≡ a ++ 47 ∷ b = cc e in
+    let none : is_slash 47 ≡ false = middle (λ z. is_slash z ≡ false) a 47 b (subst HasNoSlash t hd) in
+    cc none
+before_last (x ∷ a) b (y ∷ c) d hb hd e =
+    let h : x ≡ y = cc e in
+    let t : a ++ 47 ∷ b ≡ c ++ 47 ∷ d = cc e in
+    ap (λ z. z ∷ a) h ∙ ap (λ z. y ∷ z) (before_last a b c d hb hd t)
+
+-- one name more
+slashed_more : (names : List (List ℕ)) (n : List ℕ) → slashed (names ++ n ∷ []) ≡ slashed names ++ 47 ∷ n
+slashed_more [] n = append-nil (47 ∷ n)
+slashed_more (m ∷ ms) n =
+    ap (λ t. (47 ∷ m) ++ t) (slashed_more ms n) ∙ sym (append_assoc (47 ∷ m) (slashed ms) (47 ∷ n))
+
+-- the path of one name or more
+absolute_more : (names : List (List ℕ)) (n : List ℕ)
+    → absolute (names ++ n ∷ []) ≡ slashed names ++ 47 ∷ n
+absolute_more [] n = append-nil (47 ∷ n)
+absolute_more (m ∷ ms) n = slashed_more (m ∷ ms) n
+
+-- the path of names, where they are some
+absolute_some : (names : List (List ℕ)) → 0 < length (slashed names) → absolute names ≡ slashed names
+absolute_some [] some = absurd (omega (arith, some))
+absolute_some (n ∷ ns) some = refl
+
+-- where they are none
+absolute_none : (names : List (List ℕ)) → [] ≡ slashed names → absolute names ≡ codes "/"
+absolute_none [] none = refl
+absolute_none (n ∷ ns) none = cc none
+
+-- the folder of the text of a folder is that of the one above
+pub folder_above : (folder : Folder) (g : List ℕ) → AllByRecursion IsKept folder
+    → IsFolderOf (folder_text folder) g → g ≡ folder_text (above folder)
+folder_above folder g kept is = by folder kept (folder_text folder) g refl is
+  where
+    by : (f : Folder) → AllByRecursion IsKept f → (text g : List ℕ) → text ≡ folder_text f
+        → IsFolderOf text g → g ≡ folder_text (above f)
+    by [] kept text _ e (before b a is free some) =
+        let one : 47 ∷ [] ≡ b ++ 47 ∷ a = sym e ∙ is in
+        let long = length-append b (47 ∷ a) in
+        let same = ap length one in
+        absurd (omega (arith, long, same, some))
+    by [] kept text _ e (below_root a is free) = refl
+    by [] kept text _ e (bare free) = refl
+    by (n ∷ f) kept text _ e (before b a is free some) =
+        let last = e ∙ ap absolute (reverse-append (n ∷ []) f) ∙ absolute_more (reverse f) n in
+        let same = before_last b a (slashed (reverse f)) n free kept.0.0.0 (sym is ∙ last) in
+        same ∙ sym (absolute_some (reverse f) (subst (λ x. 0 < length x) same some))
+    by (n ∷ f) kept text _ e (below_root a is free) =
+        let last = e ∙ ap absolute (reverse-append (n ∷ []) f) ∙ absolute_more (reverse f) n in
+        let same = before_last [] a (slashed (reverse f)) n free kept.0.0.0 (sym is ∙ last) in
+        sym (absolute_none (reverse f) same)
+    by (n ∷ f) kept text _ e (bare free) =
+        let last = e ∙ ap absolute (reverse-append (n ∷ []) f) ∙ absolute_more (reverse f) n in
+        absurd (slash_inside text (slashed (reverse f)) n free last)
+
+-- the folder of a path in normal form, by its names
+pub folder_named : (path normal g : List ℕ) → IsNormalOf path normal → IsFolderOf normal g
+    → g ≡ folder_text (folder_of normal)
+folder_named path normal g is folder =
+    let text = normal_text path normal is in
+    let kept = names_kept path in
+    folder_above (names_of path) g kept (subst (λ x. IsFolderOf x g) text folder)
+    ∙ ap (λ f. folder_text (above f)) (sym (names_text (names_of path) kept) ∙ ap names_of (sym text))

@@ -1,0 +1,124 @@
+-- Lists of lines that grow by what manifests tell.
+use Rattle.std.proofs.Common.{◌≡◌, ◌∙◌, ◌+◌, ◌<◌, ℕ, zero, suc, arith, get_or, length, not, subst, take, List, [], ◌∷◌, ◌++◌, false, true, map, refl, sym, ap}
+use Rattle.std.specs.Prelude.{if◌then◌else◌}
+use Rattle.std.specs.List.{filter}
+use Rattle.std.proofs.lemmas.List.{append_assoc, append-nil, map-append, map_more}
+use Rattle.std.proofs.lemmas.List.Elements.{Contains-append_left, Contains-append_right, filter-append}
+use Rattle.edit_tree.specs.Assertions.{same_bytes}
+use Rattle.edit_base.specs.declared.errors.Error.{Error}
+use Rattle.edit_set_version.specs.Chosen.{Member}
+use Rattle.edit_set_version.specs.Crates.{member_of, members_of}
+use Rattle.edit_set_version.specs.declared.crates.Crate.{Crate}
+use Rattle.edit_set_version.specs.Followers.{all_numbered}
+use Rattle.edit_set_version.specs.PlanLines.{Named, Told}
+use Rattle.edit_set_version.specs.SetVersioned.{Bump}
+use Rattle.edit_set_version.specs.ToldLines.{HasUnfollowed, manifests_told, named_member, other_manifests, updates_told, with_manifests, with_more, with_updates}
+
+-- what is told in two parts
+more_in_parts : (f g h : ℕ → List Told) → ((k : ℕ) → h k ≡ f k ++ g k) → (n : ℕ) (ls : List (List Told))
+    → with_more h n ls ≡ with_more g n (with_more f n ls)
+more_in_parts f g h same n [] = refl
+more_in_parts f g h same n (l ∷ ls) =
+    ap (λ us. (l ++ us) ∷ with_more h (suc n) ls) (same n)
+    ∙ ap (λ x. x ∷ with_more h (suc n) ls) (sym (append_assoc l (f n) (g n)))
+    ∙ ap (λ xs. ((l ++ f n) ++ g n) ∷ xs) (more_in_parts f g h same (suc n) ls)
+
+-- the same is told
+more_same : (f g : ℕ → List Told) → ((k : ℕ) → f k ≡ g k) → (n : ℕ) (ls : List (List Told))
+    → with_more f n ls ≡ with_more g n ls
+more_same f g same n [] = refl
+more_same f g same n (l ∷ ls) =
+    ap (λ us. (l ++ us) ∷ with_more f (suc n) ls) (same n)
+    ∙ ap (λ xs. (l ++ g n) ∷ xs) (more_same f g same (suc n) ls)
+
+told_append : (bs : List Bump) (xs ys : List Named) (n : ℕ)
+    → manifests_told bs (xs ++ ys) n ≡ manifests_told bs xs n ++ manifests_told bs ys n
+told_append bs [] ys n = refl
+told_append bs (x ∷ xs) ys n =
+    ap (λ us. updates_told x.name (all_numbered bs x.path x.tree) n ++ us) (told_append bs xs ys n)
+    ∙ sym (append_assoc (updates_told x.name (all_numbered bs x.path x.tree) n) (manifests_told bs xs n)
+    (manifests_told bs ys n))
+
+-- manifests in two parts
+pub manifests_in_parts : (bs : List Bump) (xs ys : List Named) (n : ℕ) (ls : List (List Told))
+    → with_manifests bs (xs ++ ys) n ls ≡ with_manifests bs ys n (with_manifests bs xs n ls)
+manifests_in_parts bs xs ys n ls =
+    more_in_parts (manifests_told bs xs) (manifests_told bs ys) (manifests_told bs (xs ++ ys))
+    (told_append bs xs ys) n ls
+
+-- one manifest
+pub one_manifest : (bs : List Bump) (m : Named) (n : ℕ) (ls : List (List Told))
+    → with_updates m.name (all_numbered bs m.path m.tree) n ls ≡ with_manifests bs (m ∷ []) n ls
+one_manifest bs m n ls =
+    more_same (updates_told m.name (all_numbered bs m.path m.tree)) (manifests_told bs (m ∷ []))
+    (λ k. sym (append-nil (updates_told m.name (all_numbered bs m.path m.tree) k))) n ls
+
+-- none
+pub no_manifests : (bs : List Bump) (n : ℕ) (ls : List (List Told)) → with_manifests bs [] n ls ≡ ls
+no_manifests bs n [] = refl
+no_manifests bs n (l ∷ ls) =
+    ap (λ x. x ∷ with_manifests bs [] (suc n) ls) (append-nil l)
+    ∙ ap (λ xs. l ∷ xs) (no_manifests bs (suc n) ls)
+
+-- ---- the members' manifests
+
+-- a member's manifest under a name
+abbrev pub one_named : Member → List ℕ → List Named
+one_named m name = record { name = name; path = m.path; tree = m.tree } ∷ []
+
+-- the one at the path is left out
+pub other_same : (path : List ℕ) (m : Member) → same_bytes m.path path ≡ true
+    → other_manifests path (m ∷ []) ≡ []
+other_same path m same = ap (λ b. map named_member (if not b then m ∷ [] else [])) same
+
+pub other_one : (path : List ℕ) (m : Member) → same_bytes m.path path ≡ false
+    → other_manifests path (m ∷ []) ≡ named_member m ∷ []
+other_one path m other = ap (λ b. map named_member (if not b then m ∷ [] else [])) other
+
+other_append : (path : List ℕ) (xs ys : List Member)
+    → other_manifests path (xs ++ ys) ≡ other_manifests path xs ++ other_manifests path ys
+other_append path xs ys =
+    ap (map named_member) (filter-append (λ (m : Member). not (same_bytes m.path path)) xs ys)
+    ∙ map-append named_member (filter (λ (m : Member). not (same_bytes m.path path)) xs)
+    (filter (λ (m : Member). not (same_bytes m.path path)) ys)
+
+-- those of crates with one more
+pub others_more : (path : List ℕ) (cs : List Crate) (i : ℕ) (c : Crate) → i < length cs → c ≡ get_or cs i c
+    → other_manifests path (members_of (take (i + 1) cs))
+    ≡ other_manifests path (members_of (take i cs)) ++ other_manifests path (member_of c ∷ [])
+others_more path cs i c within is =
+    ap (other_manifests path) (map_more member_of cs i c within
+    ∙ ap (λ z. members_of (take i cs) ++ member_of z ∷ []) (sym is))
+    ∙ other_append path (members_of (take i cs)) (member_of c ∷ [])
+
+-- ---- refusals
+
+pub unfollowed_first : (bs : List Bump) (xs ys : List Named) (e : Error) → HasUnfollowed bs xs e
+    → HasUnfollowed bs (xs ++ ys) e
+unfollowed_first bs xs ys e has = record {
+  manifest = has.manifest;
+  among = Contains-append_left xs ys has.manifest has.among;
+  unfollowed = has.unfollowed;
+}
+
+pub unfollowed_last : (bs : List Bump) (xs ys : List Named) (e : Error) → HasUnfollowed bs ys e
+    → HasUnfollowed bs (xs ++ ys) e
+unfollowed_last bs xs ys e has = record {
+  manifest = has.manifest;
+  among = Contains-append_right xs ys has.manifest has.among;
+  unfollowed = has.unfollowed;
+}
+
+-- that of a crate stands for all
+pub unfollowed_among : (bs : List Bump) (path : List ℕ) (cs : List Crate) (i : ℕ) (c : Crate) (e : Error)
+    → i < length cs → c ≡ get_or cs i c → HasUnfollowed bs (other_manifests path (member_of c ∷ [])) e
+    → HasUnfollowed bs (other_manifests path (members_of cs)) e
+unfollowed_among bs path [] i c e within is has = absurd (omega (arith, within))
+unfollowed_among bs path (x ∷ xs) zero c e within is has =
+    subst (λ ms. HasUnfollowed bs ms e) (sym (other_append path (member_of x ∷ []) (members_of xs)))
+    (unfollowed_first bs (other_manifests path (member_of x ∷ [])) (other_manifests path (members_of xs)) e
+    (subst (λ z. HasUnfollowed bs (other_manifests path (member_of z ∷ [])) e) is has))
+unfollowed_among bs path (x ∷ xs) (suc i) c e within is has =
+    subst (λ ms. HasUnfollowed bs ms e) (sym (other_append path (member_of x ∷ []) (members_of xs)))
+    (unfollowed_last bs (other_manifests path (member_of x ∷ [])) (other_manifests path (members_of xs)) e
+    (unfollowed_among bs path xs i c e (omega (arith, within)) is has))

@@ -1,0 +1,12 @@
+use Rattle.std.proofs.Common.{◌≡◌, ◌++◌, map}
+use Rattle.std.specs.Prelude.{option_to_list}
+use Rattle.std.specs.List.{flat_map}
+use Rattle.edit_set_version.specs.ToldLines.{line_told, lists_told}
+use Rattle.edit_set_version.proofs.rows.in_a_row.Given as goal
+
+abbrev pub invariant-lists : goal.invariant-lists
+invariant-lists l = record {
+  told : map line_told l.lines.items
+      ≡ map line_told (option_to_list l.fn.first) ++ flat_map (λ x. x) (lists_told l.yielded);
+  rest : l.yielded ++ l.list-iterator.rest.items ≡ l.fn.lists.items;
+}

@@ -1,0 +1,12 @@
+use Rattle.std.proofs.Common.{◌∙◌, ◌++◌, ap, ap₂}
+use Rattle.std.specs.List.{flat_map}
+use Rattle.edit_set_version.specs.Crates.{bumps_seen, project_seen}
+use Rattle.edit_set_version.proofs.LinesTogether.{lines_in_a_row}
+use Rattle.edit_set_version.proofs.rows.plan_lines.Goals as goal
+
+pub returns-clause-ok : goal.returns-clause-ok
+returns-clause-ok c =
+    c.in_ok-lines.ensures.ok
+    ∙ ap₂ (λ a b. a ++ b) c.in_ok-first.ensures.ok
+    (ap (flat_map (λ l. l)) c.in_ok-lists.ensures.ok
+    ∙ lines_in_a_row (project_seen c.args.project.now) (bumps_seen c.args.bumps.now) c.requires.apart)

@@ -1,0 +1,79 @@
+//! The project of a workspace: its root's manifest, and its members.
+ghost use Rattle.std.specs.Prelude.{◌≡◌, Contains, IfErr, IfOk, string_bytes};
+ghost use Rattle.std.specs.List.{AllZip};
+ghost use Rattle.edit_base.specs.Errors.{IsMemory};
+ghost use Rattle.edit_base.specs.Paths.{IsNormalOf};
+ghost use Rattle.edit_metadata.specs.Inputs.{input_paths, root_manifest};
+ghost use Rattle.edit_metadata.specs.Workspaces.{workspace_said};
+ghost use Rattle.edit_set_version.specs.Crates.{IsReadOf, project_seen};
+ghost use Rattle.edit_set_version.specs.Projects.{AreInputsOf, IsProject, IsTreeAt, path_of};
+ghost use Rattle.edit_tree.specs.Shown.{tree_of};
+
+use crate::crates::{Crate, crates_of};
+use edit_base::CargoResult;
+use edit_base::paths::{join, normal};
+use edit_manifest::Manifest;
+use edit_metadata::{Input, Workspace};
+use std::alloc::Global;
+
+/// The root of a workspace: its input and its manifest.
+#[derive(Clone, Copy)]
+pub(crate) struct Root<'a> {
+    pub(crate) input: &'a Input,
+    pub(crate) manifest: &'a Manifest,
+}
+
+/// The root of a workspace, which may be a member's too, and the members.
+#[derive(Drop)]
+pub(crate) struct ProjectRead<'a> {
+    pub(crate) root: Root<'a>,
+    pub(crate) members: Vec<Crate<'a>>,
+}
+
+/// The path of the root's manifest.
+fn root_path(alloc: Global, workspace: &Workspace) -> CargoResult<String>
+    ensures path { IfOk result (λ s. IsNormalOf (root_manifest (workspace_said workspace.now)).path
+        (string_bytes s)) }
+    ensures refused { IfErr result IsMemory }
+{
+    let path = join(alloc, workspace.root.as_str(), "Cargo.toml")?;
+    normal(alloc, path.as_str())
+}
+
+/// The input at a path, and its manifest.
+fn root_at<'a>(inputs: &'a [Input], manifests: &'a [Manifest], path: &str) -> Root<'a>
+    requires among { Contains (input_paths inputs.now) path.now }
+    requires read { AllZip IsReadOf inputs.now manifests.now }
+    ensures path { path_of result.input.now ≡ path.now }
+    ensures tree { IsTreeAt inputs.entry.now path.now (tree_of result.manifest.now.document) }
+{
+    'inputs: for i in 0..inputs.len() {
+        let input = &inputs[i];
+        if input.path.as_str() == path {
+            return Root {
+                input,
+                manifest: &manifests[i],
+            };
+        }
+    }
+    unreachable!()
+}
+
+/// The project of a workspace with its inputs and their manifests.
+pub(crate) fn project_of<'a>(
+    alloc: Global,
+    workspace: &'a Workspace,
+    inputs: &'a [Input],
+    manifests: &'a [Manifest],
+) -> CargoResult<ProjectRead<'a>>
+    requires inputs { AreInputsOf (workspace_said workspace.now) inputs.now }
+    requires manifests { AllZip IsReadOf inputs.now manifests.now }
+    ensures ok { IfOk result (λ p. IsProject (workspace_said workspace.entry.now) inputs.entry.now
+        (project_seen p)) }
+    ensures refused { IfErr result IsMemory }
+{
+    let path = root_path(alloc, workspace)?;
+    let root = root_at(inputs, manifests, path.as_str());
+    let members = crates_of(alloc, workspace, inputs, manifests)?;
+    Ok(ProjectRead { root, members })
+}

@@ -1,0 +1,91 @@
+//! The lines of a plan, in a row.
+ghost use Rattle.std.specs.Prelude.{◌≡◌, ◌⊎◌, ◌++◌, IfErr, IfOk, OnOk, map, option_map, option_to_list};
+ghost use Rattle.std.specs.List.{flat_map};
+ghost use Rattle.edit_base.specs.Errors.{IsMemory};
+ghost use Rattle.semver.specs.Identifiers.{parts_of};
+ghost use Rattle.edit_set_version.specs.Apart.{AreApart};
+ghost use Rattle.edit_set_version.specs.Crates.{bumps_seen, project_seen};
+ghost use Rattle.edit_set_version.specs.Numbers.{TellsFirst};
+ghost use Rattle.edit_set_version.specs.PlanLines.{lines_of, manifests, shared_lines};
+ghost use Rattle.edit_set_version.specs.ToldLines.{HasUnfollowed, line_told, lists_told};
+
+use crate::crates::Bump;
+use crate::lines::{Line, workspace_line};
+use crate::numbers::Numbers;
+use crate::project::ProjectRead;
+use crate::walk::lists_of;
+use edit_base::CargoResult;
+use semver::Version;
+use std::alloc::Global;
+
+/// Adds lines at the end.
+fn push_all(list: Vec<Line>, lines: &mut Vec<Line>) -> CargoResult<()>
+    ensures ok { OnOk result (map line_told lines.new.items
+        ≡ map line_told lines.old.items ++ map line_told list.items) }
+    ensures refused { IfErr result IsMemory }
+{
+    'list: for line in list {
+        lines.push(line)?;
+    }
+    Ok(())
+}
+
+/// Lines in a row: the one that is given, and then those of the lists.
+fn in_a_row(alloc: Global, first: Option<Line>, lists: Vec<Vec<Line>>) -> CargoResult<Vec<Line>>
+    ensures ok { IfOk result (λ v. map line_told v.items ≡ map line_told (option_to_list first)
+        ++ flat_map (λ l. l) (lists_told lists.items)) }
+    ensures refused { IfErr result IsMemory }
+{
+    let mut lines = Vec::new(alloc);
+    if let Some(line) = first {
+        lines.push(line)?;
+    }
+    'lists: for list in lists {
+        push_all(list, &mut lines)?;
+    }
+    Ok(lines)
+}
+
+/// The line of the version of the workspace, where it becomes another.
+fn shared_line(
+    alloc: Global,
+    old: Option<&Version>,
+    new: Option<&Version>,
+) -> CargoResult<Option<Line>>
+    ensures ok { IfOk result (λ o. map line_told (option_to_list o) ≡ shared_lines
+        (option_map (λ v. parts_of v.now) old.entry) (option_map (λ v. parts_of v.now) new.entry)) }
+    ensures refused { IfErr result IsMemory }
+{
+    let Some(old) = old else {
+        return Ok(None);
+    };
+    let Some(new) = new else {
+        return Ok(None);
+    };
+    let line = workspace_line(alloc, old, new)?;
+    Ok(Some(line))
+}
+
+/// The lines of a plan: that of the workspace's old and new version, where both are there, and then those of
+/// the bumps.
+pub(crate) fn plan_lines(
+    alloc: Global,
+    numbers: &Numbers<'_>,
+    project: &ProjectRead<'_>,
+    bumps: &[Bump<'_>],
+    old: Option<&Version>,
+    new: Option<&Version>,
+) -> CargoResult<Vec<Line>>
+    requires numbers { TellsFirst (bumps_seen bumps.now) numbers.now }
+    requires apart { AreApart (bumps_seen bumps.now) }
+    ensures ok { IfOk result (λ v. map line_told v.items ≡ shared_lines
+        (option_map (λ v. parts_of v.now) old.entry) (option_map (λ v. parts_of v.now) new.entry)
+        ++ flat_map (lines_of (project_seen project.now)) (bumps_seen bumps.now)) }
+    ensures refused { IfErr result (λ e. IsMemory e
+        ⊎ HasUnfollowed (bumps_seen bumps.now) (manifests (project_seen project.now)) e) }
+{
+    let lists = lists_of(alloc, numbers, project, bumps)?;
+    let first = shared_line(alloc, old, new)?;
+    let lines = in_a_row(alloc, first, lists)?;
+    Ok(lines)
+}

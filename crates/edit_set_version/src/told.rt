@@ -1,0 +1,79 @@
+//! The lines of each bump, filled while the manifests are walked.
+ghost use Rattle.std.specs.Prelude.{◌≡◌, ◌∷◌, [], All, IfErr, IfOk, OnOk, map};
+ghost use Rattle.edit_base.specs.Errors.{IsMemory};
+ghost use Rattle.edit_set_version.specs.Crates.{bumps_seen};
+ghost use Rattle.edit_set_version.specs.Followers.{HasRisen, follower_seen};
+ghost use Rattle.edit_set_version.specs.ToldLines.{bump_told, line_told, lists_told, with_line, with_updates};
+
+use crate::crates::Bump;
+use crate::follow::Follower;
+use crate::lines::{Line, bump_line, updating};
+use edit_base::CargoResult;
+use std::alloc::Global;
+
+/// A list of lines for each bump, in the order of the bumps: each begins with the line of its bump.
+pub(crate) fn bump_lists(alloc: Global, bumps: &[Bump<'_>]) -> CargoResult<Vec<Vec<Line>>>
+    ensures ok { IfOk result (λ ls. lists_told ls.items
+        ≡ map (λ b. bump_told b ∷ []) (bumps_seen bumps.now)) }
+    ensures refused { IfErr result IsMemory }
+{
+    let mut lists = Vec::with_capacity(alloc, bumps.len())?;
+    'bumps: for bump in bumps {
+        let mut list = Vec::new(alloc);
+        let line = bump_line(alloc, bump)?;
+        list.push(line)?;
+        lists.push(list)?;
+    }
+    Ok(lists)
+}
+
+/// Adds a line to the list with a number.
+fn push_line(lists: &mut Vec<Vec<Line>>, number: usize, line: Line) -> CargoResult<()>
+    ensures ok { OnOk result (lists_told lists.new.items
+        ≡ with_line number (line_told line) (lists_told lists.old.items)) }
+    ensures refused { IfErr result IsMemory }
+{
+    if number >= lists.len() {
+        return Ok(());
+    }
+    lists[number].push(line)?;
+    Ok(())
+}
+
+/// Adds the line of a requirement that follows, where it becomes another text, to the list of its bump.
+fn push_update(
+    alloc: Global,
+    name: &str,
+    follower: &Follower<'_>,
+    lists: &mut Vec<Vec<Line>>,
+) -> CargoResult<()>
+    ensures ok { OnOk result (HasRisen follower.now → lists_told lists.new.items
+        ≡ with_updates name.now (follower_seen follower.now ∷ []) 0 (lists_told lists.old.items)) }
+    ensures refused { IfErr result IsMemory }
+{
+    match &follower.risen {
+        Some(new) => {
+            let line = updating(alloc, name, follower.text.as_str(), new.as_str())?;
+            push_line(lists, follower.bump.number, line)?;
+            Ok(())
+        }
+        None => Ok(()),
+    }
+}
+
+/// Adds the lines of the requirements of a manifest that follow, each to the list of its bump.
+pub(crate) fn push_updates(
+    alloc: Global,
+    name: &str,
+    followers: &[Follower<'_>],
+    lists: &mut Vec<Vec<Line>>,
+) -> CargoResult<()>
+    ensures ok { OnOk result (All HasRisen followers.now → lists_told lists.new.items
+        ≡ with_updates name.now (map follower_seen followers.now) 0 (lists_told lists.old.items)) }
+    ensures refused { IfErr result IsMemory }
+{
+    'followers: for follower in followers {
+        push_update(alloc, name, follower, lists)?;
+    }
+    Ok(())
+}

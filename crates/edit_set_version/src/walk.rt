@@ -1,0 +1,149 @@
+//! The manifests of a project, walked for the lines of the requirements that follow.
+ghost use Rattle.std.specs.Prelude.{◌≡◌, ◌⊎◌, ◌∷◌, [], List, IfErr, IfOk, OnOk, map};
+ghost use Rattle.edit_base.specs.Errors.{IsMemory};
+ghost use Rattle.edit_set_version.specs.Crates.{bumps_seen, member_of, members_of, project_seen};
+ghost use Rattle.edit_set_version.specs.Numbers.{TellsFirst};
+ghost use Rattle.edit_set_version.specs.PlanLines.{manifests};
+ghost use Rattle.edit_set_version.specs.Projects.{path_of};
+ghost use Rattle.edit_set_version.specs.SetVersioned.{Bump as Bumped};
+ghost use Rattle.edit_set_version.specs.ToldLines.{HasUnfollowed, bump_told, lists_told, other_manifests, with_manifests};
+ghost use Rattle.edit_tree.specs.Shown.{tree_of};
+
+use crate::crates::{Bump, Crate};
+use crate::follow::followers_of;
+use crate::lines::Line;
+use crate::numbers::Numbers;
+use crate::project::ProjectRead;
+use crate::told::{bump_lists, push_updates};
+use edit_base::CargoResult;
+use edit_manifest::Manifest;
+use edit_metadata::Input;
+use std::alloc::Global;
+
+/// Adds the lines of a manifest, under a name.
+fn push_manifest(
+    alloc: Global,
+    numbers: &Numbers<'_>,
+    name: &str,
+    input: &Input,
+    manifest: &Manifest,
+    lists: &mut Vec<Vec<Line>>,
+) -> CargoResult<()>
+    ensures ok { OnOk result ((bs : List Bumped) → TellsFirst bs numbers.now
+        → lists_told lists.new.items ≡ with_manifests bs (record {
+          name = name.now;
+          path = path_of input.now;
+          tree = tree_of manifest.now.document;
+        } ∷ []) 0 (lists_told lists.old.items)) }
+    ensures refused { IfErr result (λ e. (bs : List Bumped) → TellsFirst bs numbers.now
+        → HasUnfollowed bs (record {
+          name = name.now;
+          path = path_of input.now;
+          tree = tree_of manifest.now.document;
+        } ∷ []) e) }
+{
+    let followers = followers_of(alloc, numbers, input.path.as_str(), &manifest.document)?;
+    push_updates(alloc, name, &followers, lists)?;
+    Ok(())
+}
+
+/// Adds the lines of a member's manifest, where it is not the one at a path.
+fn push_member(
+    alloc: Global,
+    numbers: &Numbers<'_>,
+    root: &str,
+    found: Crate<'_>,
+    lists: &mut Vec<Vec<Line>>,
+) -> CargoResult<()>
+    ensures ok { OnOk result ((bs : List Bumped) → TellsFirst bs numbers.now
+        → lists_told lists.new.items ≡ with_manifests bs
+        (other_manifests root.now (member_of found.entry ∷ [])) 0 (lists_told lists.old.items)) }
+    ensures refused { IfErr result (λ e. (bs : List Bumped) → TellsFirst bs numbers.now
+        → HasUnfollowed bs (other_manifests root.now (member_of found.entry ∷ [])) e) }
+{
+    if found.input.path.as_str() == root {
+        return Ok(());
+    }
+    push_manifest(
+        alloc,
+        numbers,
+        found.told.name.as_str(),
+        found.input,
+        found.manifest,
+        lists,
+    )?;
+    Ok(())
+}
+
+/// Adds the lines of the members' manifests, but for the one at a path.
+fn push_members(
+    alloc: Global,
+    numbers: &Numbers<'_>,
+    root: &str,
+    crates: &[Crate<'_>],
+    lists: &mut Vec<Vec<Line>>,
+) -> CargoResult<()>
+    ensures ok { OnOk result ((bs : List Bumped) → TellsFirst bs numbers.now
+        → lists_told lists.new.items ≡ with_manifests bs
+        (other_manifests root.now (members_of crates.now)) 0 (lists_told lists.old.items)) }
+    ensures refused { IfErr result (λ e. (bs : List Bumped) → TellsFirst bs numbers.now
+        → HasUnfollowed bs (other_manifests root.now (members_of crates.now)) e) }
+{
+    'members: for found in crates {
+        push_member(alloc, numbers, root, *found, lists)?;
+    }
+    Ok(())
+}
+
+/// Adds the lines of the manifests of a project: the root's, and then those of the other members in their
+/// order.
+fn push_project(
+    alloc: Global,
+    numbers: &Numbers<'_>,
+    project: &ProjectRead<'_>,
+    lists: &mut Vec<Vec<Line>>,
+) -> CargoResult<()>
+    ensures ok { OnOk result ((bs : List Bumped) → TellsFirst bs numbers.now
+        → lists_told lists.new.items
+        ≡ with_manifests bs (manifests (project_seen project.now)) 0 (lists_told lists.old.items)) }
+    ensures refused { IfErr result (λ e. (bs : List Bumped) → TellsFirst bs numbers.now
+        → HasUnfollowed bs (manifests (project_seen project.now)) e) }
+{
+    let root = project.root;
+    push_manifest(
+        alloc,
+        numbers,
+        "workspace",
+        root.input,
+        root.manifest,
+        lists,
+    )?;
+    push_members(
+        alloc,
+        numbers,
+        root.input.path.as_str(),
+        &project.members,
+        lists,
+    )?;
+    Ok(())
+}
+
+/// A list of lines for each bump, in the order of the bumps: its own line, and then those of the requirements
+/// that follow it.
+pub(crate) fn lists_of(
+    alloc: Global,
+    numbers: &Numbers<'_>,
+    project: &ProjectRead<'_>,
+    bumps: &[Bump<'_>],
+) -> CargoResult<Vec<Vec<Line>>>
+    requires numbers { TellsFirst (bumps_seen bumps.now) numbers.now }
+    ensures ok { IfOk result (λ ls. lists_told ls.items
+        ≡ with_manifests (bumps_seen bumps.now) (manifests (project_seen project.now)) 0
+        (map (λ b. bump_told b ∷ []) (bumps_seen bumps.now))) }
+    ensures refused { IfErr result (λ e. IsMemory e
+        ⊎ HasUnfollowed (bumps_seen bumps.now) (manifests (project_seen project.now)) e) }
+{
+    let mut lists = bump_lists(alloc, bumps)?;
+    push_project(alloc, numbers, project, &mut lists)?;
+    Ok(lists)
+}
