@@ -58,6 +58,7 @@ switches =
     ∷ flag_rule (codes "locked")
     ∷ count_rule (codes "verbose") 118
     ∷ count_rule (codes "quiet") 113
+    ∷ flag_rule (codes "never-lower")
     ∷ []
 
 -- the options that say what may be upgraded, two of them ignored where they are not given
@@ -138,6 +139,7 @@ pub record AskForOptions (rows : List Row) (o : Options) : Type 0 where
   pub recursive : o.recursive ≡ option_map (λ v. bytes_eq v (codes "true")) (first_of (codes "recursive") rows)
   pub verbosity : o.verbosity
       ≡ verbosity_of (count_of (codes "verbose") rows) (count_of (codes "quiet") rows)
+  pub never_lower : o.never_lower ≡ is_given (codes "never-lower") rows
   pub packages : words_of o ≡ values_of (codes "package") rows
   pub exclusions : excluded_of o ≡ values_of (codes "exclude") rows
 

@@ -106,11 +106,13 @@ fn with_switches<'a>(alloc: Global, command: Command<'a>) -> Result<Command<'a>,
     let locked = flag(alloc, "locked", "Refuses to change the manifest");
     let verbose = counted(alloc, "verbose", 'v', "Reports more");
     let quiet = counted(alloc, "quiet", 'q', "Reports less");
+    let never_lower = flag(alloc, "never-lower", "Lowers no requirement");
     command
         .arg(dry_run.short('n'))?
         .arg(locked)?
         .arg(verbose)?
-        .arg(quiet)
+        .arg(quiet)?
+        .arg(never_lower)
 }
 
 /// Adds the options that say what may be upgraded.

@@ -135,6 +135,7 @@ pub(crate) fn upgrade_words<'a>(
         locked: is_given(matches, "locked"),
         recursive: recursive(matches),
         verbosity: verbosity(matches.get_count("verbose"), matches.get_count("quiet")),
+        never_lower: is_given(matches, "never-lower"),
     };
     Ok(UpgradeWords {
         manifest_path: matches.get_str("manifest-path").unwrap_or("Cargo.toml"),

@@ -7,9 +7,11 @@ use std::test::Fail;
 use std::{fs, process, str};
 use test_rows::{field, same};
 
+mod files;
 mod given;
 
-use given::{INDEX, MANIFEST, ROWS, STATUSES, TEXTS, UNWRITTEN, WORDS, bytes_of, name_of, path_of};
+use files::{INDEX, MANIFEST, bytes_of, name_of, path_of};
+use given::{ROWS, STATUSES, TEXTS, UNWRITTEN, WORDS};
 
 /// The files of a row.
 fn stored(alloc: Global, letters: &str) -> Option<MemoryStore> {
@@ -107,10 +109,10 @@ fn status_holds(alloc: Global, row: &str) -> Result<(), Fail> {
 
 #[test]
 fn rows(rt: HostRuntime) -> Result<(), Fail> {
-    for row in ROWS.split('@') {
+    for row in ROWS.split('§') {
         row_holds(rt.alloc(), row)?;
     }
-    for row in STATUSES.split('@') {
+    for row in STATUSES.split('§') {
         status_holds(rt.alloc(), row)?;
     }
     Ok(())
@@ -140,7 +142,7 @@ fn text_holds(alloc: Global, row: &str) -> Result<(), Fail> {
 
 #[test]
 fn texts(rt: HostRuntime) -> Result<(), Fail> {
-    for row in TEXTS.split('@') {
+    for row in TEXTS.split('§') {
         text_holds(rt.alloc(), row)?;
     }
     Ok(())
@@ -201,6 +203,6 @@ fn real_files(rt: HostRuntime) -> Result<(), Fail> {
     lay_out(&rt, folder.as_str()).ok_or("no files")?;
     let seen = ran_in(&rt, folder.as_str()).ok_or("no outcome")?;
     fs::remove_dir_all(&rt, folder.as_str())?;
-    let wanted = field(ROWS.split('@').next().unwrap_or(""), 4);
+    let wanted = field(ROWS.split('§').next().unwrap_or(""), 4);
     same("real files", seen.as_str(), wanted)
 }

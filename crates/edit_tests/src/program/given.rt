@@ -1,32 +1,4 @@
-//! The program's rows: the words, the files, and what is seen.
-
-pub(super) const MANIFEST: &str =
-    "[dependencies]\nserde = { version = '1.0', optional = true } # keep\n";
-
-const RAISED: &str = "[dependencies]\nserde = { version = \"1.2\", optional = true } # keep\n";
-
-const OF_A_REGISTRY: &str = "[dependencies]\nserde = { version = \"1.0\", registry = \"r\" }\n";
-
-const RAISED_THERE: &str = "[dependencies]\nserde = { version = \"1.2\", registry = \"r\" }\n";
-
-const UP_TO_DATE: &str = "[dependencies]\na = \"1\"\n";
-
-const UNREAD: &str = "[dependencies]\nserde = 'one'\na.workspace = true\n";
-
-const PINNED: &str = "[dependencies]\nserde = '=1.0.0'\n[dev-dependencies]\nserde = '0.9'\n";
-
-const RAISED_PAST: &str = "[dependencies]\nserde = '=1.0.0'\n[dev-dependencies]\nserde = \"1.2\"\n";
-
-const RAISED_ALL: &str =
-    "[dependencies]\nserde = \"=1.2.3\"\n[dev-dependencies]\nserde = \"1.2\"\n";
-
-const MANY: &str = "[dependencies]\na = '1'\nb = '1'\nc = '1'\nd = '1'\n";
-
-const REGISTRIES: &str = "[registries]\nr = { index = \"file:///r\" }\n";
-
-const ODD_NAME: &str = "[dependencies]\n'no name' = '1'\n";
-
-pub(super) const INDEX: &str = "{\"name\":\"serde\",\"vers\":\"1.2.3\"}\n";
+//! The program's rows: the words, the files, and what is seen. Between two rows stands `§`.
 
 pub(super) const WORDS: &str = "upgrade --manifest-path Cargo.toml --index-file index.json";
 
@@ -36,14 +8,14 @@ upgrade --manifest-path '' --index-file index.json|\
 2 error: a value is required for '--manifest-path <PATH>' but none was supplied
 
 For more information, try '--help'.
-@upgrade --manifest-path Cargo.toml|\
+§upgrade --manifest-path Cargo.toml|\
 2 error: the following required arguments were not provided:
   --index-file <FILE>
 
 Usage: cargo-edit upgrade --manifest-path <PATH> --index-file <FILE>
 
 For more information, try '--help'.
-@upgrade --help|\
+§upgrade --help|\
 0 Raises the dependency requirements of a manifest
 
 Usage: cargo-edit upgrade [OPTIONS] --manifest-path <PATH> --index-file <FILE>
@@ -55,6 +27,7 @@ Options:
       --locked                       Refuses to change the manifest
   -v, --verbose...                   Reports more
   -q, --quiet...                     Reports less
+      --never-lower                  Lowers no requirement
       --compatible <allow|ignore>    Upgrades to the latest compatible version [default: allow]
   -i, --incompatible <allow|ignore>  Upgrades to the latest incompatible version [default: ignore]
       --pinned <allow|ignore>        Upgrades pinned requirements to the latest version [default: ignore]
@@ -63,11 +36,11 @@ Options:
       --exclude <PKGID>              Crates to exclude and not upgrade
   -h, --help                         Print help
   -V, --version                      Print version
-@- --pinned=maybe|\
+§- --pinned=maybe|\
 2 error: invalid value 'maybe' for '--pinned <allow|ignore>'
 
 For more information, try '--help'.
-@upgrade -V|\
+§upgrade -V|\
 0 cargo-edit-upgrade 0.13.14
 ";
 
@@ -79,90 +52,90 @@ raises one manifest|mi|99|-|0 raised name  old req compatible latest new req
 ====  ======= ========== ====== =======
 serde 1.0     1.2.3      1.2.3  1.2    
     Checking virtual workspace's dependencies
-@nothing there|i|99|-|1 none Error: Failed to get cargo file metadata
+§nothing there|i|99|-|1 none Error: Failed to get cargo file metadata
   at /w/Cargo.toml
-@a folder in its place|b|99|-|1 none Error: Failed to read manifest contents
+§a folder in its place|b|99|-|1 none Error: Failed to read manifest contents
   at /w/Cargo.toml
-@absent index|m|99|-|1 manifest Error: Failed to get cargo file metadata
+§absent index|m|99|-|1 manifest Error: Failed to get cargo file metadata
   at /w/index.json
-@no text, before the index|u|99|-|1 other Error: Failed to read manifest contents
+§no text, before the index|u|99|-|1 other Error: Failed to read manifest contents
   at /w/Cargo.toml
-@no document, before the index|d|99|-|1 other Error: Unable to parse Cargo.toml
+§no document, before the index|d|99|-|1 other Error: Unable to parse Cargo.toml
   at /w/Cargo.toml:1:7
-@no document, behind letters of two bytes|e|99|-|1 other Error: Unable to parse Cargo.toml
+§no document, behind letters of two bytes|e|99|-|1 other Error: Unable to parse Cargo.toml
   at /w/Cargo.toml:2:7
-@a folder for the index|mf|99|-|1 manifest Error: Failed to get cargo file metadata
+§a folder for the index|mf|99|-|1 manifest Error: Failed to get cargo file metadata
   at /w/index.json
-@a malformed line|ml|99|-|1 manifest Error: Invalid index line 1
+§a malformed line|ml|99|-|1 manifest Error: Invalid index line 1
   at /w/index.json:1
-@a name that no index has|oi|99|-|1 odd name Error: Invalid crate name `no name`
-@found above|snm|99|upgrade --manifest-path a/./b/ --index-file ../w//index.json|\
+§a name that no index has|oi|99|-|1 odd name Error: Invalid crate name `no name`
+§found above|snm|99|upgrade --manifest-path a/./b/ --index-file ../w//index.json|\
 1 manifest Error: Invalid index line 2
   at /w/index.json:2
-@not found above|sn|99|upgrade --manifest-path a/./b/ --index-file ../w//index.json|\
+§not found above|sn|99|upgrade --manifest-path a/./b/ --index-file ../w//index.json|\
 1 none Error: Unable to find Cargo.toml for /w/a/b
-@a registry that a configuration names|rci|99|-|0 raised there name  old req compatible latest new req
+§a registry that a configuration names|rci|99|-|0 raised there name  old req compatible latest new req
 ====  ======= ========== ====== =======
 serde 1.0     1.2.3      1.2.3  1.2    
     Checking virtual workspace's dependencies
-@one that the home of cargo names|rhi|99|-|0 raised there name  old req compatible latest new req
+§one that the home of cargo names|rhi|99|-|0 raised there name  old req compatible latest new req
 ====  ======= ========== ====== =======
 serde 1.0     1.2.3      1.2.3  1.2    
     Checking virtual workspace's dependencies
-@a registry that none names|ri|99|-|1 of a registry Error: The registry 'r' could not be found
-@a broken configuration, before the index|rkh|99|-|\
+§a registry that none names|ri|99|-|1 of a registry Error: The registry 'r' could not be found
+§a broken configuration, before the index|rkh|99|-|\
 1 of a registry Error: invalid cargo config at /w/.cargo/config.toml
-@a configuration's read fails|rci|3|-|1 of a registry Error: Failed to read a file
-@the look fails|mi|0|-|1 manifest Error: Failed to look at a path
+§a configuration's read fails|rci|3|-|1 of a registry Error: Failed to read a file
+§the look fails|mi|0|-|1 manifest Error: Failed to look at a path
   at /w/Cargo.toml
-@the look above fails|snm|1|upgrade --manifest-path a/b --index-file index.json|\
+§the look above fails|snm|1|upgrade --manifest-path a/b --index-file index.json|\
 1 manifest Error: Failed to look at a path
   at /w/a/b
-@the manifest's read fails|mi|1|-|1 manifest Error: Failed to read a file
+§the manifest's read fails|mi|1|-|1 manifest Error: Failed to read a file
   at /w/Cargo.toml
-@the index file's read fails|mi|8|-|1 manifest Error: Failed to read a file
+§the index file's read fails|mi|8|-|1 manifest Error: Failed to read a file
   at /w/index.json
-@nothing to raise|aj|99|-|0 up to date     Checking virtual workspace's dependencies
+§nothing to raise|aj|99|-|0 up to date     Checking virtual workspace's dependencies
 note: Re-run with `--verbose` to show more dependencies
   latest: a
-@warnings, but for those of verbose reports|wi|99|-|0 held     Checking virtual workspace's dependencies
+§warnings, but for those of verbose reports|wi|99|-|0 held     Checking virtual workspace's dependencies
 warning: keeping serde, unreadable requirement `one`
 note: Re-run with `--verbose` to show more dependencies
   latest: serde
-@what is held back|pi|99|-|0 held     Checking virtual workspace's dependencies
+§what is held back|pi|99|-|0 held     Checking virtual workspace's dependencies
 note: Re-run with `--pinned` to upgrade pinned version requirements
 note: Re-run with `--incompatible` to upgrade incompatible version requirements
 note: Re-run with `--verbose` to show more dependencies
   incompatible: serde
   pinned: serde
-@more names than three|qi|99|-|0 held     Checking virtual workspace's dependencies
+§more names than three|qi|99|-|0 held     Checking virtual workspace's dependencies
 note: Re-run with `--verbose` to show more dependencies
   latest: 4 packages
-@a dry run|mi|99|- -n --recursive|0 manifest name  old req compatible latest new req
+§a dry run|mi|99|- -n --recursive|0 manifest name  old req compatible latest new req
 ====  ======= ========== ====== =======
 serde 1.0     1.2.3      1.2.3  1.2    
     Checking virtual workspace's dependencies
 warning: aborting upgrade due to dry run
-@a lock|mi|99|- --locked --dry-run|1 manifest name  old req compatible latest new req
+§a lock|mi|99|- --locked --dry-run|1 manifest name  old req compatible latest new req
 ====  ======= ========== ====== =======
 serde 1.0     1.2.3      1.2.3  1.2    
     Checking virtual workspace's dependencies
 Error: cannot upgrade due to `--locked`
-@a lock with nothing to raise, and all rows|aj|99|- --locked -v --verbose|0 up to date \
+§a lock with nothing to raise, and all rows|aj|99|- --locked -v --verbose|0 up to date \
 name old req compatible latest new req
 ==== ======= ========== ====== =======
 a    1       1.0.0      1.0.0  1      
     Checking virtual workspace's dependencies
-@more is told|wi|99|- -v|0 held     Checking virtual workspace's dependencies
+§more is told|wi|99|- -v|0 held     Checking virtual workspace's dependencies
 warning: keeping serde, unreadable requirement `one`
 warning: ignoring a, source is workspace
 note: Re-run with `--verbose --verbose` to show more dependencies
   latest: serde
-@no more than less|wi|99|- -vvq --quiet|0 held     Checking virtual workspace's dependencies
+§no more than less|wi|99|- -vvq --quiet|0 held     Checking virtual workspace's dependencies
 warning: keeping serde, unreadable requirement `one`
 note: Re-run with `--verbose` to show more dependencies
   latest: serde
-@rows that are held back|pi|99|- -v --pinned false -i ignore|0 held \
+§rows that are held back|pi|99|- -v --pinned false -i ignore|0 held \
 name  old req compatible latest new req note        
 ====  ======= ========== ====== ======= ====        
 serde =1.0.0  -          1.2.3  =1.0.0  pinned      
@@ -170,38 +143,42 @@ serde 0.9     -          1.2.3  0.9     incompatible
     Checking virtual workspace's dependencies
 note: Re-run with `--pinned` to upgrade pinned version requirements
 note: Re-run with `--incompatible` to upgrade incompatible version requirements
-@past the requirement|pi|99|- -i|0 raised past name  old req compatible latest new req
+§past the requirement|pi|99|- -i|0 raised past name  old req compatible latest new req
 ====  ======= ========== ====== =======
 serde 0.9     -          1.2.3  1.2    
     Checking virtual workspace's dependencies
 note: Re-run with `--pinned` to upgrade pinned version requirements
 note: Re-run with `--verbose` to show more dependencies
   pinned: serde
-@past all requirements|pi|99|- --pinned --incompatible=true --recursive false|\
+§past all requirements|pi|99|- --pinned --incompatible=true --recursive false|\
 0 raised all name  old req compatible latest new req
 ====  ======= ========== ====== =======
 serde =1.0.0  -          1.2.3  =1.2.3 
 serde 0.9     -          1.2.3  1.2    
     Checking virtual workspace's dependencies
-@not even what is compatible|mi|99|- --compatible ignore|0 manifest     \
+§not even what is compatible|mi|99|- --compatible ignore|0 manifest     \
 Checking virtual workspace's dependencies
 note: Re-run with `--verbose` to show more dependencies
   compatible: serde
-@a word that no entry has|mi|99|- -p serde -p nothere|1 raised name  old req compatible latest new req
+§an option under which nothing is lowered|vj|99|- -i --never-lower|0 held     \
+Checking virtual workspace's dependencies
+note: Re-run with `--verbose` to show more dependencies
+  latest: a
+§a word that no entry has|mi|99|- -p serde -p nothere|1 raised name  old req compatible latest new req
 ====  ======= ========== ====== =======
 serde 1.0     1.2.3      1.2.3  1.2    
     Checking virtual workspace's dependencies
 Error: dependency nothere doesn't exist
-@a word that names no crate|mi|99|- -p a/b|1 manifest Error: Invalid name `a/b`: /
-@a word with a requirement|mi|99|- -n -p serde@1.1|0 manifest name  old req compatible latest new req
+§a word that names no crate|mi|99|- -p a/b|1 manifest Error: Invalid name `a/b`: /
+§a word with a requirement|mi|99|- -n -p serde@1.1|0 manifest name  old req compatible latest new req
 ====  ======= ========== ====== =======
 serde 1.0     1.2.3      1.2.3  1.1    
     Checking virtual workspace's dependencies
 warning: aborting upgrade due to dry run
-@an excluded entry|mi|99|- --exclude a --exclude serde|0 manifest     Checking virtual workspace's dependencies
+§an excluded entry|mi|99|- --exclude a --exclude serde|0 manifest     Checking virtual workspace's dependencies
 note: Re-run with `--verbose` to show more dependencies
   excluded: serde
-@the write fails after four bytes|mi|9|-|1 cut name  old req compatible latest new req
+§the write fails after four bytes|mi|9|-|1 cut name  old req compatible latest new req
 ====  ======= ========== ====== =======
 serde 1.0     1.2.3      1.2.3  1.2    
     Checking virtual workspace's dependencies
@@ -212,88 +189,22 @@ Error: Failed to write updated Cargo.toml
 /// Rows of which the status alone is compared. The manifest stays as it was.
 pub(super) const STATUSES: &str = "\
 help|mi|99|upgrade --help|0 manifest \
-@version|mi|99|upgrade -V|0 manifest \
-@a flag that none has|mi|99|upgrade --nope|2 manifest \
-@no index file|mi|99|upgrade --manifest-path Cargo.toml|2 manifest \
-@no manifest|mi|99|upgrade --index-file index.json|2 manifest \
-@a value behind the one that was filled in|mi|99|- --pinned maybe|2 manifest \
-@a value that only others have|mi|99|- --recursive=allow|2 manifest \
-@an option twice|mi|99|- -i -i|2 manifest \
-@an option behind the end of options|mi|99|- -- -i|2 manifest \
-@an empty path of a manifest|mi|99|upgrade --manifest-path '' --index-file index.json|2 manifest \
-@an empty path behind an equals sign|mi|99|upgrade --manifest-path= --index-file index.json|2 manifest \
-@an empty path of an index file|mi|99|upgrade --manifest-path Cargo.toml --index-file ''|2 manifest \
-@another subcommand|mi|99|raise --manifest-path Cargo.toml --index-file index.json|2 manifest \
-@no words|mi|99||2 manifest ";
+§version|mi|99|upgrade -V|0 manifest \
+§a flag that none has|mi|99|upgrade --nope|2 manifest \
+§no index file|mi|99|upgrade --manifest-path Cargo.toml|2 manifest \
+§no manifest|mi|99|upgrade --index-file index.json|2 manifest \
+§a value behind the one that was filled in|mi|99|- --pinned maybe|2 manifest \
+§a value that only others have|mi|99|- --recursive=allow|2 manifest \
+§an option twice|mi|99|- -i -i|2 manifest \
+§an option behind the end of options|mi|99|- -- -i|2 manifest \
+§an empty path of a manifest|mi|99|upgrade --manifest-path '' --index-file index.json|2 manifest \
+§an empty path behind an equals sign|mi|99|upgrade --manifest-path= --index-file index.json|2 manifest \
+§an empty path of an index file|mi|99|upgrade --manifest-path Cargo.toml --index-file ''|2 manifest \
+§another subcommand|mi|99|raise --manifest-path Cargo.toml --index-file index.json|2 manifest \
+§no words|mi|99||2 manifest ";
 
 /// What is seen where the table is not taken: the manifest is as it was.
 pub(super) const UNWRITTEN: &str = "\
 1 manifest     Checking virtual workspace's dependencies
 Error: Failed to write message
 ";
-
-/// Where a file of a row stands.
-pub(super) fn path_of(file: char) -> &'static str {
-    match file {
-        'm' | 'u' | 'd' | 'e' | 'o' | 'r' | 'a' | 'w' | 'p' | 'q' => "/w/Cargo.toml",
-        'c' | 'k' => "/w/.cargo/config.toml",
-        'h' => "/h/config.toml",
-        'b' => "/w/Cargo.toml/x",
-        's' => "/w/a/b/x",
-        'f' => "/w/index.json/x",
-        _ => "/w/index.json",
-    }
-}
-
-/// What a file of a row holds.
-pub(super) fn bytes_of(file: char) -> &'static [u8] {
-    match file {
-        'm' => MANIFEST.as_bytes(),
-        'o' => ODD_NAME.as_bytes(),
-        'r' => OF_A_REGISTRY.as_bytes(),
-        'c' | 'h' => REGISTRIES.as_bytes(),
-        'k' => b"registries = 1",
-        'a' => UP_TO_DATE.as_bytes(),
-        'w' => UNREAD.as_bytes(),
-        'p' => PINNED.as_bytes(),
-        'q' => MANY.as_bytes(),
-        'j' => b"{\"name\":\"a\",\"vers\":\"1.0.0\"}\n",
-        'i' => INDEX.as_bytes(),
-        'u' => b"\xff".as_slice(),
-        'd' => b"a = 1 2",
-        'e' => "# é\n'é' = é\n".as_bytes(),
-        'l' => b"{\"name\":\"a\"}",
-        'n' => b"\n{}\n",
-        _ => b"",
-    }
-}
-
-/// What a row calls these bytes of a manifest.
-pub(super) fn name_of(bytes: &[u8]) -> &'static str {
-    if bytes == MANIFEST.as_bytes() {
-        "manifest"
-    } else if bytes == RAISED.as_bytes() {
-        "raised"
-    } else if bytes == RAISED_PAST.as_bytes() {
-        "raised past"
-    } else if bytes == RAISED_ALL.as_bytes() {
-        "raised all"
-    } else if bytes == ODD_NAME.as_bytes() {
-        "odd name"
-    } else if bytes == OF_A_REGISTRY.as_bytes() {
-        "of a registry"
-    } else if bytes == RAISED_THERE.as_bytes() {
-        "raised there"
-    } else if [UNREAD, PINNED, MANY]
-        .iter()
-        .any(|text| bytes == text.as_bytes())
-    {
-        "held"
-    } else if bytes == UP_TO_DATE.as_bytes() {
-        "up to date"
-    } else if bytes == b"[dep".as_slice() {
-        "cut"
-    } else {
-        "other"
-    }
-}
