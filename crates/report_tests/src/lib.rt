@@ -1,4 +1,5 @@
-//! Tests of reports, by the public calls of `edit_report` alone.
+//! Tests of reports and of the calls that follow an upgrade, by the public calls of `edit_report` and
+//! `edit_update` alone.
 //!
 //! They stand in a crate of their own, since a crate with tests is proved once more with them.
 #![tactic(auto)]
