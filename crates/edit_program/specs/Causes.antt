@@ -121,8 +121,8 @@ AreTold missing (DependenciesMissing told) =
     (told.kind ≡ kind.Dependency) × (map string_bytes told.names.items ≡ missing)
 AreTold missing other = ⊥
 
--- why an upgrade is refused for its plan: the manifest is locked, and there is something to write, or names are
--- missing, and are told
+-- why an upgrade is refused for its plan: the manifest is locked, and there is something to write, or
+-- names are missing, and are told
 abbrev pub IsHeldBack : Options → List Output → List (List ℕ) → Error → Type 0
 IsHeldBack options outputs missing e =
     ((e ≡ Locked) × (options.locked ≡ true) × (outputs ≢ [])) ⊎ ((missing ≢ []) × AreTold missing e)

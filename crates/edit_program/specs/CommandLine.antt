@@ -136,7 +136,8 @@ pub record AskForOptions (rows : List Row) (o : Options) : Type 0 where
   pub pinned : status_of (codes "pinned") rows ≡ Some o.pinned
   pub dry_run : o.dry_run ≡ is_given (codes "dry-run") rows
   pub locked : o.locked ≡ is_given (codes "locked") rows
-  pub recursive : o.recursive ≡ option_map (λ v. bytes_eq v (codes "true")) (first_of (codes "recursive") rows)
+  pub recursive : o.recursive
+      ≡ option_map (λ v. bytes_eq v (codes "true")) (first_of (codes "recursive") rows)
   pub verbosity : o.verbosity
       ≡ verbosity_of (count_of (codes "verbose") rows) (count_of (codes "quiet") rows)
   pub never_lower : o.never_lower ≡ is_given (codes "never-lower") rows

@@ -1,5 +1,5 @@
--- What a run of the program answers, and what it leaves of the files. Its words are those that were given, with
--- the values that are left out of them.
+-- What a run of the program answers, and what it leaves of the files. Its words are those that were
+-- given, with the values that are left out of them.
 use Rattle.std.specs.Prelude.{◌≡◌, ◌⊎◌, ℕ, List, [], Bool, Option, Some, true, codes, option_map}
 use Rattle.clap.specs.Words.{IsAmong, fault_of, subcommand_of, takes}
 use Rattle.clap.specs.declared.error.kind.ErrorKind.{ErrorKind}

@@ -121,8 +121,8 @@ IsTorn None old new = ⊥
 IsTorn (Some output) old new = SameBut (string_bytes output.path) old new
 
 -- the files were read, a plan was made for the manifest that is named, with nothing to write where it is
--- locked, and this holds of the output that is to be written, this of the missing names, and this of the table
--- of the rows
+-- locked, and this holds of the output that is to be written, this of the missing names, and this of the
+-- table of the rows
 pub record IsPlannedTo (Leaves : Option Output → Files → Files → Type 0)
     (Lacks : List (List ℕ) → Type 0) (Shows : List ℕ → Type 0)
     (current : List ℕ) (home : Option (List ℕ)) (named index_named : List ℕ) (options : Options)
@@ -144,8 +144,8 @@ pub record IsPlannedTo (Leaves : Option Output → Files → Files → Type 0)
 
 -- the manifest that is named was upgraded: its plan's output was written, behind the table, and no name is
 -- missing
-abbrev pub IsUpgraded : (List ℕ → Type 0) → List ℕ → Option (List ℕ) → List ℕ → List ℕ → Options → Files → Files
-    → Type 0
+abbrev pub IsUpgraded : (List ℕ → Type 0) → List ℕ → Option (List ℕ) → List ℕ → List ℕ → Options → Files
+    → Files → Type 0
 IsUpgraded Shows current home named index_named options old new =
     IsPlannedTo IsWritten (λ missing. missing ≡ []) Shows current home named index_named options old new
 
@@ -156,8 +156,8 @@ IsIncomplete Shows current home named index_named options old new =
     IsPlannedTo IsWritten (λ missing. missing ≢ []) Shows current home named index_named options old new
 
 -- the same up to the write, which was refused
-abbrev pub IsCutShort : (List ℕ → Type 0) → List ℕ → Option (List ℕ) → List ℕ → List ℕ → Options → Files → Files
-    → Type 0
+abbrev pub IsCutShort : (List ℕ → Type 0) → List ℕ → Option (List ℕ) → List ℕ → List ℕ → Options → Files
+    → Files → Type 0
 IsCutShort Shows current home named index_named options old new =
     IsPlannedTo IsTorn (λ missing. ⊤) Shows current home named index_named options old new
 
