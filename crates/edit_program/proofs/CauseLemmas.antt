@@ -20,7 +20,7 @@ use Rattle.edit_program.specs.Causes.{AreTold, IsHeldBack, IsIndexCause, IsManif
 use Rattle.edit_upgrade.specs.declared.upgrade.Options.{Options}
 use Rattle.edit_report.specs.declared.output.Output.{Output as Outputs}
 use Rattle.edit_report.specs.declared.row.Row.{Row}
-use Rattle.edit_program.specs.declared.refusal.Refusal.{Refusal}
+use Rattle.edit_steps.specs.declared.refusal.Refusal.{Refusal}
 use Rattle.edit_program.specs.Upgrading.{AreRead, IsIndexRead, IsManifestRead, IsPlanned}
 
 no_file : (o : Option (List ℕ)) → is_some o ≡ true → None ≡ o → ⊥

@@ -15,7 +15,7 @@ use Rattle.edit_program.specs.Causes.{IsStopCause}
 use Rattle.edit_upgrade.specs.declared.upgrade.Options.{Options}
 use Rattle.edit_program.specs.Upgrading.{IsBroken}
 use Rattle.edit_program.specs.Runs.{AreAtFault, AreNotTaken, IsAnswered, IsDone, IsRefused, IsRunCause, status_of}
-use Rattle.edit_program.specs.declared.refusal.Refusal.{Refusal}
+use Rattle.edit_steps.specs.declared.refusal.Refusal.{Refusal}
 
 simple : is_simple edit_app ≡ true
 unfolding edit_app

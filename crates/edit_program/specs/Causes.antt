@@ -20,7 +20,8 @@ use Rattle.edit_report.specs.declared.row.Row.{Row}
 use Rattle.edit_manifest.specs.Loaded.{IsBadManifest}
 use Rattle.edit_upgrade.specs.Looks.{Kept}
 use Rattle.edit_manifest.specs.Located.{HasNoManifest, IsFault, IsManifestPath}
-use Rattle.edit_program.specs.Upgrading.{AreRead, IsAbsoluteOf, IsManifestRead, IsPlanned}
+use Rattle.edit_program.specs.Upgrading.{AreRead, IsManifestRead, IsPlanned}
+use Rattle.edit_steps.specs.Absolute.{IsAbsoluteOf}
 
 -- where the manifest that is named would be, a folder stands
 pub record IsFolderThere (files : Files) (current named : List ℕ) (e : Error) : Type 0 where

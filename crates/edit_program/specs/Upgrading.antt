@@ -1,6 +1,5 @@
 -- What an upgrade of one manifest reads, plans and writes.
 use Rattle.std.specs.Prelude.{◌≡◌, ◌≢◌, ◌⊎◌, ◌||◌, if◌then◌else◌, ℕ, List, [], ◌∷◌, All, true, ⊤, filter, not, IsSome, Option, Some, None, Ok, codes, map, option_and_then, slice_get, string_bytes}
-use Rattle.edit_base.specs.Paths.{IsNormalOf, joined}
 use Rattle.edit_tree.specs.Assertions.{at, key}
 use Rattle.edit_syntax.specs.Grammar.{Text}
 use Rattle.edit_document.specs.Items.{string_in}
@@ -29,10 +28,7 @@ use Rattle.edit_report.specs.Table.{report_text}
 use Rattle.edit_report.specs.declared.row.Row.{Row}
 use Rattle.edit_report.specs.declared.output.Output.{Output}
 use Rattle.edit_manifest.specs.Located.{IsManifestPath}
-
--- the text is the normal form of the path, which starts in the current folder where it is relative
-abbrev pub IsAbsoluteOf : List ℕ → List ℕ → List ℕ → Type 0
-IsAbsoluteOf current path text = IsNormalOf (joined current path) text
+use Rattle.edit_steps.specs.Absolute.{IsAbsoluteOf}
 
 -- what is read of something that stands, nothing where nothing does
 abbrev pub when_there : {A B : Type 0} → Option A → Option B → Option B

@@ -8,7 +8,6 @@ mod locate;
 mod notes;
 mod own;
 mod program;
-mod refusal;
 mod reported;
 mod upgrade;
 mod written;

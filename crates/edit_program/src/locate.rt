@@ -1,26 +1,14 @@
 //! Where the files that are named stand.
 ghost use Rattle.std.specs.Prelude.{◌≡◌, ◌⊎◌, Some, true, IfErr, IfOk, string_bytes};
-ghost use Rattle.edit_base.specs.Errors.{IsMemory};
 ghost use Rattle.edit_base.specs.declared.errors.DeviceCall.TheVariants as call;
 ghost use Rattle.edit_store.specs.Store.{OnlyReads};
 ghost use Rattle.edit_manifest.specs.Located.{HasNoManifest, IsFault, IsManifestPath};
-ghost use Rattle.edit_program.specs.Upgrading.{IsAbsoluteOf};
 
-use crate::refusal::{Refusal, RunResult, at_path};
-use edit_base::paths::{join, normal};
-use edit_base::{CargoResult, Error};
+use edit_base::Error;
 use edit_manifest::find;
+use edit_steps::{Refusal, RunResult, absolute, at_path};
 use edit_store::Store;
 use std::alloc::Global;
-
-/// An absolute path in normal form: `path`, below `current` where it is relative.
-pub(crate) fn absolute(alloc: Global, current: &str, path: &str) -> CargoResult<String>
-    ensures text { IfOk result (λ s. IsAbsoluteOf current.now path.now (string_bytes s)) }
-    ensures refused { IfErr result IsMemory }
-{
-    let joined = join(alloc, current, path)?;
-    normal(alloc, joined.as_str())
-}
 
 /// A refusal of what stands at a path that is named, without its place where memory is short.
 fn at_named(alloc: Global, error: Error, current: &str, named: &str) -> Refusal

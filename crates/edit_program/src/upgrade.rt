@@ -14,10 +14,9 @@ ghost use Rattle.edit_program.specs.Causes.{IsHeldBack, IsIndexCause, IsManifest
 ghost use Rattle.edit_program.specs.Upgrading.{AreRead, HasRust, IsBroken, IsIndexRead, IsManifestRead, IsPlanned, IsTorn, IsUpgraded, IsWritten, written_output};
 
 use crate::asked::UpgradeWords;
-use crate::locate::{absolute, manifest_path};
+use crate::locate::manifest_path;
 use crate::notes::print_notes;
 use crate::own::{own_name, own_rust_version};
-use crate::refusal::{RunResult, at_byte, at_path};
 use crate::reported::print_report;
 use crate::written::{check_lock, check_names, written_output};
 use edit_base::{CargoResult, Error};
@@ -27,6 +26,7 @@ use edit_metadata::Input;
 use edit_report::Output;
 use edit_sources::config::read_configs;
 use edit_sources::{Config, FileIndex, IndexCache};
+use edit_steps::{RunResult, absolute, at_byte, at_path};
 use edit_store::Store;
 use edit_upgrade::{Options, UpgradePlan, plan_documents};
 use std::alloc::Global;

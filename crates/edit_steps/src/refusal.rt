@@ -7,13 +7,13 @@ use std::alloc::{AllocError, Global};
 
 /// Why the program refuses, and the place where it does, if it knows the file.
 #[derive(Debug, Drop)]
-pub(crate) struct Refusal {
-    pub(crate) error: Error,
-    pub(crate) place: Option<String>,
+pub struct Refusal {
+    pub error: Error,
+    pub place: Option<String>,
 }
 
 /// What a step of the program answers.
-pub(crate) type RunResult<T> = Result<T, Refusal>;
+pub type RunResult<T> = Result<T, Refusal>;
 
 impl From<Error> for Refusal {
     ghost from_gives = { λ e r. r.error ≡ e };
@@ -43,7 +43,7 @@ fn place_of(alloc: Global, error: &Error, path: &str) -> Option<String> {
 }
 
 /// A refusal of the file at a path, or of a line of it.
-pub(crate) fn at_path(alloc: Global, error: Error, path: &str) -> Refusal
+pub fn at_path(alloc: Global, error: Error, path: &str) -> Refusal
     ensures { result.error ≡ error }
 {
     let place = place_of(alloc, &error, path);
@@ -51,7 +51,7 @@ pub(crate) fn at_path(alloc: Global, error: Error, path: &str) -> Refusal
 }
 
 /// A refusal of what the file at a path holds.
-pub(crate) fn at_byte(alloc: Global, error: Error, path: &str, bytes: &[u8]) -> Refusal
+pub fn at_byte(alloc: Global, error: Error, path: &str, bytes: &[u8]) -> Refusal
     ensures { result.error ≡ error }
 {
     let Error::NotToml { at } = &error else {

@@ -1,0 +1,17 @@
+//! Paths of the command line.
+ghost use Rattle.std.specs.Prelude.{IfErr, IfOk, string_bytes};
+ghost use Rattle.edit_base.specs.Errors.{IsMemory};
+ghost use Rattle.edit_steps.specs.Absolute.{IsAbsoluteOf};
+
+use edit_base::CargoResult;
+use edit_base::paths::{join, normal};
+use std::alloc::Global;
+
+/// An absolute path in normal form: `path`, below `current` where it is relative.
+pub fn absolute(alloc: Global, current: &str, path: &str) -> CargoResult<String>
+    ensures text { IfOk result (λ s. IsAbsoluteOf current.now path.now (string_bytes s)) }
+    ensures refused { IfErr result IsMemory }
+{
+    let joined = join(alloc, current, path)?;
+    normal(alloc, joined.as_str())
+}
