@@ -37,5 +37,6 @@ apart-false xs ys h = elim (cases_Bool (bytes_eq xs ys)) [
 pub same-swap : (xs ys : List ℕ) → bytes_eq xs ys ≡ bytes_eq ys xs
 same-swap xs ys = elim (cases_Bool (bytes_eq xs ys)) [
   | inl same ↦ same ∙ sym (ap (bytes_eq ys) (same-eq xs ys same) ∙ same-refl ys)
-  | inr other ↦ other ∙ sym (apart-false ys xs (λ e. cc (sym (same-refl ys) ∙ ap (λ (z : List ℕ). bytes_eq z ys) e ∙ other)))
+  | inr other ↦ other ∙ sym
+      (apart-false ys xs (λ e. cc (sym (same-refl ys) ∙ ap (λ (z : List ℕ). bytes_eq z ys) e ∙ other)))
 ]

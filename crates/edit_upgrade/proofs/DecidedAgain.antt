@@ -25,22 +25,35 @@ use Rattle.edit_upgrade.proofs.TakenVersions.{far-some, far_text, near-some, nea
 -- ---- pinned entries
 
 -- pinning looks at operators alone
-pin-map : (cs : List Held) → list_any (λ (c : Held). is_pin c.0) cs ≡ list_any is_pin (map (λ (c : Held). c.0) cs)
+pin-map : (cs : List Held)
+    → list_any (λ (c : Held). is_pin c.0) cs ≡ list_any is_pin (map (λ (c : Held). c.0) cs)
 pin-map [] = refl
 pin-map (c ∷ cs) = ap (λ b. is_pin c.0 || b) (pin-map cs)
 
 -- requirements with the same operators pin alike
-pin-same : (old new : List ℕ) → HasSameOperators old new → has_pin_read (req_of new) ≡ has_pin_read (req_of old)
+pin-same : (old new : List ℕ) → HasSameOperators old new
+    → has_pin_read (req_of new) ≡ has_pin_read (req_of old)
 pin-same old new h =
-    let a : has_pin_read (req_of new) ≡ list_any is_pin (map (λ (c : Held). c.0) h.1) = ap has_pin_read h.3 ∙ pin-map h.1 in
-    let b : has_pin_read (req_of old) ≡ list_any is_pin (map (λ (c : Held). c.0) h.0) = ap has_pin_read h.2 ∙ pin-map h.0 in
+    let a : has_pin_read (req_of new) ≡ list_any is_pin (map (λ (c : Held). c.0) h.1) = ap has_pin_read h.3
+    ∙ pin-map h.1 in
+    let b : has_pin_read (req_of old) ≡ list_any is_pin (map (λ (c : Held). c.0) h.0) = ap has_pin_read h.2
+    ∙ pin-map h.0 in
     a ∙ ap (λ (l : List Op). list_any is_pin l) h.4 ∙ sym b
 
 -- ---- the second decision
 
 -- a case without a given requirement
 abbrev pub case_of : Bool → Bool → Bool → List ℕ → Option Parts → Option Parts → Case
-case_of x r m old near far = record { excluded = x; renamed = r; never_lower = m; selected = None; old = old; compatible = near; latest = far }
+case_of x r m old near far =
+    record {
+      excluded = x;
+      renamed = r;
+      never_lower = m;
+      selected = None;
+      old = old;
+      compatible = near;
+      latest = far;
+    }
 
 -- where words give no requirement, the decision for an entry is one without
 pub case-plain : (o : Options) (e : Seen) (old : List ℕ) (near far : Option Parts)
@@ -83,12 +96,14 @@ quiet-for true false a h = h
 quiet-for false low a h = refl
 
 -- where no other text can be written, the text stays
-stays : (o : Options) (x r m : Bool) (t : List ℕ) (near far : Option Parts) → when (jump o r t) (far_for m t far near) ≡ None
+stays : (o : Options) (x r m : Bool) (t : List ℕ) (near far : Option Parts)
+    → when (jump o r t) (far_for m t far near) ≡ None
     → when o.compatible (near_text t near) ≡ None → row_change t (row_of o (case_of x r m t near far)) ≡ None
 stays o x r m t near far h g = rw (h, g) (rest-none t x (is_ok (req_of t)))
 
 -- the latest version was written
-latest-row : (o : Options) (r m : Bool) (xs : List Parts) (old t : List ℕ) (near0 far0 near far : Option Parts) → All IsValid xs
+latest-row : (o : Options) (r m : Bool) (xs : List Parts) (old t : List ℕ)
+    (near0 far0 near far : Option Parts) → All IsValid xs
     → IsLatest old xs far0 → far_text old far0 near0 ≡ Some t → IsCompatible t xs near → IsLatest t xs far
     → row_change t (row_of o (case_of false r m t near far)) ≡ None
 latest-row o r m xs old t near0 far0 near far all islatest h isnear isfar =
@@ -109,27 +124,35 @@ self-none o r m old near far b h g =
     rw (b, h, g, self) refl
 
 -- after the compatible version was written, no later one that is not too low is
-for-compatible : (o : Options) (r m : Bool) (xs : List Parts) (old t : List ℕ) (u : Parts) (far0 far : Option Parts) → All IsValid xs
-    → raise old u ≡ Text t → IsCompatible old xs (Some u) → IsLatest old xs far0 → far_for m old far0 (Some u) ≡ None → IsLatest t xs far
+for-compatible : (o : Options) (r m : Bool) (xs : List Parts) (old t : List ℕ) (u : Parts)
+    (far0 far : Option Parts) → All IsValid xs
+    → raise old u ≡ Text t → IsCompatible old xs (Some u) → IsLatest old xs far0
+    → far_for m old far0 (Some u) ≡ None → IsLatest t xs far
     → when (jump o r t) (far_for m t far (Some u)) ≡ None
-for-compatible o r m xs old t u far0 far all raised near islatest none isfar = elim (cases_Bool (is_too_low m old (newer far0 (Some u)))) [
-  | inl low ↦
-      let again = low-again m xs old t u far0 far all raised near islatest low isfar in
-      rw again (when-none (jump o r t))
-  | inr high ↦
-      let first : far_text old far0 (Some u) ≡ None = rw high at none in
-      quiet-for (jump o r t) (is_too_low m t (newer far (Some u))) (far_text t far (Some u))
-      (compatible-far xs old t u far0 far all raised near islatest first isfar)
-]
+for-compatible o r m xs old t u far0 far all raised near islatest none isfar =
+    elim (cases_Bool (is_too_low m old (newer far0 (Some u)))) [
+      | inl low ↦
+          let again = low-again m xs old t u far0 far all raised near islatest low isfar in
+          rw again (when-none (jump o r t))
+      | inr high ↦
+          let first : far_text old far0 (Some u) ≡ None = rw high at none in
+          quiet-for (jump o r t) (is_too_low m t (newer far (Some u))) (far_text t far (Some u))
+          (compatible-far xs old t u far0 far all raised near islatest first isfar)
+    ]
 
 -- the compatible version was written
-compatible-row : (o : Options) (r m : Bool) (xs : List Parts) (old t : List ℕ) (u : Parts) (far0 near far : Option Parts) (raised : Raised)
-    → All IsValid xs → is_ok (req_of old) ≡ true → raise old u ≡ raised → text_or old raised ≡ Some t → IsCompatible old xs (Some u) → IsLatest old xs far0
-    → when (jump o r old) (far_for m old far0 (Some u)) ≡ None → when o.compatible (near_text old (Some u)) ≡ Some t
-    → IsCompatible t xs near → IsLatest t xs far → row_change t (row_of o (case_of false r m t near far)) ≡ None
+compatible-row : (o : Options) (r m : Bool) (xs : List Parts) (old t : List ℕ) (u : Parts)
+    (far0 near far : Option Parts) (raised : Raised)
+    → All IsValid xs → is_ok (req_of old) ≡ true → raise old u ≡ raised → text_or old raised ≡ Some t
+    → IsCompatible old xs (Some u) → IsLatest old xs far0
+    → when (jump o r old) (far_for m old far0 (Some u)) ≡ None
+    → when o.compatible (near_text old (Some u)) ≡ Some t
+    → IsCompatible t xs near → IsLatest t xs far
+    → row_change t (row_of o (case_of false r m t near far)) ≡ None
 compatible-row o r m xs old t u far0 near far Unread all b e h iscomp islatest none some isnear isfar = cc h
 compatible-row o r m xs old t u far0 near far Nothing all b e h iscomp islatest none some isnear isfar = cc h
-compatible-row o r m xs old t u far0 near far (Unsupported d) all b e h iscomp islatest none some isnear isfar =
+compatible-row o r m xs old t u far0 near far
+    (Unsupported d) all b e h iscomp islatest none some isnear isfar =
     let same : old ≡ t = cc h in
     let near1 = subst (λ (x : List ℕ). IsCompatible x xs near) (sym same) isnear in
     let far1 = subst (λ (x : List ℕ). IsLatest x xs far) (sym same) isfar in
@@ -139,14 +162,16 @@ compatible-row o r m xs old t u far0 near far (Unsupported d) all b e h iscomp i
     (self-none o r m old near far b
     (ap (λ (x : Option Parts). when (jump o r old) (far_for m old x near)) f
     ∙ ap (λ (x : Option Parts). when (jump o r old) (far_for m old far0 x)) n ∙ none)
-    (ap (λ (x : Option Parts). when o.compatible (near_text old x)) n ∙ some ∙ ap (λ (x : List ℕ). Some x) (sym same)))
+    (ap (λ (x : Option Parts). when o.compatible (near_text old x)) n ∙ some
+    ∙ ap (λ (x : List ℕ). Some x) (sym same)))
 compatible-row o r m xs old t u far0 near far (Text s) all b e h iscomp islatest none some isnear isfar =
     let same : s ≡ t = cc h in
     let raised : raise old u ≡ Text t = e ∙ ap Text same in
     let c = compatible-near xs old t u near all raised iscomp isnear in
     let valid = greatest-has IsValid (is_admitted old) xs u all iscomp in
     let pins = pin-same old t (form-of old u t (valid-version u valid) (text-outcome old u t raised)).0 in
-    let jumps : jump o r t ≡ jump o r old = ap (λ (p : Bool). if r || p then o.pinned else o.incompatible) pins in
+    let jumps : jump o r t ≡ jump o r old = ap
+    (λ (p : Bool). if r || p then o.pinned else o.incompatible) pins in
     let quiet : when (jump o r t) (far_for m t far near) ≡ None = elim (cases_Bool (jump o r old)) [
       | inl on ↦
           let first = when-on (jump o r old) (far_for m old far0 (Some u)) on none in
@@ -154,41 +179,50 @@ compatible-row o r m xs old t u far0 near far (Text s) all b e h iscomp islatest
           ∙ for-compatible o r m xs old t u far0 far all raised iscomp islatest first isfar
       | inr off ↦ when-off (jump o r t) (far_for m t far near) (jumps ∙ off)
     ] in
-    stays o false r m t near far quiet (ap (λ (x : Option (List ℕ)). when o.compatible x) c.1 ∙ when-none o.compatible)
+    stays o false r m t near far quiet
+    (ap (λ (x : Option (List ℕ)). when o.compatible x) c.1 ∙ when-none o.compatible)
 
 -- the text that stands in a row that was the first to hold
 abbrev stands : Bool → List ℕ → Bool → Option (List ℕ) → Option (List ℕ) → List ℕ
 stands x old b l c = row_text old (first_row x None b l c)
 
 -- whichever text the entry got, it stays
-rows : (o : Options) (x r m : Bool) (xs : List Parts) (old : List ℕ) (near0 far0 near far : Option Parts) (b : Bool) (l c : Option (List ℕ))
+rows : (o : Options) (x r m : Bool) (xs : List Parts) (old : List ℕ) (near0 far0 near far : Option Parts)
+    (b : Bool) (l c : Option (List ℕ))
     → All IsValid xs → IsCompatible old xs near0 → IsLatest old xs far0
-    → is_ok (req_of old) ≡ b → when (jump o r old) (far_for m old far0 near0) ≡ l → when o.compatible (near_text old near0) ≡ c
+    → is_ok (req_of old) ≡ b → when (jump o r old) (far_for m old far0 near0) ≡ l
+    → when o.compatible (near_text old near0) ≡ c
     → IsCompatible (stands x old b l c) xs near → IsLatest (stands x old b l c) xs far
     → row_change (stands x old b l c) (row_of o (case_of x r m (stands x old b l c) near far)) ≡ None
 rows o true r m xs old near0 far0 near far b l c all iscomp islatest p q s isnear isfar = refl
 rows o false r m xs old near0 far0 near far false l c all iscomp islatest p q s isnear isfar = rw p refl
 rows o false r m xs old near0 far0 near far true (Some t) c all iscomp islatest p q s isnear isfar =
-    let u = unless-some (is_too_low m old (newer far0 near0)) (far_text old far0 near0) t (when-some (jump o r old) (far_for m old far0 near0) t q) in
+    let u = unless-some (is_too_low m old (newer far0 near0)) (far_text old far0 near0) t
+    (when-some (jump o r old) (far_for m old far0 near0) t q) in
     latest-row o r m xs old t near0 far0 near far all islatest u.1 isnear isfar
 rows o false r m xs old near0 far0 near far true None (Some t) all iscomp islatest p q s isnear isfar =
     let n = near-some o old t near0 s in
     let first = subst (λ (y : Option Parts). IsCompatible old xs y) n.1 iscomp in
     let none = subst (λ (y : Option Parts). when (jump o r old) (far_for m old far0 y) ≡ None) n.1 q in
     let some = subst (λ (y : Option Parts). when o.compatible (near_text old y) ≡ Some t) n.1 s in
-    compatible-row o r m xs old t n.0 far0 near far (raise old n.0) all p refl n.2 first islatest none some isnear isfar
+    compatible-row o r m xs old t n.0 far0 near far
+    (raise old n.0) all p refl n.2 first islatest none some isnear isfar
 rows o false r m xs old near0 far0 near far true None None all iscomp islatest p q s isnear isfar =
     let n : near ≡ near0 = greatest-same (is_admitted old) xs near near0 isnear iscomp in
     let f : far ≡ far0 = greatest-same (is_offered old) xs far far0 isfar islatest in
     stays o false r m old near far
-    (ap (λ (y : Option Parts). when (jump o r old) (far_for m old y near)) f ∙ ap (λ (y : Option Parts). when (jump o r old) (far_for m old far0 y)) n ∙ q)
+    (ap (λ (y : Option Parts). when (jump o r old) (far_for m old y near)) f
+    ∙ ap (λ (y : Option Parts). when (jump o r old) (far_for m old far0 y)) n ∙ q)
     (ap (λ (y : Option Parts). when o.compatible (near_text old y)) n ∙ s)
 
 -- the requirement that an entry got, decided again, stays
-pub again : (o : Options) (x r m : Bool) (xs : List Parts) (old : List ℕ) (near0 far0 near far : Option Parts) → All IsValid xs
+pub again : (o : Options) (x r m : Bool) (xs : List Parts) (old : List ℕ)
+    (near0 far0 near far : Option Parts) → All IsValid xs
     → IsCompatible old xs near0 → IsLatest old xs far0
-    → IsCompatible (decision o (case_of x r m old near0 far0)).new xs near → IsLatest (decision o (case_of x r m old near0 far0)).new xs far
+    → IsCompatible (decision o (case_of x r m old near0 far0)).new xs near
+    → IsLatest (decision o (case_of x r m old near0 far0)).new xs far
     → (decision o (case_of x r m (decision o (case_of x r m old near0 far0)).new near far)).change ≡ None
 again o x r m xs old near0 far0 near far all iscomp islatest isnear isfar =
-    rows o x r m xs old near0 far0 near far (is_ok (req_of old)) (when (jump o r old) (far_for m old far0 near0)) (when o.compatible (near_text old near0))
+    rows o x r m xs old near0 far0 near far (is_ok (req_of old))
+    (when (jump o r old) (far_for m old far0 near0)) (when o.compatible (near_text old near0))
     all iscomp islatest refl refl refl isnear isfar

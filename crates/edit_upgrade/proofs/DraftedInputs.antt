@@ -1,20 +1,22 @@
 -- What is said of a plan of inputs, from what is planned of each.
-use Rattle.std.proofs.Common.{◌≡◌, List, ℕ, Some, ◌<◌, refl, sym, subst, length, map, arith}
+use Rattle.std.proofs.Common.{◌≡◌, List, ℕ, Some, ◌<◌, ◌∙◌, ap, refl, sym, subst, length, map, arith}
 use Rattle.std.specs.Prelude.{All, option_map, slice_get}
 use Rattle.std.specs.Global.{Vec}
 use Rattle.edit_tree.specs.Tree.{view_at}
 use Rattle.edit_metadata.specs.declared.input.Input.{Input}
 use Rattle.edit_report.specs.declared.output.Output.{Output}
 use Rattle.edit_report.specs.declared.row.Row.{Row}
-use Rattle.edit_sources.specs.Index.{Outcomes}
 use Rattle.edit_sources.specs.declared.config.Config.{Config}
 use Rattle.edit_version.specs.RustVersions.{numbers_of}
+use Rattle.edit_upgrade.specs.Caches.{CacheView}
 use Rattle.edit_upgrade.specs.Drafts.{ArePlanned, IsDraft, lines_on}
-use Rattle.edit_upgrade.specs.Headline.{IsSettled, NeedsAsBefore}
+use Rattle.edit_upgrade.specs.Headline.{IsSettled, KeepsFloor, LatestIsNotLess, Narrows, NeedsAsBefore, Reaches}
 use Rattle.edit_upgrade.specs.Inputs.{EachInput, Setting, below, outputs_at, path_of, rows_of, setting_of}
 use Rattle.edit_upgrade.specs.Lines.{line_of}
-use Rattle.edit_upgrade.specs.Lists.{warning_view}
-use Rattle.edit_upgrade.specs.Looks.{AreLooks, Kept}
+use Rattle.edit_upgrade.specs.Lists.{Tells, warning_view}
+use Rattle.edit_upgrade.specs.Looks.{AreLooks}
+use Rattle.edit_upgrade.specs.Missing.{TellsMissing}
+use Rattle.edit_upgrade.specs.Plans.{HasLooks, IsPlan}
 use Rattle.edit_upgrade.specs.Records.{seen}
 use Rattle.edit_upgrade.specs.Rows.{Line}
 use Rattle.edit_upgrade.specs.Upgraded.{HasItsOutputs, HasItsRows, HasItsWarnings, HasRows, IsNeeded}
@@ -24,37 +26,37 @@ use Rattle.edit_upgrade.specs.declared.upgrade.Warning.{Warning}
 use Rattle.edit_upgrade.specs.declared.upgrade.Options.{Options}
 use Rattle.edit_upgrade.specs.declared.upgrade.UpgradePlan.{UpgradePlan}
 use Rattle.edit_upgrade.proofs.EndLemmas.{all-below, all-flat, each-some, get-some}
+use Rattle.edit_upgrade.proofs.HeadlineRows.{rows-floor, rows-latest, rows-narrow, rows-reach}
 use Rattle.edit_upgrade.proofs.PlannedAgain.{need-same, settled}
 use Rattle.edit_upgrade.proofs.WalkLemmas.{rows-told}
 
--- a plan that has all that was planned of the inputs, and the looks that they need
-pub record IsFinished (o : Options) (first : Outcomes) (old now : Kept) (inputs : List Input)
-    (configs : List (Vec Config)) (plan : UpgradePlan) : Type 0 where
-  pub planned : ArePlanned o now inputs configs (map line_of plan.rows.items) plan.outputs.items
+-- a plan that has all that was planned of the inputs, and the looks that they need, from a cache to another
+pub record IsFinished (o : Options) (inputs : List Input) (configs : List (Vec Config)) (old new : CacheView)
+    (plan : UpgradePlan) : Type 0 where
+  pub planned : ArePlanned o new.kept inputs configs (map line_of plan.rows.items) plan.outputs.items
       (map warning_view plan.warnings.items)
-  pub looks : AreLooks (IsNeeded inputs configs) first old now plan.looks.items
+  pub looks : HasLooks inputs configs old new plan
 
 -- the plan that a draft has
-pub finished-draft : (o : Options) (first : Outcomes) (old now : Kept) (inputs : List Input)
-    (configs : List (Vec Config)) (d : Draft) (plan : UpgradePlan)
-    → IsDraft o inputs configs first old now d → (plan.rows ≡ d.rows) × (plan.looks ≡ d.books.looks)
+pub finished-draft : (o : Options) (inputs : List Input) (configs : List (Vec Config)) (old new : CacheView)
+    (d : Draft) (plan : UpgradePlan) → IsDraft o inputs configs old.gives old.kept new.kept d
+    → (plan.rows ≡ d.rows) × (plan.looks ≡ d.books.looks)
     → (plan.outputs ≡ d.outputs) × (plan.warnings ≡ d.warnings)
-    → IsFinished o first old now inputs configs plan
-finished-draft o first old now inputs configs d plan h a b = record {
-  planned = subst (λ (rows : Vec Row). ArePlanned o now inputs configs (map line_of rows.items)
+    → IsFinished o inputs configs old new plan
+finished-draft o inputs configs old new d plan h a b = record {
+  planned = subst (λ (rows : Vec Row). ArePlanned o new.kept inputs configs (map line_of rows.items)
       plan.outputs.items (map warning_view plan.warnings.items)) (sym a.0)
-      (subst (λ (outputs : Vec Output). ArePlanned o now inputs configs (map line_of d.rows.items)
+      (subst (λ (outputs : Vec Output). ArePlanned o new.kept inputs configs (map line_of d.rows.items)
       outputs.items (map warning_view plan.warnings.items)) (sym b.0)
-      (subst (λ (warnings : Vec Warning). ArePlanned o now inputs configs (map line_of d.rows.items)
+      (subst (λ (warnings : Vec Warning). ArePlanned o new.kept inputs configs (map line_of d.rows.items)
       d.outputs.items (map warning_view warnings.items)) (sym b.1) h.planned));
-  looks = subst (λ (looks : Vec Look). AreLooks (IsNeeded inputs configs) first old now looks.items)
-      (sym a.1) h.so_far.looked;
+  looks = subst (λ (looks : Vec Look). AreLooks (IsNeeded inputs configs) old.gives old.kept new.kept
+      looks.items) (sym a.1) h.so_far.looked;
 }
 
-module _ (o : Options) (first : Outcomes) (old now : Kept) (inputs : List Input)
-    (configs : List (Vec Config)) (plan : UpgradePlan)
-    (h : IsFinished o first old now inputs configs plan) where
-  p : ArePlanned o now inputs configs (map line_of plan.rows.items) plan.outputs.items
+module _ (o : Options) (inputs : List Input) (configs : List (Vec Config)) (old new : CacheView)
+    (plan : UpgradePlan) (h : IsFinished o inputs configs old new plan) where
+  p : ArePlanned o new.kept inputs configs (map line_of plan.rows.items) plan.outputs.items
       (map warning_view plan.warnings.items)
   p = h.planned
 
@@ -67,7 +69,7 @@ module _ (o : Options) (first : Outcomes) (old now : Kept) (inputs : List Input)
         form = q.form;
         manifest = q.manifest;
         decided = rows-told (IsNeeded inputs configs) i o (option_map numbers_of x.rust_version) own.items
-            first old now plan.looks.items (seen (view_at q.form))
+            old.gives old.kept new.kept plan.looks.items (seen (view_at q.form))
             (lines_on i (map line_of plan.rows.items))
             (λ a n need. record {
               i = i;
@@ -88,30 +90,30 @@ module _ (o : Options) (first : Outcomes) (old now : Kept) (inputs : List Input)
   each-of P each i = each-some (slice_get inputs i) (slice_get configs i)
       (λ x own. P (setting_of i o x own.items plan.looks.items) x plan) (λ x own e f. each i x own e f)
 
-  pub all-rows_each : EachInput o inputs configs HasItsRows plan
+  all-rows_each : EachInput o inputs configs HasItsRows plan
   all-rows_each = each-of HasItsRows rows-at
 
-  pub all-outputs : EachInput o inputs configs HasItsOutputs plan
+  all-outputs : EachInput o inputs configs HasItsOutputs plan
   all-outputs = each-of HasItsOutputs (λ i x own e f. (p.each i x own e f).writes)
 
-  pub all-warnings : EachInput o inputs configs HasItsWarnings plan
+  all-warnings : EachInput o inputs configs HasItsWarnings plan
   all-warnings = each-of HasItsWarnings (λ i x own e f. (p.each i x own e f).warned)
 
-  pub all-settled : EachInput o inputs configs IsSettled plan
+  all-settled : EachInput o inputs configs IsSettled plan
   all-settled = each-of IsSettled (λ i x own e f. settled (setting_of i o x own.items plan.looks.items)
       (path_of x) x.bytes.items (rows_of i plan)
       (outputs_at (path_of x) plan) (rows-at i x own e f) (p.each i x own e f).writes)
 
-  pub all-needs : EachInput o inputs configs NeedsAsBefore plan
+  all-needs : EachInput o inputs configs NeedsAsBefore plan
   all-needs = each-of NeedsAsBefore (λ i x own e f. need-same (setting_of i o x own.items plan.looks.items)
       (path_of x) x.bytes.items (rows_of i plan)
       (outputs_at (path_of x) plan) (rows-at i x own e f) (p.each i x own e f).writes)
 
   -- what holds of the rows of each input under these options holds of all rows
-  pub all-lines_under : (P : Line → Type 0) → length configs ≡ length inputs
-      → ((s : Setting) (bytes : List ℕ) (lines : List Line) → s.options ≡ o → HasRows s bytes lines → All P lines)
-      → All P (map line_of plan.rows.items)
-  all-lines_under P long each =
+  all-lines : (P : Line → Type 0) → length configs ≡ length inputs
+      → ((s : Setting) (bytes : List ℕ) (lines : List Line) → s.options ≡ o → HasRows s bytes lines
+      → All P lines) → All P (map line_of plan.rows.items)
+  all-lines P long each =
       subst (λ (l : List Line). All P l) (sym p.rows_in_order)
       (all-flat P (λ i. rows_of i plan) (below (length inputs))
       (all-below (λ i. All P (rows_of i plan)) (length inputs) (λ i low.
@@ -121,8 +123,23 @@ module _ (o : Options) (first : Outcomes) (old now : Kept) (inputs : List Input)
       each (setting_of i o x.0 own.0.items plan.looks.items) x.0.bytes.items (rows_of i plan) refl
       (rows-at i x.0 own.0 x.1 own.1))))
 
-  -- what holds of the rows of each input holds of all rows
-  pub all-lines : (P : Line → Type 0) → length configs ≡ length inputs
-      → ((s : Setting) (bytes : List ℕ) (lines : List Line) → HasRows s bytes lines → All P lines)
-      → All P (map line_of plan.rows.items)
-  all-lines P long each = all-lines_under P long (λ s bytes lines same h. each s bytes lines h)
+  -- the plan has each promise, where its lists and its missing names are told
+  pub plan-of : length configs ≡ length inputs → Tells plan → TellsMissing o inputs plan
+      → IsPlan o inputs configs old new plan
+  plan-of long lists missing = record {
+    rows = all-rows_each;
+    rows_in_order = p.rows_in_order;
+    outputs = all-outputs;
+    outputs_in_order = p.outputs_in_order;
+    warnings = all-warnings;
+    narrowing = all-lines Narrows long (λ s bytes lines same k. rows-narrow s bytes lines k);
+    reach = all-lines Reaches long (λ s bytes lines same k. rows-reach s bytes lines k);
+    latest = all-lines LatestIsNotLess long (λ s bytes lines same k. rows-latest s bytes lines k);
+    never_lower = λ on. all-lines KeepsFloor long
+        (λ s bytes lines same k. rows-floor s bytes lines (ap (λ (x : Options). x.never_lower) same ∙ on) k);
+    fixed_point = all-settled;
+    needs = all-needs;
+    missing = missing;
+    looks = h.looks;
+    lists = lists;
+  }

@@ -25,13 +25,16 @@ seen-some None h = h
 seen-some (Some k) h = h
 
 -- the other answers stay
-pub others-of : (at name : List ℕ) (old new : Held) → ((a n : List ℕ) → (a ≢ at) ⊎ (n ≢ name) → new a n ≡ old a n)
+pub others-of : (at name : List ℕ) (old new : Held)
+    → ((a n : List ℕ) → (a ≢ at) ⊎ (n ≢ name) → new a n ≡ old a n)
     → (a n : List ℕ) → (bytes_eq at a && bytes_eq name n) ≡ false → seen_in new a n ≡ seen_in old a n
 others-of at name old new h a n e = ap (option_map answer_of) (h a n (apart at a name n e))
 
 -- an answer that was kept stays
-pub stays-of : (at name : List ℕ) (old new : Held) → ((a n : List ℕ) → (a ≢ at) ⊎ (n ≢ name) → new a n ≡ old a n)
-    → (IsSome (old at name) → (a n : List ℕ) → new a n ≡ old a n) → (a n : List ℕ) → IsSome (seen_in old a n) → seen_in new a n ≡ seen_in old a n
+pub stays-of : (at name : List ℕ) (old new : Held)
+    → ((a n : List ℕ) → (a ≢ at) ⊎ (n ≢ name) → new a n ≡ old a n)
+    → (IsSome (old at name) → (a n : List ℕ) → new a n ≡ old a n) → (a n : List ℕ)
+    → IsSome (seen_in old a n) → seen_in new a n ≡ seen_in old a n
 stays-of at name old new h first a n some = elim (cases_Bool (bytes_eq at a && bytes_eq name n)) [
   | inl same ↦
       let b = both-true (bytes_eq at a) (bytes_eq name n) same in
@@ -51,33 +54,41 @@ seen-none (Some k) h = cc h
 abbrev Added : Outcomes → List ℕ → List ℕ → List ℕ → List ℕ → Option Answer → Type 0
 Added gives at name a n o = IfSome o (λ answer. IsAt at name a n × IsGiven gives a n answer)
 
-no-answer : (gives : Outcomes) (at name a n : List ℕ) (o : Option Answer) → o ≡ None → Added gives at name a n o
+no-answer : (gives : Outcomes) (at name a n : List ℕ) (o : Option Answer) → o ≡ None
+    → Added gives at name a n o
 no-answer gives at name a n o e = subst (λ (x : Option Answer). Added gives at name a n x) (sym e) tt
 
 -- an answer that the index gave
-given-one : (gives : Outcomes) (address : url.Parts) (name : List ℕ) (o : Option (Option IndexKrate)) → IfSome o (λ k. gives address name (Ok (answer_of k)))
+given-one : (gives : Outcomes) (address : url.Parts) (name : List ℕ) (o : Option (Option IndexKrate))
+    → IfSome o (λ k. gives address name (Ok (answer_of k)))
     → Added gives (serialize address) name (serialize address) name (option_map answer_of o)
 given-one gives address name None h = tt
 given-one gives address name (Some k) h = ((refl, refl), record { registry = address; at = refl; given = h })
 
 -- the answer at the pair that was looked up
-added-here : {T : Type 0} (r : Result T Error) (gives : Outcomes) (address : url.Parts) (name : List ℕ) (old new : Option (Option IndexKrate)) → old ≡ None
+added-here : {T : Type 0} (r : Result T Error) (gives : Outcomes) (address : url.Parts) (name : List ℕ)
+    (old new : Option (Option IndexKrate)) → old ≡ None
     → OnOk r (IfSome new (λ k. gives address name (Ok (answer_of k)))) → OnErr r (new ≡ old)
     → Added gives (serialize address) name (serialize address) name (option_map answer_of new)
 added-here (Ok x) gives address name old new none given same = given-one gives address name new given
 added-here (Err e) gives address name old new none given same =
-    no-answer gives (serialize address) name (serialize address) name (option_map answer_of new) (ap (option_map answer_of) (same ∙ none))
+    no-answer gives (serialize address) name (serialize address) name (option_map answer_of new)
+    (ap (option_map answer_of) (same ∙ none))
 
-on-err-at : {T : Type 0} (r : Result T Error) (old new : Held) (a n : List ℕ) → OnErr r ((x y : List ℕ) → new x y ≡ old x y) → OnErr r (new a n ≡ old a n)
+on-err-at : {T : Type 0} (r : Result T Error) (old new : Held) (a n : List ℕ)
+    → OnErr r ((x y : List ℕ) → new x y ≡ old x y) → OnErr r (new a n ≡ old a n)
 on-err-at (Ok x) old new a n h = tt
 on-err-at (Err e) old new a n h = h a n
 
 -- what a look adds, also one that is refused
-pub adds-of : {T : Type 0} (r : Result T Error) (gives : Outcomes) (address : url.Parts) (name : List ℕ) (old new : Held)
+pub adds-of : {T : Type 0} (r : Result T Error) (gives : Outcomes) (address : url.Parts) (name : List ℕ)
+    (old new : Held)
     → ((a n : List ℕ) → (a ≢ serialize address) ⊎ (n ≢ name) → new a n ≡ old a n)
     → (IsSome (old (serialize address) name) → (a n : List ℕ) → new a n ≡ old a n)
-    → (old (serialize address) name ≡ None → OnOk r (IfSome (new (serialize address) name) (λ k. gives address name (Ok (answer_of k)))))
-    → OnErr r ((a n : List ℕ) → new a n ≡ old a n) → AddsNeeded (IsAt (serialize address) name) gives (seen_in old) (seen_in new)
+    → (old (serialize address) name ≡ None
+    → OnOk r (IfSome (new (serialize address) name) (λ k. gives address name (Ok (answer_of k)))))
+    → OnErr r ((a n : List ℕ) → new a n ≡ old a n)
+    → AddsNeeded (IsAt (serialize address) name) gives (seen_in old) (seen_in new)
 adds-of r gives address name old new h first given same = record {
   stays = stays-of (serialize address) name old new h first;
   added = λ a n none. elim (cases_Bool (bytes_eq (serialize address) a && bytes_eq name n)) [
@@ -86,12 +97,16 @@ adds-of r gives address name old new h first given same = record {
         let at : serialize address ≡ a = same-eq (serialize address) a b.0 in
         let of : name ≡ n = same-eq name n b.1 in
         let was : old (serialize address) name ≡ None =
-        subst (λ (x : List ℕ). old x name ≡ None) (sym at) (subst (λ (y : List ℕ). old a y ≡ None) (sym of) (seen-none (old a n) none)) in
-        let there = added-here r gives address name (old (serialize address) name) (new (serialize address) name) was (given was)
+        subst (λ (x : List ℕ). old x name ≡ None) (sym at)
+        (subst (λ (y : List ℕ). old a y ≡ None) (sym of) (seen-none (old a n) none)) in
+        let there = added-here r gives address name (old (serialize address) name)
+        (new (serialize address) name) was (given was)
         (on-err-at r old new (serialize address) name same) in
         subst (λ (x : List ℕ). Added gives (serialize address) name x n (seen_in new x n)) at
-        (subst (λ (y : List ℕ). Added gives (serialize address) name (serialize address) y (seen_in new (serialize address) y)) of there)
+        (subst (λ (y : List ℕ). Added gives (serialize address) name (serialize address) y
+        (seen_in new (serialize address) y)) of there)
     | inr other ↦
-        no-answer gives (serialize address) name a n (seen_in new a n) (others-of (serialize address) name old new h a n other ∙ none)
+        no-answer gives (serialize address) name a n (seen_in new a n)
+        (others-of (serialize address) name old new h a n other ∙ none)
   ];
 }

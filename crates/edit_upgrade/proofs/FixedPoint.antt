@@ -1,5 +1,5 @@
 -- Planned again on what a plan wrote, over the same versions, no row has a change.
-use Rattle.std.proofs.Common.{◌≡◌, ◌++◌, ◌∷◌, ◌+◌, suc, arith, [], List, ℕ, Option, Some, None, Bool, true, false, refl, ap, ◌∙◌, sym, subst, inl, inr, append-nil, append_assoc}
+use Rattle.std.proofs.Common.{◌≡◌, ◌∷◌, ◌+◌, suc, arith, [], List, ℕ, Option, Some, None, Bool, true, false, refl, ap, ◌∙◌, sym, subst, inl, inr}
 use Rattle.std.specs.Prelude.{All, ◌==◌, is_ok, is_some, nat_eq}
 use Rattle.std.specs.Cmp.Lexicographic.{pointwise}
 use Rattle.std.specs.List.{AllByRecursion, AllZip, position_or_len}
@@ -9,14 +9,11 @@ use Rattle.semver.specs.Grammar.{IsValid}
 use Rattle.semver.specs.OrderLaws.{same_text}
 use Rattle.semver.specs.Parse.{Parts, req_of}
 use Rattle.edit_tree.specs.Assertions.{Place}
-use Rattle.edit_version.specs.Greatest.{IsGreatest, advance}
 use Rattle.edit_version.specs.Laws.{holds_plus}
 use Rattle.edit_version.specs.Requirement.{Nothing, Raised, Text, Unread, Unsupported, cut, plain_text, raise}
 use Rattle.edit_version.specs.Selection.{IsCompatible, IsLatest, is_admitted, is_offered}
-use Rattle.edit_version.specs.VersionOrder.{full_order}
-use Rattle.edit_version.proofs.Greatests.{advanced}
 use Rattle.edit_version.proofs.NoPlus.{cut-none, plain-whole, raised-whole}
-use Rattle.edit_version.proofs.Orders.{full_total, greatest-has}
+use Rattle.edit_version.proofs.Orders.{greatest-has}
 use Rattle.edit_version.proofs.Outcomes.{valid-version}
 use Rattle.edit_sources.proofs.AddressLemmas.{one_url}
 use Rattle.url.specs.Parts as url
@@ -28,7 +25,7 @@ use Rattle.edit_upgrade.specs.Looks.{told}
 use Rattle.edit_upgrade.specs.Records.{Seen, at_registry}
 use Rattle.edit_sources.specs.Configured.{HasAddress}
 use Rattle.edit_sources.specs.declared.config.Config.{Config}
-use Rattle.edit_upgrade.specs.Rows.{AreVersionsFor, Basis, IsDecided, IsRowOver, Line, Needs, case_for, dashes, elsewhere, is_elsewhere, line_for, told_there, write_at, write_on}
+use Rattle.edit_upgrade.specs.Rows.{AreVersionsFor, IsDecided, IsRowOver, Line, Needs, case_for, elsewhere, is_elsewhere, told_there, write_at, write_on}
 use Rattle.edit_upgrade.specs.Upgraded.{IsRow, basis_of}
 use Rattle.edit_upgrade.specs.Words.{is_excluded, requirement_for}
 use Rattle.edit_report.specs.declared.row.Change.{Change}
@@ -37,59 +34,7 @@ use Rattle.edit_upgrade.proofs.DecidedAgain.{again, case-plain, case_of}
 use Rattle.edit_upgrade.proofs.HeadlineRows.{offered-valid}
 use Rattle.edit_upgrade.proofs.TakenVersions.{far-some, far_text, near-some, newer-latest, unless-some, when-some}
 use Rattle.edit_upgrade.proofs.WrittenEntries.{old_after, renew, renewed}
-
--- ---- there are rows for each list of entries
-
--- a list after another has a greatest version or none that is kept
-some-after : (keep : Parts → Bool) (back front : List Parts) (o : Option Parts) → IsGreatest keep full_order front o
-    → (best : Option Parts) × IsGreatest keep full_order (front ++ back) best
-some-after keep [] front o h = (o, subst (λ (l : List Parts). IsGreatest keep full_order l o) (sym (append-nil front)) h)
-some-after keep (x ∷ back) front o h =
-    let more = some-after keep back (front ++ x ∷ []) (advance keep full_order o x) (advanced keep full_order full_total front x o h) in
-    (more.0, subst (λ (l : List Parts). IsGreatest keep full_order l more.0) (append_assoc front (x ∷ []) back) more.1)
-
--- a list has a greatest version or none that is kept
-some-greatest : (keep : Parts → Bool) (xs : List Parts) → (best : Option Parts) × IsGreatest keep full_order xs best
-some-greatest keep xs = some-after keep xs [] None (All-nil (λ x. keep x ≡ false))
-
--- each entry with a requirement has a row
-some-line : (i : ℕ) (o : Options) (xs : List Parts) (e : Seen) (old : List ℕ) → (line : Line) × IsDecided i o xs e old line
-some-line i o xs e old =
-    let near = some-greatest (is_admitted old) xs in
-    let far = some-greatest (is_offered old) xs in (
-      line_for i e old near.0 far.0 (decision o (case_for o e old near.0 far.0)),
-      record { near = near.0; far = far.0; compatible = near.1; latest = far.1; is = refl },
-    )
-
--- so has each
-some-row : (i : ℕ) (o : Options) (xs : List Parts) (e : Seen) (old : Option (List ℕ)) → (line : Line) × IsRowOver i o xs e old line
-some-row i o xs e None = (dashes i o e, refl)
-some-row i o xs e (Some old) = some-line i o xs e old
-
--- an entry with another requirement takes the same versions
-pub other-versions : (b : Basis) (e f : Seen) (xs : List Parts) → f.name ≡ e.name → f.source ≡ e.source → AreVersionsFor b e xs → AreVersionsFor b f xs
-other-versions b e f xs name source (told_there address needs are) =
-    told_there address
-    (record { named = needs.named; source = source ∙ needs.source; has = needs.has; crate_name = refl })
-    (are ∙ ap (b.versions (serialize address)) (sym name))
-other-versions b e f xs name source (elsewhere other none) = elsewhere (ap is_elsewhere source ∙ other) none
-
--- the entries that rows leave have rows
-pub some-again : (s : Setting) (es : List Seen) (ls : List Line) → AllZip (IsRow s) es ls
-    → (ms : List Line) × AllZip (IsRow s) (renewed es ls) ms
-some-again s [] [] h = ([], tt)
-some-again s [] (l ∷ ls) h = absurd h
-some-again s (e ∷ es) [] h = absurd h
-some-again s (e ∷ es) (l ∷ ls) h =
-    let next = renew e l in
-    let first = some-row s.input s.options h.0.versions next next.old in
-    let row : IsRow s next first.0 = record {
-      versions = h.0.versions;
-      offered = other-versions (basis_of s) e next h.0.versions refl refl h.0.offered;
-      decided = first.1;
-    } in
-    let rest = some-again s es ls h.1 in
-    (first.0 ∷ rest.0, (row, rest.1))
+use Rattle.edit_upgrade.proofs.SomeRows.{other-versions}
 
 -- ---- the text of a row is cut already
 
@@ -109,7 +54,8 @@ pub cut-whole : (xs : List ℕ) → cut (cut xs) ≡ cut xs
 cut-whole xs = cut-none (cut xs) (cut-no_plus xs)
 
 -- a text that could be written is cut already
-whole-of : (old other : List ℕ) (v : Parts) (t : List ℕ) (r : Raised) → IsValid v → cut other ≡ other → raise old v ≡ r → text_or other r ≡ Some t → cut t ≡ t
+whole-of : (old other : List ℕ) (v : Parts) (t : List ℕ) (r : Raised) → IsValid v → cut other ≡ other
+    → raise old v ≡ r → text_or other r ≡ Some t → cut t ≡ t
 whole-of old other v t Unread valid e q h = cc h
 whole-of old other v t Nothing valid e q h = cc h
 whole-of old other v t (Unsupported d) valid e q h =
@@ -135,15 +81,19 @@ case-whole : (o : Options) (x r m : Bool) (xs : List Parts) (old : List ℕ) (ne
     → cut (decision o (case_of x r m old near far)).new ≡ (decision o (case_of x r m old near far)).new
 case-whole o x r m xs old near far all h ic il =
     let k = case_of x r m old near far in
-    whole-row x (is_ok (req_of old)) old (when (may_jump o k) (latest_text k)) (when o.compatible (compatible_text k)) h
+    whole-row x (is_ok (req_of old)) old (when (may_jump o k) (latest_text k))
+    (when o.compatible (compatible_text k)) h
     (λ t q.
-    let u = unless-some (is_too_low m old (newer far near)) (far_text old far near) t (when-some (may_jump o k) (latest_text k) t q) in
+    let u = unless-some (is_too_low m old (newer far near)) (far_text old far near) t
+    (when-some (may_jump o k) (latest_text k) t q) in
     let f = far-some old t far near u.1 in
-    let valid = greatest-has IsValid (is_offered old) xs f.0 all (subst (λ (y : Option Parts). IsLatest old xs y) (newer-latest far near f.0 f.1) il) in
+    let valid = greatest-has IsValid (is_offered old) xs f.0 all
+    (subst (λ (y : Option Parts). IsLatest old xs y) (newer-latest far near f.0 f.1) il) in
     whole-of old (plain_text f.0) f.0 t (raise old f.0) valid (plain-whole f.0 valid) refl f.2)
     (λ t q.
     let n = near-some o old t near q in
-    let valid = greatest-has IsValid (is_admitted old) xs n.0 all (subst (λ (y : Option Parts). IsCompatible old xs y) n.1 ic) in
+    let valid = greatest-has IsValid (is_admitted old) xs n.0 all
+    (subst (λ (y : Option Parts). IsCompatible old xs y) n.1 ic) in
     whole-of old old n.0 t (raise old n.0) valid h refl n.2)
 
 -- the same of an entry, where words give it no requirement
@@ -152,7 +102,8 @@ decided-whole : (o : Options) (xs : List Parts) (e : Seen) (old : List ℕ) (nea
     → IsCompatible old xs near → IsLatest old xs far
     → cut (decision o (case_for o e old near far)).new ≡ (decision o (case_for o e old near far)).new
 decided-whole o xs e old near far plain all h ic il =
-    subst (λ (k : Case). cut (decision o k).new ≡ (decision o k).new) (sym (case-plain o e old near far plain))
+    subst (λ (k : Case). cut (decision o k).new ≡ (decision o k).new)
+    (sym (case-plain o e old near far plain))
     (case-whole o (is_excluded o e.name) (is_some e.rename) o.never_lower xs old near far all h ic il)
 
 -- ---- the requirement that a row leaves
@@ -174,7 +125,8 @@ old-stays old (to_compatible text) h = same-stays old text _ h
 old-stays old kept h = refl
 
 -- so the row tells the old requirement
-line-stays : (i : ℕ) (o : Options) (xs : List Parts) (e : Seen) (old : List ℕ) (line : Line) → IsDecided i o xs e old line → line.change ≡ None → line.new ≡ Some old
+line-stays : (i : ℕ) (o : Options) (xs : List Parts) (e : Seen) (old : List ℕ) (line : Line)
+    → IsDecided i o xs e old line → line.change ≡ None → line.new ≡ Some old
 line-stays i o xs e old line d h =
     let k = case_for o e old d.near d.far in
     let q : row_change old (row_of o k) ≡ None = sym (ap (λ (l : Line). l.change) d.is) ∙ h in
@@ -189,7 +141,8 @@ none-written e line h = by-old e.old
     by-old (Some old) = rw h refl
 
 -- a row with a change writes its requirement
-some-written : (e : Seen) (old : List ℕ) (line : Line) (kind : Change) (new : List ℕ) → e.old ≡ Some old → line.change ≡ Some kind → line.new ≡ Some new
+some-written : (e : Seen) (old : List ℕ) (line : Line) (kind : Change) (new : List ℕ) → e.old ≡ Some old
+    → line.change ≡ Some kind → line.new ≡ Some new
     → write_on e line ≡ Some (e.literal, new)
 some-written e old line kind new q h n = rw (q, h, n) refl
 
@@ -212,8 +165,10 @@ new-by i o xs e old line (Some kind) plain all g h d q =
     let told : line.new ≡ Some new = ap (λ (l : Line). l.new) d.is in (
       new,
       told,
-      ap (λ (w : Option (Place × List ℕ)). record e { old = old_after w e.old }) (some-written e old line kind new g q told)
-          ∙ ap (λ (x : List ℕ). record e { old = Some x }) (decided-whole o xs e old d.near d.far plain all h d.compatible d.latest),
+      ap (λ (w : Option (Place × List ℕ)). record e { old = old_after w e.old })
+          (some-written e old line kind new g q told)
+          ∙ ap (λ (x : List ℕ). record e { old = Some x })
+          (decided-whole o xs e old d.near d.far plain all h d.compatible d.latest),
     )
 
 -- ---- decided again
@@ -223,7 +178,8 @@ some-same : (a b : List ℕ) → Some a ≡ Some b → a ≡ b
 some-same a b h = cc h
 
 -- one entry, decided on the requirement that its row left
-entry-again : (i : ℕ) (o : Options) (xs : List Parts) (e : Seen) (old : List ℕ) (line next : Line) (new : List ℕ)
+entry-again : (i : ℕ) (o : Options) (xs : List Parts) (e : Seen) (old : List ℕ) (line next : Line)
+    (new : List ℕ)
     → requirement_for o e.name ≡ None → All IsValid xs → IsDecided i o xs e old line → line.new ≡ Some new
     → IsDecided i o xs (record e { old = Some new }) new next → next.change ≡ None
 entry-again i o xs e old line next new plain all d n g =
@@ -241,52 +197,65 @@ entry-again i o xs e old line next new plain all d n g =
     ∙ ap (λ (t : List ℕ). (decision o (case_of x r o.never_lower t g.near g.far)).change) text
     ∙ again o x r o.never_lower xs old d.near d.far g.near g.far all d.compatible d.latest near far
 
-pub one-named : (e : Seen) (named other : Option (List ℕ)) → e.source ≡ at_registry named → e.source ≡ at_registry other → named ≡ other
+pub one-named : (e : Seen) (named other : Option (List ℕ)) → e.source ≡ at_registry named
+    → e.source ≡ at_registry other → named ≡ other
 one-named e named other p q = source-inj named other (sym p ∙ q)
   where
     source-inj : (a b : Option (List ℕ)) → at_registry a ≡ at_registry b → a ≡ b
     source-inj a b h = cc h
 
 -- the address that an entry needs is one
-pub one-address : (configs : List Config) (e : Seen) (a b : url.Parts) (n m : List ℕ) → Needs configs e a n → Needs configs e b m → a ≡ b
+pub one-address : (configs : List Config) (e : Seen) (a b : url.Parts) (n m : List ℕ) → Needs configs e a n
+    → Needs configs e b m → a ≡ b
 one-address configs e a b n m x y =
-    let has = subst (λ (r : Option (List ℕ)). HasAddress configs r b) (one-named e y.named x.named y.source x.source) y.has in
+    let has = subst (λ (r : Option (List ℕ)). HasAddress configs r b)
+    (one-named e y.named x.named y.source x.source) y.has in
     one_url configs x.named a b x.has has
 
 -- an entry of a registry is not one from elsewhere
-pub not-both : (e : Seen) (named : Option (List ℕ)) → e.source ≡ at_registry named → is_elsewhere e.source ≡ true → ⊥
+pub not-both : (e : Seen) (named : Option (List ℕ)) → e.source ≡ at_registry named
+    → is_elsewhere e.source ≡ true → ⊥
 not-both e named p q = cc (sym (ap is_elsewhere p) ∙ q)
 
 -- the versions that may be taken for an entry are the same
-same-versions : (s : Setting) (e : Seen) (xs ys : List Parts) → AreVersionsFor (basis_of s) e xs → AreVersionsFor (basis_of s) e ys → xs ≡ ys
+same-versions : (s : Setting) (e : Seen) (xs ys : List Parts) → AreVersionsFor (basis_of s) e xs
+    → AreVersionsFor (basis_of s) e ys → xs ≡ ys
 same-versions s e xs ys (told_there a needs are) (told_there b need is) =
-    are ∙ ap (λ (u : url.Parts). told s.rust s.looks (serialize u) e.name) (one-address s.configs e a b e.name e.name needs need) ∙ sym is
-same-versions s e xs ys (told_there a needs are) (elsewhere other none) = absurd (not-both e needs.named needs.source other)
-same-versions s e xs ys (elsewhere other none) (told_there b need is) = absurd (not-both e need.named need.source other)
+    are ∙ ap (λ (u : url.Parts). told s.rust s.looks (serialize u) e.name)
+    (one-address s.configs e a b e.name e.name needs need) ∙ sym is
+same-versions s e xs ys (told_there a needs are) (elsewhere other none) =
+    absurd (not-both e needs.named needs.source other)
+same-versions s e xs ys (elsewhere other none) (told_there b need is) =
+    absurd (not-both e need.named need.source other)
 same-versions s e xs ys (elsewhere other none) (elsewhere more nothing) = none ∙ sym nothing
 
 -- one entry by its requirement, where it has one
 row-again : (s : Setting) (e : Seen) (o : Option (List ℕ)) (l m : Line)
-    → requirement_for s.options e.name ≡ None → ((old : List ℕ) → e.old ≡ Some old → cut old ≡ old) → e.old ≡ o → IsRow s e l
+    → requirement_for s.options e.name ≡ None → ((old : List ℕ) → e.old ≡ Some old → cut old ≡ old)
+    → e.old ≡ o → IsRow s e l
     → IsRow s (renew e l) m → m.change ≡ None
 row-again s e None l m plain h q d g =
     let quiet : l.change ≡ None = ap (λ (x : Line). x.change)
     (subst (λ (x : Option (List ℕ)). IsRowOver s.input s.options d.versions e x l) q d.decided) in
-    let old : (renew e l).old ≡ None = ap (λ (w : Option (Place × List ℕ)). old_after w e.old) (none-written e l quiet) ∙ q in
-    ap (λ (x : Line). x.change) (subst (λ (x : Option (List ℕ)). IsRowOver s.input s.options g.versions (renew e l) x m) old g.decided)
+    let old : (renew e l).old ≡ None = ap (λ (w : Option (Place × List ℕ)). old_after w e.old)
+    (none-written e l quiet) ∙ q in
+    ap (λ (x : Line). x.change)
+    (subst (λ (x : Option (List ℕ)). IsRowOver s.input s.options g.versions (renew e l) x m) old g.decided)
 row-again s e (Some old) l m plain h q d g =
     let first = subst (λ (x : Option (List ℕ)). IsRowOver s.input s.options d.versions e x l) q d.decided in
     let valid = offered-valid s e d.versions d.offered in
     let n = new-by s.input s.options d.versions e old l l.change plain valid q (h old q) first refl in
     let next : Seen = record e { old = Some n.0 } in
     let row = subst (λ (x : Seen). IsRow s x m) n.2 g in
-    let same = same-versions s next row.versions d.versions row.offered (other-versions (basis_of s) e next d.versions refl refl d.offered) in
+    let same = same-versions s next row.versions d.versions row.offered
+    (other-versions (basis_of s) e next d.versions refl refl d.offered) in
     let again = subst (λ (ys : List Parts). IsDecided s.input s.options ys next n.0 m) same row.decided in
     entry-again s.input s.options d.versions e old l m n.0 plain valid first n.1 again
 
 -- all entries, decided on the requirements that their rows left
 pub all-again : (s : Setting) (es : List Seen) (ls ms : List Line)
-    → ((name : List ℕ) → requirement_for s.options name ≡ None) → AllByRecursion (λ e. (old : List ℕ) → e.old ≡ Some old → cut old ≡ old) es
+    → ((name : List ℕ) → requirement_for s.options name ≡ None)
+    → AllByRecursion (λ e. (old : List ℕ) → e.old ≡ Some old → cut old ≡ old) es
     → AllZip (IsRow s) es ls → AllZip (IsRow s) (renewed es ls) ms → All HasNoChange ms
 all-again s [] [] [] plain h d g = All-nil HasNoChange
 all-again s [] [] (m ∷ ms) plain h d g = absurd g

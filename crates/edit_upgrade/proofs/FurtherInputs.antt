@@ -12,6 +12,7 @@ use Rattle.edit_report.specs.declared.output.Output.{Output}
 use Rattle.edit_report.specs.declared.row.Row.{Row}
 use Rattle.edit_sources.specs.Index.{Outcomes, SameOutcomes}
 use Rattle.edit_sources.specs.declared.config.Config.{Config}
+use Rattle.edit_upgrade.specs.Caches.{CacheView, LeavesCache}
 use Rattle.edit_upgrade.specs.Drafts.{AddsInput, AreGiven, ArePlanned, IsDraft, IsPathAmong}
 use Rattle.edit_upgrade.specs.Inputs.{HaveDistinctPaths, output_path, path_of}
 use Rattle.edit_upgrade.specs.Lines.{line_of}
@@ -27,7 +28,7 @@ use Rattle.edit_upgrade.specs.declared.upgrade.Options.{Options}
 use Rattle.edit_upgrade.specs.declared.upgrade.Warning.{Warning}
 use Rattle.edit_upgrade.proofs.DraftLemmas.{planned-more}
 use Rattle.edit_upgrade.proofs.EndLemmas.{get-at, get-cases, get-front, get-last, get-of-taken}
-use Rattle.edit_upgrade.proofs.LookUpLemmas.{so-far-idle, so-far-start}
+use Rattle.edit_upgrade.proofs.LookUpLemmas.{leaves-more, so-far-idle, so-far-start}
 use Rattle.edit_upgrade.proofs.PlannedLemmas.{of-manifest}
 use Rattle.edit_upgrade.proofs.StepLemmas.{Also, steps-so-far}
 use Rattle.edit_upgrade.proofs.Steps.{taken-more}
@@ -172,32 +173,44 @@ path-new inputs k x apart low at j y e p =
     let here : get_or inputs k y ≡ x = get_or_from_slice_get inputs k x y at in
     apart j k y less low (ap path_of there ∙ p ∙ sym (ap path_of here))
 
-pub draft-next : (o : Options) (inputs : List Input) (configs : List (Vec Config)) (k : ℕ) (x : Input)
-    (own : Vec Config) (here : List Config) (first last : Outcomes)
-    (old now next : Kept) (d e : Draft) → length configs ≡ length inputs → HaveDistinctPaths inputs
-    → k < length inputs → x ≡ get_or inputs k x
-    → own ≡ get_or configs k own → here ≡ own.items → IsDraft o (take k inputs) (take k configs) first old
-    now d → SameOutcomes first last → Stays now next
-    → AddsInput k o x here last now next d e → AreKept (holds_pair e.books.pairs) next
-    → IsDraft o (take (k + 1) inputs) (take (k + 1) configs) first old next e
-draft-next o inputs configs k x own here first last old now next d e long apart low is own_is same_items
-    draft same stays adds kept =
-    let low_own : k < length configs = omega (arith, low, long) in
-    let le : k ≤ length inputs = omega (arith, low) in
-    let le_own : k ≤ length configs = omega (arith, low_own) in
+-- an input and its configurations at a place, as a loop over the inputs has them
+pub record IsInputAt (inputs : List Input) (configs : List (Vec Config)) (k : ℕ) (x : Input)
+    (own : Vec Config) (here : List Config) : Type 0 where
+  pub low : k < length inputs
+  pub own_low : k < length configs
+  pub is : x ≡ get_or inputs k x
+  pub own_is : own ≡ get_or configs k own
+  pub here_is : here ≡ own.items
+
+pub input-at : {inputs : List Input} {configs : List (Vec Config)} {k : ℕ} {x : Input} {own : Vec Config}
+    {here : List Config} → k < length inputs → length configs ≡ length inputs → x ≡ get_or inputs k x
+    → own ≡ get_or configs k own → here ≡ own.items → IsInputAt inputs configs k x own here
+input-at low long is own_is here_is =
+    record { low = low; own_low = omega (arith, low, long); is = is; own_is = own_is; here_is = here_is }
+
+-- the draft with it
+pub draft-next : (o : Options) {inputs : List Input} {configs : List (Vec Config)} {k : ℕ} {x : Input}
+    {own : Vec Config} {here : List Config} (was now next : CacheView) (d e : Draft)
+    → IsInputAt inputs configs k x own here → HaveDistinctPaths inputs
+    → IsDraft o (take k inputs) (take k configs) was.gives was.kept now.kept d
+    → SameOutcomes was.gives now.gives → Stays now.kept next.kept
+    → AddsInput k o x here now.gives now.kept next.kept d e → AreKept (holds_pair e.books.pairs) next.kept
+    → IsDraft o (take (k + 1) inputs) (take (k + 1) configs) was.gives was.kept next.kept e
+draft-next o {inputs} {configs} {k} {x} {own} was now next d e at apart draft same stays adds kept =
+    let le : k ≤ length inputs = omega (arith, at.low) in
+    let le_own : k ≤ length configs = omega (arith, at.own_low) in
     let short : length (take k inputs) ≡ k = length-take-le k inputs le in
     let short_own : length (take k configs) ≡ k = length-take-le k configs le_own in
-    let at = get-at inputs k x low is in
-    let own_adds : AddsInput (length (take k inputs)) o x own.items last now next d e =
-    subst (λ (n : ℕ). AddsInput n o x own.items last now next d e) (sym short)
-    (subst (λ (cs : List Config). AddsInput k o x cs last now next d e) same_items adds) in
-    let more = draft-more o (take k inputs) (take k configs) x own first last old now next d e draft same
-    stays own_adds kept (short_own ∙ sym short)
-    (path-new inputs k x apart low at) in
-    subst (λ (xs : List Input). IsDraft o xs (take (k + 1) configs) first old next e)
-    (sym (taken-more inputs k x low is))
-    (subst (λ (cs : List (Vec Config)). IsDraft o (take k inputs ++ x ∷ []) cs first old next e)
-    (sym (taken-more configs k own low_own own_is)) more)
+    let own_adds : AddsInput (length (take k inputs)) o x own.items now.gives now.kept next.kept d e =
+    subst (λ (n : ℕ). AddsInput n o x own.items now.gives now.kept next.kept d e) (sym short)
+    (subst (λ (cs : List Config). AddsInput k o x cs now.gives now.kept next.kept d e) at.here_is adds) in
+    let more = draft-more o (take k inputs) (take k configs) x own was.gives now.gives was.kept now.kept
+    next.kept d e draft same stays own_adds kept (short_own ∙ sym short)
+    (path-new inputs k x apart at.low (get-at inputs k x at.low at.is)) in
+    subst (λ (xs : List Input). IsDraft o xs (take (k + 1) configs) was.gives was.kept next.kept e)
+    (sym (taken-more inputs k x at.low at.is))
+    (subst (λ (cs : List (Vec Config)). IsDraft o (take k inputs ++ x ∷ []) cs was.gives was.kept next.kept e)
+    (sym (taken-more configs k own at.own_low at.own_is)) more)
 
 -- ---- the documents that are given
 
@@ -232,15 +245,23 @@ given-at inputs documents i x o (inr same) low is e =
     some-given o x (λ d f. given-by inputs documents i x d same (get-at inputs i x low is) (sym e ∙ f))
 
 -- what an input needs, the inputs need
-pub needed-at : (inputs : List Input) (configs : List (Vec Config)) (i : ℕ) (x : Input) (own : Vec Config)
-    (here : List Config) → length configs ≡ length inputs
-    → i < length inputs → x ≡ get_or inputs i x → own ≡ get_or configs i own → here ≡ own.items
-    → (a n : List ℕ) → IsNeededBy here x.bytes.items a n → IsNeeded inputs configs a n
-needed-at inputs configs i x own here long low is own_is same a n h = record {
-  i = i;
+needed-at : {inputs : List Input} {configs : List (Vec Config)} {k : ℕ} {x : Input} {own : Vec Config}
+    {here : List Config} → IsInputAt inputs configs k x own here → (a n : List ℕ)
+    → IsNeededBy here x.bytes.items a n → IsNeeded inputs configs a n
+needed-at {inputs} {configs} {k} {x} {own} at a n h = record {
+  i = k;
   input = x;
   own = own;
-  at = get-at inputs i x low is;
-  configured = get-at configs i own (omega (arith, low, long)) own_is;
-  needed = subst (λ (cs : List Config). IsNeededBy cs x.bytes.items a n) same h;
+  at = get-at inputs k x at.low at.is;
+  configured = get-at configs k own at.own_low at.own_is;
+  needed = subst (λ (cs : List Config). IsNeededBy cs x.bytes.items a n) at.here_is h;
 }
+
+-- what the calls for the inputs before it and for it leave
+pub left-next : {inputs : List Input} {configs : List (Vec Config)} {k : ℕ} {x : Input} {own : Vec Config}
+    {here : List Config} (was now next : CacheView) → IsInputAt inputs configs k x own here
+    → LeavesCache (IsNeeded inputs configs) was now → LeavesCache (IsNeededBy here x.bytes.items) now next
+    → LeavesCache (IsNeeded inputs configs) was next
+left-next {inputs} {configs} {k} {x} {own} {here} was now next at left more =
+    leaves-more (IsNeeded inputs configs) (IsNeededBy here x.bytes.items) was.gives now.gives next.gives
+    was.faults now.faults next.faults was.kept now.kept next.kept (needed-at at) left more

@@ -41,11 +41,14 @@ versions-valid rust (Some None) = All-nil IsValid
 versions-valid rust (Some (Some entries)) = all-valid rust entries
 
 -- so is each that may be taken for an entry
-pub offered-valid : (s : Setting) (e : Seen) (xs : List Parts) → AreVersionsFor (basis_of s) e xs → All IsValid xs
+pub offered-valid : (s : Setting) (e : Seen) (xs : List Parts) → AreVersionsFor (basis_of s) e xs
+    → All IsValid xs
 offered-valid s e xs (told_there address needs are) =
     subst (λ (ys : List Parts). All IsValid ys) (sym are)
-    (versions-valid s.rust (option_map (λ look. answer_of look.answer) (look_at s.looks (serialize address) e.name)))
-offered-valid s e xs (elsewhere other none) = subst (λ (ys : List Parts). All IsValid ys) (sym none) (All-nil IsValid)
+    (versions-valid s.rust
+    (option_map (λ look. answer_of look.answer) (look_at s.looks (serialize address) e.name)))
+offered-valid s e xs (elsewhere other none) =
+    subst (λ (ys : List Parts). All IsValid ys) (sym none) (All-nil IsValid)
 
 -- a requirement admits a version without its build metadata
 admits-plain : (text : List ℕ) (v : Parts) → Admits text v → Admits text (without_build v)
@@ -82,14 +85,16 @@ read-admits : (text : List ℕ) (v : Parts) → Admits text v → IsOk (req_of t
 read-admits text v a = rw a.1 refl
 
 -- a decided row narrows
-pub line-narrows : (i : ℕ) (o : Options) (xs : List Parts) (e : Seen) (old : List ℕ) (line : Line) → All IsValid xs → IsDecided i o xs e old line → Narrows line
+pub line-narrows : (i : ℕ) (o : Options) (xs : List Parts) (e : Seen) (old : List ℕ) (line : Line)
+    → All IsValid xs → IsDecided i o xs e old line → Narrows line
 line-narrows i o xs e old line all d =
     subst Narrows (sym d.is) (λ h.
     let n = narrowing o xs (case_for o e old d.near d.far) all d.compatible h in
     (read-admits (decision o (case_for o e old d.near d.far)).new n.0 n.2.0, λ v a. n.2.1 v a))
 
 -- a decided row reaches its version
-pub line-reaches : (i : ℕ) (o : Options) (xs : List Parts) (e : Seen) (old : List ℕ) (line : Line) → All IsValid xs → IsDecided i o xs e old line → Reaches line
+pub line-reaches : (i : ℕ) (o : Options) (xs : List Parts) (e : Seen) (old : List ℕ) (line : Line)
+    → All IsValid xs → IsDecided i o xs e old line → Reaches line
 line-reaches i o xs e old line all d =
     let c = case_for o e old d.near d.far in
     let there : Reaches (line_for i e old d.near d.far (decision o c)) = record {
@@ -98,13 +103,15 @@ line-reaches i o xs e old line all d =
           let near = subst (λ (x : Option Parts). IsCompatible old xs x) n.1 d.compatible in
           let valid = greatest-has IsValid (is_admitted old) xs n.0 all near in (
             without_build n.0,
-            subst (λ (x : Option Parts). IsVersionTold (option_map plain_text x) (without_build n.0)) (sym n.1) (told-plain n.0 valid),
+            subst (λ (x : Option Parts). IsVersionTold (option_map plain_text x) (without_build n.0))
+                (sym n.1) (told-plain n.0 valid),
             admits-plain (decision o c).new n.0 n.2.0,
           );
       latest = λ h.
           let r = reach o xs c all d.latest h in (
             without_build r.0,
-            subst (λ (x : Option Parts). IsVersionTold (option_map plain_text (or_else x d.near)) (without_build r.0)) (sym r.2) (told-plain r.0 r.1),
+            subst (λ (x : Option Parts). IsVersionTold (option_map plain_text (or_else x d.near))
+                (without_build r.0)) (sym r.2) (told-plain r.0 r.1),
             λ plain. admits-plain (decision o c).new r.0 (r.3 plain),
           );
     } in
@@ -112,16 +119,20 @@ line-reaches i o xs e old line all d =
 
 -- the latest version that a row tells, where there are both
 told-latest : (u v : Parts) → IsValid u → IsValid v → is_le (full_order u v) ≡ true
-    → (w : Parts) × IsVersionTold (option_map plain_text (or_else (newer (Some v) (Some u)) (Some u))) w × IsTrue (is_ge (precedence w (without_build u)))
+    → (w : Parts) × IsVersionTold (option_map plain_text (or_else (newer (Some v) (Some u)) (Some u))) w
+    × IsTrue (is_ge (precedence w (without_build u)))
 told-latest u v a b le = elim (cases_Bool (pointwise nat_eq (plain_text v) (plain_text u))) [
   | inl same ↦ (without_build u, rw same (told-plain u a), not-less-itself (without_build u))
   | inr other ↦ (without_build v, rw other (told-plain v b), not-less u v le)
 ]
 
 -- the two versions that a decided row tells
-latest-of : (xs : List Parts) (old : List ℕ) (near far : Option Parts) → All IsValid xs → IsCompatible old xs near → IsLatest old xs far
-    → IsSome (option_map plain_text near) → (u : Parts) × (v : Parts) × IsVersionTold (option_map plain_text near) u
-    × IsVersionTold (option_map plain_text (or_else (newer far near) near)) v × IsTrue (is_ge (precedence v u))
+latest-of : (xs : List Parts) (old : List ℕ) (near far : Option Parts) → All IsValid xs
+    → IsCompatible old xs near → IsLatest old xs far
+    → IsSome (option_map plain_text near)
+    → (u : Parts) × (v : Parts) × IsVersionTold (option_map plain_text near) u
+    × IsVersionTold (option_map plain_text (or_else (newer far near) near)) v
+    × IsTrue (is_ge (precedence v u))
 latest-of xs old None far all a b h = cc h
 latest-of xs old (Some u) far all a b h =
     let l = latest-not-less xs old u far a b in
@@ -132,12 +143,14 @@ latest-of xs old (Some u) far all a b h =
       without_build u,
       t.0,
       told-plain u valid,
-      subst (λ (x : Option Parts). IsVersionTold (option_map plain_text (or_else (newer x (Some u)) (Some u))) t.0) (sym l.1) t.1,
+      subst (λ (x : Option Parts). IsVersionTold
+          (option_map plain_text (or_else (newer x (Some u)) (Some u))) t.0) (sym l.1) t.1,
       t.2,
     )
 
 -- a decided row keeps its floor, where requirements are never to be lowered
-pub line-floor : (i : ℕ) (o : Options) (xs : List Parts) (e : Seen) (old : List ℕ) (line : Line) → o.never_lower ≡ true → All IsValid xs
+pub line-floor : (i : ℕ) (o : Options) (xs : List Parts) (e : Seen) (old : List ℕ) (line : Line)
+    → o.never_lower ≡ true → All IsValid xs
     → IsDecided i o xs e old line → KeepsFloor line
 line-floor i o xs e old line on all d =
     let c = case_for o e old d.near d.far in
@@ -148,8 +161,10 @@ line-floor i o xs e old line on all d =
     subst KeepsFloor (sym d.is) there
 
 -- a decided row's latest version is not less
-pub line-latest : (i : ℕ) (o : Options) (xs : List Parts) (e : Seen) (old : List ℕ) (line : Line) → All IsValid xs → IsDecided i o xs e old line → LatestIsNotLess line
-line-latest i o xs e old line all d = subst LatestIsNotLess (sym d.is) (latest-of xs old d.near d.far all d.compatible d.latest)
+pub line-latest : (i : ℕ) (o : Options) (xs : List Parts) (e : Seen) (old : List ℕ) (line : Line)
+    → All IsValid xs → IsDecided i o xs e old line → LatestIsNotLess line
+line-latest i o xs e old line all d =
+    subst LatestIsNotLess (sym d.is) (latest-of xs old d.near d.far all d.compatible d.latest)
 
 -- a row of dashes narrows nothing, reaches nothing and tells no version
 dashes-narrow : (i : ℕ) (o : Options) (e : Seen) → Narrows (dashes i o e)
@@ -168,46 +183,62 @@ dashes-floor i o e h f has = absurd has
 
 -- what holds of each decided row and of each row of dashes holds of a row
 row-has : (i : ℕ) (o : Options) (P : Line → Type 0) → ((e : Seen) → P (dashes i o e))
-    → ((xs : List Parts) (e : Seen) (old : List ℕ) (line : Line) → All IsValid xs → IsDecided i o xs e old line → P line)
-    → (xs : List Parts) (e : Seen) (old : Option (List ℕ)) (line : Line) → All IsValid xs → IsRowOver i o xs e old line → P line
+    → ((xs : List Parts) (e : Seen) (old : List ℕ) (line : Line) → All IsValid xs
+    → IsDecided i o xs e old line → P line)
+    → (xs : List Parts) (e : Seen) (old : Option (List ℕ)) (line : Line) → All IsValid xs
+    → IsRowOver i o xs e old line → P line
 row-has i o P d f xs e None line all h = subst P (sym h) (d e)
 row-has i o P d f xs e (Some old) line all h = f xs e old line all h
 
 -- so it holds of all rows
 all-rows : (s : Setting) (P : Line → Type 0) → ((e : Seen) → P (dashes s.input s.options e))
-    → ((xs : List Parts) (e : Seen) (old : List ℕ) (line : Line) → All IsValid xs → IsDecided s.input s.options xs e old line → P line)
+    → ((xs : List Parts) (e : Seen) (old : List ℕ) (line : Line) → All IsValid xs
+    → IsDecided s.input s.options xs e old line → P line)
     → (es : List Seen) (ls : List Line) → AllZip (IsRow s) es ls → All P ls
 all-rows s P d f [] [] h = All-nil P
 all-rows s P d f [] (l ∷ ls) h = absurd h
 all-rows s P d f (e ∷ es) [] h = absurd h
 all-rows s P d f (e ∷ es) (l ∷ ls) h =
-    All-cons P l ls (row-has s.input s.options P d f h.0.versions e e.old l (offered-valid s e h.0.versions h.0.offered) h.0.decided)
+    All-cons P l ls (row-has s.input s.options P d f h.0.versions e e.old l
+    (offered-valid s e h.0.versions h.0.offered) h.0.decided)
     (all-rows s P d f es ls h.1)
 
 -- the rows of a manifest narrow
-pub rows-narrow : (s : Setting) (bytes : List ℕ) (lines : List Line) → HasRows s bytes lines → All Narrows lines
+pub rows-narrow : (s : Setting) (bytes : List ℕ) (lines : List Line) → HasRows s bytes lines
+    → All Narrows lines
 rows-narrow s bytes lines h =
-    all-rows s Narrows (dashes-narrow s.input s.options) (λ xs e old line all d. line-narrows s.input s.options xs e old line all d) (seen (view_at h.form)) lines h.decided
+    all-rows s Narrows (dashes-narrow s.input s.options)
+    (λ xs e old line all d. line-narrows s.input s.options xs e old line all d)
+    (seen (view_at h.form)) lines h.decided
 
 -- they reach their versions
-pub rows-reach : (s : Setting) (bytes : List ℕ) (lines : List Line) → HasRows s bytes lines → All Reaches lines
+pub rows-reach : (s : Setting) (bytes : List ℕ) (lines : List Line) → HasRows s bytes lines
+    → All Reaches lines
 rows-reach s bytes lines h =
-    all-rows s Reaches (dashes-reach s.input s.options) (λ xs e old line all d. line-reaches s.input s.options xs e old line all d) (seen (view_at h.form)) lines h.decided
+    all-rows s Reaches (dashes-reach s.input s.options)
+    (λ xs e old line all d. line-reaches s.input s.options xs e old line all d)
+    (seen (view_at h.form)) lines h.decided
 
 -- their latest versions are not less
-pub rows-latest : (s : Setting) (bytes : List ℕ) (lines : List Line) → HasRows s bytes lines → All LatestIsNotLess lines
+pub rows-latest : (s : Setting) (bytes : List ℕ) (lines : List Line) → HasRows s bytes lines
+    → All LatestIsNotLess lines
 rows-latest s bytes lines h =
-    all-rows s LatestIsNotLess (dashes-latest s.input s.options) (λ xs e old line all d. line-latest s.input s.options xs e old line all d)
+    all-rows s LatestIsNotLess (dashes-latest s.input s.options)
+    (λ xs e old line all d. line-latest s.input s.options xs e old line all d)
     (seen (view_at h.form)) lines h.decided
 
 -- they keep their floors, where requirements are never to be lowered
-pub rows-floor : (s : Setting) (bytes : List ℕ) (lines : List Line) → s.options.never_lower ≡ true → HasRows s bytes lines → All KeepsFloor lines
+pub rows-floor : (s : Setting) (bytes : List ℕ) (lines : List Line) → s.options.never_lower ≡ true
+    → HasRows s bytes lines → All KeepsFloor lines
 rows-floor s bytes lines on h =
-    all-rows s KeepsFloor (dashes-floor s.input s.options) (λ xs e old line all d. line-floor s.input s.options xs e old line on all d)
+    all-rows s KeepsFloor (dashes-floor s.input s.options)
+    (λ xs e old line all d. line-floor s.input s.options xs e old line on all d)
     (seen (view_at h.form)) lines h.decided
 
 -- each is a row of its input
-pub rows-inputs : (s : Setting) (bytes : List ℕ) (lines : List Line) → HasRows s bytes lines → All (λ (line : Line). line.input ≡ s.input) lines
+pub rows-inputs : (s : Setting) (bytes : List ℕ) (lines : List Line) → HasRows s bytes lines
+    → All (λ (line : Line). line.input ≡ s.input) lines
 rows-inputs s bytes lines h =
-    all-rows s (λ (line : Line). line.input ≡ s.input) (λ e. refl) (λ xs e old line all d. ap (λ (l : Line). l.input) d.is)
+    all-rows s (λ (line : Line). line.input ≡ s.input) (λ e. refl)
+    (λ xs e old line all d. ap (λ (l : Line). l.input) d.is)
     (seen (view_at h.form)) lines h.decided

@@ -19,6 +19,7 @@ pub mod RaisedAgain
 pub mod LowAgain
 pub mod DecidedAgain
 pub mod WrittenEntries
+pub mod SomeRows
 pub mod FixedPoint
 pub mod PlannedAgain
 pub mod InputLemmas

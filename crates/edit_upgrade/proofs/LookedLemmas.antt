@@ -16,7 +16,8 @@ use Rattle.edit_upgrade.proofs.Bytes.{same-refl, same-swap}
 -- ---- a look more
 
 -- a look that a pair finds, or the new one if it is at that pair
-pub find-one : (a n : List ℕ) (look : Look) (b : Bool) → is_look_at a n look ≡ b → find (is_look_at a n) (look ∷ []) ≡ (if b then Some look else None)
+pub find-one : (a n : List ℕ) (look : Look) (b : Bool) → is_look_at a n look ≡ b
+    → find (is_look_at a n) (look ∷ []) ≡ (if b then Some look else None)
 find-one a n look b e = rw e refl
 
 pub look_at-more : (looks : List Look) (look : Look) (a n : List ℕ)
@@ -24,7 +25,8 @@ pub look_at-more : (looks : List Look) (look : Look) (a n : List ℕ)
 look_at-more looks look a n = find-append (is_look_at a n) looks (look ∷ [])
 
 -- whether a look is at a pair, by its own
-pub at-pair : (address name : List ℕ) (look : Look) → serialize look.registry ≡ address → string_bytes look.name ≡ name
+pub at-pair : (address name : List ℕ) (look : Look) → serialize look.registry ≡ address
+    → string_bytes look.name ≡ name
     → (a n : List ℕ) → is_look_at a n look ≡ (bytes_eq address a && bytes_eq name n)
 at-pair address name look p q a n = rw (p, q) refl
 
@@ -41,21 +43,27 @@ or-none None p h = (refl, h)
 or-none (Some x) p h = cc h
 
 -- a pair that was found is found
-pub found-stays : (looks : List Look) (look : Look) (a n : List ℕ) → IsSome (look_at looks a n) → IsSome (look_at (looks ++ look ∷ []) a n)
+pub found-stays : (looks : List Look) (look : Look) (a n : List ℕ) → IsSome (look_at looks a n)
+    → IsSome (look_at (looks ++ look ∷ []) a n)
 found-stays looks look a n h =
-    subst (λ (o : Option Look). IsSome o) (sym (look_at-more looks look a n)) (or-some (look_at looks a n) (find (is_look_at a n) (look ∷ [])) h)
+    subst (λ (o : Option Look). IsSome o) (sym (look_at-more looks look a n))
+    (or-some (look_at looks a n) (find (is_look_at a n) (look ∷ [])) h)
 
 -- the pair of the new look is found
-found-new : (looks : List Look) (look : Look) (a n : List ℕ) → look_at looks a n ≡ None → is_look_at a n look ≡ true
+found-new : (looks : List Look) (look : Look) (a n : List ℕ) → look_at looks a n ≡ None
+    → is_look_at a n look ≡ true
     → look_at (looks ++ look ∷ []) a n ≡ Some look
 found-new looks look a n none here =
-    look_at-more looks look a n ∙ or-last (look_at looks a n) (find (is_look_at a n) (look ∷ [])) none ∙ find-one a n look true here
+    look_at-more looks look a n ∙ or-last (look_at looks a n) (find (is_look_at a n) (look ∷ [])) none
+    ∙ find-one a n look true here
 
 -- a pair that none was at, nor the new look, is not found
-unfound : (looks : List Look) (look : Look) (a n : List ℕ) → look_at looks a n ≡ None → is_look_at a n look ≡ false
+unfound : (looks : List Look) (look : Look) (a n : List ℕ) → look_at looks a n ≡ None
+    → is_look_at a n look ≡ false
     → look_at (looks ++ look ∷ []) a n ≡ None
 unfound looks look a n none here =
-    look_at-more looks look a n ∙ or-last (look_at looks a n) (find (is_look_at a n) (look ∷ [])) none ∙ find-one a n look false here
+    look_at-more looks look a n ∙ or-last (look_at looks a n) (find (is_look_at a n) (look ∷ [])) none
+    ∙ find-one a n look false here
 
 some-not-none : (x : Look) → Some x ≡ None → ⊥
 some-not-none x h = cc h
@@ -63,15 +71,18 @@ some-not-none x h = cc h
 unfound-cases : (looks : List Look) (look : Look) (a n : List ℕ) → look_at (looks ++ look ∷ []) a n ≡ None
     → (look_at looks a n ≡ None) × (is_look_at a n look ≡ false)
 unfound-cases looks look a n h =
-    let b = or-none (look_at looks a n) (find (is_look_at a n) (look ∷ [])) (sym (look_at-more looks look a n) ∙ h) in
+    let b = or-none (look_at looks a n) (find (is_look_at a n) (look ∷ []))
+    (sym (look_at-more looks look a n) ∙ h) in
     (b.0, not-here (cases_Bool (is_look_at a n look)) b.1)
   where
-    not-here : (is_look_at a n look ≡ true) ⊎ (is_look_at a n look ≡ false) → find (is_look_at a n) (look ∷ []) ≡ None → is_look_at a n look ≡ false
+    not-here : (is_look_at a n look ≡ true) ⊎ (is_look_at a n look ≡ false)
+        → find (is_look_at a n) (look ∷ []) ≡ None → is_look_at a n look ≡ false
     not-here (inl here) e = absurd (some-not-none look (sym (find-one a n look true here) ∙ e))
     not-here (inr other) e = other
 
 -- where a pair is not found, no look is at it
-none-at : (a n : List ℕ) (looks : List Look) → look_at looks a n ≡ None → All (λ x. is_look_at a n x ≡ false) looks
+none-at : (a n : List ℕ) (looks : List Look) → look_at looks a n ≡ None
+    → All (λ x. is_look_at a n x ≡ false) looks
 none-at a n [] h = All-nil (λ x. is_look_at a n x ≡ false)
 none-at a n (x ∷ xs) h = elim (cases_Bool (is_look_at a n x)) [
   | inl here ↦ cc (rw here at h)
@@ -87,22 +98,27 @@ abbrev name_in : Look → List ℕ
 name_in look = string_bytes look.name
 
 -- where nothing is needed, no look was made
-pub looks-start : (Needed : List ℕ → List ℕ → Type 0) (gives : Outcomes) (old : Kept) → ((a n : List ℕ) → Needed a n → ⊥) → AreLooks Needed gives old old []
+pub looks-start : (Needed : List ℕ → List ℕ → Type 0) (gives : Outcomes) (old : Kept)
+    → ((a n : List ℕ) → Needed a n → ⊥) → AreLooks Needed gives old old []
 looks-start Needed gives old nothing = record {
   complete = λ a n h. absurd (nothing a n h);
   needed = All-nil (λ look. Needed (registry_of look) (name_in look));
   once = tt;
   as_kept = All-nil (λ look. old (registry_of look) (name_in look) ≡ Some (answer_of look.answer));
-  given = All-nil (λ look. (old (registry_of look) (name_in look) ≡ Some (answer_of look.answer)) ⊎ gives look.registry (name_in look) (Ok (answer_of look.answer)));
+  given = All-nil (λ look. (old (registry_of look) (name_in look) ≡ Some (answer_of look.answer))
+      ⊎ gives look.registry (name_in look) (Ok (answer_of look.answer)));
   others = λ a n h. refl;
 }
 
 -- where all that is needed more was looked up, the looks stay
-pub looks-again : (P Q : List ℕ → List ℕ → Type 0) (gives : Outcomes) (old now : Kept) (looks : List Look) → ((a n : List ℕ) → P a n → Q a n)
-    → ((a n : List ℕ) → Q a n → IsSome (look_at looks a n)) → AreLooks P gives old now looks → AreLooks Q gives old now looks
+pub looks-again : (P Q : List ℕ → List ℕ → Type 0) (gives : Outcomes) (old now : Kept) (looks : List Look)
+    → ((a n : List ℕ) → P a n → Q a n)
+    → ((a n : List ℕ) → Q a n → IsSome (look_at looks a n)) → AreLooks P gives old now looks
+    → AreLooks Q gives old now looks
 looks-again P Q gives old now looks wider found m = record {
   complete = found;
-  needed = All-weaker (λ look. P (registry_of look) (name_in look)) (λ look. Q (registry_of look) (name_in look))
+  needed = All-weaker (λ look. P (registry_of look) (name_in look))
+      (λ look. Q (registry_of look) (name_in look))
       (λ look h. wider (registry_of look) (name_in look) h) looks m.needed;
   once = m.once;
   as_kept = m.as_kept;
@@ -114,24 +130,31 @@ looks-again P Q gives old now looks wider found m = record {
 abbrev Far : List ℕ → List ℕ → Look → Type 0
 Far address name x = (bytes_eq address (registry_of x) && bytes_eq name (name_in x)) ≡ false
 
-far-from : (address name : List ℕ) (looks : List Look) → look_at looks address name ≡ None → All (Far address name) looks
+far-from : (address name : List ℕ) (looks : List Look) → look_at looks address name ≡ None
+    → All (Far address name) looks
 far-from address name looks none =
     All-weaker (λ x. is_look_at address name x ≡ false) (Far address name)
     (λ x p. ap (λ (b : Bool). b && bytes_eq name (name_in x)) (same-swap address (registry_of x))
-    ∙ ap (λ (b : Bool). bytes_eq (registry_of x) address && b) (same-swap name (name_in x)) ∙ p) looks (none-at address name looks none)
+    ∙ ap (λ (b : Bool). bytes_eq (registry_of x) address && b) (same-swap name (name_in x)) ∙ p) looks
+    (none-at address name looks none)
 
-apart-more : (address name : List ℕ) (look : Look) → registry_of look ≡ address → name_in look ≡ name → (looks : List Look)
+apart-more : (address name : List ℕ) (look : Look) → registry_of look ≡ address → name_in look ≡ name
+    → (looks : List Look)
     → All (Far address name) looks → AreApart looks → AreApart (looks ++ look ∷ [])
 apart-more address name look p q [] far h = (refl, tt)
 apart-more address name look p q (x ∷ xs) far h = (
-  unfound xs look (registry_of x) (name_in x) h.0 (at-pair address name look p q (registry_of x) (name_in x) ∙ All-head (Far address name) x xs far),
+  unfound xs look (registry_of x) (name_in x) h.0
+      (at-pair address name look p q (registry_of x) (name_in x) ∙ All-head (Far address name) x xs far),
   apart-more address name look p q xs (All-tail (Far address name) x xs far) h.1,
 )
 
 -- one look more, at a pair that is needed
-pub looks-more : (P Q : List ℕ → List ℕ → Type 0) (gives : Outcomes) (old now next : Kept) (looks : List Look) (look : Look) (address name : List ℕ)
-    → ((a n : List ℕ) → P a n → Q a n) → ((a n : List ℕ) → Q a n → P a n ⊎ ((a ≡ address) × (n ≡ name))) → Q address name
-    → look_at looks address name ≡ None → IsLook address name gives now next look → AreLooks P gives old now looks
+pub looks-more : (P Q : List ℕ → List ℕ → Type 0) (gives : Outcomes) (old now next : Kept)
+    (looks : List Look) (look : Look) (address name : List ℕ)
+    → ((a n : List ℕ) → P a n → Q a n) → ((a n : List ℕ) → Q a n → P a n ⊎ ((a ≡ address) × (n ≡ name)))
+    → Q address name
+    → look_at looks address name ≡ None → IsLook address name gives now next look
+    → AreLooks P gives old now looks
     → AreLooks Q gives old next (looks ++ look ∷ [])
 looks-more P Q gives old now next looks look address name wider cases pair none l m =
     let far = far-from address name looks none in
@@ -146,16 +169,22 @@ looks-more P Q gives old now next looks look address name wider cases pair none 
             (subst (λ (x : List ℕ). IsSome (look_at (looks ++ look ∷ []) address x)) (sym same.1) found)
       ];
       needed = All-push (λ x. Q (registry_of x) (name_in x)) looks look
-          (All-weaker (λ x. P (registry_of x) (name_in x)) (λ x. Q (registry_of x) (name_in x)) (λ x h. wider (registry_of x) (name_in x) h) looks m.needed)
-          (subst (λ (a : List ℕ). Q a (name_in look)) (sym l.at) (subst (λ (n : List ℕ). Q address n) (sym l.of_name) pair));
+          (All-weaker (λ x. P (registry_of x) (name_in x)) (λ x. Q (registry_of x) (name_in x))
+          (λ x h. wider (registry_of x) (name_in x) h) looks m.needed)
+          (subst (λ (a : List ℕ). Q a (name_in look)) (sym l.at)
+          (subst (λ (n : List ℕ). Q address n) (sym l.of_name) pair));
       once = apart-more address name look l.at l.of_name looks far m.once;
       as_kept = All-push (λ x. next (registry_of x) (name_in x) ≡ Some (answer_of x.answer)) looks look
           (λ k d h. l.others _ _ (far k d h) ∙ m.as_kept k d h)
-          (ap (λ (a : List ℕ). next a (name_in look)) l.at ∙ ap (λ (n : List ℕ). next address n) l.of_name ∙ l.kept);
-      given = All-push (λ x. (old (registry_of x) (name_in x) ≡ Some (answer_of x.answer)) ⊎ gives x.registry (name_in x) (Ok (answer_of x.answer))) looks look m.given
+          (ap (λ (a : List ℕ). next a (name_in look)) l.at ∙ ap (λ (n : List ℕ). next address n) l.of_name
+          ∙ l.kept);
+      given = All-push (λ x. (old (registry_of x) (name_in x) ≡ Some (answer_of x.answer))
+          ⊎ gives x.registry (name_in x) (Ok (answer_of x.answer))) looks look m.given
           (elim l.given [
-            | inl was ↦ inl (ap (λ (a : List ℕ). old a (name_in look)) l.at ∙ ap (λ (n : List ℕ). old address n) l.of_name ∙ sym (m.others address name none) ∙ was)
-            | inr gave ↦ inr (subst (λ (n : List ℕ). gives look.registry n (Ok (answer_of look.answer))) (sym l.of_name) gave)
+            | inl was ↦ inl (ap (λ (a : List ℕ). old a (name_in look)) l.at
+                ∙ ap (λ (n : List ℕ). old address n) l.of_name ∙ sym (m.others address name none) ∙ was)
+            | inr gave ↦ inr (subst (λ (n : List ℕ). gives look.registry n (Ok (answer_of look.answer)))
+                (sym l.of_name) gave)
           ]);
       others = λ a n h.
           let b = unfound-cases looks look a n h in

@@ -10,7 +10,9 @@ use Rattle.edit_upgrade.specs.Decided.{decision_by}
 use Rattle.edit_upgrade.specs.Floors.{begins_after, is_below, read_begins_after}
 use Rattle.edit_upgrade.specs.declared.upgrade.Options.{Options}
 
-pin-views : (cs : List Comparator) → list_any (λ (c : Comparator). is_pin c.op) cs ≡ list_any (λ (h : Held). is_pin h.0) (map comparator_view cs)
+pin-views : (cs : List Comparator)
+    → list_any (λ (c : Comparator). is_pin c.op) cs
+    ≡ list_any (λ (h : Held). is_pin h.0) (map comparator_view cs)
 pin-views [] = refl
 pin-views (c ∷ cs) = ap (λ b. is_pin c.op || b) (pin-views cs)
 
@@ -19,17 +21,20 @@ pub pin-read : (text : List ℕ) (cs : List Comparator) (b : Bool) → req_of te
 pin-read text cs b h e = e ∙ pin-views cs ∙ ap has_pin_read (sym h)
 
 -- whether comparators begin after a version, over what `semver` gives and over what a clause sees of it
-below-views : (v : Parts) (cs : List Comparator) → list_any (λ (c : Comparator). begins_after v (comparator_view c)) cs
+below-views : (v : Parts) (cs : List Comparator)
+    → list_any (λ (c : Comparator). begins_after v (comparator_view c)) cs
     ≡ list_any (begins_after v) (map comparator_view cs)
 below-views v [] = refl
 below-views v (c ∷ cs) = ap (λ b. begins_after v (comparator_view c) || b) (below-views v cs)
 
-pub below-read : (text : List ℕ) (cs : List Comparator) (v : Parts) (b : Bool) → req_of text ≡ Ok (map comparator_view cs)
+pub below-read : (text : List ℕ) (cs : List Comparator) (v : Parts) (b : Bool)
+    → req_of text ≡ Ok (map comparator_view cs)
     → b ≡ list_any (λ (c : Comparator). begins_after v (comparator_view c)) cs → b ≡ is_below text (Some v)
 below-read text cs v b h e = e ∙ below-views v cs ∙ ap (λ r. read_begins_after r v) (sym h)
 
 -- the decision, from the texts that could be written
-pub decision-is : (o : Options) (c : Case) (p r : Bool) (far near : Option (List ℕ)) → c.excluded ≡ false → p ≡ is_pinned c
+pub decision-is : (o : Options) (c : Case) (p r : Bool) (far near : Option (List ℕ)) → c.excluded ≡ false
+    → p ≡ is_pinned c
     → r ≡ is_ok (req_of c.old) → far ≡ latest_text c → near ≡ compatible_text c
     → decision_by o false p r c.selected c.old far near ≡ decision o c
 decision-is o c p r far near x hp hr hf hn = rw (x, hp, hr, hf, hn) refl

@@ -21,7 +21,8 @@ use Rattle.edit_upgrade.specs.Rows.{Line, with_write, writes}
 use Rattle.edit_upgrade.specs.Upgraded.{HasRows, IsNeededFor, IsNeededIn, IsRow}
 use Rattle.edit_upgrade.specs.Words.{WordsSelect}
 use Rattle.edit_report.specs.declared.output.Output.{Output}
-use Rattle.edit_upgrade.proofs.FixedPoint.{all-again, cut-whole, none-written, some-again}
+use Rattle.edit_upgrade.proofs.FixedPoint.{all-again, cut-whole, none-written}
+use Rattle.edit_upgrade.proofs.SomeRows.{some-again}
 use Rattle.edit_upgrade.proofs.SeenFacts.{Stands, mapped-all, seen-apart, seen-stands, writes-strings}
 use Rattle.edit_upgrade.proofs.WordLemmas.{none_given}
 use Rattle.edit_upgrade.proofs.WrittenEntries.{renew, renewed, written-seen}
@@ -37,11 +38,13 @@ quiet-writes : (es : List Seen) (ls : List Line) → All HasNoChange ls → writ
 quiet-writes [] ls h = refl
 quiet-writes (e ∷ es) [] h = refl
 quiet-writes (e ∷ es) (l ∷ ls) h =
-    ap (λ (o : Option (Place × List ℕ)). with_write o (writes es ls)) (none-written e l (All-head HasNoChange l ls h))
+    ap (λ (o : Option (Place × List ℕ)). with_write o (writes es ls))
+    (none-written e l (All-head HasNoChange l ls h))
     ∙ quiet-writes es ls (All-tail HasNoChange l ls h)
 
 -- an input of which nothing is written has no output
-none-out : (path bytes : List ℕ) (edits : Edits) (outputs : List Output) → edits ≡ [] → AreOutputs path bytes edits outputs → outputs ≡ []
+none-out : (path bytes : List ℕ) (edits : Edits) (outputs : List Output) → edits ≡ []
+    → AreOutputs path bytes edits outputs → outputs ≡ []
 none-out path bytes edits _ e (unchanged none) = refl
 none-out path bytes edits _ e (changed output some at r) = absurd (some e)
 
@@ -54,8 +57,10 @@ record IsReadBack (new : List ℕ) (form : Text) (lines : List Line) : Type 0 wh
   tree : (q : Place) → view_at after q ≡ written (writes (seen (view_at form)) lines) (view_at form) q
 
 -- by whether there is an output
-read-by : (path bytes : List ℕ) (form : Text) (lines : List Line) (outputs : List Output) → IsManifest bytes form
-    → AreOutputs path bytes (writes (seen (view_at form)) lines) outputs → IsReadBack (bytes_after bytes outputs) form lines
+read-by : (path bytes : List ℕ) (form : Text) (lines : List Line) (outputs : List Output)
+    → IsManifest bytes form
+    → AreOutputs path bytes (writes (seen (view_at form)) lines) outputs
+    → IsReadBack (bytes_after bytes outputs) form lines
 read-by path bytes form lines _ m (unchanged none) = record {
   after = form;
   manifest = m;
@@ -65,32 +70,39 @@ read-by path bytes form lines _ m (changed output some at r) =
     let edits = writes (seen (view_at form)) lines in
     record {
       after = replaced edits form;
-      manifest = subst (λ (f : Text). IsManifest output.bytes.items (replaced edits f)) (one_form bytes r.form form r.was m) r.is;
+      manifest = subst (λ (f : Text). IsManifest output.bytes.items (replaced edits f))
+          (one_form bytes r.form form r.was m) r.is;
       tree = strings_view edits bytes form m.document (writes-strings (view_at form) lines);
     }
 
 -- the same, from the outputs' own form
-read-back : (path bytes : List ℕ) (form : Text) (lines : List Line) (outputs : List Output) → IsManifest bytes form → HasOutputs path bytes lines outputs
+read-back : (path bytes : List ℕ) (form : Text) (lines : List Line) (outputs : List Output)
+    → IsManifest bytes form → HasOutputs path bytes lines outputs
     → IsReadBack (bytes_after bytes outputs) form lines
 read-back path bytes form lines outputs m g =
     read-by path bytes form lines outputs m
-    (subst (λ (f : Text). AreOutputs path bytes (writes (seen (view_at f)) lines) outputs) (one_form bytes g.form form g.manifest m) g.are)
+    (subst (λ (f : Text). AreOutputs path bytes (writes (seen (view_at f)) lines) outputs)
+    (one_form bytes g.form form g.manifest m) g.are)
 
 -- the entries that are seen then
-seen-back : (s : Setting) (new : List ℕ) (form : Text) (lines : List Line) → AllZip (IsRow s) (seen (view_at form)) lines → (b : IsReadBack new form lines)
+seen-back : (s : Setting) (new : List ℕ) (form : Text) (lines : List Line)
+    → AllZip (IsRow s) (seen (view_at form)) lines → (b : IsReadBack new form lines)
     → seen (view_at b.after) ≡ renewed (seen (view_at form)) lines
 seen-back s new form lines d b =
     written-seen (IsRow s) (view_at form) (view_at b.after) lines (seen-apart form) d b.tree
 
 -- whatever form the bytes are read to, these entries are seen
-seen-always : (new : List ℕ) (form : Text) (lines : List Line) (es : List Seen) → (b : IsReadBack new form lines) → seen (view_at b.after) ≡ es
+seen-always : (new : List ℕ) (form : Text) (lines : List Line) (es : List Seen)
+    → (b : IsReadBack new form lines) → seen (view_at b.after) ≡ es
     → (f : Text) → IsManifest new f → seen (view_at f) ≡ es
-seen-always new form lines es b same f m = ap (λ (x : Text). seen (view_at x)) (one_form new f b.after m b.manifest) ∙ same
+seen-always new form lines es b same f m =
+    ap (λ (x : Text). seen (view_at x)) (one_form new f b.after m b.manifest) ∙ same
 
 -- ---- planned again
 
 -- what was read back stays
-settled-on : (s : Setting) (new : List ℕ) (form : Text) (lines : List Line) → AllZip (IsRow s) (seen (view_at form)) lines
+settled-on : (s : Setting) (new : List ℕ) (form : Text) (lines : List Line)
+    → AllZip (IsRow s) (seen (view_at form)) lines
     → IsReadBack new form lines → WordsSelect s.options → IsFixedPoint s new
 settled-on s new form lines d b select =
     let es = seen (view_at form) in
@@ -98,7 +110,8 @@ settled-on s new form lines d b select =
     let same = seen-always new form lines (renewed es lines) b back in
     let rows = some-again s es lines d in
     let quiet : (again : List Line) → HasRows s new again → All HasNoChange again = λ again h.
-    all-again s es lines again (none_given s.options select) (seen-whole (view_at form)) d (subst (λ (xs : List Seen). AllZip (IsRow s) xs again) (same h.form h.manifest) h.decided) in
+    all-again s es lines again (none_given s.options select) (seen-whole (view_at form)) d
+    (subst (λ (xs : List Seen). AllZip (IsRow s) xs again) (same h.form h.manifest) h.decided) in
     record {
       lines = rows.0;
       rows = record {
@@ -108,11 +121,13 @@ settled-on s new form lines d b select =
       };
       unchanged = quiet;
       unwritten = λ path again outputs h g.
-          none-out path new (writes (seen (view_at g.form)) again) outputs (quiet-writes (seen (view_at g.form)) again (quiet again h)) g.are;
+          none-out path new (writes (seen (view_at g.form)) again) outputs
+          (quiet-writes (seen (view_at g.form)) again (quiet again h)) g.are;
     }
 
 -- the bytes that stand after a plan
-pub settled : (s : Setting) (path bytes : List ℕ) (lines : List Line) (outputs : List Output) → HasRows s bytes lines → HasOutputs path bytes lines outputs
+pub settled : (s : Setting) (path bytes : List ℕ) (lines : List Line) (outputs : List Output)
+    → HasRows s bytes lines → HasOutputs path bytes lines outputs
     → WordsSelect s.options → IsFixedPoint s (bytes_after bytes outputs)
 settled s path bytes lines outputs h g select =
     settled-on s (bytes_after bytes outputs) h.form lines h.decided
@@ -121,57 +136,83 @@ settled s path bytes lines outputs h g select =
 -- ---- the looks that are needed
 
 -- an entry after its row was written needs the same look
-renewed-needs : (configs : List Config) (e : Seen) (l : Line) (address name : List ℕ) → IsNeededFor configs e address name → IsNeededFor configs (renew e l) address name
+renewed-needs : (configs : List Config) (e : Seen) (l : Line) (address name : List ℕ)
+    → IsNeededFor configs e address name → IsNeededFor configs (renew e l) address name
 renewed-needs configs e l address name h = record {
   registry = h.registry;
-  needs = record { named = h.needs.named; source = h.needs.source; has = h.needs.has; crate_name = h.needs.crate_name };
+  needs = record {
+    named = h.needs.named;
+    source = h.needs.source;
+    has = h.needs.has;
+    crate_name = h.needs.crate_name;
+  };
   at = h.at;
 }
 
-needs-renewed : (configs : List Config) (e : Seen) (l : Line) (address name : List ℕ) → IsNeededFor configs (renew e l) address name → IsNeededFor configs e address name
+needs-renewed : (configs : List Config) (e : Seen) (l : Line) (address name : List ℕ)
+    → IsNeededFor configs (renew e l) address name → IsNeededFor configs e address name
 needs-renewed configs e l address name h = record {
   registry = h.registry;
-  needs = record { named = h.needs.named; source = h.needs.source; has = h.needs.has; crate_name = h.needs.crate_name };
+  needs = record {
+    named = h.needs.named;
+    source = h.needs.source;
+    has = h.needs.has;
+    crate_name = h.needs.crate_name;
+  };
   at = h.at;
 }
 
 -- what one of the entries needs, as recursion tells it
-pub among-first : (configs : List Config) (e : Seen) (es : List Seen) (address name : List ℕ) → IsNeededFor configs e address name
+pub among-first : (configs : List Config) (e : Seen) (es : List Seen) (address name : List ℕ)
+    → IsNeededFor configs e address name
     → IsNeededIn configs (e ∷ es) address name
-among-first configs e es address name h = record { entry = e; among = All-head (Contains (e ∷ es)) e es (All-contains_itself (e ∷ es)); needs = h }
+among-first configs e es address name h =
+    record { entry = e; among = All-head (Contains (e ∷ es)) e es (All-contains_itself (e ∷ es)); needs = h }
 
-pub among-rest : (configs : List Config) (e : Seen) (es : List Seen) (address name : List ℕ) → IsNeededIn configs es address name
+pub among-rest : (configs : List Config) (e : Seen) (es : List Seen) (address name : List ℕ)
+    → IsNeededIn configs es address name
     → IsNeededIn configs (e ∷ es) address name
-among-rest configs e es address name h = record { entry = h.entry; among = Contains-append_right (e ∷ []) es h.entry h.among; needs = h.needs }
+among-rest configs e es address name h =
+    record { entry = h.entry; among = Contains-append_right (e ∷ []) es h.entry h.among; needs = h.needs }
 
-pub among-cases : (configs : List Config) (e : Seen) (es : List Seen) (address name : List ℕ) → IsNeededIn configs (e ∷ es) address name
+pub among-cases : (configs : List Config) (e : Seen) (es : List Seen) (address name : List ℕ)
+    → IsNeededIn configs (e ∷ es) address name
     → IsNeededFor configs e address name ⊎ IsNeededIn configs es address name
 among-cases configs e es address name h =
-    All-contains (λ (x : Seen). IsNeededFor configs x address name → IsNeededFor configs e address name ⊎ IsNeededIn configs es address name) (e ∷ es) h.entry
-    (All-cons (λ (x : Seen). IsNeededFor configs x address name → IsNeededFor configs e address name ⊎ IsNeededIn configs es address name) e es (λ n. inl n)
-    (All-weaker (Contains es) (λ (x : Seen). IsNeededFor configs x address name → IsNeededFor configs e address name ⊎ IsNeededIn configs es address name)
+    All-contains (λ (x : Seen). IsNeededFor configs x address name
+    → IsNeededFor configs e address name ⊎ IsNeededIn configs es address name) (e ∷ es) h.entry
+    (All-cons (λ (x : Seen). IsNeededFor configs x address name
+    → IsNeededFor configs e address name ⊎ IsNeededIn configs es address name) e es (λ n. inl n)
+    (All-weaker (Contains es) (λ (x : Seen). IsNeededFor configs x address name
+    → IsNeededFor configs e address name ⊎ IsNeededIn configs es address name)
     (λ x c n. inr (record { entry = x; among = c; needs = n })) es (All-contains_itself es))) h.among h.needs
 
-needed-renewed : (configs : List Config) (es : List Seen) (ls : List Line) (address name : List ℕ) → IsNeededIn configs es address name
+needed-renewed : (configs : List Config) (es : List Seen) (ls : List Line) (address name : List ℕ)
+    → IsNeededIn configs es address name
     → IsNeededIn configs (renewed es ls) address name
 needed-renewed configs [] ls address name h = h
 needed-renewed configs (e ∷ es) [] address name h = h
 needed-renewed configs (e ∷ es) (l ∷ ls) address name h = elim (among-cases configs e es address name h) [
-  | inl here ↦ among-first configs (renew e l) (renewed es ls) address name (renewed-needs configs e l address name here)
-  | inr more ↦ among-rest configs (renew e l) (renewed es ls) address name (needed-renewed configs es ls address name more)
+  | inl here ↦ among-first configs (renew e l) (renewed es ls) address name
+      (renewed-needs configs e l address name here)
+  | inr more ↦ among-rest configs (renew e l) (renewed es ls) address name
+      (needed-renewed configs es ls address name more)
 ]
 
-renewed-needed : (configs : List Config) (es : List Seen) (ls : List Line) (address name : List ℕ) → IsNeededIn configs (renewed es ls) address name
+renewed-needed : (configs : List Config) (es : List Seen) (ls : List Line) (address name : List ℕ)
+    → IsNeededIn configs (renewed es ls) address name
     → IsNeededIn configs es address name
 renewed-needed configs [] ls address name h = h
 renewed-needed configs (e ∷ es) [] address name h = h
-renewed-needed configs (e ∷ es) (l ∷ ls) address name h = elim (among-cases configs (renew e l) (renewed es ls) address name h) [
-  | inl here ↦ among-first configs e es address name (needs-renewed configs e l address name here)
-  | inr more ↦ among-rest configs e es address name (renewed-needed configs es ls address name more)
-]
+renewed-needed configs (e ∷ es) (l ∷ ls) address name h =
+    elim (among-cases configs (renew e l) (renewed es ls) address name h) [
+      | inl here ↦ among-first configs e es address name (needs-renewed configs e l address name here)
+      | inr more ↦ among-rest configs e es address name (renewed-needed configs es ls address name more)
+    ]
 
 -- the looks that are needed after a plan
-pub need-same : (s : Setting) (path bytes : List ℕ) (lines : List Line) (outputs : List Output) → HasRows s bytes lines → HasOutputs path bytes lines outputs
+pub need-same : (s : Setting) (path bytes : List ℕ) (lines : List Line) (outputs : List Output)
+    → HasRows s bytes lines → HasOutputs path bytes lines outputs
     → NeedSame s.configs bytes (bytes_after bytes outputs)
 need-same s path bytes lines outputs h g =
     let new = bytes_after bytes outputs in
@@ -179,19 +220,22 @@ need-same s path bytes lines outputs h g =
     let b = read-back path bytes h.form lines outputs h.manifest g in
     let back = seen-back s new h.form lines h.decided b in
     let same = seen-always new h.form lines (renewed es lines) b back in
-    let first : (f : Text) → IsManifest bytes f → seen (view_at f) ≡ es = λ f m. ap (λ (x : Text). seen (view_at x)) (one_form bytes f h.form m h.manifest) in
+    let first : (f : Text) → IsManifest bytes f → seen (view_at f) ≡ es = λ f m. ap
+    (λ (x : Text). seen (view_at x)) (one_form bytes f h.form m h.manifest) in
     λ address name. (
       λ need. record {
         form = h.form;
         manifest = h.manifest;
         needed = renewed-needed s.configs es lines address name
-            (subst (λ (xs : List Seen). IsNeededIn s.configs xs address name) (same need.form need.manifest) need.needed);
+            (subst (λ (xs : List Seen). IsNeededIn s.configs xs address name)
+            (same need.form need.manifest) need.needed);
       },
       λ need. record {
         form = b.after;
         manifest = b.manifest;
         needed = subst (λ (xs : List Seen). IsNeededIn s.configs xs address name) (sym back)
             (needed-renewed s.configs es lines address name
-            (subst (λ (xs : List Seen). IsNeededIn s.configs xs address name) (first need.form need.manifest) need.needed));
+            (subst (λ (xs : List Seen). IsNeededIn s.configs xs address name)
+            (first need.form need.manifest) need.needed));
       },
     )

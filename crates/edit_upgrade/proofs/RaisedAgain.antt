@@ -23,13 +23,15 @@ use Rattle.edit_upgrade.proofs.TakenVersions.{far_text, near_text}
 -- a latest version with the compatible one's text is not newer
 pub newer-none : (u v : Parts) → plain_text v ≡ plain_text u → newer (Some v) (Some u) ≡ None
 newer-none u v e =
-    let self : pointwise nat_eq (plain_text v) (plain_text u) ≡ true = rw e (nat_list_eq_equiv.refl (plain_text u)) in
+    let self : pointwise nat_eq (plain_text v) (plain_text u) ≡ true = rw e
+    (nat_list_eq_equiv.refl (plain_text u)) in
     rw self refl
 
 -- ---- after the latest version was written
 
 -- neither version raises a text that the latest one was written into
-settled-at : (xs : List Parts) (t : List ℕ) (v : Parts) (near : Option Parts) → Lands v t → IsGreatestKept (is_offered t) full_order xs v
+settled-at : (xs : List Parts) (t : List ℕ) (v : Parts) (near : Option Parts) → Lands v t
+    → IsGreatestKept (is_offered t) full_order xs v
     → IsCompatible t xs near → (far_text t (Some v) near ≡ None) × (near_text t near ≡ None)
 settled-at xs t v None l far near = (rw l.fixed refl, refl)
 settled-at xs t v (Some u) l far near =
@@ -50,24 +52,31 @@ latest-settles xs old t v far near l h isfar isnear =
 -- ---- after the compatible version was written
 
 -- where the latest version has the compatible one's text, so it has after the change
-same-again : (xs : List Parts) (old t : List ℕ) (u v : Parts) (far : Option Parts) → All IsValid xs → Lands u t
-    → IsGreatestKept (is_admitted old) full_order xs u → IsGreatestKept (is_offered old) full_order xs v → plain_text v ≡ plain_text u
+same-again : (xs : List Parts) (old t : List ℕ) (u v : Parts) (far : Option Parts) → All IsValid xs
+    → Lands u t
+    → IsGreatestKept (is_admitted old) full_order xs u → IsGreatestKept (is_offered old) full_order xs v
+    → plain_text v ≡ plain_text u
     → IsLatest t xs far → far_text t far (Some u) ≡ None
 same-again xs old t u v far all l near h e isfar =
-    let s = plain_text-parts u v (greatest-has IsValid (is_admitted old) xs u all near) (greatest-has IsValid (is_offered old) xs v all h) e in
+    let s = plain_text-parts u v (greatest-has IsValid (is_admitted old) xs u all near)
+    (greatest-has IsValid (is_offered old) xs v all h) e in
     let mine : IsGreatestKept (is_offered t) full_order xs v = elim (release-or u) [
       | inl plain ↦
           let vplain : length v.3 ≡ 0 = ap (λ (x : List ℕ). length x) s.3 ∙ plain in
-          fewer (is_offered t) (is_offered old) (λ x k. offered-plain old x (plain-offered t x k (l.plain plain))) xs v h (offered-plain t v vplain)
+          fewer (is_offered t) (is_offered old)
+          (λ x k. offered-plain old x (plain-offered t x k (l.plain plain))) xs v h
+          (offered-plain t v vplain)
       | inr some ↦
           let dash = dash-offered old u (admitted-offered old u near.kept) some in
-          fewer (is_offered t) (is_offered old) (λ x k. offered-dash old x dash) xs v h (offered-dash t v (l.marked some))
+          fewer (is_offered t) (is_offered old) (λ x k. offered-dash old x dash) xs v h
+          (offered-dash t v (l.marked some))
     ] in
     let f : far ≡ Some v = greatest-same (is_offered t) xs far (Some v) isfar mine in
     subst (λ (x : Option Parts). far_text t x (Some u) ≡ None) (sym f) (rw (newer-none u v e) refl)
 
 -- a later version that raising leaves the text for has the compatible one's text
-nothing-same : (xs : List Parts) (old : List ℕ) (u v : Parts) → All IsValid xs → IsGreatestKept (is_admitted old) full_order xs u
+nothing-same : (xs : List Parts) (old : List ℕ) (u v : Parts) → All IsValid xs
+    → IsGreatestKept (is_admitted old) full_order xs u
     → IsGreatestKept (is_offered old) full_order xs v → raise old v ≡ Nothing → plain_text v ≡ plain_text u
 nothing-same xs old u v all near h none =
     let valid = greatest-has IsValid (is_offered old) xs v all h in
@@ -76,7 +85,8 @@ nothing-same xs old u v all near h none =
     sym (plain-same u v s)
 
 -- a latest version with another text is newer
-newer-other : (u v : Parts) → pointwise nat_eq (plain_text v) (plain_text u) ≡ false → newer (Some v) (Some u) ≡ Some v
+newer-other : (u v : Parts) → pointwise nat_eq (plain_text v) (plain_text u) ≡ false
+    → newer (Some v) (Some u) ≡ Some v
 newer-other u v h = rw h refl
 
 -- what gives no text, though it was read, gives nothing
@@ -87,11 +97,14 @@ text-none other (Unsupported d) h n = cc h
 text-none other (Text t) h n = cc h
 
 -- what was raised to the compatible version is not raised to a later one, if it was not before
-pub compatible-far : (xs : List Parts) (old t : List ℕ) (u : Parts) (latest far : Option Parts) → All IsValid xs → raise old u ≡ Text t
-    → IsGreatestKept (is_admitted old) full_order xs u → IsLatest old xs latest → far_text old latest (Some u) ≡ None
+pub compatible-far : (xs : List Parts) (old t : List ℕ) (u : Parts) (latest far : Option Parts)
+    → All IsValid xs → raise old u ≡ Text t
+    → IsGreatestKept (is_admitted old) full_order xs u → IsLatest old xs latest
+    → far_text old latest (Some u) ≡ None
     → IsLatest t xs far → far_text t far (Some u) ≡ None
 compatible-far xs old t u None far all r near islatest none isfar =
-    absurd (wider-found (is_admitted old) (is_offered old) full_order (λ x k. admitted-offered old x k) xs u near islatest)
+    absurd (wider-found (is_admitted old) (is_offered old) full_order
+    (λ x k. admitted-offered old x k) xs u near islatest)
 compatible-far xs old t u (Some v) far all r near islatest none isfar =
     let valid = greatest-has IsValid (is_admitted old) xs u all near in
     let l = outcome-lands old u t valid (admitted-offered old u near.kept) (text-outcome old u t r) in
@@ -99,12 +112,15 @@ compatible-far xs old t u (Some v) far all r near islatest none isfar =
       | inl same ↦ same-again xs old t u v far all l near islatest (same_text _ _ same) isfar
       | inr other ↦
           let first : text_or (plain_text v) (raise old v) ≡ None =
-          sym (ap (λ (x : Option Parts). option_and_then (λ w. text_or (plain_text w) (raise old w)) x) (newer-other u v other)) ∙ none in
+          sym (ap (λ (x : Option Parts). option_and_then (λ w. text_or (plain_text w) (raise old w)) x)
+          (newer-other u v other)) ∙ none in
           let nothing = text-none (plain_text v) (raise old v) first (λ q. unread-both old u v t r q) in
-          same-again xs old t u v far all l near islatest (nothing-same xs old u v all near islatest nothing) isfar
+          same-again xs old t u v far all l near islatest
+          (nothing-same xs old u v all near islatest nothing) isfar
     ]
   where
-    unread-of : (old : List ℕ) (u v : Parts) (t : List ℕ) (p : Result (List Held) semver_error.Error) → raise_read old u p ≡ Text t → raise_read old v p ≡ Unread → ⊥
+    unread-of : (old : List ℕ) (u v : Parts) (t : List ℕ) (p : Result (List Held) semver_error.Error)
+        → raise_read old u p ≡ Text t → raise_read old v p ≡ Unread → ⊥
     unread-of old u v t (Err e) h q = cc h
     unread-of old u v t (Ok []) h q = cc h
     unread-of old u v t (Ok (c ∷ cs)) h q = all-of old v (c ∷ cs) _ q
@@ -115,7 +131,8 @@ compatible-far xs old t u (Some v) far all r near islatest none isfar =
           | inr other ↦ cc (rw other at q)
         ]
 
-        all-of : (old : List ℕ) (v : Parts) (cs : List Held) (o : Option Held) → raise_all old v cs o ≡ Unread → ⊥
+        all-of : (old : List ℕ) (v : Parts) (cs : List Held) (o : Option Held)
+            → raise_all old v cs o ≡ Unread → ⊥
         all-of old v cs (Some d) q = cc q
         all-of old v cs None q = unless-of old _ q
 
@@ -123,12 +140,15 @@ compatible-far xs old t u (Some v) far all r near islatest none isfar =
     unread-both old u v t h q = unread-of old u v t (req_of old) h q
 
 -- the compatible version is the same after the change, and raises nothing
-pub compatible-near : (xs : List Parts) (old t : List ℕ) (u : Parts) (near : Option Parts) → All IsValid xs → raise old u ≡ Text t
-    → IsGreatestKept (is_admitted old) full_order xs u → IsCompatible t xs near → (near ≡ Some u) × (near_text t near ≡ None)
+pub compatible-near : (xs : List Parts) (old t : List ℕ) (u : Parts) (near : Option Parts) → All IsValid xs
+    → raise old u ≡ Text t
+    → IsGreatestKept (is_admitted old) full_order xs u → IsCompatible t xs near
+    → (near ≡ Some u) × (near_text t near ≡ None)
 compatible-near xs old t u near all r h isnear =
     let valid = greatest-has IsValid (is_admitted old) xs u all h in
     let w = valid-version u valid in
     let o = text-outcome old u t r in
     let n = narrower-of old u t w o (admitted old u h.kept) in
-    let e : near ≡ Some u = greatest-same (is_admitted t) xs near (Some u) isnear (near-again xs old t u n h) in
+    let e : near ≡ Some u = greatest-same (is_admitted t) xs near (Some u) isnear
+    (near-again xs old t u n h) in
     (e, subst (λ (x : Option Parts). near_text t x ≡ None) (sym e) (rw (settled-of old u t w o).1 refl))

@@ -30,11 +30,14 @@ pub record IsRowOf (e : Entry) (s : Seen) : Type 0 where
 some-inj : (a b : Seen) → Some a ≡ Some b → a ≡ b
 some-inj a b h = cc h
 
-of-source : (e : Entry) (r : EntryRecord) (s : Seen) (o : Option Source) → e.said ≡ Some r → option_map (seen_at e r) o ≡ Some s → IsRowOf e s
+of-source : (e : Entry) (r : EntryRecord) (s : Seen) (o : Option Source) → e.said ≡ Some r
+    → option_map (seen_at e r) o ≡ Some s → IsRowOf e s
 of-source e r s None q h = cc h
-of-source e r s (Some source) q h = record { r = r; source = source; said = q; is = sym (some-inj (seen_at e r source) s h) }
+of-source e r s (Some source) q h =
+    record { r = r; source = source; said = q; is = sym (some-inj (seen_at e r source) s h) }
 
-of-said : (e : Entry) (s : Seen) (o : Option EntryRecord) → e.said ≡ o → option_and_then (seen_by e) o ≡ Some s → IsRowOf e s
+of-said : (e : Entry) (s : Seen) (o : Option EntryRecord) → e.said ≡ o
+    → option_and_then (seen_by e) o ≡ Some s → IsRowOf e s
 of-said e s None q h = cc h
 of-said e s (Some r) q h = of-source e r s (source_of r) q h
 
@@ -44,9 +47,11 @@ row-of e s h = of-said e s e.said refl h
 -- where the literal of an entry stands, and what its requirement is
 pub record Stands (t : Tree) (s : Seen) : Type 0 where
   pub literal : IsLiteral s.literal
-  pub there : (old : List ℕ) → s.old ≡ Some old → (text : List ℕ) × (t s.literal ≡ Some (string text)) × (old ≡ cut text)
+  pub there : (old : List ℕ) → s.old ≡ Some old
+      → (text : List ℕ) × (t s.literal ≡ Some (string text)) × (old ≡ cut text)
 
-entry-said : (t : Tree) (e : Entry) (k : IsEntryOf t [] e) (r : EntryRecord) → e.said ≡ Some r → (entry_at t [] k.table k.name).said ≡ Some r
+entry-said : (t : Tree) (e : Entry) (k : IsEntryOf t [] e) (r : EntryRecord) → e.said ≡ Some r
+    → (entry_at t [] k.table k.name).said ≡ Some r
 entry-said t e k r h = sym (ap (λ (x : Entry). x.said) k.is) ∙ h
 
 stands : (t : Tree) (e : Entry) (s : Seen) → IsEntryOf t [] e → with_row e ≡ Some s → Stands t s
@@ -56,29 +61,35 @@ stands t e s k h =
     record {
       literal = subst (λ (p : Place). IsLiteral p) (sym literal) (entry-literal t [] e k);
       there = λ old q.
-          let v = version-stands t (entry_at t [] k.table k.name).place [] k.name old w.r (entry-said t e k w.r w.said)
+          let v = version-stands t (entry_at t [] k.table k.name).place [] k.name old w.r
+          (entry-said t e k w.r w.said)
           (sym (ap (λ (x : Seen). x.old) w.is) ∙ q) in
           (v.text, ap t (literal ∙ ap (λ (x : Entry). x.literal) k.is) ∙ v.there, v.is);
     }
 
 -- ---- what is kept of a list
 
-cons-all : {B : Type 0} (P : B → Type 0) (o : Option B) (bs : List B) → ((b : B) → o ≡ Some b → P b) → AllByRecursion P bs → AllByRecursion P (cons_option o bs)
+cons-all : {B : Type 0} (P : B → Type 0) (o : Option B) (bs : List B) → ((b : B) → o ≡ Some b → P b)
+    → AllByRecursion P bs → AllByRecursion P (cons_option o bs)
 cons-all P None bs h g = g
 cons-all P (Some b) bs h g = (h b refl, g)
 
-pub kept-all : {A B : Type 0} (Q : A → Type 0) (P : B → Type 0) (f : A → Option B) (xs : List A) → AllByRecursion Q xs
+pub kept-all : {A B : Type 0} (Q : A → Type 0) (P : B → Type 0) (f : A → Option B) (xs : List A)
+    → AllByRecursion Q xs
     → ((x : A) (b : B) → Q x → f x ≡ Some b → P b) → AllByRecursion P (filter_map f xs)
 kept-all Q P f [] h g = tt
-kept-all Q P f (x ∷ xs) h g = cons-all P (f x) (filter_map f xs) (λ b e. g x b h.0 e) (kept-all Q P f xs h.1 g)
+kept-all Q P f (x ∷ xs) h g =
+    cons-all P (f x) (filter_map f xs) (λ b e. g x b h.0 e) (kept-all Q P f xs h.1 g)
 
-pub mapped-all : {A : Type 0} (P Q : A → Type 0) (xs : List A) → ((x : A) → P x → Q x) → AllByRecursion P xs → AllByRecursion Q xs
+pub mapped-all : {A : Type 0} (P Q : A → Type 0) (xs : List A) → ((x : A) → P x → Q x) → AllByRecursion P xs
+    → AllByRecursion Q xs
 mapped-all P Q [] f h = tt
 mapped-all P Q (x ∷ xs) f h = (f x h.0, mapped-all P Q xs f h.1)
 
 -- the literals of all entries that get a row
 pub seen-stands : (t : Tree) → AllByRecursion (Stands t) (seen t)
-seen-stands t = kept-all (IsEntryOf t []) (Stands t) with_row (entries t []) (entries-of t []) (λ e s k h. stands t e s k h)
+seen-stands t = kept-all (IsEntryOf t []) (Stands t) with_row (entries t []) (entries-of t [])
+    (λ e s k h. stands t e s k h)
 
 -- ---- literals that differ
 
@@ -89,12 +100,14 @@ AreApart (e ∷ es) = AllByRecursion (λ f. same_place e.literal f.literal ≡ f
 row-literal : (e : Entry) (s : Seen) → with_row e ≡ Some s → s.literal ≡ e.literal
 row-literal e s h = ap (λ (x : Seen). x.literal) (row-of e s h).is
 
-cons-apart : (e : Entry) (es : List Entry) (o : Option Seen) → with_row e ≡ o → AllByRecursion (λ f. same_literal e f ≡ false) es
+cons-apart : (e : Entry) (es : List Entry) (o : Option Seen) → with_row e ≡ o
+    → AllByRecursion (λ f. same_literal e f ≡ false) es
     → AreApart (filter_map with_row es) → AreApart (cons_option o (filter_map with_row es))
 cons-apart e es None q h g = g
 cons-apart e es (Some s) q h g = (
   kept-all (λ f. same_literal e f ≡ false) (λ r. same_place s.literal r.literal ≡ false) with_row es h
-      (λ f r d k. ap (λ (p : Place). same_place p r.literal) (row-literal e s q) ∙ ap (same_place e.literal) (row-literal f r k) ∙ d),
+      (λ f r d k. ap (λ (p : Place). same_place p r.literal) (row-literal e s q)
+      ∙ ap (same_place e.literal) (row-literal f r k) ∙ d),
   g,
 )
 
@@ -107,10 +120,12 @@ seen-apart form = rows-apart (entries (view_at form) []) (entries-apart form [])
 
 -- ---- what rows write
 
-pub write-cases : (l : Place) (line : Line) → (write_at l line ≡ None) ⊎ ((text : List ℕ) × (write_at l line ≡ Some (l, text)))
+pub write-cases : (l : Place) (line : Line)
+    → (write_at l line ≡ None) ⊎ ((text : List ℕ) × (write_at l line ≡ Some (l, text)))
 write-cases l line = of-cases line.change line.new refl refl
   where
-    of-cases : (c : Option Change) (n : Option (List ℕ)) → line.change ≡ c → line.new ≡ n → (write_at l line ≡ None) ⊎ ((text : List ℕ) × (write_at l line ≡ Some (l, text)))
+    of-cases : (c : Option Change) (n : Option (List ℕ)) → line.change ≡ c → line.new ≡ n
+        → (write_at l line ≡ None) ⊎ ((text : List ℕ) × (write_at l line ≡ Some (l, text)))
     of-cases (Some kind) (Some text) p q = inr (text, rw (p, q) refl)
     of-cases (Some kind) None p q = inl (rw (p, q) refl)
     of-cases None n p q = inl (rw p refl)
@@ -132,14 +147,18 @@ on-cases e line = of-old e.old refl
       | inr some ↦ inr (record { old = old; has = q; text = some.0; is = rw (q, some.1) refl })
     ]
 
-write-all : (P : Place → Type 0) (e : Seen) (line : Line) (ws : List (Place × List ℕ)) → ((old : List ℕ) → e.old ≡ Some old → P e.literal)
+write-all : (P : Place → Type 0) (e : Seen) (line : Line) (ws : List (Place × List ℕ))
+    → ((old : List ℕ) → e.old ≡ Some old → P e.literal)
     → AllByRecursion (λ w. P w.0) ws → AllByRecursion (λ w. P w.0) (with_write (write_on e line) ws)
 write-all P e line ws p h = elim (on-cases e line) [
-  | inl none ↦ subst (λ (o : Option (Place × List ℕ)). AllByRecursion (λ w. P w.0) (with_write o ws)) (sym none) h
-  | inr some ↦ subst (λ (o : Option (Place × List ℕ)). AllByRecursion (λ w. P w.0) (with_write o ws)) (sym some.is) (p some.old some.has, h)
+  | inl none ↦ subst (λ (o : Option (Place × List ℕ)). AllByRecursion (λ w. P w.0) (with_write o ws))
+      (sym none) h
+  | inr some ↦ subst (λ (o : Option (Place × List ℕ)). AllByRecursion (λ w. P w.0) (with_write o ws))
+      (sym some.is) (p some.old some.has, h)
 ]
 
-pub writes-all : (P : Place → Type 0) (es : List Seen) (ls : List Line) → AllByRecursion (λ e. (old : List ℕ) → e.old ≡ Some old → P e.literal) es
+pub writes-all : (P : Place → Type 0) (es : List Seen) (ls : List Line)
+    → AllByRecursion (λ e. (old : List ℕ) → e.old ≡ Some old → P e.literal) es
     → AllByRecursion (λ w. P w.0) (writes es ls)
 writes-all P [] ls h = tt
 writes-all P (e ∷ es) [] h = tt
@@ -156,9 +175,11 @@ writes-strings t ls =
 pub writes-literals : (t : Tree) (ls : List Line) → AllByRecursion (λ w. IsLiteral w.0) (writes (seen t) ls)
 writes-literals t ls =
     writes-all IsLiteral (seen t) ls
-    (mapped-all (Stands t) (λ e. (old : List ℕ) → e.old ≡ Some old → IsLiteral e.literal) (seen t) (λ e k old q. k.literal) (seen-stands t))
+    (mapped-all (Stands t) (λ e. (old : List ℕ) → e.old ≡ Some old → IsLiteral e.literal) (seen t)
+    (λ e k old q. k.literal) (seen-stands t))
 
-write-distinct : (e : Seen) (line : Line) (ws : List (Place × List ℕ)) → AllByRecursion (λ w. same_place e.literal w.0 ≡ false) ws → AreDistinct ws
+write-distinct : (e : Seen) (line : Line) (ws : List (Place × List ℕ))
+    → AllByRecursion (λ w. same_place e.literal w.0 ≡ false) ws → AreDistinct ws
     → AreDistinct (with_write (write_on e line) ws)
 write-distinct e line ws h g = elim (on-cases e line) [
   | inl none ↦ subst (λ (o : Option (Place × List ℕ)). AreDistinct (with_write o ws)) (sym none) g
@@ -172,20 +193,24 @@ writes-distinct (e ∷ es) [] h = tt
 writes-distinct (e ∷ es) (l ∷ ls) h =
     write-distinct e l (writes es ls)
     (writes-all (λ (p : Place). same_place e.literal p ≡ false) es ls
-    (mapped-all (λ f. same_place e.literal f.literal ≡ false) (λ f. (old : List ℕ) → f.old ≡ Some old → same_place e.literal f.literal ≡ false) es
+    (mapped-all (λ f. same_place e.literal f.literal ≡ false) (λ f. (old : List ℕ) → f.old ≡ Some old
+    → same_place e.literal f.literal ≡ false) es
     (λ f d old q. d) h.0)) (writes-distinct es ls h.1)
 
 -- ---- as the program has them
 
 -- what rows write, over the entries that a document shows
-pub shown-strings : (d : Shown) (form : Text) (es : List Seen) (ls : List Line) (ws : List (Place × List ℕ)) → ShowsTree d form → es ≡ seen (view_at form)
+pub shown-strings : (d : Shown) (form : Text) (es : List Seen) (ls : List Line) (ws : List (Place × List ℕ))
+    → ShowsTree d form → es ≡ seen (view_at form)
     → ws ≡ writes es ls → AreStrings ws (tree_of d)
 shown-strings d form es ls ws h e w =
     let same : tree_of d ≡ view_at form = λ i p. h p i in
     subst (λ (t : Tree). AreStrings ws t) (sym same)
-    (subst (λ (xs : List (Place × List ℕ)). AreStrings xs (view_at form)) (sym (w ∙ ap (λ (x : List Seen). writes x ls) e)) (writes-strings (view_at form) ls))
+    (subst (λ (xs : List (Place × List ℕ)). AreStrings xs (view_at form))
+    (sym (w ∙ ap (λ (x : List Seen). writes x ls) e)) (writes-strings (view_at form) ls))
 
-pub shown-distinct : (form : Text) (es : List Seen) (ls : List Line) (ws : List (Place × List ℕ)) → es ≡ seen (view_at form)
+pub shown-distinct : (form : Text) (es : List Seen) (ls : List Line) (ws : List (Place × List ℕ))
+    → es ≡ seen (view_at form)
     → ws ≡ writes es ls → AreDistinct ws
 shown-distinct form es ls ws e w =
     subst (λ (xs : List (Place × List ℕ)). AreDistinct xs) (sym w)

@@ -12,11 +12,14 @@ whole v f ys y = ap (filter_map f) (map-append v ys (y ∷ [])) ∙ filter_map-a
 pub kept-none : {A B C : Type 0} (v : C → A) (f : A → Option B) (ys : List C) (y : C) (xs : List B)
     → xs ≡ filter_map f (map v ys) → f (v y) ≡ None → xs ≡ filter_map f (map v (ys ++ y ∷ []))
 kept-none {A} {B} v f ys y xs e h =
-    e ∙ sym (whole v f ys y ∙ ap (λ (o : Option B). filter_map f (map v ys) ++ cons_option o []) h ∙ append-nil (filter_map f (map v ys)))
+    e ∙ sym (whole v f ys y ∙ ap (λ (o : Option B). filter_map f (map v ys) ++ cons_option o []) h
+    ∙ append-nil (filter_map f (map v ys)))
 
 -- the item gives one
-pub kept-some : {A B C D : Type 0} (v : C → A) (f : A → Option B) (g : D → B) (ys : List C) (y : C) (old new : List D) (d : D)
-    → map g old ≡ filter_map f (map v ys) → f (v y) ≡ Some (g d) → new ≡ old ++ d ∷ [] → map g new ≡ filter_map f (map v (ys ++ y ∷ []))
+pub kept-some : {A B C D : Type 0} (v : C → A) (f : A → Option B) (g : D → B) (ys : List C) (y : C)
+    (old new : List D) (d : D)
+    → map g old ≡ filter_map f (map v ys) → f (v y) ≡ Some (g d) → new ≡ old ++ d ∷ []
+    → map g new ≡ filter_map f (map v (ys ++ y ∷ []))
 kept-some {A} {B} v f g ys y old new d e h n =
     ap (map g) n ∙ map-append g old (d ∷ []) ∙ ap (λ (l : List B). l ++ g d ∷ []) e
     ∙ sym (whole v f ys y ∙ ap (λ (o : Option B). filter_map f (map v ys) ++ cons_option o []) h)
@@ -25,7 +28,8 @@ kept-some {A} {B} v f g ys y old new d e h n =
 pub names-more : {A B : Type 0} (f : A → B) (xs : List A) (i : ℕ) (x : A) → i < length xs → x ≡ get_or xs i x
     → map f (take (i + 1) xs) ≡ map f (take i xs) ++ f x ∷ []
 names-more {A} {B} f xs i x h e =
-    ap (map f) (take_more xs i x h) ∙ map-append f (take i xs) (get_or xs i x ∷ []) ∙ ap (λ (y : A). map f (take i xs) ++ f y ∷ []) (sym e)
+    ap (map f) (take_more xs i x h) ∙ map-append f (take i xs) (get_or xs i x ∷ [])
+    ∙ ap (λ (y : A). map f (take i xs) ++ f y ∷ []) (sym e)
 
 -- what it gives of those before an element, of the element, and of those after it
 pub names-split : {A B : Type 0} (f : A → B) (xs : List A) (i : ℕ) (x : A) → i < length xs → x ≡ get_or xs i x
@@ -36,5 +40,6 @@ names-split {A} {B} f xs i x h e =
     ∙ ap (λ (y : A). map f (take i xs) ++ f y ∷ map f (drop (suc i) xs)) (sym e)
 
 -- one more of a list's elements
-pub taken-more : {A : Type 0} (xs : List A) (i : ℕ) (x : A) → i < length xs → x ≡ get_or xs i x → take (i + 1) xs ≡ take i xs ++ x ∷ []
+pub taken-more : {A : Type 0} (xs : List A) (i : ℕ) (x : A) → i < length xs → x ≡ get_or xs i x
+    → take (i + 1) xs ≡ take i xs ++ x ∷ []
 taken-more {A} xs i x h e = take_more xs i x h ∙ ap (λ (y : A). take i xs ++ y ∷ []) (sym e)

@@ -24,7 +24,8 @@ when-some true a t h = h
 when-some false a t h = cc h
 
 -- a text that is not left out is there
-pub unless-some : (b : Bool) (a : Option (List ℕ)) (t : List ℕ) → unless b a ≡ Some t → (b ≡ false) × (a ≡ Some t)
+pub unless-some : (b : Bool) (a : Option (List ℕ)) (t : List ℕ) → unless b a ≡ Some t
+    → (b ≡ false) × (a ≡ Some t)
 unless-some true a t h = cc h
 unless-some false a t h = (refl, h)
 
@@ -38,7 +39,8 @@ newer-latest (Some f) (Some u) v h = elim (cases_Bool (pointwise nat_eq (plain_t
 ]
 
 -- the version that a text is for
-newer-some : (old t : List ℕ) (o : Option Parts) → option_and_then (λ v. text_or (plain_text v) (raise old v)) o ≡ Some t
+newer-some : (old t : List ℕ) (o : Option Parts)
+    → option_and_then (λ v. text_or (plain_text v) (raise old v)) o ≡ Some t
     → (v : Parts) × (o ≡ Some v) × (text_or (plain_text v) (raise old v) ≡ Some t)
 newer-some old t None h = cc h
 newer-some old t (Some v) h = (v, refl, h)
@@ -49,13 +51,15 @@ pub far-some : (old t : List ℕ) (far near : Option Parts) → far_text old far
 far-some old t far near h = newer-some old t (newer far near) h
 
 -- the version that a text for the compatible one is for
-pub near-some : (o : Options) (old t : List ℕ) (near : Option Parts) → when o.compatible (near_text old near) ≡ Some t
+pub near-some : (o : Options) (old t : List ℕ) (near : Option Parts)
+    → when o.compatible (near_text old near) ≡ Some t
     → (u : Parts) × (near ≡ Some u) × (text_or old (raise old u) ≡ Some t)
 near-some o old t None h = cc (when-some o.compatible None t h)
 near-some o old t (Some u) h = (u, refl, when-some o.compatible (near_text old (Some u)) t h)
 
 -- a change tells another text
-other-text : (old text : List ℕ) (kind got : Change) → unless_old old text kind ≡ Some got → (kind ≡ got) × (pointwise nat_eq text old ≡ false)
+other-text : (old text : List ℕ) (kind got : Change) → unless_old old text kind ≡ Some got
+    → (kind ≡ got) × (pointwise nat_eq text old ≡ false)
 other-text old text kind got h = elim (cases_Bool (pointwise nat_eq text old)) [
   | inl same ↦ cc (rw same at h)
   | inr other ↦ (some-kind kind got (rw other at h), other)
@@ -67,12 +71,16 @@ other-text old text kind got h = elim (cases_Bool (pointwise nat_eq text old)) [
 -- where the change is the compatible one, its text was taken
 pub compatible-taken : (old : List ℕ) (x : Bool) (e : Option (List ℕ)) (b : Bool) (l c : Option (List ℕ))
     → row_change old (first_row x e b l c) ≡ Some change.Compatible
-    → (t : List ℕ) × (c ≡ Some t) × (row_text old (first_row x e b l c) ≡ t) × (pointwise nat_eq t old ≡ false)
+    → (t : List ℕ) × (c ≡ Some t) × (row_text old (first_row x e b l c) ≡ t)
+    × (pointwise nat_eq t old ≡ false)
 compatible-taken old true e b l c h = cc h
-compatible-taken old false (Some text) b l c h = cc ((other-text old text change.Explicit change.Compatible h).0)
+compatible-taken old false (Some text) b l c h =
+    cc ((other-text old text change.Explicit change.Compatible h).0)
 compatible-taken old false None false l c h = cc h
-compatible-taken old false None true (Some text) c h = cc ((other-text old text change.Latest change.Compatible h).0)
-compatible-taken old false None true None (Some text) h = (text, refl, refl, (other-text old text change.Compatible change.Compatible h).1)
+compatible-taken old false None true (Some text) c h =
+    cc ((other-text old text change.Latest change.Compatible h).0)
+compatible-taken old false None true None (Some text) h =
+    (text, refl, refl, (other-text old text change.Compatible change.Compatible h).1)
 compatible-taken old false None true None None h = cc h
 
 -- where the change is the latest one, its text was taken
@@ -83,5 +91,6 @@ latest-taken old true e b l c h = cc h
 latest-taken old false (Some text) b l c h = cc ((other-text old text change.Explicit change.Latest h).0)
 latest-taken old false None false l c h = cc h
 latest-taken old false None true (Some text) c h = (text, refl, refl)
-latest-taken old false None true None (Some text) h = cc ((other-text old text change.Compatible change.Latest h).0)
+latest-taken old false None true None (Some text) h =
+    cc ((other-text old text change.Compatible change.Latest h).0)
 latest-taken old false None true None None h = cc h

@@ -211,7 +211,8 @@ registry-step configs e named address name gives old new looks more pairs then_p
       looked = λ other p. (
         address,
         subst (λ (r : Option (List ℕ)). HasAddress configs r address) (one-named e named other q p) has,
-        subst (λ (n : List ℕ). IsStep (serialize address) n gives old new looks more pairs then_pairs) same step,
+        subst (λ (n : List ℕ). IsStep (serialize address) n gives old new looks more pairs then_pairs) same
+            step,
       );
       idle = λ other. absurd (not-both e named q other);
     }

@@ -218,7 +218,8 @@ kept_text false req o = refl
 
 -- one word more
 pub word_added : (word : List ℕ) (old mid : Words)
-    (kept : BTreeMap (String Global) (Option (String Global)) Global) (name : String Global) (req : Option (String Global)) (text : List ℕ)
+    (kept : BTreeMap (String Global) (Option (String Global)) Global) (name : String Global)
+    (req : Option (String Global)) (text : List ℕ)
     → string_bytes name ≡ word_name word → unfit (word_name word) ≡ []
     → option_map string_bytes req ≡ word_requirement word → IsReadOrAbsent (word_requirement word)
     → text ≡ string_bytes name

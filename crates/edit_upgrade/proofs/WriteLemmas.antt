@@ -6,7 +6,8 @@ use Rattle.edit_upgrade.specs.Records.{Seen}
 use Rattle.edit_upgrade.specs.Rows.{Line, with_write, write_on, writes}
 use Rattle.edit_upgrade.proofs.Steps.{names-more}
 
-with-append : (w : Option (Place × List ℕ)) (xs ys : List (Place × List ℕ)) → with_write w (xs ++ ys) ≡ with_write w xs ++ ys
+with-append : (w : Option (Place × List ℕ)) (xs ys : List (Place × List ℕ))
+    → with_write w (xs ++ ys) ≡ with_write w xs ++ ys
 with-append None xs ys = refl
 with-append (Some w) xs ys = refl
 
@@ -20,7 +21,8 @@ writes-more (d ∷ ds) (m ∷ ms) e l h =
     ∙ with-append (write_on d m) (writes ds ms) (with_write (write_on e l) [])
 
 -- two lists of one length have fronts of one length
-pub fronts-same : {A B C D : Type 0} (f : A → C) (g : B → D) (xs : List A) (ys : List B) (i : ℕ) → length ys ≡ length xs
+pub fronts-same : {A B C D : Type 0} (f : A → C) (g : B → D) (xs : List A) (ys : List B) (i : ℕ)
+    → length ys ≡ length xs
     → length (map f (take i xs)) ≡ length (map g (take i ys))
 fronts-same f g xs ys i h =
     let a = length-map (take i xs) f in
@@ -30,9 +32,12 @@ fronts-same f g xs ys i h =
     a ∙ c ∙ ap (λ (n : ℕ). min i n) (sym h) ∙ sym d ∙ sym b
 
 -- what rows write with the next row
-pub written-more : {A B : Type 0} (f : A → Seen) (g : B → Line) (xs : List A) (ys : List B) (i : ℕ) (x : A) (y : B) (old new : List (Place × List ℕ))
-    → length ys ≡ length xs → i < length ys → i < length xs → x ≡ get_or xs i x → y ≡ get_or ys i y → old ≡ writes (map f (take i xs)) (map g (take i ys))
-    → new ≡ old ++ with_write (write_on (f x) (g y)) [] → new ≡ writes (map f (take (i + 1) xs)) (map g (take (i + 1) ys))
+pub written-more : {A B : Type 0} (f : A → Seen) (g : B → Line) (xs : List A) (ys : List B) (i : ℕ) (x : A)
+    (y : B) (old new : List (Place × List ℕ))
+    → length ys ≡ length xs → i < length ys → i < length xs → x ≡ get_or xs i x → y ≡ get_or ys i y
+    → old ≡ writes (map f (take i xs)) (map g (take i ys))
+    → new ≡ old ++ with_write (write_on (f x) (g y)) []
+    → new ≡ writes (map f (take (i + 1) xs)) (map g (take (i + 1) ys))
 written-more f g xs ys i x y old new h l m p q e n =
     n ∙ ap (λ (ws : List (Place × List ℕ)). ws ++ with_write (write_on (f x) (g y)) []) e
     ∙ sym (writes-more (map f (take i xs)) (map g (take i ys)) (f x) (g y) (fronts-same f g xs ys i h))

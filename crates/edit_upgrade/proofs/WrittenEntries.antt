@@ -40,7 +40,8 @@ abbrev seen_after : Option (List ℕ) → Seen → Seen
 seen_after None s = s
 seen_after (Some text) s = record s { old = Some (cut text) }
 
-same-source : (e : Entry) (r : EntryRecord) (o : Option Source) → option_map (seen_at e r) o ≡ option_map (seen_after None) (option_map (seen_at e r) o)
+same-source : (e : Entry) (r : EntryRecord) (o : Option Source)
+    → option_map (seen_at e r) o ≡ option_map (seen_after None) (option_map (seen_at e r) o)
 same-source e r None = refl
 same-source e r (Some source) = refl
 
@@ -71,30 +72,37 @@ own-literals : (ws : Edits) (e : Entry) (o : Option EntryRecord)
 own-literals ws e None = refl
 own-literals ws e (Some r) = own-literal ws e r (source_of r)
 
-row-after : (ws : Edits) (e : Entry) → with_row (entry_after ws e) ≡ option_map (λ s. seen_after (new_text ws s.literal) s) (with_row e)
+row-after : (ws : Edits) (e : Entry)
+    → with_row (entry_after ws e) ≡ option_map (λ s. seen_after (new_text ws s.literal) s) (with_row e)
 row-after ws e = said-again e (new_text ws e.literal) e.said ∙ own-literals ws e e.said
 
 -- ---- all entries
 
-cons-mapped : {A : Type 0} (f : A → A) (o : Option A) (xs : List A) → cons_option (option_map f o) (map f xs) ≡ map f (cons_option o xs)
+cons-mapped : {A : Type 0} (f : A → A) (o : Option A) (xs : List A)
+    → cons_option (option_map f o) (map f xs) ≡ map f (cons_option o xs)
 cons-mapped f None xs = refl
 cons-mapped f (Some x) xs = refl
 
 kept-after : (ws : Edits) (es : List Entry)
-    → filter_map with_row (map (entry_after ws) es) ≡ map (λ (s : Seen). seen_after (new_text ws s.literal) s) (filter_map with_row es)
+    → filter_map with_row (map (entry_after ws) es)
+    ≡ map (λ (s : Seen). seen_after (new_text ws s.literal) s) (filter_map with_row es)
 kept-after ws [] = refl
 kept-after ws (e ∷ es) =
     ap (λ (o : Option Seen). cons_option o (filter_map with_row (map (entry_after ws) es))) (row-after ws e)
-    ∙ ap (λ (xs : List Seen). cons_option (option_map (λ s. seen_after (new_text ws s.literal) s) (with_row e)) xs) (kept-after ws es)
+    ∙ ap (λ (xs : List Seen). cons_option
+    (option_map (λ s. seen_after (new_text ws s.literal) s) (with_row e)) xs) (kept-after ws es)
     ∙ cons-mapped (λ (s : Seen). seen_after (new_text ws s.literal) s) (with_row e) (filter_map with_row es)
 
 -- where no entry has its literal, nothing is written
-untouched : (es : List Seen) (ls : List Line) (q : Place) → AllByRecursion (λ e. same_place e.literal q ≡ false) es → new_text (writes es ls) q ≡ None
+untouched : (es : List Seen) (ls : List Line) (q : Place)
+    → AllByRecursion (λ e. same_place e.literal q ≡ false) es → new_text (writes es ls) q ≡ None
 untouched [] ls q h = refl
 untouched (e ∷ es) [] q h = refl
 untouched (e ∷ es) (l ∷ ls) q h = elim (on-cases e l) [
-  | inl none ↦ ap (λ (o : Option (Place × List ℕ)). new_text (with_write o (writes es ls)) q) none ∙ untouched es ls q h.1
-  | inr some ↦ ap (λ (o : Option (Place × List ℕ)). new_text (with_write o (writes es ls)) q) some.is ∙ rw h.0 (untouched es ls q h.1)
+  | inl none ↦ ap (λ (o : Option (Place × List ℕ)). new_text (with_write o (writes es ls)) q) none
+      ∙ untouched es ls q h.1
+  | inr some ↦ ap (λ (o : Option (Place × List ℕ)). new_text (with_write o (writes es ls)) q) some.is
+      ∙ rw h.0 (untouched es ls q h.1)
 ]
 
 -- places differ both ways
@@ -110,7 +118,8 @@ apart-back e [] h = tt
 apart-back e (f ∷ es) h = (other-way e.literal f.literal h.0, apart-back e es h.1)
 
 -- what is written at the literal of the first entry
-first-after : (e : Seen) (l : Line) (ws : Edits) → new_text ws e.literal ≡ None → seen_after (new_text (with_write (write_on e l) ws) e.literal) e ≡ renew e l
+first-after : (e : Seen) (l : Line) (ws : Edits) → new_text ws e.literal ≡ None
+    → seen_after (new_text (with_write (write_on e l) ws) e.literal) e ≡ renew e l
 first-after e l ws none = elim (on-cases e l) [
   | inl nothing ↦
       ap (λ (o : Option (Place × List ℕ)). seen_after (new_text (with_write o ws) e.literal) e) nothing
@@ -123,16 +132,24 @@ first-after e l ws none = elim (on-cases e l) [
 ]
 
 -- a write elsewhere leaves what is written at literals
-rest-after : (e : Seen) (l : Line) (ws : Edits) (es : List Seen) → AllByRecursion (λ f. same_place e.literal f.literal ≡ false) es
-    → map (λ (s : Seen). seen_after (new_text (with_write (write_on e l) ws) s.literal) s) es ≡ map (λ (s : Seen). seen_after (new_text ws s.literal) s) es
+rest-after : (e : Seen) (l : Line) (ws : Edits) (es : List Seen)
+    → AllByRecursion (λ f. same_place e.literal f.literal ≡ false) es
+    → map (λ (s : Seen). seen_after (new_text (with_write (write_on e l) ws) s.literal) s) es
+    ≡ map (λ (s : Seen). seen_after (new_text ws s.literal) s) es
 rest-after e l ws [] h = refl
 rest-after e l ws (f ∷ es) h =
-    ap (λ (x : Seen). x ∷ map (λ (s : Seen). seen_after (new_text (with_write (write_on e l) ws) s.literal) s) es) (one (on-cases e l))
+    ap (λ (x : Seen). x ∷ map
+    (λ (s : Seen). seen_after (new_text (with_write (write_on e l) ws) s.literal) s) es) (one (on-cases e l))
     ∙ ap (λ (xs : List Seen). seen_after (new_text ws f.literal) f ∷ xs) (rest-after e l ws es h.1)
   where
-    one : (write_on e l ≡ None) ⊎ IsWrite e l → seen_after (new_text (with_write (write_on e l) ws) f.literal) f ≡ seen_after (new_text ws f.literal) f
-    one (inl none) = ap (λ (o : Option (Place × List ℕ)). seen_after (new_text (with_write o ws) f.literal) f) none
-    one (inr some) = ap (λ (o : Option (Place × List ℕ)). seen_after (new_text (with_write o ws) f.literal) f) some.is ∙ rw h.0 refl
+    one : (write_on e l ≡ None) ⊎ IsWrite e l
+        → seen_after (new_text (with_write (write_on e l) ws) f.literal) f
+        ≡ seen_after (new_text ws f.literal) f
+    one (inl none) =
+        ap (λ (o : Option (Place × List ℕ)). seen_after (new_text (with_write o ws) f.literal) f) none
+    one (inr some) =
+        ap (λ (o : Option (Place × List ℕ)). seen_after (new_text (with_write o ws) f.literal) f) some.is
+        ∙ rw h.0 refl
 
 all-after : (R : Seen → Line → Type 0) (es : List Seen) (ls : List Line) → AreApart es → AllZip R es ls
     → map (λ (s : Seen). seen_after (new_text (writes es ls) s.literal) s) es ≡ renewed es ls
@@ -140,12 +157,15 @@ all-after R [] [] a h = refl
 all-after R [] (l ∷ ls) a h = absurd h
 all-after R (e ∷ es) [] a h = absurd h
 all-after R (e ∷ es) (l ∷ ls) a h =
-    ap (λ (x : Seen). x ∷ map (λ (s : Seen). seen_after (new_text (with_write (write_on e l) (writes es ls)) s.literal) s) es)
+    ap (λ (x : Seen). x ∷ map
+    (λ (s : Seen). seen_after (new_text (with_write (write_on e l) (writes es ls)) s.literal) s) es)
     (first-after e l (writes es ls) (untouched es ls e.literal (apart-back e es a.0)))
-    ∙ ap (λ (xs : List Seen). renew e l ∷ xs) (rest-after e l (writes es ls) es a.0 ∙ all-after R es ls a.1 h.1)
+    ∙ ap (λ (xs : List Seen). renew e l ∷ xs)
+    (rest-after e l (writes es ls) es a.0 ∙ all-after R es ls a.1 h.1)
 
 -- the seen entries of the tree in which the rows were written
-pub written-seen : (R : Seen → Line → Type 0) (t u : Tree) (ls : List Line) → AreApart (seen t) → AllZip R (seen t) ls
+pub written-seen : (R : Seen → Line → Type 0) (t u : Tree) (ls : List Line) → AreApart (seen t)
+    → AllZip R (seen t) ls
     → ((q : Place) → u q ≡ written (writes (seen t) ls) t q) → seen u ≡ renewed (seen t) ls
 written-seen R t u ls apart zip h =
     let ws = writes (seen t) ls in

@@ -22,4 +22,6 @@ pub mod Drafts
 pub mod Words
 pub mod Picks
 pub mod WordCauses
+pub mod Caches
+pub mod Plans
 pub mod Missing

@@ -4,11 +4,11 @@ ghost use Rattle.std.specs.BTreeSet.{contains_text};
 ghost use Rattle.edit_base.specs.Errors.{IsMemory};
 ghost use Rattle.edit_report.specs.declared.output.Output.{Output};
 ghost use Rattle.edit_sources.specs.IndexCache.{index_of};
-ghost use Rattle.edit_upgrade.specs.Causes.{HasBadEntry};
+ghost use Rattle.edit_upgrade.specs.Caches.{LeavesCache, StopsManifest, cache_view};
 ghost use Rattle.edit_upgrade.specs.Drafts.{AddsInput};
 ghost use Rattle.edit_upgrade.specs.Lines.{line_of};
 ghost use Rattle.edit_upgrade.specs.Lists.{Tells, warning_view};
-ghost use Rattle.edit_upgrade.specs.Looked.{AreKept, Leaves};
+ghost use Rattle.edit_upgrade.specs.Looked.{AreKept};
 ghost use Rattle.edit_upgrade.specs.Looks.{kept_by};
 ghost use Rattle.edit_upgrade.specs.Missing.{AddsNames};
 ghost use Rattle.edit_upgrade.specs.Outputs.{HasOutputs, IsOnlyOutput};
@@ -143,13 +143,11 @@ pub(crate) fn add_input<I: Index>(
         (I.view (index_of index.old)).gives (kept_by index.old) (kept_by index.new) draft.old draft.new) }
     ensures known { OnOk result (AddsNames asked.entry.options.now input.now.bytes.items
         (contains_text draft.old.known) (contains_text draft.new.known)) }
-    ensures left { Leaves (IsNeededBy configs.now input.now.bytes.items) (I.view (index_of index.old)).gives
-        (I.view (index_of index.new)).gives (I.view (index_of index.old)).faults
-        (I.view (index_of index.new)).faults (kept_by index.old) (kept_by index.new) }
+    ensures left { LeavesCache (IsNeededBy configs.now input.now.bytes.items)
+        (cache_view I.view index.old) (cache_view I.view index.new) }
     ensures refused { IfErr result (λ e. IsMemory e
-        ⊎ HasBadEntry configs.now (I.view (index_of index.old)).gives
-        (kept_by index.old) (kept_by index.new)
-        (I.view (index_of index.old)).faults (I.view (index_of index.new)).faults input.now.bytes.items e) }
+        ⊎ StopsManifest configs.now input.now.bytes.items
+        (cache_view I.view index.old) (cache_view I.view index.new) e) }
 {
     let books = &mut draft.books;
     let known = &mut draft.known;

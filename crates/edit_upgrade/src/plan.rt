@@ -5,16 +5,17 @@ ghost use Rattle.edit_base.specs.Errors.{IsMemory};
 ghost use Rattle.edit_manifest.specs.Loaded.{IsBadManifest};
 ghost use Rattle.edit_sources.specs.Index.{SameOutcomes};
 ghost use Rattle.edit_sources.specs.IndexCache.{index_of};
-ghost use Rattle.edit_upgrade.specs.Causes.{HasBadEntry, IsCause, IsEntryCause};
+ghost use Rattle.edit_upgrade.specs.Caches.{LeavesCache, StopsDocuments, StopsInputs, StopsManifest, cache_view};
 ghost use Rattle.edit_upgrade.specs.Drafts.{AddsInput, AreGiven, IsDraft};
 ghost use Rattle.edit_upgrade.specs.Headline.{IsSettled, LatestIsNotLess, Narrows, NeedsAsBefore, NeverLowers, Reaches};
 ghost use Rattle.edit_upgrade.specs.Inputs.{EachInput, HaveDistinctPaths, OutputsInOrder, RowsInOrder};
 ghost use Rattle.edit_upgrade.specs.Lines.{line_of};
 ghost use Rattle.edit_upgrade.specs.Lists.{Tells};
-ghost use Rattle.edit_upgrade.specs.Looked.{AreKept, Leaves};
-ghost use Rattle.edit_upgrade.specs.Looks.{AddsNeeded, AreLooks, kept_by};
+ghost use Rattle.edit_upgrade.specs.Looked.{AreKept};
+ghost use Rattle.edit_upgrade.specs.Looks.{AddsNeeded, kept_by};
 ghost use Rattle.edit_upgrade.specs.Missing.{AddsNames, AreKnown, TellsMissing};
 ghost use Rattle.edit_upgrade.specs.PairSets.{holds_pair};
+ghost use Rattle.edit_upgrade.specs.Plans.{HasLooks, IsPlan};
 ghost use Rattle.edit_upgrade.specs.WordCauses.{IsRefusedFor};
 ghost use Rattle.edit_upgrade.specs.Upgraded.{HasItsOutputs, HasItsRows, HasItsWarnings, IsNeeded, IsNeededBy};
 
@@ -49,18 +50,15 @@ fn add_read<I: Index>(
     ensures known { OnOk result (AddsNames asked.entry.options.now input.now.bytes.items
         (contains_text draft.old.known) (contains_text draft.new.known)) }
     ensures utf8 { OnOk result (option_copied document.entry ≡ None → IsUtf8 input.now.bytes.items) }
-    ensures left { Leaves (IsNeededBy configs.now input.now.bytes.items) (I.view (index_of index.old)).gives
-        (I.view (index_of index.new)).gives (I.view (index_of index.old)).faults
-        (I.view (index_of index.new)).faults (kept_by index.old) (kept_by index.new) }
+    ensures left { LeavesCache (IsNeededBy configs.now input.now.bytes.items)
+        (cache_view I.view index.old) (cache_view I.view index.new) }
     ensures given { IfErr result (λ e. IsSome (option_copied document.entry) → IsMemory e
-        ⊎ HasBadEntry configs.now (I.view (index_of index.old)).gives
-        (kept_by index.old) (kept_by index.new)
-        (I.view (index_of index.old)).faults (I.view (index_of index.new)).faults input.now.bytes.items e) }
+        ⊎ StopsManifest configs.now input.now.bytes.items
+        (cache_view I.view index.old) (cache_view I.view index.new) e) }
     ensures read { IfErr result (λ e. option_copied document.entry ≡ None
         → IsBadManifest input.now.bytes.items e
-        ⊎ HasBadEntry configs.now (I.view (index_of index.old)).gives
-        (kept_by index.old) (kept_by index.new)
-        (I.view (index_of index.old)).faults (I.view (index_of index.new)).faults input.now.bytes.items e) }
+        ⊎ StopsManifest configs.now input.now.bytes.items
+        (cache_view I.view index.old) (cache_view I.view index.new) e) }
 {
     match document {
         Some(document) => {
@@ -100,17 +98,14 @@ fn drafted<I: Index>(
         (kept_by index.old) (kept_by index.new)) }
     ensures known { IfOk result (λ d. AreKnown asked.entry.options.now inputs.now (contains_text d.known)) }
     ensures utf8 { OnOk result (documents.now ≡ [] → All (λ x. IsUtf8 x.bytes.items) inputs.now) }
-    ensures left { Leaves (IsNeeded inputs.now configs.now) (I.view (index_of index.old)).gives
-        (I.view (index_of index.new)).gives (I.view (index_of index.old)).faults
-        (I.view (index_of index.new)).faults (kept_by index.old) (kept_by index.new) }
+    ensures left { LeavesCache (IsNeeded inputs.now configs.now)
+        (cache_view I.view index.old) (cache_view I.view index.new) }
     ensures given { IfErr result (λ e. length documents.now ≡ length inputs.now
-        → IsEntryCause inputs.now configs.now (I.view (index_of index.old)).gives
-        (kept_by index.old) (kept_by index.new)
-        (I.view (index_of index.old)).faults (I.view (index_of index.new)).faults e) }
+        → StopsDocuments inputs.now configs.now
+        (cache_view I.view index.old) (cache_view I.view index.new) e) }
     ensures read { IfErr result (λ e. documents.now ≡ []
-        → IsCause inputs.now configs.now (I.view (index_of index.old)).gives
-        (kept_by index.old) (kept_by index.new)
-        (I.view (index_of index.old)).faults (I.view (index_of index.new)).faults e) }
+        → StopsInputs inputs.now configs.now
+        (cache_view I.view index.old) (cache_view I.view index.new) e) }
 {
     let mut draft = Draft::new(alloc);
     'inputs: for (i, input) in inputs.iter().enumerate() {
@@ -133,34 +128,16 @@ fn plan_all<I: Index>(
     requires documents { AreGiven inputs.now documents.now }
     requires configurations { length configs.now ≡ length inputs.now }
     requires paths { HaveDistinctPaths inputs.now }
-    ensures rows { IfOk result (EachInput options.now inputs.now configs.now HasItsRows) }
-    ensures rows_in_order { IfOk result (RowsInOrder inputs.now) }
-    ensures outputs { IfOk result (EachInput options.now inputs.now configs.now HasItsOutputs) }
-    ensures outputs_in_order { IfOk result (OutputsInOrder inputs.now) }
-    ensures warnings { IfOk result (EachInput options.now inputs.now configs.now HasItsWarnings) }
-    ensures narrowing { IfOk result (λ p. All Narrows (map line_of p.rows.items)) }
-    ensures reach { IfOk result (λ p. All Reaches (map line_of p.rows.items)) }
-    ensures latest { IfOk result (λ p. All LatestIsNotLess (map line_of p.rows.items)) }
-    ensures never_lower { IfOk result (NeverLowers options.now) }
-    ensures fixed_point { IfOk result (EachInput options.now inputs.now configs.now IsSettled) }
-    ensures needs { IfOk result (EachInput options.now inputs.now configs.now NeedsAsBefore) }
-    ensures looks { IfOk result
-        (λ p. AreLooks (IsNeeded inputs.now configs.now) (I.view (index_of index.old)).gives
-        (kept_by index.old) (kept_by index.new) p.looks.items) }
-    ensures lists { IfOk result Tells }
-    ensures missing { IfOk result (TellsMissing options.now inputs.now) }
-    ensures kept { AddsNeeded (IsNeeded inputs.now configs.now) (I.view (index_of index.old)).gives
-        (kept_by index.old) (kept_by index.new) }
-    ensures index { SameOutcomes (I.view (index_of index.old)).gives (I.view (index_of index.new)).gives }
-    ensures faults { (I.view (index_of index.old)).faults ≤ (I.view (index_of index.new)).faults }
+    ensures plan { IfOk result (IsPlan options.now inputs.now configs.now
+        (cache_view I.view index.old) (cache_view I.view index.new)) }
+    ensures left { LeavesCache (IsNeeded inputs.now configs.now)
+        (cache_view I.view index.old) (cache_view I.view index.new) }
     ensures given { IfErr result (λ e. length documents.now ≡ length inputs.now
-        → IsRefusedFor options.now (IsEntryCause inputs.now configs.now (I.view (index_of index.old)).gives
-        (kept_by index.old) (kept_by index.new)
-        (I.view (index_of index.old)).faults (I.view (index_of index.new)).faults) e) }
+        → IsRefusedFor options.now (StopsDocuments inputs.now configs.now
+        (cache_view I.view index.old) (cache_view I.view index.new)) e) }
     ensures read { IfErr result (λ e. documents.now ≡ []
-        → IsRefusedFor options.now (IsCause inputs.now configs.now (I.view (index_of index.old)).gives
-        (kept_by index.old) (kept_by index.new)
-        (I.view (index_of index.old)).faults (I.view (index_of index.new)).faults) e) }
+        → IsRefusedFor options.now (StopsInputs inputs.now configs.now
+        (cache_view I.view index.old) (cache_view I.view index.new)) e) }
 {
     let picks = picks_of(alloc, options)?;
     let asked = Asked {
@@ -185,42 +162,15 @@ pub fn plan_documents<I: Index>(
     requires documents { map (λ d. d.bytes) documents.now ≡ map (λ input. input.bytes.items) inputs.now }
     requires configurations { length configs.now ≡ length inputs.now }
     requires paths { HaveDistinctPaths inputs.now }
-    // each seen entry has one row: the decision over the greatest admissible versions that the looks tell of
-    ensures rows { IfOk result (EachInput options.now inputs.now configs.now HasItsRows) }
-    ensures rows_in_order { IfOk result (RowsInOrder inputs.now) }
-    // the literals of the rows with a change, and no other byte
-    ensures outputs { IfOk result (EachInput options.now inputs.now configs.now HasItsOutputs) }
-    ensures outputs_in_order { IfOk result (OutputsInOrder inputs.now) }
-    // on each entry that has no record, takes all from its workspace, or has a requirement that is not read
-    ensures warnings { IfOk result (EachInput options.now inputs.now configs.now HasItsWarnings) }
-    // a compatible change leaves a requirement that is read and admits nothing that the old one did not
-    ensures narrowing { IfOk result (λ p. All Narrows (map line_of p.rows.items)) }
-    // a change admits the version that it was made for
-    ensures reach { IfOk result (λ p. All Reaches (map line_of p.rows.items)) }
-    // where a compatible version is told, a latest one is, and is not less
-    ensures latest { IfOk result (λ p. All LatestIsNotLess (map line_of p.rows.items)) }
-    // with the option, no change to a latest or compatible version lowers the floor of a requirement
-    ensures never_lower { IfOk result (NeverLowers options.now) }
-    // where no word gives a requirement: planned again over the same looks, the bytes after the plan stay
-    ensures fixed_point { IfOk result (EachInput options.now inputs.now configs.now IsSettled) }
-    // and they need the same looks
-    ensures needs { IfOk result (EachInput options.now inputs.now configs.now NeedsAsBefore) }
-    // the names that words select and that no entry of an input has
-    ensures missing { IfOk result (TellsMissing options.now inputs.now) }
-    // each look that is needed, and no other
-    ensures looks { IfOk result
-        (λ p. AreLooks (IsNeeded inputs.now configs.now) (I.view (index_of index.old)).gives
-        (kept_by index.old) (kept_by index.new) p.looks.items) }
-    ensures lists { IfOk result Tells }
+    // each promise that `plan_upgrade` makes on its plan, by the same name
+    ensures plan { IfOk result (IsPlan options.now inputs.now configs.now
+        (cache_view I.view index.old) (cache_view I.view index.new)) }
     // also a refused plan adds to the answers that are kept only what is needed, as the index gives it
-    ensures kept { AddsNeeded (IsNeeded inputs.now configs.now) (I.view (index_of index.old)).gives
-        (kept_by index.old) (kept_by index.new) }
-    ensures index { SameOutcomes (I.view (index_of index.old)).gives (I.view (index_of index.new)).gives }
-    ensures faults { (I.view (index_of index.old)).faults ≤ (I.view (index_of index.new)).faults }
+    ensures left { LeavesCache (IsNeeded inputs.now configs.now)
+        (cache_view I.view index.old) (cache_view I.view index.new) }
     // for the options, else for the first input and its first entry that stops the plan
-    ensures refused { IfErr result (IsRefusedFor options.now (IsEntryCause inputs.now configs.now
-        (I.view (index_of index.old)).gives (kept_by index.old) (kept_by index.new)
-        (I.view (index_of index.old)).faults (I.view (index_of index.new)).faults)) }
+    ensures refused { IfErr result (IsRefusedFor options.now (StopsDocuments inputs.now configs.now
+        (cache_view I.view index.old) (cache_view I.view index.new))) }
 {
     plan_all(alloc, options, inputs, documents, configs, index)
 }
@@ -265,9 +215,8 @@ pub fn plan_upgrade<I: Index>(
     // the names that words select and that no entry of an input has
     ensures missing { IfOk result (TellsMissing options.now inputs.now) }
     // each look that is needed, and no other
-    ensures looks { IfOk result
-        (λ p. AreLooks (IsNeeded inputs.now configs.now) (I.view (index_of index.old)).gives
-        (kept_by index.old) (kept_by index.new) p.looks.items) }
+    ensures looks { IfOk result (HasLooks inputs.now configs.now
+        (cache_view I.view index.old) (cache_view I.view index.new)) }
     ensures lists { IfOk result Tells }
     // also a refused plan adds to the answers that are kept only what is needed, as the index gives it
     ensures kept { AddsNeeded (IsNeeded inputs.now configs.now) (I.view (index_of index.old)).gives
@@ -275,9 +224,8 @@ pub fn plan_upgrade<I: Index>(
     ensures index { SameOutcomes (I.view (index_of index.old)).gives (I.view (index_of index.new)).gives }
     ensures faults { (I.view (index_of index.old)).faults ≤ (I.view (index_of index.new)).faults }
     // for the options, else for the first input and its first entry that stops the plan
-    ensures refused { IfErr result (IsRefusedFor options.now (IsCause inputs.now configs.now
-        (I.view (index_of index.old)).gives (kept_by index.old) (kept_by index.new)
-        (I.view (index_of index.old)).faults (I.view (index_of index.new)).faults)) }
+    ensures refused { IfErr result (IsRefusedFor options.now (StopsInputs inputs.now configs.now
+        (cache_view I.view index.old) (cache_view I.view index.new))) }
 {
     let documents = Vec::new(alloc);
     plan_all(alloc, options, inputs, &documents, configs, index)

@@ -3,11 +3,11 @@ ghost use Rattle.std.specs.Prelude.{◌≡◌, ◌⊎◌, IfErr, IfOk, OnOk, len
 ghost use Rattle.std.specs.BTreeSet.{contains_text};
 ghost use Rattle.edit_base.specs.Errors.{IsMemory};
 ghost use Rattle.edit_sources.specs.IndexCache.{index_of};
-ghost use Rattle.edit_upgrade.specs.Causes.{HasBadEntry};
+ghost use Rattle.edit_upgrade.specs.Caches.{LeavesCache, StopsManifest, cache_view};
 ghost use Rattle.edit_upgrade.specs.Found.{seen_of};
 ghost use Rattle.edit_upgrade.specs.Lines.{line_of};
 ghost use Rattle.edit_upgrade.specs.Lists.{warning_view};
-ghost use Rattle.edit_upgrade.specs.Looked.{AreKept, Leaves};
+ghost use Rattle.edit_upgrade.specs.Looked.{AreKept};
 ghost use Rattle.edit_upgrade.specs.Looks.{kept_by};
 ghost use Rattle.edit_upgrade.specs.Missing.{AddsNames};
 ghost use Rattle.edit_upgrade.specs.PairSets.{holds_pair};
@@ -58,14 +58,11 @@ fn plan_entries<I: Index>(
     ensures walked { IfOk result (λ v. IsWalked number asked.entry.options.now input.now configs.now
         (I.view (index_of index.old)).gives (kept_by index.old) (kept_by index.new)
         books.old books.new (map line_of v.items)) }
-    ensures left { Leaves (IsNeededBy configs.now input.now.bytes.items) (I.view (index_of index.old)).gives
-        (I.view (index_of index.new)).gives (I.view (index_of index.old)).faults (I.view
-        (index_of index.new)).faults
-        (kept_by index.old) (kept_by index.new) }
+    ensures left { LeavesCache (IsNeededBy configs.now input.now.bytes.items)
+        (cache_view I.view index.old) (cache_view I.view index.new) }
     ensures refused { IfErr result (λ e. IsMemory e
-        ⊎ HasBadEntry configs.now (I.view (index_of index.old)).gives
-        (kept_by index.old) (kept_by index.new)
-        (I.view (index_of index.old)).faults (I.view (index_of index.new)).faults input.now.bytes.items e) }
+        ⊎ StopsManifest configs.now input.now.bytes.items
+        (cache_view I.view index.old) (cache_view I.view index.new) e) }
 {
     let rust_version = input.rust_version;
     let job = Job {
@@ -101,14 +98,11 @@ pub(crate) fn plan_input<I: Index>(
         (map warning_view p.warnings.items)) }
     ensures known { OnOk result (AddsNames asked.entry.options.now input.now.bytes.items
         (contains_text known.old) (contains_text known.new)) }
-    ensures left { Leaves (IsNeededBy configs.now input.now.bytes.items) (I.view (index_of index.old)).gives
-        (I.view (index_of index.new)).gives (I.view (index_of index.old)).faults (I.view
-        (index_of index.new)).faults
-        (kept_by index.old) (kept_by index.new) }
+    ensures left { LeavesCache (IsNeededBy configs.now input.now.bytes.items)
+        (cache_view I.view index.old) (cache_view I.view index.new) }
     ensures refused { IfErr result (λ e. IsMemory e
-        ⊎ HasBadEntry configs.now (I.view (index_of index.old)).gives
-        (kept_by index.old) (kept_by index.new)
-        (I.view (index_of index.old)).faults (I.view (index_of index.new)).faults input.now.bytes.items e) }
+        ⊎ StopsManifest configs.now input.now.bytes.items
+        (cache_view I.view index.old) (cache_view I.view index.new) e) }
 {
     document.has_form();
     // from which folder a path is meant shows in no row

@@ -6,10 +6,11 @@ ghost use Rattle.edit_sources.specs.Configured.{given};
 ghost use Rattle.edit_sources.specs.IndexCache.{index_of};
 ghost use Rattle.url.specs.Parts.{serialize};
 ghost use Rattle.edit_upgrade.specs.Addresses.{AreAddresses};
+ghost use Rattle.edit_upgrade.specs.Caches.{LeavesCache, cache_view};
 ghost use Rattle.edit_upgrade.specs.Causes.{IsPassed, StopsAt, StopsFirst};
 ghost use Rattle.edit_upgrade.specs.Found.{seen_of};
 ghost use Rattle.edit_upgrade.specs.Lines.{line_of};
-ghost use Rattle.edit_upgrade.specs.Looked.{AreKept, AreSteps, IsEntryStep, Leaves};
+ghost use Rattle.edit_upgrade.specs.Looked.{AreKept, AreSteps, IsEntryStep};
 ghost use Rattle.edit_upgrade.specs.Looks.{kept_basis, kept_by};
 ghost use Rattle.edit_upgrade.specs.PairSets.{holds_pair};
 ghost use Rattle.edit_upgrade.specs.Records.{at_registry};
@@ -54,10 +55,8 @@ fn registry_row<I: Index>(
     ensures row { IfOk result (λ r. IsRowBy (kept_basis job.entry.number job.entry.asked.options.now
         (numbers_in job.entry.rust_version) job.entry.configs.now (kept_by index.new))
         (seen_of entry.now) (line_of r)) }
-    ensures left { Leaves (IsNeededFor job.entry.configs.now (seen_of entry.now))
-        (I.view (index_of index.old)).gives
-        (I.view (index_of index.new)).gives (I.view (index_of index.old)).faults
-        (I.view (index_of index.new)).faults (kept_by index.old) (kept_by index.new) }
+    ensures left { LeavesCache (IsNeededFor job.entry.configs.now (seen_of entry.now))
+        (cache_view I.view index.old) (cache_view I.view index.new) }
     ensures refused { IfErr result (λ e. IsMemory e
         ⊎ StopsAt job.entry.configs.now (I.view (index_of index.old)).gives (kept_by index.old)
         (I.view (index_of index.old)).faults (I.view (index_of index.new)).faults (seen_of entry.now) e) }
@@ -90,10 +89,8 @@ fn entry_row<I: Index>(
     ensures row { IfOk result (λ r. IsRowBy (kept_basis job.entry.number job.entry.asked.options.now
         (numbers_in job.entry.rust_version) job.entry.configs.now (kept_by index.new))
         (seen_of entry.now) (line_of r)) }
-    ensures left { Leaves (IsNeededFor job.entry.configs.now (seen_of entry.now))
-        (I.view (index_of index.old)).gives
-        (I.view (index_of index.new)).gives (I.view (index_of index.old)).faults
-        (I.view (index_of index.new)).faults (kept_by index.old) (kept_by index.new) }
+    ensures left { LeavesCache (IsNeededFor job.entry.configs.now (seen_of entry.now))
+        (cache_view I.view index.old) (cache_view I.view index.new) }
     ensures refused { IfErr result (λ e. IsMemory e
         ⊎ StopsAt job.entry.configs.now (I.view (index_of index.old)).gives (kept_by index.old)
         (I.view (index_of index.old)).faults (I.view (index_of index.new)).faults (seen_of entry.now) e) }
@@ -139,10 +136,8 @@ pub(crate) fn walk<I: Index>(
     ensures rows { IfOk result (λ v. AreDecided (kept_basis job.entry.number job.entry.asked.options.now
         (numbers_in job.entry.rust_version) job.entry.configs.now (kept_by index.new))
         (map seen_of entries.now) (map line_of v.items)) }
-    ensures left { Leaves (IsNeededIn job.entry.configs.now (map seen_of entries.now))
-        (I.view (index_of index.old)).gives (I.view (index_of index.new)).gives
-        (I.view (index_of index.old)).faults (I.view (index_of index.new)).faults
-        (kept_by index.old) (kept_by index.new) }
+    ensures left { LeavesCache (IsNeededIn job.entry.configs.now (map seen_of entries.now))
+        (cache_view I.view index.old) (cache_view I.view index.new) }
     ensures refused { IfErr result (λ e. IsMemory e
         ⊎ StopsFirst job.entry.configs.now (I.view (index_of index.old)).gives
         (kept_by index.old) (kept_by index.new)

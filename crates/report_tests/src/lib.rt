@@ -7,6 +7,8 @@
 #[cfg(test)]
 mod messages;
 #[cfg(test)]
+mod outputs;
+#[cfg(test)]
 mod tables;
 #[cfg(test)]
 mod updates;

@@ -37,7 +37,8 @@ Error: x@|plain|Error|x
    Upgrading a from 0.1.0 to 0.2.0@|status|Upgrading|a from 0.1.0 to 0.2.0
     Updating b's dependency from 0.1 to 0.2@|justified|Updating|b's dependency from 0.1 to 0.2
 warning: aborting upgrade due to dry run@|warn||aborting upgrade due to dry run
-note: Re-run with `--verbose` to show more dependencies@  latest: a@|note||Re-run with `--verbose` to show more dependencies@  latest: a
+note: Re-run with `--verbose` to show more dependencies@  latest: a@|note||\
+Re-run with `--verbose` to show more dependencies@  latest: a
           né x@|justified|né|x
 much longer than twelve x@|justified|much longer than twelve|x
 a fragment|stderr||a fragment

@@ -80,7 +80,8 @@ name old req compatible latest new req note    @\
 ==== ======= ========== ====== ======= ====    @\
 a    1       1.0.0      1.0.0  1               @\
 p    -       -          -      -       local   @\
-q    0.1     -          -      0.1     excluded@|2|a,-,1,1.0.0,1.0.0,1,latest;p,-,-,-,-,-,path;q,-,0.1,-,-,0.1,excluded";
+q    0.1     -          -      0.1     excluded@|2|\
+a,-,1,1.0.0,1.0.0,1,latest;p,-,-,-,-,-,path;q,-,0.1,-,-,0.1,excluded";
 
 #[test]
 fn prints_tables(rt: HostRuntime) -> Result<(), Fail> {

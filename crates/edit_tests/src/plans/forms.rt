@@ -132,7 +132,7 @@ dependencies.a = "1.0"
 [workspace.dependencies]
 a = "1.0"
 ~# one inline table
-dependencies = { a = "1.2", b = { version = "1.2" }, c.version = "1.2", d = { optional = true, version = "1.2" }, e = "1.2" }
+dependencies = { a = "1.2", b = { version = "1.2" }, c.version = "1.2", d = {version="1.2"}, e = "1.2" }
 versions = [["1.0"], [{ version = "1.0" }]]
 [[test]]
 a = "1.0"
@@ -147,7 +147,7 @@ a = """
 1.0 1.2.3 1.2.3 1.2 None Some(Compatible)
 looks: 5
 |;a b c d e passed;1.0.0 1.2.3|# one inline table
-dependencies = { a = "1.0", b = { version = "1.0" }, c.version = "1.0", d = { optional = true, version = "1.0" }, e = '1.0' }
+dependencies = { a = "1.0", b = { version = "1.0" }, c.version = "1.0", d = {version="1.0"}, e = '1.0' }
 versions = [["1.0"], [{ version = "1.0" }]]
 [[test]]
 a = "1.0"

@@ -100,7 +100,8 @@ n;docopt;0.8.1;a version that no index has;docopt@99999.0.0|[dependencies]@docop
 ;x;1.2.3;the last word of a name has no requirement;x@2 x|[dependencies]@x = '1.0'@
 [dependencies]@x = \"1.1\"@@1.0 1.2.3 1.2.3 1.1 None Some(Explicit)@looks: 1@|\
 ;x;1.2.3;the last word of a name has one;x x@1.1|[dependencies]@x = '1.0'@
--@1.0 1.2.3 1.2.3 1.0 Some(Latest) None@looks: 1@|;x;1.2.3;the same requirement;x@1.0|[dependencies]@x = '1.0'@
+-@1.0 1.2.3 1.2.3 1.0 Some(Latest) None@looks: 1@|;x;1.2.3;the same requirement;x@1.0|\
+[dependencies]@x = '1.0'@
 -@1.0 1.2.3 1.2.3 1.0 Some(Excluded) None@missing y@looks: 1@|;x;1.2.3;another name;y@2|[dependencies]@\
 x = '1.0'@
 [dependencies]@x = { package = 'y', version = \"1.2\" }@@1.0 1.2.3 1.2.3 1.2 None Some(Compatible)@\

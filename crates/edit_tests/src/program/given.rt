@@ -175,7 +175,8 @@ Error: dependency nothere doesn't exist
 serde 1.0     1.2.3      1.2.3  1.1    
     Checking virtual workspace's dependencies
 warning: aborting upgrade due to dry run
-§an excluded entry|mi|99|- --exclude a --exclude serde|0 manifest     Checking virtual workspace's dependencies
+§an excluded entry|mi|99|- --exclude a --exclude serde|\
+0 manifest     Checking virtual workspace's dependencies
 note: Re-run with `--verbose` to show more dependencies
   excluded: serde
 §the write fails after four bytes|mi|9|-|1 cut name  old req compatible latest new req

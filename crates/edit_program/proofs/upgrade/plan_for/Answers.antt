@@ -18,27 +18,29 @@ returns-clause-ok c =
     let x = c.args.manifest.now.input in
     let own = c.args.configs.now in
     let p = c.in_ok-plan.plan in
-    let all = all_rows _ p (ap length c.from_ref-inputs.ensures.value) c.in_ok-plan.ensures.rows_in_order in
+    let all = all_rows _ p (ap length c.from_ref-inputs.ensures.value)
+    c.in_ok-plan.ensures.plan.rows_in_order in
     record {
       looks = p.looks.items;
       complete = λ address name need.
-          c.in_ok-plan.ensures.looks.complete address name
+          c.in_ok-plan.ensures.plan.looks.complete address name
           (needed-first c.from_ref-inputs.result.now c.from_ref-configs.result.now x own own.items
           c.from_ref-inputs.ensures.value c.from_ref-configs.ensures.value refl address name need);
       given = λ k d lt.
           one_given c.new-cache.result c.args.index _ _ _ c.new-cache.ensures.index c.new-cache.ensures.empty
-          (c.in_ok-plan.ensures.looks.given k d lt);
+          (c.in_ok-plan.ensures.plan.looks.given k d lt);
       decided = subst (λ lines. HasRows (setting_of 0 o x own.items p.looks.items) x.bytes.items lines) all
           (of-each o c.from_ref-inputs.result.now c.from_ref-configs.result.now HasItsRows p x own
-          c.from_ref-inputs.ensures.value c.from_ref-configs.ensures.value c.in_ok-plan.ensures.rows);
+          c.from_ref-inputs.ensures.value c.from_ref-configs.ensures.value c.in_ok-plan.ensures.plan.rows);
       writes = subst (λ lines. HasOutputs (path_of x) x.bytes.items lines p.outputs.items) all
           (subst (λ (os : List Output). HasOutputs (path_of x) x.bytes.items (rows_of 0 p) os)
           (only-outputs c.from_ref-inputs.result.now x p c.from_ref-inputs.ensures.value
-          c.in_ok-plan.ensures.outputs_in_order)
+          c.in_ok-plan.ensures.plan.outputs_in_order)
           (of-each o c.from_ref-inputs.result.now c.from_ref-configs.result.now HasItsOutputs p x own
-          c.from_ref-inputs.ensures.value c.from_ref-configs.ensures.value c.in_ok-plan.ensures.outputs));
+          c.from_ref-inputs.ensures.value c.from_ref-configs.ensures.value
+          c.in_ok-plan.ensures.plan.outputs));
       lacks = missing_alone o c.from_ref-inputs.result.now x _ c.from_ref-inputs.ensures.value
-          c.in_ok-plan.ensures.missing;
+          c.in_ok-plan.ensures.plan.missing;
     }
 
 pub returns-in_err-plan-clause-refused : goal.returns-in_err-plan-clause-refused

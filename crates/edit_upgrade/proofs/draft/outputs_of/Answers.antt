@@ -6,6 +6,7 @@ use Rattle.edit_upgrade.proofs.draft.outputs_of.Goals as goal
 pub returns-in_ok-push-in-Some-clause-ok : goal.returns-in_ok-push-in-Some-clause-ok
 returns-in_ok-push-in-Some-clause-ok c =
     let o : Output = record { path = c.in_ok-path-in-Some.path; bytes = c.into_bytes.result } in
-    only-output c.args.path.now c.args.text c.in-Some.text c.new-outputs.result.items c.push.new.self.items o c.in-Some.is
+    only-output c.args.path.now c.args.text c.in-Some.text c.new-outputs.result.items c.push.new.self.items
+    o c.in-Some.is
     c.new-outputs.ensures.items c.in_ok-push-in-Some.ensures.items c.in_ok-path-in-Some.ensures.ok
     (ap (λ (v : Vec ℕ Global). v.items) c.into_bytes.ensures.value)

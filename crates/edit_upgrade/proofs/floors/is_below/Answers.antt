@@ -15,4 +15,5 @@ returns-in-Some c =
     let v = parts_of c.args.version.now in
     below-read text c.in-Some.req.now.comparators.items v c.one_begins_after.result
     (requirement-ok text (comparators_of c.in-Some.req.now) c.in-Some.ensures)
-    (c.one_begins_after.ensures ∙ ap (list_any (λ (x : Comparator). begins_after v (comparator_view x))) c.deref.ensures.value)
+    (c.one_begins_after.ensures
+    ∙ ap (list_any (λ (x : Comparator). begins_after v (comparator_view x))) c.deref.ensures.value)

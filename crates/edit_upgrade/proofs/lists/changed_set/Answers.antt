@@ -9,11 +9,15 @@ pub rows-preserved : goal.rows-preserved
 rows-preserved c =
     elim c.if-is_some.branch [
       | then-is_some+in_ok-add_name w ↦ λ name. ap (λ s. contains_text s name) w.names-is
-          ∙ set-added changed_name c.args.rows.now c.rows.row-index c.row-item.result c.rows-test.true c.row-item.is
+          ∙ set-added changed_name c.args.rows.now c.rows.row-index c.row-item.result c.rows-test.true
+          c.row-item.is
           (changed-some c.row-item.result (sym c.is_some.ensures ∙ w.if-is_some.true))
-          (contains_text c.rows.names) (contains_text w.add_name.new.names) c.rows.invariant w.as_str.result.now w.as_str.ensures.value w.in_ok-add_name.ensures.ok name
+          (contains_text c.rows.names)
+          (contains_text w.add_name.new.names) c.rows.invariant w.as_str.result.now w.as_str.ensures.value
+          w.in_ok-add_name.ensures.ok name
       | else-is_some w ↦ λ name. ap (λ s. contains_text s name) w.names-is
-          ∙ set-kept changed_name c.args.rows.now c.rows.row-index c.row-item.result c.rows-test.true c.row-item.is
+          ∙ set-kept changed_name c.args.rows.now c.rows.row-index c.row-item.result c.rows-test.true
+          c.row-item.is
           (changed-none c.row-item.result (sym c.is_some.ensures ∙ w.if-is_some.false))
           (contains_text c.rows.names) c.rows.invariant name
     ]

@@ -7,4 +7,6 @@ use Rattle.edit_upgrade.specs.Lists.{changed_names}
 use Rattle.edit_upgrade.proofs.lists.changed_set.Given as goal
 
 abbrev pub invariant-rows : goal.invariant-rows
-invariant-rows l = (name : List ℕ) → contains_text l.names name ≡ list_any (bytes_eq name) (changed_names (map line_of (take l.row-index l.rows)))
+invariant-rows l = (name : List ℕ)
+    → contains_text l.names name
+    ≡ list_any (bytes_eq name) (changed_names (map line_of (take l.row-index l.rows)))

@@ -10,5 +10,6 @@ returns-clause-ok c = record {
   ordered = search rules;
   each = λ name.
       let same : c.in_ok-names.names.items ≡ c.in_ok-set.set.keys = search rules in
-      ap (λ ks. list_any (bytes_eq name) (map string_bytes ks)) same ∙ text-any name c.in_ok-set.set.keys ∙ c.in_ok-set.ensures.names name;
+      ap (λ ks. list_any (bytes_eq name) (map string_bytes ks)) same ∙ text-any name c.in_ok-set.set.keys
+      ∙ c.in_ok-set.ensures.names name;
 }

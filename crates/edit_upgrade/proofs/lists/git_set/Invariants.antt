@@ -7,4 +7,6 @@ use Rattle.edit_upgrade.specs.Lists.{git_names}
 use Rattle.edit_upgrade.proofs.lists.git_set.Given as goal
 
 abbrev pub invariant-rows : goal.invariant-rows
-invariant-rows l = (name : List ℕ) → contains_text l.names name ≡ list_any (bytes_eq name) (git_names (map line_of (take l.row-index l.rows)))
+invariant-rows l = (name : List ℕ)
+    → contains_text l.names name
+    ≡ list_any (bytes_eq name) (git_names (map line_of (take l.row-index l.rows)))

@@ -7,10 +7,12 @@ use Rattle.edit_upgrade.proofs.looks.look_once.Goals as goal
 pub returns-clause-step : goal.returns-clause-step
 returns-clause-step g c = record {
   set = λ a n. c.in_ok-had.ensures.ok a n
-      ∙ ap (λ (x : List ℕ). if bytes_eq x a && bytes_eq c.args.name.now n then true else holds_pair c.args.pairs.now a n) c.as_str.ensures.value;
+      ∙ ap (λ (x : List ℕ). if bytes_eq x a
+      && bytes_eq c.args.name.now n then true else holds_pair c.args.pairs.now a n) c.as_str.ensures.value;
   done = inr (
     c.in_ok-look.look,
-    ap (λ (x : List ℕ). holds_pair c.args.pairs.now x c.args.name.now) (sym c.as_str.ensures.value) ∙ sym c.in_ok-had.ensures.had ∙ c.if-had.false,
+    ap (λ (x : List ℕ). holds_pair c.args.pairs.now x c.args.name.now) (sym c.as_str.ensures.value)
+        ∙ sym c.in_ok-had.ensures.had ∙ c.if-had.false,
     c.in_ok-push.ensures.items,
     c.in_ok-look.ensures.look,
   );

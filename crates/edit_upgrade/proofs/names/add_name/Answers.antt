@@ -6,7 +6,8 @@ use Rattle.edit_upgrade.proofs.names.add_name.Goals as goal
 
 pub returns-clause-ok : goal.returns-clause-ok
 returns-clause-ok c = λ q.
-    btree_set_updates_text c.args.name.now c.args.names.now c.insert.new.self true (rw (← c.in_ok-name.ensures.ok) c.in_ok-added.ensures.updates) q
+    btree_set_updates_text c.args.name.now c.args.names.now c.insert.new.self true
+    (rw (← c.in_ok-name.ensures.ok) c.in_ok-added.ensures.updates) q
 
 not_not : (b : Bool) → not (not b) ≡ b
 not_not true = refl
@@ -14,4 +15,6 @@ not_not false = refl
 
 pub returns-clause-had : goal.returns-clause-had
 returns-clause-had c =
-    rw (← c.in_ok-name.ensures.ok) (ap not c.in_ok-added.ensures.added ∙ not_not (contains_text c.args.names.now (string_bytes c.in_ok-name.name)))
+    rw (← c.in_ok-name.ensures.ok)
+    (ap not c.in_ok-added.ensures.added
+    ∙ not_not (contains_text c.args.names.now (string_bytes c.in_ok-name.name)))

@@ -1,4 +1,4 @@
-use Rattle.std.proofs.Common.{List, ap, arith, map, subst, sym, take, ◌∙◌}
+use Rattle.std.proofs.Common.{List, ap, arith, subst, sym, take, ◌∙◌}
 use Rattle.std.specs.Prelude.{All, IsUtf8, slice_get}
 use Rattle.std.specs.BTreeSet.{contains_text}
 use Rattle.std.specs.Global.{Vec}
@@ -9,15 +9,14 @@ use Rattle.edit_metadata.specs.declared.input.Input.{Input}
 use Rattle.edit_sources.specs.IndexCache.{index_of}
 use Rattle.edit_sources.specs.declared.config.Config.{Config}
 use Rattle.edit_upgrade.specs.Drafts.{IsDraft}
-use Rattle.edit_upgrade.specs.Lines.{line_of}
-use Rattle.edit_upgrade.specs.Lists.{warning_view}
 use Rattle.edit_upgrade.specs.Looks.{kept_by}
 use Rattle.edit_upgrade.specs.Missing.{AreKnown}
-use Rattle.edit_upgrade.specs.Upgraded.{IsNeeded, IsNeededBy}
-use Rattle.edit_upgrade.proofs.CauseLemmas.{given-refused, read-refused, with-configs, with-configs_read}
-use Rattle.edit_upgrade.proofs.EndLemmas.{get-at, get-past}
-use Rattle.edit_upgrade.proofs.FurtherInputs.{draft-next, draft-start, given-at, needed-at}
-use Rattle.edit_upgrade.proofs.LookUpLemmas.{leaves-more, leaves-same}
+use Rattle.edit_upgrade.specs.Caches.{cache_view}
+use Rattle.edit_upgrade.specs.Upgraded.{IsNeeded}
+use Rattle.edit_upgrade.proofs.CauseLemmas.{given-refused, read-refused}
+use Rattle.edit_upgrade.proofs.EndLemmas.{get-past}
+use Rattle.edit_upgrade.proofs.FurtherInputs.{draft-next, draft-start, given-at, input-at, left-next}
+use Rattle.edit_upgrade.proofs.LookUpLemmas.{leaves-same}
 use Rattle.edit_upgrade.proofs.MissingLemmas.{known-next, known-start}
 use Rattle.edit_upgrade.proofs.PlannedLemmas.{refusal-has}
 use Rattle.edit_upgrade.proofs.Steps.{taken-more}
@@ -46,40 +45,28 @@ add_read-requires g c = record {
 }
 
 pub inputs-preserved : goal.inputs-preserved
-inputs-preserved g c = record {
-  draft = draft-next c.args.asked.options.now c.args.inputs.now c.args.configs.now c.inputs.i
-      c.index-inputs-i.result c.index-configs-i.result c.deref.result.now
-      (g.I.Index.view (index_of c.args.index.now)).gives (g.I.Index.view (index_of c.inputs.index)).gives
-      (kept_by c.args.index.now) (kept_by c.inputs.index) (kept_by c.add_read.new.index) c.inputs.draft
-      c.add_read.new.draft
-      c.requires.configurations c.requires.paths c.inputs-test.true c.index-inputs-i.is
-      c.index-configs-i.is c.deref.ensures.value
-      c.inputs.invariant.draft c.inputs.invariant.left.same c.in_ok-add_read.ensures.left.adds.stays
-      c.in_ok-add_read.ensures.adds c.in_ok-add_read.ensures.kept;
-  known = known-next c.args.asked.options.now c.args.inputs.now c.inputs.i c.index-inputs-i.result
-      (contains_text c.inputs.draft.known) (contains_text c.add_read.new.draft.known) c.inputs-test.true
-      c.index-inputs-i.is c.inputs.invariant.known c.in_ok-add_read.ensures.known;
-  utf8 = λ e.
-      let none = c.document_at-document.ensures ∙ ap (λ (ds : List Shown). slice_get ds c.inputs.i) e in
-      subst (λ (xs : List Input). All (λ (x : Input). IsUtf8 x.bytes.items) xs)
-      (sym (taken-more c.args.inputs.now c.inputs.i c.index-inputs-i.result c.inputs-test.true
-      c.index-inputs-i.is))
-      (All-push (λ (x : Input). IsUtf8 x.bytes.items) (take c.inputs.i c.args.inputs.now)
-      c.index-inputs-i.result (c.inputs.invariant.utf8 e)
-      (c.in_ok-add_read.ensures.utf8 none));
-  left = leaves-more (IsNeeded c.args.inputs.now c.args.configs.now)
-      (IsNeededBy c.deref.result.now c.index-inputs-i.result.bytes.items)
-      (g.I.Index.view (index_of c.args.index.now)).gives (g.I.Index.view (index_of c.inputs.index)).gives
-      (g.I.Index.view (index_of c.add_read.new.index)).gives
-      (g.I.Index.view (index_of c.args.index.now)).faults
-      (g.I.Index.view (index_of c.inputs.index)).faults
-      (g.I.Index.view (index_of c.add_read.new.index)).faults
-      (kept_by c.args.index.now) (kept_by c.inputs.index) (kept_by c.add_read.new.index)
-      (needed-at c.args.inputs.now c.args.configs.now c.inputs.i c.index-inputs-i.result
-      c.index-configs-i.result c.deref.result.now c.requires.configurations
-      c.inputs-test.true c.index-inputs-i.is c.index-configs-i.is c.deref.ensures.value)
-      c.inputs.invariant.left c.in_ok-add_read.ensures.left;
-}
+inputs-preserved g c =
+    let was = cache_view g.I.Index.view c.args.index.now in
+    let now = cache_view g.I.Index.view c.inputs.index in
+    let next = cache_view g.I.Index.view c.add_read.new.index in
+    let at = input-at c.inputs-test.true c.requires.configurations c.index-inputs-i.is c.index-configs-i.is
+    c.deref.ensures.value in
+    record {
+      draft = draft-next c.args.asked.options.now was now next c.inputs.draft c.add_read.new.draft at
+          c.requires.paths c.inputs.invariant.draft c.inputs.invariant.left.same
+          c.in_ok-add_read.ensures.left.adds.stays c.in_ok-add_read.ensures.adds
+          c.in_ok-add_read.ensures.kept;
+      known = known-next c.args.asked.options.now c.args.inputs.now c.inputs.i c.index-inputs-i.result
+          (contains_text c.inputs.draft.known) (contains_text c.add_read.new.draft.known) at.low at.is
+          c.inputs.invariant.known c.in_ok-add_read.ensures.known;
+      utf8 = λ e.
+          let none = c.document_at-document.ensures ∙ ap (λ (ds : List Shown). slice_get ds c.inputs.i) e in
+          subst (λ (xs : List Input). All (λ (x : Input). IsUtf8 x.bytes.items) xs)
+          (sym (taken-more c.args.inputs.now c.inputs.i c.index-inputs-i.result at.low at.is))
+          (All-push (λ (x : Input). IsUtf8 x.bytes.items) (take c.inputs.i c.args.inputs.now)
+          c.index-inputs-i.result (c.inputs.invariant.utf8 e) (c.in_ok-add_read.ensures.utf8 none));
+      left = left-next was now next at c.inputs.invariant.left c.in_ok-add_read.ensures.left;
+    }
 
 pub returns-clause-drafted : goal.returns-clause-drafted
 returns-clause-drafted g c =
@@ -89,7 +76,8 @@ returns-clause-drafted g c =
     subst (λ (xs : List Input). IsDraft c.args.asked.options.now xs c.args.configs.now
     (g.I.Index.view (index_of c.args.index.now)).gives (kept_by c.args.index.now)
     (kept_by c.inputs.index) c.inputs.draft) whole
-    (subst (λ (cs : List (Vec Config)). IsDraft c.args.asked.options.now (take c.inputs.i c.args.inputs.now) cs
+    (subst (λ (cs : List (Vec Config)). IsDraft c.args.asked.options.now
+    (take c.inputs.i c.args.inputs.now) cs
     (g.I.Index.view (index_of c.args.index.now)).gives (kept_by c.args.index.now)
     (kept_by c.inputs.index) c.inputs.draft)
     whole_configs c.inputs.invariant.draft)
@@ -106,60 +94,35 @@ returns-clause-utf8 g c = λ e.
 
 pub returns-in_err-add_read-clause-left : goal.returns-in_err-add_read-clause-left
 returns-in_err-add_read-clause-left g c =
-    leaves-more (IsNeeded c.args.inputs.now c.args.configs.now)
-    (IsNeededBy c.deref.result.now c.index-inputs-i.result.bytes.items)
-    (g.I.Index.view (index_of c.args.index.now)).gives (g.I.Index.view (index_of c.inputs.index)).gives
-    (g.I.Index.view (index_of c.add_read.new.index)).gives
-    (g.I.Index.view (index_of c.args.index.now)).faults
-    (g.I.Index.view (index_of c.inputs.index)).faults
-    (g.I.Index.view (index_of c.add_read.new.index)).faults
-    (kept_by c.args.index.now) (kept_by c.inputs.index) (kept_by c.add_read.new.index)
-    (needed-at c.args.inputs.now c.args.configs.now c.inputs.i c.index-inputs-i.result
-    c.index-configs-i.result c.deref.result.now c.requires.configurations
-    c.inputs-test.true c.index-inputs-i.is c.index-configs-i.is c.deref.ensures.value)
-    c.inputs.invariant.left c.in_err-add_read.ensures.left
+    let was = cache_view g.I.Index.view c.args.index.now in
+    let now = cache_view g.I.Index.view c.inputs.index in
+    let next = cache_view g.I.Index.view c.add_read.new.index in
+    let at = input-at c.inputs-test.true c.requires.configurations c.index-inputs-i.is c.index-configs-i.is
+    c.deref.ensures.value in
+    left-next was now next at c.inputs.invariant.left c.in_err-add_read.ensures.left
 
 pub returns-in_err-add_read-clause-given : goal.returns-in_err-add_read-clause-given
 returns-in_err-add_read-clause-given g c =
+    let was = cache_view g.I.Index.view c.args.index.now in
+    let now = cache_view g.I.Index.view c.inputs.index in
+    let next = cache_view g.I.Index.view c.add_read.new.index in
+    let at = input-at c.inputs-test.true c.requires.configurations c.index-inputs-i.is c.index-configs-i.is
+    c.deref.ensures.value in
     refusal-has c.from_residual.result c.in_err-add_read.field-0.0 _ c.from_residual.ensures.1
-    (λ long. given-refused c.args.asked.options.now c.args.inputs.now c.args.configs.now
-    (g.I.Index.view (index_of c.args.index.now)).gives (g.I.Index.view (index_of c.inputs.index)).gives
-    (kept_by c.args.index.now) (kept_by c.inputs.index) (kept_by c.add_read.new.index)
-    (g.I.Index.view (index_of c.args.index.now)).faults
-    (g.I.Index.view (index_of c.inputs.index)).faults
-    (g.I.Index.view (index_of c.add_read.new.index)).faults c.inputs.i
-    (map line_of c.inputs.draft.rows.items) c.inputs.draft.outputs.items
-    (map warning_view c.inputs.draft.warnings.items) c.index-inputs-i.result c.index-configs-i.result
-    (get-at c.args.inputs.now c.inputs.i c.index-inputs-i.result c.inputs-test.true c.index-inputs-i.is)
-    (get-at c.args.configs.now c.inputs.i c.index-configs-i.result
-    (omega (arith, c.inputs-test.true, c.requires.configurations)) c.index-configs-i.is)
-    c.inputs.invariant.draft.planned c.inputs.invariant.left.same c.inputs.invariant.left.adds.stays
-    c.in_err-add_read.ensures.left.adds.stays
-    c.inputs.invariant.left.later c.in_err-add_read.field-0.0
-    (with-configs c.deref.result.now c.index-configs-i.result c.index-inputs-i.result.bytes.items _ _ _ _ _
-    c.in_err-add_read.field-0.0 c.deref.ensures.value
-    (c.in_err-add_read.ensures.given
-    (get-past c.args.documents.now c.inputs.i _ (omega (arith, c.inputs-test.true, long))
-    c.document_at-document.ensures))))
+    (λ long. given-refused was now next c.in_err-add_read.field-0.0 at c.inputs.invariant.draft.planned
+    c.inputs.invariant.left c.in_err-add_read.ensures.left.adds.stays
+    (c.in_err-add_read.ensures.given (get-past c.args.documents.now c.inputs.i _
+    (omega (arith, c.inputs-test.true, long)) c.document_at-document.ensures)))
 
 pub returns-in_err-add_read-clause-read : goal.returns-in_err-add_read-clause-read
 returns-in_err-add_read-clause-read g c =
+    let was = cache_view g.I.Index.view c.args.index.now in
+    let now = cache_view g.I.Index.view c.inputs.index in
+    let next = cache_view g.I.Index.view c.add_read.new.index in
+    let at = input-at c.inputs-test.true c.requires.configurations c.index-inputs-i.is c.index-configs-i.is
+    c.deref.ensures.value in
     refusal-has c.from_residual.result c.in_err-add_read.field-0.0 _ c.from_residual.ensures.1
-    (λ e. read-refused c.args.asked.options.now c.args.inputs.now c.args.configs.now
-    (g.I.Index.view (index_of c.args.index.now)).gives (g.I.Index.view (index_of c.inputs.index)).gives
-    (kept_by c.args.index.now) (kept_by c.inputs.index) (kept_by c.add_read.new.index)
-    (g.I.Index.view (index_of c.args.index.now)).faults
-    (g.I.Index.view (index_of c.inputs.index)).faults
-    (g.I.Index.view (index_of c.add_read.new.index)).faults c.inputs.i
-    (map line_of c.inputs.draft.rows.items) c.inputs.draft.outputs.items
-    (map warning_view c.inputs.draft.warnings.items) c.index-inputs-i.result c.index-configs-i.result
-    (get-at c.args.inputs.now c.inputs.i c.index-inputs-i.result c.inputs-test.true c.index-inputs-i.is)
-    (get-at c.args.configs.now c.inputs.i c.index-configs-i.result
-    (omega (arith, c.inputs-test.true, c.requires.configurations)) c.index-configs-i.is)
-    c.inputs.invariant.draft.planned c.inputs.invariant.left.same c.inputs.invariant.left.adds.stays
-    c.in_err-add_read.ensures.left.adds.stays
-    c.inputs.invariant.left.later c.in_err-add_read.field-0.0
-    (with-configs_read c.deref.result.now c.index-configs-i.result c.index-inputs-i.result.bytes.items _ _
-    _ _ _ c.in_err-add_read.field-0.0 c.deref.ensures.value
+    (λ e. read-refused was now next c.in_err-add_read.field-0.0 at c.inputs.invariant.draft.planned
+    c.inputs.invariant.left c.in_err-add_read.ensures.left.adds.stays
     (c.in_err-add_read.ensures.read (c.document_at-document.ensures
-    ∙ ap (λ (ds : List Shown). slice_get ds c.inputs.i) e))))
+    ∙ ap (λ (ds : List Shown). slice_get ds c.inputs.i) e)))

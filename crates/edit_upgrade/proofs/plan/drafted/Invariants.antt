@@ -3,9 +3,9 @@ use Rattle.std.specs.Prelude.{All, IsUtf8}
 use Rattle.std.specs.BTreeSet.{contains_text}
 use Rattle.edit_sources.specs.IndexCache.{index_of}
 use Rattle.edit_upgrade.specs.Drafts.{IsDraft}
-use Rattle.edit_upgrade.specs.Looked.{Leaves}
 use Rattle.edit_upgrade.specs.Looks.{kept_by}
 use Rattle.edit_upgrade.specs.Missing.{AreKnown}
+use Rattle.edit_upgrade.specs.Caches.{LeavesCache, cache_view}
 use Rattle.edit_upgrade.specs.Upgraded.{IsNeeded}
 use Rattle.edit_upgrade.proofs.plan.drafted.Given as goal
 
@@ -16,8 +16,6 @@ invariant-inputs g l = record {
       (kept_by l.fn.index) (kept_by l.index) l.draft;
   utf8 : l.documents ≡ [] → All (λ x. IsUtf8 x.bytes.items) (take l.i l.inputs);
   known : AreKnown l.asked.options.now (take l.i l.inputs) (contains_text l.draft.known);
-  left : Leaves (IsNeeded l.inputs l.configs) (g.I.Index.view (index_of l.fn.index)).gives
-      (g.I.Index.view (index_of l.index)).gives
-      (g.I.Index.view (index_of l.fn.index)).faults (g.I.Index.view (index_of l.index)).faults
-      (kept_by l.fn.index) (kept_by l.index);
+  left : LeavesCache (IsNeeded l.inputs l.configs) (cache_view g.I.Index.view l.fn.index)
+      (cache_view g.I.Index.view l.index);
 }

@@ -3,138 +3,32 @@ use Rattle.std.specs.Prelude.{String, filter, not, string_bytes}
 use Rattle.std.specs.BTreeSet.{contains_text}
 use Rattle.std.specs.Global.{Vec}
 use Rattle.std.specs.declared.alloc.Global.{Global}
-use Rattle.edit_sources.specs.IndexCache.{index_of}
-use Rattle.edit_upgrade.specs.Headline.{KeepsFloor, LatestIsNotLess, Narrows, Reaches}
-use Rattle.edit_upgrade.specs.Lines.{line_of}
-use Rattle.edit_upgrade.specs.Lists.{warning_view}
-use Rattle.edit_upgrade.specs.Looks.{kept_by}
+use Rattle.edit_upgrade.specs.Caches.{cache_view}
 use Rattle.edit_upgrade.specs.Words.{words_of}
-use Rattle.edit_upgrade.specs.declared.upgrade.Options.{Options}
 use Rattle.edit_upgrade.proofs.CauseLemmas.{finish-refused, rows-some}
-use Rattle.edit_upgrade.proofs.DraftedInputs.{all-lines, all-lines_under, all-needs, all-outputs, all-rows_each, all-settled, all-warnings, finished-draft}
-use Rattle.edit_upgrade.proofs.HeadlineRows.{rows-floor, rows-latest, rows-narrow, rows-reach}
+use Rattle.edit_upgrade.proofs.DraftedInputs.{finished-draft, plan-of}
 use Rattle.edit_upgrade.proofs.MissingLemmas.{missing-are}
 use Rattle.edit_upgrade.proofs.PlannedLemmas.{refusal-has}
 use Rattle.edit_upgrade.proofs.WordCauseLemmas.{memory-at}
 use Rattle.edit_upgrade.proofs.plan.plan_all.Goals as goal
 
-pub returns-clause-rows : goal.returns-clause-rows
-returns-clause-rows g c =
-    all-rows_each c.args.options.now (g.I.Index.view (index_of c.args.index.now)).gives
-    (kept_by c.args.index.now) (kept_by c.drafted.new.index)
-    c.args.inputs.now c.args.configs.now c.in_ok-plan.plan
-    (finished-draft c.args.options.now (g.I.Index.view (index_of c.args.index.now)).gives
-    (kept_by c.args.index.now) (kept_by c.drafted.new.index)
-    c.args.inputs.now c.args.configs.now c.in_ok-draft.draft c.in_ok-plan.plan
+pub returns-clause-plan : goal.returns-clause-plan
+returns-clause-plan g c =
+    let o = c.args.options.now in
+    let old = cache_view g.I.Index.view c.args.index.now in
+    let new = cache_view g.I.Index.view c.drafted.new.index in
+    plan-of o c.args.inputs.now c.args.configs.now old new c.in_ok-plan.plan
+    (finished-draft o c.args.inputs.now c.args.configs.now old new c.in_ok-draft.draft c.in_ok-plan.plan
     c.in_ok-draft.ensures.drafted c.in_ok-plan.ensures.rows c.in_ok-plan.ensures.outputs)
-
-pub returns-clause-outputs : goal.returns-clause-outputs
-returns-clause-outputs g c =
-    all-outputs c.args.options.now (g.I.Index.view (index_of c.args.index.now)).gives
-    (kept_by c.args.index.now) (kept_by c.drafted.new.index)
-    c.args.inputs.now c.args.configs.now c.in_ok-plan.plan
-    (finished-draft c.args.options.now (g.I.Index.view (index_of c.args.index.now)).gives
-    (kept_by c.args.index.now) (kept_by c.drafted.new.index)
-    c.args.inputs.now c.args.configs.now c.in_ok-draft.draft c.in_ok-plan.plan
-    c.in_ok-draft.ensures.drafted c.in_ok-plan.ensures.rows c.in_ok-plan.ensures.outputs)
-
-pub returns-clause-warnings : goal.returns-clause-warnings
-returns-clause-warnings g c =
-    all-warnings c.args.options.now (g.I.Index.view (index_of c.args.index.now)).gives
-    (kept_by c.args.index.now) (kept_by c.drafted.new.index)
-    c.args.inputs.now c.args.configs.now c.in_ok-plan.plan
-    (finished-draft c.args.options.now (g.I.Index.view (index_of c.args.index.now)).gives
-    (kept_by c.args.index.now) (kept_by c.drafted.new.index)
-    c.args.inputs.now c.args.configs.now c.in_ok-draft.draft c.in_ok-plan.plan
-    c.in_ok-draft.ensures.drafted c.in_ok-plan.ensures.rows c.in_ok-plan.ensures.outputs)
-
-pub returns-clause-fixed_point : goal.returns-clause-fixed_point
-returns-clause-fixed_point g c =
-    all-settled c.args.options.now (g.I.Index.view (index_of c.args.index.now)).gives
-    (kept_by c.args.index.now) (kept_by c.drafted.new.index)
-    c.args.inputs.now c.args.configs.now c.in_ok-plan.plan
-    (finished-draft c.args.options.now (g.I.Index.view (index_of c.args.index.now)).gives
-    (kept_by c.args.index.now) (kept_by c.drafted.new.index)
-    c.args.inputs.now c.args.configs.now c.in_ok-draft.draft c.in_ok-plan.plan
-    c.in_ok-draft.ensures.drafted c.in_ok-plan.ensures.rows c.in_ok-plan.ensures.outputs)
-
-pub returns-clause-needs : goal.returns-clause-needs
-returns-clause-needs g c =
-    all-needs c.args.options.now (g.I.Index.view (index_of c.args.index.now)).gives
-    (kept_by c.args.index.now) (kept_by c.drafted.new.index)
-    c.args.inputs.now c.args.configs.now c.in_ok-plan.plan
-    (finished-draft c.args.options.now (g.I.Index.view (index_of c.args.index.now)).gives
-    (kept_by c.args.index.now) (kept_by c.drafted.new.index)
-    c.args.inputs.now c.args.configs.now c.in_ok-draft.draft c.in_ok-plan.plan
-    c.in_ok-draft.ensures.drafted c.in_ok-plan.ensures.rows c.in_ok-plan.ensures.outputs)
-
-pub returns-clause-rows_in_order : goal.returns-clause-rows_in_order
-returns-clause-rows_in_order g c =
-    (finished-draft c.args.options.now (g.I.Index.view (index_of c.args.index.now)).gives
-    (kept_by c.args.index.now) (kept_by c.drafted.new.index)
-    c.args.inputs.now c.args.configs.now c.in_ok-draft.draft c.in_ok-plan.plan
-    c.in_ok-draft.ensures.drafted c.in_ok-plan.ensures.rows
-    c.in_ok-plan.ensures.outputs).planned.rows_in_order
-
-pub returns-clause-outputs_in_order : goal.returns-clause-outputs_in_order
-returns-clause-outputs_in_order g c =
-    (finished-draft c.args.options.now (g.I.Index.view (index_of c.args.index.now)).gives
-    (kept_by c.args.index.now) (kept_by c.drafted.new.index)
-    c.args.inputs.now c.args.configs.now c.in_ok-draft.draft c.in_ok-plan.plan
-    c.in_ok-draft.ensures.drafted c.in_ok-plan.ensures.rows
-    c.in_ok-plan.ensures.outputs).planned.outputs_in_order
-
-pub returns-clause-narrowing : goal.returns-clause-narrowing
-returns-clause-narrowing g c =
-    all-lines c.args.options.now (g.I.Index.view (index_of c.args.index.now)).gives
-    (kept_by c.args.index.now) (kept_by c.drafted.new.index)
-    c.args.inputs.now c.args.configs.now c.in_ok-plan.plan
-    (finished-draft c.args.options.now (g.I.Index.view (index_of c.args.index.now)).gives
-    (kept_by c.args.index.now) (kept_by c.drafted.new.index)
-    c.args.inputs.now c.args.configs.now c.in_ok-draft.draft c.in_ok-plan.plan
-    c.in_ok-draft.ensures.drafted c.in_ok-plan.ensures.rows c.in_ok-plan.ensures.outputs)
-    Narrows c.requires.configurations rows-narrow
-
-pub returns-clause-reach : goal.returns-clause-reach
-returns-clause-reach g c =
-    all-lines c.args.options.now (g.I.Index.view (index_of c.args.index.now)).gives
-    (kept_by c.args.index.now) (kept_by c.drafted.new.index)
-    c.args.inputs.now c.args.configs.now c.in_ok-plan.plan
-    (finished-draft c.args.options.now (g.I.Index.view (index_of c.args.index.now)).gives
-    (kept_by c.args.index.now) (kept_by c.drafted.new.index)
-    c.args.inputs.now c.args.configs.now c.in_ok-draft.draft c.in_ok-plan.plan
-    c.in_ok-draft.ensures.drafted c.in_ok-plan.ensures.rows c.in_ok-plan.ensures.outputs)
-    Reaches c.requires.configurations rows-reach
-
-pub returns-clause-latest : goal.returns-clause-latest
-returns-clause-latest g c =
-    all-lines c.args.options.now (g.I.Index.view (index_of c.args.index.now)).gives
-    (kept_by c.args.index.now) (kept_by c.drafted.new.index)
-    c.args.inputs.now c.args.configs.now c.in_ok-plan.plan
-    (finished-draft c.args.options.now (g.I.Index.view (index_of c.args.index.now)).gives
-    (kept_by c.args.index.now) (kept_by c.drafted.new.index)
-    c.args.inputs.now c.args.configs.now c.in_ok-draft.draft c.in_ok-plan.plan
-    c.in_ok-draft.ensures.drafted c.in_ok-plan.ensures.rows c.in_ok-plan.ensures.outputs)
-    LatestIsNotLess c.requires.configurations rows-latest
-
-pub returns-clause-never_lower : goal.returns-clause-never_lower
-returns-clause-never_lower g c = λ on.
-    all-lines_under c.args.options.now (g.I.Index.view (index_of c.args.index.now)).gives
-    (kept_by c.args.index.now) (kept_by c.drafted.new.index)
-    c.args.inputs.now c.args.configs.now c.in_ok-plan.plan
-    (finished-draft c.args.options.now (g.I.Index.view (index_of c.args.index.now)).gives
-    (kept_by c.args.index.now) (kept_by c.drafted.new.index)
-    c.args.inputs.now c.args.configs.now c.in_ok-draft.draft c.in_ok-plan.plan
-    c.in_ok-draft.ensures.drafted c.in_ok-plan.ensures.rows c.in_ok-plan.ensures.outputs)
-    KeepsFloor c.requires.configurations
-    (λ s bytes lines same h. rows-floor s bytes lines (ap (λ (o : Options). o.never_lower) same ∙ on) h)
-
-pub returns-clause-looks : goal.returns-clause-looks
-returns-clause-looks g c =
-    (finished-draft c.args.options.now (g.I.Index.view (index_of c.args.index.now)).gives
-    (kept_by c.args.index.now) (kept_by c.drafted.new.index)
-    c.args.inputs.now c.args.configs.now c.in_ok-draft.draft c.in_ok-plan.plan
-    c.in_ok-draft.ensures.drafted c.in_ok-plan.ensures.rows c.in_ok-plan.ensures.outputs).looks
+    c.requires.configurations c.in_ok-plan.ensures.lists
+    (missing-are o c.args.inputs.now (contains_text c.in_ok-draft.draft.known)
+    (map string_bytes c.in_ok-picks.picks.words.names.items)
+    (map string_bytes c.in_ok-plan.plan.missing.items)
+    c.in_ok-draft.ensures.known c.in_ok-picks.ensures.ok.words.names
+    (ap (λ (v : Vec (String Global)). map string_bytes v.items) c.in_ok-plan.ensures.missing
+    ∙ c.in_ok-missing.ensures.ok
+    ∙ ap (λ (xs : List (String Global)). filter (λ name. not (contains_text c.in_ok-draft.draft.known name))
+    (map string_bytes xs)) c.deref.ensures.value))
 
 pub returns-in_err-plan-clause-given : goal.returns-in_err-plan-clause-given
 returns-in_err-plan-clause-given g c =
@@ -148,13 +42,8 @@ returns-in_err-plan-clause-read g c =
     c.from_residual-in_err-plan.ensures.1
     (λ none. inr (
       c.in_ok-picks.ensures.ok.words.each,
-      finish-refused c.args.options.now c.args.inputs.now c.args.configs.now
-          (g.I.Index.view (index_of c.args.index.now)).gives
-          (kept_by c.args.index.now) (kept_by c.drafted.new.index) (kept_by c.drafted.new.index)
-          (g.I.Index.view (index_of c.args.index.now)).faults
-          (g.I.Index.view (index_of c.drafted.new.index)).faults
-          (map line_of c.in_ok-draft.draft.rows.items) c.in_ok-draft.draft.outputs.items
-          (map warning_view c.in_ok-draft.draft.warnings.items) c.in_err-plan.field-0.0
+      finish-refused c.args.inputs.now c.args.configs.now (cache_view g.I.Index.view c.args.index.now)
+          (cache_view g.I.Index.view c.drafted.new.index) c.in_err-plan.field-0.0
           c.in_ok-draft.ensures.drafted.planned c.requires.configurations
           (rows-some c.in_ok-draft.draft.rows.items c.in_err-plan.ensures.refused.1)
           (c.in_ok-draft.ensures.utf8 none) c.in_err-plan.ensures.refused.0,
@@ -178,16 +67,6 @@ invariant_of-asked g c = record {
   given = c.in_ok-picks.ensures.ok.words.requirements;
   excluded = c.in_ok-picks.ensures.ok.excluded;
 }
-
-pub returns-clause-missing : goal.returns-clause-missing
-returns-clause-missing g c =
-    missing-are c.args.options.now c.args.inputs.now (contains_text c.in_ok-draft.draft.known)
-    (map string_bytes c.in_ok-picks.picks.words.names.items) (map string_bytes c.in_ok-plan.plan.missing.items)
-    c.in_ok-draft.ensures.known c.in_ok-picks.ensures.ok.words.names
-    (ap (λ (v : Vec (String Global)). map string_bytes v.items) c.in_ok-plan.ensures.missing
-    ∙ c.in_ok-missing.ensures.ok
-    ∙ ap (λ (xs : List (String Global)). filter (λ name. not (contains_text c.in_ok-draft.draft.known name))
-    (map string_bytes xs)) c.deref.ensures.value)
 
 pub returns-in_err-picks-clause-given : goal.returns-in_err-picks-clause-given
 returns-in_err-picks-clause-given g c =

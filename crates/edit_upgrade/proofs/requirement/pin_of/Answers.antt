@@ -13,5 +13,6 @@ pub returns-in-Some-clause-pinned : goal.returns-in-Some-clause-pinned
 returns-in-Some-clause-pinned c =
     let text = text_in c.args.old.now in
     ap (λ b. c.args.renamed || b)
-    (pin-read text c.in-Some.req.now.comparators.items c.has_pin.result (requirement-ok text (comparators_of c.in-Some.req.now) c.in-Some.ensures)
+    (pin-read text c.in-Some.req.now.comparators.items c.has_pin.result
+    (requirement-ok text (comparators_of c.in-Some.req.now) c.in-Some.ensures)
     (c.has_pin.ensures ∙ ap (list_any (λ (x : Comparator). is_pin x.op)) c.deref.ensures.value))

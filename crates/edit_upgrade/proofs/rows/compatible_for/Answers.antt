@@ -19,7 +19,8 @@ returns-in-Some-version_req c = λ answer h.
 
 pub returns-in-None-version_req : goal.returns-in-None-version_req
 returns-in-None-version_req c = λ answer h.
-    none-admitted (text_in c.args.old.now) (versions_in (option_map numbers_of c.args.rust_version) answer) c.in-None-version_req.ensures
+    none-admitted (text_in c.args.old.now)
+    (versions_in (option_map numbers_of c.args.rust_version) answer) c.in-None-version_req.ensures
 
 pub returns-in-None : goal.returns-in-None
 returns-in-None c = λ answer h.

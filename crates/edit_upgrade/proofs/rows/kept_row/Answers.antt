@@ -21,13 +21,18 @@ returns-clause-ok g c =
     let answer : Option Answer = kept_by index address name in
     let ranking : IsRankingOf answer (option_copied c.shown_ranking-ranked.result) =
     subst (λ (r : Option Ranked). IsRankingOf answer r) (sym c.shown_ranking-ranked.ensures)
-    (ranking-kept (kept_at index address name) (ranking_at index address name) c.in_ok-rank_kept.ensures.ranked) in
+    (ranking-kept (kept_at index address name)
+    (ranking_at index address name) c.in_ok-rank_kept.ensures.ranked) in
     let named = ap (λ (n : List ℕ). kept_by index address n) c.as_str-name.ensures.value in
-    IfOk-weaker _ _ _ (λ r h. subst (λ (a : Option Answer). IsRowOver c.args.job.number c.args.job.asked.options.now (versions_in (option_map numbers_of c.args.job.rust_version) a)
-    (seen_of c.args.entry.now) (seen_of c.args.entry.now).old (line_of r)) named (h answer ranking)) c.row_for.ensures.ok
+    IfOk-weaker _ _ _ (λ r h. subst
+    (λ (a : Option Answer). IsRowOver c.args.job.number c.args.job.asked.options.now
+    (versions_in (option_map numbers_of c.args.job.rust_version) a)
+    (seen_of c.args.entry.now) (seen_of c.args.entry.now).old (line_of r)) named (h answer ranking))
+    c.row_for.ensures.ok
 
 pub returns-clause-kept : goal.returns-clause-kept
 returns-clause-kept g c = kept-same c.args.index.now c.rank_kept.new.self c.in_ok-rank_kept.ensures.kept
 
 pub returns-in_err-rank_kept-clause-kept : goal.returns-in_err-rank_kept-clause-kept
-returns-in_err-rank_kept-clause-kept g c = kept-same c.args.index.now c.rank_kept.new.self c.in_err-rank_kept.ensures.kept
+returns-in_err-rank_kept-clause-kept g c =
+    kept-same c.args.index.now c.rank_kept.new.self c.in_err-rank_kept.ensures.kept

@@ -20,8 +20,12 @@ returns-clause-ok c = λ answer h.
     record {
       near = near;
       far = far;
-      compatible = subst (λ (t : List ℕ). IsCompatible t versions near) old (c.compatible_for-compatible.ensures answer h);
-      latest = subst (λ (t : List ℕ). IsLatest t versions far) (c.text.ensures ∙ old) (c.latest_for-latest.ensures answer h);
-      is = subst (λ (t : List ℕ). line_of c.in_ok-row.row ≡ line_for c.args.job.number e t near far (decision c.args.job.asked.options.now (case_for c.args.job.asked.options.now e t near far)))
+      compatible = subst (λ (t : List ℕ). IsCompatible t versions near) old
+          (c.compatible_for-compatible.ensures answer h);
+      latest = subst (λ (t : List ℕ). IsLatest t versions far) (c.text.ensures ∙ old)
+          (c.latest_for-latest.ensures answer h);
+      is = subst (λ (t : List ℕ). line_of c.in_ok-row.row
+          ≡ line_for c.args.job.number e t near far
+          (decision c.args.job.asked.options.now (case_for c.args.job.asked.options.now e t near far)))
           old c.in_ok-row.ensures.ok;
     }

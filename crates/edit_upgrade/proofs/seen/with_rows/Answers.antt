@@ -8,10 +8,13 @@ use Rattle.edit_upgrade.proofs.seen.with_rows.Goals as goal
 
 pub found-preserved-in-Continue-1 : goal.found-preserved-in-Continue-1
 found-preserved-in-Continue-1 c =
-    kept-some entry_view with_row seen_of c.found.yielded c.in-Some.entry c.found.entries.items c.push.new.self.items c.in-Some-with_row.entry
-    c.found.invariant (sym c.with_row.ensures ∙ ap (option_map seen_of) c.in-Some-with_row.is) (c.in_ok-push-in-Some-with_row.ensures {u = tt}).items
+    kept-some entry_view with_row seen_of c.found.yielded c.in-Some.entry c.found.entries.items
+    c.push.new.self.items c.in-Some-with_row.entry
+    c.found.invariant (sym c.with_row.ensures ∙ ap (option_map seen_of) c.in-Some-with_row.is)
+    (c.in_ok-push-in-Some-with_row.ensures {u = tt}).items
 
 pub found-preserved : goal.found-preserved
 found-preserved c =
-    kept-none entry_view with_row c.found.yielded c.in-Some.entry (map seen_of c.found.entries.items) c.found.invariant
+    kept-none entry_view with_row c.found.yielded c.in-Some.entry
+    (map seen_of c.found.entries.items) c.found.invariant
     (sym c.with_row.ensures ∙ ap (option_map seen_of) c.in-None-with_row.is)

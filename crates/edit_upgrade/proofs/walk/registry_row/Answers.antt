@@ -15,26 +15,35 @@ use Rattle.edit_upgrade.proofs.walk.registry_row.Goals as goal
 pub returns-in_err-see-clause-refused : goal.returns-in_err-see-clause-refused
 returns-in_err-see-clause-refused g c =
     refusal-has c.from_residual.result c.in_err-see.field-0.0 _ c.from_residual.ensures.1
-    (no-registry c.args.job.configs.now (seen_of c.args.entry.now) (given c.args.registry) (g.I.Index.view (index_of c.args.index.now)).gives
-    (kept_by c.args.index.now) (g.I.Index.view (index_of c.args.index.now)).faults (g.I.Index.view (index_of c.args.index.now)).faults c.in_err-see.field-0.0
+    (no-registry c.args.job.configs.now (seen_of c.args.entry.now) (given c.args.registry)
+    (g.I.Index.view (index_of c.args.index.now)).gives
+    (kept_by c.args.index.now) (g.I.Index.view (index_of c.args.index.now)).faults
+    (g.I.Index.view (index_of c.args.index.now)).faults c.in_err-see.field-0.0
     c.requires.source c.in_err-see.ensures.refused)
 
 pub returns-in_err-look_once-clause-left : goal.returns-in_err-look_once-clause-left
 returns-in_err-look_once-clause-left g c =
-    registry-left c.args.job.configs.now (seen_of c.args.entry.now) (given c.args.registry) c.in-Some.url.now c.as_str-name.result.now
+    registry-left c.args.job.configs.now (seen_of c.args.entry.now)
+    (given c.args.registry) c.in-Some.url.now c.as_str-name.result.now
     (g.I.Index.view (index_of c.args.index.now)).gives (g.I.Index.view (index_of c.look_once.new.index)).gives
-    (g.I.Index.view (index_of c.args.index.now)).faults (g.I.Index.view (index_of c.look_once.new.index)).faults
+    (g.I.Index.view (index_of c.args.index.now)).faults
+    (g.I.Index.view (index_of c.look_once.new.index)).faults
     (kept_by c.args.index.now) (kept_by c.look_once.new.index) c.requires.source
-    (c.in_ok-see.ensures.are (given c.args.registry) c.in-Some.url.now (sym c.url.ensures ∙ ap option_copied c.in-Some.is))
+    (c.in_ok-see.ensures.are (given c.args.registry) c.in-Some.url.now
+    (sym c.url.ensures ∙ ap option_copied c.in-Some.is))
     c.as_str-name.ensures.value c.in_err-look_once.ensures.left
 
 pub returns-in_err-look_once-clause-refused : goal.returns-in_err-look_once-clause-refused
 returns-in_err-look_once-clause-refused g c =
-    refusal-has c.from_residual-in_err-look_once.result c.in_err-look_once.field-0.0 _ c.from_residual-in_err-look_once.ensures.1
-    (no-look c.args.job.configs.now (seen_of c.args.entry.now) (given c.args.registry) c.in-Some.url.now c.as_str-name.result.now
+    refusal-has c.from_residual-in_err-look_once.result c.in_err-look_once.field-0.0 _
+    c.from_residual-in_err-look_once.ensures.1
+    (no-look c.args.job.configs.now (seen_of c.args.entry.now)
+    (given c.args.registry) c.in-Some.url.now c.as_str-name.result.now
     (g.I.Index.view (index_of c.args.index.now)).gives (kept_by c.args.index.now)
-    (g.I.Index.view (index_of c.args.index.now)).faults (g.I.Index.view (index_of c.look_once.new.index)).faults c.in_err-look_once.field-0.0 c.requires.source
-    (c.in_ok-see.ensures.are (given c.args.registry) c.in-Some.url.now (sym c.url.ensures ∙ ap option_copied c.in-Some.is))
+    (g.I.Index.view (index_of c.args.index.now)).faults
+    (g.I.Index.view (index_of c.look_once.new.index)).faults c.in_err-look_once.field-0.0 c.requires.source
+    (c.in_ok-see.ensures.are (given c.args.registry) c.in-Some.url.now
+    (sym c.url.ensures ∙ ap option_copied c.in-Some.is))
     c.as_str-name.ensures.value c.in_err-look_once.ensures.refused)
 
 pub returns-in_err-row-clause-left : goal.returns-in_err-row-clause-left
@@ -43,20 +52,30 @@ returns-in_err-row-clause-left g c =
     let e = seen_of c.args.entry.now in
     let first = (g.I.Index.view (index_of c.args.index.now)).gives in
     let before = (g.I.Index.view (index_of c.args.index.now)).faults in
-    let has = c.in_ok-see.ensures.are (given c.args.registry) c.in-Some.url.now (sym c.url.ensures ∙ ap option_copied c.in-Some.is) in
+    let has = c.in_ok-see.ensures.are (given c.args.registry) c.in-Some.url.now
+    (sym c.url.ensures ∙ ap option_copied c.in-Some.is) in
     let left = registry-left configs e (given c.args.registry) c.in-Some.url.now c.as_str-name.result.now
-    first (g.I.Index.view (index_of c.look_once.new.index)).gives before (g.I.Index.view (index_of c.look_once.new.index)).faults
-    (kept_by c.args.index.now) (kept_by c.look_once.new.index) c.requires.source has c.as_str-name.ensures.value c.in_ok-look_once.ensures.left in
-    subst (λ (k : Kept). Leaves (IsNeededFor configs e) first (g.I.Index.view (index_of c.kept_row.new.index)).gives before
-    (g.I.Index.view (index_of c.kept_row.new.index)).faults (kept_by c.args.index.now) k) (sym c.in_err-row.ensures.kept)
-    (subst (λ i. Leaves (IsNeededFor configs e) first (g.I.Index.view i).gives before (g.I.Index.view i).faults (kept_by c.args.index.now) (kept_by c.look_once.new.index))
+    first (g.I.Index.view (index_of c.look_once.new.index)).gives before
+    (g.I.Index.view (index_of c.look_once.new.index)).faults
+    (kept_by c.args.index.now)
+    (kept_by c.look_once.new.index) c.requires.source has c.as_str-name.ensures.value
+    c.in_ok-look_once.ensures.left in
+    subst (λ (k : Kept). Leaves (IsNeededFor configs e) first
+    (g.I.Index.view (index_of c.kept_row.new.index)).gives before
+    (g.I.Index.view (index_of c.kept_row.new.index)).faults (kept_by c.args.index.now) k)
+    (sym c.in_err-row.ensures.kept)
+    (subst (λ i. Leaves (IsNeededFor configs e) first (g.I.Index.view i).gives before
+    (g.I.Index.view i).faults (kept_by c.args.index.now) (kept_by c.look_once.new.index))
     (sym c.in_err-row.ensures.index) left)
 
 pub returns-clause-row : goal.returns-clause-row
 returns-clause-row g c =
-    registry-decided c.args.job.number c.args.job.asked.options.now (option_map numbers_of c.args.job.rust_version) c.args.job.configs.now (kept_by c.kept_row.new.index)
-    (seen_of c.args.entry.now) (given c.args.registry) c.in-Some.url.now (line_of c.in_ok-row.row) c.requires.source
-    (c.in_ok-see.ensures.are (given c.args.registry) c.in-Some.url.now (sym c.url.ensures ∙ ap option_copied c.in-Some.is)) c.in_ok-row.ensures.ok
+    registry-decided c.args.job.number c.args.job.asked.options.now
+    (option_map numbers_of c.args.job.rust_version) c.args.job.configs.now (kept_by c.kept_row.new.index)
+    (seen_of c.args.entry.now) (given c.args.registry) c.in-Some.url.now
+    (line_of c.in_ok-row.row) c.requires.source
+    (c.in_ok-see.ensures.are (given c.args.registry) c.in-Some.url.now
+    (sym c.url.ensures ∙ ap option_copied c.in-Some.is)) c.in_ok-row.ensures.ok
 
 pub returns-clause-left : goal.returns-clause-left
 returns-clause-left g c =
@@ -64,11 +83,18 @@ returns-clause-left g c =
     let e = seen_of c.args.entry.now in
     let first = (g.I.Index.view (index_of c.args.index.now)).gives in
     let before = (g.I.Index.view (index_of c.args.index.now)).faults in
-    let has = c.in_ok-see.ensures.are (given c.args.registry) c.in-Some.url.now (sym c.url.ensures ∙ ap option_copied c.in-Some.is) in
+    let has = c.in_ok-see.ensures.are (given c.args.registry) c.in-Some.url.now
+    (sym c.url.ensures ∙ ap option_copied c.in-Some.is) in
     let left = registry-left configs e (given c.args.registry) c.in-Some.url.now c.as_str-name.result.now
-    first (g.I.Index.view (index_of c.look_once.new.index)).gives before (g.I.Index.view (index_of c.look_once.new.index)).faults
-    (kept_by c.args.index.now) (kept_by c.look_once.new.index) c.requires.source has c.as_str-name.ensures.value c.in_ok-look_once.ensures.left in
-    subst (λ (k : Kept). Leaves (IsNeededFor configs e) first (g.I.Index.view (index_of c.kept_row.new.index)).gives before
-    (g.I.Index.view (index_of c.kept_row.new.index)).faults (kept_by c.args.index.now) k) (sym c.in_ok-row.ensures.kept)
-    (subst (λ i. Leaves (IsNeededFor configs e) first (g.I.Index.view i).gives before (g.I.Index.view i).faults (kept_by c.args.index.now) (kept_by c.look_once.new.index))
+    first (g.I.Index.view (index_of c.look_once.new.index)).gives before
+    (g.I.Index.view (index_of c.look_once.new.index)).faults
+    (kept_by c.args.index.now)
+    (kept_by c.look_once.new.index) c.requires.source has c.as_str-name.ensures.value
+    c.in_ok-look_once.ensures.left in
+    subst (λ (k : Kept). Leaves (IsNeededFor configs e) first
+    (g.I.Index.view (index_of c.kept_row.new.index)).gives before
+    (g.I.Index.view (index_of c.kept_row.new.index)).faults (kept_by c.args.index.now) k)
+    (sym c.in_ok-row.ensures.kept)
+    (subst (λ i. Leaves (IsNeededFor configs e) first (g.I.Index.view i).gives before
+    (g.I.Index.view i).faults (kept_by c.args.index.now) (kept_by c.look_once.new.index))
     (sym c.in_ok-row.ensures.index) left)

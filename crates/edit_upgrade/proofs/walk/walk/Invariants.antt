@@ -22,7 +22,8 @@ invariant-entries g l = record {
       (kept_by l.fn.index) (kept_by l.index) l.fn.books.looks.items l.books.looks.items
       (holds_pair l.fn.books.pairs) (holds_pair l.books.pairs);
   passed : All (IsPassed l.job.configs.now (kept_by l.index)) (map seen_of (take l.entry-index l.entries));
-  rows : AreDecided (kept_basis l.job.number l.job.asked.options.now (option_map numbers_of l.job.rust_version)
+  rows : AreDecided (kept_basis l.job.number l.job.asked.options.now
+      (option_map numbers_of l.job.rust_version)
       l.job.configs.now (kept_by l.index))
       (map seen_of (take l.entry-index l.entries)) (map line_of l.rows.items);
   left : Leaves (IsNeededIn l.job.configs.now (map seen_of l.entries))

@@ -8,6 +8,7 @@ use Rattle.edit_upgrade.proofs.writes.edits_of.Goals as goal
 pub rows-preserved : goal.rows-preserved
 rows-preserved c =
     let below : c.rows.i < length c.args.entries.now = omega arith in
-    written-more seen_of line_of c.args.entries.now c.args.rows.now c.rows.i c.index-entries-i.result c.index-rows-i.result
+    written-more seen_of line_of c.args.entries.now c.args.rows.now c.rows.i c.index-entries-i.result
+    c.index-rows-i.result
     (edits_seen c.rows.edits.items) (edits_seen c.push_edit.new.edits.items) c.requires c.rows-test.true below
     c.index-entries-i.is c.index-rows-i.is c.rows.invariant c.in_ok-push_edit.ensures.ok

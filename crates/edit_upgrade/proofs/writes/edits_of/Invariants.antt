@@ -6,4 +6,5 @@ use Rattle.edit_upgrade.specs.Rows.{writes}
 use Rattle.edit_upgrade.proofs.writes.edits_of.Given as goal
 
 abbrev pub invariant-rows : goal.invariant-rows
-invariant-rows l = edits_seen l.edits.items ≡ writes (map seen_of (take l.i l.entries)) (map line_of (take l.i l.rows))
+invariant-rows l = edits_seen l.edits.items
+    ≡ writes (map seen_of (take l.i l.entries)) (map line_of (take l.i l.rows))
