@@ -1,16 +1,50 @@
 #!/bin/sh
-# install.sh DIR   copies the program into DIR, a folder outside this repository, as `cargo-edit`, with the link
-# `cargo-upgrade`, so that with DIR on PATH cargo finds it as `cargo upgrade ..`.
+# install.sh PREFIX             puts the commands into PREFIX/bin, and shell completions and man pages into PREFIX/share. PREFIX is
+#                               a folder outside this one; a folder named `bin` stands for the one that it lies in. With
+#                               PREFIX/bin on PATH cargo finds `cargo upgrade`.
+# install.sh uninstall PREFIX   takes out what the line above puts there.
 set -eu
 here=$(cd "$(dirname "$0")" && pwd)
-[ $# -eq 1 ] || { echo "usage: install.sh DIR" >&2; exit 2; }
-mkdir -p "$1"
-dir=$(cd "$1" && pwd)
-case "$dir/" in
-    "$here"/*) echo "install.sh: $dir lies in the repository; name a folder outside it" >&2; exit 2 ;;
+usage() { echo "usage: install.sh PREFIX, install.sh uninstall PREFIX" >&2; exit 2; }
+task=install
+if [ "${1-}" = uninstall ]; then
+    task=uninstall
+    shift
+fi
+[ $# -eq 1 ] && [ -n "$1" ] || usage
+[ "$task" = uninstall ] || mkdir -p "$1"
+prefix=$(cd "$1" && pwd)
+[ "${prefix##*/}" != bin ] || prefix=${prefix%/bin}
+case "$prefix/" in
+    "$here"/*) echo "install.sh: $prefix lies in the repository; name a folder outside it" >&2; exit 2 ;;
 esac
-"$here/tools/build.sh"
-cp "$here/build/cargo-edit" "$dir/cargo-edit.new"
-mv "$dir/cargo-edit.new" "$dir/cargo-edit"
-ln -sf cargo-edit "$dir/cargo-upgrade"
-echo "installed $dir/cargo-edit and $dir/cargo-upgrade" >&2
+
+# Each file below share/ here.
+shared() { (cd "$here/share" && find . -type f | LC_ALL=C sort); }
+
+if [ "$task" = uninstall ]; then
+    rm -f "$prefix/bin/cargo-edit" "$prefix/bin/cargo-upgrade"
+    shared | while IFS= read -r file; do rm -f "$prefix/share/$file"; done
+    # folders that stand empty now
+    (cd "$here" && find share -depth -type d) | while IFS= read -r folder; do
+        rmdir "$prefix/$folder" 2> /dev/null || true
+    done
+    echo "took cargo-edit out of $prefix" >&2
+    exit 0
+fi
+
+# a folder that was unpacked has the program; in the repository it is built
+program=$here/bin/cargo-edit
+if [ ! -x "$program" ]; then
+    "$here/tools/build.sh"
+    program=$here/build/cargo-edit
+fi
+mkdir -p "$prefix/bin"
+cp "$program" "$prefix/bin/cargo-edit.new"
+mv "$prefix/bin/cargo-edit.new" "$prefix/bin/cargo-edit"
+ln -sf cargo-edit "$prefix/bin/cargo-upgrade"
+shared | while IFS= read -r file; do
+    mkdir -p "$(dirname "$prefix/share/$file")"
+    cp "$here/share/$file" "$prefix/share/$file"
+done
+echo "installed cargo-edit and cargo-upgrade in $prefix/bin" >&2

@@ -1,0 +1,18 @@
+# Made by tools/share_files from the program's help.
+complete -c cargo-upgrade -f
+complete -c cargo-upgrade -n __fish_is_first_arg -a upgrade -d 'Raises the dependency requirements of a manifest'
+complete -c cargo-upgrade -l manifest-path -r -F -d 'The manifest, or a folder with one'
+complete -c cargo-upgrade -l index-file -r -F -d 'Index lines, as a registry\'s index has them'
+complete -c cargo-upgrade -s n -l dry-run -d 'Prints what would change, and changes nothing'
+complete -c cargo-upgrade -l locked -d 'Refuses to change the manifest'
+complete -c cargo-upgrade -s v -l verbose -d 'Reports more'
+complete -c cargo-upgrade -s q -l quiet -d 'Reports less'
+complete -c cargo-upgrade -l never-lower -d 'Lowers no requirement'
+complete -c cargo-upgrade -l compatible -a 'allow ignore' -d 'Upgrades to the latest compatible version [default: allow]'
+complete -c cargo-upgrade -s i -l incompatible -a 'allow ignore' -d 'Upgrades to the latest incompatible version [default: ignore]'
+complete -c cargo-upgrade -l pinned -a 'allow ignore' -d 'Upgrades pinned requirements to the latest version [default: ignore]'
+complete -c cargo-upgrade -l recursive -a 'true false' -d 'Updates locked dependencies recursively [possible values: true, false]'
+complete -c cargo-upgrade -s p -l package -x -d 'Crate to be upgraded'
+complete -c cargo-upgrade -l exclude -x -d 'Crates to exclude and not upgrade'
+complete -c cargo-upgrade -s h -l help -d 'Print help'
+complete -c cargo-upgrade -s V -l version -d 'Print version'
