@@ -1,0 +1,141 @@
+#!/usr/bin/env python3
+"""disk.py PROGRAM: runs that may not write. On a disk without room, and under a limit of the size of files, the manifest
+stays as it was, the refusal is told and no file is left; with room again it is raised. A manifest that may not be written
+stays; in a folder where none may be made it is written in place. Of runs at once each leaves it whole, and the last that
+writes wins."""
+
+import os
+import pathlib
+import resource
+import shutil
+import subprocess
+import sys
+import tempfile
+
+OLD = b'[dependencies]\na = "1.0"\n' + (b"# " + b"x" * 98 + b"\n") * 3000
+FIVE, SEVEN = OLD.replace(b"1.0", b"1.5"), OLD.replace(b"1.0", b"1.7")
+REFUSED = b"Error: Failed to write updated Cargo.toml\n"
+LIMIT, ROUNDS, AT_ONCE = 100_000, 25, 4
+NOBODY = ["setpriv", "--reuid=65534", "--regid=65534", "--clear-groups"]
+tries = 0
+
+
+class Place:
+    """A folder with a manifest and two index files beside it."""
+
+    def __init__(self, program, folder):
+        self.program, self.folder = program, pathlib.Path(folder)
+        self.manifest = self.folder / "in" / "Cargo.toml"
+        self.manifest.parent.mkdir(parents=True)
+        for minor in (5, 7):
+            (self.folder / f"index{minor}.json").write_bytes(b'{"name":"a","vers":"1.%d.0"}\n' % minor)
+        self.manifest.write_bytes(OLD)
+
+    def words(self, minor=5):
+        return [self.program, "upgrade", "--manifest-path", str(self.manifest), "--index-file",
+                str(self.folder / f"index{minor}.json")]
+
+    def run(self, by=(), **options):
+        global tries
+        tries += 1
+        environment = {"HOME": str(self.folder), "PATH": os.environ["PATH"]}
+        return subprocess.run([*by, *self.words()], capture_output=True, check=False, env=environment, **options)
+
+    def faults(self, what, run, status, text):
+        """What is wrong with a run that was to end so and to leave this text, and no other file."""
+        if run.returncode != status or (status == 1 and REFUSED not in run.stderr):
+            yield f"{what}: status {run.returncode} in place of {status}: {run.stderr!r}"
+        if self.manifest.read_bytes() != text:
+            yield f"{what}: the manifest has {len(self.manifest.read_bytes())} bytes, not the {len(text)} wanted"
+        if os.listdir(self.manifest.parent) != ["Cargo.toml"]:
+            yield f"{what}: left are {os.listdir(self.manifest.parent)}"
+
+
+def limit():
+    resource.setrlimit(resource.RLIMIT_FSIZE, (LIMIT, LIMIT))
+
+
+def limited(place):
+    """Under a limit of the size of files, which refuses a write or ends the process."""
+    done = place.run(preexec_fn=limit, restore_signals=False)
+    yield from place.faults("a limit of the size of files", done, 1, OLD)
+    place.run(preexec_fn=limit)
+    if place.manifest.read_bytes() != OLD:
+        yield "ended by a limit: the manifest changed"
+    yield from place.faults("behind a run that a limit ended", place.run(), 0, FIVE)
+
+
+def full(program, folder):
+    """On a small disk that another file fills but for a page or so."""
+    folder.mkdir()
+    if subprocess.run(["mount", "-t", "tmpfs", "-o", "size=1m", "tmpfs", str(folder)], capture_output=True, check=False).returncode:
+        print("no disk of its own: only a limit of the size of files was tried")
+        return
+    place = Place(program, folder)
+    for room in (0, 4096, 100_000, 200_000):
+        filler = folder / "filler"
+        free = os.statvfs(folder).f_bavail * os.statvfs(folder).f_frsize
+        filler.write_bytes(b"\0" * (free - room))
+        yield from place.faults(f"a disk with {room} bytes left", place.run(), 1, OLD)
+        filler.unlink()
+    yield from place.faults("a disk with room again", place.run(), 0, FIVE)
+    subprocess.run(["umount", str(folder)], check=True)
+
+
+def forbidden(program, folder):
+    """Under a user that may not write the manifest, or make a file beside it."""
+    by = NOBODY if os.getuid() == 0 else []
+    if by and subprocess.run([*by, "true"], capture_output=True, check=False).returncode:
+        print("no other user: files that may not be written were not tried")
+        return
+    place = Place(program, folder)
+    if by:
+        shutil.chown(place.manifest, 65534)
+        shutil.chown(place.manifest.parent, 65534)
+    for what, inside, own, status, text in (("a manifest that may not be written", 0o755, 0o444, 1, OLD),
+                                            ("neither it nor its folder", 0o555, 0o444, 1, OLD),
+                                            ("a folder that may not be written", 0o555, 0o644, 0, FIVE)):
+        place.manifest.parent.chmod(0o755)
+        place.manifest.write_bytes(OLD)
+        place.manifest.chmod(own)
+        place.manifest.parent.chmod(inside)
+        yield from place.faults(what, place.run(by), status, text)
+    place.manifest.parent.chmod(0o755)
+
+
+def at_once(place):
+    """Runs at once, with two indexes: the manifest is one of the two texts, whole."""
+    global tries
+    seen = set()
+    for number in range(ROUNDS):
+        place.manifest.write_bytes(OLD)
+        runs = [subprocess.Popen(place.words((5, 7)[(turn + number) % 2]), stdout=subprocess.DEVNULL, stderr=subprocess.PIPE)
+                for turn in range(AT_ONCE)]
+        tries += AT_ONCE
+        for run in runs:
+            said = run.communicate()[1]
+            if run.returncode:
+                yield f"one of {AT_ONCE} runs at once: {said!r}"
+        text = place.manifest.read_bytes()
+        seen.add(text)
+        if text not in (FIVE, SEVEN) or os.listdir(place.manifest.parent) != ["Cargo.toml"]:
+            yield f"runs at once left {len(text)} bytes, and {os.listdir(place.manifest.parent)}"
+    if len(seen) < 2:
+        yield "the same run wrote last each time"
+
+
+def main():
+    os.umask(0o022)
+    with tempfile.TemporaryDirectory() as name:
+        room = pathlib.Path(name)
+        room.chmod(0o755)
+        program = str(room / "cargo-edit")
+        shutil.copy(sys.argv[1], program)
+        wrong = [*limited(Place(program, room / "limited")), *full(program, room / "full"),
+                 *forbidden(program, room / "forbidden"), *at_once(Place(program, room / "at-once"))]
+    print("\n".join([*wrong, f"{tries} runs that may not write, or at once; {len(wrong)} faults"]))
+    sys.exit(1 if wrong else 0)
+
+
+if __name__ == "__main__":
+    main()

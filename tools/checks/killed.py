@@ -1,0 +1,156 @@
+#!/usr/bin/env python3
+"""killed.py PROGRAM: the program is killed 200 times at varying moments while it writes manifests, and what it leaves
+stays. Each manifest is always the old or the new text whole, and leavings do not pile up. An undisturbed run then ends as
+ever, also where names beside the manifest are taken, and never writes in place. Where the program reads workspaces, the
+manifests are twenty, else one."""
+
+import fcntl
+import json
+import os
+import pathlib
+import random
+import subprocess
+import sys
+import tempfile
+import time
+
+KILLS, MOST_LEFT, MEMBERS = 200, 4, 20
+HEAD = b'[dependencies]\na = "1.0"\n'
+LINES = b'{"name":"a","vers":"1.0.0"}\n{"name":"a","vers":"1.5.0"}\n'
+
+
+class Manifests:
+    """The manifests of a run, in folders of their own, and its words."""
+
+    def __init__(self, program, room):
+        self.room = pathlib.Path(room)
+        told = subprocess.run([program, "upgrade", "--help"], capture_output=True, check=True).stdout
+        count = MEMBERS if b"--metadata-json" in told else 1
+        self.old = HEAD + (b"# " + b"x" * 98 + b"\n") * (3000 if count == 1 else 600)
+        self.new = self.old.replace(b'a = "1.0"', b'a = "1.5"')
+        self.paths = [self.room / f"m{number}" / "Cargo.toml" for number in range(count)]
+        (self.room / "index.json").write_bytes(LINES)
+        for path in self.paths:
+            path.parent.mkdir()
+        places = ["--manifest-path", str(self.paths[0])]
+        if count > 1:
+            (self.room / "metadata.json").write_text(json.dumps(self.metadata()))
+            places = ["--metadata-json", str(self.room / "metadata.json")]
+        self.words = [program, "upgrade", *places, "--index-file", str(self.room / "index.json")]
+        self.reset()
+        self.own = self.names()
+
+    def metadata(self):
+        """What `cargo metadata` says of a workspace of these manifests, the first of them at its root."""
+        packages = [{"name": f"m{number}", "id": f"m{number}", "version": "0.1.0", "manifest_path": str(path)}
+                    for number, path in enumerate(self.paths)]
+        return {"workspace_root": str(self.paths[0].parent), "packages": packages,
+                "workspace_members": [package["id"] for package in packages]}
+
+    def reset(self):
+        for path in self.paths:
+            path.write_bytes(self.old)
+
+    def names(self):
+        """All files of the folders."""
+        return {str(path) for path in self.room.rglob("*")}
+
+    def left(self):
+        """How many files are not the run's own."""
+        return len(self.names() - self.own)
+
+    def hold(self, *texts):
+        """Whether each manifest is one of these texts."""
+        return all(path.read_bytes() in texts for path in self.paths)
+
+    def start(self):
+        return subprocess.Popen(self.words, stdout=subprocess.DEVNULL, stderr=subprocess.DEVNULL)
+
+    def is_raised(self):
+        """Whether an undisturbed run raises each manifest."""
+        return self.start().wait() == 0 and self.hold(self.new)
+
+    def are_written(self, before):
+        """Whether a name is new in the folder of one of them."""
+        return any(len(os.listdir(path.parent)) != names for path, names in zip(self.paths, before))
+
+
+def kill(manifests, turn, usual):
+    """One run, killed in its write or, each fourth time, at any moment."""
+    before = [len(os.listdir(path.parent)) for path in manifests.paths]
+    run = manifests.start()
+    if turn % 4 == 0 or len(manifests.paths) > 1:
+        time.sleep(random.uniform(0, usual))
+    else:
+        while run.poll() is None and not manifests.are_written(before):
+            pass
+        time.sleep(random.choice([0, random.uniform(0, 0.002)]))
+    ended = run.poll() is not None
+    run.kill()
+    run.wait()
+    return not ended
+
+
+def kills(manifests, usual):
+    """Kills runs until enough were; what is wrong with what they leave."""
+    killed = most = partly = 0
+    for turn in range(4 * KILLS):
+        if killed == KILLS:
+            break
+        manifests.reset()
+        killed += kill(manifests, turn, usual)
+        if not manifests.hold(manifests.old, manifests.new):
+            yield f"kill {turn}: a manifest is cut"
+        most = max(most, manifests.left())
+        partly += manifests.hold(manifests.old, manifests.new) and not manifests.hold(manifests.old)
+    if killed < KILLS // 2:
+        yield f"{killed} runs were killed, of {4 * KILLS}"
+    if most == 0:
+        yield "no run was killed in its write"
+    if most > MOST_LEFT:
+        yield f"{most} files were left"
+    print(f"{killed} runs over {len(manifests.paths)} manifests killed; at most {most} files left at a time; "
+          f"{partly} times a manifest was new")
+
+
+def taken(manifests):
+    """A last run, where names beside a manifest are held by others, and it has a second name, which parts where it is not
+    written in place; what is wrong behind it."""
+    folder = manifests.paths[0].parent
+    held = [open(folder / f"cargo-edit.new-{number}", "wb") for number in range(20)]
+    for file in held:
+        fcntl.flock(file, fcntl.LOCK_EX)
+    manifests.reset()
+    os.link(manifests.paths[0], folder / "same")
+    if not manifests.is_raised() or (folder / "same").read_bytes() != manifests.old:
+        yield "the manifest is written in place where names are taken"
+    if any(os.fstat(file.fileno()).st_nlink != 1 for file in held):
+        yield "a file that another run holds is taken"
+
+
+def faults(program, room):
+    """What is wrong with the runs."""
+    manifests = Manifests(program, room)
+    began = time.monotonic()
+    if not manifests.is_raised():
+        yield "an undisturbed run does not raise the manifests"
+        return
+    yield from kills(manifests, time.monotonic() - began)
+    manifests.reset()
+    if not manifests.is_raised():
+        yield "the last run does not raise the manifests"
+    if manifests.left():
+        yield f"{manifests.left()} files are left"
+    yield from taken(manifests)
+
+
+def main():
+    random.seed(10)
+    with tempfile.TemporaryDirectory() as room:
+        wrong = list(faults(sys.argv[1], room))
+    print("\n".join(wrong), end="\n" if wrong else "")
+    sys.exit(1 if wrong else 0)
+
+
+if __name__ == "__main__":
+    main()
