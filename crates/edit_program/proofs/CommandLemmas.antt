@@ -11,9 +11,9 @@ use Rattle.edit_base.specs.Errors.{IsMemory}
 use Rattle.edit_base.specs.declared.errors.Error.{Error as CargoError}
 use Rattle.edit_base.specs.declared.errors.Error.TheVariants.{Output}
 use Rattle.edit_store.specs.Store.{Files, SameFiles}
-use Rattle.edit_program.specs.Causes.{IsStopCause}
+use Rattle.edit_upgrade_run.specs.Causes.{IsStopCause}
 use Rattle.edit_upgrade.specs.declared.upgrade.Options.{Options}
-use Rattle.edit_program.specs.Upgrading.{IsBroken}
+use Rattle.edit_upgrade_run.specs.Upgrading.{IsBroken}
 use Rattle.edit_program.specs.Runs.{AreAtFault, AreNotTaken, IsAnswered, IsDone, IsRefused, IsRunCause, status_of}
 use Rattle.edit_steps.specs.declared.refusal.Refusal.{Refusal}
 
@@ -182,11 +182,6 @@ pub upgrade_refused : (words : List Text) (Shows : List ℕ → Type 0) (current
 upgrade_refused words Shows current home old new manifest index o asks (inl same) = inl same
 upgrade_refused words Shows current home old new manifest index o asks (inr broken) =
     inr (record { manifest = manifest; index = index; options = o; asks = asks; broken = broken })
-
--- what holds in any case holds of a refusal
-pub on_any : {T E : Type 0} (r : Result T E) (P : Type 0) → P → OnErr r P
-on_any (Ok x) P h = tt
-on_any (Err e) P h = h
 
 map_map : {A B C : Type 0} (f : A → B) (g : B → C) (o : Option A)
     → option_map g (option_map f o) ≡ option_map (λ a. g (f a)) o

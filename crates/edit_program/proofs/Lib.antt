@@ -1,9 +1,5 @@
 pub mod AskedLemmas
-pub mod CauseLemmas
 pub mod CommandFacts
 pub mod CommandLemmas
-pub mod CopyLemmas
 pub mod FilledLemmas
 pub mod LocalLemmas
-pub mod PlanLemmas
-pub mod UpgradeLemmas

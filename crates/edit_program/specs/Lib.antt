@@ -1,5 +1,3 @@
-pub mod Causes
 pub mod CommandLine
 pub mod Filled
 pub mod Runs
-pub mod Upgrading

@@ -8,10 +8,10 @@ use Rattle.edit_base.specs.Errors.{IsMemory}
 use Rattle.edit_base.specs.declared.errors.Error.{Error}
 use Rattle.edit_base.specs.declared.errors.Error.TheVariants.{Output}
 use Rattle.edit_store.specs.Store.{Files, SameFiles}
-use Rattle.edit_program.specs.Causes.{IsStopCause}
+use Rattle.edit_upgrade_run.specs.Causes.{IsStopCause}
 use Rattle.edit_program.specs.CommandLine.{AsksFor, HaveBadStatus, edit_app}
 use Rattle.edit_upgrade.specs.declared.upgrade.Options.{Options}
-use Rattle.edit_program.specs.Upgrading.{IsBroken, IsUpgraded}
+use Rattle.edit_upgrade_run.specs.Upgrading.{IsBroken, IsUpgraded}
 
 -- the manifest that the words name was upgraded, behind this table
 pub record HasUpgraded (words : List (List ℕ)) (Shows : List ℕ → Type 0) (current : List ℕ)

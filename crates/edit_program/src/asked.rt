@@ -7,15 +7,8 @@ ghost use Rattle.edit_program.specs.CommandLine.{AskForOptions, HasBadStatus, is
 
 use clap::ArgMatches;
 use edit_upgrade::Options;
+use edit_upgrade_run::UpgradeWords;
 use std::alloc::{AllocError, Global};
-
-/// What the words of `upgrade` ask for.
-#[derive(Debug, Drop)]
-pub(crate) struct UpgradeWords<'a> {
-    pub(crate) manifest_path: &'a str,
-    pub(crate) index_file: &'a str,
-    pub(crate) options: Options,
-}
 
 /// A value that its option does not have.
 #[derive(Debug, Clone, Copy)]

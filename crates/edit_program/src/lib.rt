@@ -4,12 +4,6 @@
 mod arguments;
 mod asked;
 mod filled;
-mod locate;
-mod notes;
-mod own;
 mod program;
-mod reported;
-mod upgrade;
-mod written;
 
 pub use program::run;

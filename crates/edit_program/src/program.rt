@@ -11,7 +11,7 @@ ghost use Rattle.edit_program.specs.Runs.{IsDone, AreAtFault, IsRefused, IsRunCa
 use crate::arguments::command;
 use crate::asked::{BadStatus, WordsError, upgrade_words};
 use crate::filled::filled_words;
-use crate::upgrade::upgrade;
+use edit_upgrade_run::upgrade;
 use clap::error::ErrorKind;
 use edit_base::Error;
 use edit_steps::{Refusal, RunResult};

@@ -1,8 +1,8 @@
 use Rattle.std.proofs.Common.{◌≡◌, Bor, List, ℕ, codes, inl, inr, map, refl, rules}
 use Rattle.clap.specs.Words.{app_of}
 use Rattle.edit_program.specs.CommandLine.{AsksFor}
-use Rattle.edit_program.proofs.CauseLemmas.{refusal_has}
-use Rattle.edit_program.proofs.CommandLemmas.{asks_for, bad_status, name_met, no_text, on_any, shown_done, shown_fault, shown_why, taken_by, the_text, upgrade_refused, upgrade_why}
+use Rattle.edit_upgrade_run.proofs.CauseLemmas.{on_any, refusal_has}
+use Rattle.edit_program.proofs.CommandLemmas.{asks_for, bad_status, name_met, no_text, shown_done, shown_fault, shown_why, taken_by, the_text, upgrade_refused, upgrade_why}
 use Rattle.edit_program.proofs.program.answer.Goals as goal
 use Rattle.edit_program.proofs.program.answer.Goals.{in_default-via-in-Some+in_default, in_default-via-in_default}
 

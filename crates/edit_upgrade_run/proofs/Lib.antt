@@ -1,0 +1,4 @@
+pub mod CauseLemmas
+pub mod CopyLemmas
+pub mod PlanLemmas
+pub mod UpgradeLemmas
