@@ -11,11 +11,11 @@ ghost use Rattle.edit_program.specs.Runs.{IsDone, AreAtFault, IsRefused, IsRunCa
 use crate::arguments::command;
 use crate::asked::{BadStatus, WordsError, upgrade_words};
 use crate::filled::filled_words;
-use edit_upgrade_run::upgrade;
 use clap::error::ErrorKind;
 use edit_base::Error;
 use edit_steps::{Refusal, RunResult};
 use edit_store::Store;
+use edit_upgrade_run::upgrade;
 use std::alloc::Global;
 use std::io;
 
