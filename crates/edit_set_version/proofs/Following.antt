@@ -26,12 +26,12 @@ use Rattle.edit_set_version.proofs.WrittenPlaces.{In, all_by_in, all_every, all_
 -- ---- lists
 
 -- what holds of all, by recursion
-by_recursion : {A : Type 0} (P : A → Type 0) (xs : List A) → All P xs → AllByRecursion P xs
+pub by_recursion : {A : Type 0} (P : A → Type 0) (xs : List A) → All P xs → AllByRecursion P xs
 by_recursion P [] h = tt
 by_recursion P (x ∷ xs) h = (All-head P x xs h, by_recursion P xs (All-tail P x xs h))
 
 -- and back
-of_all : {A : Type 0} (P : A → Type 0) (xs : List A) → AllByRecursion P xs → All P xs
+pub of_all : {A : Type 0} (P : A → Type 0) (xs : List A) → AllByRecursion P xs → All P xs
 of_all P [] h = All-nil P
 of_all P (x ∷ xs) h = All-cons P x xs h.0 (of_all P xs h.1)
 
@@ -53,24 +53,24 @@ of_one {B} Q f (x ∷ xs) h q (inr i) y e = elim (option_cases (f x)) [
 -- ---- what follows at an entry
 
 -- the parts of what follows
-record HasParts (o : Option (List ℕ)) (v : Option Parts) (f : Following) : Type 0 where
-  text : o ≡ Some f.text
-  next : v ≡ Some f.next
+pub record HasParts (o : Option (List ℕ)) (v : Option Parts) (f : Following) : Type 0 where
+  pub text : o ≡ Some f.text
+  pub next : v ≡ Some f.next
 
 -- they are both there
-following_parts : (q : Place) (o : Option (List ℕ)) (v : Option Parts) (f : Following)
+pub following_parts : (q : Place) (o : Option (List ℕ)) (v : Option Parts) (f : Following)
     → following_at q o v ≡ Some f → HasParts o v f
 following_parts q None v f h = cc h
 following_parts q (Some text) None f h = cc h
 following_parts q (Some text) (Some v) f h = record { text = cc h; next = cc h }
 
 -- a requirement stands in a table
-record IsRequired (t : Tree) (q : Place) (text : List ℕ) : Type 0 where
-  like : is_table_like (t q) ≡ true
-  said : text_at t (version_member q) ≡ Some text
+pub record IsRequired (t : Tree) (q : Place) (text : List ℕ) : Type 0 where
+  pub like : is_table_like (t q) ≡ true
+  pub said : text_at t (version_member q) ≡ Some text
 
 -- that is where it is told
-required : (t : Tree) (q : Place) (text : List ℕ) → requirement t q ≡ Some text → IsRequired t q text
+pub required : (t : Tree) (q : Place) (text : List ℕ) → requirement t q ≡ Some text → IsRequired t q text
 required t q text h = elim (cases_Bool (is_table_like (t q))) [
   | inl like ↦ record { like = like; said = rw like at h }
   | inr other ↦ let e = rw other at h in cc e

@@ -190,7 +190,7 @@ all_by_in P [] h = tt
 all_by_in P (p ∷ ps) h = (h p (inl refl), all_by_in P ps (λ q i. h q (inr i)))
 
 -- entries with one requirement are one
-same_entry : (p q : Place) → same_place (version_member p) (version_member q) ≡ true → p ≡ q
+pub same_entry : (p q : Place) → same_place (version_member p) (version_member q) ≡ true → p ≡ q
 same_entry p q h =
     (last_same p q (key (codes "version")) (key (codes "version"))
     (same_place_is (version_member p) (version_member q) h)).0
