@@ -24,8 +24,7 @@ ghost use Rattle.edit_set_version.specs.Written.{CanShare, HaveDistinctPaths, Te
 
 use crate::crates::Bump;
 use crate::follow::followers_of;
-use crate::numbers::Numbers;
-use crate::reach::folder_of;
+use crate::numbers::{Numbers, bump_beside};
 use crate::writes::{Edit, own_edit, push_requirements, shared_edit};
 use edit_base::errors::{CargoResult, Error};
 use edit_document::Document;
@@ -64,11 +63,11 @@ fn own_bump<'a>(
         ≡ option_to_list (option_map (λ b. bump_seen b.now) o)) }
     ensures refused { IfErr result IsMemory }
 {
-    let folder = folder_of(alloc, path)?;
-    let Some(told) = writing.numbers.get(folder.as_str()) else {
+    let Some(told) = bump_beside(alloc, writing.numbers, path)? else {
         return Ok(None);
     };
-    let bump = &writing.bumps[told.number];
+    let number = told.number;
+    let bump = &writing.bumps[number];
     if writes_own(bump, path) {
         return Ok(Some(bump));
     }
