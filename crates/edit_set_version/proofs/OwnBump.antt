@@ -1,6 +1,8 @@
 -- The one bump whose own version is written into a manifest.
-use Rattle.std.proofs.Common.{◌≡◌, ◌∙◌, ◌<◌, ℕ, zero, suc, arith, List, [], ◌∷◌, Bool, true, false, Option, Some, None, cond, get_or, length, map, option_map, refl, ap, sym, subst, inl, inr}
-use Rattle.std.specs.Prelude.{◌&&◌}
+use Rattle.std.proofs.Common.{◌≡◌, ◌∙◌, ◌<◌, ℕ, zero, suc, arith, List, [], ◌∷◌, ◌++◌, Bool, true, false, Option, Some, None, cond, get_or, length, map, option_map, refl, ap, sym, subst, inl, inr}
+use Rattle.std.specs.Prelude.{◌&&◌, String, codes}
+use Rattle.std.specs.declared.alloc.Global.{Global}
+use Rattle.std.specs.declared.collections.BTreeMap.{BTreeMap}
 use Rattle.std.specs.List.{AllByRecursion, filter, filter_map}
 use Rattle.std.proofs.lemmas.Bool.{cases_Bool}
 use Rattle.semver.specs.Identifiers.{parts_text}
@@ -12,10 +14,12 @@ use Rattle.edit_manifest.specs.Versions.{package_version}
 use Rattle.edit_set_version.specs.Apart.{AreApart}
 use Rattle.edit_set_version.specs.Crates.{bump_seen, bumps_seen}
 use Rattle.edit_set_version.specs.Folders.{folder_of, same_folder}
-use Rattle.edit_set_version.specs.Numbers.{first_in}
+use Rattle.edit_set_version.specs.Numbers.{TellsFirst, first_in, told_in}
 use Rattle.edit_set_version.specs.SetVersioned.{Bump, own_edit, writes_own}
 use Rattle.edit_set_version.specs.declared.crates.Bump.{Bump as Bumping}
+use Rattle.edit_set_version.specs.declared.numbers.Numbered.{Numbered}
 use Rattle.edit_set_version.proofs.FolderSameness.{same_folder_is, same_folder_self}
+use Rattle.edit_set_version.proofs.ReachedFolders.{way_up}
 use Rattle.edit_set_version.proofs.WrittenPlaces.{all_then}
 
 -- ---- folders
@@ -85,13 +89,16 @@ some_later : (o : Option (ℕ × Parts)) (n : ℕ) (v : Parts)
     → (m : ℕ) × (o ≡ Some (m, v)) × (n ≡ suc m)
 some_later None n v h = cc h
 some_later (Some m) n v h =
-    let number : suc m.0 ≡ n = cc h in
-    let next : m.1 ≡ v = cc h in
+    let pair : later m ≡ (n, v) = cc h in
+    let number : suc m.0 ≡ n = ap (λ (z : ℕ × Parts). z.0) pair in
+    let next : m.1 ≡ v = ap (λ (z : ℕ × Parts). z.1) pair in
     (m.0, ap (λ (x : Parts). Some (m.0, x)) next, sym number)
 
 -- the number of a pair
 first_number : (m n : ℕ) (u v : Parts) → ◌≡◌ {A = Option (ℕ × Parts)} (Some (m, u)) (Some (n, v)) → m ≡ n
-first_number m n u v e = cc e
+first_number m n u v e =
+    let pair : ◌≡◌ {A = ℕ × Parts} (m, u) (n, v) = cc e in
+    ap (λ (z : ℕ × Parts). z.0) pair
 
 -- where none stands there, none writes its own version
 pub own_none : (file : List ℕ) (bs : List Bump) → first_in bs (folder_of file) ≡ None
@@ -141,6 +148,12 @@ own_first file (x ∷ xs) n v apart h =
                 ∙ there.only y is;
           })
     ]
+
+-- what a map tells of a manifest's folder
+pub tells_beside : (bs : List Bump) (numbers : BTreeMap (String Global) Numbered Global) (file : List ℕ)
+    → TellsFirst bs numbers → told_in numbers (folder_of file) ≡ first_in bs (folder_of file)
+tells_beside bs numbers file tells =
+    subst (λ folder. told_in numbers folder ≡ first_in bs folder) (way_up file) (tells (file ++ codes "/.."))
 
 -- ---- what is written
 
