@@ -28,3 +28,4 @@ pub mod EditsApart
 pub mod EditsValues
 pub mod DistinctInputs
 pub mod OutputLists
+pub mod EditsStand

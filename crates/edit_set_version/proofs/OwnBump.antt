@@ -5,7 +5,7 @@ use Rattle.std.specs.declared.alloc.Global.{Global}
 use Rattle.std.specs.declared.collections.BTreeMap.{BTreeMap}
 use Rattle.std.specs.List.{AllByRecursion, filter, filter_map}
 use Rattle.std.proofs.lemmas.Bool.{cases_Bool}
-use Rattle.semver.specs.Identifiers.{parts_text}
+use Rattle.semver.specs.Identifiers.{parts_of, parts_text}
 use Rattle.semver.specs.Parse.{Parts}
 use Rattle.edit_tree.specs.Assertions.{Place}
 use Rattle.edit_tree.specs.Replaces.{AreDistinct, Edits}
@@ -14,7 +14,7 @@ use Rattle.edit_manifest.specs.Versions.{package_version}
 use Rattle.edit_set_version.specs.Apart.{AreApart}
 use Rattle.edit_set_version.specs.Crates.{bump_seen, bumps_seen}
 use Rattle.edit_set_version.specs.Folders.{folder_of, same_folder}
-use Rattle.edit_set_version.specs.Numbers.{TellsFirst, first_in, told_in}
+use Rattle.edit_set_version.specs.Numbers.{TellsFirst, first_in, numbered_seen, told_in}
 use Rattle.edit_set_version.specs.SetVersioned.{Bump, own_edit, writes_own}
 use Rattle.edit_set_version.specs.declared.crates.Bump.{Bump as Bumping}
 use Rattle.edit_set_version.specs.declared.numbers.Numbered.{Numbered}
@@ -154,6 +154,15 @@ pub tells_beside : (bs : List Bump) (numbers : BTreeMap (String Global) Numbered
     → TellsFirst bs numbers → told_in numbers (folder_of file) ≡ first_in bs (folder_of file)
 tells_beside bs numbers file tells =
     subst (λ folder. told_in numbers folder ≡ first_in bs folder) (way_up file) (tells (file ++ codes "/.."))
+
+-- the bump of the number that such a map tells
+pub own_told : (file : List ℕ) (xs : List Bumping) (numbers : BTreeMap (String Global) Numbered Global)
+    (o : Option Numbered) (told : Numbered) → TellsFirst (bumps_seen xs) numbers → AreApart (bumps_seen xs)
+    → option_map numbered_seen o ≡ told_in numbers (folder_of file) → o ≡ Some told
+    → IsOwnAt file xs told.number
+own_told file xs numbers o told tells apart is some =
+    own_first file xs told.number (parts_of told.next.now) apart
+    (sym (tells_beside (bumps_seen xs) numbers file tells) ∙ sym is ∙ ap (option_map numbered_seen) some)
 
 -- ---- what is written
 
