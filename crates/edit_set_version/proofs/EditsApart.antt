@@ -14,7 +14,6 @@ use Rattle.edit_tree.specs.Tree.{View, is_value_at, string, view_at}
 use Rattle.edit_tree.proofs.ReplacedStrings.{strings_values}
 use Rattle.edit_tree.proofs.SamePlace.{same_place_is, same_place_self}
 use Rattle.edit_entries.specs.Entries.{Entry, entries as recorded, entries_of, entry_at, literal_at}
-use Rattle.edit_entries.proofs.Elements.{all-two, mapped-all}
 use Rattle.edit_entries.proofs.EntriesApart.{Differ, IsEntryOf, entries-apart, entries-of, same_literal}
 use Rattle.edit_manifest.specs.Tables.{Tree, dependency_tables, keyed, member_names}
 use Rattle.edit_manifest.specs.Versions.{package_version, shared_version, version_member, workspace_version}
@@ -55,14 +54,21 @@ edits_outside root next bs file t =
 
 -- ---- the entries differ
 
+-- what holds of elements that two facts hold of holds of what is made of them
+all_made : {A B : Type 0} (P Q : A → Type 0) (R : B → Type 0) (f : A → B)
+    → ((x : A) → P x → Q x → R (f x)) → (xs : List A) → AllByRecursion P xs → AllByRecursion Q xs
+    → AllByRecursion R (map f xs)
+all_made P Q R f h [] a b = tt
+all_made P Q R f h (x ∷ xs) a b = (h x a.0 b.0, all_made P Q R f h xs a.1 b.1)
+
 -- elements that differ by one test are made into elements that differ by another
 differ_made : {A B : Type 0} (P : A → Type 0) (same : A → A → Bool) (other : B → B → Bool) (f : A → B)
     → ((x y : A) → P x → P y → same x y ≡ false → other (f x) (f y) ≡ false) → (xs : List A)
     → AllByRecursion P xs → Differ same xs → Differ other (map f xs)
 differ_made P same other f h [] all d = tt
 differ_made P same other f h (x ∷ xs) all d = (
-  mapped-all (λ y. P y × (same x y ≡ false)) (λ z. other (f x) z ≡ false) f xs
-      (all-two P (λ y. same x y ≡ false) xs all.1 d.0) (λ y both. h x y all.0 both.0 both.1),
+  all_made P (λ y. same x y ≡ false) (λ z. other (f x) z ≡ false) f (λ y p differs. h x y all.0 p differs) xs
+      all.1 d.0,
   differ_made P same other f h xs all.1 d.1,
 )
 
