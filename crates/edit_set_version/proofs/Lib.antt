@@ -23,3 +23,9 @@ pub mod ApartBumps
 pub mod LineLists
 pub mod ManifestLines
 pub mod LinesTogether
+pub mod OwnBump
+pub mod EditsApart
+pub mod EditsValues
+pub mod DistinctInputs
+pub mod OutputLists
+pub mod EditsStand

@@ -12,6 +12,7 @@ mod lines;
 mod manifests;
 mod names;
 mod numbers;
+mod outputs;
 pub mod plan;
 pub mod pointed;
 mod project;

@@ -1,0 +1,49 @@
+-- What stands in an input against what is written into it, or does not.
+use Rattle.std.proofs.Common.{◌≡◌, ◌≢◌, ℕ, List, [], true, ◌⊎◌, inl, inr, subst, sym}
+use Rattle.std.proofs.Math.Path.{fun_ext}
+use Rattle.std.specs.Prelude.{Contains}
+use Rattle.std.specs.List.{filter}
+use Rattle.edit_base.specs.Errors.{IsMemory}
+use Rattle.edit_base.specs.declared.errors.Error.{Error}
+use Rattle.edit_manifest.specs.Tables.{Tree}
+use Rattle.edit_manifest.specs.Versions.{package_version}
+use Rattle.edit_manifest.specs.declared.manifest.Manifest.{Manifest}
+use Rattle.edit_metadata.specs.declared.input.Input.{Input}
+use Rattle.edit_syntax.specs.Grammar.{Text}
+use Rattle.edit_tree.specs.Shown.{tree_of}
+use Rattle.edit_tree.specs.Supported.{IsManifest}
+use Rattle.edit_tree.specs.Tree.{is_value_at}
+use Rattle.edit_set_version.specs.Crates.{IsReadOf}
+use Rattle.edit_set_version.specs.Followers.{IsUnfollowed, fixed, memory}
+use Rattle.edit_set_version.specs.Follows.{AllRise}
+use Rattle.edit_set_version.specs.PlanCauses.{requirement}
+use Rattle.edit_set_version.specs.PlanRefused.{IsInputClearBy, StandsAgainstInput}
+use Rattle.edit_set_version.specs.Projects.{path_of}
+use Rattle.edit_set_version.specs.SetVersioned.{Bump, followings, writes_own}
+
+-- a requirement that cannot follow stands against the bumps
+pub unfollowed_stands : (bs : List Bump) (input : Input) (m : Manifest) (e : Error) → IsReadOf input m
+    → IsUnfollowed bs (path_of input) (tree_of m.document) e → IsMemory e ⊎ StandsAgainstInput bs input e
+unfollowed_stands bs input m e read (memory none) = inl none
+unfollowed_stands bs input m e read (fixed f among refused) = inr (record {
+  form = read.form;
+  manifest = read.manifest;
+  against = requirement (record {
+    following = f;
+    among = subst (λ (t : Tree). Contains (followings bs (path_of input) t) f) (fun_ext read.shows) among;
+    fixed = refused;
+  });
+})
+
+-- nothing does where each is written
+pub written_clear : (bs : List Bump) (input : Input) (m : Manifest) → IsReadOf input m
+    → (filter (writes_own (path_of input)) bs ≢ [] → (form : Text) → IsManifest m.document.bytes form
+    → is_value_at form package_version ≡ true)
+    → AllRise bs (path_of input) (tree_of m.document) → IsInputClearBy bs input
+written_clear bs input m read literal rise = record {
+  form = read.form;
+  manifest = read.manifest;
+  literal = λ some. literal some read.form
+      (subst (λ (bytes : List ℕ). IsManifest bytes read.form) (sym read.bytes) read.manifest);
+  requirements = subst (λ (t : Tree). AllRise bs (path_of input) t) (fun_ext read.shows) rise;
+}
