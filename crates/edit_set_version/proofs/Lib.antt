@@ -23,3 +23,5 @@ pub mod ApartBumps
 pub mod LineLists
 pub mod ManifestLines
 pub mod LinesTogether
+pub mod PlanLemmas
+pub mod InputPaths
