@@ -1,10 +1,12 @@
 -- What a plan promises, by what its steps give.
-use Rattle.std.proofs.Common.{◌≡◌, ◌≢◌, ◌⊎◌, ◌∙◌, ⊥, ℕ, zero, suc, arith, List, [], ◌∷◌, ◌++◌, Bool, true, false, Option, Some, None, not, ap, ap₂, inl, inr, length, map, refl, subst, sym}
-use Rattle.std.specs.Prelude.{◌==◌, ◌&&◌, All, Contains, if◌then◌else◌, option_and_then, option_to_list}
+use Rattle.std.proofs.Common.{◌≡◌, ◌≢◌, ◌⊎◌, ◌∙◌, ℕ, zero, suc, arith, List, [], ◌∷◌, ◌++◌, Bool, true, false, Bor, Option, Ok, Err, Some, None, not, ap, ap₂, inl, inr, length, map, option_map, refl, slice_index_or, subst, sym}
+use Rattle.std.specs.Prelude.{◌==◌, ◌&&◌, All, Contains, IfErr, IfOk, IfSome, OnOk, if◌then◌else◌, option_and_then, option_copied, option_to_list, Result}
 use Rattle.std.specs.List.{AllZip, filter}
 use Rattle.std.proofs.Math.Path.{fun_ext}
 use Rattle.std.proofs.lemmas.List.Elements.{All-append, All-cons, All-contains, All-filter, All-head, All-map, All-nil, All-tail, Contains-append_right}
+use Rattle.semver.specs.Identifiers.{parts_of}
 use Rattle.semver.specs.Parse.{Parts}
+use Rattle.semver.specs.declared.Version.{Version}
 use Rattle.edit_base.specs.Errors.{IsMemory}
 use Rattle.edit_base.specs.declared.errors.Error.{Error}
 use Rattle.edit_manifest.specs.Tables.{Tree}
@@ -25,12 +27,13 @@ use Rattle.edit_set_version.specs.Followers.{IsUnfollowed, fixed, memory}
 use Rattle.edit_set_version.specs.Follows.{AllRise, AreVersions, Follow, IsLeftBy}
 use Rattle.edit_set_version.specs.PlanCauses.{currents, requirement}
 use Rattle.edit_set_version.specs.PlanLines.{Named, manifests}
-use Rattle.edit_set_version.specs.PlanRefused.{HasBadInput, IsInputClear}
-use Rattle.edit_set_version.specs.Planned.{AreOutputs, HasFollowed, HasSetOutputs, bytes_after, changed, outputs_at, unchanged}
+use Rattle.edit_set_version.specs.PlanRefused.{HasBadInput, HasBadInputBy, IsCauseOf, IsInputClear, IsInputClearBy}
+use Rattle.edit_set_version.specs.PlanRefused.IsCauseOf.{manifest as of_manifest, memory as of_memory}
+use Rattle.edit_set_version.specs.Planned.{AreOutputs, HasFollowed, HasOutputsBy, HasSetOutputs, bytes_after, changed, outputs_at, unchanged}
 use Rattle.edit_set_version.specs.Projects.{IsMemberOf, IsProject, IsTreeAt, path_of}
 use Rattle.edit_set_version.specs.SetVersioned.{Bump, Project, bumps, edits, followings, workspace_current, workspace_next}
 use Rattle.edit_set_version.specs.ToldLines.{HasUnfollowed}
-use Rattle.edit_set_version.specs.Written.{TellsShared}
+use Rattle.edit_set_version.specs.Written.{TellsShared, shared_seen}
 use Rattle.edit_set_version.proofs.Following.{follow}
 
 -- ---- the members of a project, by their packages
@@ -117,6 +120,18 @@ member_current a p m there =
     Contains-append_right (option_to_list (workspace_current a p)) (map (λ (m : Member). m.version)
     (chosen a p.members)) m.version
     (contains_map (λ (m : Member). m.version) (chosen a p.members) m there)
+
+-- a version that is lent, by its parts
+pub seen_copied : (o : Option (Bor Version)) → shared_seen o ≡ option_map parts_of (option_copied o)
+seen_copied None = refl
+seen_copied (Some v) = refl
+
+-- what holds of a version that may be there
+pub all_shared : (P : Parts → Type 0) (o : Option (Bor Version)) (q : Option Parts) → shared_seen o ≡ q
+    → IfSome o (λ v. P (parts_of v.now)) → All P (option_to_list q)
+all_shared P None q is h = subst (λ z. All P (option_to_list z)) is (All-nil P)
+all_shared P (Some v) q is h =
+    subst (λ z. All P (option_to_list z)) is (All-cons P (parts_of v.now) [] h (All-nil P))
 
 -- all of them
 pub all_currents : (P : Parts → Type 0) (a : Asked) (p : Project)
@@ -216,3 +231,52 @@ has_followed t a outputs p input versions clear set =
     (outputs_at path outputs) (Follow (bumps t a p) path) set.manifest
     (λ tree left. follow t a p path (view_at set.form) tree versions rise left) set.are in
     record { form = after.form; manifest = after.manifest; follow = after.holds }
+
+-- ---- from the steps to the plan
+
+-- what follows where a call succeeds
+pub where_ok : {T E : Type 0} (r : Result T E) (P : T → Type 0) (X : Type 0) (Q : T → Type 0)
+    → ((x : T) → P x → X → Q x) → IfOk r P → OnOk r X → IfOk r Q
+where_ok (Ok x) P X Q h p q = h x p q
+where_ok (Err e) P X Q h p q = tt
+
+-- and where it is refused
+pub where_err : {T E : Type 0} (r : Result T E) (P Q : E → Type 0) → ((e : E) → P e → Q e) → IfErr r P
+    → IfErr r Q
+where_err (Ok x) P Q h p = tt
+where_err (Err e) P Q h p = h e p
+
+-- the outputs of a project, by the versions that its code has
+pub outputs_given : (t : Target) (a : Asked) (is : List Input) (p : Project) (n : Option Parts)
+    (bs : List Bump) (outputs : List Output) → n ≡ workspace_next t a p → bs ≡ bumps t a p
+    → All (HasOutputsBy p.path n bs outputs) is → All (HasSetOutputs t a outputs p) is
+outputs_given t a is p n bs outputs next same have =
+    subst (λ (cs : List Bump). All (HasOutputsBy p.path (workspace_next t a p) cs outputs) is) same
+    (subst (λ (o : Option Parts). All (HasOutputsBy p.path o bs outputs) is) next have)
+
+-- all inputs are clear, by the bumps that its code has
+pub clear_given : (t : Target) (a : Asked) (is : List Input) (p : Project) (bs : List Bump) → bs ≡ bumps t a p
+    → All (IsInputClearBy bs) is → All (IsInputClear t a p) is
+clear_given t a is p bs same clear = subst (λ (cs : List Bump). All (IsInputClearBy cs) is) same clear
+
+-- in all inputs the requirements follow
+pub all_followed : (t : Target) (a : Asked) (is : List Input) (p : Project) (outputs : List Output)
+    → AreVersions (bumps t a p) → All (HasSetOutputs t a outputs p) is → All (IsInputClear t a p) is
+    → All (HasFollowed t a outputs p) is
+all_followed t a is p outputs versions set clear =
+    λ k d within. has_followed t a outputs p (slice_index_or is k d) versions (clear k d within)
+    (set k d within)
+
+-- a refusal of the outputs or the lines has its cause
+pub cause_given : (t : Target) (a : Asked) (w : WorkspaceSaid) (is : List Input) (p : Project)
+    (bs : List Bump) (e : Error) → IsProject w is p → bs ≡ bumps t a p
+    → IsMemory e ⊎ (HasUnfollowed bs (manifests p) e ⊎ HasBadInputBy bs is e) → IsCauseOf t a w is e
+cause_given t a w is p bs e project same (inl none) = of_memory none
+cause_given t a w is p bs e project same (inr (inl has)) =
+    by (bad_input t a w is p e project (subst (λ (cs : List Bump). HasUnfollowed cs (manifests p) e) same has))
+  where
+    by : IsMemory e ⊎ HasBadInput t a is p e → IsCauseOf t a w is e
+    by (inl none) = of_memory none
+    by (inr bad) = of_manifest p project bad
+cause_given t a w is p bs e project same (inr (inr bad)) =
+    of_manifest p project (subst (λ (cs : List Bump). HasBadInputBy cs is e) same bad)
