@@ -1,6 +1,6 @@
 -- The inputs of a workspace have paths of their own.
-use Rattle.std.proofs.Common.{◌≡◌, ◌≢◌, ◌∙◌, ℕ, zero, suc, arith, List, [], ◌∷◌, ap, length, map, refl, subst, sym}
-use Rattle.std.specs.Prelude.{All, AllPairs, Contains, string_bytes}
+use Rattle.std.proofs.Common.{◌≡◌, ◌≢◌, ◌∙◌, ℕ, zero, suc, arith, List, [], ◌∷◌, ap, map, refl, subst, sym}
+use Rattle.std.specs.Prelude.{All, AllPairs, Contains}
 use Rattle.std.specs.List.{AllZip}
 use Rattle.std.proofs.Math.ListN.{get_or-map}
 use Rattle.std.proofs.lemmas.List.{length-map}

@@ -14,7 +14,7 @@ use Rattle.edit_manifest.specs.Versions.{is_inherited, workspace_version}
 use Rattle.edit_metadata.specs.Metadata.{PackageSaid, WorkspaceSaid, members}
 use Rattle.edit_metadata.specs.declared.input.Input.{Input}
 use Rattle.edit_syntax.specs.Grammar.{Text}
-use Rattle.edit_tree.specs.Assertions.{Place, same_bytes}
+use Rattle.edit_tree.specs.Assertions.{same_bytes}
 use Rattle.edit_tree.specs.Replaces.{Edits, emptied, replaced, written}
 use Rattle.edit_tree.specs.Supported.{IsManifest}
 use Rattle.edit_tree.specs.Tree.{view_at}
@@ -60,7 +60,8 @@ readable_told is (p ∷ ps) (m ∷ ms) are all =
 -- what holds of all members holds of those that are chosen
 all_chosen : (P : Member → Type 0) (a : Asked) (ms : List Member) → All P ms → All P (chosen a ms)
 all_chosen P a ms all =
-    All-append P (filter (is_asked a) ms) _ (All-filter (is_asked a) P ms all) (by (length (inheriting a ms) == 0))
+    All-append P (filter (is_asked a) ms) _ (All-filter (is_asked a) P ms all)
+    (by (length (inheriting a ms) == 0))
   where
     by : (b : Bool)
         → All P (if b then [] else filter (λ m. not (is_asked a m) && is_inherited m.tree) ms)
@@ -273,7 +274,8 @@ pub cause_given : (t : Target) (a : Asked) (w : WorkspaceSaid) (is : List Input)
     → IsMemory e ⊎ (HasUnfollowed bs (manifests p) e ⊎ HasBadInputBy bs is e) → IsCauseOf t a w is e
 cause_given t a w is p bs e project same (inl none) = of_memory none
 cause_given t a w is p bs e project same (inr (inl has)) =
-    by (bad_input t a w is p e project (subst (λ (cs : List Bump). HasUnfollowed cs (manifests p) e) same has))
+    by (bad_input t a w is p e project
+    (subst (λ (cs : List Bump). HasUnfollowed cs (manifests p) e) same has))
   where
     by : IsMemory e ⊎ HasBadInput t a is p e → IsCauseOf t a w is e
     by (inl none) = of_memory none

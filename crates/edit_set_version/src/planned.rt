@@ -59,9 +59,11 @@ fn versions_of<'a>(
         ≡ workspace_current (asked_of selection.now) (project_seen project.now)) }
     ensures next { IfOk result (λ v. option_map parts_of v.next
         ≡ workspace_next (target_of target.now) (asked_of selection.now) (project_seen project.now)) }
-    ensures excluded { OnOk result (held_back (asked_of selection.now) (project_seen project.now).members ≡ []) }
+    ensures excluded { OnOk result
+        (held_back (asked_of selection.now) (project_seen project.now).members ≡ []) }
     ensures bumpable { OnOk result (All (λ v. IsBumpable (bump (target_of target.now)
-        (asked_of selection.now).metadata v)) (currents (asked_of selection.now) (project_seen project.now))) }
+        (asked_of selection.now).metadata v))
+        (currents (asked_of selection.now) (project_seen project.now))) }
     ensures versions { IsReadableTarget (target_of target.now)
         → All (λ m. IsReadable m.version) (chosen (asked_of selection.now) (project_seen project.now).members)
         → IfOk result (λ v. AreVersions (bumps_seen v.bumps.items)) }
@@ -96,8 +98,8 @@ fn plan_with(
         (option_map parts_of versions.now.next) (bumps_seen versions.now.bumps.items) plan.outputs.items)
         inputs.now) }
     ensures in_order { IfOk result (λ plan. OutputsInOrder inputs.now plan.outputs.items) }
-    ensures lines { IfOk result (λ plan. told_lines plan ≡ shared_lines (option_map parts_of versions.now.current)
-        (option_map parts_of versions.now.next)
+    ensures lines { IfOk result (λ plan. told_lines plan
+        ≡ shared_lines (option_map parts_of versions.now.current) (option_map parts_of versions.now.next)
         ++ flat_map (lines_of (project_seen project.now)) (bumps_seen versions.now.bumps.items)) }
     ensures changed { IfOk result (λ plan. plan.changed ≡ has_lines plan) }
     ensures clear { OnOk result (All (IsInputClearBy (bumps_seen versions.now.bumps.items)) inputs.now) }

@@ -1,4 +1,4 @@
-use Rattle.std.proofs.Common.{Option, Some, List, subst, sym}
+use Rattle.std.proofs.Common.{Option, List, subst, sym}
 use Rattle.std.specs.Prelude.{IfSome}
 use Rattle.std.proofs.lemmas.List.{map_push}
 use Rattle.std.proofs.lemmas.List.Elements.{All-push}

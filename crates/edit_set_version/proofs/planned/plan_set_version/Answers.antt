@@ -1,4 +1,4 @@
-use Rattle.std.proofs.Common.{◌⊎◌, ◌∙◌, List, Option, ap, inl, inr, option_map, subst, sym}
+use Rattle.std.proofs.Common.{◌⊎◌, ◌∙◌, ap, inl, inr, option_map, subst, sym}
 use Rattle.std.specs.Prelude.{All}
 use Rattle.std.proofs.lemmas.List.Elements.{All-map}
 use Rattle.std.proofs.lemmas.Result.{err_from_is_err_and}

@@ -1,4 +1,4 @@
-use Rattle.std.proofs.Common.{◌≡◌, ◌∙◌, Option, Some, None, Bor, List, ap, inl, inr, option_map, subst, sym}
+use Rattle.std.proofs.Common.{◌≡◌, ◌∙◌, None, List, ap, inl, inr, option_map, subst, sym}
 use Rattle.std.specs.Prelude.{All, Contains, if◌then◌else◌}
 use Rattle.std.proofs.lemmas.Result.{err_from_is_err_and}
 use Rattle.semver.specs.Identifiers.{parts_of}
