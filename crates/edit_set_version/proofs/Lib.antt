@@ -29,3 +29,5 @@ pub mod EditsValues
 pub mod DistinctInputs
 pub mod OutputLists
 pub mod EditsStand
+pub mod PlanLemmas
+pub mod InputPaths

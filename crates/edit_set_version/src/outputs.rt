@@ -37,10 +37,10 @@ use std::alloc::Global;
 /// What a plan writes: the path of the root's manifest, the next version of the workspace where it becomes
 /// another, and the bumps with their numbers.
 #[derive(Clone, Copy)]
-pub(crate) struct Writing<'a> {
+pub(crate) struct Writing<'a, 'n> {
     pub(crate) root: &'a str,
     pub(crate) shared: Option<&'a Version>,
-    pub(crate) numbers: &'a Numbers<'a>,
+    pub(crate) numbers: &'a Numbers<'n>,
     pub(crate) bumps: &'a [Bump<'a>],
 }
 
@@ -54,7 +54,7 @@ fn writes_own(bump: &Bump<'_>, path: &str) -> bool
 /// The one bump whose own version stands in the manifest at a path.
 fn own_bump<'a>(
     alloc: Global,
-    writing: &Writing<'a>,
+    writing: &Writing<'a, '_>,
     path: &str,
 ) -> CargoResult<Option<&'a Bump<'a>>>
     requires numbers { TellsFirst (bumps_seen writing.now.bumps.now) writing.now.numbers.now }
@@ -77,7 +77,7 @@ fn own_bump<'a>(
 /// Adds the next version of the workspace, where the root's manifest is at this path.
 fn push_shared(
     alloc: Global,
-    writing: &Writing<'_>,
+    writing: &Writing<'_, '_>,
     path: &str,
     edits: &mut Vec<Edit>,
 ) -> CargoResult<()>
@@ -99,7 +99,7 @@ fn push_shared(
 /// Adds the next version of the crate whose own one stands in the manifest at this path.
 fn push_own(
     alloc: Global,
-    writing: &Writing<'_>,
+    writing: &Writing<'_, '_>,
     path: &str,
     document: &Document,
     edits: &mut Vec<Edit>,
@@ -128,7 +128,7 @@ fn push_own(
 /// Adds the requirements of the manifest at this path that follow.
 fn push_follows(
     alloc: Global,
-    writing: &Writing<'_>,
+    writing: &Writing<'_, '_>,
     path: &str,
     document: &Document,
     edits: &mut Vec<Edit>,
@@ -150,7 +150,7 @@ fn push_follows(
 /// What is written into an input.
 fn edits_of(
     alloc: Global,
-    writing: &Writing<'_>,
+    writing: &Writing<'_, '_>,
     input: &Input,
     manifest: &Manifest,
 ) -> CargoResult<Vec<Edit>>
@@ -176,7 +176,7 @@ fn edits_of(
 /// The output of an input, where something is written into it.
 fn output_of(
     alloc: Global,
-    writing: &Writing<'_>,
+    writing: &Writing<'_, '_>,
     input: &Input,
     manifest: &Manifest,
 ) -> CargoResult<Option<Output>>
@@ -208,7 +208,7 @@ fn output_of(
 /// Adds the output of an input, where something is written into it.
 fn push_output(
     alloc: Global,
-    writing: &Writing<'_>,
+    writing: &Writing<'_, '_>,
     input: &Input,
     manifest: &Manifest,
     outputs: &mut Vec<Output>,
@@ -240,7 +240,7 @@ fn push_output(
 /// and its new bytes.
 pub(crate) fn outputs_of(
     alloc: Global,
-    writing: &Writing<'_>,
+    writing: &Writing<'_, '_>,
     inputs: &[Input],
     manifests: &[Manifest],
 ) -> CargoResult<Vec<Output>>
