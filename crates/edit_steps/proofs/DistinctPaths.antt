@@ -26,7 +26,8 @@ pub none_differ : {X : Type 0} (R : X → X → Type 0) → AllPairs R []
 none_differ R i j d before within = absurd (omega (arith, within))
 
 -- what differs is what is made of it
-made_differ : {X : Type 0} (f : X → List ℕ) (xs : List X) → AllPairs (λ a b. f a ≢ f b) xs → Differ (map f xs)
+made_differ : {X : Type 0} (f : X → List ℕ) (xs : List X) → AllPairs (λ a b. f a ≢ f b) xs
+    → Differ (map f xs)
 made_differ f [] pairs = none_differ (λ a b. a ≢ b)
 made_differ f (x ∷ xs) pairs =
     AllPairs-cons (λ a b. a ≢ b) (f x) (map f xs)
@@ -40,22 +41,24 @@ made_differ f (x ∷ xs) pairs =
         (each ys (λ j d within. apart (suc j) d (omega (arith, within))))
 
 -- and back
-kept_differ : {X : Type 0} (f : X → List ℕ) (xs : List X) → Differ (map f xs) → AllPairs (λ a b. f a ≢ f b) xs
+kept_differ : {X : Type 0} (f : X → List ℕ) (xs : List X) → Differ (map f xs)
+    → AllPairs (λ a b. f a ≢ f b) xs
 kept_differ f [] pairs = none_differ (λ a b. f a ≢ f b)
 kept_differ f (x ∷ xs) pairs =
     AllPairs-cons (λ a b. f a ≢ f b) x xs
     (each xs (first_differs (λ a b. a ≢ b) (f x) (map f xs) pairs))
     (kept_differ f xs (others_differ (λ a b. a ≢ b) (f x) (map f xs) pairs))
   where
-    each : (ys : List _) → ((j : ℕ) (d : List ℕ) → j < length (map f ys) → f x ≢ slice_index_or (map f ys) j d)
+    each : (ys : List _)
+        → ((j : ℕ) (d : List ℕ) → j < length (map f ys) → f x ≢ slice_index_or (map f ys) j d)
         → All (λ y. f x ≢ f y) ys
     each [] apart = All-nil (λ y. f x ≢ f y)
     each (y ∷ ys) apart = All-cons (λ y. f x ≢ f y) y ys (apart zero (f y) (omega arith))
         (each ys (λ j d within. apart (suc j) d (omega (arith, within))))
 
 -- outputs that stand in the order of their inputs go to paths of their own, where the inputs have such
-pub outputs_differ : (keep : List ℕ → Bool) (inputs : List Input) (outputs : List Output) → HaveOwnPaths inputs
-    → map (λ (o : Output). string_bytes o.path) outputs
+pub outputs_differ : (keep : List ℕ → Bool) (inputs : List Input) (outputs : List Output)
+    → HaveOwnPaths inputs → map (λ (o : Output). string_bytes o.path) outputs
     ≡ filter keep (map (λ (i : Input). string_bytes i.path) inputs)
     → HaveDistinctPaths outputs
 outputs_differ keep inputs outputs own in_order =

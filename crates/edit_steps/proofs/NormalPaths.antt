@@ -46,7 +46,11 @@ further_idle names part (inr dot) = ap (further names) dot
 
 further_name : (names : List (List ℕ)) (part : List ℕ) → IsName part → further names part ≡ part ∷ names
 further_name names part name =
-    rw (differs part [] name.some, differs part (codes ".") name.own, differs part (codes "..") name.below) refl
+    rw (
+      differs part [] name.some,
+      differs part (codes ".") name.own,
+      differs part (codes "..") name.below,
+    ) refl
 
 -- the walk keeps the names of the normal form
 along_normal : (parts names : List (List ℕ)) → Normal parts names → along [] parts ≡ reverse names

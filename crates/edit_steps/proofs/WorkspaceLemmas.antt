@@ -26,11 +26,12 @@ use Rattle.edit_steps.proofs.NormalPaths.{one_folder, one_normal}
 folder_at : (path folder text : List ℕ) → IsManifestFolder path folder → IsNormalOf path text
     → IsFolderOf text folder
 folder_at path folder text stands normal =
-    subst (λ t. IsFolderOf t folder) (one_normal path stands.normal text stands.is_normal normal) stands.above
+    subst (λ t. IsFolderOf t folder) (one_normal path stands.normal text stands.is_normal normal)
+    stands.above
 
 -- manifests in folders of their own have normal paths of their own
-apart_paths : (p q f g s t : List ℕ) → f ≢ g → IsManifestFolder p f → IsManifestFolder q g → IsNormalOf p s
-    → IsNormalOf q t → s ≢ t
+apart_paths : (p q f g s t : List ℕ) → f ≢ g → IsManifestFolder p f → IsManifestFolder q g
+    → IsNormalOf p s → IsNormalOf q t → s ≢ t
 apart_paths p q f g s t differ at_f at_g normal_s normal_t same =
     differ (one_folder t f g (subst (λ x. IsFolderOf x f) same (folder_at p f s at_f normal_s))
     (folder_at q g t at_g normal_t))

@@ -1,5 +1,5 @@
-//! Steps that the commands share: refusals with their place, paths of the command line, the workspace that is
-//! read, and the files that are written.
+//! Steps that the commands share: refusals with their place, paths of the command line, the workspace that
+//! is read, and the files that are written.
 #![tactic(auto)]
 
 mod outputs;

@@ -16,7 +16,8 @@ fn write_output<S: Store>(alloc: Global, output: &Output, files: &mut S) -> RunR
     ensures written { OnOk result ((S.view files.old).tells ≡ true
         → IsWhole (S.view files.new).file_at output.now) }
     ensures others { SameBut (path_of output.now) (S.view files.old).file_at (S.view files.new).file_at }
-    ensures refused { IfErr result (λ r. RefusesCall call.Write (S.view files.old) (S.view files.new) r.error) }
+    ensures refused { IfErr result
+        (λ r. RefusesCall call.Write (S.view files.old) (S.view files.new) r.error) }
 {
     match files.write(alloc, output.path.as_str(), output.bytes.as_slice()) {
         Ok(()) => Ok(()),
@@ -32,7 +33,8 @@ pub fn write_outputs<S: Store>(alloc: Global, outputs: &[Output], files: &mut S)
     ensures later { (S.view files.old).faults ≤ (S.view files.new).faults }
     ensures written { OnOk result (AreWritten outputs.now (S.view files.old) (S.view files.new)) }
     ensures stopped { OnErr result (HasStopped outputs.now (S.view files.old) (S.view files.new)) }
-    ensures refused { IfErr result (λ r. RefusesCall call.Write (S.view files.old) (S.view files.new) r.error) }
+    ensures refused { IfErr result
+        (λ r. RefusesCall call.Write (S.view files.old) (S.view files.new) r.error) }
 {
     for output in outputs {
         write_output(alloc, output, files)?;

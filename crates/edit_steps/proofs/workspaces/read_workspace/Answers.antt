@@ -22,7 +22,8 @@ returns-clause-paths g c =
 pub returns-in_err-workspace-clause-refused : goal.returns-in_err-workspace-clause-refused
 returns-in_err-workspace-clause-refused g c =
     refusal_has c.from_residual.result c.in_err-workspace.field-0.0 _ c.from_residual.ensures.1
-    (metadata_cause (g.S.Store.view c.args.files.now) (g.S.Store.view c.read_metadata.new.files) c.args.current.now c.args.named.now
+    (metadata_cause (g.S.Store.view c.args.files.now) (g.S.Store.view c.read_metadata.new.files)
+    c.args.current.now c.args.named.now
     c.in_err-workspace.field-0.0.error c.in_err-workspace.ensures.refused)
 
 pub returns-in_err-inputs-clause-refused : goal.returns-in_err-inputs-clause-refused
@@ -30,6 +31,7 @@ returns-in_err-inputs-clause-refused g c =
     refusal_made c.from_residual-in_err-inputs.result c.in_err-inputs.field-0.0 _
     c.from_residual-in_err-inputs.ensures.1
     (manifest_cause (g.S.Store.view c.args.files.now) (g.S.Store.view c.read_metadata.new.files)
-    (g.S.Store.view c.workspace_inputs.new.store) c.args.current.now c.args.named.now (workspace_said c.in_ok-workspace.workspace)
-    c.in_err-inputs.field-0.0 c.in_ok-workspace.ensures.reads c.in_ok-workspace.ensures.metadata
+    (g.S.Store.view c.workspace_inputs.new.store) c.args.current.now c.args.named.now
+    (workspace_said c.in_ok-workspace.workspace) c.in_err-inputs.field-0.0
+    c.in_ok-workspace.ensures.reads c.in_ok-workspace.ensures.metadata
     c.in_err-inputs.ensures.refused)
