@@ -13,6 +13,7 @@ mod manifests;
 mod names;
 mod numbers;
 pub mod plan;
+pub mod planned;
 pub mod pointed;
 mod project;
 mod reach;
@@ -24,5 +25,6 @@ mod walk;
 mod writes;
 
 pub use plan::{Selection, SetVersionPlan};
+pub use planned::plan_set_version;
 pub use pointed::{PathEntry, path_entries};
 pub use set_version::{BumpLevel, TargetVersion};
