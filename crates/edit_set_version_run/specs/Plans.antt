@@ -11,8 +11,8 @@ use Rattle.edit_set_version.specs.Projects.{EachInput, HasProject}
 use Rattle.edit_set_version.specs.declared.plan.SetVersionPlan.{SetVersionPlan}
 
 -- a plan of new versions for a workspace and its inputs
-pub record IsVersionPlan (t : Target) (a : Asked) (w : WorkspaceSaid) (is : List Input) (plan : SetVersionPlan)
-    : Type 0 where
+pub record IsVersionPlan (t : Target) (a : Asked) (w : WorkspaceSaid) (is : List Input)
+    (plan : SetVersionPlan) : Type 0 where
   -- the literals of bumped versions and of requirements that follow, and no other byte
   pub outputs : EachInput w is (HasSetOutputs t a plan.outputs.items)
   pub in_order : OutputsInOrder is plan.outputs.items

@@ -36,8 +36,9 @@ returns-clause-done g c =
     let shows : Shows (printed c.args.words.now (told_lines c.in_ok-plan.plan)) =
     printed_all c.args.words.now (told_lines c.in_ok-plan.plan) _ (g.E.Write.contents c.warn_if.new.err)
     (g.E.Write.contents c.print_lines.new.err) _ c.in_ok-warn_if.ensures.text
-    (subst (λ lines. Appends (g.E.Write.contents c.warn_if.new.err) (g.E.Write.contents c.print_lines.new.err)
-    (statuses (map line_told lines))) c.as_slice.ensures.value c.in_ok-print_lines.ensures.text)
+    (subst (λ lines. Appends (g.E.Write.contents c.warn_if.new.err)
+    (g.E.Write.contents c.print_lines.new.err) (statuses (map line_told lines))) c.as_slice.ensures.value
+    c.in_ok-print_lines.ensures.text)
     c.in_ok-warn_if-2.ensures.text in
     on_ok_weaker c.write_outputs.result
     (λ h. planned_to AreWritten Shows c.args.words.now c.args.current.now old new
@@ -55,8 +56,9 @@ returns-clause-refused g c =
     let shows : Shows (printed c.args.words.now (told_lines c.in_ok-plan.plan)) =
     printed_all c.args.words.now (told_lines c.in_ok-plan.plan) _ (g.E.Write.contents c.warn_if.new.err)
     (g.E.Write.contents c.print_lines.new.err) _ c.in_ok-warn_if.ensures.text
-    (subst (λ lines. Appends (g.E.Write.contents c.warn_if.new.err) (g.E.Write.contents c.print_lines.new.err)
-    (statuses (map line_told lines))) c.as_slice.ensures.value c.in_ok-print_lines.ensures.text)
+    (subst (λ lines. Appends (g.E.Write.contents c.warn_if.new.err)
+    (g.E.Write.contents c.print_lines.new.err) (statuses (map line_told lines))) c.as_slice.ensures.value
+    c.in_ok-print_lines.ensures.text)
     c.in_ok-warn_if-2.ensures.text in
     on_err_weaker c.write_outputs.result
     (λ h t. inr (planned_to HasStopped Shows c.args.words.now c.args.current.now old new

@@ -11,8 +11,8 @@ use Rattle.edit_set_version_run.proofs.plan.plan_for.Goals as goal
 pub plan_set_version-requires-clause-inputs : goal.plan_set_version-requires-clause-inputs
 plan_set_version-requires-clause-inputs c = (
   no_rust,
-  subst (λ is. AreInputs no_rust (workspace_said c.args.read.now.workspace) is) (sym c.as_slice.ensures.value)
-      c.requires.inputs,
+  subst (λ is. AreInputs no_rust (workspace_said c.args.read.now.workspace) is)
+      (sym c.as_slice.ensures.value) c.requires.inputs,
 )
 
 pub returns-in-Ok-clause-planned : goal.returns-in-Ok-clause-planned
