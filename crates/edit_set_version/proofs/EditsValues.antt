@@ -122,3 +122,12 @@ edits_values root next bs file form can literal =
 
     reqs : Edits
     reqs = filter_map requirement_edit (followings bs file (view_at form))
+
+-- the same over the tree that a form shows
+pub values_shown : (root : List ℕ) (next : Option Parts) (bs : List Bump) (file : List ℕ) (t : Tree)
+    (form : Text) → t ≡ view_at form → CanShare root next file t
+    → (filter (writes_own file) bs ≢ [] → is_value_at form package_version ≡ true)
+    → AreValues (edits_by root next bs file t) form
+values_shown root next bs file t form same can literal =
+    subst (λ (tree : Tree). AreValues (edits_by root next bs file tree) form) (sym same)
+    (edits_values root next bs file form (subst (CanShare root next file) same can) literal)

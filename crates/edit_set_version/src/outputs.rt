@@ -1,5 +1,5 @@
 //! The outputs of a plan: what it writes into the manifests of its inputs.
-ghost use Rattle.std.specs.Prelude.{◌≡◌, ◌≢◌, ◌⊎◌, ◌++◌, [], List, true, All, IfErr, IfOk, OnOk, option_map, option_to_list};
+ghost use Rattle.std.specs.Prelude.{◌≡◌, ◌≢◌, ◌<◌, ◌⊎◌, ◌++◌, [], List, true, All, IfErr, IfOk, OnOk, get_or, length, option_map, option_to_list};
 ghost use Rattle.std.specs.List.{AllZip, filter, filter_map};
 ghost use Rattle.edit_base.specs.Errors.{IsMemory};
 ghost use Rattle.edit_base.specs.declared.errors.Error.TheVariants.{NoVersionPlace};
@@ -51,6 +51,14 @@ fn writes_own(bump: &Bump<'_>, path: &str) -> bool
     bump.member.input.path.as_str() == path && !bump.member.manifest.version_is_inherited()
 }
 
+/// The bump of a number.
+fn numbered_bump<'a>(bumps: &'a [Bump<'a>], number: usize) -> &'a Bump<'a>
+    requires there { number < length bumps.now }
+    ensures { result.now ≡ get_or bumps.entry.now number result.now }
+{
+    &bumps[number]
+}
+
 /// The one bump whose own version stands in the manifest at a path.
 fn own_bump<'a>(
     alloc: Global,
@@ -66,8 +74,7 @@ fn own_bump<'a>(
     let Some(told) = bump_beside(alloc, writing.numbers, path)? else {
         return Ok(None);
     };
-    let number = told.number;
-    let bump = &writing.bumps[number];
+    let bump = numbered_bump(writing.bumps, told.number);
     if writes_own(bump, path) {
         return Ok(Some(bump));
     }

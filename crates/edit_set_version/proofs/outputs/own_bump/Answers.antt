@@ -15,28 +15,24 @@ returns-in_default-clause-ok c =
     own_none path bs (sym (tells_beside bs c.args.writing.now.numbers.now path c.requires.numbers)
     ∙ sym c.in_ok-told.ensures.ok ∙ ap (option_map numbered_seen) c.in_default.is)
 
-pub bounds-writing-number : goal.bounds-writing-number
-bounds-writing-number c =
+pub numbered_bump-bump-requires : goal.numbered_bump-bump-requires
+numbered_bump-bump-requires c =
     let there = own_told c.args.path.now c.args.writing.now.bumps.now c.args.writing.now.numbers.now c.in_ok-told.field-0
     c.in-Some.told c.requires.numbers c.requires.apart c.in_ok-told.ensures.ok c.in-Some.is in
-    there.within
+    record { there = there.within }
 
 pub returns-then-writes_own-clause-ok : goal.returns-then-writes_own-clause-ok
 returns-then-writes_own-clause-ok c =
-    let own = c.index-writing-number.result in
-    let at = get_or c.args.writing.now.bumps.now c.in-Some.told.number own in
+    let own = c.numbered_bump-bump.result.now in
     let there = own_told c.args.path.now c.args.writing.now.bumps.now c.args.writing.now.numbers.now c.in_ok-told.field-0
     c.in-Some.told c.requires.numbers c.requires.apart c.in_ok-told.ensures.ok c.in-Some.is in
-    there.only own c.index-writing-number.is
-    ∙ ap (λ x. filter (writes_own c.args.path.now) (bump_seen x ∷ [])) c.index-writing-number.is
-    ∙ ap (λ (b : Bool). cond b (bump_seen at ∷ []) []) (sym c.writes_own.ensures ∙ c.if-writes_own.true)
+    there.only own c.numbered_bump-bump.ensures
+    ∙ ap (λ (b : Bool). cond b (bump_seen own ∷ []) []) (sym c.writes_own.ensures ∙ c.if-writes_own.true)
 
 pub returns-clause-ok : goal.returns-clause-ok
 returns-clause-ok c =
-    let own = c.index-writing-number.result in
-    let at = get_or c.args.writing.now.bumps.now c.in-Some.told.number own in
+    let own = c.numbered_bump-bump.result.now in
     let there = own_told c.args.path.now c.args.writing.now.bumps.now c.args.writing.now.numbers.now c.in_ok-told.field-0
     c.in-Some.told c.requires.numbers c.requires.apart c.in_ok-told.ensures.ok c.in-Some.is in
-    there.only own c.index-writing-number.is
-    ∙ ap (λ x. filter (writes_own c.args.path.now) (bump_seen x ∷ [])) c.index-writing-number.is
-    ∙ ap (λ (b : Bool). cond b (bump_seen at ∷ []) []) (sym c.writes_own.ensures ∙ c.if-writes_own.false)
+    there.only own c.numbered_bump-bump.ensures
+    ∙ ap (λ (b : Bool). cond b (bump_seen own ∷ []) []) (sym c.writes_own.ensures ∙ c.if-writes_own.false)
