@@ -18,7 +18,7 @@ use Rattle.edit_set_version.specs.Crates.{IsReadOf}
 use Rattle.edit_set_version.specs.Followers.{IsUnfollowed, fixed, memory}
 use Rattle.edit_set_version.specs.Follows.{AllRise}
 use Rattle.edit_set_version.specs.PlanCauses.{requirement}
-use Rattle.edit_set_version.specs.PlanRefused.{IsInputClearBy, StandsAgainstInput}
+use Rattle.edit_set_version.specs.PlanRefused.{HasBadInputBy, IsInputClearBy, StandsAgainstInput}
 use Rattle.edit_set_version.specs.Projects.{path_of}
 use Rattle.edit_set_version.specs.SetVersioned.{Bump, followings, writes_own}
 
@@ -69,3 +69,10 @@ literal_of bs input m form read manifest clear some =
     subst (λ (f : Text). is_value_at f package_version ≡ true)
     (one_form input.bytes.items clear.form form clear.manifest
     (subst (λ (bytes : List ℕ). IsManifest bytes form) read.bytes manifest)) (clear.literal some)
+
+-- what stands against an input stands against it among all
+pub stands_among : (bs : List Bump) (inputs : List Input) (input : Input) (e : Error) → Contains inputs input
+    → IsMemory e ⊎ StandsAgainstInput bs input e → IsMemory e ⊎ HasBadInputBy bs inputs e
+stands_among bs inputs input e among (inl none) = inl none
+stands_among bs inputs input e among (inr stands) =
+    inr (record { input = input; among = among; stands = stands })

@@ -1,5 +1,5 @@
 -- The outputs of inputs, one input after another.
-use Rattle.std.proofs.Common.{◌≡◌, ◌≢◌, ◌∙◌, ◌+◌, ◌<◌, ℕ, List, [], ◌∷◌, ◌++◌, Bool, true, false, Option, append-nil, cond, get_or, length, map, not, refl, ap, ap₂, subst, sym, take, inl, inr}
+use Rattle.std.proofs.Common.{All, ◌≡◌, ◌≢◌, ◌∙◌, ◌+◌, ◌<◌, ℕ, List, [], ◌∷◌, ◌++◌, Bool, true, false, Option, append-nil, cond, get_or, length, map, not, refl, ap, ap₂, subst, sym, take, inl, inr}
 use Rattle.std.specs.Prelude.{◌==◌, string_bytes}
 use Rattle.std.specs.List.{AllByRecursion, AllZip, filter, flat_map}
 use Rattle.std.proofs.lemmas.Bool.{cases_Bool}
@@ -18,6 +18,7 @@ use Rattle.edit_set_version.specs.Projects.{path_of}
 use Rattle.edit_set_version.specs.SetVersioned.{Bump}
 use Rattle.edit_set_version.specs.Written.{HaveDistinctPaths}
 use Rattle.edit_set_version.proofs.DistinctInputs.{Distinct, distinct_each}
+use Rattle.edit_set_version.proofs.Following.{of_all}
 use Rattle.edit_set_version.proofs.WrittenPlaces.{all_then}
 
 -- the outputs of each input, and all of them in a row
@@ -84,7 +85,6 @@ at_other own path (o ∷ os) other all =
 -- ---- inputs with different paths
 
 module _ (root : List ℕ) (next : Option Parts) (bs : List Bump) where
-
   -- the outputs of an input are none at another path
   past : (x : Input) (own rest : List Output) (path : List ℕ) → AreOutputsOf root next bs x own
       → path_of x ≢ path → outputs_at path (own ++ rest) ≡ outputs_at path rest
@@ -181,3 +181,20 @@ module _ (root : List ℕ) (next : Option Parts) (bs : List Bump) where
           ap (λ (os : List Output). cond (not (length os == 0)) (path_of y ∷ filter (has rest) (map path_of ys))
           (filter (has rest) (map path_of ys))) (sym (past x own rest (path_of y) are.0 apart.0))
           ∙ ap (λ (ps : List (List ℕ)). cond (has all (path_of y)) (path_of y ∷ ps) ps) (same ys apart.1)
+
+-- of outputs in a row each input has its own
+pub row_has : (root : List ℕ) (next : Option Parts) (bs : List Bump) (inputs : List Input)
+    (outputs : List Output) → HaveDistinctPaths inputs → AreInARow root next bs inputs outputs
+    → All (HasOutputsBy root next bs outputs) inputs
+row_has root next bs inputs outputs distinct row =
+    subst (λ os. All (HasOutputsBy root next bs os) inputs) (sym row.in_a_row)
+    (of_all (HasOutputsBy root next bs (flat_map (λ own. own) row.each)) inputs
+    (each_has root next bs inputs row.each row.are (distinct_each inputs distinct)))
+
+-- and they stand in the order of the inputs
+pub row_in_order : (root : List ℕ) (next : Option Parts) (bs : List Bump) (inputs : List Input)
+    (outputs : List Output) → HaveDistinctPaths inputs → AreInARow root next bs inputs outputs
+    → OutputsInOrder inputs outputs
+row_in_order root next bs inputs outputs distinct row =
+    subst (OutputsInOrder inputs) (sym row.in_a_row)
+    (each_in_order root next bs inputs row.each row.are (distinct_each inputs distinct))

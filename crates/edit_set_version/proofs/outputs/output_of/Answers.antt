@@ -71,9 +71,9 @@ returns-clause-output c =
     = told_some c.in_ok-edits.edits.items c.in_ok-edits.edits.len c.is_empty.result c.if-is_empty.false
     c.is_empty.ensures (sym c.in_ok-edits.edits.ok.0) in
     let text : Replaces (edits_seen c.deref.result.now) c.args.input.now.bytes.items
-        (string_bytes c.in_ok-text.text)
+    (string_bytes c.in_ok-text.text)
     = subst (λ (old : List ℕ). Replaces (edits_seen c.deref.result.now) old (string_bytes c.in_ok-text.text))
-      c.requires.read.bytes c.in_ok-text.ensures.replaces in
+    c.requires.read.bytes c.in_ok-text.ensures.replaces in
     record {
       form = c.requires.read.form;
       manifest = c.requires.read.manifest;
