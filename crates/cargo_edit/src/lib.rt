@@ -24,7 +24,9 @@ pub use edit_report::{
     Change, Output, Reason, Row, apply, name_text, reason_text, shell, shell_note, shell_print,
     shell_status, shell_warn, shell_write_stderr, shell_write_stdout, shown, table_text,
 };
-pub use edit_set_version::{BumpLevel, TargetVersion, set_version};
+pub use edit_set_version::{
+    BumpLevel, Selection, SetVersionPlan, TargetVersion, plan_set_version, set_version,
+};
 pub use edit_sources::config::read_configs;
 pub use edit_sources::registry::{registry_url, resolve};
 pub use edit_sources::{

@@ -126,6 +126,17 @@ member_clear _ name (entry _ n of_workspace) =
 member_clear _ name (entry _ n (of_target x k y)) =
     next (key (codes "target")) (key name) (key x ∷ key k ∷ key n ∷ last) [] refl
 
+-- nor at the package of the workspace
+pub shared_clear : (e : Place) → IsWritten e
+    → reaches e (keyed (codes "workspace" ∷ codes "package" ∷ [])) ≡ false
+shared_clear _ own = refl
+shared_clear _ whole = refl
+shared_clear _ (entry _ n (of_kind k y)) =
+    head (key k) (key (codes "workspace")) (key n ∷ last) (key (codes "package") ∷ [])
+    (kind_right (codes "workspace") k refl y)
+shared_clear _ (entry _ n of_workspace) = refl
+shared_clear _ (entry _ n (of_target x k y)) = refl
+
 -- nor at the root
 pub root_clear : (e : Place) → IsWritten e → reaches e [] ≡ false
 root_clear e w = reaches_more e [] (key []) (member_clear e [] w)

@@ -21,17 +21,17 @@ use Rattle.edit_set_version.specs.SetVersioned.{Bump, Following, bumps, edits, f
 use Rattle.edit_set_version.proofs.Clear.{IsWritten, entry_clear, last_differs, member_below, member_clear, own_apart, reaches, root_clear, table_clear, target_clear, version_at_end, whole_apart}
 use Rattle.edit_set_version.proofs.EntriesStay.{entries_same}
 use Rattle.edit_set_version.proofs.TablePlaces.{IsEntry, entries_shaped}
-use Rattle.edit_set_version.proofs.WrittenPlaces.{In, all_by_in, all_every, all_filter_map, all_in, all_then, all_written, edits_by, edits_by_entry, emptied_other, new_at, option_cases, own_at, shared_all, unreached, untouched, written_new, written_none, written_past}
+use Rattle.edit_set_version.proofs.WrittenPlaces.{In, all_by_in, all_every, all_filter_map, all_in, all_then, all_written, entry_edits, edits_by_entry, emptied_other, new_at, option_cases, own_at, shared_all, unreached, untouched, written_new, written_none, written_past}
 
 -- ---- lists
 
 -- what holds of all, by recursion
-by_recursion : {A : Type 0} (P : A → Type 0) (xs : List A) → All P xs → AllByRecursion P xs
+pub by_recursion : {A : Type 0} (P : A → Type 0) (xs : List A) → All P xs → AllByRecursion P xs
 by_recursion P [] h = tt
 by_recursion P (x ∷ xs) h = (All-head P x xs h, by_recursion P xs (All-tail P x xs h))
 
 -- and back
-of_all : {A : Type 0} (P : A → Type 0) (xs : List A) → AllByRecursion P xs → All P xs
+pub of_all : {A : Type 0} (P : A → Type 0) (xs : List A) → AllByRecursion P xs → All P xs
 of_all P [] h = All-nil P
 of_all P (x ∷ xs) h = All-cons P x xs h.0 (of_all P xs h.1)
 
@@ -53,24 +53,24 @@ of_one {B} Q f (x ∷ xs) h q (inr i) y e = elim (option_cases (f x)) [
 -- ---- what follows at an entry
 
 -- the parts of what follows
-record HasParts (o : Option (List ℕ)) (v : Option Parts) (f : Following) : Type 0 where
-  text : o ≡ Some f.text
-  next : v ≡ Some f.next
+pub record HasParts (o : Option (List ℕ)) (v : Option Parts) (f : Following) : Type 0 where
+  pub text : o ≡ Some f.text
+  pub next : v ≡ Some f.next
 
 -- they are both there
-following_parts : (q : Place) (o : Option (List ℕ)) (v : Option Parts) (f : Following)
+pub following_parts : (q : Place) (o : Option (List ℕ)) (v : Option Parts) (f : Following)
     → following_at q o v ≡ Some f → HasParts o v f
 following_parts q None v f h = cc h
 following_parts q (Some text) None f h = cc h
 following_parts q (Some text) (Some v) f h = record { text = cc h; next = cc h }
 
 -- a requirement stands in a table
-record IsRequired (t : Tree) (q : Place) (text : List ℕ) : Type 0 where
-  like : is_table_like (t q) ≡ true
-  said : text_at t (version_member q) ≡ Some text
+pub record IsRequired (t : Tree) (q : Place) (text : List ℕ) : Type 0 where
+  pub like : is_table_like (t q) ≡ true
+  pub said : text_at t (version_member q) ≡ Some text
 
 -- that is where it is told
-required : (t : Tree) (q : Place) (text : List ℕ) → requirement t q ≡ Some text → IsRequired t q text
+pub required : (t : Tree) (q : Place) (text : List ℕ) → requirement t q ≡ Some text → IsRequired t q text
 required t q text h = elim (cases_Bool (is_table_like (t q))) [
   | inl like ↦ record { like = like; said = rw like at h }
   | inr other ↦ let e = rw other at h in cc e
@@ -111,7 +111,7 @@ text_is a b e = cc e
 at_entry : (bs : List Bump) (file : List ℕ) (tree base : Tree) (q : Place) (o : Option View) (text : List ℕ)
     (v : Parts) → is_table_like (tree q) ≡ true → In q (entries tree) → followed bs file tree q ≡ Some v
     → base (version_member q) ≡ tree (version_member q)
-    → o ≡ written (edits_by (new_at bs file tree) (entries tree)) base (version_member q)
+    → o ≡ written (entry_edits (new_at bs file tree) (entries tree)) base (version_member q)
     → option_and_then string_in o ≡ Some text
     → AllByRecursion (λ f. CanRise (raise f.text f.next)) (followings bs file tree)
     → IsVersion v → CanReach text v → Admits text v
@@ -181,12 +181,15 @@ follow t a p file tree after readable rising left =
     es : Edits
     es = edits t a p file tree
 
+    all : AllByRecursion (λ e. IsWritten e.0) es
+    all = all_written p.path (workspace_next t a p) bs file tree
+
     -- what is written by no edit stays
     clear : (q : Place) → ((e : Place) → IsWritten e → reaches e q ≡ false) → after q ≡ tree q
     clear q h =
         left q ∙ unreached es tree q
         (all_then (λ e. IsWritten e.0) (λ e. reaches e.0 q ≡ false) (λ e w. h e.0 w) es
-        (all_written t a p file tree))
+        all)
 
     same : entries after ≡ entries tree
     same = entries_same after tree (record {
@@ -210,18 +213,18 @@ follow t a p file tree after readable rising left =
         (λ e w. let m = version_at_end e.0 w in
         subst (λ (z : Place). same_place z (path_member q) ≡ false) (sym m.is)
         (last_differs m.front q (key (codes "version")) (key (codes "path")) refl))
-        es (all_written t a p file tree))
+        es all)
         (all_then (λ e. IsWritten e.0) (λ e. is_below e.0 (path_member q) ≡ false)
         (λ e w. member_below e.0 q (key (codes "path")) (away e.0 w))
-        es (all_written t a p file tree)) in
+        es all) in
         let kept : emptied es tree (version_member q) ≡ tree (version_member q) =
         emptied_other es tree (version_member q)
         (all_then (λ e. IsWritten e.0) (λ e. is_below e.0 (version_member q) ≡ false)
         (λ e w. member_below e.0 q (key (codes "version")) (away e.0 w))
-        es (all_written t a p file tree)) in
+        es all) in
         let Other : Place × List ℕ → Type 0 = λ e. same_place e.0 (version_member q) ≡ false in
         let look : after (version_member q)
-        ≡ written (edits_by (new_at bs file tree) (entries tree)) (emptied es tree) (version_member q) =
+        ≡ written (entry_edits (new_at bs file tree) (entries tree)) (emptied es tree) (version_member q) =
         left (version_member q)
         ∙ (written_past shared (owns ++ reqs) (emptied es tree) (version_member q)
         (shared_all Other (λ s. subst (λ (z : Place). same_place shared_version (version_member z) ≡ false)

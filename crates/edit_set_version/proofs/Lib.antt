@@ -23,3 +23,11 @@ pub mod ApartBumps
 pub mod LineLists
 pub mod ManifestLines
 pub mod LinesTogether
+pub mod OwnBump
+pub mod EditsApart
+pub mod EditsValues
+pub mod DistinctInputs
+pub mod OutputLists
+pub mod EditsStand
+pub mod PlanLemmas
+pub mod InputPaths

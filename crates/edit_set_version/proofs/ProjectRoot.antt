@@ -28,12 +28,26 @@ root_among w is path are normal = by (are.0) is are.1
     by asked _ (with_root j js made own other) =
         (zero, omega arith, one_normal (root_manifest w).path (string_bytes j.path) path own.path normal)
 
+-- the manifest beside an input was read of it
+pub read_beside : (i : Input) (m : Manifest) (is : List Input) (ms : List Manifest) (n : ℕ)
+    → AllZip IsReadOf is ms → n < length is → i ≡ get_or is n i → m ≡ get_or ms n m
+    → Contains is i × IsReadOf i m
+read_beside i m [] ms n read within ei em = absurd (omega (arith, within))
+read_beside i m (j ∷ js) [] n read within ei em = absurd read
+read_beside i m (j ∷ js) (k ∷ ks) zero read within ei em = (
+  (zero, omega arith, sym ei),
+  subst (λ x. IsReadOf i x) (sym em) (subst (λ x. IsReadOf x k) (sym ei) read.0),
+)
+read_beside i m (j ∷ js) (k ∷ ks) (suc n) read within ei em =
+    let later = read_beside i m js ks n read.1 (omega (arith, within)) ei em in
+    ((suc later.0.0, omega (arith, later.0.1), later.0.2), later.1)
+
 -- the tree of the manifest that stands beside an input
 pub tree_beside : (is : List Input) (ms : List Manifest) (n : ℕ) (i : Input) (m : Manifest) (path : List ℕ)
     → AllZip IsReadOf is ms → n < length is → i ≡ get_or is n i → m ≡ get_or ms n m → path_of i ≡ path
     → IsTreeAt is path (tree_of m.document)
 tree_beside is ms n i m path read within input manifest at =
-    let found = beside is ms n read within input manifest in
+    let found = read_beside i m is ms n read within input manifest in
     record {
       input = i;
       among = found.0;
@@ -42,15 +56,3 @@ tree_beside is ms n i m path read within input manifest at =
       manifest = found.1.manifest;
       is = found.1.shows;
     }
-  where
-    beside : (is : List Input) (ms : List Manifest) (n : ℕ) → AllZip IsReadOf is ms → n < length is
-        → i ≡ get_or is n i → m ≡ get_or ms n m → Contains is i × IsReadOf i m
-    beside [] ms n read within ei em = absurd (omega (arith, within))
-    beside (j ∷ js) [] n read within ei em = absurd read
-    beside (j ∷ js) (k ∷ ks) zero read within ei em = (
-      (zero, omega arith, sym ei),
-      subst (λ x. IsReadOf i x) (sym em) (subst (λ x. IsReadOf x k) (sym ei) read.0),
-    )
-    beside (j ∷ js) (k ∷ ks) (suc n) read within ei em =
-        let later = beside js ks n read.1 (omega (arith, within)) ei em in
-        ((suc later.0.0, omega (arith, later.0.1), later.0.2), later.1)

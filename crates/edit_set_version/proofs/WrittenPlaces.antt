@@ -11,10 +11,8 @@ use Rattle.edit_tree.specs.Tree.{string}
 use Rattle.edit_tree.proofs.SamePlace.{last_same, same_place_is, same_place_self}
 use Rattle.edit_manifest.specs.Tables.{Tree}
 use Rattle.edit_manifest.specs.Versions.{package_version, shared_version, version_member}
-use Rattle.edit_set_version.specs.Bumps.{Target}
-use Rattle.edit_set_version.specs.Chosen.{Asked}
 use Rattle.edit_set_version.specs.Entries.{entries, requirement}
-use Rattle.edit_set_version.specs.SetVersioned.{Bump, Following, Project, bumps, edits, followed, following, following_at, followings, own_edit, requirement_edit, risen, shared_edits, workspace_next, writes_own}
+use Rattle.edit_set_version.specs.SetVersioned.{Bump, Following, edits_by, followed, following, following_at, followings, own_edit, requirement_edit, risen, shared_edits, writes_own}
 use Rattle.edit_set_version.proofs.Clear.{IsWritten, entry, not_below, not_same, own, reaches, whole}
 use Rattle.edit_set_version.proofs.TablePlaces.{IsEntry, all_append, entries_shaped}
 
@@ -94,18 +92,18 @@ shared_all P h true (Some v) = (h (parts_text v), tt)
 shared_all P h false next = tt
 
 -- what a plan writes is one of the three
-pub all_written : (t : Target) (a : Asked) (p : Project) (file : List ℕ) (tree : Tree)
-    → AllByRecursion (λ e. IsWritten e.0) (edits t a p file tree)
-all_written t a p file tree =
-    all_append (λ e. IsWritten e.0) (shared_edits (same_bytes file p.path) (workspace_next t a p)) _
-    (shared_all (λ e. IsWritten e.0) (λ s. whole) (same_bytes file p.path) (workspace_next t a p))
-    (all_append (λ e. IsWritten e.0) (filter_map (own_edit file) (bumps t a p)) _
+pub all_written : (root : List ℕ) (next : Option Parts) (bs : List Bump) (file : List ℕ) (tree : Tree)
+    → AllByRecursion (λ e. IsWritten e.0) (edits_by root next bs file tree)
+all_written root next bs file tree =
+    all_append (λ e. IsWritten e.0) (shared_edits (same_bytes file root) next) _
+    (shared_all (λ e. IsWritten e.0) (λ s. whole) (same_bytes file root) next)
+    (all_append (λ e. IsWritten e.0) (filter_map (own_edit file) bs) _
     (all_filter_map (λ b. Unit {0}) (λ e. IsWritten e.0) (own_edit file)
-    (λ b none y e. subst IsWritten (own_at file b y e) own) (bumps t a p)
+    (λ b none y e. subst IsWritten (own_at file b y e) own) bs
     (all_every (λ b. Unit {0}) (λ b. tt) _))
     (all_filter_map (λ f. IsEntry f.place) (λ e. IsWritten e.0) requirement_edit
-    (λ f is y e. requirement_place f is y e) (followings (bumps t a p) file tree)
-    (followings_shaped (bumps t a p) file tree)))
+    (λ f is y e. requirement_place f is y e) (followings bs file tree)
+    (followings_shaped bs file tree)))
 
 -- ---- places that are not written
 
@@ -152,8 +150,8 @@ abbrev pub edit_at : Place → Option (List ℕ) → Option (Place × List ℕ)
 edit_at q o = option_map (λ s. (version_member q, s)) o
 
 -- what is written of those of some entries
-abbrev pub edits_by : (Place → Option (List ℕ)) → List Place → Edits
-edits_by new qs = filter_map (λ q. edit_at q (new q)) qs
+abbrev pub entry_edits : (Place → Option (List ℕ)) → List Place → Edits
+entry_edits new qs = filter_map (λ q. edit_at q (new q)) qs
 
 -- the new requirement of an entry
 abbrev pub new_at : List Bump → List ℕ → Tree → Place → Option (List ℕ)
@@ -161,7 +159,7 @@ new_at bs file t q = option_and_then risen (following bs file t q)
 
 -- what is written of requirements that follow, entry by entry
 pub edits_by_entry : (bs : List Bump) (file : List ℕ) (t : Tree) (qs : List Place)
-    → filter_map requirement_edit (filter_map (following bs file t) qs) ≡ edits_by (new_at bs file t) qs
+    → filter_map requirement_edit (filter_map (following bs file t) qs) ≡ entry_edits (new_at bs file t) qs
 edits_by_entry bs file t [] = refl
 edits_by_entry bs file t (q ∷ qs) = elim (option_cases (following bs file t q)) [
   | inl none ↦ rw none (edits_by_entry bs file t qs)
@@ -192,14 +190,14 @@ all_by_in P [] h = tt
 all_by_in P (p ∷ ps) h = (h p (inl refl), all_by_in P ps (λ q i. h q (inr i)))
 
 -- entries with one requirement are one
-same_entry : (p q : Place) → same_place (version_member p) (version_member q) ≡ true → p ≡ q
+pub same_entry : (p q : Place) → same_place (version_member p) (version_member q) ≡ true → p ≡ q
 same_entry p q h =
     (last_same p q (key (codes "version")) (key (codes "version"))
     (same_place_is (version_member p) (version_member q) h)).0
 
 -- an entry without a new requirement keeps its own
 pub written_none : (new : Place → Option (List ℕ)) (t : Tree) (qs : List Place) (q : Place) → new q ≡ None
-    → written (edits_by new qs) t (version_member q) ≡ t (version_member q)
+    → written (entry_edits new qs) t (version_member q) ≡ t (version_member q)
 written_none new t [] q h = refl
 written_none new t (p ∷ ps) q h = elim (option_cases (new p)) [
   | inl none ↦ rw none (written_none new t ps q h)
@@ -215,7 +213,7 @@ text_is a b e = cc e
 
 -- an entry with a new requirement has it
 pub written_new : (new : Place → Option (List ℕ)) (t : Tree) (qs : List Place) (q : Place) (s : List ℕ)
-    → In q qs → new q ≡ Some s → written (edits_by new qs) t (version_member q) ≡ Some (string s)
+    → In q qs → new q ≡ Some s → written (entry_edits new qs) t (version_member q) ≡ Some (string s)
 written_new new t [] q s i h = absurd i
 written_new new t (p ∷ ps) q s (inl e) h =
     let f : new p ≡ Some s = sym (ap new e) ∙ h in

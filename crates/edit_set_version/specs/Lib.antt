@@ -21,3 +21,4 @@ pub mod Missing
 pub mod Projects
 pub mod Planned
 pub mod PlanRefused
+pub mod Written

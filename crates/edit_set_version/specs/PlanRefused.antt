@@ -16,16 +16,23 @@ use Rattle.edit_set_version.specs.Chosen.{Asked, held_back, missing}
 use Rattle.edit_set_version.specs.Follows.{AllRise}
 use Rattle.edit_set_version.specs.PlanCauses.{IsMissing, ManifestStandsAgainst, StandsAgainst, currents}
 use Rattle.edit_set_version.specs.Projects.{IsProject, path_of}
-use Rattle.edit_set_version.specs.SetVersioned.{Project, bumps, writes_own}
+use Rattle.edit_set_version.specs.SetVersioned.{Bump, Project, bumps, writes_own}
 
--- the refusal tells of something in a manifest of the project
-pub record HasBadInput
-    (t : Target) (a : Asked) (inputs : List Input) (p : Project) (e : Error) : Type 0 where
-  pub input : Input
-  pub among : Contains inputs input
+-- the refusal tells of something in an input's manifest that stands against these bumps
+pub record StandsAgainstInput (bs : List Bump) (input : Input) (e : Error) : Type 0 where
   pub form : Text
   pub manifest : IsManifest input.bytes.items form
-  pub against : ManifestStandsAgainst (bumps t a p) (path_of input) form e
+  pub against : ManifestStandsAgainst bs (path_of input) form e
+
+-- in one of these inputs
+pub record HasBadInputBy (bs : List Bump) (inputs : List Input) (e : Error) : Type 0 where
+  pub input : Input
+  pub among : Contains inputs input
+  pub stands : StandsAgainstInput bs input e
+
+-- the same of the bumps of a project
+abbrev pub HasBadInput : Target → Asked → List Input → Project → Error → Type 0
+HasBadInput t a inputs p e = HasBadInputBy (bumps t a p) inputs e
 
 -- why a plan is refused: memory ran out, a name is missing, an input is no manifest, or something stands
 -- against it in the project or in one of its manifests
@@ -44,14 +51,17 @@ IsBumpable stays = Unit {0}
 IsBumpable (becomes v) = Unit {0}
 IsBumpable _ = ⊥
 
--- nothing in an input stands against the plan: a version that is to be written has a literal, and no
+-- nothing in an input stands against these bumps: a version that is to be written has a literal, and no
 -- requirement that follows is refused
-pub record IsInputClear (t : Target) (a : Asked) (p : Project) (input : Input) : Type 0 where
+pub record IsInputClearBy (bs : List Bump) (input : Input) : Type 0 where
   pub form : Text
   pub manifest : IsManifest input.bytes.items form
-  pub literal : filter (writes_own (path_of input)) (bumps t a p) ≢ []
-      → is_value_at form package_version ≡ true
-  pub requirements : AllRise (bumps t a p) (path_of input) (view_at form)
+  pub literal : filter (writes_own (path_of input)) bs ≢ [] → is_value_at form package_version ≡ true
+  pub requirements : AllRise bs (path_of input) (view_at form)
+
+-- the same of the bumps of a project
+abbrev pub IsInputClear : Target → Asked → Project → Input → Type 0
+IsInputClear t a p input = IsInputClearBy (bumps t a p) input
 
 -- nothing stands against the plan
 pub record IsClear (t : Target) (a : Asked) (inputs : List Input) (p : Project) : Type 0 where

@@ -1,6 +1,7 @@
 -- What a set-version plan gives for the inputs of a workspace (own, after cargo-edit).
-use Rattle.std.specs.Prelude.{◌≡◌, ◌≢◌, ◌==◌, ℕ, List, [], ◌∷◌, Bool, not, length, map, string_bytes}
+use Rattle.std.specs.Prelude.{◌≡◌, ◌≢◌, ◌==◌, ℕ, List, [], ◌∷◌, Bool, Option, not, length, map, string_bytes}
 use Rattle.std.specs.List.{filter}
+use Rattle.semver.specs.Parse.{Parts}
 use Rattle.edit_syntax.specs.Grammar.{Text}
 use Rattle.edit_tree.specs.Assertions.{same_bytes}
 use Rattle.edit_tree.specs.Replaces.{Edits, Replaces}
@@ -13,7 +14,7 @@ use Rattle.edit_set_version.specs.Chosen.{Asked}
 use Rattle.edit_set_version.specs.Follows.{Follow}
 use Rattle.edit_set_version.specs.PlanLines.{Told}
 use Rattle.edit_set_version.specs.Projects.{path_of}
-use Rattle.edit_set_version.specs.SetVersioned.{Project, bumps, edits}
+use Rattle.edit_set_version.specs.SetVersioned.{Bump, Project, bumps, edits_by, workspace_next}
 use Rattle.edit_set_version.specs.declared.plan.SetVersionPlan.{SetVersionPlan}
 
 -- ---- outputs
@@ -34,14 +35,24 @@ pub data AreOutputs (path old : List ℕ) (es : Edits) : List Output → Type 0 
   changed : (output : Output) → es ≢ [] → string_bytes output.path ≡ path
       → Replaces es old output.bytes.items → AreOutputs path old es (output ∷ [])
 
--- an input's output has the literals of bumped versions and of requirements that follow, and no other byte
--- is new
-pub record HasSetOutputs
-    (t : Target) (a : Asked) (outputs : List Output) (p : Project) (input : Input) : Type 0 where
+-- the outputs of an input have the literals of bumped versions and of requirements that follow, and no other
+-- byte is new: over the root's path, the next version of the workspace, and the bumps
+pub record AreOutputsOf (root : List ℕ) (next : Option Parts) (bs : List Bump) (input : Input)
+    (own : List Output) : Type 0 where
   pub form : Text
   pub manifest : IsManifest input.bytes.items form
   pub are : AreOutputs (path_of input) input.bytes.items
-      (edits t a p (path_of input) (view_at form)) (outputs_at (path_of input) outputs)
+      (edits_by root next bs (path_of input) (view_at form)) own
+
+-- those at an input's path are its own
+abbrev pub HasOutputsBy : List ℕ → Option Parts → List Bump → List Output → Input → Type 0
+HasOutputsBy root next bs outputs input =
+    AreOutputsOf root next bs input (outputs_at (path_of input) outputs)
+
+-- the same over a project
+abbrev pub HasSetOutputs : Target → Asked → List Output → Project → Input → Type 0
+HasSetOutputs t a outputs p input =
+    HasOutputsBy p.path (workspace_next t a p) (bumps t a p) outputs input
 
 -- ---- lines
 

@@ -101,9 +101,13 @@ abbrev pub shared_edits : Bool → Option Parts → Edits
 shared_edits true next = map (λ v. (shared_version, parts_text v)) (option_to_list next)
 shared_edits false next = []
 
--- the literals of versions and of requirements that are written into the manifest at a path
+-- the literals of versions and of requirements that are written into the manifest at a path: the root's path,
+-- the next version of the workspace where it becomes another, the bumps, and the manifest's path and tree
+abbrev pub edits_by : List ℕ → Option Parts → List Bump → List ℕ → Tree → Edits
+edits_by root next bs file tree =
+    shared_edits (same_bytes file root) next
+    ++ (filter_map (own_edit file) bs ++ filter_map requirement_edit (followings bs file tree))
+
+-- those of a project
 abbrev pub edits : Target → Asked → Project → List ℕ → Tree → Edits
-edits t a p file tree =
-    shared_edits (same_bytes file p.path) (workspace_next t a p)
-    ++ (filter_map (own_edit file) (bumps t a p)
-    ++ filter_map requirement_edit (followings (bumps t a p) file tree))
+edits t a p file tree = edits_by p.path (workspace_next t a p) (bumps t a p) file tree

@@ -1,11 +1,14 @@
 //! The next versions of the crates that get one.
-ghost use Rattle.std.specs.Prelude.{◌≡◌, ◌⊎◌, ◌++◌, All, Contains, IfErr, IfOk, OnOk, option_copied, option_map, option_to_list};
+ghost use Rattle.std.specs.Prelude.{◌≡◌, ◌⊎◌, ◌++◌, ◌<◌, ◌^◌, All, Contains, IfErr, IfOk, IfSome, OnOk, option_copied, option_map, option_to_list};
 ghost use Rattle.std.specs.List.{filter_map};
+ghost use Rattle.semver.specs.Identifiers.{parts_of};
 ghost use Rattle.edit_base.specs.Errors.{IsMemory};
+ghost use Rattle.edit_version.specs.Laws.{IsReadable, IsVersion};
 ghost use Rattle.edit_set_version.specs.BumpCauses.{IsUnbumped};
-ghost use Rattle.edit_set_version.specs.Bumps.{bump, target_of};
+ghost use Rattle.edit_set_version.specs.Bumps.{IsReadableTarget, bump, target_of};
 ghost use Rattle.edit_set_version.specs.Chosen.{Member};
 ghost use Rattle.edit_set_version.specs.Crates.{bump_seen, bumps_seen, member_of, members_of};
+ghost use Rattle.edit_set_version.specs.Follows.{AreVersions};
 ghost use Rattle.edit_set_version.specs.PlanRefused.{IsBumpable};
 ghost use Rattle.edit_set_version.specs.Selections.{asked_of};
 ghost use Rattle.edit_set_version.specs.SetVersioned.{bump_of};
@@ -14,6 +17,7 @@ use crate::crates::{Bump, Crate};
 use crate::plan::Selection;
 use crate::set_version::TargetVersion;
 use edit_base::CargoResult;
+use semver::Version;
 use std::alloc::Global;
 
 /// The build metadata that is given.
@@ -24,6 +28,20 @@ pub(crate) fn metadata_of(selection: &Selection) -> Option<&str>
         Some(metadata) => Some(metadata.as_str()),
         None => None,
     }
+}
+
+/// A number of 64 bits, for proofs over the numbers of a version.
+fn bounded(number: u64)
+    ensures { number < 2 ^ 64 }
+{}
+
+/// For proofs: a version that can be read has numbers of 64 bits.
+fn has_numbers(version: &Version)
+    ensures { IsReadable (parts_of version.now) → IsVersion (parts_of version.now) }
+{
+    bounded(version.major);
+    bounded(version.minor);
+    bounded(version.patch);
 }
 
 /// The bump of a crate, where its version becomes another.
@@ -37,16 +55,21 @@ fn bump_of<'a>(
         ≡ bump_of (target_of target.now) (asked_of selection.now) (member_of found.entry)) }
     ensures bumpable { OnOk result (IsBumpable (bump (target_of target.now)
         (asked_of selection.now).metadata (member_of found.entry).version)) }
+    ensures versions { IsReadableTarget (target_of target.now) → IsReadable (member_of found.entry).version
+        → IfOk result (λ o. IfSome o (λ b. IsVersion (bump_seen b).next)) }
     ensures refused { IfErr result (IsUnbumped (bump (target_of target.now)
         (asked_of selection.now).metadata (member_of found.entry).version) (member_of found.entry).version) }
 {
     let metadata = metadata_of(selection);
     let next = target.bump(alloc, &found.told.version, metadata)?;
     match next {
-        Some(next) => Ok(Some(Bump {
-            member: found,
-            next,
-        })),
+        Some(next) => {
+            has_numbers(&next);
+            Ok(Some(Bump {
+                member: found,
+                next,
+            }))
+        }
         None => Ok(None),
     }
 }
@@ -63,6 +86,9 @@ fn push_bump<'a>(
         ++ option_to_list (bump_of (target_of target.now) (asked_of selection.now) (member_of found.entry))) }
     ensures bumpable { OnOk result (IsBumpable (bump (target_of target.now)
         (asked_of selection.now).metadata (member_of found.entry).version)) }
+    ensures versions { OnOk result (IsReadableTarget (target_of target.now)
+        → IsReadable (member_of found.entry).version → AreVersions (bumps_seen bumps.old.items)
+        → AreVersions (bumps_seen bumps.new.items)) }
     ensures refused { IfErr result (λ e. IsMemory e ⊎ IsUnbumped (bump (target_of target.now)
         (asked_of selection.now).metadata (member_of found.entry).version)
         (member_of found.entry).version e) }
@@ -88,6 +114,9 @@ pub(crate) fn bumps_of<'a>(
         ≡ filter_map (bump_of (target_of target.now) (asked_of selection.now)) (members_of crates.now)) }
     ensures bumpable { OnOk result (All (λ m. IsBumpable (bump (target_of target.now)
         (asked_of selection.now).metadata m.version)) (members_of crates.now)) }
+    ensures versions { IsReadableTarget (target_of target.now)
+        → All (λ m. IsReadable m.version) (members_of crates.now)
+        → IfOk result (λ bs. AreVersions (bumps_seen bs.items)) }
     ensures refused { IfErr result (λ e. IsMemory e ⊎ ((m : Member) × Contains (members_of crates.now) m
         × IsUnbumped (bump (target_of target.now) (asked_of selection.now).metadata m.version) m.version e)) }
 {

@@ -4,7 +4,6 @@
 mod bump;
 mod bumps;
 mod choose;
-pub mod contract;
 mod crates;
 mod follow;
 pub mod laws;
@@ -12,7 +11,9 @@ mod lines;
 mod manifests;
 mod names;
 mod numbers;
+mod outputs;
 pub mod plan;
+mod planned;
 pub mod pointed;
 mod project;
 mod reach;
@@ -24,5 +25,6 @@ mod walk;
 mod writes;
 
 pub use plan::{Selection, SetVersionPlan};
+pub use planned::plan_set_version;
 pub use pointed::{PathEntry, path_entries};
 pub use set_version::{BumpLevel, TargetVersion};

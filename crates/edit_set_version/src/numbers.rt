@@ -71,3 +71,17 @@ pub(crate) fn bump_at<'a>(
     let folder = reached(alloc, file, path)?;
     Ok(numbers.get(folder.as_str()).copied())
 }
+
+/// The bump of the crate in the folder of the file at an absolute path.
+pub(crate) fn bump_beside<'a>(
+    alloc: Global,
+    numbers: &Numbers<'a>,
+    file: &str,
+) -> CargoResult<Option<Numbered<'a>>>
+    ensures ok { IfOk result (λ o. option_map numbered_seen o
+        ≡ told_in numbers.now (folder_of file.now)) }
+    ensures refused { IfErr result IsMemory }
+{
+    let folder = folder_of(alloc, file)?;
+    Ok(numbers.get(folder.as_str()).copied())
+}

@@ -1,1 +1,2 @@
 pub mod Absolute
+pub mod Workspaces

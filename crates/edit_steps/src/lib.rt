@@ -1,8 +1,13 @@
-//! Steps that the commands share: refusals with their place, and paths of the command line.
+//! Steps that the commands share: refusals with their place, paths of the command line, the workspace that
+//! is read, and the files that are written.
 #![tactic(auto)]
 
+mod outputs;
 mod paths;
 mod refusal;
+mod workspaces;
 
+pub use outputs::write_outputs;
 pub use paths::absolute;
 pub use refusal::{Refusal, RunResult, at_byte, at_path};
+pub use workspaces::{ReadWorkspace, read_workspace};

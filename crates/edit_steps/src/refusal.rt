@@ -38,6 +38,7 @@ fn place_of(alloc: Global, error: &Error, path: &str) -> Option<String> {
         Error::NotUtf8 | Error::Device(_) | Error::NoManifest | Error::NoPath => String::from_str(
             alloc, path,
         ).ok(),
+        Error::Metadata | Error::FolderTwice { .. } => String::from_str(alloc, path).ok(),
         _ => None,
     }
 }

@@ -6,7 +6,7 @@ use std::test::Fail;
 use test_rows::{LINES, rows_hold, text, told};
 
 /// The target that a word names: a level, a version, or `default`.
-fn target(alloc: Global, word: &str) -> Result<TargetVersion, Fail> {
+pub(crate) fn target(alloc: Global, word: &str) -> Result<TargetVersion, Fail> {
     if word == "default" {
         return Ok(TargetVersion::default());
     }

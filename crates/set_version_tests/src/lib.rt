@@ -8,4 +8,6 @@ mod bumps;
 #[cfg(test)]
 mod levels;
 #[cfg(test)]
+mod plans;
+#[cfg(test)]
 mod selections;

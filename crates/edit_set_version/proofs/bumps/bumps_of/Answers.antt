@@ -1,8 +1,9 @@
 use Rattle.std.proofs.Common.{◌≡◌, ◌∙◌, ◌+◌, ◌++◌, ◌∷◌, [], ap, inl, inr, subst, sym, take}
 use Rattle.std.specs.Prelude.{All, option_to_list}
 use Rattle.std.proofs.lemmas.List.{map_more}
-use Rattle.std.proofs.lemmas.List.Elements.{All-push}
+use Rattle.std.proofs.lemmas.List.Elements.{All-contains, All-push}
 use Rattle.std.proofs.lemmas.Result.{err_from_is_err_and}
+use Rattle.edit_version.specs.Laws.{IsReadable}
 use Rattle.edit_set_version.specs.Bumps.{bump, target_of}
 use Rattle.edit_set_version.specs.Chosen.{Member}
 use Rattle.edit_set_version.specs.Crates.{member_of, members_of}
@@ -31,6 +32,10 @@ crates-preserved c =
       bumpable = subst (All Fits) (sym more)
           (All-push Fits (members_of (take i all)) own c.crates.invariant.bumpable
           c.in_ok-push_bump.ensures.bumpable);
+      versions = λ target each. c.in_ok-push_bump.ensures.versions target
+          (All-contains (λ (m : Member). IsReadable m.version) (members_of all) own each
+          (among_all member_of all i c.found-item.result c.crates-test.true c.found-item.is))
+          (c.crates.invariant.versions target each);
     }
 
 pub returns-in_err-push_bump-clause-refused : goal.returns-in_err-push_bump-clause-refused

@@ -1,8 +1,10 @@
 use Rattle.std.proofs.Common.{◌≡◌, take}
 use Rattle.std.specs.Prelude.{All}
 use Rattle.std.specs.List.{filter_map}
-use Rattle.edit_set_version.specs.Bumps.{bump, target_of}
+use Rattle.edit_version.specs.Laws.{IsReadable}
+use Rattle.edit_set_version.specs.Bumps.{IsReadableTarget, bump, target_of}
 use Rattle.edit_set_version.specs.Crates.{bumps_seen, members_of}
+use Rattle.edit_set_version.specs.Follows.{AreVersions}
 use Rattle.edit_set_version.specs.PlanRefused.{IsBumpable}
 use Rattle.edit_set_version.specs.Selections.{asked_of}
 use Rattle.edit_set_version.specs.SetVersioned.{bump_of}
@@ -15,4 +17,6 @@ invariant-crates l = record {
       (take l.found-index l.crates));
   bumpable : All (λ m. IsBumpable (bump (target_of l.target) (asked_of l.selection).metadata m.version))
       (members_of (take l.found-index l.crates));
+  versions : IsReadableTarget (target_of l.target) → All (λ m. IsReadable m.version) (members_of l.crates)
+      → AreVersions (bumps_seen l.bumps.items);
 }

@@ -1,0 +1,284 @@
+-- What a plan promises, by what its steps give.
+use Rattle.std.proofs.Common.{◌≡◌, ◌≢◌, ◌⊎◌, ◌∙◌, ℕ, zero, suc, arith, List, [], ◌∷◌, ◌++◌, Bool, true, false, Bor, Option, Ok, Err, Some, None, not, ap, ap₂, inl, inr, length, map, option_map, refl, slice_index_or, subst, sym}
+use Rattle.std.specs.Prelude.{◌==◌, ◌&&◌, All, Contains, IfErr, IfOk, IfSome, OnOk, if◌then◌else◌, option_and_then, option_copied, option_to_list, Result}
+use Rattle.std.specs.List.{AllZip, filter}
+use Rattle.std.proofs.Math.Path.{fun_ext}
+use Rattle.std.proofs.lemmas.List.Elements.{All-append, All-cons, All-contains, All-filter, All-head, All-map, All-nil, All-tail, Contains-append_right}
+use Rattle.semver.specs.Identifiers.{parts_of}
+use Rattle.semver.specs.Parse.{Parts}
+use Rattle.semver.specs.declared.Version.{Version}
+use Rattle.edit_base.specs.Errors.{IsMemory}
+use Rattle.edit_base.specs.declared.errors.Error.{Error}
+use Rattle.edit_manifest.specs.Tables.{Tree}
+use Rattle.edit_manifest.specs.Versions.{is_inherited, workspace_version}
+use Rattle.edit_metadata.specs.Metadata.{PackageSaid, WorkspaceSaid, members}
+use Rattle.edit_metadata.specs.declared.input.Input.{Input}
+use Rattle.edit_syntax.specs.Grammar.{Text}
+use Rattle.edit_tree.specs.Assertions.{same_bytes}
+use Rattle.edit_tree.specs.Replaces.{Edits, emptied, replaced, written}
+use Rattle.edit_tree.specs.Supported.{IsManifest}
+use Rattle.edit_tree.specs.Tree.{view_at}
+use Rattle.edit_tree.proofs.Shallow.{one_form}
+use Rattle.edit_report.specs.declared.output.Output.{Output}
+use Rattle.edit_version.specs.Laws.{IsReadable}
+use Rattle.edit_set_version.specs.Bumps.{Target, bump, next_of}
+use Rattle.edit_set_version.specs.Chosen.{Asked, Member, bumps_workspace, chosen, inheriting, is_asked}
+use Rattle.edit_set_version.specs.Followers.{IsUnfollowed, fixed, memory}
+use Rattle.edit_set_version.specs.Follows.{AllRise, AreVersions, Follow, IsLeftBy}
+use Rattle.edit_set_version.specs.PlanCauses.{currents, requirement}
+use Rattle.edit_set_version.specs.PlanLines.{Named, manifests}
+use Rattle.edit_set_version.specs.PlanRefused.{HasBadInput, HasBadInputBy, IsCauseOf, IsInputClear, IsInputClearBy}
+use Rattle.edit_set_version.specs.PlanRefused.IsCauseOf.{manifest as of_manifest, memory as of_memory}
+use Rattle.edit_set_version.specs.Planned.{AreOutputs, HasFollowed, HasOutputsBy, HasSetOutputs, bytes_after, changed, outputs_at, unchanged}
+use Rattle.edit_set_version.specs.Projects.{IsMemberOf, IsProject, IsTreeAt, path_of}
+use Rattle.edit_set_version.specs.SetVersioned.{Bump, Project, bumps, edits, followings, workspace_current, workspace_next}
+use Rattle.edit_set_version.specs.ToldLines.{HasUnfollowed}
+use Rattle.edit_set_version.specs.Written.{TellsShared, shared_seen}
+use Rattle.edit_set_version.proofs.Following.{follow}
+
+-- ---- the members of a project, by their packages
+
+-- members have the names of their packages
+pub names_told : (is : List Input) (ps : List PackageSaid) (ms : List Member) → AllZip (IsMemberOf is) ps ms
+    → map (λ (m : Member). m.name) ms ≡ map (λ (p : PackageSaid). p.name) ps
+names_told is [] [] are = refl
+names_told is [] (m ∷ ms) are = absurd are
+names_told is (p ∷ ps) [] are = absurd are
+names_told is (p ∷ ps) (m ∷ ms) are = ap₂ (λ x xs. x ∷ xs) are.0.name (names_told is ps ms are.1)
+
+-- and their versions
+readable_told : (is : List Input) (ps : List PackageSaid) (ms : List Member) → AllZip (IsMemberOf is) ps ms
+    → All (λ (p : PackageSaid). IsReadable p.version) ps → All (λ (m : Member). IsReadable m.version) ms
+readable_told is [] [] are all = All-nil (λ (m : Member). IsReadable m.version)
+readable_told is [] (m ∷ ms) are all = absurd are
+readable_told is (p ∷ ps) [] are all = absurd are
+readable_told is (p ∷ ps) (m ∷ ms) are all =
+    All-cons (λ (m : Member). IsReadable m.version) m ms
+    (subst IsReadable (sym are.0.version) (All-head (λ (p : PackageSaid). IsReadable p.version) p ps all))
+    (readable_told is ps ms are.1 (All-tail (λ (p : PackageSaid). IsReadable p.version) p ps all))
+
+-- what holds of all members holds of those that are chosen
+all_chosen : (P : Member → Type 0) (a : Asked) (ms : List Member) → All P ms → All P (chosen a ms)
+all_chosen P a ms all =
+    All-append P (filter (is_asked a) ms) _ (All-filter (is_asked a) P ms all)
+    (by (length (inheriting a ms) == 0))
+  where
+    by : (b : Bool)
+        → All P (if b then [] else filter (λ m. not (is_asked a m) && is_inherited m.tree) ms)
+    by true = All-nil P
+    by false = All-filter (λ m. not (is_asked a m) && is_inherited m.tree) P ms all
+
+-- the versions of the chosen members can be read, where those of the packages can
+pub readable_chosen : (a : Asked) (w : WorkspaceSaid) (is : List Input) (p : Project) → IsProject w is p
+    → All (λ (q : PackageSaid). IsReadable q.version) w.packages
+    → All (λ (m : Member). IsReadable m.version) (chosen a p.members)
+readable_chosen a w is p project all =
+    all_chosen (λ (m : Member). IsReadable m.version) a p.members
+    (readable_told is (members w.packages) p.members project.members
+    (All-filter (λ (q : PackageSaid). q.member) (λ (q : PackageSaid). IsReadable q.version) w.packages all))
+
+-- the manifest of each member is that of an input
+trees_told : (is : List Input) (ps : List PackageSaid) (ms : List Member) → AllZip (IsMemberOf is) ps ms
+    → All (λ (m : Member). IsTreeAt is m.path m.tree) ms
+trees_told is [] [] are = All-nil (λ (m : Member). IsTreeAt is m.path m.tree)
+trees_told is [] (m ∷ ms) are = absurd are
+trees_told is (p ∷ ps) [] are = absurd are
+trees_told is (p ∷ ps) (m ∷ ms) are =
+    All-cons (λ (m : Member). IsTreeAt is m.path m.tree) m ms are.0.tree (trees_told is ps ms are.1)
+
+-- so is each manifest of a project
+manifests_told : (w : WorkspaceSaid) (is : List Input) (p : Project) → IsProject w is p
+    → All (λ (m : Named). IsTreeAt is m.path m.tree) (manifests p)
+manifests_told w is p project =
+    All-cons (λ (m : Named). IsTreeAt is m.path m.tree) _ _ project.tree
+    (All-map (λ (m : Named). IsTreeAt is m.path m.tree)
+    (λ (m : Member). record { name = m.name; path = m.path; tree = m.tree })
+    (filter (λ m. not (same_bytes m.path p.path)) p.members)
+    (All-filter (λ m. not (same_bytes m.path p.path)) (λ (m : Member). IsTreeAt is m.path m.tree) p.members
+    (trees_told is (members w.packages) p.members project.members)))
+
+-- ---- the versions that are bumped
+
+-- the version of the workspace
+pub current_among : (a : Asked) (p : Project) (v : Parts) → workspace_current a p ≡ Some v
+    → Contains (currents a p) v
+current_among a p v is =
+    subst (λ (o : Option Parts). Contains (option_to_list o ++ map (λ (m : Member). m.version)
+    (chosen a p.members)) v)
+    (sym is) (zero, omega arith, refl)
+
+contains_map : {X Y : Type 0} (f : X → Y) (xs : List X) (x : X) → Contains xs x → Contains (map f xs) (f x)
+contains_map f [] x there = absurd (omega (arith, there.1))
+contains_map f (y ∷ ys) x (zero, within, is) = (zero, omega arith, ap f is)
+contains_map f (y ∷ ys) x (suc n, within, is) =
+    let later = contains_map f ys x (n, omega (arith, within), is) in
+    (suc later.0, omega (arith, later.1), later.2)
+
+-- that of a chosen member
+pub member_current : (a : Asked) (p : Project) (m : Member) → Contains (chosen a p.members) m
+    → Contains (currents a p) m.version
+member_current a p m there =
+    Contains-append_right (option_to_list (workspace_current a p)) (map (λ (m : Member). m.version)
+    (chosen a p.members)) m.version
+    (contains_map (λ (m : Member). m.version) (chosen a p.members) m there)
+
+-- a version that is lent, by its parts
+pub seen_copied : (o : Option (Bor Version)) → shared_seen o ≡ option_map parts_of (option_copied o)
+seen_copied None = refl
+seen_copied (Some v) = refl
+
+-- what holds of a version that may be there
+pub all_shared : (P : Parts → Type 0) (o : Option (Bor Version)) (q : Option Parts) → shared_seen o ≡ q
+    → IfSome o (λ v. P (parts_of v.now)) → All P (option_to_list q)
+all_shared P None q is h = subst (λ z. All P (option_to_list z)) is (All-nil P)
+all_shared P (Some v) q is h =
+    subst (λ z. All P (option_to_list z)) is (All-cons P (parts_of v.now) [] h (All-nil P))
+
+-- all of them
+pub all_currents : (P : Parts → Type 0) (a : Asked) (p : Project)
+    → All P (option_to_list (workspace_current a p)) → All (λ (m : Member). P m.version) (chosen a p.members)
+    → All P (currents a p)
+all_currents P a p shared own =
+    All-append P (option_to_list (workspace_current a p)) (map (λ (m : Member). m.version)
+    (chosen a p.members)) shared
+    (All-map P (λ (m : Member). m.version) (chosen a p.members) own)
+
+-- where the workspace gets a next version, its root tells the current one
+pub tells_shared : (t : Target) (a : Asked) (w : WorkspaceSaid) (is : List Input) (p : Project)
+    → IsProject w is p → TellsShared is p.path (workspace_next t a p)
+tells_shared t a w is p project = by (workspace_next t a p) refl
+  where
+    current : (o : Option Parts) → workspace_current a p ≡ o → (v : Parts) → workspace_next t a p ≡ Some v
+        → workspace_version p.tree ≢ None
+    current None e v some = λ none.
+        cc (sym (ap (option_and_then (λ (v : Parts). next_of (bump t a.metadata v))) e) ∙ some)
+    current (Some u) e v some = λ none. by_choice (bumps_workspace a p.members) (sym e) none
+      where
+        by_choice : (b : Bool) → Some u ≡ (if b then workspace_version p.tree else None)
+            → workspace_version p.tree ≡ None → ⊥
+        by_choice true is none = cc (is ∙ none)
+        by_choice false is none = cc is
+
+    by : (o : Option Parts) → workspace_next t a p ≡ o → TellsShared is p.path o
+    by None e = tt
+    by (Some v) e = (p.tree, project.tree, current (workspace_current a p) refl v e)
+
+-- ---- refusals
+
+-- a requirement that cannot follow stands in an input
+pub bad_input : (t : Target) (a : Asked) (w : WorkspaceSaid) (is : List Input) (p : Project) (e : Error)
+    → IsProject w is p → HasUnfollowed (bumps t a p) (manifests p) e → IsMemory e ⊎ HasBadInput t a is p e
+bad_input t a w is p e project has = by has.unfollowed
+  where
+    at : IsTreeAt is has.manifest.path has.manifest.tree
+    at =
+        All-contains (λ (m : Named). IsTreeAt is m.path m.tree) (manifests p) has.manifest
+        (manifests_told w is p project) has.among
+
+    by : IsUnfollowed (bumps t a p) has.manifest.path has.manifest.tree e
+        → IsMemory e ⊎ HasBadInput t a is p e
+    by (memory none) = inl none
+    by (fixed f among refused) = inr (record {
+      input = at.input;
+      among = at.among;
+      stands = record {
+        form = at.form;
+        manifest = at.manifest;
+        against = requirement (record {
+          following = f;
+          among = subst (λ (path : List ℕ). Contains (followings (bumps t a p) path (view_at at.form)) f)
+              (sym at.at)
+              (subst (λ (tree : Tree). Contains (followings (bumps t a p) has.manifest.path tree) f)
+              (fun_ext at.is) among);
+          fixed = refused;
+        });
+      };
+    })
+
+-- ---- what stands after a plan
+
+-- what stands after a plan is a manifest of which this holds
+record StandsAfter (old : List ℕ) (outputs : List Output) (Holds : Tree → Type 0) : Type 0 where
+  form : Text
+  manifest : IsManifest (bytes_after old outputs) form
+  holds : Holds (view_at form)
+
+-- what holds of each tree that the edits leave holds of what stands after a plan
+stands_after : (path old : List ℕ) (form : Text) (es : Edits) (outputs : List Output) (Holds : Tree → Type 0)
+    → IsManifest old form → ((after : Tree) → IsLeftBy es (view_at form) after → Holds after)
+    → AreOutputs path old es outputs → StandsAfter old outputs Holds
+stands_after path old form es _ Holds manifest each (unchanged none) = record {
+  form = form;
+  manifest = manifest;
+  holds = each (view_at form) (λ q. subst (λ (ds : Edits). view_at form q
+      ≡ written ds (emptied ds (view_at form)) q) (sym none) refl);
+}
+stands_after path old form es _ Holds manifest each (changed output some at new) = record {
+  form = replaced es new.form;
+  manifest = new.is;
+  holds = each (view_at (replaced es new.form)) (λ q. subst (λ (f : Text). view_at (replaced es new.form) q
+      ≡ written es (emptied es (view_at f)) q) (one_form old new.form form new.was manifest) (new.tree q));
+}
+
+-- the requirements of an input that follow admit the next versions
+pub has_followed : (t : Target) (a : Asked) (outputs : List Output) (p : Project) (input : Input)
+    → AreVersions (bumps t a p) → IsInputClear t a p input → HasSetOutputs t a outputs p input
+    → HasFollowed t a outputs p input
+has_followed t a outputs p input versions clear set =
+    let path = path_of input in
+    let rise = subst (λ (f : Text). AllRise (bumps t a p) path (view_at f))
+    (one_form input.bytes.items clear.form set.form clear.manifest set.manifest) clear.requirements in
+    let after = stands_after path input.bytes.items set.form (edits t a p path (view_at set.form))
+    (outputs_at path outputs) (Follow (bumps t a p) path) set.manifest
+    (λ tree left. follow t a p path (view_at set.form) tree versions rise left) set.are in
+    record { form = after.form; manifest = after.manifest; follow = after.holds }
+
+-- ---- from the steps to the plan
+
+-- what follows where a call succeeds
+pub where_ok : {T E : Type 0} (r : Result T E) (P : T → Type 0) (X : Type 0) (Q : T → Type 0)
+    → ((x : T) → P x → X → Q x) → IfOk r P → OnOk r X → IfOk r Q
+where_ok (Ok x) P X Q h p q = h x p q
+where_ok (Err e) P X Q h p q = tt
+
+-- and where it is refused
+pub where_err : {T E : Type 0} (r : Result T E) (P Q : E → Type 0) → ((e : E) → P e → Q e) → IfErr r P
+    → IfErr r Q
+where_err (Ok x) P Q h p = tt
+where_err (Err e) P Q h p = h e p
+
+-- the outputs of a project, by the versions that its code has
+pub outputs_given : (t : Target) (a : Asked) (is : List Input) (p : Project) (n : Option Parts)
+    (bs : List Bump) (outputs : List Output) → n ≡ workspace_next t a p → bs ≡ bumps t a p
+    → All (HasOutputsBy p.path n bs outputs) is → All (HasSetOutputs t a outputs p) is
+outputs_given t a is p n bs outputs next same have =
+    subst (λ (cs : List Bump). All (HasOutputsBy p.path (workspace_next t a p) cs outputs) is) same
+    (subst (λ (o : Option Parts). All (HasOutputsBy p.path o bs outputs) is) next have)
+
+-- all inputs are clear, by the bumps that its code has
+pub clear_given : (t : Target) (a : Asked) (is : List Input) (p : Project) (bs : List Bump) → bs ≡ bumps t a p
+    → All (IsInputClearBy bs) is → All (IsInputClear t a p) is
+clear_given t a is p bs same clear = subst (λ (cs : List Bump). All (IsInputClearBy cs) is) same clear
+
+-- in all inputs the requirements follow
+pub all_followed : (t : Target) (a : Asked) (is : List Input) (p : Project) (outputs : List Output)
+    → AreVersions (bumps t a p) → All (HasSetOutputs t a outputs p) is → All (IsInputClear t a p) is
+    → All (HasFollowed t a outputs p) is
+all_followed t a is p outputs versions set clear =
+    λ k d within. has_followed t a outputs p (slice_index_or is k d) versions (clear k d within)
+    (set k d within)
+
+-- a refusal of the outputs or the lines has its cause
+pub cause_given : (t : Target) (a : Asked) (w : WorkspaceSaid) (is : List Input) (p : Project)
+    (bs : List Bump) (e : Error) → IsProject w is p → bs ≡ bumps t a p
+    → IsMemory e ⊎ (HasUnfollowed bs (manifests p) e ⊎ HasBadInputBy bs is e) → IsCauseOf t a w is e
+cause_given t a w is p bs e project same (inl none) = of_memory none
+cause_given t a w is p bs e project same (inr (inl has)) =
+    by (bad_input t a w is p e project
+    (subst (λ (cs : List Bump). HasUnfollowed cs (manifests p) e) same has))
+  where
+    by : IsMemory e ⊎ HasBadInput t a is p e → IsCauseOf t a w is e
+    by (inl none) = of_memory none
+    by (inr bad) = of_manifest p project bad
+cause_given t a w is p bs e project same (inr (inr bad)) =
+    of_manifest p project (subst (λ (cs : List Bump). HasBadInputBy cs is e) same bad)

@@ -1,0 +1,152 @@
+use Rattle.std.proofs.Common.{◌⊎◌, ◌∙◌, ap, inl, inr, option_map, subst, sym}
+use Rattle.std.specs.Prelude.{All}
+use Rattle.std.proofs.lemmas.List.Elements.{All-map}
+use Rattle.std.proofs.lemmas.Result.{err_from_is_err_and}
+use Rattle.semver.specs.Identifiers.{parts_of}
+use Rattle.edit_base.specs.Errors.{IsMemory}
+use Rattle.edit_base.specs.declared.errors.Error.{Error}
+use Rattle.edit_metadata.specs.Metadata.{PackageSaid, members}
+use Rattle.edit_metadata.specs.Workspaces.{package_said, workspace_said}
+use Rattle.edit_version.specs.Laws.{IsReadable}
+use Rattle.edit_set_version.specs.Apart.{AreApart}
+use Rattle.edit_set_version.specs.Bumps.{target_of}
+use Rattle.edit_set_version.specs.Chosen.{missing}
+use Rattle.edit_set_version.specs.Crates.{bumps_seen, project_seen}
+use Rattle.edit_set_version.specs.Follows.{AreVersions}
+use Rattle.edit_set_version.specs.PlanLines.{manifests}
+use Rattle.edit_set_version.specs.PlanRefused.{HasBadInputBy, IsCauseOf, IsClear, IsInputClearBy}
+use Rattle.edit_set_version.specs.PlanRefused.IsCauseOf.{memory as of_memory, no_manifest as of_input, project as of_project}
+use Rattle.edit_set_version.specs.Planned.{HasFollowed, HasOutputsBy, HasSetOutputs}
+use Rattle.edit_set_version.specs.Projects.{EachInput, HasProject}
+use Rattle.edit_set_version.specs.Selections.{asked_of}
+use Rattle.edit_set_version.specs.ToldLines.{HasUnfollowed}
+use Rattle.edit_set_version.specs.Written.{TellsShared}
+use Rattle.edit_set_version.specs.declared.plan.SetVersionPlan.{SetVersionPlan}
+use Rattle.edit_set_version.proofs.ApartBumps.{bumps_apart}
+use Rattle.edit_set_version.proofs.InputPaths.{inputs_apart}
+use Rattle.edit_set_version.proofs.PlanLemmas.{all_followed, cause_given, clear_given, names_told, outputs_given, readable_chosen, tells_shared, where_err, where_ok}
+use Rattle.edit_set_version.proofs.planned.plan_set_version.Goals as goal
+
+pub returns-in_err-manifests-clause-refused : goal.returns-in_err-manifests-clause-refused
+returns-in_err-manifests-clause-refused c =
+    let r = err_from_is_err_and c.from_residual-in_err-manifests.result
+    c.from_residual-in_err-manifests.ensures.1 in
+    rw (r.1, r.2) (elim c.in_err-manifests.ensures.refused [
+      | inl none ↦ of_memory none
+      | inr why ↦ of_input why.0 why.1 why.2
+    ])
+
+pub returns-in_err-versions-clause-refused : goal.returns-in_err-versions-clause-refused
+returns-in_err-versions-clause-refused c =
+    let r = err_from_is_err_and c.from_residual-in_err-versions.result
+    c.from_residual-in_err-versions.ensures.1 in
+    let p = project_seen c.in_ok-project.project in
+    rw (r.1, r.2) (elim c.in_err-versions.ensures.refused [
+      | inl none ↦ of_memory none
+      | inr why ↦ of_project p c.in_ok-project.ensures.ok why
+    ])
+
+pub plan_with-requires-clause-apart : goal.plan_with-requires-clause-apart
+plan_with-requires-clause-apart c =
+    subst AreApart (sym c.in_ok-versions.ensures.bumps)
+    (bumps_apart (target_of c.args.target.now) (asked_of c.args.selection.now)
+    (workspace_said c.args.workspace.now) c.args.inputs.now (project_seen c.in_ok-project.project)
+    c.requires.folders c.in_ok-project.ensures.ok)
+
+pub plan_with-requires-clause-distinct : goal.plan_with-requires-clause-distinct
+plan_with-requires-clause-distinct c =
+    inputs_apart (workspace_said c.args.workspace.now) c.args.inputs.now c.requires.folders c.requires.inputs
+
+pub plan_with-requires-clause-shared : goal.plan_with-requires-clause-shared
+plan_with-requires-clause-shared c =
+    let p = project_seen c.in_ok-project.project in
+    subst (TellsShared c.args.inputs.now p.path) (sym c.in_ok-versions.ensures.next)
+    (tells_shared (target_of c.args.target.now) (asked_of c.args.selection.now)
+    (workspace_said c.args.workspace.now) c.args.inputs.now p c.in_ok-project.ensures.ok)
+
+pub returns-clause-outputs : goal.returns-clause-outputs
+returns-clause-outputs c =
+    let t = target_of c.args.target.now in
+    let a = asked_of c.args.selection.now in
+    let w = workspace_said c.args.workspace.now in
+    let is = c.args.inputs.now in
+    let p = project_seen c.in_ok-project.project in
+    let n = option_map parts_of c.in_ok-versions.versions.next in
+    let bs = bumps_seen c.in_ok-versions.versions.bumps.items in
+    where_ok c.plan_with.result
+    (λ (plan : SetVersionPlan). All (HasOutputsBy p.path n bs plan.outputs.items) is)
+    (All (IsInputClearBy bs) is)
+    (λ (plan : SetVersionPlan). EachInput w is (HasSetOutputs t a plan.outputs.items))
+    (λ plan set clear. record {
+      project = p;
+      is = c.in_ok-project.ensures.ok;
+      holds = outputs_given t a is p n bs plan.outputs.items c.in_ok-versions.ensures.next
+          c.in_ok-versions.ensures.bumps set;
+    }) c.plan_with.ensures.outputs c.plan_with.ensures.clear
+
+pub returns-clause-follow : goal.returns-clause-follow
+returns-clause-follow c = λ target packages.
+    let t = target_of c.args.target.now in
+    let a = asked_of c.args.selection.now in
+    let w = workspace_said c.args.workspace.now in
+    let is = c.args.inputs.now in
+    let p = project_seen c.in_ok-project.project in
+    let n = option_map parts_of c.in_ok-versions.versions.next in
+    let bs = bumps_seen c.in_ok-versions.versions.bumps.items in
+    let own = readable_chosen a w is p c.in_ok-project.ensures.ok
+    (All-map (λ (q : PackageSaid). IsReadable q.version) package_said
+    c.args.workspace.now.packages.items packages) in
+    let versions = subst AreVersions c.in_ok-versions.ensures.bumps
+    (c.in_ok-versions.ensures.versions target own) in
+    where_ok c.plan_with.result
+    (λ (plan : SetVersionPlan). All (HasOutputsBy p.path n bs plan.outputs.items) is)
+    (All (IsInputClearBy bs) is)
+    (λ (plan : SetVersionPlan). EachInput w is (HasFollowed t a plan.outputs.items))
+    (λ plan set clear. record {
+      project = p;
+      is = c.in_ok-project.ensures.ok;
+      holds = all_followed t a is p plan.outputs.items versions
+          (outputs_given t a is p n bs plan.outputs.items c.in_ok-versions.ensures.next
+          c.in_ok-versions.ensures.bumps set)
+          (clear_given t a is p bs c.in_ok-versions.ensures.bumps clear);
+    }) c.plan_with.ensures.outputs c.plan_with.ensures.clear
+
+pub returns-clause-refused : goal.returns-clause-refused
+returns-clause-refused c =
+    let t = target_of c.args.target.now in
+    let a = asked_of c.args.selection.now in
+    let w = workspace_said c.args.workspace.now in
+    let is = c.args.inputs.now in
+    let p = project_seen c.in_ok-project.project in
+    let bs = bumps_seen c.in_ok-versions.versions.bumps.items in
+    where_err c.plan_with.result
+    (λ (e : Error). IsMemory e ⊎ (HasUnfollowed bs (manifests p) e ⊎ HasBadInputBy bs is e))
+    (IsCauseOf t a w is)
+    (λ e why. cause_given t a w is p bs e c.in_ok-project.ensures.ok c.in_ok-versions.ensures.bumps why)
+    c.plan_with.ensures.refused
+
+pub returns-clause-clear : goal.returns-clause-clear
+returns-clause-clear c =
+    let t = target_of c.args.target.now in
+    let a = asked_of c.args.selection.now in
+    let w = workspace_said c.args.workspace.now in
+    let is = c.args.inputs.now in
+    let p = project_seen c.in_ok-project.project in
+    let n = option_map parts_of c.in_ok-versions.versions.next in
+    let bs = bumps_seen c.in_ok-versions.versions.bumps.items in
+    let project = c.in_ok-project.ensures.ok in
+    where_ok c.plan_with.result
+    (λ (plan : SetVersionPlan). All (HasOutputsBy p.path n bs plan.outputs.items) is)
+    (All (IsInputClearBy bs) is)
+    (λ (plan : SetVersionPlan). HasProject w is (IsClear t a is))
+    (λ plan set clear. record {
+      project = p;
+      is = project;
+      holds = record {
+        packages = ap (missing a) (names_told is (members w.packages) p.members project.members)
+            ∙ c.in_ok-check_names.ensures.found;
+        excluded = c.in_ok-versions.ensures.excluded;
+        versions = c.in_ok-versions.ensures.bumpable;
+        each = clear_given t a is p bs c.in_ok-versions.ensures.bumps clear;
+      };
+    }) c.plan_with.ensures.outputs c.plan_with.ensures.clear

@@ -1,0 +1,87 @@
+use Rattle.std.proofs.Common.{◌≡◌, ◌∙◌, None, List, ap, inl, inr, option_map, subst, sym}
+use Rattle.std.specs.Prelude.{All, Contains, if◌then◌else◌}
+use Rattle.std.proofs.lemmas.Result.{err_from_is_err_and}
+use Rattle.semver.specs.Identifiers.{parts_of}
+use Rattle.semver.specs.Parse.{Parts}
+use Rattle.edit_manifest.specs.Versions.{workspace_version}
+use Rattle.edit_tree.specs.Shown.{tree_of}
+use Rattle.edit_version.specs.Laws.{IsReadable}
+use Rattle.edit_set_version.specs.Bumps.{bump, target_of}
+use Rattle.edit_set_version.specs.Chosen.{Member, bumps_workspace, chosen}
+use Rattle.edit_set_version.specs.Crates.{members_of, project_seen}
+use Rattle.edit_set_version.specs.PlanCauses.{version}
+use Rattle.edit_set_version.specs.PlanRefused.{IsBumpable}
+use Rattle.edit_set_version.specs.Selections.{asked_of}
+use Rattle.edit_set_version.specs.SetVersioned.{workspace_current}
+use Rattle.edit_set_version.specs.Written.{shared_seen}
+use Rattle.edit_set_version.proofs.PlanLemmas.{all_currents, all_shared, current_among, member_current, seen_copied}
+use Rattle.edit_set_version.proofs.planned.versions_of.Goals as goal
+
+pub returns-in_err-next-clause-refused : goal.returns-in_err-next-clause-refused
+returns-in_err-next-clause-refused c =
+    let a = asked_of c.args.selection.now in
+    let p = project_seen c.args.project.now in
+    let tree = tree_of c.args.project.now.root.manifest.now.document in
+    let is : option_map parts_of c.in_ok-current.current ≡ workspace_current a p
+    = c.in_ok-current.ensures.ok
+    ∙ ap (λ b. if b then workspace_version tree else None) (c.in_ok-choice.ensures.workspace
+    ∙ ap (λ cs. bumps_workspace a (members_of cs)) c.deref.ensures.value) in
+    let seen : shared_seen c.as_ref.result ≡ workspace_current a p
+    = seen_copied c.as_ref.result ∙ ap (option_map parts_of) c.as_ref.ensures.value ∙ is in
+    let why = c.in_err-next.ensures.refused in
+    let r = err_from_is_err_and c.from_residual-in_err-next.result c.from_residual-in_err-next.ensures.1 in
+    rw (r.1, r.2) (inr (version (record {
+      current = why.0;
+      among = current_among a p why.0 (sym seen ∙ why.1);
+      refused = why.2;
+    })))
+
+pub returns-in_err-bumps-clause-refused : goal.returns-in_err-bumps-clause-refused
+returns-in_err-bumps-clause-refused c =
+    let a = asked_of c.args.selection.now in
+    let p = project_seen c.args.project.now in
+    let these : members_of c.deref-2.result.now ≡ chosen a p.members
+    = ap members_of c.deref-2.ensures.value ∙ c.in_ok-choice.ensures.chosen
+    ∙ ap (λ cs. chosen a (members_of cs)) c.deref.ensures.value in
+    let r = err_from_is_err_and c.from_residual-in_err-bumps.result
+    c.from_residual-in_err-bumps.ensures.1 in
+    rw (r.1, r.2) (elim c.in_err-bumps.ensures.refused [
+      | inl none ↦ inl none
+      | inr why ↦ inr (version (record {
+        current = why.0.version;
+        among = member_current a p why.0
+            (subst (λ (ms : List Member). Contains ms why.0) these why.1);
+        refused = why.2;
+      }))
+    ])
+
+pub returns-clause-bumpable : goal.returns-clause-bumpable
+returns-clause-bumpable c =
+    let t = target_of c.args.target.now in
+    let a = asked_of c.args.selection.now in
+    let p = project_seen c.args.project.now in
+    let tree = tree_of c.args.project.now.root.manifest.now.document in
+    let these : members_of c.deref-2.result.now ≡ chosen a p.members
+    = ap members_of c.deref-2.ensures.value ∙ c.in_ok-choice.ensures.chosen
+    ∙ ap (λ cs. chosen a (members_of cs)) c.deref.ensures.value in
+    let is : option_map parts_of c.in_ok-current.current ≡ workspace_current a p
+    = c.in_ok-current.ensures.ok
+    ∙ ap (λ b. if b then workspace_version tree else None) (c.in_ok-choice.ensures.workspace
+    ∙ ap (λ cs. bumps_workspace a (members_of cs)) c.deref.ensures.value) in
+    let seen : shared_seen c.as_ref.result ≡ workspace_current a p
+    = seen_copied c.as_ref.result ∙ ap (option_map parts_of) c.as_ref.ensures.value ∙ is in
+    all_currents (λ (v : Parts). IsBumpable (bump t a.metadata v)) a p
+    (all_shared (λ (v : Parts). IsBumpable (bump t a.metadata v)) c.as_ref.result (workspace_current a p) seen
+    c.in_ok-next.ensures.bumpable)
+    (subst (All (λ (m : Member). IsBumpable (bump t a.metadata m.version))) these
+    c.in_ok-bumps.ensures.bumpable)
+
+pub returns-clause-versions : goal.returns-clause-versions
+returns-clause-versions c = λ target all.
+    let a = asked_of c.args.selection.now in
+    let p = project_seen c.args.project.now in
+    let these : members_of c.deref-2.result.now ≡ chosen a p.members
+    = ap members_of c.deref-2.ensures.value ∙ c.in_ok-choice.ensures.chosen
+    ∙ ap (λ cs. chosen a (members_of cs)) c.deref.ensures.value in
+    c.in_ok-bumps.ensures.versions target
+    (subst (All (λ (m : Member). IsReadable m.version)) (sym these) all)

@@ -1,0 +1,271 @@
+//! The outputs of a plan: what it writes into the manifests of its inputs.
+ghost use Rattle.std.specs.Prelude.{◌≡◌, ◌≢◌, ◌<◌, ◌⊎◌, ◌++◌, [], List, true, All, IfErr, IfOk, OnOk, get_or, length, option_map, option_to_list};
+ghost use Rattle.std.specs.List.{AllZip, filter, filter_map};
+ghost use Rattle.edit_base.specs.Errors.{IsMemory};
+ghost use Rattle.edit_base.specs.declared.errors.Error.TheVariants.{NoVersionPlace};
+ghost use Rattle.edit_document.specs.Ranges.{edits_seen};
+ghost use Rattle.edit_manifest.specs.Versions.{IsNoValue, package_version};
+ghost use Rattle.edit_report.specs.declared.output.Output.{Output as OutputSeen};
+ghost use Rattle.edit_syntax.specs.Grammar.{Text};
+ghost use Rattle.edit_tree.specs.Assertions.{same_bytes};
+ghost use Rattle.edit_tree.specs.Shown.{tree_of};
+ghost use Rattle.edit_tree.specs.Supported.{IsManifest};
+ghost use Rattle.edit_tree.specs.Tree.{is_value_at};
+ghost use Rattle.edit_set_version.specs.Apart.{AreApart};
+ghost use Rattle.edit_set_version.specs.Crates.{IsReadOf, bump_seen, bumps_seen};
+ghost use Rattle.edit_set_version.specs.Follows.{AllRise};
+ghost use Rattle.edit_set_version.specs.Followers.{IsUnfollowed};
+ghost use Rattle.edit_set_version.specs.Numbers.{TellsFirst};
+ghost use Rattle.edit_set_version.specs.PlanRefused.{HasBadInputBy, IsInputClearBy, StandsAgainstInput};
+ghost use Rattle.edit_set_version.specs.Planned.{AreOutputsOf, HasOutputsBy, OutputsInOrder};
+ghost use Rattle.edit_set_version.specs.Projects.{path_of};
+ghost use Rattle.edit_set_version.specs.SetVersioned.{edits_by, followings, own_edit, requirement_edit, shared_edits, writes_own};
+ghost use Rattle.edit_set_version.specs.Written.{CanShare, HaveDistinctPaths, TellsShared, shared_seen};
+
+use crate::crates::Bump;
+use crate::follow::followers_of;
+use crate::numbers::{Numbers, bump_beside};
+use crate::writes::{Edit, own_edit, push_requirements, shared_edit};
+use edit_base::errors::{CargoResult, Error};
+use edit_document::Document;
+use edit_manifest::Manifest;
+use edit_metadata::Input;
+use edit_report::Output;
+use semver::Version;
+use std::alloc::Global;
+
+/// What a plan writes: the path of the root's manifest, the next version of the workspace where it becomes
+/// another, and the bumps with their numbers.
+#[derive(Clone, Copy)]
+pub(crate) struct Writing<'a, 'n> {
+    pub(crate) root: &'a str,
+    pub(crate) shared: Option<&'a Version>,
+    pub(crate) numbers: &'a Numbers<'n>,
+    pub(crate) bumps: &'a [Bump<'a>],
+}
+
+/// The crate's own version stands in the manifest at a path: it is this one, and does not inherit it.
+fn writes_own(bump: &Bump<'_>, path: &str) -> bool
+    ensures { result ≡ writes_own path.now (bump_seen bump.now) }
+{
+    bump.member.input.path.as_str() == path && !bump.member.manifest.version_is_inherited()
+}
+
+/// The bump of a number.
+fn numbered_bump<'a>(bumps: &'a [Bump<'a>], number: usize) -> &'a Bump<'a>
+    requires there { number < length bumps.now }
+    ensures { result.now ≡ get_or bumps.entry.now number result.now }
+{
+    &bumps[number]
+}
+
+/// The one bump whose own version stands in the manifest at a path.
+fn own_bump<'a>(
+    alloc: Global,
+    writing: &Writing<'a, '_>,
+    path: &str,
+) -> CargoResult<Option<&'a Bump<'a>>>
+    requires numbers { TellsFirst (bumps_seen writing.now.bumps.now) writing.now.numbers.now }
+    requires apart { AreApart (bumps_seen writing.now.bumps.now) }
+    ensures ok { IfOk result (λ o. filter (writes_own path.now) (bumps_seen writing.entry.now.bumps.now)
+        ≡ option_to_list (option_map (λ b. bump_seen b.now) o)) }
+    ensures refused { IfErr result IsMemory }
+{
+    let Some(told) = bump_beside(alloc, writing.numbers, path)? else {
+        return Ok(None);
+    };
+    let bump = numbered_bump(writing.bumps, told.number);
+    if writes_own(bump, path) {
+        return Ok(Some(bump));
+    }
+    Ok(None)
+}
+
+/// Adds the next version of the workspace, where the root's manifest is at this path.
+fn push_shared(
+    alloc: Global,
+    writing: &Writing<'_, '_>,
+    path: &str,
+    edits: &mut Vec<Edit>,
+) -> CargoResult<()>
+    ensures ok { OnOk result (edits_seen edits.new.items ≡ edits_seen edits.old.items
+        ++ shared_edits (same_bytes path.now writing.now.root.now) (shared_seen writing.now.shared)) }
+    ensures refused { IfErr result IsMemory }
+{
+    if path != writing.root {
+        return Ok(());
+    }
+    let Some(next) = writing.shared else {
+        return Ok(());
+    };
+    let edit = shared_edit(alloc, next)?;
+    edits.push(edit)?;
+    Ok(())
+}
+
+/// Adds the next version of the crate whose own one stands in the manifest at this path.
+fn push_own(
+    alloc: Global,
+    writing: &Writing<'_, '_>,
+    path: &str,
+    document: &Document,
+    edits: &mut Vec<Edit>,
+) -> CargoResult<()>
+    requires numbers { TellsFirst (bumps_seen writing.now.bumps.now) writing.now.numbers.now }
+    requires apart { AreApart (bumps_seen writing.now.bumps.now) }
+    ensures ok { OnOk result (edits_seen edits.new.items ≡ edits_seen edits.old.items
+        ++ filter_map (own_edit path.now) (bumps_seen writing.now.bumps.now)) }
+    ensures literal { OnOk result (filter (writes_own path.now) (bumps_seen writing.now.bumps.now) ≢ []
+        → (form : Text) → IsManifest document.now.bytes form → is_value_at form package_version ≡ true) }
+    ensures refused { IfErr result (λ e. IsMemory e ⊎ ((e ≡ NoVersionPlace)
+        × (filter (writes_own path.now) (bumps_seen writing.now.bumps.now) ≢ [])
+        × IsNoValue document.now package_version)) }
+{
+    let Some(bump) = own_bump(alloc, writing, path)? else {
+        return Ok(());
+    };
+    let edit = own_edit(alloc, &bump.next)?;
+    if !document.is_value(&edit.0) {
+        return Err(Error::NoVersionPlace);
+    }
+    edits.push(edit)?;
+    Ok(())
+}
+
+/// Adds the requirements of the manifest at this path that follow.
+fn push_follows(
+    alloc: Global,
+    writing: &Writing<'_, '_>,
+    path: &str,
+    document: &Document,
+    edits: &mut Vec<Edit>,
+) -> CargoResult<()>
+    requires numbers { TellsFirst (bumps_seen writing.now.bumps.now) writing.now.numbers.now }
+    ensures ok { OnOk result (edits_seen edits.new.items ≡ edits_seen edits.old.items
+        ++ filter_map requirement_edit
+        (followings (bumps_seen writing.now.bumps.now) path.now (tree_of document.now))) }
+    ensures rise { OnOk result
+        (AllRise (bumps_seen writing.now.bumps.now) path.now (tree_of document.now)) }
+    ensures refused { IfErr result
+        (IsUnfollowed (bumps_seen writing.now.bumps.now) path.now (tree_of document.now)) }
+{
+    let followers = followers_of(alloc, writing.numbers, path, document)?;
+    push_requirements(alloc, &followers, edits)?;
+    Ok(())
+}
+
+/// What is written into an input.
+fn edits_of(
+    alloc: Global,
+    writing: &Writing<'_, '_>,
+    input: &Input,
+    manifest: &Manifest,
+) -> CargoResult<Vec<Edit>>
+    requires numbers { TellsFirst (bumps_seen writing.now.bumps.now) writing.now.numbers.now }
+    requires apart { AreApart (bumps_seen writing.now.bumps.now) }
+    requires read { IsReadOf input.now manifest.now }
+    ensures ok { IfOk result (λ es. edits_seen es.items
+        ≡ edits_by writing.now.root.now (shared_seen writing.now.shared)
+        (bumps_seen writing.now.bumps.now) (path_of input.now) (tree_of manifest.now.document)) }
+    ensures clear { OnOk result (IsInputClearBy (bumps_seen writing.now.bumps.now) input.now) }
+    ensures refused { IfErr result (λ e. IsMemory e
+        ⊎ StandsAgainstInput (bumps_seen writing.now.bumps.now) input.now e) }
+{
+    let path = input.path.as_str();
+    let document = &manifest.document;
+    let mut edits = Vec::new(alloc);
+    push_shared(alloc, writing, path, &mut edits)?;
+    push_own(alloc, writing, path, document, &mut edits)?;
+    push_follows(alloc, writing, path, document, &mut edits)?;
+    Ok(edits)
+}
+
+/// The output of an input, where something is written into it.
+fn output_of(
+    alloc: Global,
+    writing: &Writing<'_, '_>,
+    input: &Input,
+    manifest: &Manifest,
+) -> CargoResult<Option<Output>>
+    requires numbers { TellsFirst (bumps_seen writing.now.bumps.now) writing.now.numbers.now }
+    requires apart { AreApart (bumps_seen writing.now.bumps.now) }
+    requires read { IsReadOf input.now manifest.now }
+    requires shared { CanShare writing.now.root.now (shared_seen writing.now.shared) (path_of input.now)
+        (tree_of manifest.now.document) }
+    ensures output { IfOk result (λ o. AreOutputsOf writing.now.root.now (shared_seen writing.now.shared)
+        (bumps_seen writing.now.bumps.now) input.now (option_to_list o)) }
+    ensures clear { OnOk result (IsInputClearBy (bumps_seen writing.now.bumps.now) input.now) }
+    ensures refused { IfErr result (λ e. IsMemory e
+        ⊎ StandsAgainstInput (bumps_seen writing.now.bumps.now) input.now e) }
+{
+    let edits = edits_of(alloc, writing, input, manifest)?;
+    if edits.is_empty() {
+        return Ok(None);
+    }
+    let document = &manifest.document;
+    document.has_form();
+    let text = document.with_literals(alloc, &edits)?;
+    let path = String::from_str(alloc, input.path.as_str())?;
+    Ok(Some(Output {
+        path,
+        bytes: text.into_bytes(),
+    }))
+}
+
+/// Adds the output of an input, where something is written into it.
+fn push_output(
+    alloc: Global,
+    writing: &Writing<'_, '_>,
+    input: &Input,
+    manifest: &Manifest,
+    outputs: &mut Vec<Output>,
+) -> CargoResult<()>
+    requires numbers { TellsFirst (bumps_seen writing.now.bumps.now) writing.now.numbers.now }
+    requires apart { AreApart (bumps_seen writing.now.bumps.now) }
+    requires read { IsReadOf input.now manifest.now }
+    requires shared { CanShare writing.now.root.now (shared_seen writing.now.shared) (path_of input.now)
+        (tree_of manifest.now.document) }
+    ensures output { OnOk result ((own : List OutputSeen)
+        × (outputs.new.items ≡ outputs.old.items ++ own)
+        × AreOutputsOf writing.now.root.now (shared_seen writing.now.shared)
+        (bumps_seen writing.now.bumps.now) input.now own) }
+    ensures clear { OnOk result (IsInputClearBy (bumps_seen writing.now.bumps.now) input.now) }
+    ensures refused { IfErr result (λ e. IsMemory e
+        ⊎ StandsAgainstInput (bumps_seen writing.now.bumps.now) input.now e) }
+{
+    let output = output_of(alloc, writing, input, manifest)?;
+    match output {
+        Some(output) => {
+            outputs.push(output)?;
+            Ok(())
+        }
+        None => Ok(()),
+    }
+}
+
+/// The outputs of a plan, in the order of the inputs: of each input into which something is written, its path
+/// and its new bytes.
+pub(crate) fn outputs_of(
+    alloc: Global,
+    writing: &Writing<'_, '_>,
+    inputs: &[Input],
+    manifests: &[Manifest],
+) -> CargoResult<Vec<Output>>
+    requires numbers { TellsFirst (bumps_seen writing.now.bumps.now) writing.now.numbers.now }
+    requires apart { AreApart (bumps_seen writing.now.bumps.now) }
+    requires read { AllZip IsReadOf inputs.now manifests.now }
+    requires distinct { HaveDistinctPaths inputs.now }
+    requires shared { TellsShared inputs.now writing.now.root.now (shared_seen writing.now.shared) }
+    ensures outputs { IfOk result (λ os. All (HasOutputsBy writing.now.root.now
+        (shared_seen writing.now.shared) (bumps_seen writing.now.bumps.now) os.items) inputs.now) }
+    ensures in_order { IfOk result (λ os. OutputsInOrder inputs.now os.items) }
+    ensures clear { OnOk result (All (IsInputClearBy (bumps_seen writing.now.bumps.now)) inputs.now) }
+    ensures refused { IfErr result (λ e. IsMemory e
+        ⊎ HasBadInputBy (bumps_seen writing.now.bumps.now) inputs.now e) }
+{
+    let mut outputs = Vec::new(alloc);
+    'inputs: for i in 0..inputs.len() {
+        push_output(alloc, writing, &inputs[i], &manifests[i], &mut outputs)?;
+    }
+    Ok(outputs)
+}

@@ -1,0 +1,170 @@
+//! The plan of new versions for the crates of a workspace.
+ghost use Rattle.std.specs.Prelude.{◌≡◌, ◌⊎◌, ◌++◌, [], All, IfErr, IfOk, OnOk, option_map};
+ghost use Rattle.std.specs.List.{AllZip, flat_map};
+ghost use Rattle.semver.specs.Identifiers.{parts_of};
+ghost use Rattle.edit_base.specs.Errors.{IsMemory};
+ghost use Rattle.edit_metadata.specs.Workspaces.{HasOwnFolders, workspace_said};
+ghost use Rattle.edit_version.specs.Laws.{IsReadable};
+ghost use Rattle.edit_set_version.specs.Apart.{AreApart};
+ghost use Rattle.edit_set_version.specs.Bumps.{IsReadableTarget, bump, target_of};
+ghost use Rattle.edit_set_version.specs.Chosen.{chosen, held_back};
+ghost use Rattle.edit_set_version.specs.Crates.{IsReadOf, bumps_seen, project_seen};
+ghost use Rattle.edit_set_version.specs.Follows.{AreVersions};
+ghost use Rattle.edit_set_version.specs.PlanCauses.{StandsAgainst, currents};
+ghost use Rattle.edit_set_version.specs.PlanLines.{lines, lines_of, manifests, shared_lines};
+ghost use Rattle.edit_set_version.specs.PlanRefused.{HasBadInputBy, IsBumpable, IsCauseOf, IsClear, IsInputClearBy};
+ghost use Rattle.edit_set_version.specs.Planned.{HasFollowed, HasOutputsBy, HasSetOutputs, OutputsInOrder, has_lines, told_lines};
+ghost use Rattle.edit_set_version.specs.Projects.{AreInputsOf, EachInput, HasProject};
+ghost use Rattle.edit_set_version.specs.Selections.{asked_of};
+ghost use Rattle.edit_set_version.specs.SetVersioned.{bumps, workspace_current, workspace_next};
+ghost use Rattle.edit_set_version.specs.ToldLines.{HasUnfollowed};
+ghost use Rattle.edit_set_version.specs.Written.{HaveDistinctPaths, TellsShared};
+
+use crate::bumps::bumps_of;
+use crate::choose::choose;
+use crate::crates::Bump;
+use crate::manifests::manifests_of;
+use crate::numbers::numbers_of;
+use crate::outputs::{Writing, outputs_of};
+use crate::plan::{Selection, SetVersionPlan};
+use crate::project::{ProjectRead, project_of};
+use crate::rows::plan_lines;
+use crate::set_version::TargetVersion;
+use crate::shared::{shared_current, shared_next};
+use edit_base::CargoResult;
+use edit_manifest::Manifest;
+use edit_metadata::{Input, Workspace};
+use semver::Version;
+use std::alloc::Global;
+
+/// The versions of a project that change: that of the workspace with its next one, each where it is there,
+/// and the bumps.
+#[derive(Drop)]
+struct Versions<'a> {
+    current: Option<Version>,
+    next: Option<Version>,
+    bumps: Vec<Bump<'a>>,
+}
+
+/// The versions of a project that a target changes.
+fn versions_of<'a>(
+    alloc: Global,
+    target: &TargetVersion,
+    selection: &Selection,
+    project: &ProjectRead<'a>,
+) -> CargoResult<Versions<'a>>
+    ensures bumps { IfOk result (λ v. bumps_seen v.bumps.items
+        ≡ bumps (target_of target.now) (asked_of selection.now) (project_seen project.now)) }
+    ensures current { IfOk result (λ v. option_map parts_of v.current
+        ≡ workspace_current (asked_of selection.now) (project_seen project.now)) }
+    ensures next { IfOk result (λ v. option_map parts_of v.next
+        ≡ workspace_next (target_of target.now) (asked_of selection.now) (project_seen project.now)) }
+    ensures excluded { OnOk result
+        (held_back (asked_of selection.now) (project_seen project.now).members ≡ []) }
+    ensures bumpable { OnOk result (All (λ v. IsBumpable (bump (target_of target.now)
+        (asked_of selection.now).metadata v))
+        (currents (asked_of selection.now) (project_seen project.now))) }
+    ensures versions { IsReadableTarget (target_of target.now)
+        → All (λ m. IsReadable m.version) (chosen (asked_of selection.now) (project_seen project.now).members)
+        → IfOk result (λ v. AreVersions (bumps_seen v.bumps.items)) }
+    ensures refused { IfErr result (λ e. IsMemory e
+        ⊎ StandsAgainst (target_of target.now) (asked_of selection.now) (project_seen project.now) e) }
+{
+    let choice = choose(alloc, selection, &project.members)?;
+    let current = shared_current(alloc, choice.workspace, project.root.manifest)?;
+    let next = shared_next(alloc, target, selection, current.as_ref())?;
+    let bumps = bumps_of(alloc, target, selection, &choice.crates)?;
+    Ok(Versions {
+        current,
+        next,
+        bumps,
+    })
+}
+
+/// The plan of a project over its inputs and their manifests, where these versions change.
+fn plan_with(
+    alloc: Global,
+    project: &ProjectRead<'_>,
+    versions: &Versions<'_>,
+    inputs: &[Input],
+    read: &[Manifest],
+) -> CargoResult<SetVersionPlan>
+    requires apart { AreApart (bumps_seen versions.now.bumps.items) }
+    requires read { AllZip IsReadOf inputs.now read.now }
+    requires distinct { HaveDistinctPaths inputs.now }
+    requires shared { TellsShared inputs.now (project_seen project.now).path
+        (option_map parts_of versions.now.next) }
+    ensures outputs { IfOk result (λ plan. All (HasOutputsBy (project_seen project.now).path
+        (option_map parts_of versions.now.next) (bumps_seen versions.now.bumps.items) plan.outputs.items)
+        inputs.now) }
+    ensures in_order { IfOk result (λ plan. OutputsInOrder inputs.now plan.outputs.items) }
+    ensures lines { IfOk result (λ plan. told_lines plan
+        ≡ shared_lines (option_map parts_of versions.now.current) (option_map parts_of versions.now.next)
+        ++ flat_map (lines_of (project_seen project.now)) (bumps_seen versions.now.bumps.items)) }
+    ensures changed { IfOk result (λ plan. plan.changed ≡ has_lines plan) }
+    ensures clear { OnOk result (All (IsInputClearBy (bumps_seen versions.now.bumps.items)) inputs.now) }
+    ensures refused { IfErr result (λ e. IsMemory e
+        ⊎ (HasUnfollowed (bumps_seen versions.now.bumps.items) (manifests (project_seen project.now)) e
+        ⊎ HasBadInputBy (bumps_seen versions.now.bumps.items) inputs.now e)) }
+{
+    let numbers = numbers_of(alloc, &versions.bumps)?;
+    let old = versions.current.as_ref();
+    let next = versions.next.as_ref();
+    let lines = plan_lines(alloc, &numbers, project, &versions.bumps, old, next)?;
+    let writing = Writing {
+        root: project.root.input.path.as_str(),
+        shared: next,
+        numbers: &numbers,
+        bumps: &versions.bumps,
+    };
+    let outputs = outputs_of(alloc, &writing, inputs, read)?;
+    let changed = !lines.is_empty();
+    Ok(SetVersionPlan {
+        outputs,
+        lines,
+        changed,
+    })
+}
+
+/// The new versions of a workspace's members, and the requirements that follow them.
+///
+/// The inputs are those that `workspace_inputs` gives. Who gets a new version is what the selection asks for;
+/// each of them gets the version that the target makes of its own; and in each input a requirement with a
+/// path to one of them follows it. Nothing is planned where one of these is refused: a name that no member
+/// has (39), an excluded member that shares the version of the workspace with a chosen one (40), a version
+/// that the target refuses (41, 16 to 19), a version with no place to write it (13), or a requirement that
+/// cannot follow (14, 15).
+pub fn plan_set_version(
+    alloc: Global,
+    target: &TargetVersion,
+    selection: &Selection,
+    workspace: &Workspace,
+    inputs: &[Input],
+) -> CargoResult<SetVersionPlan>
+    // as `workspace_inputs` gives them, of a workspace that was read
+    requires inputs { AreInputsOf (workspace_said workspace.now) inputs.now }
+    requires folders { HasOwnFolders (workspace_said workspace.now) }
+    // the literals of bumped versions and of requirements that follow, and no other byte
+    ensures outputs { IfOk result (λ plan. EachInput (workspace_said workspace.now) inputs.now
+        (HasSetOutputs (target_of target.now) (asked_of selection.now) plan.outputs.items)) }
+    ensures outputs_in_order { IfOk result (λ plan. OutputsInOrder inputs.now plan.outputs.items) }
+    ensures lines { IfOk result (λ plan. HasProject (workspace_said workspace.now) inputs.now
+        (λ p. told_lines plan ≡ lines (target_of target.now) (asked_of selection.now) p)) }
+    ensures changed { IfOk result (λ plan. plan.changed ≡ has_lines plan) }
+    // in what stands after the plan each requirement that points to a bumped crate admits its next version
+    ensures follow { IsReadableTarget (target_of target.now)
+        → All (λ p. IsReadable (parts_of p.version)) workspace.now.packages.items
+        → IfOk result (λ plan. EachInput (workspace_said workspace.now) inputs.now
+        (HasFollowed (target_of target.now) (asked_of selection.now) plan.outputs.items)) }
+    // a cause stands in the input, or memory ran out; and where a plan is given none stands
+    ensures refused { IfErr result (IsCauseOf (target_of target.now) (asked_of selection.now)
+        (workspace_said workspace.now) inputs.now) }
+    ensures clear { IfOk result (λ plan. HasProject (workspace_said workspace.now) inputs.now
+        (IsClear (target_of target.now) (asked_of selection.now) inputs.now)) }
+{
+    selection.check_names(alloc, workspace)?;
+    let manifests = manifests_of(alloc, inputs)?;
+    let project = project_of(alloc, workspace, inputs, &manifests)?;
+    let versions = versions_of(alloc, target, selection, &project)?;
+    plan_with(alloc, &project, &versions, inputs, &manifests)
+}

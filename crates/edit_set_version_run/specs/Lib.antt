@@ -1,0 +1,4 @@
+pub mod Causes
+pub mod Plans
+pub mod Printed
+pub mod SetVersions

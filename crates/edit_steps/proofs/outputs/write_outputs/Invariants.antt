@@ -1,0 +1,11 @@
+use Rattle.std.proofs.Common.{◌≡◌, ◌≤◌, take}
+use Rattle.edit_report.specs.Applied.{AreWritten}
+use Rattle.edit_steps.proofs.outputs.write_outputs.Given as goal
+
+abbrev pub invariant-loop-output : goal.invariant-loop-output
+invariant-loop-output g l = record {
+  tells : (g.S.Store.view l.files).tells ≡ (g.S.Store.view l.initial.files).tells;
+  later : (g.S.Store.view l.initial.files).faults ≤ (g.S.Store.view l.files).faults;
+  written : AreWritten (take l.output-index l.outputs) (g.S.Store.view l.initial.files)
+      (g.S.Store.view l.files);
+}

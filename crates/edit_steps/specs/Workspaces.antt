@@ -1,0 +1,52 @@
+-- The workspace that a command is for, read from a file of metadata and from manifests (own).
+use Rattle.std.specs.Prelude.{◌≡◌, ◌≢◌, ◌⊎◌, ℕ, List, All, AllPairs, Option, Some, None, string_bytes}
+use Rattle.edit_base.specs.declared.errors.Error.{Error}
+use Rattle.edit_base.specs.declared.errors.Error.TheVariants.{NoManifest, NoPath}
+use Rattle.edit_metadata.specs.Inputs.{AreInputs, IsReadFrom, LackFile, RustAsked, manifests}
+use Rattle.edit_metadata.specs.Metadata.{AreMetadata, WorkspaceSaid}
+use Rattle.edit_metadata.specs.Workspaces.{IsNoWorkspace}
+use Rattle.edit_metadata.specs.declared.input.Input.{Input}
+use Rattle.edit_store.specs.Store.{Files}
+use Rattle.edit_steps.specs.Absolute.{IsAbsoluteOf}
+
+-- the file that is named was read, and its metadata say this workspace
+pub record AreMetadataRead (files : Files) (current named : List ℕ) (w : WorkspaceSaid) : Type 0 where
+  pub path : List ℕ
+  pub bytes : List ℕ
+  pub at : IsAbsoluteOf current named path
+  pub is : files path ≡ Some bytes
+  pub say : AreMetadata bytes w
+
+-- a workspace was read: its metadata, and its manifests
+pub record IsWorkspaceRead (files : Files) (current named : List ℕ) (asked : RustAsked) (w : WorkspaceSaid)
+    (inputs : List Input) : Type 0 where
+  pub metadata : AreMetadataRead files current named w
+  pub are : AreInputs asked w inputs
+  pub bytes : All (IsReadFrom files) inputs
+
+-- no two inputs have one path
+abbrev pub HaveOwnPaths : List Input → Type 0
+HaveOwnPaths inputs = AllPairs (λ a b. string_bytes a.path ≢ string_bytes b.path) inputs
+
+-- why no metadata are read: there is no file, or its bytes say no workspace
+abbrev pub IsUnsaid : Option (List ℕ) → Error → Type 0
+IsUnsaid None e = e ≡ NoPath
+IsUnsaid (Some bytes) e = IsNoWorkspace bytes e
+
+-- why the metadata that are named are not read
+pub record HasNoMetadata (files : Files) (current named : List ℕ) (e : Error) : Type 0 where
+  pub path : List ℕ
+  pub at : IsAbsoluteOf current named path
+  pub unsaid : IsUnsaid (files path) e
+
+-- the metadata were read, and no file stands where they say that a manifest does
+pub record LacksManifest (files : Files) (current named : List ℕ) (e : Error) : Type 0 where
+  pub workspace : WorkspaceSaid
+  pub metadata : AreMetadataRead files current named workspace
+  pub is : e ≡ NoManifest
+  pub lacks : LackFile files (manifests workspace)
+
+-- what is wrong with the files of a workspace that is not read
+abbrev pub HasNoWorkspace : Files → List ℕ → List ℕ → Error → Type 0
+HasNoWorkspace files current named e =
+    HasNoMetadata files current named e ⊎ LacksManifest files current named e

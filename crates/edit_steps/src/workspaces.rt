@@ -1,0 +1,85 @@
+//! The workspace that a command is for.
+ghost use Rattle.std.specs.Prelude.{◌≡◌, ◌⊎◌, All, IfErr, IfOk, option_map, true};
+ghost use Rattle.edit_base.specs.declared.errors.DeviceCall.TheVariants as call;
+ghost use Rattle.edit_metadata.specs.Inputs.{AreInputs};
+ghost use Rattle.edit_metadata.specs.Workspaces.{HasOwnFolders, workspace_said};
+ghost use Rattle.edit_store.specs.Store.{OnlyReads, RefusesCall};
+ghost use Rattle.edit_version.specs.Laws.{IsReadable};
+ghost use Rattle.edit_version.specs.RustVersions.{numbers_of};
+ghost use Rattle.semver.specs.Identifiers.{parts_of};
+ghost use Rattle.edit_steps.specs.Workspaces.{AreMetadataRead, HasNoMetadata, HasNoWorkspace, HaveOwnPaths, IsWorkspaceRead};
+
+use crate::paths::absolute;
+use crate::refusal::{RunResult, at_path};
+use edit_base::Error;
+use edit_metadata::{Input, Workspace, workspace_inputs};
+use edit_store::Store;
+use edit_version::RustVersion;
+use std::alloc::Global;
+
+/// A workspace that was read: what its metadata say, and its manifests.
+#[derive(Debug, Drop)]
+pub struct ReadWorkspace {
+    pub workspace: Workspace,
+    pub inputs: Vec<Input>,
+}
+
+/// Reads the metadata in the file that is named.
+fn read_metadata<S: Store>(
+    alloc: Global,
+    named: &str,
+    current: &str,
+    files: &mut S,
+) -> RunResult<Workspace>
+    ensures reads { OnlyReads (S.view files.old) (S.view files.new) }
+    ensures metadata { IfOk result (λ w. (S.view files.old).tells ≡ true
+        → AreMetadataRead (S.view files.old).file_at current.now named.now (workspace_said w)) }
+    ensures folders { IfOk result (λ w. HasOwnFolders (workspace_said w)) }
+    ensures readable { IfOk result (λ w. All (λ p. IsReadable (parts_of p.version)) w.packages.items) }
+    ensures refused { IfErr result (λ r. RefusesCall call.Read (S.view files.old) (S.view files.new) r.error
+        ⊎ ((S.view files.old).tells ≡ true
+        → HasNoMetadata (S.view files.old).file_at current.now named.now r.error)) }
+{
+    let path = absolute(alloc, current, named)?;
+    let bytes = match files.read(alloc, path.as_str()) {
+        Ok(Some(bytes)) => bytes,
+        Ok(None) => return Err(at_path(alloc, Error::NoPath, path.as_str())),
+        Err(error) => return Err(at_path(alloc, error, path.as_str())),
+    };
+    match Workspace::read(alloc, &bytes) {
+        Ok(workspace) => Ok(workspace),
+        Err(error) => Err(at_path(alloc, error, path.as_str())),
+    }
+}
+
+/// Reads the workspace whose metadata stand in the file that is named, and its manifests, for a Rust version
+/// or with those of the members ignored, as `workspace_inputs` does.
+pub fn read_workspace<S: Store>(
+    alloc: Global,
+    named: &str,
+    current: &str,
+    rust_version: Option<RustVersion>,
+    ignore: bool,
+    files: &mut S,
+) -> RunResult<ReadWorkspace>
+    ensures reads { OnlyReads (S.view files.old) (S.view files.new) }
+    ensures workspace { IfOk result (λ r. (S.view files.old).tells ≡ true
+        → IsWorkspaceRead (S.view files.old).file_at current.now named.now
+        (record { given = option_map numbers_of rust_version; ignored = ignore })
+        (workspace_said r.workspace) r.inputs.items) }
+    // and what plans rest on, over any store
+    ensures inputs { IfOk result (λ r.
+        AreInputs (record { given = option_map numbers_of rust_version; ignored = ignore })
+        (workspace_said r.workspace) r.inputs.items) }
+    ensures paths { IfOk result (λ r. HaveOwnPaths r.inputs.items) }
+    ensures folders { IfOk result (λ r. HasOwnFolders (workspace_said r.workspace)) }
+    ensures readable { IfOk result (λ r.
+        All (λ p. IsReadable (parts_of p.version)) r.workspace.packages.items) }
+    ensures refused { IfErr result (λ r. RefusesCall call.Read (S.view files.old) (S.view files.new) r.error
+        ⊎ ((S.view files.old).tells ≡ true
+        → HasNoWorkspace (S.view files.old).file_at current.now named.now r.error)) }
+{
+    let workspace = read_metadata(alloc, named, current, files)?;
+    let inputs = workspace_inputs(alloc, files, &workspace, rust_version, ignore)?;
+    Ok(ReadWorkspace { workspace, inputs })
+}
