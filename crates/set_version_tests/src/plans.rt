@@ -1,4 +1,7 @@
 //! Plans of new versions over small workspaces.
+ghost use Rattle.std.specs.Prelude.{IfOk};
+ghost use Rattle.edit_metadata.specs.Workspaces.{HasOwnFolders, workspace_said};
+
 use crate::bumps::target;
 use edit_base::CargoResult;
 use edit_metadata::{Workspace, workspace_inputs};
@@ -23,7 +26,9 @@ fn cut(member: &str) -> (&str, &str) {
 }
 
 /// The workspace in `/w` with these members, each with its name and its version before its manifest.
-fn workspace_of(alloc: Global, members: &str) -> Result<Workspace, Fail> {
+fn workspace_of(alloc: Global, members: &str) -> Result<Workspace, Fail>
+    ensures folders { IfOk result (λ w. HasOwnFolders (workspace_said w)) }
+{
     let mut ids = String::new(alloc);
     let mut packages = String::new(alloc);
     for member in members.split(';') {
