@@ -24,7 +24,6 @@ pub(crate) struct Pin {
 /// Names in byte order, each with its pin, where it has one.
 pub(crate) type Pins = BTreeMap<String, Option<Pin>>;
 
-/// Whether a comparator leaves out the version that it names.
 fn is_strict(op: Op) -> bool
     ensures { result ≡ is_strict op }
 {

@@ -20,14 +20,12 @@ use edit_report::{Reason, Row};
 use std::alloc::{AllocError, Global};
 use std::collections::BTreeSet;
 
-/// Whether a row is held back because its entry is pinned.
 fn is_held_pinned(reason: Option<Reason>) -> bool
     ensures { result ≡ is_held_pinned reason }
 {
     matches!(reason, Some(Reason::Pinned))
 }
 
-/// Whether a row is held back because its latest version is incompatible.
 fn is_held_incompatible(reason: Option<Reason>) -> bool
     ensures { result ≡ is_held_incompatible reason }
 {
@@ -73,7 +71,6 @@ pub(crate) fn modified_names(alloc: Global, rows: &[Row]) -> CargoResult<Vec<Str
     Ok(names)
 }
 
-/// Whether a row is that of an entry from a repository.
 fn is_git(reason: Option<Reason>) -> bool
     ensures { result ≡ is_git reason }
 {
