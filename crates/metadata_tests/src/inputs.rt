@@ -89,8 +89,7 @@ fn inputs_of(alloc: Global, members: &str, asked: &str) -> Result<String, Fail> 
 const INPUTS: &str = "\
 virtual workspace /w/Cargo.toml #13 1.70.0; 1.71 /w/a/Cargo.toml #15 1.71.0; 1.70 /w/bb/Cargo.toml #16 1.70.0\
 |/w /w/a/Cargo.toml=1.71 /w/bb/Cargo.toml=1.70|-\
-~virtual workspace /w/Cargo.toml #13 1.70.0; 1.70 /w/a/Cargo.toml #15 1.70.0; \
-1.71 /w/bb/Cargo.toml #16 1.71.0\
+~virtual workspace /w/Cargo.toml #13 1.70.0; 1.70 /w/a/Cargo.toml #15 1.70.0; 1.71 /w/bb/Cargo.toml #16 1.71.0\
 |/w /w/a/Cargo.toml=1.70 /w/bb/Cargo.toml=1.71|-\
 ~virtual workspace /w/Cargo.toml #13 1.71.0; - /w/a/Cargo.toml #15 -; 1.71 /w/bb/Cargo.toml #16 1.71.0\
 |/w /w/a/Cargo.toml /w/bb/Cargo.toml=1.71|-\
