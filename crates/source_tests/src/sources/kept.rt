@@ -1,7 +1,8 @@
 //! Answers and rankings that are kept.
 use super::looks::{entries, files_of};
 use crate::records::parts::chosen;
-use edit_sources::{Index, IndexCache, IndexKrate, LocalIndex, Ranked};
+use edit_cache::{IndexCache, Ranked};
+use edit_sources::{Index, IndexKrate, LocalIndex};
 use edit_store::FaultStore;
 use semver::VersionReq;
 use std::alloc::Global;
