@@ -77,7 +77,8 @@ fn marked(alloc: Global, words: &str, mark: char) -> Result<Vec<String>, Fail> {
     Ok(list)
 }
 
-/// What words ask for: names behind `-`, excluded ones behind `!`, build metadata behind `+`, and `*` for all.
+/// What words ask for: names behind `-`, excluded ones behind `!`, build metadata behind `+`, and `*` for
+/// all members.
 fn selection_of(alloc: Global, words: &str) -> Result<Selection, Fail> {
     Ok(Selection {
         packages: marked(alloc, words, '-')?,
@@ -153,7 +154,8 @@ Upgrading a from 1.0.0 to 2.0.0 (inherited from workspace);\
 /w/b/Cargo.toml [dependencies]@x = { path = \"../a\", version = \"0.2\" }@\
 a = { path = \"../c\", version = \"0.1\" }@;\
 |minor -a|[workspace]@;a 0.1.0 [package]@version = \"0.1.0\"@\
-;b 0.1.0 [dependencies]@x = { path = \"../a\", version = \"0.1\" }@a = { path = \"../c\", version = \"0.1\" }@\
+;b 0.1.0 [dependencies]@x = { path = \"../a\", version = \"0.1\" }@\
+a = { path = \"../c\", version = \"0.1\" }@\
 ~|release|[workspace]@;a 1.0.0 [package]@version = \"1.0.0\"@";
 
 /// What is refused; the call; the manifests.
