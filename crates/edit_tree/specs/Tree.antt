@@ -87,7 +87,3 @@ is_value_at t place = list_any (λ a. same_place a.place place && is_leaf a.kind
     is_leaf : Kind → Bool
     is_leaf (leaf v) = true
     is_leaf _ = false
-
--- two documents with the same tree
-abbrev pub SameTree : Text → Text → Type 0
-SameTree s t = (place : Place) → view_at s place ≡ view_at t place
