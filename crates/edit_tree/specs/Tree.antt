@@ -1,5 +1,5 @@
 -- The tree of a document: what stands at each place, and its members in the order of their first assertions.
-use Rattle.std.specs.Prelude.{◌≡◌, ℕ, suc, Bool, true, false, not, ◌&&◌, if◌then◌else◌, List, [], ◌∷◌, Option, Some, None, option_map}
+use Rattle.std.specs.Prelude.{ℕ, suc, Bool, true, false, not, ◌&&◌, if◌then◌else◌, List, [], ◌∷◌, Option, Some, None, option_map}
 use Rattle.std.specs.List.{filter, list_any, filter_map}
 use Rattle.edit_syntax.specs.Characters.{quote, apostrophe}
 use Rattle.edit_syntax.specs.Strings.{says, says_multi}
