@@ -73,6 +73,7 @@ impl<I: Index> IndexCache<I> {
         Ok(())
     }
 
+    /// Forgets the answer at an address.
     fn forget(&mut self, address: &str, name: &str)
         ensures index { self.new.index ≡ self.old.index }
         ensures forgotten { kept_at self.new address.now name.now ≡ None }
@@ -207,6 +208,7 @@ impl<I: Index> IndexCache<I> {
         self.rank_at(alloc, registry.as_str(), name)
     }
 
+    /// The same by the text of an address.
     fn rank_at(&mut self, alloc: Global, address: &str, name: &str) -> CargoResult<()>
         ensures index { self.new.index ≡ self.old.index }
         ensures kept { SameKept self.old self.new }
@@ -260,6 +262,7 @@ impl<I: Index> IndexCache<I> {
     }
 }
 
+/// Whether one of the entries has a version of this text; none where there are no entries.
 fn holds_version(krate: Option<&IndexKrate>, version: &str) -> Option<bool>
     ensures { result ≡ option_map (λ k. has_version k version.now) (option_copied krate.entry) }
 {
@@ -269,6 +272,7 @@ fn holds_version(krate: Option<&IndexKrate>, version: &str) -> Option<bool>
     }
 }
 
+/// Whether one of the entries has a version of this text.
 fn is_among(krate: &IndexKrate, version: &str) -> bool
     ensures { result ≡ has_version krate.now version.now }
 {

@@ -108,6 +108,7 @@ fn first_wanted<'a>(
         .find(|rank| is_first(rank, allow_prerelease, req, rust_version))
 }
 
+/// Whether a rank is for a Rust version and its version is wanted.
 fn is_first(
     rank: &Rank,
     allow_prerelease: bool,

@@ -1,10 +1,11 @@
 //! What an index tells of a crate, and the choice of one of its versions.
-ghost use Rattle.std.specs.Prelude.{◌≡◌, IfOk, IfErr, Some, option_copied, option_map, string_bytes};
+ghost use Rattle.std.specs.Prelude.{◌≡◌, IfOk, IfErr};
 ghost use Rattle.edit_base.specs.Errors.{IsMemory};
 ghost use Rattle.edit_version.specs.IndexEntry.{entry_of};
 
+use crate::dependency::copies::copied;
 use edit_base::errors::CargoResult;
-use std::alloc::{AllocError, Global};
+use std::alloc::Global;
 
 /// What an index tells of one version of a crate: the crate's name, the version's text, whether it is
 /// yanked, and the Rust version that it asks for.
@@ -26,17 +27,7 @@ impl IndexVersion {
             name: self.name.clone()?,
             version: self.version.clone()?,
             yanked: self.yanked,
-            rust_version: copied_text(self.rust_version.as_ref())?,
+            rust_version: copied(self.rust_version.as_ref())?,
         })
-    }
-}
-
-fn copied_text(text: Option<&String>) -> Result<Option<String>, AllocError>
-    ensures { IfOk result (λ o. option_map string_bytes o
-        ≡ option_map string_bytes (option_copied text.entry)) }
-{
-    match text {
-        Some(text) => Ok(Some(text.clone()?)),
-        None => Ok(None),
     }
 }
