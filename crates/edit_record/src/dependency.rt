@@ -6,7 +6,7 @@ ghost use Rattle.edit_record.specs.RecordViews.{available_view, record_view, tex
 ghost use Rattle.edit_record.specs.Records.{IsBare, version_of};
 
 mod conversions;
-pub(crate) mod copies;
+mod copies;
 mod ends;
 mod members;
 mod read;

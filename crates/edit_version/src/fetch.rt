@@ -1,11 +1,10 @@
-//! What an index tells of a crate, and the choice of one of its versions.
-ghost use Rattle.std.specs.Prelude.{◌≡◌, IfOk, IfErr};
+//! What an index tells of a version of a crate.
+ghost use Rattle.std.specs.Prelude.{◌≡◌, IfOk, IfErr, Some, option_copied, option_map, string_bytes};
 ghost use Rattle.edit_base.specs.Errors.{IsMemory};
 ghost use Rattle.edit_version.specs.IndexEntry.{entry_of};
 
-use crate::dependency::copies::copied;
 use edit_base::errors::CargoResult;
-use std::alloc::Global;
+use std::alloc::{AllocError, Global};
 
 /// What an index tells of one version of a crate: the crate's name, the version's text, whether it is
 /// yanked, and the Rust version that it asks for.
@@ -27,7 +26,18 @@ impl IndexVersion {
             name: self.name.clone()?,
             version: self.version.clone()?,
             yanked: self.yanked,
-            rust_version: copied(self.rust_version.as_ref())?,
+            rust_version: copied_text(self.rust_version.as_ref())?,
         })
+    }
+}
+
+/// The same text on memory of its own, where there is one.
+fn copied_text(text: Option<&String>) -> Result<Option<String>, AllocError>
+    ensures { IfOk result (λ o. option_map string_bytes o
+        ≡ option_map string_bytes (option_copied text.entry)) }
+{
+    match text {
+        Some(text) => Ok(Some(text.clone()?)),
+        None => Ok(None),
     }
 }
