@@ -7,10 +7,10 @@ ghost use Rattle.edit_sources.specs.Index.{answer_of};
 ghost use Rattle.edit_cache.specs.IndexCache.{Fetches, IsMissed, Ranks, SameKept, SameKeptBut, has_version, index_of, kept_at, krate_at, ranking_at, told_at};
 ghost use Rattle.edit_cache.specs.Kept.{IsRanked, IsRankedAt};
 
-use edit_sources::index::{Index, IndexKrate};
 use crate::kept::Kept;
 use crate::ranking::Ranked;
 use edit_base::errors::CargoResult;
+use edit_sources::index::{Index, IndexKrate};
 use std::alloc::Global;
 use std::collections::BTreeMap;
 use std::mem;

@@ -3,9 +3,9 @@ ghost use Rattle.std.specs.Prelude.{◌≡◌, IfErr, OnOk, OnErr};
 ghost use Rattle.edit_base.specs.Errors.{IsMemory};
 ghost use Rattle.edit_cache.specs.Kept.{FitsAnswer, FitsAnswer-prop, IsRanked};
 
-use edit_sources::index::IndexKrate;
 use crate::ranking::Ranked;
 use edit_base::errors::CargoResult;
+use edit_sources::index::IndexKrate;
 use std::alloc::Global;
 
 /// An answer of an index, and the ranking of its entries.

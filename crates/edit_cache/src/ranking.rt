@@ -20,8 +20,8 @@ ghost use Rattle.edit_cache.specs.Ranking.{passes, rank_at, rank_of, ranks_from}
 
 use edit_base::errors::CargoResult;
 use edit_record::dependency::Dependency;
-use edit_version::fetch::IndexVersion;
 use edit_record::find::{dependency_on, is_for, is_wanted, read_candidate};
+use edit_version::fetch::IndexVersion;
 use edit_version::rust_version::RustVersion;
 use semver::{Version, VersionReq};
 use std::alloc::Global;

@@ -18,8 +18,8 @@ ghost use Rattle.semver.specs.Identifiers.{parts_of};
 ghost use Rattle.semver.specs.Parse.{Parts, req_of, version_parts};
 
 use crate::dependency::{Dependency, RegistrySource, Source};
-use edit_version::fetch::IndexVersion;
 use edit_base::errors::CargoResult;
+use edit_version::fetch::IndexVersion;
 use edit_version::requirement::{admits, read_requirement};
 use edit_version::rust_version::{RustVersion, read_rust_version};
 use edit_version::version::read_version;

@@ -25,10 +25,10 @@ use crate::upgrade::{UpgradePlan, Warning};
 use crate::walk::Books;
 use crate::writes::written;
 use edit_base::CargoResult;
+use edit_cache::IndexCache;
 use edit_document::Document;
 use edit_metadata::Input;
 use edit_report::{Output, Row};
-use edit_cache::IndexCache;
 use edit_sources::{Config, Index};
 use std::alloc::Global;
 

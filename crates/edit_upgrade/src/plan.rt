@@ -25,10 +25,10 @@ use crate::missing::unknown;
 use crate::picks::picks_of;
 use crate::upgrade::{Options, UpgradePlan};
 use edit_base::CargoResult;
+use edit_cache::IndexCache;
 use edit_document::Document;
 use edit_manifest::Manifest;
 use edit_metadata::Input;
-use edit_cache::IndexCache;
 use edit_sources::{Config, Index};
 use std::alloc::Global;
 

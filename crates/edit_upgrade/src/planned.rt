@@ -23,12 +23,12 @@ use crate::seen::{Entry, with_rows};
 use crate::upgrade::Warning;
 use crate::walk::{Books, walk};
 use edit_base::CargoResult;
+use edit_cache::cache::IndexCache;
 use edit_document::Document;
 use edit_entries::entries;
 use edit_metadata::Input;
 use edit_report::Row;
 use edit_sources::Config;
-use edit_cache::cache::IndexCache;
 use edit_sources::index::Index;
 use std::alloc::Global;
 

@@ -23,8 +23,8 @@ use crate::rows::{Job, kept_row, row_for};
 use crate::seen::{Entry, Source};
 use crate::upgrade::Look;
 use edit_base::CargoResult;
-use edit_report::Row;
 use edit_cache::cache::IndexCache;
+use edit_report::Row;
 use edit_sources::index::Index;
 use std::alloc::Global;
 
