@@ -62,7 +62,7 @@ pub(crate) fn answer(alloc: Global, call: &str, argument: &str) -> Result<String
 fn repeated(alloc: Global, parts: &str, count: usize) -> Result<String, AllocError> {
     let mut text = String::new(alloc);
     let mut is_repeated = false;
-    for part in parts.split('^') {
+    'parts: for part in parts.split('^') {
         let times = if is_repeated { count } else { 1 };
         text.push_str(part.repeat(alloc, times)?.as_str())?;
         is_repeated = !is_repeated;

@@ -18,7 +18,7 @@ pub(crate) fn parted(words: &str) -> (&str, &str) {
 /// The strings of a list, which stand with commas between them; none of the empty text.
 fn listed(alloc: Global, words: &str) -> Result<Vec<String>, AllocError> {
     let mut strings = Vec::new(alloc);
-    for word in words.split_terminator(',') {
+    'words: for word in words.split_terminator(',') {
         strings.push(String::from_str(alloc, word)?)?;
     }
     Ok(strings)
@@ -39,7 +39,7 @@ fn value_of(alloc: Global, words: &str) -> Result<NewValue, AllocError> {
 /// Members between semicolons, each a name, an equals sign and a value; none of the empty text.
 fn members_of(alloc: Global, words: &str) -> Result<Vec<(String, NewValue)>, AllocError> {
     let mut members = Vec::new(alloc);
-    for member in words.split_terminator(';') {
+    'members: for member in words.split_terminator(';') {
         let (name, value) = member.split_once('=').unwrap_or((member, ""));
         members.push((String::from_str(alloc, name)?, value_of(alloc, value)?))?;
     }
@@ -159,7 +159,7 @@ fn done(
 /// Whether the pieces joined are the text, and at most two more than before.
 fn pieces_hold(alloc: Global, document: &Document, before: usize) -> Result<bool, AllocError> {
     let mut joined = String::new(alloc);
-    for number in 0..document.pieces() {
+    'numbers: for number in 0..document.pieces() {
         joined.push_str(document.piece(number).unwrap_or("none"))?;
     }
     let is_text = joined.as_str() == document.as_str();
@@ -184,7 +184,7 @@ fn edited_once(alloc: Global, document: &mut Document, call: &str) -> CargoResul
 
 /// Does edits one behind the other, and tells `done` where each of them is.
 fn edited_all(alloc: Global, document: &mut Document, calls: &str) -> CargoResult<&'static str> {
-    for call in calls.split('&') {
+    'calls: for call in calls.split('&') {
         let word = edited_once(alloc, document, call)?;
         if word != "done" {
             return Ok(word);
@@ -215,7 +215,7 @@ pub(crate) fn edited(alloc: Global, calls: &str, argument: &str) -> Result<Strin
 /// The pieces of a document.
 fn pieces_of(alloc: Global, document: &Document) -> Result<String, AllocError> {
     let mut out = String::new(alloc);
-    for number in 0..document.pieces() {
+    'numbers: for number in 0..document.pieces() {
         if number > 0 {
             out.push_str("^")?;
         }

@@ -15,7 +15,7 @@ fn step_of(alloc: Global, step: &str) -> Result<Step, AllocError> {
 /// The steps of a place, which stand with slashes between them; none of the empty text.
 pub(crate) fn place_of(alloc: Global, place: &str) -> Result<Vec<Step>, AllocError> {
     let mut steps = Vec::new(alloc);
-    for step in place.split_terminator('/') {
+    'steps: for step in place.split_terminator('/') {
         steps.push(step_of(alloc, step)?)?;
     }
     Ok(steps)
@@ -32,7 +32,7 @@ fn stepped<'a>(item: Item<'a>, step: &str) -> Option<Item<'a>> {
 /// The item of a place below another, reached step by step.
 fn walked<'a>(root: Item<'a>, place: &str) -> Option<Item<'a>> {
     let mut item = root;
-    for step in place.split_terminator('/') {
+    'steps: for step in place.split_terminator('/') {
         item = stepped(item, step)?;
     }
     Some(item)

@@ -114,7 +114,7 @@ fn front_wanted(n: usize) -> &'static str {
 
 #[test]
 fn reads_the_fronts_of_a_manifest(rt: HostRuntime) -> Result<(), Fail> {
-    for n in 0..68 {
+    'fronts: for n in 0..68 {
         let front = MANIFEST.get(..n).unwrap_or(MANIFEST);
         let seen = answer(rt.alloc(), "read", front)?;
         same(front, seen.as_str(), front_wanted(n))?;
@@ -125,7 +125,7 @@ fn reads_the_fronts_of_a_manifest(rt: HostRuntime) -> Result<(), Fail> {
 /// A table with ten thousand entries.
 fn ten_thousand(alloc: Global) -> Result<String, Fail> {
     let mut text = String::from_str(alloc, "[dependencies]\n")?;
-    for n in 0..10_000 {
+    'entries: for n in 0..10_000 {
         writeln!(text, "crate-{n} = \"1.{n}\"")?;
     }
     Ok(text)

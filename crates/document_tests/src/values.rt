@@ -22,6 +22,7 @@ float|type a|a = 224_617.445_991_228~\
 float|type a|a = -inf~\
 float|type a|a = +nan~\
 datetime|type a|a = 1979-05-27T07:32:00Z~\
+datetime|type a|a = 1979-05-27 07:32:00Z~\
 datetime|type a|a = 1979-05-27 00:32:00.999999-07:00~\
 datetime|type a|a = 1979-05-27t00:32:00.5~\
 datetime|type a|a = 1979-05-27 # a date~\

@@ -10,7 +10,7 @@ use Rattle.semver.specs.Parse.{Parts}
 use Rattle.edit_record.specs.Admissible.{admissible, admissible_in, entry_order, if_passes, is_kept, version_in}
 use Rattle.edit_record.specs.Finding.{IsFound, IsFoundAtLeast}
 use Rattle.edit_version.specs.Greatest.{IsGreatest, IsGreatestKept}
-use Rattle.edit_record.specs.IndexEntry.{IndexEntry}
+use Rattle.edit_version.specs.IndexEntry.{IndexEntry}
 use Rattle.edit_version.specs.Laws.{holds_dash}
 use Rattle.edit_version.specs.RustVersions.{Numbers}
 use Rattle.edit_version.specs.Selection.{is_admitted, is_allowed}

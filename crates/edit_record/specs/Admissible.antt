@@ -5,7 +5,7 @@ use Rattle.std.specs.List.{filter_map}
 use Rattle.std.specs.declared.cmp.Ordering.{Ordering}
 use Rattle.semver.specs.Parse.{Held, Parts}
 use Rattle.edit_version.specs.Admits.{admits}
-use Rattle.edit_record.specs.IndexEntry.{IndexEntry}
+use Rattle.edit_version.specs.IndexEntry.{IndexEntry}
 use Rattle.edit_version.specs.ReadVersion.{version_read}
 use Rattle.edit_version.specs.RustVersions.{Numbers, is_above, rust_of}
 use Rattle.edit_version.specs.Selection.{is_allowed}

@@ -4,7 +4,7 @@ use Rattle.std.specs.Ordering.{is_le}
 use Rattle.semver.specs.Parse.{Parts}
 use Rattle.edit_record.specs.Admissible.{entry_order, is_kept}
 use Rattle.edit_version.specs.Greatest.{IsGreatest, IsGreatestKept}
-use Rattle.edit_record.specs.IndexEntry.{IndexEntry}
+use Rattle.edit_version.specs.IndexEntry.{IndexEntry}
 use Rattle.edit_record.specs.Records.{IsRegistryDependency}
 use Rattle.edit_version.specs.RustVersions.{Numbers}
 use Rattle.edit_record.specs.declared.dependency.Dependency.{Dependency}

@@ -1,4 +1,3 @@
-pub mod IndexEntry
 pub mod Records
 pub mod EntryRecords
 pub mod EntryTexts

@@ -6,7 +6,7 @@ ghost use Rattle.edit_version.specs.Admits.{admits};
 ghost use Rattle.edit_record.specs.Candidates.{candidate_view, numbers_in, wants};
 ghost use Rattle.edit_record.specs.Finding.{IsFound, IsFoundAtLeast};
 ghost use Rattle.edit_version.specs.Greatest.{IsGreatest, IsGreatestKept, advance, pick};
-ghost use Rattle.edit_record.specs.IndexEntry.{IndexEntry, entry_of};
+ghost use Rattle.edit_version.specs.IndexEntry.{IndexEntry, entry_of};
 ghost use Rattle.edit_version.specs.Laws.{holds_dash};
 ghost use Rattle.edit_record.specs.Records.{IsRegistryDependency};
 ghost use Rattle.edit_version.specs.Requirement.{comparators_of};
@@ -18,8 +18,8 @@ ghost use Rattle.semver.specs.Identifiers.{parts_of};
 ghost use Rattle.semver.specs.Parse.{Parts, req_of, version_parts};
 
 use crate::dependency::{Dependency, RegistrySource, Source};
-use crate::fetch::IndexVersion;
 use edit_base::errors::CargoResult;
+use edit_version::fetch::IndexVersion;
 use edit_version::requirement::{admits, read_requirement};
 use edit_version::rust_version::{RustVersion, read_rust_version};
 use edit_version::version::read_version;

@@ -2,15 +2,13 @@
 #![tactic(auto)]
 
 pub mod dependency;
-pub mod fetch;
 pub mod find;
 
 pub use dependency::{Dependency, GitSource, PathSource, RegistrySource, Source, WorkspaceSource};
 pub use edit_version::{
-    CrateSpec, Requirement, RustVersion, VersionExt, admits, allows_prerelease, cut,
+    CrateSpec, IndexVersion, Requirement, RustVersion, VersionExt, admits, allows_prerelease, cut,
     read_requirement, upgrade_requirement,
 };
-pub use fetch::IndexVersion;
 pub use find::{
     Candidate, dependency_on, find_compatible_version, find_latest_version, is_for, is_wanted,
     read_candidate,

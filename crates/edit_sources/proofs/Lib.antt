@@ -2,11 +2,8 @@ pub mod AddressLemmas
 pub mod ChainLemmas
 pub mod ConfigurationLemmas
 pub mod FileLemmas
-pub mod ToldRanks
-pub mod FirstLemmas
 pub mod FolderLemmas
 pub mod LineLemmas
 pub mod NameLemmas
 pub mod OutcomeLemmas
-pub mod RankLemmas
 pub mod SourceLemmas

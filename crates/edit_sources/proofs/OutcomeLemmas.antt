@@ -10,7 +10,7 @@ use Rattle.serde_json.specs.Data.{Data}
 use Rattle.serde_json.specs.Read.{read}
 use Rattle.serde_json.specs.Find.{get, as_str}
 use Rattle.url.specs.Parts.{Parts}
-use Rattle.edit_record.specs.IndexEntry.{IndexEntry}
+use Rattle.edit_version.specs.IndexEntry.{IndexEntry}
 use Rattle.edit_sources.specs.FileIndex.{FileGives}
 use Rattle.edit_sources.specs.Index.{Outcome}
 use Rattle.edit_sources.specs.IndexLines.{LinesSay, IsBadLine, IsIndexLine, SaysEntry, is_blank, lines_of, yanked_of, rust_version_of}

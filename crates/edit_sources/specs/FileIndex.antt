@@ -5,8 +5,8 @@ use Rattle.std.specs.Option.{option_map_or}
 use Rattle.std.specs.Str.{bytes_eq}
 use Rattle.std.specs.BTreeMap.{BTreeMap, get_by_text}
 use Rattle.std.specs.declared.alloc.Global.{Global}
-use Rattle.edit_record.specs.declared.fetch.IndexVersion.{IndexVersion}
-use Rattle.edit_record.specs.IndexEntry.{IndexEntry, entry_of}
+use Rattle.edit_version.specs.declared.fetch.IndexVersion.{IndexVersion}
+use Rattle.edit_version.specs.IndexEntry.{IndexEntry, entry_of}
 use Rattle.edit_sources.specs.Index.{IndexView, Outcome}
 use Rattle.edit_sources.specs.IndexLines.{LinesSay, lines_of}
 use Rattle.edit_sources.specs.Names.{is_crate_name}

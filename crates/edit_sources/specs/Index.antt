@@ -3,7 +3,7 @@ use Rattle.std.specs.Prelude.{◌≡◌, ℕ, ◌≤◌, ◌⊎◌, ◌↔◌, L
 use Rattle.url.specs.Parts.{Parts}
 use Rattle.edit_base.specs.declared.errors.Error.{Error}
 use Rattle.edit_base.specs.Errors.{number_of, IsMemory}
-use Rattle.edit_record.specs.IndexEntry.{IndexEntry, entry_of}
+use Rattle.edit_version.specs.IndexEntry.{IndexEntry, entry_of}
 use Rattle.edit_store.specs.Store.{raised}
 use Rattle.edit_sources.specs.declared.index.IndexKrate.{IndexKrate}
 

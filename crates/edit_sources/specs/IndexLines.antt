@@ -11,7 +11,7 @@ use Rattle.std.specs.Borrow.{Bor}
 use Rattle.edit_base.specs.declared.errors.Error.{Error}
 use Rattle.edit_base.specs.declared.errors.Error.TheVariants.{IndexLine}
 use Rattle.edit_base.specs.Errors.{IsMemory}
-use Rattle.edit_record.specs.IndexEntry.{IndexEntry}
+use Rattle.edit_version.specs.IndexEntry.{IndexEntry}
 
 -- whether a version is yanked: not where nothing says so (Cargo reference, "Registries", yanked)
 abbrev pub yanked_of : Option Data → Option Bool

@@ -3,11 +3,8 @@ pub mod ConfigurationFiles
 pub mod Configured
 pub mod FileIndex
 pub mod Index
-pub mod IndexCache
 pub mod IndexLines
-pub mod Kept
 pub mod LocalIndex
 pub mod Names
-pub mod Ranking
 pub mod SourceReplacement
 pub mod Sources

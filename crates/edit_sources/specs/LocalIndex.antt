@@ -7,7 +7,7 @@ use Rattle.url.specs.Parts.{Parts, has_host}
 use Rattle.edit_base.specs.declared.errors.Error.{Error}
 use Rattle.edit_base.specs.declared.errors.Error.TheVariants.{IndexLine}
 use Rattle.edit_base.specs.Errors.{number_of}
-use Rattle.edit_record.specs.IndexEntry.{IndexEntry}
+use Rattle.edit_version.specs.IndexEntry.{IndexEntry}
 use Rattle.edit_sources.specs.Index.{IndexView, Outcome}
 use Rattle.edit_sources.specs.IndexLines.{LinesSay, IsBadLine, lines_of}
 use Rattle.edit_sources.specs.Names.{is_crate_name, layout}

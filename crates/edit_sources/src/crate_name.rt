@@ -13,12 +13,14 @@ pub(crate) fn is_crate_name(name: &str) -> bool
     are_name_bytes(name.as_bytes())
 }
 
+/// Whether each byte may stand in a crate's name.
 fn are_name_bytes(name: &[u8]) -> bool
     ensures { result ≡ list_all is_name_byte name.now }
 {
     name.iter().all(|b| is_name_byte(*b))
 }
 
+/// Whether a byte may stand in a crate's name.
 fn is_name_byte(b: u8) -> bool
     ensures { result ≡ is_name_byte b }
 {

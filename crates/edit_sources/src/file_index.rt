@@ -7,7 +7,7 @@ use crate::crate_name::is_crate_name;
 use crate::index::{Index, IndexKrate, copied};
 use crate::index_lines::read_lines;
 use edit_base::errors::{CargoResult, Error};
-use edit_record::fetch::IndexVersion;
+use edit_version::fetch::IndexVersion;
 use std::alloc::{AllocError, Global};
 use std::collections::BTreeMap;
 use url::Url;

@@ -1,11 +1,11 @@
 //! What an index answers.
 ghost use Rattle.std.specs.Prelude.{◌≡◌, Ok, IfOk, IfErr, map};
 ghost use Rattle.edit_base.specs.Errors.{IsMemory};
-ghost use Rattle.edit_record.specs.IndexEntry.{entry_of};
+ghost use Rattle.edit_version.specs.IndexEntry.{entry_of};
 ghost use Rattle.edit_sources.specs.Index.{HasLookCause, IndexView, SameOutcomes, answer_of, entries_of};
 
 use edit_base::errors::CargoResult;
-use edit_record::fetch::IndexVersion;
+use edit_version::fetch::IndexVersion;
 use std::alloc::Global;
 use url::Url;
 

@@ -1,12 +1,12 @@
 //! The lines of an index file.
 ghost use Rattle.std.specs.Prelude.{◌≡◌, ◌==◌, ◌+◌, Ok, Err, IfOk, IfErr, map, MatchResult, string_bytes, option_map, option_and_then};
 ghost use Rattle.edit_base.specs.declared.errors.Error.TheVariants.{IndexLine};
-ghost use Rattle.edit_record.specs.IndexEntry.{entry_of};
+ghost use Rattle.edit_version.specs.IndexEntry.{entry_of};
 ghost use Rattle.edit_sources.specs.IndexLines.{IsIndexLine, LinesSay, RefusesLine, RefusesLines, is_blank, lines_of, rust_version_of, shown, yanked_of};
 ghost use Rattle.serde_json.specs.Find.{as_str};
 
 use edit_base::errors::{CargoResult, Error};
-use edit_record::fetch::IndexVersion;
+use edit_version::fetch::IndexVersion;
 use serde_json::Value;
 use std::alloc::{AllocError, Global};
 

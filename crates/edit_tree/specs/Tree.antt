@@ -1,5 +1,5 @@
 -- The tree of a document: what stands at each place, and its members in the order of their first assertions.
-use Rattle.std.specs.Prelude.{◌≡◌, ℕ, suc, Bool, true, false, not, ◌&&◌, if◌then◌else◌, List, [], ◌∷◌, Option, Some, None, option_map}
+use Rattle.std.specs.Prelude.{ℕ, suc, Bool, true, false, not, ◌&&◌, if◌then◌else◌, List, [], ◌∷◌, Option, Some, None, option_map}
 use Rattle.std.specs.List.{filter, list_any, filter_map}
 use Rattle.edit_syntax.specs.Characters.{quote, apostrophe}
 use Rattle.edit_syntax.specs.Strings.{says, says_multi}
@@ -87,7 +87,3 @@ is_value_at t place = list_any (λ a. same_place a.place place && is_leaf a.kind
     is_leaf : Kind → Bool
     is_leaf (leaf v) = true
     is_leaf _ = false
-
--- two documents with the same tree
-abbrev pub SameTree : Text → Text → Type 0
-SameTree s t = (place : Place) → view_at s place ≡ view_at t place

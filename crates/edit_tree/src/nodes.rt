@@ -63,6 +63,7 @@ pub struct Lookup {
 }
 
 impl Lookup {
+    /// No names.
     fn none() -> Lookup
         ensures { (name : List ℕ) → number_of result name ≡ None }
     {
@@ -147,6 +148,7 @@ fn push_exact(list: &mut Vec<Member>, member: Member) -> CargoResult<()>
 }
 
 impl Members {
+    /// No members.
     pub(crate) fn none(alloc: Global) -> Members
         ensures empty { (text : List ℕ) → entries_of text result ≡ [] }
         ensures indexed { (text : List ℕ) → IsIndexed text result }
@@ -157,6 +159,7 @@ impl Members {
         }
     }
 
+    /// How many members there are.
     pub fn len(&self) -> usize
         ensures { (text : List ℕ) → result ≡ length (entries_of text self.now) }
     {

@@ -8,19 +8,19 @@ use Rattle.semver.specs.declared.error.Error.{Error}
 use Rattle.edit_record.specs.Admissible.{admissible_in}
 use Rattle.edit_version.specs.Admits.{admits}
 use Rattle.edit_version.specs.Greatest.{IsGreatest}
-use Rattle.edit_record.specs.IndexEntry.{IndexEntry}
+use Rattle.edit_version.specs.IndexEntry.{IndexEntry}
 use Rattle.edit_version.specs.Requirement.{requirement_read}
 use Rattle.edit_version.specs.RustVersions.{Numbers}
 use Rattle.edit_version.specs.Selection.{IsCompatible, IsLatest, admits_read, is_admitted, is_allowed, is_offered}
 use Rattle.edit_version.specs.VersionOrder.{full_order}
 use Rattle.edit_version.specs.Laws.{holds_dash}
 use Rattle.edit_sources.specs.Index.{answer_of}
-use Rattle.edit_sources.specs.IndexCache.{SameKept}
-use Rattle.edit_sources.specs.declared.cache.IndexCache.{IndexCache}
-use Rattle.edit_sources.specs.Kept.{IsRankedAt}
-use Rattle.edit_sources.specs.Ranking.{IsRanking, ranks_of}
+use Rattle.edit_cache.specs.IndexCache.{SameKept}
+use Rattle.edit_cache.specs.declared.cache.IndexCache.{IndexCache}
+use Rattle.edit_cache.specs.Kept.{IsRankedAt}
+use Rattle.edit_cache.specs.Ranking.{IsRanking, ranks_of}
 use Rattle.edit_sources.specs.declared.index.IndexKrate.{IndexKrate}
-use Rattle.edit_sources.specs.declared.ranking.Ranked.{Ranked}
+use Rattle.edit_cache.specs.declared.ranking.Ranked.{Ranked}
 use Rattle.edit_upgrade.specs.Looks.{Answer, kept_by, versions_in}
 use Rattle.edit_upgrade.specs.Rankings.{IsRankingOf}
 

@@ -4,8 +4,8 @@ use Rattle.std.specs.Global.{Vec}
 use Rattle.edit_base.specs.declared.errors.Error.{Error}
 use Rattle.edit_metadata.specs.declared.input.Input.{Input}
 use Rattle.edit_sources.specs.Index.{IndexView, Outcomes}
-use Rattle.edit_sources.specs.IndexCache.{index_of}
-use Rattle.edit_sources.specs.declared.cache.IndexCache.{IndexCache}
+use Rattle.edit_cache.specs.IndexCache.{index_of}
+use Rattle.edit_cache.specs.declared.cache.IndexCache.{IndexCache}
 use Rattle.edit_sources.specs.declared.config.Config.{Config}
 use Rattle.edit_upgrade.specs.Causes.{HasBadEntry, IsCause, IsEntryCause}
 use Rattle.edit_upgrade.specs.Looked.{Leaves}

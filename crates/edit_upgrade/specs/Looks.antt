@@ -1,12 +1,12 @@
 -- The looks of a plan: what was looked up, and what each look answered.
 use Rattle.std.specs.Prelude.{◌≡◌, ℕ, List, [], ◌∷◌, Bool, ◌&&◌, All, ◌⊎◌, IfSome, IsSome, Option, Some, None, Ok, find, string_bytes, option_map, ⊤}
 use Rattle.std.specs.Str.{bytes_eq}
-use Rattle.edit_record.specs.IndexEntry.{IndexEntry}
+use Rattle.edit_version.specs.IndexEntry.{IndexEntry}
 use Rattle.edit_record.specs.Admissible.{admissible_in}
 use Rattle.edit_version.specs.RustVersions.{Numbers}
-use Rattle.edit_sources.specs.IndexCache.{kept_at}
+use Rattle.edit_cache.specs.IndexCache.{kept_at}
 use Rattle.edit_sources.specs.Index.{Outcomes, answer_of}
-use Rattle.edit_sources.specs.declared.cache.IndexCache.{IndexCache}
+use Rattle.edit_cache.specs.declared.cache.IndexCache.{IndexCache}
 use Rattle.edit_sources.specs.declared.config.Config.{Config}
 use Rattle.semver.specs.Parse.{Parts}
 use Rattle.url.specs.Parts as url

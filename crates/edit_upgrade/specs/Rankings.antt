@@ -1,7 +1,7 @@
 -- The ranking of an answer that is kept for a name.
 use Rattle.std.specs.Prelude.{Option, Some, None}
-use Rattle.edit_sources.specs.Ranking.{IsRanking, ranks_of}
-use Rattle.edit_sources.specs.declared.ranking.Ranked.{Ranked}
+use Rattle.edit_cache.specs.Ranking.{IsRanking, ranks_of}
+use Rattle.edit_cache.specs.declared.ranking.Ranked.{Ranked}
 use Rattle.edit_upgrade.specs.Looks.{Answer}
 
 -- it is that of the answer's entries; there is none where no answer is kept, or the answer is that there is

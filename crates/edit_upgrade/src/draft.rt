@@ -3,7 +3,7 @@ ghost use Rattle.std.specs.Prelude.{◌≡◌, ◌≢◌, ◌++◌, ◌⊎◌, [
 ghost use Rattle.std.specs.BTreeSet.{contains_text};
 ghost use Rattle.edit_base.specs.Errors.{IsMemory};
 ghost use Rattle.edit_report.specs.declared.output.Output.{Output};
-ghost use Rattle.edit_sources.specs.IndexCache.{index_of};
+ghost use Rattle.edit_cache.specs.IndexCache.{index_of};
 ghost use Rattle.edit_upgrade.specs.Caches.{LeavesCache, StopsManifest, cache_view};
 ghost use Rattle.edit_upgrade.specs.Drafts.{AddsInput};
 ghost use Rattle.edit_upgrade.specs.Lines.{line_of};
@@ -25,10 +25,11 @@ use crate::upgrade::{UpgradePlan, Warning};
 use crate::walk::Books;
 use crate::writes::written;
 use edit_base::CargoResult;
+use edit_cache::IndexCache;
 use edit_document::Document;
 use edit_metadata::Input;
 use edit_report::{Output, Row};
-use edit_sources::{Config, Index, IndexCache};
+use edit_sources::{Config, Index};
 use std::alloc::Global;
 
 /// What is planned of inputs so far.

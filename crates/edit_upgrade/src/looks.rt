@@ -3,7 +3,7 @@ ghost use Rattle.std.specs.Prelude.{◌≡◌, ◌⊎◌, ◌&&◌, if◌then◌
 ghost use Rattle.std.specs.Str.{bytes_eq};
 ghost use Rattle.edit_base.specs.Errors.{IsMemory};
 ghost use Rattle.edit_sources.specs.Index.{answer_of};
-ghost use Rattle.edit_sources.specs.IndexCache.{index_of};
+ghost use Rattle.edit_cache.specs.IndexCache.{index_of};
 ghost use Rattle.url.specs.Parts.{serialize};
 ghost use Rattle.edit_upgrade.specs.Looked.{IsAt, IsLook, IsRefusedAt, IsStep, Leaves};
 ghost use Rattle.edit_upgrade.specs.Looks.{kept_by};
@@ -12,7 +12,7 @@ ghost use Rattle.edit_upgrade.specs.PairSets.{holds_pair};
 use crate::names::{Names, add_name};
 use crate::upgrade::Look;
 use edit_base::CargoResult;
-use edit_sources::cache::IndexCache;
+use edit_cache::cache::IndexCache;
 use edit_sources::index::{Index, IndexKrate};
 use std::alloc::Global;
 use std::collections::BTreeMap;

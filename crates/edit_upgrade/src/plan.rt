@@ -4,7 +4,7 @@ ghost use Rattle.std.specs.BTreeSet.{contains_text};
 ghost use Rattle.edit_base.specs.Errors.{IsMemory};
 ghost use Rattle.edit_manifest.specs.Loaded.{IsBadManifest};
 ghost use Rattle.edit_sources.specs.Index.{SameOutcomes};
-ghost use Rattle.edit_sources.specs.IndexCache.{index_of};
+ghost use Rattle.edit_cache.specs.IndexCache.{index_of};
 ghost use Rattle.edit_upgrade.specs.Caches.{LeavesCache, StopsDocuments, StopsInputs, StopsManifest, cache_view};
 ghost use Rattle.edit_upgrade.specs.Drafts.{AddsInput, AreGiven, IsDraft};
 ghost use Rattle.edit_upgrade.specs.Headline.{IsSettled, LatestIsNotLess, Narrows, NeedsAsBefore, NeverLowers, Reaches};
@@ -25,10 +25,11 @@ use crate::missing::unknown;
 use crate::picks::picks_of;
 use crate::upgrade::{Options, UpgradePlan};
 use edit_base::CargoResult;
+use edit_cache::IndexCache;
 use edit_document::Document;
 use edit_manifest::Manifest;
 use edit_metadata::Input;
-use edit_sources::{Config, Index, IndexCache};
+use edit_sources::{Config, Index};
 use std::alloc::Global;
 
 /// Plans one more input: over its document where that was read, else over that of its bytes.

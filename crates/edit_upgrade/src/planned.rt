@@ -2,7 +2,7 @@
 ghost use Rattle.std.specs.Prelude.{◌≡◌, ◌⊎◌, IfErr, IfOk, OnOk, length, map};
 ghost use Rattle.std.specs.BTreeSet.{contains_text};
 ghost use Rattle.edit_base.specs.Errors.{IsMemory};
-ghost use Rattle.edit_sources.specs.IndexCache.{index_of};
+ghost use Rattle.edit_cache.specs.IndexCache.{index_of};
 ghost use Rattle.edit_upgrade.specs.Caches.{LeavesCache, StopsManifest, cache_view};
 ghost use Rattle.edit_upgrade.specs.Found.{seen_of};
 ghost use Rattle.edit_upgrade.specs.Lines.{line_of};
@@ -23,12 +23,12 @@ use crate::seen::{Entry, with_rows};
 use crate::upgrade::Warning;
 use crate::walk::{Books, walk};
 use edit_base::CargoResult;
+use edit_cache::cache::IndexCache;
 use edit_document::Document;
 use edit_entries::entries;
 use edit_metadata::Input;
 use edit_report::Row;
 use edit_sources::Config;
-use edit_sources::cache::IndexCache;
 use edit_sources::index::Index;
 use std::alloc::Global;
 

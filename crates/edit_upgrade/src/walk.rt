@@ -3,7 +3,7 @@ ghost use Rattle.std.specs.Prelude.{◌≡◌, ◌⊎◌, All, IfErr, IfOk, None
 ghost use Rattle.edit_base.specs.Errors.{IsMemory};
 ghost use Rattle.edit_record.specs.Candidates.{numbers_in};
 ghost use Rattle.edit_sources.specs.Configured.{given};
-ghost use Rattle.edit_sources.specs.IndexCache.{index_of};
+ghost use Rattle.edit_cache.specs.IndexCache.{index_of};
 ghost use Rattle.url.specs.Parts.{serialize};
 ghost use Rattle.edit_upgrade.specs.Addresses.{AreAddresses};
 ghost use Rattle.edit_upgrade.specs.Caches.{LeavesCache, cache_view};
@@ -23,8 +23,8 @@ use crate::rows::{Job, kept_row, row_for};
 use crate::seen::{Entry, Source};
 use crate::upgrade::Look;
 use edit_base::CargoResult;
+use edit_cache::cache::IndexCache;
 use edit_report::Row;
-use edit_sources::cache::IndexCache;
 use edit_sources::index::Index;
 use std::alloc::Global;
 

@@ -5,12 +5,12 @@ use Rattle.std.specs.Prelude.{◌⊎◌, All, filter, not}
 use Rattle.std.specs.List.{AllZip, flat_map}
 use Rattle.edit_base.specs.Errors.{IsMemory}
 use Rattle.edit_base.specs.declared.errors.Error.{Error}
-use Rattle.edit_record.specs.IndexEntry.{IndexEntry}
+use Rattle.edit_version.specs.IndexEntry.{IndexEntry}
 use Rattle.edit_sources.specs.FileIndex.{FileGives}
 use Rattle.edit_sources.specs.Index.{answer_of}
-use Rattle.edit_sources.specs.IndexCache.{index_of, kept_at}
+use Rattle.edit_cache.specs.IndexCache.{index_of, kept_at}
 use Rattle.edit_sources.specs.declared.config.Config.{Config}
-use Rattle.edit_sources.specs.declared.cache.IndexCache.{IndexCache}
+use Rattle.edit_cache.specs.declared.cache.IndexCache.{IndexCache}
 use Rattle.edit_sources.specs.declared.file_index.FileIndex.{FileIndex}
 use Rattle.edit_upgrade.specs.Causes.{HasBadEntry}
 use Rattle.edit_upgrade.specs.Inputs.{below, rows_of}

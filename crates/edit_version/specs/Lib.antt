@@ -10,5 +10,6 @@ pub mod Increments
 pub mod Phases
 pub mod Changed
 pub mod CrateWords
+pub mod IndexEntry
 pub mod ReadRequirement
 pub mod ReadVersion

@@ -1,13 +1,15 @@
-//! Versions, requirements, the words that name a crate, and versions of Rust.
+//! Versions, requirements, the words that name a crate, versions of Rust, and what an index tells of a version.
 #![tactic(auto)]
 
 pub mod crate_spec;
+pub mod fetch;
 pub mod requirement;
 mod requirement_text;
 pub mod rust_version;
 pub mod version;
 
 pub use crate_spec::CrateSpec;
+pub use fetch::IndexVersion;
 pub use requirement::{
     Requirement, admits, allows_prerelease, cut, read_requirement, upgrade_requirement,
 };

@@ -18,7 +18,7 @@ fn steps(alloc: Global, names: &str) -> Result<Vec<String>, AllocError> {
     if names == "-" {
         return Ok(path);
     }
-    for name in names.split('/') {
+    'names: for name in names.split('/') {
         path.push(String::from_str(alloc, name)?)?;
     }
     Ok(path)
@@ -27,7 +27,7 @@ fn steps(alloc: Global, names: &str) -> Result<Vec<String>, AllocError> {
 /// The place of names with a slash between them.
 fn place_of(alloc: Global, names: &str) -> Result<Place, AllocError> {
     let mut place = Vec::new(alloc);
-    for name in names.split('/') {
+    'names: for name in names.split('/') {
         place.push(Step::Key(String::from_str(alloc, name)?))?;
     }
     Ok(place)

@@ -20,7 +20,7 @@ const FILES: &str = "\
 /// A store of these files, of which a call fails.
 fn store_of(alloc: Global, at: u64) -> Result<FaultStore, Fail> {
     let mut store = MemoryStore::new(alloc);
-    for row in FILES.lines() {
+    'rows: for row in FILES.lines() {
         let bytes = match field(row, 1) {
             "" => b"a\xff".as_slice(),
             text => text.as_bytes(),
@@ -146,7 +146,7 @@ fn answer<S: Store>(alloc: Global, store: &mut S, row: &str) -> Result<String, F
 
 /// Succeeds where each row of a table gives what it wants over files of which a call fails.
 fn hold(alloc: Global, table: &str, at: u64) -> Result<(), Fail> {
-    for row in table.lines() {
+    'rows: for row in table.lines() {
         let mut store = store_of(alloc, at)?;
         let seen = answer(alloc, &mut store, row)?;
         same(row, seen.as_str(), field(row, 0))?;
@@ -156,7 +156,7 @@ fn hold(alloc: Global, table: &str, at: u64) -> Result<(), Fail> {
 
 #[test]
 fn finds_reads_and_writes_manifests(rt: HostRuntime) -> Result<(), Fail> {
-    for (table, at) in [(ROWS, 99), (FAULTS, 0), (WRITE_FAULTS, 2)] {
+    'tables: for (table, at) in [(ROWS, 99), (FAULTS, 0), (WRITE_FAULTS, 2)] {
         hold(rt.alloc(), table, at)?;
     }
     Ok(())

@@ -7,7 +7,7 @@ use test_rows::{TILDES, rows_hold, same, text, told};
 
 /// Adds the steps of a place, with a slash between them.
 fn push_place(seen: &mut String, place: &[Step]) -> Result<(), Fail> {
-    for (n, step) in place.iter().enumerate() {
+    'steps: for (n, step) in place.iter().enumerate() {
         if n > 0 {
             seen.push('/')?;
         }
@@ -22,7 +22,7 @@ fn push_place(seen: &mut String, place: &[Step]) -> Result<(), Fail> {
 /// The places of tables, with a semicolon behind each.
 fn places(alloc: Global, tables: &[Place]) -> Result<String, Fail> {
     let mut seen = String::new(alloc);
-    for place in tables {
+    'places: for place in tables {
         push_place(&mut seen, place)?;
         seen.push(';')?;
     }

@@ -1,4 +1,5 @@
 //! Rows of the manifests that plans over a workspace are made for.
+use crate::workspaces::quoted;
 use edit_base::CargoResult;
 use edit_metadata::{Input, Workspace, workspace_inputs};
 use edit_store::{FaultStore, MemoryStore, Store};
@@ -17,44 +18,71 @@ fn files_at(alloc: Global, paths: &str) -> Result<MemoryStore, Fail> {
     Ok(store)
 }
 
-/// The workspace at a root, whose members stand at these paths with these Rust versions, `-` being none.
-fn workspace_of(alloc: Global, root: &str, members: &str) -> Result<Workspace, Fail> {
-    let mut ids = String::new(alloc);
-    let mut packages = String::new(alloc);
+/// The ids of members, which are their paths, as metadata list them.
+fn ids_of(alloc: Global, members: &str) -> Result<String, Fail> {
+    let mut ids = String::from_str(alloc, "'none'")?;
+    for member in members.split(' ') {
+        let (path, _) = member.split_once('=').unwrap_or((member, "-"));
+        write!(ids, ",'{path}'")?;
+    }
+    Ok(ids)
+}
+
+/// The packages of members, and one that is none, as metadata tell of them.
+fn packages_of(alloc: Global, members: &str) -> Result<String, Fail> {
+    let mut packages = String::from_str(
+        alloc,
+        "{'name':'o','id':'o','version':'1.0.0','manifest_path':'/o','rust_version':'1.1'}",
+    )?;
     for member in members.split(' ') {
         let (path, rust) = member.split_once('=').unwrap_or((member, "-"));
-        let comma = if ids.is_empty() { "" } else { "," };
-        let id = format!(in alloc; "{comma}'{path}'")?;
-        ids.push_str(id.as_str())?;
-        let fields = format!(in alloc; "'name':'{rust}','id':'{path}','version':'1.0.0'")?;
-        let more = format!(in alloc; "'manifest_path':'{path}','rust_version':'{rust}'")?;
-        let package = format!(in alloc; "{comma}{{{fields},{more}}}")?;
-        packages.push_str(package.as_str())?;
+        write!(
+            packages,
+            ",{{'name':'{rust}','id':'{path}','version':'1.0.0',"
+        )?;
+        write!(
+            packages,
+            "'manifest_path':'{path}','rust_version':'{rust}'}}"
+        )?;
     }
-    let other = "{'name':'o','id':'o','version':'1.0.0','manifest_path':'/o','rust_version':'1.1'}";
-    let listed = format!(in alloc; "'workspace_members':[{ids}],'packages':[{other},{packages}]")?;
-    let json = format!(in alloc; "{{'workspace_root':'{root}',{listed}}}")?;
-    let parts: Vec<&str> = json.split('\'').collect(alloc)?;
-    let json = parts.join(alloc, "\"")?;
+    Ok(packages)
+}
+
+/// The workspace at a root, whose members stand at these paths with these Rust versions, `-` being none.
+fn workspace_of(alloc: Global, root: &str, members: &str) -> Result<Workspace, Fail> {
+    let mut json = String::new(alloc);
+    let ids = ids_of(alloc, members)?;
+    write!(
+        json,
+        "{{'workspace_root':'{root}','workspace_members':[{ids}],'packages':["
+    )?;
+    json.push_str(packages_of(alloc, members)?.as_str())?;
+    json.push_str("]}")?;
+    let json = quoted(alloc, json.as_str())?;
     Ok(Workspace::read(alloc, json.as_bytes())?)
+}
+
+/// What a Rust version shows, `-` being none.
+pub(crate) fn rust_shown(alloc: Global, version: Option<RustVersion>) -> Result<String, Fail> {
+    match version {
+        Some(version) => {
+            let (major, minor, patch) = (version.major, version.minor, version.patch);
+            Ok(format!(in alloc; "{major}.{minor}.{patch}")?)
+        }
+        None => Ok(String::from_str(alloc, "-")?),
+    }
 }
 
 /// What inputs show: the name, the path, the bytes and the Rust version of each.
 fn shown(alloc: Global, inputs: &[Input]) -> Result<String, Fail> {
     let mut all = String::new(alloc);
     for input in inputs {
-        let rust = match input.rust_version {
-            Some(version) => {
-                format!(in alloc; "{}.{}.{}", version.major, version.minor, version.patch)?
-            }
-            None => String::from_str(alloc, "-")?,
-        };
-        let end = if all.is_empty() { "" } else { "; " };
-        let name = &input.name;
-        let path = &input.path;
+        if !all.is_empty() {
+            all.push_str("; ")?;
+        }
         let bytes = std::str::from_utf8(&input.bytes).unwrap_or("?");
-        let one = format!(in alloc; "{end}{name} {path} {bytes} {rust}")?;
-        all.push_str(one.as_str())?;
+        let rust = rust_shown(alloc, input.rust_version)?;
+        write!(all, "{} {} {bytes} {rust}", input.name, input.path)?;
     }
     Ok(all)
 }

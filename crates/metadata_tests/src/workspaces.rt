@@ -1,4 +1,5 @@
 //! Rows of workspaces that metadata tell of.
+use crate::inputs::rust_shown;
 use edit_metadata::{Package, Workspace, manifest_from_pkgid};
 use std::alloc::Global;
 use std::test::Fail;
@@ -10,8 +11,8 @@ const METADATA: &str = "{'workspace_root':'/w','workspace_members':['A','B'],'pa
 'rust_version':'1.70'},\
 {'name':'b','id':'B','manifest_path':'/w/b/Cargo.toml','version':'1.2.3-rc.1+x'}],'target':'/t'}";
 
-/// The text with quotation marks.
-fn quoted(alloc: Global, text: &str) -> Result<String, Fail> {
+/// The text with quotation marks in place of apostrophes.
+pub(crate) fn quoted(alloc: Global, text: &str) -> Result<String, Fail> {
     let parts: Vec<&str> = text.split('\'').collect(alloc)?;
     Ok(parts.join(alloc, "\"")?)
 }
@@ -29,12 +30,7 @@ fn shown(alloc: Global, package: &Package) -> Result<String, Fail> {
         Some(source) => source.as_str(),
         None => "-",
     };
-    let rust = match package.rust_version {
-        Some(version) => {
-            format!(in alloc; "{}.{}.{}", version.major, version.minor, version.patch)?
-        }
-        None => String::from_str(alloc, "-")?,
-    };
+    let rust = rust_shown(alloc, package.rust_version)?;
     let member = if package.member { "member" } else { "-" };
     let name = &package.name;
     let id = &package.id;
@@ -142,20 +138,20 @@ fn finds_members_by_name(rt: HostRuntime) -> Result<(), Fail> {
     rows_hold(rt.alloc(), NAMED, TILDES, named)
 }
 
-/// The metadata of this many members.
+/// A package that is no member.
+const METADATA_OF_ANOTHER: &str = "{'name':'o','id':'o','version':'1.0.0','manifest_path':'/o'}";
+
+/// The metadata of this many members, and of one package that is none.
 fn many(alloc: Global, count: u32) -> Result<String, Fail> {
-    let mut ids = String::new(alloc);
-    let mut packages = String::new(alloc);
+    let mut ids = String::from_str(alloc, "'none'")?;
+    let mut packages = String::from_str(alloc, METADATA_OF_ANOTHER)?;
     for n in 0..count {
-        let comma = if n == 0 { "" } else { "," };
-        let id = format!(in alloc; "{comma}'{n}'")?;
-        ids.push_str(id.as_str())?;
-        let fields = format!(in alloc; "'name':'m{n}','id':'{n}','version':'1.0.0'")?;
-        let package = format!(in alloc; "{comma}{{{fields},'manifest_path':'/w/{n}/Cargo.toml'}}")?;
-        packages.push_str(package.as_str())?;
+        write!(ids, ",'{n}'")?;
+        write!(packages, ",{{'name':'m{n}','id':'{n}','version':'1.0.0',")?;
+        write!(packages, "'manifest_path':'/w/{n}/Cargo.toml'}}")?;
     }
-    let members = format!(in alloc; "'workspace_members':[{ids}],'packages':[{packages}]")?;
-    let text = format!(in alloc; "{{'workspace_root':'/w',{members}}}")?;
+    write!(ids, "],'packages':[{packages}]}}")?;
+    let text = format!(in alloc; "{{'workspace_root':'/w','workspace_members':[{ids}")?;
     quoted(alloc, text.as_str())
 }
 
@@ -171,5 +167,5 @@ fn reads_three_hundred_members(rt: HostRuntime) -> Result<(), Fail> {
         "/w/299/Cargo.toml",
     )?;
     let count = format!(in alloc; "{}", workspace.packages.len())?;
-    same("three hundred", count.as_str(), "300")
+    same("three hundred and the other", count.as_str(), "301")
 }

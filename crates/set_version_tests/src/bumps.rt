@@ -61,7 +61,8 @@ same|release git.123456|1.0.0+git.123456
 1.0.1-rc.1|rc|1.0.0
 16 Cannot increment the alpha field for 1.0.1-beta.1|alpha|1.0.1-beta.1
 16 Cannot increment the beta field for 1.0.1-rc.1|beta|1.0.1-rc.1
-17 This version scheme is not supported. Use format like `pre`, `dev` or `alpha.1` for prerelease symbol|alpha|1.0.1-rc.x
+17 This version scheme is not supported. Use format like `pre`, `dev` or `alpha.1` for prerelease symbol\
+|alpha|1.0.1-rc.x
 18 A number of 18446744073709551615.0.0 is at its end|major|18446744073709551615.0.0
 18 A number of 1.0.18446744073709551615 is at its end|patch|1.0.18446744073709551615
 19 Invalid build metadata `a_b`|minor a_b|1.2.3";

@@ -31,7 +31,7 @@ fn workspace_of(alloc: Global, members: &str) -> Result<Workspace, Fail>
 {
     let mut ids = String::new(alloc);
     let mut packages = String::new(alloc);
-    for member in members.split(';') {
+    'members: for member in members.split(';') {
         let (name, rest) = cut(member);
         let (version, _) = cut(rest);
         let path = path_of(alloc, name)?;
@@ -54,7 +54,7 @@ fn files_of(alloc: Global, root: &str, members: &str) -> Result<MemoryStore, Fai
     let mut store = MemoryStore::new(alloc);
     let bytes = unfolded(alloc, root)?;
     store.write(alloc, "/w/Cargo.toml", bytes.as_bytes())?;
-    for member in members.split(';') {
+    'members: for member in members.split(';') {
         let (name, rest) = cut(member);
         let (_, manifest) = cut(rest);
         if name != "root" {
@@ -69,7 +69,7 @@ fn files_of(alloc: Global, root: &str, members: &str) -> Result<MemoryStore, Fai
 /// The words with a mark, without it.
 fn marked(alloc: Global, words: &str, mark: char) -> Result<Vec<String>, Fail> {
     let mut list = Vec::new(alloc);
-    for word in words.split(' ') {
+    'words: for word in words.split(' ') {
         if let Some(name) = word.strip_prefix(mark) {
             list.push(text(alloc, name)?)?;
         }
@@ -77,7 +77,8 @@ fn marked(alloc: Global, words: &str, mark: char) -> Result<Vec<String>, Fail> {
     Ok(list)
 }
 
-/// What words ask for: names behind `-`, excluded ones behind `!`, build metadata behind `+`, and `*` for all.
+/// What words ask for: names behind `-`, excluded ones behind `!`, build metadata behind `+`, and `*` for
+/// all members.
 fn selection_of(alloc: Global, words: &str) -> Result<Selection, Fail> {
     Ok(Selection {
         packages: marked(alloc, words, '-')?,
@@ -99,13 +100,13 @@ fn output_shown(alloc: Global, output: &Output) -> Result<String, Fail> {
 /// The lines of a plan, and then its outputs.
 fn shown(alloc: Global, plan: &SetVersionPlan) -> Result<String, Fail> {
     let mut all = String::new(alloc);
-    for line in &plan.lines {
+    'lines: for line in &plan.lines {
         let action = &line.0;
         let said = &line.1;
         let one = format!(in alloc; "{action} {said};")?;
         all.push_str(one.as_str())?;
     }
-    for output in &plan.outputs {
+    'outputs: for output in &plan.outputs {
         let one = output_shown(alloc, output)?;
         all.push_str(one.as_str())?;
     }
@@ -153,7 +154,8 @@ Upgrading a from 1.0.0 to 2.0.0 (inherited from workspace);\
 /w/b/Cargo.toml [dependencies]@x = { path = \"../a\", version = \"0.2\" }@\
 a = { path = \"../c\", version = \"0.1\" }@;\
 |minor -a|[workspace]@;a 0.1.0 [package]@version = \"0.1.0\"@\
-;b 0.1.0 [dependencies]@x = { path = \"../a\", version = \"0.1\" }@a = { path = \"../c\", version = \"0.1\" }@\
+;b 0.1.0 [dependencies]@x = { path = \"../a\", version = \"0.1\" }@\
+a = { path = \"../c\", version = \"0.1\" }@\
 ~|release|[workspace]@;a 1.0.0 [package]@version = \"1.0.0\"@";
 
 /// What is refused; the call; the manifests.

@@ -11,7 +11,7 @@ use test_rows::{LINES, rows_hold, text, unfolded, word};
 /// The words of a text.
 fn words(alloc: Global, all: &str) -> Result<Vec<String>, Fail> {
     let mut words = Vec::new(alloc);
-    for one in all.split(' ') {
+    'words: for one in all.split(' ') {
         if !one.is_empty() {
             words.push(text(alloc, one)?)?;
         }
@@ -36,7 +36,7 @@ fn package(alloc: Global, word: &str) -> Result<Package, Fail> {
 /// The workspace of these packages.
 fn workspace(alloc: Global, names: &str) -> Result<Workspace, Fail> {
     let mut packages = Vec::new(alloc);
-    for name in names.split(' ') {
+    'names: for name in names.split(' ') {
         packages.push(package(alloc, name)?)?;
     }
     let root = text(alloc, "/w")?;
@@ -71,7 +71,7 @@ fn pointed(alloc: Global, _call: &str, manifest: &str) -> Result<String, Fail> {
     let text = unfolded(alloc, manifest)?;
     let manifest = Manifest::read(alloc, text.as_str())?;
     let mut all = String::new(alloc);
-    for entry in &path_entries(alloc, &manifest.document)? {
+    'entries: for entry in &path_entries(alloc, &manifest.document)? {
         let one = shown(alloc, entry)?;
         all.push_str(one.as_str())?;
     }

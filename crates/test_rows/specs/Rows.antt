@@ -16,8 +16,8 @@ behind end row = cond (list_any (λ b. b == end) row) (after_first (λ b. b == e
 
 -- a row: what is wanted, the call, and the argument, which is the rest. A call may be answered by a text, and
 -- the text is the one that is wanted
-pub record Holds {E : Type 0} (answers : Bor (List ℕ) → Bor (List ℕ) → Result (String Global) E → Type 0) (end : ℕ)
-    (row : List ℕ) : Type 0 where
+pub record Holds {E : Type 0} (answers : Bor (List ℕ) → Bor (List ℕ) → Result (String Global) E → Type 0)
+    (end : ℕ) (row : List ℕ) : Type 0 where
   pub call : Bor (List ℕ)
   pub argument : Bor (List ℕ)
   pub seen : String Global

@@ -138,7 +138,7 @@ fn command_line(alloc: Global) -> Option<Error> {
 /// The parts of a row, each on memory of its own.
 fn parts_of(alloc: Global, parts: &str) -> Result<Vec<String>, AllocError> {
     let mut texts = Vec::new(alloc);
-    for part in parts.split('@') {
+    'parts: for part in parts.split('@') {
         texts.push(String::from_str(alloc, part)?)?;
     }
     Ok(texts)

@@ -2,7 +2,8 @@
 use super::upgrade::{index_of, input_at, options_of};
 use cargo_edit::{UpgradePlan, plan_upgrade};
 use edit_base::CargoResult;
-use edit_sources::{FileIndex, IndexCache};
+use edit_cache::IndexCache;
+use edit_sources::FileIndex;
 use std::alloc::Global;
 use std::str;
 use std::test::Fail;

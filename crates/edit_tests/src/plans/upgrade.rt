@@ -3,7 +3,8 @@ ghost use Rattle.std.specs.Prelude.{◌≡◌, [], IfOk, string_bytes};
 
 use cargo_edit::{Input, Options, Row, UpgradePlan, plan_upgrade};
 use edit_base::CargoResult;
-use edit_sources::{FileIndex, IndexCache};
+use edit_cache::IndexCache;
+use edit_sources::FileIndex;
 use std::alloc::Global;
 use std::str;
 use std::test::Fail;

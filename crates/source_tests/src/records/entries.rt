@@ -31,7 +31,7 @@ x 1.6.0-rc.1 -|1.6.0-rc.0|1.31
 /// The entries of a text.
 fn entries(alloc: Global, rows: &str) -> Result<Vec<IndexVersion>, AllocError> {
     let mut entries = Vec::new(alloc);
-    for row in rows.lines() {
+    'rows: for row in rows.lines() {
         let (version, rest) = row.split_once('|').unwrap_or((row, ""));
         let (yanked, rust_version) = rest.split_once('|').unwrap_or((rest, ""));
         entries.push(entry(alloc, version, yanked == "yanked", rust_version)?)?;

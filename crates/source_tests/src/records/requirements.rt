@@ -52,7 +52,7 @@ const RAISED: &str = "\
 /// The texts that a requirement is raised to at four versions.
 fn signs(alloc: Global, req: &str) -> Result<String, Fail> {
     let mut texts = upgraded(alloc, req, "1.0.0")?;
-    for version in ["1.1.0", "1.1.1", "2.0.0"] {
+    'versions: for version in ["1.1.0", "1.1.1", "2.0.0"] {
         texts.push(' ')?;
         texts.push_str(upgraded(alloc, req, version)?.as_str())?;
     }

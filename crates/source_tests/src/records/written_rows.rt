@@ -46,7 +46,7 @@ registry=1;registry name=n;rename=d;default features=true;features=a;optional=tr
 /// The words of a text; the empty text has none.
 fn words(alloc: Global, text: &str) -> Result<Vec<String>, AllocError> {
     let mut words = Vec::new(alloc);
-    for word in text.split_terminator(' ') {
+    'words: for word in text.split_terminator(' ') {
         words.push(String::from_str(alloc, word)?)?;
     }
     Ok(words)
@@ -155,7 +155,7 @@ fn with_values(
 /// The record of the crate of a name that has these parts.
 pub(crate) fn record_of(alloc: Global, name: &str, parts: &str) -> CargoResult<Dependency> {
     let mut record = Dependency::new(alloc, name)?;
-    for part in parts.split(';') {
+    'parts: for part in parts.split(';') {
         let (part, text) = part.split_once('=').unwrap_or((part, ""));
         record = with_part(alloc, record, part, text)?;
     }

@@ -1,7 +1,8 @@
 //! Answers and rankings that are kept.
 use super::looks::{entries, files_of};
 use crate::records::parts::chosen;
-use edit_sources::{Index, IndexCache, IndexKrate, LocalIndex, Ranked};
+use edit_cache::{IndexCache, Ranked};
+use edit_sources::{Index, IndexKrate, LocalIndex};
 use edit_store::FaultStore;
 use semver::VersionReq;
 use std::alloc::Global;
@@ -23,7 +24,7 @@ fn ranking(alloc: Global, ranked: Option<&Ranked>) -> Result<String, Fail> {
         return text(alloc, "none");
     };
     let mut seen = String::new(alloc);
-    for n in 0..4usize {
+    'versions: for n in 0..4usize {
         if let Some(version) = ranked.version(n) {
             write!(seen, "{version};")?;
         }
@@ -144,7 +145,7 @@ fn call<I: Index>(
 /// Makes the calls of a table in turn. Behind what its call needs, a row has what is wanted.
 fn calls<I: Index>(alloc: Global, cache: &mut IndexCache<I>, rows: &str) -> Result<(), Fail> {
     let registry = Url::parse(alloc, "file:///idx").map_err(|_| "no address")?;
-    for row in rows.lines() {
+    'rows: for row in rows.lines() {
         let seen = call(alloc, cache, &registry, row)?;
         same(row, seen.as_str(), field(row, 4))?;
     }
@@ -179,7 +180,7 @@ fn replace<I: Index + Drop>(cache: &mut IndexCache<I>, index: I) {
 /// Makes calls over one index after the other, each with its files and the call of its store that fails.
 fn kept(alloc: Global, indexes: &[(&str, u64, &str)]) -> Result<(), Fail> {
     let mut cache = IndexCache::new(alloc, failing(alloc, "", 0)?);
-    for (files, at, rows) in indexes {
+    'indexes: for (files, at, rows) in indexes {
         replace(&mut cache, failing(alloc, files, *at)?);
         calls(alloc, &mut cache, rows)?;
     }

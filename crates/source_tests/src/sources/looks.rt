@@ -40,7 +40,7 @@ fn bad_lines(rt: HostRuntime) -> Result<(), Fail> {
 /// The entries of an answer, a yanked one with `!`.
 pub(crate) fn entries(alloc: Global, krate: &IndexKrate) -> Result<String, Fail> {
     let mut seen = String::new(alloc);
-    for entry in &krate.versions {
+    'entries: for entry in &krate.versions {
         let mark = if entry.yanked { '!' } else { '.' };
         write!(seen, "{} {}{mark}", entry.name, entry.version)?;
     }
@@ -60,7 +60,7 @@ fn look<I: Index>(alloc: Global, index: &mut I, row: &str) -> Result<String, Fai
 /// Makes the looks of a table in turn, without a fault. Behind what its look needs, a row has what is
 /// wanted.
 fn looks<I: Index>(alloc: Global, index: &mut I, rows: &str) -> Result<(), Fail> {
-    for row in rows.lines() {
+    'rows: for row in rows.lines() {
         let seen = look(alloc, index, row)?;
         same(row, seen.as_str(), field(row, 3))?;
     }
@@ -127,7 +127,7 @@ pub(crate) fn put(
 /// The files of a table, in memory.
 pub(crate) fn files_of(alloc: Global, rows: &str) -> Result<MemoryStore, Fail> {
     let mut store = MemoryStore::new(alloc);
-    for row in rows.lines() {
+    'rows: for row in rows.lines() {
         put(alloc, &mut store, field(row, 0), field(row, 1))?;
     }
     Ok(store)
@@ -173,7 +173,7 @@ fn look_below(rt: &HostRuntime, folder: &str, name: &str) -> Result<String, Fail
 /// Makes the looks of the table below a folder, which is removed then.
 fn looks_below(rt: &HostRuntime, folder: &str) -> Result<(), Fail> {
     lay_out(rt, folder)?;
-    for row in IN_A_FOLDER.lines() {
+    'rows: for row in IN_A_FOLDER.lines() {
         let seen = look_below(rt, folder, field(row, 0))?;
         same(row, seen.as_str(), field(row, 1))?;
     }

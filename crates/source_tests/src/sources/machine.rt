@@ -91,7 +91,7 @@ fn beside(alloc: Global, path: &str, n: u32) -> Result<String, Fail> {
 
 /// Leaves files beside a file, as runs that are killed do.
 fn leave(rt: &HostRuntime, path: &str) -> Result<(), Fail> {
-    for n in 0..16u32 {
+    'names: for n in 0..16u32 {
         fs::write(rt, beside(rt.alloc(), path, n)?.as_str(), "taken")?;
     }
     Ok(())
@@ -99,7 +99,7 @@ fn leave(rt: &HostRuntime, path: &str) -> Result<(), Fail> {
 
 /// Takes each name beside a file by a folder, which no run leaves.
 fn crowd(rt: &HostRuntime, path: &str) -> Result<(), Fail> {
-    for n in 0..16u32 {
+    'names: for n in 0..16u32 {
         let name = beside(rt.alloc(), path, n)?;
         let _ = fs::remove_file(rt, name.as_str());
         fs::create_dir(rt, name.as_str())?;
@@ -180,7 +180,7 @@ fn steps_below<S: Store>(
     folder: &str,
     rows: &str,
 ) -> Result<(), Fail> {
-    for row in rows.lines() {
+    'rows: for row in rows.lines() {
         let path = format!(in rt.alloc(); "{folder}{}", field(row, 2))?;
         let seen = outcome(rt, store, path.as_str(), row)?;
         same(row, seen.as_str(), field(row, 4))?;

@@ -51,7 +51,7 @@ pub(crate) fn step<S: Store>(
 
 /// Takes the steps of a table in turn. Behind what its step needs, a row has what is wanted.
 pub(crate) fn steps<S: Store>(alloc: Global, store: &mut S, rows: &str) -> Result<(), Fail> {
-    for row in rows.lines() {
+    'rows: for row in rows.lines() {
         let seen = step(alloc, store, field(row, 2), row)?;
         same(row, seen.as_str(), field(row, 4))?;
     }

@@ -66,7 +66,7 @@ a read|read|/||3 Failed to read a file";
 
 #[test]
 fn the_first_call_fails(rt: HostRuntime) -> Result<(), Fail> {
-    for row in FIRST.lines() {
+    'rows: for row in FIRST.lines() {
         let mut store = FaultStore::new(MemoryStore::new(rt.alloc()), 0, 9);
         steps(rt.alloc(), &mut store, row)?;
     }

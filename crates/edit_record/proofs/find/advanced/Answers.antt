@@ -3,7 +3,7 @@ use Rattle.std.specs.Prelude.{option_copied, option_map}
 use Rattle.semver.specs.Identifiers.{parts_of}
 use Rattle.semver.specs.declared.Version.{Version}
 use Rattle.edit_record.specs.Admissible.{is_wanted}
-use Rattle.edit_record.specs.IndexEntry.{entry_of}
+use Rattle.edit_version.specs.IndexEntry.{entry_of}
 use Rattle.edit_version.specs.Requirement.{comparators_of}
 use Rattle.edit_version.specs.RustVersions.{numbers_of}
 use Rattle.edit_record.proofs.Kept.{kept-version}

@@ -4,7 +4,7 @@ use Rattle.edit_base.specs.declared.errors.Error.{Error}
 use Rattle.edit_record.specs.Admissible.{entry_order, is_kept}
 use Rattle.edit_record.specs.Finding.{IsFound, IsFoundAtLeast}
 use Rattle.edit_version.specs.Greatest.{IsGreatestKept}
-use Rattle.edit_record.specs.IndexEntry.{IndexEntry, entry_of}
+use Rattle.edit_version.specs.IndexEntry.{IndexEntry, entry_of}
 use Rattle.edit_version.specs.Laws.{holds_dash}
 use Rattle.edit_version.specs.RustVersions.{Numbers, numbers_of}
 use Rattle.edit_version.specs.Selection.{is_admitted, is_allowed}

@@ -2,10 +2,10 @@ use Rattle.std.proofs.Common.{Option, ap, map, subst}
 use Rattle.std.specs.Prelude.{option_copied, option_map}
 use Rattle.edit_record.specs.Admissible.{entry_order, is_kept, is_wanted}
 use Rattle.edit_version.specs.Greatest.{IsGreatest}
-use Rattle.edit_record.specs.IndexEntry.{IndexEntry, entry_of}
+use Rattle.edit_version.specs.IndexEntry.{IndexEntry, entry_of}
 use Rattle.edit_version.specs.Requirement.{comparators_of}
 use Rattle.edit_version.specs.RustVersions.{numbers_of}
-use Rattle.edit_record.specs.declared.fetch.IndexVersion.{IndexVersion}
+use Rattle.edit_version.specs.declared.fetch.IndexVersion.{IndexVersion}
 use Rattle.edit_record.proofs.Entries.{entry_total}
 use Rattle.edit_version.proofs.Greatests.{advanced-all, advanced-more}
 use Rattle.edit_record.proofs.find.greatest_entry.Goals as goal

@@ -2,7 +2,7 @@ use Rattle.std.proofs.Common.{map, take}
 use Rattle.std.specs.Prelude.{option_copied, option_map}
 use Rattle.edit_record.specs.Admissible.{entry_order, is_kept, is_wanted}
 use Rattle.edit_version.specs.Greatest.{IsGreatest}
-use Rattle.edit_record.specs.IndexEntry.{entry_of}
+use Rattle.edit_version.specs.IndexEntry.{entry_of}
 use Rattle.edit_version.specs.Requirement.{comparators_of}
 use Rattle.edit_version.specs.RustVersions.{numbers_of}
 use Rattle.edit_record.proofs.find.greatest_entry.Given as goal

@@ -1,5 +1,5 @@
 use Rattle.std.proofs.Common.{◌≡◌, take, map}
-use Rattle.edit_record.specs.IndexEntry.{entry_of}
+use Rattle.edit_version.specs.IndexEntry.{entry_of}
 use Rattle.edit_sources.proofs.index.copied.Given as goal
 
 abbrev pub invariant-loop-entry : goal.invariant-loop-entry

@@ -2,7 +2,7 @@ use Rattle.std.proofs.Common.{◌≡◌, ℕ, ◌+◌, List, [], ◌∷◌, ◌+
 use Rattle.std.proofs.lemmas.Iterator.Consumers.{YieldsList-from_enumerate}
 use Rattle.std.proofs.lemmas.Iterator.Splits.{YieldsList-from_slice_split}
 use Rattle.std.proofs.lemmas.List.{map-append}
-use Rattle.edit_record.specs.IndexEntry.{entry_of}
+use Rattle.edit_version.specs.IndexEntry.{entry_of}
 use Rattle.edit_sources.specs.IndexLines.{LinesSay, is_blank, lines_of}
 use Rattle.edit_sources.specs.IndexLines.LinesSay.{none, blank, entry}
 use Rattle.edit_sources.proofs.LineLemmas.{texts, IsTurn, line_turn, line_end}

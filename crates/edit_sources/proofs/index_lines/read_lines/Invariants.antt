@@ -1,5 +1,5 @@
 use Rattle.std.proofs.Common.{map}
-use Rattle.edit_record.specs.IndexEntry.{entry_of}
+use Rattle.edit_version.specs.IndexEntry.{entry_of}
 use Rattle.edit_sources.specs.IndexLines.{LinesSay}
 use Rattle.edit_sources.proofs.index_lines.read_lines.Given as goal
 

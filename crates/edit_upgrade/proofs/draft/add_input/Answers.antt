@@ -4,7 +4,7 @@ use Rattle.std.specs.BTreeSet.{contains_text}
 use Rattle.std.specs.declared.alloc.Global.{Global}
 use Rattle.std.specs.declared.collections.BTreeSet.{BTreeSet}
 use Rattle.std.proofs.lemmas.List.{map-append}
-use Rattle.edit_sources.specs.IndexCache.{index_of}
+use Rattle.edit_cache.specs.IndexCache.{index_of}
 use Rattle.edit_upgrade.specs.Lines.{line_of}
 use Rattle.edit_upgrade.specs.Lists.{warning_view}
 use Rattle.edit_upgrade.specs.Looks.{kept_by}

@@ -1,6 +1,6 @@
 use Rattle.std.proofs.Common.{ap}
 use Rattle.url.specs.Parts.{serialize}
-use Rattle.edit_sources.specs.IndexCache.{index_of, kept_at}
+use Rattle.edit_cache.specs.IndexCache.{index_of, kept_at}
 use Rattle.edit_upgrade.proofs.FetchLemmas.{adds-of, others-of}
 use Rattle.edit_upgrade.proofs.looks.fetch_one.Goals as goal
 

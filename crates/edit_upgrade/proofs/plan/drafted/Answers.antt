@@ -6,7 +6,7 @@ use Rattle.std.proofs.lemmas.List.{take_all}
 use Rattle.std.proofs.lemmas.List.Elements.{All-nil, All-push}
 use Rattle.edit_tree.specs.Shown.{Shown}
 use Rattle.edit_metadata.specs.declared.input.Input.{Input}
-use Rattle.edit_sources.specs.IndexCache.{index_of}
+use Rattle.edit_cache.specs.IndexCache.{index_of}
 use Rattle.edit_sources.specs.declared.config.Config.{Config}
 use Rattle.edit_upgrade.specs.Drafts.{IsDraft}
 use Rattle.edit_upgrade.specs.Looks.{kept_by}

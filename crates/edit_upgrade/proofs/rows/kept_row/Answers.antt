@@ -2,8 +2,8 @@ use Rattle.std.proofs.Common.{List, ℕ, Option, ap, subst, sym}
 use Rattle.std.specs.Prelude.{option_copied, option_map}
 use Rattle.std.proofs.lemmas.Result.{IfOk-weaker}
 use Rattle.edit_version.specs.RustVersions.{numbers_of}
-use Rattle.edit_sources.specs.IndexCache.{kept_at, ranking_at}
-use Rattle.edit_sources.specs.declared.ranking.Ranked.{Ranked}
+use Rattle.edit_cache.specs.IndexCache.{kept_at, ranking_at}
+use Rattle.edit_cache.specs.declared.ranking.Ranked.{Ranked}
 use Rattle.url.specs.Parts.{serialize}
 use Rattle.edit_upgrade.specs.Found.{seen_of}
 use Rattle.edit_upgrade.specs.Lines.{line_of}

@@ -2,7 +2,7 @@ use Rattle.std.proofs.Common.{◌∙◌, ap, subst, sym}
 use Rattle.std.specs.Prelude.{option_copied, option_map}
 use Rattle.edit_version.specs.RustVersions.{numbers_of}
 use Rattle.edit_sources.specs.Configured.{given}
-use Rattle.edit_sources.specs.IndexCache.{index_of}
+use Rattle.edit_cache.specs.IndexCache.{index_of}
 use Rattle.edit_upgrade.specs.Found.{seen_of}
 use Rattle.edit_upgrade.specs.Lines.{line_of}
 use Rattle.edit_upgrade.specs.Looked.{Leaves}

@@ -6,7 +6,7 @@ use Rattle.std.proofs.lemmas.List.{map-append, take_all}
 use Rattle.std.specs.Prelude.{All}
 use Rattle.std.proofs.lemmas.List.Elements.{All-nil, All-push}
 use Rattle.edit_version.specs.RustVersions.{numbers_of}
-use Rattle.edit_sources.specs.IndexCache.{index_of}
+use Rattle.edit_cache.specs.IndexCache.{index_of}
 use Rattle.edit_upgrade.specs.Found.{seen_of}
 use Rattle.edit_upgrade.specs.Lines.{line_of}
 use Rattle.edit_upgrade.specs.Causes.{IsPassed}

@@ -1,7 +1,7 @@
 use Rattle.std.proofs.Common.{map, take}
 use Rattle.std.specs.Prelude.{All, option_map}
 use Rattle.edit_version.specs.RustVersions.{numbers_of}
-use Rattle.edit_sources.specs.IndexCache.{index_of}
+use Rattle.edit_cache.specs.IndexCache.{index_of}
 use Rattle.edit_upgrade.specs.Addresses.{AreAddresses}
 use Rattle.edit_upgrade.specs.Found.{seen_of}
 use Rattle.edit_upgrade.specs.Lines.{line_of}

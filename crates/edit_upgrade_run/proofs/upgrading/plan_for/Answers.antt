@@ -1,6 +1,6 @@
 use Rattle.std.proofs.Common.{List, ap, length, refl, subst}
 use Rattle.edit_sources.specs.FileIndex.{FileGives}
-use Rattle.edit_sources.specs.IndexCache.{index_of}
+use Rattle.edit_cache.specs.IndexCache.{index_of}
 use Rattle.edit_upgrade.specs.Causes.{IsEntryCause}
 use Rattle.edit_upgrade.specs.Inputs.{path_of, rows_of, setting_of}
 use Rattle.edit_upgrade.specs.Looks.{kept_by}

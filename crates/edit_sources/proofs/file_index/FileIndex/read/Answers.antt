@@ -2,9 +2,9 @@ use Rattle.std.proofs.Common.{◌≡◌, ℕ, List, [], ◌∷◌, Bool, true, f
 use Rattle.std.specs.Prelude.{string_bytes}
 use Rattle.std.specs.List.{filter}
 use Rattle.std.specs.Str.{bytes_eq}
-use Rattle.edit_record.specs.IndexEntry.{IndexEntry}
-use Rattle.edit_record.specs.IndexEntry.{entry_of}
-use Rattle.edit_record.specs.declared.fetch.IndexVersion.{IndexVersion}
+use Rattle.edit_version.specs.IndexEntry.{IndexEntry}
+use Rattle.edit_version.specs.IndexEntry.{entry_of}
+use Rattle.edit_version.specs.declared.fetch.IndexVersion.{IndexVersion}
 use Rattle.edit_sources.proofs.file_index.FileIndex.read.Goals as goal
 
 map-cond : (b : Bool) (x : IndexVersion) (xs : List IndexVersion) (es : List IndexEntry)

@@ -1,0 +1,3 @@
+pub mod ToldRanks
+pub mod FirstLemmas
+pub mod RankLemmas

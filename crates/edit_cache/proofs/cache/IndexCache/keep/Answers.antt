@@ -1,0 +1,18 @@
+use Rattle.std.proofs.Common.{arith}
+use Rattle.std.proofs.lemmas.Map.Text.{text_keys}
+use Rattle.edit_cache.proofs.cache.IndexCache.keep.Goals as goal
+
+pub returns-in_err-insert-clause-refused : goal.returns-in_err-insert-clause-refused
+returns-in_err-insert-clause-refused g c = grind (arith, text_keys)
+
+pub returns-in-Some-clause-kept : goal.returns-in-Some-clause-kept
+returns-in-Some-clause-kept g c = grind (arith, text_keys)
+
+pub returns-in-Some-clause-others : goal.returns-in-Some-clause-others
+returns-in-Some-clause-others g c = λ address name other. grind (arith, text_keys)
+
+pub returns-clause-others : goal.returns-clause-others
+returns-clause-others g c = grind (arith, text_keys)
+
+pub returns-in_err-insert-clause-others : goal.returns-in_err-insert-clause-others
+returns-in_err-insert-clause-others g c = λ address name other. grind (arith, text_keys)

@@ -1,0 +1,82 @@
+-- The answers of an index that are kept: a finite map from address and name to the first answer (own).
+use Rattle.std.specs.Prelude.{◌≡◌, ◌≢◌, ℕ, ◌⊎◌, List, Option, None, Bool, option_map, option_and_then, string_bytes, Result, Ok, Err, IsOk, IsSome, IfSome, IfErr, OnOk, OnErr}
+use Rattle.std.specs.List.{list_any}
+use Rattle.std.specs.Str.{bytes_eq}
+use Rattle.std.specs.BTreeMap.{get_by_text}
+use Rattle.url.specs.Parts.{Parts, serialize}
+use Rattle.edit_base.specs.declared.errors.Error.{Error}
+use Rattle.edit_base.specs.Errors.{number_of, IsMemory}
+use Rattle.edit_sources.specs.Index.{IndexView, Outcomes, SameOutcomes, HasLookCause, IsLookRefusal, answer_of}
+use Rattle.edit_sources.specs.declared.index.IndexKrate.{IndexKrate}
+use Rattle.edit_cache.specs.Kept.{IsRanked}
+use Rattle.edit_cache.specs.declared.cache.IndexCache.{IndexCache}
+use Rattle.edit_cache.specs.declared.kept.Kept.{Kept}
+use Rattle.edit_cache.specs.declared.ranking.Ranked.{Ranked}
+
+-- the index that is asked where no answer is kept (own)
+abbrev pub index_of : {I : Type 0} → IndexCache I → I
+index_of cache = cache.index
+
+-- what is kept at an address and a name: an answer, and its ranking once it was asked for (own)
+abbrev pub told_at : {I : Type 0} → IndexCache I → List ℕ → List ℕ → Option Kept
+told_at cache address name =
+    option_and_then (λ names. get_by_text names name) (get_by_text cache.answers address)
+
+-- the answer that is kept at an address and a name, if one is (own)
+abbrev pub kept_at : {I : Type 0} → IndexCache I → List ℕ → List ℕ → Option (Option IndexKrate)
+kept_at cache address name = option_map (λ kept. kept.answer) (told_at cache address name)
+
+-- the entries that are kept at an address and a name: none where no answer is, or the answer is none (own)
+abbrev pub krate_at : {I : Type 0} → IndexCache I → List ℕ → List ℕ → Option IndexKrate
+krate_at cache address name = option_and_then (λ krate. krate) (kept_at cache address name)
+
+-- each kept answer is the one that was (own)
+abbrev pub SameKept : {I : Type 0} → IndexCache I → IndexCache I → Type 0
+SameKept old new = (address name : List ℕ) → kept_at new address name ≡ kept_at old address name
+
+-- each other answer is the one that was (own)
+abbrev pub SameKeptBut : {I : Type 0} → List ℕ → List ℕ → IndexCache I → IndexCache I → Type 0
+SameKeptBut at of old new = (address name : List ℕ) → (address ≢ at) ⊎ (name ≢ of)
+    → kept_at new address name ≡ kept_at old address name
+
+-- whether an entry of this version's text stands among them (own)
+abbrev pub has_version : IndexKrate → List ℕ → Bool
+has_version krate version = list_any (λ v. bytes_eq (string_bytes v.version) version) krate.versions.items
+
+-- a call that sees to it that an answer is kept: it changes nothing where one is; else it makes one look,
+-- adds a successful answer and keeps no refusal (own)
+pub record Fetches {I T : Type 0} (seen now : IndexView) (address : Parts) (name : List ℕ)
+    (old new : IndexCache I) (result : Result T Error) : Type 0 where
+  pub kept : OnOk result (IsSome (kept_at new (serialize address) name))
+  pub first : IsSome (kept_at old (serialize address) name) → (new ≡ old) × IsOk result
+  pub others : SameKeptBut (serialize address) name old new
+  pub refused : OnErr result (SameKept old new)
+  pub given : kept_at old (serialize address) name ≡ None
+      → OnOk result (IfSome (kept_at new (serialize address) name)
+      (λ k. seen.gives address name (Ok (answer_of k))))
+  pub same : SameOutcomes seen.gives now.gives
+  pub cause : HasLookCause seen now address name result
+
+-- the ranking that is kept at an address and a name, if one is (own)
+abbrev pub ranking_at : {I : Type 0} → IndexCache I → List ℕ → List ℕ → Option Ranked
+ranking_at cache address name = option_and_then (λ kept. kept.ranked) (told_at cache address name)
+
+-- a call that sees to it that an answer and its ranking are kept: it looks as `Fetches` does, and a refusal
+-- for want of memory leaves the answer (own)
+pub record Ranks {I T : Type 0} (seen now : IndexView) (address : Parts) (name : List ℕ)
+    (old new : IndexCache I) (result : Result T Error) : Type 0 where
+  pub ranked : OnOk result (IfSome (kept_at new (serialize address) name)
+      (λ k. IsRanked k (ranking_at new (serialize address) name)))
+  pub kept : OnOk result (IsSome (kept_at new (serialize address) name))
+  pub first : IsSome (kept_at old (serialize address) name) → SameKept old new × IfErr result IsMemory
+  pub others : SameKeptBut (serialize address) name old new
+  pub given : kept_at old (serialize address) name ≡ None → IfSome (kept_at new (serialize address) name)
+      (λ k. seen.gives address name (Ok (answer_of k)))
+  pub same : SameOutcomes seen.gives now.gives
+  pub cause : HasLookCause seen now address name result
+
+-- why an answer is not told: want of memory, or, where none was kept, a refusal that the index gives or a
+-- fault of its device (own)
+abbrev pub IsMissed : Outcomes → Parts → List ℕ → Option (Option IndexKrate) → Error → Type 0
+IsMissed gives address name kept e = IsMemory e ⊎ ((kept ≡ None)
+    × ((IsLookRefusal (number_of e) × gives address name (Err (number_of e))) ⊎ (number_of e ≡ 3)))

@@ -1,0 +1,3 @@
+pub mod Ranking
+pub mod Kept
+pub mod IndexCache

@@ -1,0 +1,80 @@
+-- The entries of an answer ranked by their versions, the greatest first (own).
+use Rattle.std.specs.Prelude.{◌≡◌, ℕ, ◌+◌, ◌==◌, ◌&&◌, List, [], ◌∷◌, ◌++◌, map, Option, Some, Bool, true, not, IsSome, option_map, option_and_then, option_to_list, slice_get, string_bytes, All}
+use Rattle.std.specs.List.{AllPairs, list_any}
+use Rattle.std.specs.Ordering.{nat_cmp, ordering_then}
+use Rattle.std.specs.declared.cmp.Ordering.{Ordering}
+use Rattle.std.specs.declared.cmp.Ordering.TheVariants.{Less}
+use Rattle.semver.specs.Identifiers.{parts_of}
+use Rattle.semver.specs.Parse.{Parts}
+use Rattle.edit_record.specs.Admissible.{candidate_in, is_too_new}
+use Rattle.edit_version.specs.IndexEntry.{IndexEntry}
+use Rattle.edit_version.specs.RustVersions.{Numbers, numbers_of}
+use Rattle.edit_version.specs.VersionOrder.{full_order}
+use Rattle.edit_cache.specs.declared.ranking.Rank.{Rank}
+use Rattle.edit_cache.specs.declared.ranking.Ranked.{Ranked}
+
+-- an entry of an answer: its place there, its name, and the versions that were read of it (own)
+pub record Ranking : Type 0 where
+  pub place : ℕ
+  pub name : List ℕ
+  pub version : Parts
+  pub rust_version : Option Numbers
+
+-- a rank, as clauses see it (own)
+abbrev pub rank_of : Rank → Ranking
+rank_of r = record {
+  place = r.place.0;
+  name = string_bytes r.name;
+  version = parts_of r.version.0;
+  rust_version = option_map numbers_of r.rust_version;
+}
+
+-- the ranks of a ranking, from the first (own)
+abbrev pub ranks_of : Ranked → List Ranking
+ranks_of ranked = map rank_of ranked.ranks.items
+
+-- the greater version comes first, and among equals the later entry (own)
+abbrev pub rank_order : Ranking → Ranking → Ordering
+rank_order a b = ordering_then (full_order b.version a.version) (nat_cmp b.place a.place)
+
+-- a rank that tells the name of the entry at its place, and what is read of it (own)
+pub record Tells (entries : List IndexEntry) (r : Ranking) : Type 0 where
+  pub named : option_map (λ e. e.name) (slice_get entries r.place) ≡ Some r.name
+  pub read : option_and_then candidate_in (slice_get entries r.place) ≡ Some (r.version, r.rust_version)
+
+-- each entry that is readable and not yanked has a rank (own)
+abbrev pub HasEach : List IndexEntry → List Ranking → Type 0
+HasEach entries ranks = (i : ℕ) → IsSome (option_and_then candidate_in (slice_get entries i))
+    → list_any (λ r. r.place == i) ranks ≡ true
+
+-- each rank comes before each later one, so that no entry has two (own)
+abbrev pub IsInOrder : List Ranking → Type 0
+IsInOrder ranks = AllPairs (λ a b. rank_order a b ≡ Less) ranks
+
+-- the ranking of entries: those that are readable and not yanked, each once, in that order (own)
+pub record IsRanking (entries : List IndexEntry) (ranks : List Ranking) : Type 0 where
+  pub tells : All (Tells entries) ranks
+  pub each : HasEach entries ranks
+  pub order : IsInOrder ranks
+
+-- what holds of each list of entries of which this is the ranking (own)
+abbrev pub OfEntries : Ranked → (List IndexEntry → Type 0) → Type 0
+OfEntries ranked P = (entries : List IndexEntry) → IsRanking entries (ranks_of ranked) → P entries
+
+-- whether a rank is for a Rust version and passes a test of its version (own)
+abbrev pub passes : Option Numbers → (Parts → Bool) → Ranking → Bool
+passes rust test r = not (is_too_new r.rust_version rust) && test r.version
+
+-- an entry at a place, with what is read of it (own)
+abbrev pub ranking : ℕ → IndexEntry → Parts × Option Numbers → Ranking
+ranking place entry read =
+    record { place = place; name = entry.name; version = read.0; rust_version = read.1 }
+
+-- the rank of an entry, if it is readable and not yanked (own)
+abbrev pub rank_at : ℕ → IndexEntry → List Ranking
+rank_at place entry = option_to_list (option_map (ranking place entry) (candidate_in entry))
+
+-- the ranks of entries in their order, the first of which stands at a place (own)
+abbrev pub ranks_from : ℕ → List IndexEntry → List Ranking
+ranks_from place [] = []
+ranks_from place (entry ∷ entries) = rank_at place entry ++ ranks_from (place + 1) entries

@@ -1,0 +1,283 @@
+//! The answers of an index that are kept.
+ghost use Rattle.std.specs.Prelude.{◌≡◌, ◌≢◌, ◌⊎◌, ◌↔◌, ℕ, List, Some, None, Ok, IsOk, IsSome, IsTrue, IfOk, IfErr, IfSome, OnOk, OnErr, Option, option_and_then, option_map, option_copied};
+ghost use Rattle.std.specs.BTreeMap.{get_by_text};
+ghost use Rattle.url.specs.Parts.{serialize};
+ghost use Rattle.edit_base.specs.Errors.{IsMemory};
+ghost use Rattle.edit_sources.specs.Index.{answer_of};
+ghost use Rattle.edit_cache.specs.IndexCache.{Fetches, IsMissed, Ranks, SameKept, SameKeptBut, has_version, index_of, kept_at, krate_at, ranking_at, told_at};
+ghost use Rattle.edit_cache.specs.Kept.{IsRanked, IsRankedAt};
+
+use crate::kept::Kept;
+use crate::ranking::Ranked;
+use edit_base::errors::CargoResult;
+use edit_sources::index::{Index, IndexKrate};
+use std::alloc::Global;
+use std::collections::BTreeMap;
+use std::mem;
+use url::Url;
+
+/// The answers of an index that are kept: what it gave for an address and a name at the first
+/// successful look since the last `update_krate`.
+#[derive(Debug, Drop)]
+pub struct IndexCache<I> {
+    index: I,
+    answers: BTreeMap<String, BTreeMap<String, Kept>>,
+}
+
+impl<I: Index> IndexCache<I> {
+    /// A cache that keeps no answer yet.
+    pub fn new(alloc: Global, index: I) -> IndexCache<I>
+        ensures index { index_of result ≡ index }
+        ensures empty { (address name : List ℕ) → kept_at result address name ≡ None }
+    {
+        IndexCache {
+            index,
+            answers: BTreeMap::new(alloc),
+        }
+    }
+
+    /// Puts another index in the place of this one, which is handed back. The answers stay.
+    pub fn replace_index(&mut self, index: I) -> I
+        ensures was { result ≡ index_of self.old }
+        ensures is { index_of self.new ≡ index }
+        ensures kept { SameKept self.old self.new }
+    {
+        mem::replace(&mut self.index, index)
+    }
+
+    /// The entries that are kept; none where no answer is, or where the index has no such name.
+    pub fn shown(&self, registry: &Url, name: &str) -> Option<&IndexKrate>
+        ensures { option_copied result ≡ krate_at self.now (serialize registry.now) name.now }
+    {
+        match self.kept(registry.as_str(), name) {
+            Some(kept) => kept.answer.as_ref(),
+            None => None,
+        }
+    }
+
+    /// The answer that is kept, if one is.
+    fn kept(&self, address: &str, name: &str) -> Option<&Kept>
+        ensures { option_copied result ≡ told_at self.now address.now name.now }
+    {
+        self.answers.get(address)?.get(name)
+    }
+
+    /// Forgets the answer for a name. It takes no memory and is never refused.
+    pub fn update_krate(&mut self, registry: &Url, name: &str) -> CargoResult<()>
+        ensures done { result ≡ Ok tt }
+        ensures index { index_of self.new ≡ index_of self.old }
+        ensures forgotten { kept_at self.new (serialize registry.now) name.now ≡ None }
+        ensures others { SameKeptBut (serialize registry.now) name.now self.old self.new }
+    {
+        self.forget(registry.as_str(), name);
+        Ok(())
+    }
+
+    /// Forgets the answer at an address.
+    fn forget(&mut self, address: &str, name: &str)
+        ensures index { self.new.index ≡ self.old.index }
+        ensures forgotten { kept_at self.new address.now name.now ≡ None }
+        ensures others { SameKeptBut address.now name.now self.old self.new }
+    {
+        if let Some(names) = self.answers.get_mut(address) {
+            names.remove(name);
+        }
+    }
+
+    /// Keeps an answer.
+    fn keep(
+        &mut self,
+        alloc: Global,
+        address: &str,
+        name: &str,
+        answer: Option<IndexKrate>,
+    ) -> CargoResult<()>
+        ensures index { self.new.index ≡ self.old.index }
+        ensures kept { OnOk result (kept_at self.new address.now name.now ≡ Some answer) }
+        ensures others { SameKeptBut address.now name.now self.old self.new }
+        ensures refused { OnErr result (SameKept self.old self.new) }
+        ensures memory { IfErr result IsMemory }
+    {
+        let key = String::from_str(alloc, name)?;
+        let kept = Kept::new(answer);
+        if let Some(names) = self.answers.get_mut(address) {
+            names.insert(key, kept)?;
+            return Ok(());
+        }
+        let address = String::from_str(alloc, address)?;
+        let mut names = BTreeMap::new(alloc);
+        names.insert(key, kept)?;
+        self.answers.insert(address, names)?;
+        Ok(())
+    }
+
+    /// Sees to it that an answer for a name is kept, which `shown` then tells.
+    ///
+    /// Refused as a look of the index is, or for want of memory; then no answer is added.
+    pub fn fetch(&mut self, alloc: Global, registry: &Url, name: &str) -> CargoResult<()>
+        ensures { Fetches (I.view (index_of self.old)) (I.view
+            (index_of self.new)) registry.now name.now self.old self.new result }
+    {
+        if self.kept(registry.as_str(), name).is_some() {
+            return Ok(());
+        }
+        let answer = match self.index.look(alloc, registry, name) {
+            Ok(answer) => answer,
+            Err(error) => return Err(error),
+        };
+        self.keep(alloc, registry.as_str(), name, answer)
+    }
+
+    /// The entries of a name; none where the index has no such name. It is `fetch` and `shown`.
+    pub fn krate(
+        &mut self,
+        alloc: Global,
+        registry: &Url,
+        name: &str,
+    ) -> CargoResult<Option<&IndexKrate>>
+        ensures kept { IfOk result (λ o. IfSome (kept_at self.old (serialize registry.now) name.now)
+            (λ k. option_copied o ≡ k)) }
+        ensures given { kept_at self.old (serialize registry.now) name.now ≡ None → IfOk result
+            (λ o. (I.view (index_of self.old)).gives registry.now name.now (Ok (answer_of
+            (option_copied o)))) }
+        // a kept answer is never refused
+        ensures kept_answers { IsSome (kept_at self.old (serialize registry.now) name.now) → IsOk result }
+        ensures refused { IfErr result (IsMissed (I.view (index_of self.old)).gives registry.now name.now
+            (kept_at self.old (serialize registry.now) name.now)) }
+    {
+        match self.fetch(alloc, registry, name) {
+            Ok(()) => Ok(self.shown(registry, name)),
+            Err(error) => Err(error),
+        }
+    }
+
+    /// Whether the index has a name.
+    pub fn has_krate(&mut self, alloc: Global, registry: &Url, name: &str) -> CargoResult<bool>
+        ensures answer { IfOk result (λ b. IsTrue b
+            ↔ IsSome (krate_at self.new (serialize registry.now) name.now)) }
+        ensures fetched { Fetches (I.view (index_of self.old)) (I.view
+            (index_of self.new)) registry.now name.now self.old self.new result }
+    {
+        match self.fetch(alloc, registry, name) {
+            Ok(()) => Ok(self.shown(registry, name).is_some()),
+            Err(error) => Err(error),
+        }
+    }
+
+    /// Whether the index has a version of a name, by its text; none where it has no such name.
+    pub fn has_krate_version(
+        &mut self,
+        alloc: Global,
+        registry: &Url,
+        name: &str,
+        version: &str,
+    ) -> CargoResult<Option<bool>>
+        ensures answer { IfOk result (λ b. b ≡ option_map (λ k. has_version k version.now)
+            (krate_at self.new (serialize registry.now) name.now)) }
+        ensures fetched { Fetches (I.view (index_of self.old)) (I.view
+            (index_of self.new)) registry.now name.now self.old self.new result }
+    {
+        match self.fetch(alloc, registry, name) {
+            Ok(()) => Ok(holds_version(self.shown(registry, name), version)),
+            Err(error) => Err(error),
+        }
+    }
+
+    /// Sees to it that an answer for a name and its ranking are kept, which `shown_ranking` tells.
+    ///
+    /// Refused as `fetch` is. Want of memory while ranking leaves the answer and no ranking; a later
+    /// call ranks.
+    pub fn rank(&mut self, alloc: Global, registry: &Url, name: &str) -> CargoResult<()>
+        ensures { Ranks (I.view (index_of self.old)) (I.view
+            (index_of self.new)) registry.now name.now self.old self.new result }
+    {
+        match self.fetch(alloc, registry, name) {
+            Ok(()) => self.rank_kept(alloc, registry, name),
+            Err(error) => Err(error),
+        }
+    }
+
+    /// Ranks the answer that is kept for a name, once, which `shown_ranking` then tells; it makes no look.
+    pub fn rank_kept(&mut self, alloc: Global, registry: &Url, name: &str) -> CargoResult<()>
+        ensures index { index_of self.new ≡ index_of self.old }
+        ensures kept { SameKept self.old self.new }
+        ensures ranked { OnOk result (IsRankedAt (kept_at self.new (serialize registry.now) name.now)
+            (ranking_at self.new (serialize registry.now) name.now)) }
+        ensures refused { IfErr result IsMemory }
+    {
+        self.rank_at(alloc, registry.as_str(), name)
+    }
+
+    /// The same by the text of an address.
+    fn rank_at(&mut self, alloc: Global, address: &str, name: &str) -> CargoResult<()>
+        ensures index { self.new.index ≡ self.old.index }
+        ensures kept { SameKept self.old self.new }
+        ensures ranked { OnOk result (IsRankedAt (kept_at self.new address.now name.now)
+            (ranking_at self.new address.now name.now)) }
+        ensures refused { IfErr result IsMemory }
+    {
+        let Some(names) = self.answers.get_mut(address) else {
+            return Ok(());
+        };
+        match names.get_mut(name) {
+            Some(kept) => kept.rank(alloc),
+            None => Ok(()),
+        }
+    }
+
+    /// The ranking that is kept; none where no answer was ranked, or the index has no such name.
+    pub fn shown_ranking(&self, registry: &Url, name: &str) -> Option<&Ranked>
+        ensures { option_copied result ≡ ranking_at self.now (serialize registry.now) name.now }
+    {
+        match self.kept(registry.as_str(), name) {
+            Some(kept) => kept.ranked.as_ref(),
+            None => None,
+        }
+    }
+
+    /// The ranking of the entries of a name; none where the index has no such name. It is `rank` and
+    /// `shown_ranking`.
+    pub fn ranked(
+        &mut self,
+        alloc: Global,
+        registry: &Url,
+        name: &str,
+    ) -> CargoResult<Option<&Ranked>>
+        ensures kept { IfOk result (λ o. IfSome (kept_at self.old (serialize registry.now) name.now)
+            (λ k. IsRanked k (option_copied o))) }
+        ensures given { kept_at self.old (serialize registry.now) name.now ≡ None → IfOk result
+            (λ o. (k : Option IndexKrate)
+            × (I.view (index_of self.old)).gives registry.now name.now (Ok (answer_of k))
+            × IsRanked k (option_copied o)) }
+        // a kept answer is refused only for want of memory while it is ranked
+        ensures kept_answers { IsSome (kept_at self.old (serialize registry.now) name.now)
+            → IfErr result IsMemory }
+        ensures refused { IfErr result (IsMissed (I.view (index_of self.old)).gives registry.now name.now
+            (kept_at self.old (serialize registry.now) name.now)) }
+    {
+        match self.rank(alloc, registry, name) {
+            Ok(()) => Ok(self.shown_ranking(registry, name)),
+            Err(error) => Err(error),
+        }
+    }
+}
+
+/// Whether one of the entries has a version of this text; none where there are no entries.
+fn holds_version(krate: Option<&IndexKrate>, version: &str) -> Option<bool>
+    ensures { result ≡ option_map (λ k. has_version k version.now) (option_copied krate.entry) }
+{
+    match krate {
+        Some(krate) => Some(is_among(krate, version)),
+        None => None,
+    }
+}
+
+/// Whether one of the entries has a version of this text.
+fn is_among(krate: &IndexKrate, version: &str) -> bool
+    ensures { result ≡ has_version krate.now version.now }
+{
+    krate
+        .versions
+        .iter()
+        .any(|entry| entry.version.as_str() == version)
+}

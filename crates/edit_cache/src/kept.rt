@@ -1,0 +1,45 @@
+//! An answer that is kept, with its ranking once it was asked for.
+ghost use Rattle.std.specs.Prelude.{◌≡◌, IfErr, OnOk, OnErr};
+ghost use Rattle.edit_base.specs.Errors.{IsMemory};
+ghost use Rattle.edit_cache.specs.Kept.{FitsAnswer, FitsAnswer-prop, IsRanked};
+
+use crate::ranking::Ranked;
+use edit_base::errors::CargoResult;
+use edit_sources::index::IndexKrate;
+use std::alloc::Global;
+
+/// An answer of an index, and the ranking of its entries.
+#[derive(Debug, Drop)]
+pub struct Kept {
+    pub answer: Option<IndexKrate>,
+    pub ranked: Option<Ranked>,
+    pub ghost fits: { FitsAnswer answer ranked } by { FitsAnswer-prop answer ranked },
+}
+
+impl Kept {
+    /// An answer that was not ranked yet.
+    pub(crate) fn new(answer: Option<IndexKrate>) -> Kept
+        ensures answer { result.answer ≡ answer }
+    {
+        Kept {
+            answer,
+            ranked: None,
+        }
+    }
+
+    /// Ranks the entries, once.
+    pub(crate) fn rank(&mut self, alloc: Global) -> CargoResult<()>
+        ensures answer { self.new.answer ≡ self.old.answer }
+        ensures ranked { OnOk result (IsRanked self.new.answer self.new.ranked) }
+        ensures refused { IfErr result IsMemory }
+    {
+        if self.ranked.is_some() {
+            return Ok(());
+        }
+        if let Some(krate) = &self.answer {
+            let ranked = Ranked::new(alloc, &krate.versions)?;
+            self.ranked = Some(ranked);
+        }
+        Ok(())
+    }
+}

@@ -1,0 +1,9 @@
+//! The answers of an index that are kept, ranked once each.
+#![tactic(auto)]
+
+pub mod cache;
+mod kept;
+pub mod ranking;
+
+pub use cache::IndexCache;
+pub use ranking::Ranked;

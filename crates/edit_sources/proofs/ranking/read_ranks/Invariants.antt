@@ -1,7 +1,0 @@
-use Rattle.std.proofs.Common.{◌≡◌, map, take}
-use Rattle.edit_record.specs.IndexEntry.{entry_of}
-use Rattle.edit_sources.specs.Ranking.{rank_of, ranks_from}
-use Rattle.edit_sources.proofs.ranking.read_ranks.Given as goal
-
-abbrev pub invariant-loop-place : goal.invariant-loop-place
-invariant-loop-place l = map rank_of l.ranks.items ≡ ranks_from 0 (map entry_of (take l.place l.entries))
