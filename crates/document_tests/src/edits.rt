@@ -15,10 +15,10 @@ pub(crate) fn parted(words: &str) -> (&str, &str) {
     words.split_once(' ').unwrap_or((words, ""))
 }
 
-/// The strings of a list, which stand with commas between them; none of the empty text.
-fn listed(alloc: Global, words: &str) -> Result<Vec<String>, AllocError> {
+/// The strings of a list, which stand with a sign between them; none of the empty text.
+pub(crate) fn listed(alloc: Global, words: &str, sign: char) -> Result<Vec<String>, AllocError> {
     let mut strings = Vec::new(alloc);
-    'words: for word in words.split_terminator(',') {
+    'words: for word in words.split_terminator(sign) {
         strings.push(String::from_str(alloc, word)?)?;
     }
     Ok(strings)
@@ -27,7 +27,7 @@ fn listed(alloc: Global, words: &str) -> Result<Vec<String>, AllocError> {
 /// A new value: a list behind a bracket, a truth for its word, or a string.
 fn value_of(alloc: Global, words: &str) -> Result<NewValue, AllocError> {
     if let Some(words) = words.strip_prefix("[") {
-        return Ok(NewValue::Strings(listed(alloc, words)?));
+        return Ok(NewValue::Strings(listed(alloc, words, ',')?));
     }
     match words {
         "true" => Ok(NewValue::Bool(true)),
@@ -156,12 +156,18 @@ fn done(
     }
 }
 
+/// The pieces of a document with a text between them.
+fn joined(alloc: Global, document: &Document, between: &str) -> Result<String, AllocError> {
+    let mut pieces = Vec::new(alloc);
+    'numbers: for number in 0..document.pieces() {
+        pieces.push(document.piece(number).unwrap_or("none"))?;
+    }
+    pieces.join(alloc, between)
+}
+
 /// Whether the pieces joined are the text, and at most two more than before.
 fn pieces_hold(alloc: Global, document: &Document, before: usize) -> Result<bool, AllocError> {
-    let mut joined = String::new(alloc);
-    'numbers: for number in 0..document.pieces() {
-        joined.push_str(document.piece(number).unwrap_or("none"))?;
-    }
+    let joined = joined(alloc, document, "")?;
     let is_text = joined.as_str() == document.as_str();
     Ok(is_text && document.pieces().saturating_sub(before) <= 2)
 }
@@ -212,15 +218,9 @@ pub(crate) fn edited(alloc: Global, calls: &str, argument: &str) -> Result<Strin
     }
 }
 
-/// The pieces of a document.
+/// The pieces of a document with carets between them.
 fn pieces_of(alloc: Global, document: &Document) -> Result<String, AllocError> {
-    let mut out = String::new(alloc);
-    'numbers: for number in 0..document.pieces() {
-        if number > 0 {
-            out.push_str("^")?;
-        }
-        out.push_str(document.piece(number).unwrap_or("none"))?;
-    }
+    let mut out = joined(alloc, document, "^")?;
     if document.piece(document.pieces()).is_some() {
         out.push_str("^one more")?;
     }

@@ -71,7 +71,7 @@ Try adding `--workspace`.|38|~\
 
 /// The number and the text of the refusal of a row.
 fn text(alloc: Global, number: &str, parts: &str) -> Result<String, Fail> {
-    let error = refusal(alloc, number, parts)?;
+    let error = refusal(alloc, number.parse().unwrap_or(0), parts)?;
     told(alloc, error)
 }
 

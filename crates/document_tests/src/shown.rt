@@ -4,10 +4,15 @@ use std::alloc::{AllocError, Global};
 use std::test::Fail;
 use test_rows::text;
 
+/// The index that stands behind a number sign; none where a step is a key.
+fn index_of(step: &str) -> Option<usize> {
+    Some(step.strip_prefix("#")?.parse().unwrap_or(99))
+}
+
 /// A step: an index behind a number sign, or a key.
 fn step_of(alloc: Global, step: &str) -> Result<Step, AllocError> {
-    match step.strip_prefix("#") {
-        Some(index) => Ok(Step::Index(index.parse().unwrap_or(99))),
+    match index_of(step) {
+        Some(index) => Ok(Step::Index(index)),
         None => Ok(Step::Key(String::from_str(alloc, step)?)),
     }
 }
@@ -23,8 +28,8 @@ pub(crate) fn place_of(alloc: Global, place: &str) -> Result<Vec<Step>, AllocErr
 
 /// What stands one step further.
 fn stepped<'a>(item: Item<'a>, step: &str) -> Option<Item<'a>> {
-    match step.strip_prefix("#") {
-        Some(index) => item.at(index.parse().unwrap_or(99)),
+    match index_of(step) {
+        Some(index) => item.at(index),
         None => item.get(step),
     }
 }

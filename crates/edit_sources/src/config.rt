@@ -7,6 +7,7 @@ ghost use Rattle.edit_sources.specs.Configuration as said;
 ghost use Rattle.edit_sources.specs.Configuration.{Configuration, Says, SaysNothing, configuration_of, entries_of, table_of};
 ghost use Rattle.edit_sources.specs.Configured.{IsConfigRefusal, configuration, registry_entry, source_entry, source_view};
 
+use crate::index_lines::copied;
 use edit_base::{CargoResult, Error};
 use std::alloc::{AllocError, Global};
 use toml::{Table, Value};
@@ -33,16 +34,6 @@ pub struct ConfigSource {
     pub registry: Option<String>,
     /// `replace-with`, the key of the source that replaces this one.
     pub replace_with: Option<String>,
-}
-
-/// A copy of a text that need not be there.
-fn copied(alloc: Global, text: Option<&str>) -> Result<Option<String>, AllocError>
-    ensures { IfOk result (λ c. option_map string_bytes c ≡ option_map (λ t. t.now) text.entry) }
-{
-    match text {
-        Some(text) => Ok(Some(String::from_str(alloc, text)?)),
-        None => Ok(None),
-    }
 }
 
 /// The value at a key of a table.

@@ -51,7 +51,7 @@ fn rust_version<'a>(value: Option<&'a Value>) -> Option<Option<&'a str>>
 }
 
 /// A text that need not be there, on memory of its own.
-fn copied(alloc: Global, text: Option<&str>) -> Result<Option<String>, AllocError>
+pub(crate) fn copied(alloc: Global, text: Option<&str>) -> Result<Option<String>, AllocError>
     ensures { IfOk result (λ t. option_map string_bytes t ≡ option_map (λ s. s.now) text.entry) }
 {
     match text {

@@ -1,4 +1,5 @@
 //! The refusal of a number, with what a row says that it carries.
+use super::super::edits::listed;
 use clap::Command;
 use edit_base::{DeviceCall, Error, MergedCommand, MissingKind, MissingNames};
 use std::alloc::{AllocError, Global};
@@ -7,46 +8,46 @@ use std::io::ErrorKind;
 use std::test::Fail;
 
 /// A refusal that carries nothing.
-fn bare(number: &str) -> Option<Error> {
+fn bare(number: u32) -> Option<Error> {
     match number {
-        "2" => Some(Error::NotUtf8),
-        "5" => Some(Error::NoManifest),
-        "6" => Some(Error::NoPath),
-        "10" => Some(Error::MissingVersion),
-        "11" => Some(Error::VersionNotString),
-        "12" => Some(Error::InvalidDependency),
-        "13" => Some(Error::NoVersionPlace),
-        "17" => Some(Error::PrereleaseScheme),
-        "26" => Some(Error::BadRustVersion),
-        "34" => Some(Error::MissingRegistry),
-        "35" => Some(Error::InvalidUrl),
-        "36" => Some(Error::Metadata),
-        "38" => Some(Error::VirtualManifest),
-        "42" => Some(Error::Locked),
-        "45" => Some(Error::Output),
-        "46" => Some(Error::from(AllocError)),
-        "48" => Some(Error::from(io::Error::from(ErrorKind::PermissionDenied))),
-        "49" => Some(Error::EditRefused),
+        2 => Some(Error::NotUtf8),
+        5 => Some(Error::NoManifest),
+        6 => Some(Error::NoPath),
+        10 => Some(Error::MissingVersion),
+        11 => Some(Error::VersionNotString),
+        12 => Some(Error::InvalidDependency),
+        13 => Some(Error::NoVersionPlace),
+        17 => Some(Error::PrereleaseScheme),
+        26 => Some(Error::BadRustVersion),
+        34 => Some(Error::MissingRegistry),
+        35 => Some(Error::InvalidUrl),
+        36 => Some(Error::Metadata),
+        38 => Some(Error::VirtualManifest),
+        42 => Some(Error::Locked),
+        45 => Some(Error::Output),
+        46 => Some(Error::from(AllocError)),
+        48 => Some(Error::from(io::Error::from(ErrorKind::PermissionDenied))),
+        49 => Some(Error::EditRefused),
         _ => None,
     }
 }
 
 /// A refusal that carries numbers, or one of a few words.
-fn counted(number: &str, word: &str) -> Option<Error> {
+fn counted(number: u32, word: &str) -> Option<Error> {
     match number {
-        "1" => Some(Error::NotToml { at: 3 }),
-        "3" => Some(Error::Device(match word {
+        1 => Some(Error::NotToml { at: 3 }),
+        3 => Some(Error::Device(match word {
             "kind" => DeviceCall::Kind,
             "read" => DeviceCall::Read,
             _ => DeviceCall::Write,
         })),
-        "18" => Some(Error::NumberAtEnd {
+        18 => Some(Error::NumberAtEnd {
             major: 1,
             minor: 2,
             patch: u64::MAX,
         }),
-        "30" => Some(Error::IndexLine { line: 7 }),
-        "44" => Some(Error::Merged(match word {
+        30 => Some(Error::IndexLine { line: 7 }),
+        44 => Some(Error::Merged(match word {
             "add" => MergedCommand::Add,
             _ => MergedCommand::Rm,
         })),
@@ -55,55 +56,55 @@ fn counted(number: &str, word: &str) -> Option<Error> {
 }
 
 /// A refusal that carries a text.
-fn named(number: &str, text: String) -> Option<Error> {
+fn named(number: u32, text: String) -> Option<Error> {
     match number {
-        "4" => Some(Error::NotAbsolute { path: text }),
-        "7" => Some(Error::ManifestNotFound { dir: text }),
-        "8" => Some(Error::NoTable { step: text }),
-        "14" => Some(Error::InvalidRequirement { text }),
-        "15" => Some(Error::Unsupported { comparator: text }),
-        "16" => Some(Error::ReleaseLevel {
+        4 => Some(Error::NotAbsolute { path: text }),
+        7 => Some(Error::ManifestNotFound { dir: text }),
+        8 => Some(Error::NoTable { step: text }),
+        14 => Some(Error::InvalidRequirement { text }),
+        15 => Some(Error::Unsupported { comparator: text }),
+        16 => Some(Error::ReleaseLevel {
             level: "alpha",
             version: text,
         }),
-        "19" => Some(Error::InvalidMetadata { text }),
-        "22" => Some(Error::WorkspaceFalse { key: text }),
-        "23" => Some(Error::UnknownSource { key: text }),
-        "24" => Some(Error::OldDefaultFeatures { key: text }),
-        "25" => Some(Error::UnknownEntry { key: text }),
-        "27" => Some(Error::Scheme { scheme: text }),
-        "28" => Some(Error::IndexPath { address: text }),
-        "29" => Some(Error::BadCrateName { name: text }),
-        "31" => Some(Error::Config { path: text }),
-        "32" => Some(Error::RegistryNotFound { key: text }),
-        "33" => Some(Error::SourceNotFound { key: text }),
-        "37" => Some(Error::FolderTwice { path: text }),
+        19 => Some(Error::InvalidMetadata { text }),
+        22 => Some(Error::WorkspaceFalse { key: text }),
+        23 => Some(Error::UnknownSource { key: text }),
+        24 => Some(Error::OldDefaultFeatures { key: text }),
+        25 => Some(Error::UnknownEntry { key: text }),
+        27 => Some(Error::Scheme { scheme: text }),
+        28 => Some(Error::IndexPath { address: text }),
+        29 => Some(Error::BadCrateName { name: text }),
+        31 => Some(Error::Config { path: text }),
+        32 => Some(Error::RegistryNotFound { key: text }),
+        33 => Some(Error::SourceNotFound { key: text }),
+        37 => Some(Error::FolderTwice { path: text }),
         _ => None,
     }
 }
 
 /// A refusal that carries two texts.
-fn paired(number: &str, first: String, second: String) -> Option<Error> {
+fn paired(number: u32, first: String, second: String) -> Option<Error> {
     match number {
-        "9" => Some(Error::NoDependency {
+        9 => Some(Error::NoDependency {
             name: first,
             path: second,
         }),
-        "20" => Some(Error::InvalidName {
+        20 => Some(Error::InvalidName {
             name: first,
             characters: second,
         }),
-        "21" => Some(Error::InvalidType {
+        21 => Some(Error::InvalidType {
             actual: "integer",
             key: first,
             expected: "string",
             dep: second,
         }),
-        "40" => Some(Error::CannotExclude {
+        40 => Some(Error::CannotExclude {
             excluded: first,
             inheriting: second,
         }),
-        "41" => Some(Error::Downgrade {
+        41 => Some(Error::Downgrade {
             current: first,
             requested: second,
         }),
@@ -112,13 +113,13 @@ fn paired(number: &str, first: String, second: String) -> Option<Error> {
 }
 
 /// A refusal that carries names.
-fn listed(number: &str, names: Vec<String>) -> Option<Error> {
+fn missing(number: u32, names: Vec<String>) -> Option<Error> {
     match number {
-        "39" => Some(Error::PackagesMissing(MissingNames {
+        39 => Some(Error::PackagesMissing(MissingNames {
             kind: MissingKind::Package,
             names,
         })),
-        "43" => Some(Error::DependenciesMissing(MissingNames {
+        43 => Some(Error::DependenciesMissing(MissingNames {
             kind: MissingKind::Dependency,
             names,
         })),
@@ -135,18 +136,9 @@ fn command_line(alloc: Global) -> Option<Error> {
     }
 }
 
-/// The parts of a row, each on memory of its own.
-fn parts_of(alloc: Global, parts: &str) -> Result<Vec<String>, AllocError> {
-    let mut texts = Vec::new(alloc);
-    'parts: for part in parts.split('@') {
-        texts.push(String::from_str(alloc, part)?)?;
-    }
-    Ok(texts)
-}
-
 /// A refusal that carries one text, or several.
-fn told_of(alloc: Global, number: &str, parts: &str) -> Result<Option<Error>, AllocError> {
-    if let Some(error) = listed(number, parts_of(alloc, parts)?) {
+fn told_of(alloc: Global, number: u32, parts: &str) -> Result<Option<Error>, AllocError> {
+    if let Some(error) = missing(number, listed(alloc, parts, '@')?) {
         return Ok(Some(error));
     }
     if let Some((first, second)) = parts.split_once('@') {
@@ -157,8 +149,8 @@ fn told_of(alloc: Global, number: &str, parts: &str) -> Result<Option<Error>, Al
 }
 
 /// The refusal of a number.
-pub(super) fn refusal(alloc: Global, number: &str, parts: &str) -> Result<Error, Fail> {
-    let plain = if number == "47" {
+pub(super) fn refusal(alloc: Global, number: u32, parts: &str) -> Result<Error, Fail> {
+    let plain = if number == 47 {
         command_line(alloc)
     } else {
         bare(number).or(counted(number, parts))
