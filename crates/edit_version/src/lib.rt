@@ -1,4 +1,5 @@
-//! Versions, requirements, the words that name a crate, versions of Rust, and what an index tells of a version.
+//! Versions, requirements, the words that name a crate, versions of Rust, and what an index tells of a
+//! version.
 #![tactic(auto)]
 
 pub mod crate_spec;
