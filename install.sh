@@ -1,7 +1,7 @@
 #!/bin/sh
 # install.sh PREFIX             puts the commands into PREFIX/bin, and shell completions and man pages into PREFIX/share. PREFIX is
 #                               a folder outside this one; a folder named `bin` stands for the one that it lies in. With
-#                               PREFIX/bin on PATH cargo finds `cargo upgrade`.
+#                               PREFIX/bin on PATH cargo finds `cargo upgrade` and `cargo set-version`.
 # install.sh uninstall PREFIX   takes out what the line above puts there.
 set -eu
 here=$(cd "$(dirname "$0")" && pwd)
@@ -23,7 +23,7 @@ esac
 shared() { (cd "$here/share" && find . -type f | LC_ALL=C sort); }
 
 if [ "$task" = uninstall ]; then
-    rm -f "$prefix/bin/cargo-edit" "$prefix/bin/cargo-upgrade"
+    rm -f "$prefix/bin/cargo-edit" "$prefix/bin/cargo-upgrade" "$prefix/bin/cargo-set-version"
     shared | while IFS= read -r file; do rm -f "$prefix/share/$file"; done
     # folders that stand empty now
     (cd "$here" && find share -depth -type d) | while IFS= read -r folder; do
@@ -43,8 +43,9 @@ mkdir -p "$prefix/bin"
 cp "$program" "$prefix/bin/cargo-edit.new"
 mv "$prefix/bin/cargo-edit.new" "$prefix/bin/cargo-edit"
 ln -sf cargo-edit "$prefix/bin/cargo-upgrade"
+ln -sf cargo-edit "$prefix/bin/cargo-set-version"
 shared | while IFS= read -r file; do
     mkdir -p "$(dirname "$prefix/share/$file")"
     cp "$here/share/$file" "$prefix/share/$file"
 done
-echo "installed cargo-edit and cargo-upgrade in $prefix/bin" >&2
+echo "installed cargo-edit, cargo-upgrade and cargo-set-version in $prefix/bin" >&2

@@ -26,7 +26,7 @@ crates=$(awk -v top="$program" '
     /:/ { name = $1; sub(/:$/, "", name); sub(/^[^:]*:/, ""); needs[name] = $0 }
     END { below(top) }' "$here/crates.txt")
 total=$(echo "$crates" | wc -l)
-echo "cargo-edit: proving and building the program; the first time this takes some 40 minutes, after an edit less" >&2
+echo "cargo-edit: proving and building the program; the first time this takes an hour or more, after an edit less" >&2
 echo "cargo-edit: what the checks print goes to $log" >&2
 number=0
 for crate in $crates; do

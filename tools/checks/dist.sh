@@ -13,6 +13,15 @@ runs() { # the program, or the link to it
   env -i "$1" upgrade --manifest-path "$room/Cargo.toml" --index-file "$first/index.json" > "$room/out" 2>&1
   cmp "$room/raised.toml" "$room/Cargo.toml"
 }
+sets() { # the link for `set-version`
+  mkdir -p "$room/w"
+  printf '[package]\nname = "a"\nversion = "0.1.0"\n' > "$room/w/Cargo.toml"
+  package="{\"name\":\"a\",\"id\":\"a\",\"version\":\"0.1.0\",\"manifest_path\":\"$room/w/Cargo.toml\"}"
+  printf '{"workspace_root":"%s","workspace_members":["a"],"packages":[%s]}' "$room/w" "$package" > "$room/metadata.json"
+  env -i "$1" set-version --bump minor --metadata-json "$room/metadata.json" 2> "$room/err"
+  printf '[package]\nname = "a"\nversion = "0.2.0"\n' | cmp - "$room/w/Cargo.toml"
+  printf '   Upgrading a from 0.1.0 to 0.2.0\n' | cmp - "$room/err"
+}
 needs=$(ldd "$1" | grep -v -E '^\s*(linux-vdso|libc|libm|libdl|libpthread|/lib64/ld-linux-[a-z0-9-]*|/lib/ld-linux-[a-z0-9-]*)\.so' || true)
 [ -z "$needs" ] || { echo "the program needs more than the C library: $needs"; exit 1; }
 "$here/tools/dist.sh" "$room/a tarball" "$1"
@@ -26,8 +35,10 @@ sha256sum --quiet -c SHA256SUMS
 [ "$(find . -type f | wc -l)" = "$(($(wc -l < SHA256SUMS) + 1))" ] || { echo "a file has no checksum"; exit 1; }
 runs "$PWD/bin/cargo-edit"
 runs "$PWD/bin/cargo-upgrade"
+sets "$PWD/bin/cargo-set-version"
 ./install.sh "$room/a prefix"
 runs "$room/a prefix/bin/cargo-edit"
+sets "$room/a prefix/bin/cargo-set-version"
 (cd share && find . -type f) | while IFS= read -r file; do cmp "share/$file" "$room/a prefix/share/$file"; done
 ./install.sh uninstall "$room/a prefix/bin"
 [ -z "$(find "$room/a prefix" -type f -o -type l)" ] || { echo "a file is left"; find "$room/a prefix"; exit 1; }

@@ -59,6 +59,11 @@ class Manifests:
         """How many files are not the run's own."""
         return len(self.names() - self.own)
 
+    def most_left(self):
+        """How many of these stand in the folder that has the most of them."""
+        folders = [os.path.dirname(name) for name in self.names() - self.own]
+        return max(map(folders.count, folders), default=0)
+
     def hold(self, *texts):
         """Whether each manifest is one of these texts."""
         return all(path.read_bytes() in texts for path in self.paths)
@@ -101,7 +106,7 @@ def kills(manifests, usual):
         killed += kill(manifests, turn, usual)
         if not manifests.hold(manifests.old, manifests.new):
             yield f"kill {turn}: a manifest is cut"
-        most = max(most, manifests.left())
+        most = max(most, manifests.most_left())
         partly += manifests.hold(manifests.old, manifests.new) and not manifests.hold(manifests.old)
     if killed < KILLS // 2:
         yield f"{killed} runs were killed, of {4 * KILLS}"
@@ -109,7 +114,7 @@ def kills(manifests, usual):
         yield "no run was killed in its write"
     if most > MOST_LEFT:
         yield f"{most} files were left"
-    print(f"{killed} runs over {len(manifests.paths)} manifests killed; at most {most} files left at a time; "
+    print(f"{killed} runs over {len(manifests.paths)} manifests killed; at most {most} files left in a folder at a time; "
           f"{partly} times a manifest was new")
 
 

@@ -9,13 +9,13 @@ use Rattle.std.proofs.lemmas.List.Sorted.{sorted_far}
 use Rattle.std.proofs.lemmas.List.MinMax.{ranks_by}
 use Rattle.std.proofs.lemmas.Option.{slice_get-get_or}
 use Rattle.semver.specs.Parse.{Parts}
-use Rattle.edit_record.specs.Admissible.{admissible_in, candidate_in, entry_order, is_kept}
+use Rattle.edit_version.specs.Admissible.{admissible_in, candidate_in, entry_order, is_kept}
 use Rattle.edit_version.specs.Greatest.{IsGreatest, IsGreatestKept}
 use Rattle.edit_version.specs.IndexEntry.{IndexEntry}
 use Rattle.edit_version.specs.RustVersions.{Numbers}
 use Rattle.edit_version.specs.VersionOrder.{full_order}
-use Rattle.edit_record.proofs.Entries.{greatest-versions, none-versions}
-use Rattle.edit_record.proofs.Kept.{admissible-version}
+use Rattle.edit_version.proofs.GreatestEntries.{greatest-versions, none-versions}
+use Rattle.edit_version.proofs.Kept.{admissible-version}
 use Rattle.edit_version.proofs.Orders.{full_total}
 use Rattle.edit_cache.specs.Ranking.{IsRanking, Ranking, passes, rank_order}
 use Rattle.edit_cache.proofs.ToldRanks.{rank_total, IsFirst, first_found, none_found, any_all, slice_get-take, slice_get-drop, parted, Told, told, tells-version, order_by_version, kept-passes, kept-read, decide, le_or_lt, same_place, sorted_order}

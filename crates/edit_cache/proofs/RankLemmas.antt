@@ -21,7 +21,7 @@ use Rattle.std.proofs.lemmas.List.Sums.{sum_by-append, sum_by-cons}
 use Rattle.edit_version.specs.VersionOrder.{full_order}
 use Rattle.edit_cache.proofs.ToldRanks.{le_or_lt, rank_total}
 use Rattle.semver.specs.Parse.{Parts}
-use Rattle.edit_record.specs.Admissible.{candidate_in}
+use Rattle.edit_version.specs.Admissible.{candidate_in}
 use Rattle.edit_version.specs.IndexEntry.{IndexEntry, entry_of}
 use Rattle.edit_version.specs.RustVersions.{Numbers}
 use Rattle.edit_cache.specs.Ranking.{IsInOrder, IsRanking, Ranking, Tells, ranking, rank_at, rank_of, rank_order, ranks_from}

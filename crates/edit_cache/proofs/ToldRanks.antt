@@ -15,12 +15,12 @@ use Rattle.std.proofs.lemmas.Option.{slice_get-get_or}
 use Rattle.semver.specs.Identifiers.{parts_text}
 use Rattle.semver.specs.Parse.{Parts}
 use Rattle.semver.proofs.Grammar.{version_parts-sound}
-use Rattle.edit_record.specs.Admissible.{asked_rust, candidate_in, entry_order, if_fits, if_passes, is_kept, is_too_new, version_in}
+use Rattle.edit_version.specs.Admissible.{asked_rust, candidate_in, entry_order, if_fits, if_passes, is_kept, is_too_new, version_in}
 use Rattle.edit_version.specs.IndexEntry.{IndexEntry}
 use Rattle.edit_version.specs.ReadVersion.{version_read}
 use Rattle.edit_version.specs.RustVersions.{Numbers}
 use Rattle.edit_version.specs.VersionOrder.{full_order}
-use Rattle.edit_record.proofs.Kept.{read-parts}
+use Rattle.edit_version.proofs.Kept.{read-parts}
 use Rattle.edit_version.proofs.Orders.{full_total}
 use Rattle.edit_cache.specs.Ranking.{IsInOrder, Ranking, Tells, passes, rank_order}
 

@@ -4,9 +4,9 @@ ghost use Rattle.std.specs.List.{find};
 ghost use Rattle.semver.specs.Identifiers.{parts_of, parts_text};
 ghost use Rattle.semver.specs.Parse.{Parts};
 ghost use Rattle.edit_base.specs.Errors.{IsMemory};
-ghost use Rattle.edit_record.specs.Admissible.{admissible_in, entry_order, is_kept};
+ghost use Rattle.edit_version.specs.Admissible.{admissible_in, entry_order, is_kept};
 ghost use Rattle.edit_version.specs.Admits.{admits};
-ghost use Rattle.edit_record.specs.Candidates.{numbers_in, parts_in, wants};
+ghost use Rattle.edit_version.specs.Candidates.{numbers_in, parts_in, wants};
 ghost use Rattle.edit_record.specs.Finding.{IsFound, IsFoundAtLeast};
 ghost use Rattle.edit_version.specs.Greatest.{IsGreatest, IsGreatestKept};
 ghost use Rattle.edit_version.specs.IndexEntry.{IndexEntry, entry_of};
@@ -20,7 +20,8 @@ ghost use Rattle.edit_cache.specs.Ranking.{passes, rank_at, rank_of, ranks_from}
 
 use edit_base::errors::CargoResult;
 use edit_record::dependency::Dependency;
-use edit_record::find::{dependency_on, is_for, is_wanted, read_candidate};
+use edit_record::find::dependency_on;
+use edit_version::candidates::{is_for, is_wanted, read_candidate};
 use edit_version::fetch::IndexVersion;
 use edit_version::rust_version::RustVersion;
 use semver::{Version, VersionReq};

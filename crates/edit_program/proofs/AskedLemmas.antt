@@ -1,6 +1,6 @@
 -- What the matches say of an option.
-use Rattle.std.proofs.Common.{◌≡◌, ℕ, List, Option, Some, None, Bor, ap, map, refl, ◌∙◌, sym}
-use Rattle.std.specs.Prelude.{[], option_map, unwrap_or}
+use Rattle.std.proofs.Common.{◌≡◌, ℕ, List, Option, Some, None, Result, Ok, Err, Bor, ap, map, refl, subst, ◌∙◌, sym}
+use Rattle.std.specs.Prelude.{[], IfErr, IsErrAnd, is_some, option_map, unwrap_or}
 use Rattle.clap.specs.Words.{Text, first_value, first_of, found_of, matched_of, raw_values, rows_of}
 use Rattle.clap.specs.declared.parser.ArgMatches.{ArgMatches}
 use Rattle.clap.proofs.WalkLemmas.{first_value-rows, raw_values-rows}
@@ -66,3 +66,26 @@ values_absent m id o is found =
     ap (λ (p : Option (Bor (List (Bor Text)))).
     unwrap_or (option_map (λ (s : Bor (List (Bor Text))). map (λ (v : Bor Text). v.now) s.now) p) []) (sym is)
     ∙ values_are m id o found
+
+-- what is made of the text of an option, where that is all of it
+pub kept_is : (m : ArgMatches) (id : Text) (o : Option (Bor (List ℕ))) (x : Option Text)
+    → x ≡ option_map (λ (s : Bor (List ℕ)). s.now) o
+    → option_map (λ (s : Bor (List ℕ)). s.now) o ≡ first_value (found_of m) id
+    → x ≡ first_of id (rows_of (found_of m))
+kept_is m id o x is found = is ∙ found ∙ first_value-rows (found_of m) id
+
+some_map : (o : Option (Bor (List ℕ))) → is_some o ≡ is_some (option_map (λ (s : Bor (List ℕ)). s.now) o)
+some_map None = refl
+some_map (Some s) = refl
+
+-- whether an option has a text
+pub is_there : (m : ArgMatches) (id : Text) (o : Option (Bor (List ℕ)))
+    → option_map (λ (s : Bor (List ℕ)). s.now) o ≡ first_value (found_of m) id
+    → is_some o ≡ is_some (first_of id (rows_of (found_of m)))
+is_there m id o found = some_map o ∙ ap is_some (found ∙ first_value-rows (found_of m) id)
+
+-- what holds of an error holds of the one that a caller hands on
+pub err_same : {T E : Type 0} (r : Result T E) (e : E) (P : E → Type 0)
+    → IsErrAnd r (λ other. other ≡ e) → P e → IfErr r P
+err_same (Ok x) e P same h = tt
+err_same (Err other) e P same h = subst P (sym same) h

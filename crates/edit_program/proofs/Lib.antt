@@ -3,3 +3,4 @@ pub mod CommandFacts
 pub mod CommandLemmas
 pub mod FilledLemmas
 pub mod LocalLemmas
+pub mod TwiceLemmas

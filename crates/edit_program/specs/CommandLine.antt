@@ -1,55 +1,24 @@
 -- The command line: what the words of the program ask for.
+pub use Rattle.edit_program.specs.Rules.{choice_rule, count_rule, flag_rule, list_rule, path_rule, selections, with_rules}
 use Rattle.std.specs.Prelude.{◌≡◌, ◌⊎◌, ◌-◌, ℕ, ℤ, Bool, List, [], ◌∷◌, Option, Some, None, true, false, codes, if◌then◌else◌, min, nat_lt, negsuc, option_map, pos, unwrap_or}
 use Rattle.std.specs.Str.{bytes_eq}
-use Rattle.clap.specs.Words.{App, Row, Rule, Shape, Text, all_of, count_of, fault_of, first_of, new_app, new_rule, subcommand_of, with_rule, with_subcommand}
-use Rattle.clap.specs.declared.builder.action.ArgAction.TheVariants.{Append, Count, Set, SetTrue}
+use Rattle.clap.specs.Words.{App, Row, Rule, Shape, Text, all_of, count_of, fault_of, first_of, new_app, subcommand_of, with_subcommand}
 use Rattle.clap.specs.declared.builder.value_parser.ValueParser.TheVariants as value
 use Rattle.edit_upgrade.specs.Words.{excluded_of, words_of}
-use Rattle.edit_upgrade.specs.declared.upgrade.Options.{Options}
-
--- an option that must be given, with one value, which is not the empty text
-abbrev pub option_rule : Text → Rule
-option_rule id =
-    record (new_rule id) {
-      long = Some id;
-      action = Some Set;
-      value_names = 1;
-      parser = Some value.NonEmptyString;
-      required = true;
-    }
-
--- an option that may be given, with one value
-abbrev pub choice_rule : Text → Rule
-choice_rule id =
-    record (new_rule id) {
-      long = Some id;
-      action = Some Set;
-      value_names = 1;
-      parser = Some value.String;
-    }
-
--- an option that may be given any number of times, each time with one value
-abbrev pub list_rule : Text → Rule
-list_rule id =
-    record (new_rule id) {
-      long = Some id;
-      action = Some Append;
-      value_names = 1;
-      parser = Some value.String;
-    }
-
--- a flag
-abbrev pub flag_rule : Text → Rule
-flag_rule id = record (new_rule id) { long = Some id; action = Some SetTrue }
-
--- a flag with a letter, of which the uses are counted
-abbrev pub count_rule : Text → ℕ → Rule
-count_rule id letter =
-    record (new_rule id) { long = Some id; short = Some letter; action = Some Count }
+use Rattle.edit_program.specs.SetVersionLine.{set_version_app}
+use Rattle.edit_decision.specs.declared.options.Options.{Options}
 
 -- the options that name files
 abbrev pub places : List Rule
-places = option_rule (codes "manifest-path") ∷ option_rule (codes "index-file") ∷ []
+places =
+    path_rule (codes "manifest-path")
+    ∷ path_rule (codes "metadata-json")
+    ∷ path_rule (codes "index-file")
+    ∷ []
+
+-- the options that say which versions of Rust count
+abbrev pub rust_choices : List Rule
+rust_choices = choice_rule (codes "rust-version") ∷ flag_rule (codes "ignore-rust-version") ∷ []
 
 -- the flags
 abbrev pub switches : List Rule
@@ -70,23 +39,11 @@ choices =
     ∷ record (choice_rule (codes "recursive")) { parser = Some value.Bool }
     ∷ []
 
--- the options that say which entries may be upgraded
-abbrev pub selections : List Rule
-selections =
-    record (list_rule (codes "package")) { short = Some 112 }
-    ∷ list_rule (codes "exclude")
-    ∷ []
-
--- a command with these rules too, in their order
-abbrev pub with_rules : App → List Rule → App
-with_rules a [] = a
-with_rules a (rule ∷ rules) = with_rules (with_rule a rule) rules
-
 -- the subcommand `upgrade`
 abbrev pub upgrade_app : App
 upgrade_app =
-    with_rules (with_rules (with_rules (with_rules (new_app (codes "upgrade")) places) switches) choices)
-    selections
+    with_rules (with_rules (with_rules (with_rules (with_rules (new_app (codes "upgrade")) places) rust_choices)
+    switches) choices) selections
 
 -- the program's own settings
 abbrev pub top_shape : Shape
@@ -99,7 +56,8 @@ top_shape = record (new_app (codes "cargo-edit")).top {
 
 -- the program's command line
 unfoldable pub edit_app : App
-edit_app = with_subcommand (record { top = top_shape; subs = [] }) upgrade_app.top
+edit_app = with_subcommand (with_subcommand (record { top = top_shape; subs = [] }) upgrade_app.top)
+    set_version_app.top
 
 -- the value of an option among the matches of `upgrade`, or this other one where it has none
 abbrev pub value_of : Text → Text → List Row → Text
@@ -150,18 +108,7 @@ HasBadStatus rows =
     (status_of (codes "compatible") rows ≡ None)
     ⊎ ((status_of (codes "incompatible") rows ≡ None) ⊎ (status_of (codes "pinned") rows ≡ None))
 
--- the command line takes the words, which ask to upgrade this manifest by this index file, with these options
-pub record AsksFor (words : List Text) (manifest index : Text) (o : Options) : Type 0 where
+-- the command line takes the words, and these are the matches of the subcommand that they name
+pub record HaveEntered (words : List Text) (name : Text) (rows : List Row) : Type 0 where
   pub taken : fault_of edit_app words ≡ []
-  pub rows : List Row
-  pub entered : option_map (λ p. p.1) (subcommand_of edit_app words) ≡ Some rows
-  pub manifest_is : manifest ≡ value_of (codes "manifest-path") (codes "Cargo.toml") rows
-  pub index_is : index ≡ value_of (codes "index-file") (codes "index.json") rows
-  pub options_are : AskForOptions rows o
-
--- the command line takes the words, and one of their values is none that its option has
-pub record HaveBadStatus (words : List Text) : Type 0 where
-  pub taken : fault_of edit_app words ≡ []
-  pub rows : List Row
-  pub entered : option_map (λ p. p.1) (subcommand_of edit_app words) ≡ Some rows
-  pub bad : HasBadStatus rows
+  pub entered : subcommand_of edit_app words ≡ Some (name, rows)

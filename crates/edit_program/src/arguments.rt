@@ -1,75 +1,14 @@
 //! The command line: which words there are.
-ghost use Rattle.std.specs.Prelude.{◌≡◌, [], ◌∷◌, IfOk, false};
-ghost use Rattle.clap.specs.Words.{app_of, rule_of};
+ghost use Rattle.std.specs.Prelude.{◌≡◌, IfOk, false};
+ghost use Rattle.clap.specs.Words.{app_of};
 ghost use Rattle.clap.specs.declared.builder.command.Command.TheViews.{out-Command as fields_of};
-ghost use Rattle.edit_program.specs.CommandLine.{choice_rule, choices, count_rule, edit_app, flag_rule, list_rule, option_rule, places, selections, switches, upgrade_app, with_rules};
+ghost use Rattle.edit_program.specs.CommandLine.{choices, edit_app, places, rust_choices, selections, switches, upgrade_app, with_rules};
 
+use crate::rules::{choice, counted, flag, list, path};
+use crate::set_version_line::set_version_command;
+use clap::Command;
 use clap::builder::ValueParser;
-use clap::{Arg, ArgAction, Command};
 use std::alloc::{AllocError, Global};
-
-/// An option that must be given, with a value that is not empty.
-fn option<'a>(alloc: Global, id: &'a str, value: &'a str, about: &'a str) -> Arg<'a>
-    ensures rule { rule_of result ≡ option_rule id.entry.now }
-    ensures local { result.global ≡ false }
-{
-    Arg::new(alloc, id)
-        .long(id)
-        .value_name(value)
-        .help(about)
-        .required(true)
-        .action(ArgAction::Set)
-        .value_parser(ValueParser::NonEmptyString)
-}
-
-/// An option that may be given, with a value.
-fn choice<'a>(alloc: Global, id: &'a str, value: &'a str, about: &'a str) -> Arg<'a>
-    ensures rule { rule_of result ≡ choice_rule id.entry.now }
-    ensures local { result.global ≡ false }
-{
-    Arg::new(alloc, id)
-        .long(id)
-        .value_name(value)
-        .help(about)
-        .action(ArgAction::Set)
-        .value_parser(ValueParser::String)
-}
-
-/// An option that may be given any number of times, each time with a value.
-fn list<'a>(alloc: Global, id: &'a str, value: &'a str, about: &'a str) -> Arg<'a>
-    ensures rule { rule_of result ≡ list_rule id.entry.now }
-    ensures local { result.global ≡ false }
-{
-    Arg::new(alloc, id)
-        .long(id)
-        .value_name(value)
-        .help(about)
-        .action(ArgAction::Append)
-        .value_parser(ValueParser::String)
-}
-
-/// A flag.
-fn flag<'a>(alloc: Global, id: &'a str, about: &'a str) -> Arg<'a>
-    ensures rule { rule_of result ≡ flag_rule id.entry.now }
-    ensures local { result.global ≡ false }
-{
-    Arg::new(alloc, id)
-        .long(id)
-        .help(about)
-        .action(ArgAction::SetTrue)
-}
-
-/// A flag with a letter, of which the uses are counted.
-fn counted<'a>(alloc: Global, id: &'a str, letter: char, about: &'a str) -> Arg<'a>
-    ensures rule { rule_of result ≡ count_rule id.entry.now letter }
-    ensures local { result.global ≡ false }
-{
-    Arg::new(alloc, id)
-        .short(letter)
-        .long(id)
-        .help(about)
-        .action(ArgAction::Count)
-}
 
 /// Adds the options that name files.
 fn with_places<'a>(alloc: Global, command: Command<'a>) -> Result<Command<'a>, AllocError>
@@ -77,19 +16,40 @@ fn with_places<'a>(alloc: Global, command: Command<'a>) -> Result<Command<'a>, A
     ensures local { IfOk result (λ c. (fields_of command.entry).has_globals ≡ false
         → (fields_of c).has_globals ≡ false) }
 {
-    let manifest = option(
+    let manifest = path(
         alloc,
         "manifest-path",
         "PATH",
         "The manifest, or a folder with one",
     );
-    let index = option(
+    let metadata = path(
+        alloc,
+        "metadata-json",
+        "FILE",
+        "What `cargo metadata` says of the workspace",
+    );
+    let index = path(
         alloc,
         "index-file",
         "FILE",
         "Index lines, as a registry's index has them",
     );
-    command.arg(manifest)?.arg(index)
+    command.arg(manifest)?.arg(metadata)?.arg(index)
+}
+
+/// Adds the options that say which versions of Rust count.
+fn with_rust_choices<'a>(alloc: Global, command: Command<'a>) -> Result<Command<'a>, AllocError>
+    ensures app { IfOk result (λ c. app_of c ≡ with_rules (app_of command.entry) rust_choices) }
+    ensures local { IfOk result (λ c. (fields_of command.entry).has_globals ≡ false
+        → (fields_of c).has_globals ≡ false) }
+{
+    let given = choice(alloc, "rust-version", "VER", "Override `rust-version`");
+    let ignored = flag(
+        alloc,
+        "ignore-rust-version",
+        "Ignore `rust-version` specification in packages",
+    );
+    command.arg(given)?.arg(ignored)
 }
 
 /// Adds the flags.
@@ -182,6 +142,7 @@ fn upgrade_command<'a>(alloc: Global) -> Result<Command<'a>, AllocError>
         "Raises the dependency requirements of a manifest",
     );
     let upgrade = with_places(alloc, upgrade)?;
+    let upgrade = with_rust_choices(alloc, upgrade)?;
     let upgrade = with_switches(alloc, upgrade)?;
     let upgrade = with_choices(alloc, upgrade)?;
     with_selections(alloc, upgrade)
@@ -192,6 +153,7 @@ pub(crate) fn command<'a>(alloc: Global) -> Result<Command<'a>, AllocError>
     ensures { IfOk result (λ c. app_of c ≡ edit_app) }
 {
     let upgrade = upgrade_command(alloc)?;
+    let set_version = set_version_command(alloc)?;
     Command::new(alloc, "cargo-edit")
         .version("0.13.14")
         .about("Edits the dependency requirements and versions of Cargo.toml files")
@@ -199,5 +161,6 @@ pub(crate) fn command<'a>(alloc: Global) -> Result<Command<'a>, AllocError>
         .bin_name("cargo-edit")?
         .propagate_version(true)
         .subcommand_required(true)
-        .subcommand(upgrade)
+        .subcommand(upgrade)?
+        .subcommand(set_version)
 }

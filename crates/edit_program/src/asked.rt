@@ -1,13 +1,17 @@
 //! What matched words ask for.
-ghost use Rattle.std.specs.Prelude.{◌≡◌, ◌≢◌, IfErr, IfOk, codes, map, option_map, string_bytes};
+ghost use Rattle.std.specs.Prelude.{◌≡◌, ◌≢◌, IfErr, IfOk, None, Some, codes, false, map, option_map, string_bytes};
 ghost use Rattle.std.specs.Str.{bytes_eq};
 ghost use Rattle.clap.specs.Words.{first_of, found_of, rows_of};
 ghost use Rattle.edit_program.specs.declared.asked.WordsError.TheVariants as words;
-ghost use Rattle.edit_program.specs.CommandLine.{AskForOptions, HasBadStatus, is_given, status_of, status_of_value, value_of, values_of, verbosity_of};
+ghost use Rattle.edit_program.specs.CommandLine.{AskForOptions, HasBadStatus, is_given, status_of, status_of_value, values_of, verbosity_of};
+ghost use Rattle.edit_program.specs.UpgradeAsked.{AskForUpgrade, HasNoRust, HaveUpgradeFault, IsRust};
 
 use clap::ArgMatches;
+use edit_base::Error;
 use edit_upgrade::Options;
+use edit_upgrade_read::RustChoice;
 use edit_upgrade_run::UpgradeWords;
+use edit_version::RustVersion;
 use std::alloc::{AllocError, Global};
 
 /// A value that its option does not have.
@@ -17,11 +21,21 @@ pub(crate) struct BadStatus<'a> {
     pub(crate) value: &'a str,
 }
 
+/// What is wrong with matched words of `upgrade`.
+#[derive(Debug, Drop)]
+pub(crate) enum UpgradeFault<'a> {
+    Status(BadStatus<'a>),
+    /// A text that names no version of Rust, and why.
+    Rust(&'a str, Error),
+    /// A version of Rust is named, and all are to be ignored.
+    TwoRusts,
+}
+
 /// Why matched words are not read.
 #[derive(Debug, Drop)]
 pub(crate) enum WordsError<'a> {
     Memory,
-    Status(BadStatus<'a>),
+    Fault(UpgradeFault<'a>),
 }
 
 impl<'a> From<AllocError> for WordsError<'a> {
@@ -33,7 +47,7 @@ impl<'a> From<AllocError> for WordsError<'a> {
 }
 
 /// Whether a flag is given.
-fn is_given(matches: &ArgMatches<'_>, id: &str) -> bool
+pub(crate) fn is_given(matches: &ArgMatches<'_>, id: &str) -> bool
     ensures { result ≡ is_given id.now (rows_of (found_of matches.now)) }
 {
     matches.get_str(id).unwrap_or("") == "true"
@@ -58,7 +72,7 @@ fn status_of<'a>(matches: &ArgMatches<'a>, option: &'static str) -> Result<bool,
     let value = matches.get_str(option).unwrap_or("");
     match status_of_value(value) {
         Some(status) => Ok(status),
-        None => Err(WordsError::Status(BadStatus { option, value })),
+        None => Err(WordsError::Fault(UpgradeFault::Status(BadStatus { option, value }))),
     }
 }
 
@@ -96,7 +110,11 @@ fn copied_texts(alloc: Global, texts: &[&str]) -> Result<Vec<String>, AllocError
 }
 
 /// The values of an option, of all its uses.
-fn values_of(alloc: Global, matches: &ArgMatches<'_>, id: &str) -> Result<Vec<String>, AllocError>
+pub(crate) fn values_of(
+    alloc: Global,
+    matches: &ArgMatches<'_>,
+    id: &str,
+) -> Result<Vec<String>, AllocError>
     ensures { IfOk result (λ v. map string_bytes v.items
         ≡ values_of id.now (rows_of (found_of matches.now))) }
 {
@@ -106,19 +124,42 @@ fn values_of(alloc: Global, matches: &ArgMatches<'_>, id: &str) -> Result<Vec<St
     }
 }
 
-/// What matched words of `upgrade` ask for.
-pub(crate) fn upgrade_words<'a>(
+/// The version of Rust that a text names.
+fn named_rust<'a>(alloc: Global, text: &'a str) -> Result<RustChoice, WordsError<'a>>
+    ensures ok { IfOk result (IsRust (Some text.now) false) }
+    ensures refused { IfErr result (λ e. e ≢ words.Memory → HasNoRust (Some text.now) false) }
+{
+    match RustVersion::from_str(alloc, text) {
+        Ok(version) => Ok(RustChoice::Given(version)),
+        Err(Error::Memory) => Err(WordsError::Memory),
+        Err(error) => Err(WordsError::Fault(UpgradeFault::Rust(text, error))),
+    }
+}
+
+/// The versions of Rust that count, by the one that is named and by whether they are ignored.
+fn rust_choice<'a>(
     alloc: Global,
-    matches: &ArgMatches<'a>,
-) -> Result<UpgradeWords<'a>, WordsError<'a>>
-    ensures manifest { IfOk result (λ w. w.manifest_path.now
-        ≡ value_of (codes "manifest-path") (codes "Cargo.toml") (rows_of (found_of matches.now))) }
-    ensures index { IfOk result (λ w. w.index_file.now
-        ≡ value_of (codes "index-file") (codes "index.json") (rows_of (found_of matches.now))) }
-    ensures options { IfOk result (λ w. AskForOptions (rows_of (found_of matches.now)) w.options) }
+    named: Option<&'a str>,
+    ignored: bool,
+) -> Result<RustChoice, WordsError<'a>>
+    ensures ok { IfOk result (IsRust (option_map (λ s. s.now) named.entry) ignored) }
+    ensures refused { IfErr result (λ e. e ≢ words.Memory
+        → HasNoRust (option_map (λ s. s.now) named.entry) ignored) }
+{
+    match (named, ignored) {
+        (None, false) => Ok(RustChoice::Own),
+        (None, true) => Ok(RustChoice::Ignored),
+        (Some(text), false) => named_rust(alloc, text),
+        (Some(_), true) => Err(WordsError::Fault(UpgradeFault::TwoRusts)),
+    }
+}
+
+/// The options that matched words of `upgrade` ask for.
+fn options_of<'a>(alloc: Global, matches: &ArgMatches<'a>) -> Result<Options, WordsError<'a>>
+    ensures options { IfOk result (AskForOptions (rows_of (found_of matches.now))) }
     ensures refused { IfErr result (λ e. e ≢ words.Memory → HasBadStatus (rows_of (found_of matches.now))) }
 {
-    let options = Options {
+    Ok(Options {
         compatible: status_of(matches, "compatible")?,
         incompatible: status_of(matches, "incompatible")?,
         pinned: status_of(matches, "pinned")?,
@@ -129,10 +170,25 @@ pub(crate) fn upgrade_words<'a>(
         recursive: recursive(matches),
         verbosity: verbosity(matches.get_count("verbose"), matches.get_count("quiet")),
         never_lower: is_given(matches, "never-lower"),
-    };
+    })
+}
+
+/// What matched words of `upgrade` ask for.
+pub(crate) fn upgrade_words<'a>(
+    alloc: Global,
+    matches: &ArgMatches<'a>,
+) -> Result<UpgradeWords<'a>, WordsError<'a>>
+    ensures asks { IfOk result (AskForUpgrade (rows_of (found_of matches.now))) }
+    ensures refused { IfErr result (λ e. e ≢ words.Memory
+        → HaveUpgradeFault (rows_of (found_of matches.now))) }
+{
+    let ignored = is_given(matches, "ignore-rust-version");
+    let rust = rust_choice(alloc, matches.get_str("rust-version"), ignored)?;
     Ok(UpgradeWords {
-        manifest_path: matches.get_str("manifest-path").unwrap_or("Cargo.toml"),
-        index_file: matches.get_str("index-file").unwrap_or("index.json"),
-        options,
+        manifest_path: matches.get_str("manifest-path"),
+        metadata_json: matches.get_str("metadata-json"),
+        index_file: matches.get_str("index-file"),
+        rust,
+        options: options_of(alloc, matches)?,
     })
 }

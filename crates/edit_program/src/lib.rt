@@ -3,7 +3,12 @@
 
 mod arguments;
 mod asked;
+mod faults;
 mod filled;
+mod merged;
 mod program;
+mod rules;
+mod set_version_line;
+mod version_words;
 
 pub use program::run;

@@ -1,4 +1,3 @@
-pub mod Kept
 pub mod Entries
 mod CopiedLists
 mod EntryLemmas

@@ -2,7 +2,7 @@
 use Rattle.std.specs.Prelude.{◌≡◌, Bool, List, Option, Some, None, true}
 use Rattle.std.specs.Ordering.{is_le}
 use Rattle.semver.specs.Parse.{Parts}
-use Rattle.edit_record.specs.Admissible.{entry_order, is_kept}
+use Rattle.edit_version.specs.Admissible.{entry_order, is_kept}
 use Rattle.edit_version.specs.Greatest.{IsGreatest, IsGreatestKept}
 use Rattle.edit_version.specs.IndexEntry.{IndexEntry}
 use Rattle.edit_record.specs.Records.{IsRegistryDependency}

@@ -3,9 +3,7 @@ pub mod EntryRecords
 pub mod EntryTexts
 pub mod ReadEntries
 pub mod RecordViews
-pub mod Admissible
 pub mod Finding
-pub mod Candidates
 pub mod RelativePaths
 pub mod NewEntries
 pub mod ReadsAgain

@@ -6,10 +6,8 @@ pub mod find;
 
 pub use dependency::{Dependency, GitSource, PathSource, RegistrySource, Source, WorkspaceSource};
 pub use edit_version::{
-    CrateSpec, IndexVersion, Requirement, RustVersion, VersionExt, admits, allows_prerelease, cut,
-    read_requirement, upgrade_requirement,
+    Candidate, CrateSpec, IndexVersion, Requirement, RustVersion, VersionExt, admits,
+    allows_prerelease, cut, is_for, is_wanted, read_candidate, read_requirement,
+    upgrade_requirement,
 };
-pub use find::{
-    Candidate, dependency_on, find_compatible_version, find_latest_version, is_for, is_wanted,
-    read_candidate,
-};
+pub use find::{dependency_on, find_compatible_version, find_latest_version};

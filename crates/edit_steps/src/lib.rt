@@ -2,11 +2,13 @@
 //! is read, and the files that are written.
 #![tactic(auto)]
 
+mod inputs;
 mod outputs;
 mod paths;
 mod refusal;
 mod workspaces;
 
+pub use inputs::at_input;
 pub use outputs::write_outputs;
 pub use paths::absolute;
 pub use refusal::{Refusal, RunResult, at_byte, at_path};

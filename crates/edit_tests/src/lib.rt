@@ -7,3 +7,7 @@
 mod plans;
 #[cfg(test)]
 mod program;
+#[cfg(test)]
+mod versions;
+#[cfg(test)]
+mod workspaces;

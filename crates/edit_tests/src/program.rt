@@ -40,13 +40,23 @@ fn shown(
 }
 
 /// What words print over files, from a folder: the status, and both streams.
-fn printed<S: Store>(
+pub(crate) fn printed<S: Store>(
     alloc: Global,
     words: &[&str],
     folder: &str,
     files: &mut S,
 ) -> (u8, Vec<u8>, Vec<u8>) {
-    let index_files = MemoryStore::new(alloc);
+    printed_over(alloc, words, folder, files, MemoryStore::new(alloc))
+}
+
+/// The same, with an index in files.
+pub(crate) fn printed_over<S: Store>(
+    alloc: Global,
+    words: &[&str],
+    folder: &str,
+    files: &mut S,
+    index_files: MemoryStore,
+) -> (u8, Vec<u8>, Vec<u8>) {
     let mut out = Vec::new(alloc);
     let mut err = Vec::new(alloc);
     let status = run(
@@ -70,12 +80,12 @@ fn outcome<S: Store>(alloc: Global, words: &[&str], folder: &str, files: &mut S)
     shown(alloc, status, after.as_deref(), &out, &err)
 }
 
-/// The words of a row; behind a `-` the usual ones, and then those of the row.
-fn words_of<'a>(alloc: Global, text: &'a str) -> Option<Vec<&'a str>> {
-    let (usual, own) = match text.strip_prefix("-") {
-        Some(own) => (WORDS, own),
-        None => ("", text),
-    };
+/// The usual words, and then those of a row; `''` is an empty one.
+pub(crate) fn words_behind<'a>(
+    alloc: Global,
+    usual: &'a str,
+    own: &'a str,
+) -> Option<Vec<&'a str>> {
     let words = usual
         .split_ascii_whitespace()
         .chain(own.split_ascii_whitespace());
@@ -83,6 +93,14 @@ fn words_of<'a>(alloc: Global, text: &'a str) -> Option<Vec<&'a str>> {
         .map(|word| if word == "''" { "" } else { word })
         .collect(alloc)
         .ok()
+}
+
+/// The words of a row; behind a `-` the usual ones, and then those of the row.
+fn words_of<'a>(alloc: Global, text: &'a str) -> Option<Vec<&'a str>> {
+    match text.strip_prefix("-") {
+        Some(own) => words_behind(alloc, WORDS, own),
+        None => words_behind(alloc, "", text),
+    }
 }
 
 /// Runs a row over its files.
@@ -119,14 +137,14 @@ fn rows(rt: HostRuntime) -> Result<(), Fail> {
 }
 
 /// A status, what stands on standard output, and what stands on standard error.
-fn streams(alloc: Global, status: u8, out: &[u8], err: &[u8]) -> Option<String> {
+pub(crate) fn streams(alloc: Global, status: u8, out: &[u8], err: &[u8]) -> Option<String> {
     let out = str::from_utf8(out).ok()?;
     let err = str::from_utf8(err).ok()?;
     format!(in alloc; "{status} {out}{err}").ok()
 }
 
 /// What words print over no files.
-fn texts_of(alloc: Global, words: &[&str]) -> Option<String> {
+pub(crate) fn texts_of(alloc: Global, words: &[&str]) -> Option<String> {
     let mut files = MemoryStore::new(alloc);
     let (status, out, err) = printed(alloc, words, "/w", &mut files);
     streams(alloc, status, &out, &err)

@@ -1,7 +1,7 @@
 -- What calls of `cargo update` are asked for after an upgrade (own, after cargo-edit).
 use Rattle.std.specs.Prelude.{ℕ, List, length, Bool, ◌==◌, ◌&&◌, not, Option, map, string_bytes}
 use Rattle.std.specs.Option.{option_map_or}
-use Rattle.edit_upgrade.specs.declared.upgrade.Options.{Options}
+use Rattle.edit_decision.specs.declared.options.Options.{Options}
 use Rattle.edit_upgrade.specs.declared.upgrade.UpgradePlan.{UpgradePlan}
 
 -- the names that a plan modified and those that come from a repository, and what the options say

@@ -3,9 +3,7 @@ use Rattle.std.proofs.Common.{◌≡◌, ◌∷◌, [], List, ℕ, Option, Some,
 use Rattle.std.specs.Prelude.{All, IsOk, IsSome, IsTrue, nat_eq, option_map}
 use Rattle.std.specs.Cmp.Lexicographic.{pointwise}
 use Rattle.std.specs.List.{AllZip}
-use Rattle.std.specs.Ordering.{is_ge, is_le, ordering_reverse, ordering_then}
-use Rattle.std.specs.declared.cmp.Ordering.{Ordering}
-use Rattle.std.specs.declared.cmp.Ordering.TheVariants.{Less, Equal, Greater}
+use Rattle.std.specs.Ordering.{is_ge, is_le}
 use Rattle.std.proofs.lemmas.Bool.{cases_Bool}
 use Rattle.std.proofs.lemmas.List.Elements.{All-cons, All-nil}
 use Rattle.semver.specs.Grammar.{IsValid}
@@ -18,19 +16,20 @@ use Rattle.edit_version.specs.RustVersions.{Numbers}
 use Rattle.edit_version.specs.Selection.{IsCompatible, IsLatest, is_admitted, is_offered}
 use Rattle.edit_version.specs.VersionOrder.{full_order}
 use Rattle.edit_version.proofs.Builds.{admits-without_build, plain_text-read, without_build}
-use Rattle.edit_record.proofs.Entries.{all-valid}
-use Rattle.edit_version.proofs.Orders.{greatest-has, precedence_total}
+use Rattle.edit_version.proofs.GreatestEntries.{all-valid}
+use Rattle.edit_version.proofs.Orders.{greatest-has}
 use Rattle.edit_sources.specs.Index.{answer_of}
-use Rattle.edit_upgrade.specs.Decision.{decision, newer, or_else}
+use Rattle.edit_decision.specs.Decision.{decision, newer, or_else}
 use Rattle.edit_upgrade.specs.Headline.{IsVersionTold, KeepsFloor, LatestIsNotLess, Narrows, Reaches}
 use Rattle.edit_upgrade.specs.Inputs.{Setting}
 use Rattle.edit_upgrade.specs.Looks.{Answer, look_at, versions_in}
 use Rattle.edit_upgrade.specs.Records.{Seen, seen}
 use Rattle.edit_upgrade.specs.Rows.{AreVersionsFor, IsDecided, IsRowOver, Line, case_for, dashes, elsewhere, line_for, told_there}
 use Rattle.edit_upgrade.specs.Upgraded.{HasRows, IsRow, basis_of}
-use Rattle.edit_upgrade.specs.declared.upgrade.Options.{Options}
-use Rattle.edit_upgrade.proofs.KeptFloors.{compatible-kept, latest-kept}
-use Rattle.edit_upgrade.proofs.Narrowing.{latest-not-less, narrowing, reach}
+use Rattle.edit_decision.specs.declared.options.Options.{Options}
+use Rattle.edit_decision.proofs.KeptFloors.{compatible-kept, latest-kept}
+use Rattle.edit_decision.proofs.Narrowing.{latest-not-less, narrowing, reach}
+use Rattle.edit_decision.proofs.NotLess.{not-less, not-less-itself}
 
 -- ---- versions
 
@@ -57,26 +56,6 @@ admits-plain text v a = (a.0, a.1, admits-without_build a.0 v ∙ a.2)
 -- the text of a version tells it, but for its build metadata
 told-plain : (v : Parts) → IsValid v → IsVersionTold (Some (plain_text v)) (without_build v)
 told-plain v valid = plain_text-read v valid
-
--- what is not greater first is not less the other way
-reversed : (r s : Ordering) → is_le (ordering_then r s) ≡ true → is_ge (ordering_reverse r) ≡ true
-reversed Less s h = refl
-reversed Equal s h = refl
-reversed Greater s h = cc h
-
--- a version that is not less in the full order is not less by precedence
-pub not-less : (u v : Parts) → is_le (full_order u v) ≡ true → is_ge (precedence v u) ≡ true
-not-less u v h = ap is_ge (precedence_total.antisymm v u) ∙ reversed (precedence u v) _ h
-
--- an order that is its own reverse is not less
-own-reverse : (r : Ordering) → r ≡ ordering_reverse r → is_ge r ≡ true
-own-reverse Less e = cc
-own-reverse Equal e = refl
-own-reverse Greater e = refl
-
--- a version is not less than itself
-not-less-itself : (u : Parts) → is_ge (precedence u u) ≡ true
-not-less-itself u = own-reverse (precedence u u) (precedence_total.antisymm u u)
 
 -- ---- one row
 

@@ -20,7 +20,7 @@ use Rattle.edit_upgrade.specs.Outputs.{AreOutputs, HasOutputs, changed, unchange
 use Rattle.edit_upgrade.specs.Records.{Seen, Source, seen, source_of, version_of}
 use Rattle.edit_upgrade.specs.Rows.{AreDecided, IsRowOver, Line, writes}
 use Rattle.edit_upgrade.specs.Upgraded.{HasWarnings}
-use Rattle.edit_upgrade.specs.declared.upgrade.Options.{Options}
+use Rattle.edit_decision.specs.declared.options.Options.{Options}
 
 -- ---- rows
 

@@ -1,6 +1,3 @@
-pub mod LowerLemmas
-pub mod FloorLemmas
-pub mod Pins
 pub mod Steps
 pub mod Bytes
 pub mod FetchLemmas
@@ -10,20 +7,14 @@ pub mod PlannedLemmas
 pub mod WriteLemmas
 pub mod ListLemmas
 pub mod PlanLemmas
-pub mod TakenVersions
 pub mod WordLemmas
-pub mod Narrowing
-pub mod KeptFloors
 pub mod HeadlineRows
-pub mod RaisedAgain
-pub mod LowAgain
 pub mod DecidedAgain
 pub mod WrittenEntries
 pub mod SomeRows
 pub mod FixedPoint
 pub mod PlannedAgain
 pub mod InputLemmas
-mod DecisionFacts
 pub mod RankedLemmas
 pub mod SeenFacts
 pub mod StepLemmas

@@ -11,7 +11,7 @@ use Rattle.edit_record.specs.EntryUpdates.{each_once}
 use Rattle.edit_version.specs.CrateWords.{word_name}
 use Rattle.edit_upgrade.specs.Missing.{AddsNames, AreKnown, AreMissing, HasNames, is_among, name_of, names_in}
 use Rattle.edit_upgrade.specs.Words.{is_named, words_of}
-use Rattle.edit_upgrade.specs.declared.upgrade.Options.{Options}
+use Rattle.edit_decision.specs.declared.options.Options.{Options}
 use Rattle.edit_upgrade.proofs.EndLemmas.{filter-same}
 use Rattle.edit_upgrade.proofs.Steps.{taken-more}
 use Rattle.edit_upgrade.proofs.WordLemmas.{once_named}

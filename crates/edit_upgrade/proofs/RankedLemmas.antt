@@ -1,11 +1,10 @@
 -- What is greatest among the versions of an answer, by its ranking.
-use Rattle.std.proofs.Common.{◌≡◌, List, ℕ, Option, Some, None, Bool, false, Ok, Err, refl, sym, subst, ap}
+use Rattle.std.proofs.Common.{◌≡◌, List, ℕ, Option, Some, None, Bool, false, Ok, refl, sym, subst}
 use Rattle.std.specs.Prelude.{Result, option_map}
-use Rattle.std.specs.Result.{result_ok}
 use Rattle.std.proofs.lemmas.List.Elements.{All-nil}
 use Rattle.semver.specs.Parse.{Held, Parts, req_of}
 use Rattle.semver.specs.declared.error.Error.{Error}
-use Rattle.edit_record.specs.Admissible.{admissible_in}
+use Rattle.edit_version.specs.Admissible.{admissible_in}
 use Rattle.edit_version.specs.Admits.{admits}
 use Rattle.edit_version.specs.Greatest.{IsGreatest}
 use Rattle.edit_version.specs.IndexEntry.{IndexEntry}
@@ -23,22 +22,7 @@ use Rattle.edit_sources.specs.declared.index.IndexKrate.{IndexKrate}
 use Rattle.edit_cache.specs.declared.ranking.Ranked.{Ranked}
 use Rattle.edit_upgrade.specs.Looks.{Answer, kept_by, versions_in}
 use Rattle.edit_upgrade.specs.Rankings.{IsRankingOf}
-
--- what is read of a text that is a requirement
-read-ok : (r : Result (List Held) Error) (cs : List Held) → Some cs ≡ result_ok r → r ≡ Ok cs
-read-ok (Ok ds) cs h = let same : ds ≡ cs = cc h in ap Ok same
-read-ok (Err e) cs h = cc h
-
-pub requirement-ok : (text : List ℕ) (cs : List Held) → Some cs ≡ requirement_read text → req_of text ≡ Ok cs
-requirement-ok text cs h = read-ok (req_of text) cs h
-
--- of a text that is none, nothing is
-read-err : (r : Result (List Held) Error) → None ≡ result_ok r → (e : Error) × (r ≡ Err e)
-read-err (Ok ds) h = cc h
-read-err (Err e) h = (e, refl)
-
-pub requirement-err : (text : List ℕ) → None ≡ requirement_read text → (e : Error) × (req_of text ≡ Err e)
-requirement-err text h = read-err (req_of text) h
+use Rattle.edit_decision.proofs.Readable.{requirement-err}
 
 -- the ranking that is kept beside an answer is that of its entries
 pub ranking-kept : (answer : Option (Option IndexKrate)) (ranked : Option Ranked) → IsRankedAt answer ranked

@@ -1,13 +1,9 @@
-pub mod Floors
-pub mod Decision
-pub mod Decided
 pub mod Rankings
 pub mod Records
 pub mod Rows
 pub mod Lines
 pub mod Found
 pub mod Looks
-pub mod Offers
 pub mod Inputs
 pub mod Looked
 pub mod Upgraded

@@ -2,7 +2,7 @@
 use Rattle.std.specs.Prelude.{◌≡◌, ℕ, List, [], ◌∷◌, Bool, ◌&&◌, All, ◌⊎◌, IfSome, IsSome, Option, Some, None, Ok, find, string_bytes, option_map, ⊤}
 use Rattle.std.specs.Str.{bytes_eq}
 use Rattle.edit_version.specs.IndexEntry.{IndexEntry}
-use Rattle.edit_record.specs.Admissible.{admissible_in}
+use Rattle.edit_version.specs.Admissible.{admissible_in}
 use Rattle.edit_version.specs.RustVersions.{Numbers}
 use Rattle.edit_cache.specs.IndexCache.{kept_at}
 use Rattle.edit_sources.specs.Index.{Outcomes, answer_of}
@@ -13,7 +13,7 @@ use Rattle.url.specs.Parts as url
 use Rattle.url.specs.Parts.{serialize}
 use Rattle.edit_upgrade.specs.Rows.{Basis}
 use Rattle.edit_upgrade.specs.declared.upgrade.Look.{Look}
-use Rattle.edit_upgrade.specs.declared.upgrade.Options.{Options}
+use Rattle.edit_decision.specs.declared.options.Options.{Options}
 
 -- an answer: the entries of a name, or none where there is no such name
 abbrev pub Answer : Type 0

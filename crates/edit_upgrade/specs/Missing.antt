@@ -10,7 +10,7 @@ use Rattle.edit_metadata.specs.declared.input.Input.{Input}
 use Rattle.edit_record.specs.EntryUpdates.{each_once}
 use Rattle.edit_version.specs.CrateWords.{word_name}
 use Rattle.edit_upgrade.specs.Words.{is_named, words_of}
-use Rattle.edit_upgrade.specs.declared.upgrade.Options.{Options}
+use Rattle.edit_decision.specs.declared.options.Options.{Options}
 use Rattle.edit_upgrade.specs.declared.upgrade.UpgradePlan.{UpgradePlan}
 
 -- the crate's name of an entry that has a record

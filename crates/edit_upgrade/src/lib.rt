@@ -3,23 +3,20 @@
 
 mod addresses;
 mod asked;
-mod decide;
 mod draft;
-mod floors;
 mod lists;
 mod looks;
 mod missing;
 mod names;
-mod offers;
 mod picks;
 mod plan;
 mod planned;
-mod requirement;
 mod rows;
 mod seen;
 pub mod upgrade;
 mod walk;
 mod writes;
 
+pub use edit_decision::Options;
 pub use plan::{plan_documents, plan_upgrade};
-pub use upgrade::{Look, Options, UpgradePlan, Warning};
+pub use upgrade::{Look, UpgradePlan, Warning};

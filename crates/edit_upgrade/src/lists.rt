@@ -11,9 +11,9 @@ ghost use Rattle.edit_upgrade.specs.Lists.{AreNames, AreWarnings, IsWarningOn, c
 ghost use Rattle.edit_upgrade.specs.Records.{source_of, version_of};
 
 use crate::names::{Names, add_name};
-use crate::requirement::read_pin;
 use crate::upgrade::Warning;
 use edit_base::{CargoResult, Error};
+use edit_decision::requirement::read_pin;
 use edit_entries::{Entry, Said};
 use edit_record::{Dependency, Source};
 use edit_report::{Reason, Row};

@@ -10,8 +10,8 @@ ghost use Rattle.edit_upgrade.specs.Picks.{AddsWord, ArePicks, AreWordsRead, has
 ghost use Rattle.edit_upgrade.specs.WordCauses.{IsOptionCause, StopsAtWord};
 
 use crate::names::{Names, add_name};
-use crate::upgrade::Options;
 use edit_base::CargoResult;
+use edit_decision::options::Options;
 use edit_version::CrateSpec;
 use std::alloc::Global;
 use std::collections::{BTreeMap, BTreeSet};

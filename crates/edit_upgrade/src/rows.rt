@@ -1,27 +1,27 @@
 //! The rows of entries.
 ghost use Rattle.std.specs.Prelude.{◌≡◌, IfErr, IfOk, Option, map, option_copied, option_map, string_bytes};
 ghost use Rattle.edit_base.specs.Errors.{IsMemory};
-ghost use Rattle.edit_record.specs.Candidates.{numbers_in, parts_in};
+ghost use Rattle.edit_version.specs.Candidates.{numbers_in, parts_in};
 ghost use Rattle.edit_version.specs.ReadRequirement.{text_in};
 ghost use Rattle.edit_version.specs.Requirement.{plain_text};
 ghost use Rattle.edit_version.specs.Selection.{IsCompatible, IsLatest};
 ghost use Rattle.edit_cache.specs.IndexCache.{index_of};
 ghost use Rattle.url.specs.Parts.{serialize};
-ghost use Rattle.edit_upgrade.specs.Decision.{decision, newer, or_else};
+ghost use Rattle.edit_decision.specs.Decision.{decision, newer, or_else};
 ghost use Rattle.edit_upgrade.specs.Found.{seen_of, source_view};
 ghost use Rattle.edit_upgrade.specs.Lines.{line_of};
 ghost use Rattle.edit_upgrade.specs.Looks.{Answer, kept_by, versions_in};
-ghost use Rattle.edit_upgrade.specs.Offers.{offered};
+ghost use Rattle.edit_decision.specs.Offers.{offered};
 ghost use Rattle.edit_upgrade.specs.Rankings.{IsRankingOf};
 ghost use Rattle.edit_upgrade.specs.Rows.{IsDecided, IsRowOver, case_for, dash_reason, dashes, line_for};
 
 use crate::asked::{Asked, is_excluded, requirement_for};
-use crate::decide::decide;
-use crate::offers::{Offer, offer_of};
 use crate::seen::{Entry, Source};
 use edit_base::CargoResult;
 use edit_cache::cache::IndexCache;
 use edit_cache::ranking::Ranked;
+use edit_decision::decide::decide;
+use edit_decision::offers::{Offer, offer_of};
 use edit_document::copied_place;
 use edit_record::Requirement;
 use edit_report::{Reason, Row};

@@ -1,7 +1,7 @@
 //! A walk over the entries of an input: their looks, each once, and their rows.
 ghost use Rattle.std.specs.Prelude.{◌≡◌, ◌⊎◌, All, IfErr, IfOk, None, OnOk, Some, map, option_map, string_bytes};
 ghost use Rattle.edit_base.specs.Errors.{IsMemory};
-ghost use Rattle.edit_record.specs.Candidates.{numbers_in};
+ghost use Rattle.edit_version.specs.Candidates.{numbers_in};
 ghost use Rattle.edit_sources.specs.Configured.{given};
 ghost use Rattle.edit_cache.specs.IndexCache.{index_of};
 ghost use Rattle.url.specs.Parts.{serialize};

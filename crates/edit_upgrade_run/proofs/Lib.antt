@@ -1,4 +1,4 @@
-pub mod CauseLemmas
-pub mod CopyLemmas
+pub mod PlanClauses
 pub mod PlanLemmas
+pub mod RowLemmas
 pub mod UpgradeLemmas

@@ -1,13 +1,9 @@
-//! The command `upgrade`, over any files and any writers.
+//! The command `upgrade`, over any files, any index and any writers.
 #![tactic(auto)]
 
-mod locate;
-mod notes;
-mod own;
-mod reported;
+mod plan;
 mod upgrading;
 pub mod words;
-mod written;
 
 pub use upgrading::upgrade;
 pub use words::UpgradeWords;

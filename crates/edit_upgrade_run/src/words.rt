@@ -1,11 +1,33 @@
 //! What the words of `upgrade` ask for.
+ghost use Rattle.std.specs.Prelude.{◌≡◌};
+ghost use Rattle.edit_upgrade_read.specs.Asking.{asking_of};
+ghost use Rattle.edit_upgrade_run.specs.Planned.{asking};
 
 use edit_upgrade::Options;
+use edit_upgrade_read::{Asked, RustChoice};
 
 /// What the words of `upgrade` ask for.
 #[derive(Debug, Drop)]
 pub struct UpgradeWords<'a> {
-    pub manifest_path: &'a str,
-    pub index_file: &'a str,
+    pub manifest_path: Option<&'a str>,
+    /// The file with the metadata of a workspace, all of whose manifests are upgraded.
+    pub metadata_json: Option<&'a str>,
+    /// The file with the lines of an index, which stands for the index in files.
+    pub index_file: Option<&'a str>,
+    pub rust: RustChoice,
     pub options: Options,
+}
+
+impl<'a> UpgradeWords<'a> {
+    /// What is to be read.
+    pub(crate) fn asked(&self) -> Asked<'a>
+        ensures { asking_of result ≡ asking self.now }
+    {
+        Asked {
+            manifest_path: self.manifest_path,
+            metadata_json: self.metadata_json,
+            index_file: self.index_file,
+            rust: self.rust,
+        }
+    }
 }

@@ -22,6 +22,8 @@ pub mod Orders
 pub mod Offers
 pub mod Builds
 pub mod Lands
+pub mod Kept
+pub mod GreatestEntries
 -- Increments and words
 pub mod Steps
 mod JoinedTexts

@@ -11,5 +11,7 @@ pub mod Phases
 pub mod Changed
 pub mod CrateWords
 pub mod IndexEntry
+pub mod Admissible
+pub mod Candidates
 pub mod ReadRequirement
 pub mod ReadVersion

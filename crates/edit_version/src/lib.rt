@@ -2,6 +2,7 @@
 //! version.
 #![tactic(auto)]
 
+pub mod candidates;
 pub mod crate_spec;
 pub mod fetch;
 pub mod requirement;
@@ -9,6 +10,7 @@ mod requirement_text;
 pub mod rust_version;
 pub mod version;
 
+pub use candidates::{Candidate, greatest_entry, is_for, is_wanted, read_candidate};
 pub use crate_spec::CrateSpec;
 pub use fetch::IndexVersion;
 pub use requirement::{

@@ -1,9 +1,11 @@
-//! Tests of reports and of the calls that follow an upgrade, by the public calls of `edit_report` and
-//! `edit_update` alone.
+//! Tests of reports, of the calls that follow an upgrade and of its delivery, by the public calls of
+//! `edit_report`, `edit_update` and `edit_upgrade_told` alone.
 //!
 //! They stand in a crate of their own, since a crate with tests is proved once more with them.
 #![tactic(auto)]
 
+#[cfg(test)]
+mod deliveries;
 #[cfg(test)]
 mod messages;
 #[cfg(test)]

@@ -39,7 +39,7 @@ fn files_failing(alloc: Global, at: u64) -> CargoResult<FaultStore> {
 }
 
 /// What a file holds.
-fn held(alloc: Global, files: &mut FaultStore, path: &str) -> Result<String, Fail> {
+pub(crate) fn held(alloc: Global, files: &mut FaultStore, path: &str) -> Result<String, Fail> {
     match files.read(alloc, path)? {
         Some(bytes) => text(alloc, str::from_utf8(&bytes)?),
         None => text(alloc, "no file"),

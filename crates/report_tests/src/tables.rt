@@ -31,10 +31,11 @@ fn reason_of(word: &str) -> Option<Reason> {
     }
 }
 
-/// A row: its name, the name in the manifest, the old, compatible, latest and new text, the reason.
+/// A row: its name, the name in the manifest, the old, compatible, latest and new text, the reason, and its
+/// input, 0 where none is said.
 fn row_of(alloc: Global, words: &str) -> Result<Row, Fail> {
     Ok(Row {
-        input: 0,
+        input: part(words, 7).parse().unwrap_or(0),
         name: text(alloc, part(words, 0))?,
         place: Vec::new(alloc),
         rename: given(alloc, part(words, 1))?,
@@ -48,7 +49,7 @@ fn row_of(alloc: Global, words: &str) -> Result<Row, Fail> {
 }
 
 /// Rows, each behind a semicolon but the first.
-fn rows_of(alloc: Global, words: &str) -> Result<Vec<Row>, Fail> {
+pub(crate) fn rows_of(alloc: Global, words: &str) -> Result<Vec<Row>, Fail> {
     let mut rows = Vec::new(alloc);
     for row in words.split(';') {
         rows.push(row_of(alloc, row)?)?;

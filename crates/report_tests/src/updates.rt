@@ -7,7 +7,7 @@ use std::test::Fail;
 use test_rows::{LINES, field, rows_hold, text, told};
 
 /// Words that are parted by spaces.
-fn words_of(alloc: Global, words: &str) -> Result<Vec<String>, Fail> {
+pub(crate) fn words_of(alloc: Global, words: &str) -> Result<Vec<String>, Fail> {
     let mut all = Vec::new(alloc);
     for word in words.split_whitespace() {
         all.push(text(alloc, word)?)?;
@@ -32,7 +32,7 @@ fn package_json(alloc: Global, word: &str) -> Result<String, Fail> {
 }
 
 /// The metadata of a workspace at `/w` with these packages.
-fn metadata(alloc: Global, packages: &str) -> Result<String, Fail> {
+pub(crate) fn metadata(alloc: Global, packages: &str) -> Result<String, Fail> {
     let mut parts = Vec::new(alloc);
     for word in packages.split_whitespace() {
         parts.push(package_json(alloc, word)?)?;
@@ -44,7 +44,7 @@ fn metadata(alloc: Global, packages: &str) -> Result<String, Fail> {
 }
 
 /// A plan that modified these names, with these names of repositories.
-fn plan_of(alloc: Global, modified: &str, git: &str) -> Result<UpgradePlan, Fail> {
+pub(crate) fn plan_of(alloc: Global, modified: &str, git: &str) -> Result<UpgradePlan, Fail> {
     Ok(UpgradePlan {
         outputs: Vec::new(alloc),
         rows: Vec::new(alloc),
@@ -70,7 +70,7 @@ fn recursive_of(flags: &str) -> Option<bool> {
 }
 
 /// Options by letters: `c` compatible, `r` recursive, `n` not recursive, `d` dry run, `l` locked; and words.
-fn options_of(alloc: Global, flags: &str, words: &str) -> Result<Options, Fail> {
+pub(crate) fn options_of(alloc: Global, flags: &str, words: &str) -> Result<Options, Fail> {
     Ok(Options {
         compatible: flags.contains('c'),
         incompatible: false,

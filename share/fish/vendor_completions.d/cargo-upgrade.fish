@@ -2,7 +2,10 @@
 complete -c cargo-upgrade -f
 complete -c cargo-upgrade -n __fish_is_first_arg -a upgrade -d 'Raises the dependency requirements of a manifest'
 complete -c cargo-upgrade -l manifest-path -r -F -d 'The manifest, or a folder with one'
+complete -c cargo-upgrade -l metadata-json -r -F -d 'What `cargo metadata` says of the workspace'
 complete -c cargo-upgrade -l index-file -r -F -d 'Index lines, as a registry\'s index has them'
+complete -c cargo-upgrade -l rust-version -x -d 'Override `rust-version`'
+complete -c cargo-upgrade -l ignore-rust-version -d 'Ignore `rust-version` specification in packages'
 complete -c cargo-upgrade -s n -l dry-run -d 'Prints what would change, and changes nothing'
 complete -c cargo-upgrade -l locked -d 'Refuses to change the manifest'
 complete -c cargo-upgrade -s v -l verbose -d 'Reports more'

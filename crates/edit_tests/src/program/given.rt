@@ -8,21 +8,33 @@ upgrade --manifest-path '' --index-file index.json|\
 2 error: a value is required for '--manifest-path <PATH>' but none was supplied
 
 For more information, try '--help'.
-§upgrade --manifest-path Cargo.toml|\
-2 error: the following required arguments were not provided:
-  --index-file <FILE>
+§upgrade --metadata-json ''|\
+2 error: a value is required for '--metadata-json <FILE>' but none was supplied
 
-Usage: cargo-edit upgrade --manifest-path <PATH> --index-file <FILE>
+For more information, try '--help'.
+§upgrade --rust-version 1.70 --ignore-rust-version|\
+2 error: the argument '--rust-version <VER>' cannot be used with '--ignore-rust-version'
+
+For more information, try '--help'.
+§- --rust-version 1.x|\
+2 error: invalid value '1.x' for '--rust-version <VER>': rust-version must be a value like `1.32`
+
+For more information, try '--help'.
+§- --rust-version one|\
+2 error: invalid value 'one' for '--rust-version <VER>': Invalid version requirement `one`
 
 For more information, try '--help'.
 §upgrade --help|\
 0 Raises the dependency requirements of a manifest
 
-Usage: cargo-edit upgrade [OPTIONS] --manifest-path <PATH> --index-file <FILE>
+Usage: cargo-edit upgrade [OPTIONS]
 
 Options:
       --manifest-path <PATH>         The manifest, or a folder with one
+      --metadata-json <FILE>         What `cargo metadata` says of the workspace
       --index-file <FILE>            Index lines, as a registry's index has them
+      --rust-version <VER>           Override `rust-version`
+      --ignore-rust-version          Ignore `rust-version` specification in packages
   -n, --dry-run                      Prints what would change, and changes nothing
       --locked                       Refuses to change the manifest
   -v, --verbose...                   Reports more
@@ -52,6 +64,13 @@ raises one manifest|mi|99|-|0 raised name  old req compatible latest new req
 ====  ======= ========== ====== =======
 serde 1.0     1.2.3      1.2.3  1.2    
     Checking virtual workspace's dependencies
+§the manifest of the current folder|mi|99|upgrade --index-file index.json|\
+0 raised name  old req compatible latest new req
+====  ======= ========== ====== =======
+serde 1.0     1.2.3      1.2.3  1.2    
+    Checking virtual workspace's dependencies
+§no index file, and no index in files|mi|99|upgrade --manifest-path Cargo.toml|\
+1 manifest Error: Registry scheme `sparse+https` is not supported
 §nothing there|i|99|-|1 none Error: Failed to get cargo file metadata
   at /w/Cargo.toml
 §a folder in its place|b|99|-|1 none Error: Failed to read manifest contents
@@ -192,8 +211,6 @@ pub(super) const STATUSES: &str = "\
 help|mi|99|upgrade --help|0 manifest \
 §version|mi|99|upgrade -V|0 manifest \
 §a flag that none has|mi|99|upgrade --nope|2 manifest \
-§no index file|mi|99|upgrade --manifest-path Cargo.toml|2 manifest \
-§no manifest|mi|99|upgrade --index-file index.json|2 manifest \
 §a value behind the one that was filled in|mi|99|- --pinned maybe|2 manifest \
 §a value that only others have|mi|99|- --recursive=allow|2 manifest \
 §an option twice|mi|99|- -i -i|2 manifest \

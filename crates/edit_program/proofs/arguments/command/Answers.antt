@@ -1,7 +1,7 @@
 use Rattle.std.proofs.Common.{rules, ap, ap₂, [], ◌≡◌, ◌∙◌}
 use Rattle.std.proofs.lemmas.Result.{IfOk-weaker}
 use Rattle.clap.specs.Words.{App, app_of, with_subcommand}
-use Rattle.edit_program.specs.CommandLine.{edit_app, top_shape}
+use Rattle.edit_program.specs.CommandLine.{edit_app, top_shape, upgrade_app}
 use Rattle.edit_program.proofs.arguments.command.Goals as goal
 
 pub returns : goal.returns
@@ -9,5 +9,8 @@ unfolding edit_app
 returns c =
     let top : App = record { top = top_shape; subs = [] } in
     let top_is : app_of c.subcommand_required.result ≡ top = search rules in
-    IfOk-weaker c.subcommand.result _ _ (λ r h. h.shape c.in_ok-upgrade.ensures.local
-    ∙ ap₂ with_subcommand top_is (ap (λ (a : App). a.top) c.in_ok-upgrade.ensures.app)) c.subcommand.ensures
+    let one : app_of c.in_ok-subcommand.field-0 ≡ with_subcommand top upgrade_app.top =
+    c.in_ok-subcommand.ensures.shape c.in_ok-upgrade.ensures.local
+    ∙ ap₂ with_subcommand top_is (ap (λ (a : App). a.top) c.in_ok-upgrade.ensures.app) in
+    IfOk-weaker c.subcommand-2.result _ _ (λ r h. h.shape c.in_ok-set_version.ensures.local
+    ∙ ap₂ with_subcommand one (ap (λ (a : App). a.top) c.in_ok-set_version.ensures.app)) c.subcommand-2.ensures

@@ -1,11 +1,30 @@
-use Rattle.std.proofs.Common.{codes, refl}
-use Rattle.edit_program.proofs.AskedLemmas.{value_is}
+use Rattle.std.proofs.Common.{codes, inr, refl, subst}
+use Rattle.std.specs.Prelude.{Bool, Option}
+use Rattle.clap.specs.Words.{Text, first_of, found_of, rows_of}
+use Rattle.edit_program.specs.UpgradeAsked.{HasNoRust, IsRust}
+use Rattle.edit_program.proofs.AskedLemmas.{err_same, kept_is}
 use Rattle.edit_program.proofs.asked.upgrade_words.Goals as goal
 
-pub returns-clause-manifest : goal.returns-clause-manifest
-returns-clause-manifest c = value_is c.args.matches.now (codes "manifest-path") (codes "Cargo.toml")
-    c.get_str.result c.unwrap_or.result _ c.get_str.ensures c.unwrap_or.ensures refl
+pub returns-in_err-rust-clause-refused : goal.returns-in_err-rust-clause-refused
+returns-in_err-rust-clause-refused c =
+    let rows = rows_of (found_of c.args.matches.now) in
+    let named = kept_is c.args.matches.now (codes "rust-version") c.get_str.result _ refl c.get_str.ensures in
+    err_same c.from_residual.result c.in_err-rust.field-0.0 _ c.from_residual.ensures.1 (λ other.
+    inr (subst (λ (b : Bool). HasNoRust (first_of (codes "rust-version") rows) b) c.is_given-ignored.ensures
+    (subst (λ (a : Option Text). HasNoRust a c.is_given-ignored.result) named
+    (c.in_err-rust.ensures.refused other))))
 
-pub returns-clause-index : goal.returns-clause-index
-returns-clause-index c = value_is c.args.matches.now (codes "index-file") (codes "index.json")
-    c.get_str-2.result c.unwrap_or-2.result _ c.get_str-2.ensures c.unwrap_or-2.ensures refl
+pub returns-clause-asks : goal.returns-clause-asks
+returns-clause-asks c =
+    let rows = rows_of (found_of c.args.matches.now) in
+    let named = kept_is c.args.matches.now (codes "rust-version") c.get_str.result _ refl c.get_str.ensures in
+    record {
+      manifest = kept_is c.args.matches.now (codes "manifest-path") c.get_str-2.result _ refl c.get_str-2.ensures;
+      metadata = kept_is c.args.matches.now (codes "metadata-json") c.get_str-3.result _ refl c.get_str-3.ensures;
+      index = kept_is c.args.matches.now (codes "index-file") c.get_str-4.result _ refl c.get_str-4.ensures;
+      rust = subst (λ (b : Bool). IsRust (first_of (codes "rust-version") rows) b c.in_ok-rust.rust)
+          c.is_given-ignored.ensures
+          (subst (λ (a : Option Text). IsRust a c.is_given-ignored.result c.in_ok-rust.rust) named
+          c.in_ok-rust.ensures.ok);
+      options = c.in_ok-options_of.ensures.options;
+    }

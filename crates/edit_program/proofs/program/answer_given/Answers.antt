@@ -20,8 +20,9 @@ returns-clause-done g c =
     subst (λ (ws : List (List ℕ)). IfOk c.answer.result
     (λ s. s ≡ 0 → (g.S.Store.view c.args.files.now).tells ≡ true
     → IsDone ws (Appends (g.O.Write.contents c.args.out.now) (g.O.Write.contents c.answer.new.out))
-    c.args.current.now (given c.args.cargo_home) (g.S.Store.view c.args.files.now).file_at
-    (g.S.Store.view c.answer.new.files).file_at)) same c.answer.ensures.done
+    (Appends (g.E.Write.contents c.args.err.now) (g.E.Write.contents c.answer.new.err))
+    c.args.current.now (given c.args.cargo_home) (g.T.Store.view c.args.index_files)
+    (g.S.Store.view c.args.files.now) (g.S.Store.view c.answer.new.files))) same c.answer.ensures.done
 
 pub returns-clause-refused : goal.returns-clause-refused
 returns-clause-refused g c =
@@ -30,14 +31,14 @@ returns-clause-refused g c =
     subst (λ (ws : List (List ℕ)). OnErr c.answer.result
     ((g.S.Store.view c.args.files.now).tells ≡ true
     → IsRefused ws (Appends (g.O.Write.contents c.args.out.now) (g.O.Write.contents c.answer.new.out))
-    c.args.current.now (given c.args.cargo_home) (g.S.Store.view c.args.files.now).file_at
-    (g.S.Store.view c.answer.new.files).file_at)) same c.answer.ensures.refused
+    (Appends (g.E.Write.contents c.args.err.now) (g.E.Write.contents c.answer.new.err))
+    c.args.current.now (given c.args.cargo_home) (g.T.Store.view c.args.index_files)
+    (g.S.Store.view c.args.files.now) (g.S.Store.view c.answer.new.files))) same c.answer.ensures.refused
 
 pub returns-clause-why : goal.returns-clause-why
 returns-clause-why g c =
     let same : map (λ (w : Bor (List ℕ)). w.now) c.as_slice.result.now
     ≡ filled (map (λ (w : Bor (List ℕ)). w.now) c.args.words.now) = search rules in
     subst (λ (ws : List (List ℕ)). IfErr c.answer.result
-    (λ r. IsRunCause ws c.args.current.now (given c.args.cargo_home) (g.S.Store.view c.args.files.now).tells
-    (g.S.Store.view c.args.files.now).file_at (g.S.Store.view c.args.files.now).faults
-    (g.S.Store.view c.answer.new.files).faults r.error)) same c.answer.ensures.why
+    (λ r. IsRunCause ws c.args.current.now (given c.args.cargo_home) (g.T.Store.view c.args.index_files)
+    (g.S.Store.view c.args.files.now) (g.S.Store.view c.answer.new.files) r.error)) same c.answer.ensures.why

@@ -1,7 +1,7 @@
 use Rattle.std.proofs.Common.{Bool, Err, List, Ok, Option, Result, map, ℕ}
 use Rattle.std.specs.Prelude.{IfOk, IsTrue, option_map}
 use Rattle.edit_base.specs.declared.errors.Error.{Error}
-use Rattle.edit_record.specs.Admissible.{entry_order, is_kept}
+use Rattle.edit_version.specs.Admissible.{entry_order, is_kept}
 use Rattle.edit_record.specs.Finding.{IsFound, IsFoundAtLeast}
 use Rattle.edit_version.specs.Greatest.{IsGreatestKept}
 use Rattle.edit_version.specs.IndexEntry.{IndexEntry, entry_of}

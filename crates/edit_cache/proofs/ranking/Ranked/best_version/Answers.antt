@@ -1,7 +1,7 @@
 use Rattle.std.proofs.Common.{◌≡◌, Some, None, map, ap, sym, ◌∙◌}
 use Rattle.std.specs.Prelude.{option_copied, option_map}
 use Rattle.std.specs.List.{find}
-use Rattle.edit_record.specs.Admissible.{is_wanted}
+use Rattle.edit_version.specs.Admissible.{is_wanted}
 use Rattle.edit_version.specs.Requirement.{comparators_of}
 use Rattle.edit_version.specs.RustVersions.{numbers_of}
 use Rattle.edit_cache.specs.Ranking.{passes, rank_of}

@@ -1,0 +1,4 @@
+pub mod Floors
+pub mod Decision
+pub mod Offers
+pub mod Decided

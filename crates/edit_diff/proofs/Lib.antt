@@ -1,0 +1,4 @@
+pub mod DiffLemmas
+pub mod LineLaws
+pub mod LineLemmas
+pub mod MarkLemmas

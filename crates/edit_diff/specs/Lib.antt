@@ -1,0 +1,5 @@
+pub mod Hunks
+pub mod Lines
+pub mod Marks
+pub mod Shown
+pub mod Unified

@@ -1,0 +1,10 @@
+//! The change of a file as a unified diff.
+#![tactic(auto)]
+
+mod hunks;
+mod lines;
+mod marks;
+mod shown;
+pub mod unified;
+
+pub use unified::{diff_text, write_diff};

@@ -1,0 +1,2 @@
+pub mod DirIndex
+pub mod Folders

@@ -1,0 +1,3 @@
+pub mod LookLines
+pub mod Needed
+pub mod NoIndex

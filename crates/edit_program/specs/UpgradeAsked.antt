@@ -1,0 +1,51 @@
+-- What the words of `upgrade` ask for.
+use Rattle.std.specs.Prelude.{◌≡◌, ◌⊎◌, List, Bool, Option, Some, None, codes, true, false}
+use Rattle.clap.specs.Words.{Row, Text, first_of}
+use Rattle.edit_sources.specs.Configured.{given}
+use Rattle.edit_upgrade_read.specs.declared.asked.RustChoice.{RustChoice}
+use Rattle.edit_upgrade_read.specs.declared.asked.RustChoice.TheVariants as choice
+use Rattle.edit_upgrade_run.specs.declared.words.UpgradeWords.{UpgradeWords}
+use Rattle.edit_version.specs.RustVersions.{numbers_of, rust_of}
+use Rattle.edit_version.specs.declared.rust_version.RustVersion.{RustVersion}
+use Rattle.edit_program.specs.CommandLine.{AskForOptions, HasBadStatus, HaveEntered, is_given}
+
+-- the versions of Rust that count, by the one that is named and by whether they are ignored: those of the
+-- manifests, none, or the one that is named
+abbrev pub IsRust : Option Text → Bool → RustChoice → Type 0
+IsRust None false rust = rust ≡ choice.Own
+IsRust None true rust = rust ≡ choice.Ignored
+IsRust (Some text) false rust =
+    (version : RustVersion) × (rust_of text ≡ Some (numbers_of version)) × (rust ≡ choice.Given version)
+IsRust (Some text) true rust = ⊥
+
+-- it is not said which versions of Rust count: a text names none, or one is named and all are ignored
+abbrev pub HasNoRust : Option Text → Bool → Type 0
+HasNoRust None ignored = ⊥
+HasNoRust (Some text) false = rust_of text ≡ None
+HasNoRust (Some text) true = Unit {0}
+
+-- what the matches of `upgrade` ask for
+pub record AskForUpgrade (rows : List Row) (w : UpgradeWords) : Type 0 where
+  pub manifest : given w.manifest_path ≡ first_of (codes "manifest-path") rows
+  pub metadata : given w.metadata_json ≡ first_of (codes "metadata-json") rows
+  pub index : given w.index_file ≡ first_of (codes "index-file") rows
+  pub rust : IsRust (first_of (codes "rust-version") rows) (is_given (codes "ignore-rust-version") rows) w.rust
+  pub options : AskForOptions rows w.options
+
+-- one of the values is none that its option has, or it is not said which versions of Rust count
+abbrev pub HaveUpgradeFault : List Row → Type 0
+HaveUpgradeFault rows =
+    HasBadStatus rows
+    ⊎ HasNoRust (first_of (codes "rust-version") rows) (is_given (codes "ignore-rust-version") rows)
+
+-- the command line takes the words, which ask for this upgrade
+pub record AskToUpgrade (words : List Text) (w : UpgradeWords) : Type 0 where
+  pub rows : List Row
+  pub entered : HaveEntered words (codes "upgrade") rows
+  pub asks : AskForUpgrade rows w
+
+-- the command line takes the words, which name `upgrade` with what it does not take
+pub record HaveBadUpgrade (words : List Text) : Type 0 where
+  pub rows : List Row
+  pub entered : HaveEntered words (codes "upgrade") rows
+  pub fault : HaveUpgradeFault rows

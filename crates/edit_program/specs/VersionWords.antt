@@ -1,0 +1,67 @@
+-- What the words of `set-version` ask for.
+use Rattle.std.specs.Prelude.{◌≡◌, ◌≢◌, ◌⊎◌, ◌&&◌, ◌||◌, List, Bool, Option, Some, None, Ok, Err, codes, is_some, map, option_map, string_bytes, true, false}
+use Rattle.clap.specs.Words.{Row, Text, first_of}
+use Rattle.semver.specs.Parse.{Parts, version_parts}
+use Rattle.semver.specs.declared.error.Error.{Error}
+use Rattle.edit_set_version.specs.Bumps.{Target, by_level, exactly, target_of}
+use Rattle.edit_set_version.specs.Levels.{level_word}
+use Rattle.edit_set_version.specs.declared.set_version.BumpLevel.{BumpLevel}
+use Rattle.edit_set_version.specs.declared.set_version.BumpLevel.TheVariants.{Release}
+use Rattle.edit_set_version_run.specs.declared.words.SetVersionWords.{SetVersionWords}
+use Rattle.edit_program.specs.CommandLine.{HaveEntered, is_given, value_of, values_of}
+
+-- the target that a version and a level name: one of the two alone, or with neither the level `release`
+abbrev pub IsTarget : Option Text → Option Text → Target → Type 0
+IsTarget None None target = target ≡ by_level Release
+IsTarget None (Some word) target =
+    (level : BumpLevel) × (word ≡ level_word level) × (target ≡ by_level level)
+IsTarget (Some text) None target =
+    (parts : Parts) × (version_parts text ≡ Ok parts) × (target ≡ exactly parts)
+IsTarget (Some text) (Some word) target = ⊥
+
+-- a version and a level name no target: the one that is there is not read, or both are there
+abbrev pub HaveNoTarget : Option Text → Option Text → Type 0
+HaveNoTarget None None = ⊥
+HaveNoTarget None (Some word) = (level : BumpLevel) → word ≢ level_word level
+HaveNoTarget (Some text) None = (e : Error) × (version_parts text ≡ Err e)
+HaveNoTarget (Some text) (Some word) = Unit {0}
+
+-- two of the three ways to name members are there: packages, `--all`, `--workspace`
+abbrev pub names_twice : List Row → Bool
+names_twice rows =
+    (is_given (codes "all") rows && is_given (codes "workspace") rows)
+    || (is_some (first_of (codes "package") rows)
+    && (is_given (codes "all") rows || is_given (codes "workspace") rows))
+
+-- what the matches of `set-version` ask for
+pub record AskForVersions (rows : List Row) (w : SetVersionWords) : Type 0 where
+  pub metadata_json : w.metadata_json.now
+      ≡ value_of (codes "metadata-json") (codes "metadata.json") rows
+  pub target : IsTarget (first_of (codes "target") rows) (first_of (codes "bump") rows) (target_of w.target)
+  pub packages : map string_bytes w.selection.packages.items ≡ values_of (codes "package") rows
+  pub exclude : map string_bytes w.selection.exclude.items ≡ values_of (codes "exclude") rows
+  pub workspace : w.selection.workspace
+      ≡ (is_given (codes "workspace") rows || is_given (codes "all") rows)
+  pub metadata : option_map string_bytes w.selection.metadata ≡ first_of (codes "metadata") rows
+  pub all : w.all ≡ is_given (codes "all") rows
+  pub dry_run : w.dry_run ≡ is_given (codes "dry-run") rows
+  pub named_once : names_twice rows ≡ false
+
+-- the matches ask for no target, or name members twice
+abbrev pub HaveFault : List Row → Type 0
+HaveFault rows =
+    (names_twice rows ≡ true)
+    ⊎ HaveNoTarget (first_of (codes "target") rows) (first_of (codes "bump") rows)
+
+-- the command line takes the words, which ask to set these versions
+pub record AskToSet (words : List Text) (w : SetVersionWords) : Type 0 where
+  pub rows : List Row
+  pub entered : HaveEntered words (codes "set-version") rows
+  pub asks : AskForVersions rows w
+
+-- the command line takes the words, which name `set-version` with what it does not take together, or with a
+-- target that is not read
+pub record HaveVersionFault (words : List Text) : Type 0 where
+  pub rows : List Row
+  pub entered : HaveEntered words (codes "set-version") rows
+  pub fault : HaveFault rows

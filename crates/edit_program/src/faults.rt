@@ -1,0 +1,95 @@
+//! What is printed in place of what was asked for.
+ghost use Rattle.std.specs.Prelude.{◌≡◌, ◌⊎◌, IfErr, IfOk, IsErrAnd};
+ghost use Rattle.clap.specs.Words.{kind_of};
+ghost use Rattle.edit_base.specs.Errors.{IsMemory};
+ghost use Rattle.edit_base.specs.declared.errors.Error.TheVariants.{Output};
+ghost use Rattle.edit_program.specs.Runs.{status_of};
+
+use crate::asked::{BadStatus, UpgradeFault};
+use crate::version_words::VersionFault;
+use clap::error::ErrorKind;
+use edit_base::Error;
+use edit_steps::{Refusal, RunResult};
+use std::io;
+
+/// Prints a refusal and its place, and answers its status, also where the printing fails.
+pub(crate) fn refuse<E: io::Write>(refusal: Refusal, err: &mut E) -> u8
+    ensures { result ≡ 1 }
+{
+    let Refusal { error, place } = refusal;
+    let printed = writeln!(err, "Error: {error}");
+    if let (Ok(()), Some(place)) = (printed, place) {
+        let _ = writeln!(err, "  at {place}");
+    }
+    1
+}
+
+/// Prints what `clap` says in place of matches, and answers its status: 0 for help and the version, 2 for a
+/// fault of the command line.
+pub(crate) fn shown<O: io::Write, E: io::Write>(
+    error: &clap::Error,
+    out: &mut O,
+    err: &mut E,
+) -> RunResult<u8>
+    ensures ok { IfOk result (λ s. s ≡ status_of (kind_of error.now)) }
+    ensures small { IfOk result (λ s. (s ≡ 0) ⊎ (s ≡ 2)) }
+    ensures memory { kind_of error.now ≡ ErrorKind.OutOfMemory → IsErrAnd result (λ r. IsMemory r.error) }
+    ensures refused { IfErr result (λ r. IsMemory r.error
+        ⊎ ((r.error ≡ Output) × (status_of (kind_of error.now) ≡ 0))) }
+{
+    if error.kind() == ErrorKind::OutOfMemory {
+        return Err(Refusal::from(Error::Memory));
+    }
+    if error.use_stderr() {
+        let _ = write!(err, "{error}");
+        return Ok(2);
+    }
+    match write!(out, "{error}") {
+        Ok(()) => Ok(0),
+        Err(_) => Err(Refusal::from(Error::Output)),
+    }
+}
+
+/// Prints what is wrong with words of `upgrade`, and answers the status of a fault.
+pub(crate) fn refuse_upgrade<E: io::Write>(fault: &UpgradeFault<'_>, err: &mut E) -> u8
+    ensures { result ≡ 2 }
+{
+    let _ = match fault {
+        UpgradeFault::Status(BadStatus { option, value }) => writeln!(
+            err,
+            "error: invalid value '{value}' for '--{option} <allow|ignore>'"
+        ),
+        UpgradeFault::Rust(text, error) => writeln!(
+            err,
+            "error: invalid value '{text}' for '--rust-version <VER>': {error}"
+        ),
+        UpgradeFault::TwoRusts => writeln!(
+            err,
+            "error: the argument '--rust-version <VER>' cannot be used with '--ignore-rust-version'"
+        ),
+    };
+    let _ = writeln!(err, "\nFor more information, try '--help'.");
+    2
+}
+
+/// Prints what is wrong with words of `set-version`, and answers the status of a fault.
+pub(crate) fn refuse_version<E: io::Write>(fault: &VersionFault<'_>, err: &mut E) -> u8
+    ensures { result ≡ 2 }
+{
+    let _ = match fault {
+        VersionFault::Together(one, other) => writeln!(
+            err,
+            "error: the argument '{one}' cannot be used with '{other}'"
+        ),
+        VersionFault::Level(word, levels) => writeln!(
+            err,
+            "error: invalid value '{word}' for '--bump <LEVEL>': {levels}"
+        ),
+        VersionFault::Version(text, error) => writeln!(
+            err,
+            "error: invalid value '{text}' for '[TARGET]': {error}"
+        ),
+    };
+    let _ = writeln!(err, "\nFor more information, try '--help'.");
+    2
+}

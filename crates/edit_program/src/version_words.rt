@@ -1,0 +1,166 @@
+//! What matched words of `set-version` ask for.
+ghost use Rattle.std.specs.Prelude.{◌≡◌, ◌≢◌, ◌||◌, IfErr, IfOk, Some, None, codes, is_some, map, option_map, string_bytes, true};
+ghost use Rattle.clap.specs.Words.{first_of, found_of, rows_of};
+ghost use Rattle.edit_set_version.specs.Bumps.{target_of};
+ghost use Rattle.edit_program.specs.declared.version_words.VersionWordsError.TheVariants as words;
+ghost use Rattle.edit_program.specs.CommandLine.{is_given, values_of};
+ghost use Rattle.edit_program.specs.VersionWords.{AskForVersions, HaveFault, HaveNoTarget, IsTarget, names_twice};
+
+use crate::asked::{is_given, values_of};
+use clap::ArgMatches;
+use edit_set_version::{BumpLevel, Selection, TargetVersion};
+use edit_set_version_run::SetVersionWords;
+use semver::Version;
+use std::alloc::{AllocError, Global};
+use std::str::FromStr;
+
+/// What is wrong with matched words of `set-version`.
+#[derive(Debug, Drop)]
+pub(crate) enum VersionFault<'a> {
+    /// Two arguments that are not taken together.
+    Together(&'static str, &'static str),
+    /// A word that is no level, and what is said of it.
+    Level(&'a str, &'static str),
+    /// A text that is no version, and why.
+    Version(&'a str, semver::Error),
+}
+
+/// Why matched words are not read.
+#[derive(Debug, Drop)]
+pub(crate) enum VersionWordsError<'a> {
+    Memory,
+    Fault(VersionFault<'a>),
+}
+
+impl<'a> From<AllocError> for VersionWordsError<'a> {
+    ghost from_gives = { λ _ e. e ≡ words.Memory };
+
+    fn from(_error: AllocError) -> VersionWordsError<'a> {
+        VersionWordsError::Memory
+    }
+}
+
+/// Two of the three ways to name members that are both there.
+fn twice_named(matches: &ArgMatches<'_>) -> Option<(&'static str, &'static str)>
+    ensures { is_some result ≡ names_twice (rows_of (found_of matches.now)) }
+{
+    let all = is_given(matches, "all");
+    let workspace = is_given(matches, "workspace");
+    let package = matches.get_str("package").is_some();
+    if all && workspace {
+        Some(("--all", "--workspace"))
+    } else if package && all {
+        Some(("--package <PKGID>", "--all"))
+    } else if package && workspace {
+        Some(("--package <PKGID>", "--workspace"))
+    } else {
+        None
+    }
+}
+
+/// The target that a level names.
+fn target_by_level<'a>(word: &'a str) -> Result<TargetVersion, VersionWordsError<'a>>
+    ensures ok { IfOk result (λ t. IsTarget None (Some word.now) (target_of t)) }
+    ensures refused { IfErr result (λ _. HaveNoTarget None (Some word.now)) }
+{
+    match BumpLevel::from_str(word) {
+        Ok(level) => Ok(TargetVersion::Relative(level)),
+        Err(levels) => Err(VersionWordsError::Fault(VersionFault::Level(word, levels))),
+    }
+}
+
+/// The target that a version is.
+fn target_by_version<'a>(
+    alloc: Global,
+    text: &'a str,
+) -> Result<TargetVersion, VersionWordsError<'a>>
+    ensures ok { IfOk result (λ t. IsTarget (Some text.now) None (target_of t)) }
+    ensures refused { IfErr result (λ e. e ≢ words.Memory → HaveNoTarget (Some text.now) None) }
+{
+    match Version::parse(alloc, text) {
+        Ok(version) => Ok(TargetVersion::Absolute(version)),
+        Err(error) => {
+            if error == semver::Error::from(AllocError) {
+                return Err(VersionWordsError::Memory);
+            }
+            Err(VersionWordsError::Fault(VersionFault::Version(text, error)))
+        }
+    }
+}
+
+/// The target that a version and a level name.
+fn target<'a>(
+    alloc: Global,
+    version: Option<&'a str>,
+    level: Option<&'a str>,
+) -> Result<TargetVersion, VersionWordsError<'a>>
+    ensures ok { IfOk result (λ t. IsTarget (option_map (λ s. s.now) version.entry)
+        (option_map (λ s. s.now) level.entry) (target_of t)) }
+    ensures refused { IfErr result (λ e. e ≢ words.Memory
+        → HaveNoTarget (option_map (λ s. s.now) version.entry) (option_map (λ s. s.now) level.entry)) }
+{
+    match (version, level) {
+        (None, None) => Ok(TargetVersion::default()),
+        (None, Some(word)) => target_by_level(word),
+        (Some(text), None) => target_by_version(alloc, text),
+        (Some(_), Some(_)) => Err(VersionWordsError::Fault(VersionFault::Together(
+            "[TARGET]",
+            "--bump <LEVEL>",
+        ))),
+    }
+}
+
+/// The value of an option, on memory of its own.
+fn copied_value(
+    alloc: Global,
+    matches: &ArgMatches<'_>,
+    id: &str,
+) -> Result<Option<String>, AllocError>
+    ensures { IfOk result (λ o. option_map string_bytes o ≡ first_of id.now (rows_of (found_of matches.now))) }
+{
+    match matches.get_str(id) {
+        Some(text) => Ok(Some(String::from_str(alloc, text)?)),
+        None => Ok(None),
+    }
+}
+
+/// The members that matched words of `set-version` ask for, and their build metadata.
+fn selection(alloc: Global, matches: &ArgMatches<'_>) -> Result<Selection, AllocError>
+    ensures packages { IfOk result (λ s. map string_bytes s.packages.items
+        ≡ values_of (codes "package") (rows_of (found_of matches.now))) }
+    ensures exclude { IfOk result (λ s. map string_bytes s.exclude.items
+        ≡ values_of (codes "exclude") (rows_of (found_of matches.now))) }
+    ensures workspace { IfOk result (λ s. s.workspace
+        ≡ (is_given (codes "workspace") (rows_of (found_of matches.now))
+        || is_given (codes "all") (rows_of (found_of matches.now)))) }
+    ensures metadata { IfOk result (λ s. option_map string_bytes s.metadata
+        ≡ first_of (codes "metadata") (rows_of (found_of matches.now))) }
+{
+    Ok(Selection {
+        packages: values_of(alloc, matches, "package")?,
+        exclude: values_of(alloc, matches, "exclude")?,
+        workspace: is_given(matches, "workspace") || is_given(matches, "all"),
+        metadata: copied_value(alloc, matches, "metadata")?,
+    })
+}
+
+/// What matched words of `set-version` ask for.
+pub(crate) fn version_words<'a>(
+    alloc: Global,
+    matches: &ArgMatches<'a>,
+) -> Result<SetVersionWords<'a>, VersionWordsError<'a>>
+    ensures asks { IfOk result (AskForVersions (rows_of (found_of matches.now))) }
+    ensures refused { IfErr result (λ e. e ≢ words.Memory → HaveFault (rows_of (found_of matches.now))) }
+{
+    if let Some((one, other)) = twice_named(matches) {
+        return Err(VersionWordsError::Fault(VersionFault::Together(one, other)));
+    }
+    let target = target(alloc, matches.get_str("target"), matches.get_str("bump"))?;
+    Ok(SetVersionWords {
+        metadata_json: matches.get_str("metadata-json").unwrap_or("metadata.json"),
+        target,
+        selection: selection(alloc, matches)?,
+        all: is_given(matches, "all"),
+        dry_run: is_given(matches, "dry-run"),
+    })
+}

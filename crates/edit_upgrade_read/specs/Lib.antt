@@ -1,0 +1,4 @@
+pub mod Asking
+pub mod Causes
+pub mod Own
+pub mod Sources

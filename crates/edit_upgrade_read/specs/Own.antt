@@ -1,0 +1,49 @@
+-- What a manifest says of itself.
+use Rattle.std.specs.Prelude.{◌≡◌, ℕ, List, [], Option, Some, None, codes, option_and_then, option_map, string_bytes, unwrap_or}
+use Rattle.edit_document.specs.Items.{string_in}
+use Rattle.edit_manifest.specs.Located.{IsManifestPath}
+use Rattle.edit_manifest.specs.Tables.{Tree}
+use Rattle.edit_metadata.specs.Inputs.{IsReadFrom, RustAsked, rust_version_for}
+use Rattle.edit_metadata.specs.declared.input.Input.{Input}
+use Rattle.edit_store.specs.Store.{Files}
+use Rattle.edit_syntax.specs.Grammar.{Text}
+use Rattle.edit_tree.specs.Assertions.{at, key}
+use Rattle.edit_tree.specs.Supported.{IsManifest}
+use Rattle.edit_tree.specs.Tree.{view_at}
+use Rattle.edit_version.specs.RustVersions.{Numbers, numbers_of, rust_of}
+
+-- what is read of something that stands, nothing where nothing does
+abbrev pub when_there : {A B : Type 0} → Option A → Option B → Option B
+when_there None b = None
+when_there (Some a) b = b
+
+-- the string `package.KEY` of a document
+abbrev pub package_text : Tree → List ℕ → Option (List ℕ)
+package_text t name =
+    let package_place = key (codes "package") in
+    when_there (t [])
+    (when_there (t (at [] package_place))
+    (option_and_then string_in (t (at (at [] package_place) (key name)))))
+
+-- what reports call the manifest
+abbrev pub own_name : Tree → List ℕ
+own_name t = unwrap_or (package_text t (codes "name")) (codes "virtual workspace")
+
+-- the manifest's own Rust version, where it names one
+abbrev pub own_rust : Tree → Option Numbers
+own_rust t = option_and_then rust_of (package_text t (codes "rust-version"))
+
+-- an input has the name that its bytes say, and the Rust version that is asked for, else the one that they say
+pub record SaysOfItself (asked : RustAsked) (input : Input) : Type 0 where
+  pub form : Text
+  pub manifest : IsManifest input.bytes.items form
+  pub name : string_bytes input.name ≡ own_name (view_at form)
+  pub rust_version : option_map numbers_of input.rust_version
+      ≡ rust_version_for asked (own_rust (view_at form))
+
+-- the manifest that is named was read, or the nearest one where none is
+pub record IsManifestRead (files : Files) (current : List ℕ) (named : Option (List ℕ)) (asked : RustAsked)
+    (input : Input) : Type 0 where
+  pub at : IsManifestPath files current named (string_bytes input.path)
+  pub is : IsReadFrom files input
+  pub says : SaysOfItself asked input

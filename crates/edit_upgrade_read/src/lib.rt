@@ -1,0 +1,15 @@
+//! What an upgrade rests on, as it is read: manifests, their configurations and the index.
+#![tactic(auto)]
+
+mod asked;
+mod configs;
+mod found;
+mod index;
+mod locate;
+mod own;
+mod sources;
+mod target;
+
+pub use asked::{Asked, RustChoice};
+pub use sources::{Sources, read_sources};
+pub use target::Target;

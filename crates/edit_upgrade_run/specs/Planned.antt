@@ -1,0 +1,61 @@
+-- What an upgrade asks for, and its plan over what was read.
+use Rattle.std.specs.Prelude.{ℕ, List, Option, Some, None}
+use Rattle.std.specs.Global.{Vec}
+use Rattle.edit_base.specs.declared.errors.Error.{Error}
+use Rattle.edit_metadata.specs.declared.input.Input.{Input}
+use Rattle.edit_sources.specs.Configured.{given}
+use Rattle.edit_sources.specs.FileIndex.{file_view}
+use Rattle.edit_sources.specs.Index.{IndexView}
+use Rattle.edit_sources.specs.LocalIndex.{local_view}
+use Rattle.edit_sources.specs.declared.config.Config.{Config}
+use Rattle.edit_sources.specs.declared.file_index.FileIndex.{FileIndex}
+use Rattle.edit_store.specs.Store.{StoreView}
+use Rattle.edit_upgrade.specs.Caches.{CacheView}
+use Rattle.edit_upgrade.specs.Causes.{IsCause}
+use Rattle.edit_upgrade.specs.Looks.{Kept}
+use Rattle.edit_upgrade.specs.Plans.{IsPlan}
+use Rattle.edit_upgrade.specs.WordCauses.{IsRefusedFor}
+use Rattle.edit_decision.specs.declared.options.Options.{Options}
+use Rattle.edit_upgrade.specs.declared.upgrade.UpgradePlan.{UpgradePlan}
+use Rattle.edit_upgrade_read.specs.Asking.{Asking, asked_rust}
+use Rattle.edit_upgrade_run.specs.declared.words.UpgradeWords.{UpgradeWords}
+
+-- what the words ask to read
+abbrev pub asking : UpgradeWords → Asking
+asking words = record {
+  manifest = given words.manifest_path;
+  metadata = given words.metadata_json;
+  index = given words.index_file;
+  rust = asked_rust words.rust;
+}
+
+-- the index of an upgrade: the file that was read, else the one that stands in files
+abbrev pub index_view : Option FileIndex → StoreView → IndexView
+index_view (Some index) local = file_view index
+index_view None local = local_view local
+
+-- no answer is kept
+abbrev pub nothing_kept : Kept
+nothing_kept address name = None
+
+-- an index and the answers that are kept over it
+abbrev pub over : IndexView → Kept → CacheView
+over view kept = record { gives = view.gives; faults = view.faults; kept = kept }
+
+-- the plan for inputs with their configurations over an index, of which no answer was kept before
+pub record IsPlanned (o : Options) (inputs : List Input) (configs : List (Vec Config)) (view : IndexView)
+    (plan : UpgradePlan) : Type 0 where
+  pub kept : Kept
+  pub is : IsPlan o inputs configs (over view nothing_kept) (over view kept) plan
+
+-- a plan is stopped by the first input that is no manifest, or that has an entry whose registry has no address
+-- or whose look is refused
+pub record IsPlanStopped (inputs : List Input) (configs : List (Vec Config)) (view : IndexView) (e : Error)
+    : Type 0 where
+  pub kept : Kept
+  pub faults : ℕ
+  pub cause : IsCause inputs configs view.gives nothing_kept kept view.faults faults e
+
+-- why there is no plan: for the options, or for an input
+abbrev pub IsPlanCause : Options → List Input → List (Vec Config) → IndexView → Error → Type 0
+IsPlanCause o inputs configs view e = IsRefusedFor o (IsPlanStopped inputs configs view) e

@@ -1,0 +1,71 @@
+//! The plan over what was read.
+ghost use Rattle.std.specs.Prelude.{◌≡◌, ◌⊎◌, IfErr, IfOk, length};
+ghost use Rattle.edit_base.specs.Errors.{IsMemory};
+ghost use Rattle.edit_steps.specs.Workspaces.{HaveOwnPaths};
+ghost use Rattle.edit_upgrade_read.specs.Sources.{AreDocuments};
+ghost use Rattle.edit_upgrade_run.specs.Planned.{IsPlanCause, IsPlanned, index_view};
+
+use edit_base::CargoResult;
+use edit_cache::IndexCache;
+use edit_sources::{Config, FileIndex, Index, LocalIndex};
+use edit_store::Store;
+use edit_upgrade::{Options, UpgradePlan, plan_documents, plan_upgrade};
+use edit_upgrade_read::Target;
+use std::alloc::Global;
+
+/// The plan for manifests over an index, by their documents where those were read.
+fn plan_over<I: Index + Drop>(
+    alloc: Global,
+    options: &Options,
+    target: &Target,
+    configs: &[Vec<Config>],
+    index: I,
+) -> CargoResult<UpgradePlan>
+    requires paths { HaveOwnPaths target.now.inputs.items }
+    requires each { length configs.now ≡ length target.now.inputs.items }
+    requires documents { AreDocuments target.now.documents.items target.now.inputs.items }
+    ensures planned { IfOk result (IsPlanned options.now target.now.inputs.items configs.now (I.view index)) }
+    ensures refused { IfErr result (λ e. IsMemory e
+        ⊎ IsPlanCause options.now target.now.inputs.items configs.now (I.view index) e) }
+{
+    let mut cache = IndexCache::new(alloc, index);
+    let Target {
+        inputs,
+        documents,
+        ..
+    } = target;
+    if documents.is_empty() {
+        return plan_upgrade(alloc, options, inputs, configs, &mut cache);
+    }
+    plan_documents(alloc, options, inputs, documents, configs, &mut cache)
+}
+
+/// The plan for manifests over the index that was read, else over the one in files.
+pub(crate) fn plan_for<T: Store + Drop>(
+    alloc: Global,
+    options: &Options,
+    target: &Target,
+    configs: &[Vec<Config>],
+    index: Option<FileIndex>,
+    index_files: T,
+) -> CargoResult<UpgradePlan>
+    requires paths { HaveOwnPaths target.now.inputs.items }
+    requires each { length configs.now ≡ length target.now.inputs.items }
+    requires documents { AreDocuments target.now.documents.items target.now.inputs.items }
+    ensures planned { IfOk result (IsPlanned options.now target.now.inputs.items configs.now
+        (index_view index (T.view index_files))) }
+    ensures refused { IfErr result (λ e. IsMemory e
+        ⊎ IsPlanCause options.now target.now.inputs.items configs.now
+        (index_view index (T.view index_files)) e) }
+{
+    match index {
+        Some(index) => plan_over(alloc, options, target, configs, index),
+        None => plan_over(
+            alloc,
+            options,
+            target,
+            configs,
+            LocalIndex::new(index_files),
+        ),
+    }
+}

@@ -1,0 +1,5 @@
+pub mod CopyLemmas
+mod DeliveryLemmas
+mod NameLemmas
+mod NoteLemmas
+mod RowLemmas

@@ -1,0 +1,4 @@
+pub mod Tables
+pub mod Said
+pub mod Delivered
+pub mod Causes

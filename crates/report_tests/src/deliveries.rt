@@ -1,0 +1,222 @@
+//! Rows of upgrades that are delivered: their end, what the file of the output holds then, and what was
+//! printed.
+ghost use Rattle.std.specs.Prelude.{◌≡◌, IfOk};
+ghost use Rattle.edit_report.specs.Applied.{HaveDistinctPaths};
+ghost use Rattle.edit_upgrade_told.specs.Tables.{AreInOrder};
+
+use crate::outputs::held;
+use crate::tables::rows_of;
+use crate::updates::{metadata, options_of, plan_of, words_of};
+use edit_metadata::{Input, Workspace};
+use edit_report::{Output, Row};
+use edit_store::{FaultStore, MemoryStore, Store};
+use edit_upgrade::{Options, UpgradePlan, Warning};
+use edit_upgrade_told::deliver;
+use std::alloc::Global;
+use std::str;
+use std::test::Fail;
+use test_rows::{LINES, field, rows_hold, text, told};
+
+const PATH: &str = "/w/Cargo.toml";
+
+/// Inputs of these names.
+fn inputs_of(alloc: Global, names: &str) -> Result<Vec<Input>, Fail> {
+    let mut inputs = Vec::new(alloc);
+    for name in names.split_whitespace() {
+        inputs.push(Input {
+            name: text(alloc, name)?,
+            path: text(alloc, PATH)?,
+            bytes: Vec::new(alloc),
+            rust_version: None,
+        })?;
+    }
+    Ok(inputs)
+}
+
+/// Rows in the order of their inputs.
+fn in_order(mut rows: Vec<Row>) -> Result<Vec<Row>, Fail>
+    ensures { IfOk result (λ v. AreInOrder v.items) }
+{
+    rows.sort_by_key(
+        |row: &Row| -> usize
+            ensures { result ≡ row.now.input }
+        { row.input },
+    )?;
+    Ok(rows)
+}
+
+/// One output, where it is due.
+fn outputs_of(alloc: Global, due: bool) -> Result<Vec<Output>, Fail>
+    ensures { IfOk result (λ v. HaveDistinctPaths v.items) }
+{
+    let mut outputs = Vec::new(alloc);
+    if due {
+        outputs.push(Output {
+            path: text(alloc, PATH)?,
+            bytes: Vec::from_slice(alloc, b"new")?,
+        })?;
+    }
+    Ok(outputs)
+}
+
+/// A part of a warning's word `input+verbose+text`, from 0.
+fn part(word: &str, n: usize) -> &str {
+    word.split('+').nth(n).unwrap_or("")
+}
+
+/// Warnings, each behind a semicolon but the first.
+fn warnings_of(alloc: Global, words: &str) -> Result<Vec<Warning>, Fail> {
+    let mut warnings = Vec::new(alloc);
+    for word in words.split(';') {
+        if !word.is_empty() {
+            warnings.push(Warning {
+                input: part(word, 0).parse()?,
+                verbose: part(word, 1) == "verbose",
+                text: text(alloc, part(word, 2))?,
+            })?;
+        }
+    }
+    Ok(warnings)
+}
+
+/// A plan by letters: `o` an output, `p` pinned entries are held back, `i` incompatible ones; and by fields.
+fn planned(alloc: Global, flags: &str, fields: &str) -> Result<UpgradePlan, Fail>
+    ensures outputs { IfOk result (λ p. HaveDistinctPaths p.outputs.items) }
+    ensures rows { IfOk result (λ p. AreInOrder p.rows.items) }
+{
+    let outputs = outputs_of(alloc, flags.contains('o'))?;
+    let rows = in_order(rows_of(alloc, field(fields, 1))?)?;
+    Ok(UpgradePlan {
+        outputs,
+        rows,
+        looks: Vec::new(alloc),
+        warnings: warnings_of(alloc, field(fields, 2))?,
+        missing: words_of(alloc, field(fields, 3))?,
+        modified: words_of(alloc, field(fields, 4))?,
+        git_crates: Vec::new(alloc),
+        pinned_present: flags.contains('p'),
+        incompatible_present: flags.contains('i'),
+    })
+}
+
+/// Options by letters, as rows of calls have them, and `v` for a verbosity of 1; and words.
+fn options_by(alloc: Global, flags: &str, words: &str) -> Result<Options, Fail> {
+    let mut options = options_of(alloc, flags, words)?;
+    if flags.contains('v') {
+        options.verbosity = 1;
+    }
+    Ok(options)
+}
+
+/// The file that stands before; with the letter `f` its write fails.
+fn files_by(alloc: Global, flags: &str) -> Result<FaultStore, Fail> {
+    let mut files = MemoryStore::new(alloc);
+    files.write(alloc, PATH, b"old")?;
+    let at = if flags.contains('f') { 0 } else { 9 };
+    Ok(FaultStore::new(files, at, 0))
+}
+
+/// What a stream holds, with `@` for a line's end.
+fn printed(alloc: Global, stream: &[u8]) -> Result<String, Fail> {
+    let seen = str::from_utf8(stream)?;
+    let lines: Vec<&str> = seen.split('\n').collect(alloc)?;
+    Ok(lines.join(alloc, "@")?)
+}
+
+/// How a delivery ends, what the file holds then, and what stands on standard output and standard error.
+fn delivery(alloc: Global, flags: &str, fields: &str) -> Result<String, Fail> {
+    let plan = planned(alloc, flags, fields)?;
+    let inputs = inputs_of(alloc, field(fields, 0))?;
+    let options = options_by(alloc, flags, field(fields, 6))?;
+    let json = metadata(alloc, field(fields, 5))?;
+    let workspace = Workspace::read(alloc, json.as_bytes())?;
+    let known = if field(fields, 5).is_empty() {
+        None
+    } else {
+        Some(&workspace)
+    };
+    let mut files = files_by(alloc, flags)?;
+    let mut out = Vec::new(alloc);
+    let mut err = Vec::new(alloc);
+    let inputs = inputs.as_slice();
+    let end = match deliver(
+        alloc, &plan, inputs, known, &options, &mut files, &mut out, &mut err,
+    ) {
+        Ok(()) => text(alloc, "done")?,
+        Err(refusal) => told(alloc, refusal.error)?,
+    };
+    let file = held(alloc, &mut files, PATH)?;
+    let out = printed(alloc, out.as_slice())?;
+    let err = printed(alloc, err.as_slice())?;
+    Ok(format!(in alloc; "{end};{file};{out};{err}")?)
+}
+
+/// What is wanted; letters; inputs; rows; warnings; missing names; modified names; packages; package words.
+const DELIVERIES: &str = "\
+done;new;\
+name  old req compatible latest new req@\
+====  ======= ========== ====== =======@\
+serde 1.0     1.2.3      1.2.3  1.2    @;    Checking x's dependencies@         \
+Run cargo update --manifest-path /w/Cargo.toml --aggressive --package serde@1.2.3 --offline@\
+|co|x|serde,-,1.0,1.2.3,1.2.3,1.2,-|||serde|serde@1.2.3|
+done;old;;    Checking x's dependencies@\
+note: Re-run with `--verbose` to show more dependencies@  latest: a@\
+||x|a,-,1,1.0.0,1.0.0,1,latest|||||
+42 cannot upgrade due to `--locked`;old;\
+name  old req compatible latest new req@\
+====  ======= ========== ====== =======@\
+serde 1.0     1.2.3      1.2.3  1.2    @;    Checking x's dependencies@\
+|lo|x|serde,-,1.0,1.2.3,1.2.3,1.2,-|||serde||
+done;old;;    Checking x's dependencies@\
+note: Re-run with `--verbose` to show more dependencies@  latest: a@\
+|l|x|a,-,1,1.0.0,1.0.0,1,latest|||||
+43 dependency nothere doesn't exist;new;\
+name  old req compatible latest new req@\
+====  ======= ========== ====== =======@\
+serde 1.0     1.2.3      1.2.3  1.2    @;    Checking x's dependencies@\
+|o|x|serde,-,1.0,1.2.3,1.2.3,1.2,-||nothere|serde||
+done;old;\
+name  old req compatible latest new req@\
+====  ======= ========== ====== =======@\
+serde 1.0     1.2.3      1.2.3  1.2    @;    Checking x's dependencies@\
+warning: aborting upgrade due to dry run@\
+|cdo|x|serde,-,1.0,1.2.3,1.2.3,1.2,-|||serde|serde@1.2.3|
+done;old;\
+name  old req compatible latest new req@\
+====  ======= ========== ====== =======@\
+serde 1.0     1.2.3      1.2.3  1.2    @;    Checking x's dependencies@\
+warning: keeping x, unreadable requirement `one`@    \
+Checking y's dependencies@\
+warning: ignoring w, source is workspace@\
+note: Re-run with `--verbose --verbose` to show more dependencies@  latest: a@\
+|v|x y|serde,-,1.0,1.2.3,1.2.3,1.2,-,1;a,-,1,1.0.0,1.0.0,1,latest,0|\
+1+verbose+ignoring w, source is workspace;0+always+keeping x, unreadable requirement `one`||||
+done;old;\
+name old req compatible latest new req@\
+==== ======= ========== ====== =======@\
+b    1       1.0.0      2.0.0  2      @\
+name old req compatible latest new req@\
+==== ======= ========== ====== =======@\
+c    1       1.0.0      2.0.0  2      @;    Checking x's dependencies@    \
+Checking y's dependencies@\
+||x y|c,-,1,1.0.0,2.0.0,2,-,1;b,-,1,1.0.0,2.0.0,2,-,0|1+verbose+ignoring w, source is workspace||||
+done;old;;    Checking x's dependencies@\
+note: Re-run with `--verbose` to show more dependencies@  git: e, f (g), h@  latest: 4 packages@\
+||x|h,-,-,-,-,-,git;b,-,1,1.0.0,1.0.0,1,latest;a,-,1,1.0.0,1.0.0,1,latest;f,g,-,-,-,-,git;e,-,-,-,-,-,git;\
+d,-,1,1.0.0,1.0.0,1,latest;c,-,1,1.0.0,1.0.0,1,latest;h,-,-,-,-,-,git|||||
+done;old;;    Checking x's dependencies@\
+note: Re-run with `--pinned` to upgrade pinned version requirements@\
+note: Re-run with `--incompatible` to upgrade incompatible version requirements@\
+note: Re-run with `--verbose` to show more dependencies@  pinned: x@\
+|pi|x|x,-,<2,1.5.0,3.0.0,<2,pinned|||||
+3 Failed to write updated Cargo.toml;;\
+name  old req compatible latest new req@\
+====  ======= ========== ====== =======@\
+serde 1.0     1.2.3      1.2.3  1.2    @;    Checking x's dependencies@\
+|of|x|serde,-,1.0,1.2.3,1.2.3,1.2,-|||serde||
+20 Invalid name `a/b`: /;old;;|co|x|serde,-,1.0,1.2.3,1.2.3,1.2,-|||serde|serde@1.2.3|a/b";
+
+#[test]
+fn delivers_plans(rt: HostRuntime) -> Result<(), Fail> {
+    rows_hold(rt.alloc(), DELIVERIES, LINES, delivery)
+}

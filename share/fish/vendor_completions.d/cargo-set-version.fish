@@ -1,0 +1,18 @@
+# Made by tools/share_files from the program's help.
+complete -c cargo-set-version -f
+complete -c cargo-set-version -n __fish_is_first_arg -a set-version -d 'Change a package\'s version in the local manifest file (i.e. Cargo.toml)'
+complete -c cargo-set-version -l bump -x -d 'Increment manifest version'
+complete -c cargo-set-version -s m -l metadata -x -d 'Specify the version metadata field (e.g. a wrapped libraries version)'
+complete -c cargo-set-version -l metadata-json -r -F -d 'What `cargo metadata` says of the workspace'
+complete -c cargo-set-version -l manifest-path -r -F -d 'Accepted, and changes nothing'
+complete -c cargo-set-version -s p -l package -x -d 'Package id of the crate to change the version of'
+complete -c cargo-set-version -l exclude -x -d 'Crates to exclude and not modify'
+complete -c cargo-set-version -l all -d '[deprecated in favor of `--workspace`]'
+complete -c cargo-set-version -l workspace -d 'Modify all packages in the workspace'
+complete -c cargo-set-version -s n -l dry-run -d 'Print changes to be made without making them'
+complete -c cargo-set-version -l offline -d 'Accepted, and changes nothing'
+complete -c cargo-set-version -l locked -d 'Accepted, and changes nothing'
+complete -c cargo-set-version -s v -l verbose -d 'Accepted, and changes nothing'
+complete -c cargo-set-version -s q -l quiet -d 'Accepted, and changes nothing'
+complete -c cargo-set-version -s h -l help -d 'Print help'
+complete -c cargo-set-version -s V -l version -d 'Print version'
