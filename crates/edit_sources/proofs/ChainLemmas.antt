@@ -1,160 +1,168 @@
--- The walk along the chain of sources: what is left in its map is what no key has used.
-use Rattle.std.proofs.Common.{◌≡◌, ℕ, List, [], ◌∷◌, ◌++◌, Bool, true, false, cond, Option, Some, None, option_map, BTreeMap, Bor, String, Global, string_bytes, inl, inr, ⊎_elim, refl, ap, sym, ◌∙◌, subst}
-use Rattle.std.specs.Prelude.{◌||◌, ◌⊎◌}
+-- Chains of sources that have an end: they use no key twice, and lead to one address.
+use Rattle.std.proofs.Common.{◌≡◌, ◌<◌, ℕ, zero, suc, List, [], ◌∷◌, ◌++◌, Bool, true, false, cond, Option, Some, None, inl, inr, ⊎_elim, refl, ap, sym, ◌∙◌, subst, arith}
+use Rattle.std.specs.Prelude.{◌||◌, ◌⊎◌, unwrap_or}
 use Rattle.std.specs.Str.{bytes_eq}
-use Rattle.std.specs.BTreeMap.{UpdatesBy, get_by}
-use Rattle.std.specs.Cmp.Lexicographic.{slice_cmp}
-use Rattle.std.specs.Ordering.{nat_cmp}
+use Rattle.std.proofs.lemmas.Bool.{false_from_ne_true}
 use Rattle.std.proofs.lemmas.List.Folds.{list_any-append}
-use Rattle.std.proofs.lemmas.Map.Text.{btree_map_updates_str}
-use Rattle.edit_base.specs.Errors.{IsMemory}
-use Rattle.edit_base.specs.declared.errors.Error.{Error}
-use Rattle.edit_base.specs.declared.errors.Error.TheVariants.{RegistryNotFound, SourceNotFound}
+use Rattle.std.proofs.lemmas.Slice.Eq.{bytes_eq-Decides}
 use Rattle.edit_sources.specs.Configuration as said
-use Rattle.edit_sources.specs.SourceReplacement.{Definition, first, is_used, addressed, head_source, head_source_of, head_key, crates_io_index, crates_io, Reaches, HasNoHead, BreaksAt}
+use Rattle.edit_sources.specs.SourceReplacement.{Definition, first, is_used, is_default, addressed, named, with_default, head_source_of, head_key, crates_io_index, crates_io, Address, Reaches}
 use Rattle.edit_sources.specs.SourceReplacement.Reaches.{head, next}
-use Rattle.edit_sources.specs.Configured.{all_definitions, HasNoUrl}
-use Rattle.edit_sources.specs.Configured.HasNoUrl.{no_head, breaks}
-use Rattle.edit_sources.specs.Sources.{source_texts, found}
-use Rattle.edit_sources.specs.declared.config.Config.{Config}
-use Rattle.edit_sources.specs.declared.registry.chain.Source.{Source}
+use Rattle.edit_sources.specs.Definitions.{Leads}
 
--- the map holds the first definition of each key that is not used
-abbrev pub HoldsUnused : List Definition → List (List ℕ) → BTreeMap (Bor (List ℕ)) Source → Type 0
-HoldsUnused ds used left = (key : List ℕ) → found left key ≡ cond (is_used used key) None (first key ds)
+-- ---- options and truth values
 
--- the chain was followed to this source
-pub record IsWalk (ds : List Definition) (registry : Option (List ℕ)) (left : BTreeMap (Bor (List ℕ)) Source)
-    (source : said.Source) : Type 0 where
-  pub used : List (List ℕ)
-  pub reaches : Reaches ds registry used source
-  pub unused : HoldsUnused ds used left
+pub some_one : {A : Type 0} (a b : A) → Some a ≡ Some b → a ≡ b
+some_one a b h = cc
 
-map_cond : (b : Bool) (o : Option Source) → option_map source_texts (cond b None o)
-    ≡ cond b None (option_map source_texts o)
-map_cond true o = refl
-map_cond false o = refl
+pub some_none : {A : Type 0} (a : A) → Some a ≡ None → ⊥
+some_none a h = cc
 
-cond_cond : {A : Type 0} (a b : Bool) (o : Option A) → cond b None (cond a None o)
-    ≡ cond (a || (b || false)) None o
-cond_cond true true o = refl
-cond_cond true false o = refl
-cond_cond false true o = refl
-cond_cond false false o = refl
+none_some : {A : Type 0} (a : A) → None ≡ Some a → ⊥
+none_some a h = cc
 
--- a key that is taken out is used
-pub taken : (ds : List Definition) (used : List (List ℕ)) (key : List ℕ)
-    (old new : BTreeMap (Bor (List ℕ)) Source)
-    → HoldsUnused ds used old
-    → UpdatesBy (λ x y. slice_cmp nat_cmp x.now y.now) (λ k. slice_cmp nat_cmp key k.now) old new None
-    → HoldsUnused ds (used ++ key ∷ []) new
-taken ds used key old new holds updates = λ q.
-    ap (option_map source_texts) (btree_map_updates_str key old new None updates q)
-    ∙ map_cond (bytes_eq key q) (get_by (λ k. slice_cmp nat_cmp q k.now) old)
-    ∙ ap (cond (bytes_eq key q) None) (holds q)
-    ∙ cond_cond (is_used used q) (bytes_eq key q) (first q ds)
-    ∙ ap (λ b. cond b None (first q ds)) (sym (list_any-append (λ u. bytes_eq u q) used (key ∷ [])))
+true_false : true ≡ false → ⊥
+true_false h = cc
 
--- what is found is not used, and is the first definition
-pub fresh : {A : Type 0} (b : Bool) (o : Option A) (x : A) → cond b None o ≡ Some x → (b ≡ false)
-    × (o ≡ Some x)
-fresh true o x h = absurd (cc)
-fresh false o x h = (refl, h)
+only : (b : Bool) → (b || false) ≡ true → b ≡ true
+only true h = refl
+only false h = h
 
--- what is not found is used or not defined
-pub missing : {A : Type 0} (b : Bool) (o : Option A) → cond b None o ≡ None → (b ≡ true) ⊎ (o ≡ None)
-missing true o h = inl refl
-missing false o h = inr h
+-- a key that stands in a list with one more stands in the list, or is that one
+pub among : (used : List (List ℕ)) (last key : List ℕ) → is_used (used ++ last ∷ []) key ≡ true
+    → (is_used used key ≡ true) ⊎ (last ≡ key)
+among used last key h =
+    either (is_used used key) (sym (list_any-append (λ u. bytes_eq u key) used (last ∷ [])) ∙ h)
+  where
+    either : (b : Bool) → (b || (bytes_eq last key || false)) ≡ true → (b ≡ true) ⊎ (last ≡ key)
+    either true e = inl refl
+    either false e = inr ((bytes_eq-Decides last key).0 (only (bytes_eq last key) e))
 
-head_by : (b : Bool) (registry : List ℕ) (s : said.Source) (o : Option said.Source) → cond b (Some s) o ≡ None
-    → Some registry ≡ Some (cond b crates_io registry)
-head_by true registry s o h = absurd (cc)
-head_by false registry s o h = refl
+-- ---- the head
 
--- a registry whose head is not defined is that key
-pub head_is : (registry : Option (List ℕ)) (o : Option said.Source) → head_source_of registry o ≡ None
-    → registry ≡ Some (head_key registry)
-head_is None o h = absurd (cc)
-head_is (Some registry) o h = head_by (bytes_eq registry crates_io_index) registry _ o h
+-- an address that stands where none is given leaves the replacement
+keeps : (b : Bool) (x : said.Source) → (cond b (with_default x) x).replace_with ≡ x.replace_with
+keeps true x = refl
+keeps false x = refl
 
--- the refusal of a head
-pub refused_head : (configs : List Config) (registry : Option (List ℕ)) (key : List ℕ) (e : Error)
-    → IsMemory e ⊎ ((name : String Global) × (e ≡ RegistryNotFound name) × (string_bytes name ≡ key))
-    → HasNoHead (all_definitions configs) registry key → IsMemory e ⊎ HasNoUrl configs registry e
-refused_head configs registry key e h none =
-    ⊎_elim (λ m. inl m) (λ r. inr
-    (subst (HasNoUrl configs registry) (sym r.1)
-    (no_head r.0 (subst (HasNoHead (all_definitions configs) registry) (sym r.2) none)))) h
+some_cond : (b : Bool) (x y : said.Source) → cond b (Some x) (Some y) ≡ Some (cond b x y)
+some_cond true x y = refl
+some_cond false x y = refl
 
--- the refusal of a source further on
-pub refused_next : (configs : List Config) (registry : Option (List ℕ)) (key : List ℕ) (e : Error)
-    → IsMemory e ⊎ ((name : String Global) × (e ≡ SourceNotFound name) × (string_bytes name ≡ key))
-    → BreaksAt (all_definitions configs) registry key → IsMemory e ⊎ HasNoUrl configs registry e
-refused_next configs registry key e h broken =
-    ⊎_elim (λ m. inl m) (λ r. inr
-    (subst (HasNoUrl configs registry) (sym r.1)
-    (breaks r.0 (subst (BreaksAt (all_definitions configs) registry) (sym r.2) broken)))) h
+-- the head of a chain and the source at its key have one replacement
+alike : (registry : Option (List ℕ)) (key : List ℕ) (o : Option said.Source) (s u : said.Source)
+    → head_source_of registry o ≡ Some s → addressed key o ≡ Some u → u.replace_with ≡ s.replace_with
+alike registry key None s u begins at = absurd (none_some u at)
+alike registry key (Some x) s u begins at =
+    let c = bytes_eq key crates_io_index in
+    let b = is_default registry in
+    let source : cond c (with_default x) x ≡ u = some_one (cond c (with_default x) x) u at in
+    let begun : cond b (with_default x) x ≡ s =
+    some_one (cond b (with_default x) x) s (sym (some_cond b (with_default x) x) ∙ begins) in
+    ap (λ (y : said.Source). y.replace_with) (sym source) ∙ keeps c x ∙ sym (keeps b x)
+    ∙ ap (λ (y : said.Source). y.replace_with) begun
 
--- a map without a key that it may hold
-abbrev pub Without : List ℕ → BTreeMap (Bor (List ℕ)) Source → BTreeMap (Bor (List ℕ)) Source → Type 0
-Without key old new = UpdatesBy (λ x y. slice_cmp nat_cmp x.now y.now)
-    (λ k. slice_cmp nat_cmp key k.now) old new None
+-- a registry that is not the default one begins at a key that is not the default address
+apart : (registry : Option (List ℕ)) → is_default registry ≡ false
+    → bytes_eq (head_key registry) crates_io_index ≡ false
+apart None h = absurd (true_false h)
+apart (Some r) h = subst (λ b. bytes_eq (cond b crates_io r) crates_io_index ≡ false) (sym h) h
 
--- what a map of sources holds at a key
-abbrev pub held : List ℕ → BTreeMap (Bor (List ℕ)) Source → Option Source
-held key sources = get_by (λ k. slice_cmp nat_cmp key k.now) sources
+addressed_last : (b c : Bool) (x : said.Source) (address : List ℕ) → (b ≡ false → c ≡ false)
+    → (cond c (with_default x) x).registry ≡ Some address
+    → (cond b (with_default x) x).registry ≡ Some address
+addressed_last true true x address h given = given
+addressed_last true false x address h given =
+    ap (λ (o : Option (List ℕ)). Some (unwrap_or o crates_io_index)) given
+addressed_last false true x address h given = absurd (true_false (h refl))
+addressed_last false false x address h given = given
 
--- the head of the chain
-pub walk_start : (ds : List Definition) (registry : Option (List ℕ)) (key : List ℕ)
-    (old new : BTreeMap (Bor (List ℕ)) Source) (o : Option Source) (s : said.Source)
-    → key ≡ head_key registry → ((q : List ℕ) → found old q ≡ first q ds) → o ≡ held key old
-    → head_source_of registry (option_map source_texts o) ≡ Some s → Without key old new
-    → IsWalk ds registry new s
-walk_start ds registry key old new o s is all value got updates = record {
-  used = head_key registry ∷ [];
-  reaches = head s (ap (head_source_of registry)
-      (sym (ap (option_map source_texts) value ∙ all key ∙ ap (λ k. first k ds) is)) ∙ got);
-  unused = taken ds [] (head_key registry) old new all (subst (λ k. Without k old new) is updates);
-}
+leads_too : (ds : List Definition) (address : List ℕ) (n : ℕ) (b c : Bool) (x : said.Source)
+    → (b ≡ false → c ≡ false) → Leads ds address n (cond c (with_default x) x)
+    → Leads ds address n (cond b (with_default x) x)
+leads_too ds address zero b c x h (last, given) =
+    (keeps b x ∙ sym (keeps c x) ∙ last, addressed_last b c x address h given)
+leads_too ds address (suc n) b c x h (key, names, rest) = (key, keeps b x ∙ sym (keeps c x) ∙ names, rest)
 
--- one source more
-pub walk_next : (ds : List Definition) (registry : Option (List ℕ)) (key : List ℕ)
-    (old new : BTreeMap (Bor (List ℕ)) Source) (o : Option Source) (x : Source) (s t : said.Source)
-    → IsWalk ds registry old s → s.replace_with ≡ Some key → o ≡ held key old → o ≡ Some x
-    → Some t ≡ addressed key (Some (source_texts x)) → Without key old new → IsWalk ds registry new t
-walk_next ds registry key old new o x s t w names value is said updates =
-    let here = fresh (is_used w.used key) (first key ds) (source_texts x)
-    (sym (w.unused key) ∙ ap (option_map source_texts) (sym value ∙ is)) in
-    record {
-      used = w.used ++ key ∷ [];
-      reaches = next w.used s t key w.reaches names here.0 (ap (addressed key) here.1 ∙ sym said);
-      unused = taken ds w.used key old new w.unused updates;
-    }
+-- where the source at the key of a head leads to an address, the head leads there
+pub head_leads : (ds : List Definition) (registry : Option (List ℕ)) (address : List ℕ) (n : ℕ)
+    (o : Option said.Source) (u : said.Source)
+    → addressed (head_key registry) o ≡ Some u → Leads ds address n u
+    → (s : said.Source) × (head_source_of registry o ≡ Some s) × Leads ds address n s
+head_leads ds registry address n None u at leads = absurd (none_some u at)
+head_leads ds registry address n (Some x) u at leads =
+    let b = is_default registry in
+    let c = bytes_eq (head_key registry) crates_io_index in
+    let source : u ≡ cond c (with_default x) x = sym (some_one (cond c (with_default x) x) u at) in (
+      cond b (with_default x) x,
+      some_cond b (with_default x) x,
+      leads_too ds address n b c x (apart registry) (subst (Leads ds address n) source leads),
+    )
 
--- a key that the map does not hold
-pub walk_breaks : (ds : List Definition) (registry : Option (List ℕ)) (key : List ℕ)
-    (left : BTreeMap (Bor (List ℕ)) Source) (o : Option Source) (s : said.Source)
-    → IsWalk ds registry left s → s.replace_with ≡ Some key → o ≡ held key left → o ≡ None
-    → BreaksAt ds registry key
-walk_breaks ds registry key left o s w names value is = record {
-  used = w.used;
-  source = s;
-  reaches = w.reaches;
-  names = names;
-  broken = ⊎_elim (λ u. inl u) (λ e. inr (ap (addressed key) e))
-      (missing (is_used w.used key) (first key ds) (sym (w.unused key) ∙
-      ap (option_map source_texts) (sym value ∙ is)));
-}
+-- ---- a chain that has an end
 
--- a head that the map does not hold
-pub walk_fails : (ds : List Definition) (registry : Option (List ℕ)) (key : List ℕ)
-    (old : BTreeMap (Bor (List ℕ)) Source) (o : Option Source)
-    → key ≡ head_key registry → ((q : List ℕ) → found old q ≡ first q ds) → o ≡ held key old
-    → head_source_of registry (option_map source_texts o) ≡ None → HasNoHead ds registry key
-walk_fails ds registry key old o is all value got =
-    let none : head_source ds registry ≡ None = ap (head_source_of registry)
-    (sym (ap (option_map source_texts) value ∙ all key ∙ ap (λ k. first k ds) is)) ∙ got in
-    record {
-      asked = head_is registry (first (head_key registry) ds) none ∙ ap (λ k. Some k) (sym is);
-      undefined = none;
-    }
+leads_alike : (ds : List Definition) (address : List ℕ) (n : ℕ) (s u : said.Source)
+    → u.replace_with ≡ s.replace_with → Leads ds address (suc n) s → Leads ds address (suc n) u
+leads_alike ds address n s u same (key, names, rest) = (key, same ∙ names, rest)
+
+-- the source at a key that was used leads on for as long as the last one, at least
+again : (ds : List Definition) (registry : Option (List ℕ)) (key address : List ℕ) (u : said.Source)
+    (used : List (List ℕ)) (s : said.Source) → Reaches ds registry used s → (n : ℕ)
+    → is_used used key ≡ true → named ds key ≡ Some u → Leads ds address (suc n) s
+    → (m : ℕ) × (n < m) × Leads ds address m u
+again ds registry key address u used s (head s' begins) n there at leads =
+    let same : head_key registry ≡ key =
+    (bytes_eq-Decides (head_key registry) key).0 (only (bytes_eq (head_key registry) key) there) in
+    let here : named ds (head_key registry) ≡ Some u = ap (named ds) same ∙ at in (
+      suc n,
+      omega arith,
+      leads_alike ds address n s' u
+          (alike registry (head_key registry) (first (head_key registry) ds) s' u begins here) leads,
+    )
+again ds registry key address u used s (next before s' t last reaches names unused is) n there at leads =
+    ⊎_elim
+    (λ earlier. let more : Leads ds address (suc (suc n)) s' = (last, names, (t, is, leads)) in
+    let r = again ds registry key address u before s' reaches (suc n) earlier at more in
+    (r.0, omega (arith, r.1), r.2))
+    (λ same. (
+      suc n,
+      omega arith,
+      subst (Leads ds address (suc n))
+          (some_one t u (sym is ∙ ap (named ds) same ∙ at)) leads,
+    ))
+    (among before last key there)
+
+-- the number of links to an end is one
+one_length : (ds : List Definition) (a b : List ℕ) (n m : ℕ) (s : said.Source) → Leads ds a n s
+    → Leads ds b m s → n ≡ m
+one_length ds a b zero zero s x y = refl
+one_length ds a b zero (suc m) s (last, given) (key, names, rest) = absurd
+    (some_none key (sym names ∙ last))
+one_length ds a b (suc n) zero s (key, names, rest) (last, given) = absurd
+    (some_none key (sym names ∙ last))
+one_length ds a b (suc n) (suc m) s (key, names, (t, is, leads)) (other, also, (v, found, leads')) =
+    let same : key ≡ other = some_one key other (sym names ∙ also) in
+    let source : t ≡ v = some_one t v (sym is ∙ ap (named ds) same ∙ found) in
+    ap (λ k. suc k) (one_length ds a b n m t leads (subst (Leads ds b m) (sym source) leads'))
+
+-- a chain that has an end uses no key twice
+unused : (ds : List Definition) (registry : Option (List ℕ)) (used : List (List ℕ)) (s t : said.Source)
+    (key address : List ℕ) (n : ℕ) → Reaches ds registry used s → s.replace_with ≡ Some key
+    → named ds key ≡ Some t → Leads ds address n t → is_used used key ≡ false
+unused ds registry used s t key address n reaches names is leads =
+    false_from_ne_true (is_used used key) (λ there.
+    let more : Leads ds address (suc n) s = (key, names, (t, is, leads)) in
+    let r = again ds registry key address t used s reaches n there is more in
+    let same = one_length ds address address n r.0 t leads r.2 in
+    omega (arith, r.1, same))
+
+-- from any source of a chain that leads to an address, the registry has that address
+pub arrives : (ds : List Definition) (registry : Option (List ℕ)) (address : List ℕ) (n : ℕ)
+    (used : List (List ℕ)) (s : said.Source) → Reaches ds registry used s → Leads ds address n s
+    → Address ds registry address
+arrives ds registry address zero used s reaches (last, given) =
+    record { source = s; ends = record { used = used; reaches = reaches; last = last }; given = given }
+arrives ds registry address (suc n) used s reaches (key, names, (t, is, leads)) =
+    arrives ds registry address n (used ++ key ∷ []) t
+    (next used s t key reaches names
+    (unused ds registry used s t key address n reaches names is leads) is) leads

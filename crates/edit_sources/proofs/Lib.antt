@@ -1,8 +1,10 @@
 pub mod AddressLemmas
 pub mod ChainLemmas
 pub mod ConfigurationLemmas
+pub mod DefinitionLemmas
 pub mod FileLemmas
 pub mod FolderLemmas
+pub mod KeyLemmas
 pub mod LineLemmas
 pub mod NameLemmas
 pub mod OutcomeLemmas

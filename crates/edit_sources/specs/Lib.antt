@@ -1,6 +1,7 @@
 pub mod Configuration
 pub mod ConfigurationFiles
 pub mod Configured
+pub mod Definitions
 pub mod FileIndex
 pub mod Index
 pub mod IndexLines

@@ -1,33 +1,22 @@
 //! The address of a registry.
-ghost use Rattle.std.specs.Prelude.{◌≡◌, ◌⊎◌, true, IfOk, IfErr, None, Ok};
+ghost use Rattle.std.specs.Prelude.{◌≡◌, ◌⊎◌, true, IfOk, IfErr};
 ghost use Rattle.edit_base.specs.Errors.{IsMemory};
 ghost use Rattle.edit_sources.specs.ConfigurationFiles.{HasFailed, ConfigsFail, ConfiguredUrl, HasNoConfiguredUrl};
 ghost use Rattle.edit_store.specs.Store.{OnlyReads};
-ghost use Rattle.url.specs.Parser.{parse_url};
 ghost use Rattle.url.specs.Parts.{Parts};
-ghost use Rattle.edit_sources.specs.Configured.{given, HasAddress, IsNoUrl, HasNoUrl};
+ghost use Rattle.edit_sources.specs.Configured.{given, HasAddress, HasNoUrl};
 
 use crate::config::{Config, read_configs};
-use edit_base::{CargoResult, Error};
+use edit_base::CargoResult;
 use edit_store::store::Store;
 use std::alloc::Global;
-use url::{ParseError, Url};
+use url::Url;
 
 mod chain;
+mod definitions;
 
 pub use chain::CRATES_IO_INDEX;
-
-/// The URL of an address.
-fn url_of(alloc: Global, address: &str) -> CargoResult<Url>
-    ensures reads { IfOk result (λ url. parse_url None address.now ≡ Ok url) }
-    ensures refused { IfErr result (λ e. IsMemory e ⊎ IsNoUrl address.now e) }
-{
-    match Url::parse(alloc, address) {
-        Ok(url) => Ok(url),
-        Err(ParseError::OutOfMemory | ParseError::Overflow) => Err(Error::Memory),
-        Err(_) => Err(Error::InvalidUrl),
-    }
-}
+pub use definitions::Definitions;
 
 /// The address of a registry: none, or the default registry's address, begins at the key `crates-io`, and
 /// another at its own key; each `replace-with` names the next key, and the last source has the address.
@@ -36,7 +25,7 @@ fn url_of(alloc: Global, address: &str) -> CargoResult<Url>
 /// file defines the key at which the registry begins, `SourceNotFound` where a `replace-with` names
 /// a key that no file defines or that was used, `MissingRegistry` where the last source has no
 /// address, and `InvalidUrl` where `url` refuses it. What memory allows is `Memory`, an address of
-/// 4 GB included.
+/// 4 GB included. For more registries than one `Definitions` reads the configurations once.
 pub fn resolve(alloc: Global, configs: &[Config], registry: Option<&str>) -> CargoResult<Url>
     ensures address { IfOk result (λ url. HasAddress configs.now (given registry.entry) url) }
     // and no other URL is
@@ -44,11 +33,8 @@ pub fn resolve(alloc: Global, configs: &[Config], registry: Option<&str>) -> Car
         → HasAddress configs.now (given registry.entry) other → other ≡ url) }
     ensures refused { IfErr result (λ e. IsMemory e ⊎ HasNoUrl configs.now (given registry.entry) e) }
 {
-    let source = chain::last_source(alloc, configs, registry)?;
-    match source.registry {
-        Some(address) => url_of(alloc, address),
-        None => Err(Error::MissingRegistry),
-    }
+    let mut definitions = Definitions::read(alloc, configs)?;
+    definitions.resolve(alloc, registry)
 }
 
 /// The address of a registry under the configurations of a manifest, as `read_configs` reads them

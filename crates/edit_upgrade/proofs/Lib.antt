@@ -1,3 +1,4 @@
+pub mod AddressLemmas
 pub mod Steps
 pub mod Bytes
 pub mod FetchLemmas

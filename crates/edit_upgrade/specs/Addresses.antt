@@ -3,6 +3,7 @@ use Rattle.std.specs.Prelude.{◌≡◌, ℕ, List, Bool, true, false, Option, S
 use Rattle.std.specs.BTreeMap.{get_by_text}
 use Rattle.std.specs.Str.{bytes_eq}
 use Rattle.edit_sources.specs.Configured.{HasAddress}
+use Rattle.edit_sources.specs.Definitions.{Defines}
 use Rattle.edit_sources.specs.declared.config.Config.{Config}
 use Rattle.url.specs.Parts as url
 use Rattle.edit_upgrade.specs.declared.addresses.Addresses.{Addresses}
@@ -12,10 +13,11 @@ abbrev pub url_at : Addresses → Option (List ℕ) → Option url.Parts
 url_at a None = a.default
 url_at a (Some name) = get_by_text a.named name
 
--- each is the one that the configurations say (own)
-abbrev pub AreAddresses : List Config → Addresses → Type 0
-AreAddresses configs a = (named : Option (List ℕ)) (address : url.Parts) → url_at a named ≡ Some address
-    → HasAddress configs named address
+-- each is the one that the configurations say, and theirs are the definitions (own)
+pub record AreAddresses (configs : List Config) (a : Addresses) : Type 0 where
+  pub defines : Defines configs a.definitions
+  pub has : (named : Option (List ℕ)) (address : url.Parts) → url_at a named ≡ Some address
+      → HasAddress configs named address
 
 -- the two names are the same, or there are none (own)
 abbrev pub is_named : Option (List ℕ) → Option (List ℕ) → Bool

@@ -1,32 +1,37 @@
 //! The addresses of the registries that the entries of an input name.
-ghost use Rattle.std.specs.Prelude.{◌≡◌, ◌⊎◌, ℕ, List, Option, Some, None, if◌then◌else◌, IfErr, IsSome, OnOk, option_copied};
+ghost use Rattle.std.specs.Prelude.{◌≡◌, ◌⊎◌, ℕ, List, Option, Some, None, if◌then◌else◌, IfErr, IfOk, IsSome, OnOk, option_copied};
 ghost use Rattle.edit_base.specs.Errors.{IsMemory};
 ghost use Rattle.edit_sources.specs.Configured.{HasNoUrl, given};
+ghost use Rattle.edit_sources.specs.declared.config.Config.{Config};
 ghost use Rattle.edit_upgrade.specs.Addresses.{AreAddresses, is_named, url_at};
 
 use edit_base::CargoResult;
 use edit_sources::Config;
-use edit_sources::registry::resolve;
+use edit_sources::registry::Definitions;
 use std::alloc::Global;
 use std::collections::BTreeMap;
 use url::Url;
 
 /// The addresses of the registries that were resolved: of the default one, and of others by their names.
 #[derive(Drop)]
-pub(crate) struct Addresses {
+pub(crate) struct Addresses<'a> {
+    definitions: Definitions<'a>,
     default: Option<Url>,
     named: BTreeMap<String, Url>,
 }
 
-impl Addresses {
-    /// None yet.
-    pub(crate) fn new(alloc: Global) -> Addresses
-        ensures { (named : Option (List ℕ)) → url_at result named ≡ None }
+impl<'a> Addresses<'a> {
+    /// None yet, of what these configurations define.
+    pub(crate) fn new(alloc: Global, configs: &'a [Config]) -> CargoResult<Addresses<'a>>
+        ensures are { IfOk result (AreAddresses configs.entry.now) }
+        ensures refused { IfErr result IsMemory }
     {
-        Addresses {
+        let definitions = Definitions::read(alloc, configs)?;
+        Ok(Addresses {
+            definitions,
             default: None,
             named: BTreeMap::new(alloc),
-        }
+        })
     }
 
     /// The address of a registry, where it was resolved.
@@ -43,6 +48,7 @@ impl Addresses {
     fn keep(&mut self, alloc: Global, registry: Option<&str>, url: Url) -> CargoResult<()>
         ensures kept { OnOk result ((named : Option (List ℕ)) → url_at self.new named
             ≡ (if is_named (given registry.entry) named then Some url else url_at self.old named)) }
+        ensures definitions { self.new.definitions ≡ self.old.definitions }
         ensures refused { IfErr result IsMemory }
     {
         match registry {
@@ -59,22 +65,17 @@ impl Addresses {
     }
 
     /// Sees to it that the address of a registry is resolved, once.
-    pub(crate) fn see(
-        &mut self,
-        alloc: Global,
-        configs: &[Config],
-        registry: Option<&str>,
-    ) -> CargoResult<()>
-        requires { AreAddresses configs.now self.old }
+    pub(crate) fn see(&mut self, alloc: Global, registry: Option<&str>) -> CargoResult<()>
         ensures there { OnOk result (IsSome (url_at self.new (given registry.entry))) }
-        ensures are { OnOk result (AreAddresses configs.now self.new) }
-        ensures refused { IfErr result
-            (λ e. IsMemory e ⊎ HasNoUrl configs.now (given registry.entry) e) }
+        ensures are { OnOk result
+            ((configs : List Config) → AreAddresses configs self.old → AreAddresses configs self.new) }
+        ensures refused { IfErr result (λ e. IsMemory e ⊎ ((configs : List Config)
+            → AreAddresses configs self.old → HasNoUrl configs (given registry.entry) e)) }
     {
         if self.url(registry).is_some() {
             return Ok(());
         }
-        let url = resolve(alloc, configs, registry)?;
+        let url = self.definitions.resolve(alloc, registry)?;
         self.keep(alloc, registry, url)
     }
 }

@@ -41,7 +41,7 @@ fn registry_row<I: Index>(
     job: Job<'_>,
     entry: &Entry,
     registry: Option<&str>,
-    addresses: &mut Addresses,
+    addresses: &mut Addresses<'_>,
     books: &mut Books,
     index: &mut IndexCache<I>,
 ) -> CargoResult<Row>
@@ -61,7 +61,7 @@ fn registry_row<I: Index>(
         ⊎ StopsAt job.entry.configs.now (I.view (index_of index.old)).gives (kept_by index.old)
         (I.view (index_of index.old)).faults (I.view (index_of index.new)).faults (seen_of entry.now) e) }
 {
-    addresses.see(alloc, job.configs, registry)?;
+    addresses.see(alloc, registry)?;
     let Some(url) = addresses.url(registry) else {
         unreachable!()
     };
@@ -76,7 +76,7 @@ fn entry_row<I: Index>(
     alloc: Global,
     job: Job<'_>,
     entry: &Entry,
-    addresses: &mut Addresses,
+    addresses: &mut Addresses<'_>,
     books: &mut Books,
     index: &mut IndexCache<I>,
 ) -> CargoResult<Row>
@@ -144,7 +144,7 @@ pub(crate) fn walk<I: Index>(
         (I.view (index_of index.old)).faults (I.view (index_of index.new)).faults
         (map seen_of entries.now) e) }
 {
-    let mut addresses = Addresses::new(alloc);
+    let mut addresses = Addresses::new(alloc, job.configs)?;
     let mut rows = Vec::with_capacity(alloc, entries.len())?;
     'entries: for entry in entries {
         let row = entry_row(alloc, job, entry, &mut addresses, books, index)?;

@@ -1,15 +1,15 @@
-//! The chain of sources from a registry to its address.
-ghost use Rattle.std.specs.Prelude.{◌≡◌, ◌⊎◌, ℕ, List, [], ◌∷◌, IfOk, IfErr, OnOk, map, option_map, String, string_bytes};
+//! The sources that configurations define, and the one at which a registry begins.
+ghost use Rattle.std.specs.Prelude.{◌≡◌, ◌⊎◌, ℕ, List, [], ◌∷◌, IfOk, OnOk, map, option_map, String, string_bytes};
 ghost use Rattle.std.specs.declared.alloc.Global.{Global};
 ghost use Rattle.edit_base.specs.Errors.{IsMemory};
 ghost use Rattle.edit_base.specs.declared.errors.Error.TheVariants.{RegistryNotFound, SourceNotFound};
 ghost use Rattle.edit_sources.specs.SourceReplacement as spec;
 ghost use Rattle.edit_sources.specs.SourceReplacement.{first, registry_definition, source_definition};
-ghost use Rattle.edit_sources.specs.Configured.{all_definitions, given, registry_entry, source_entry, HasNoUrl};
+ghost use Rattle.edit_sources.specs.Configured.{all_definitions, given, registry_entry, source_entry};
 ghost use Rattle.edit_sources.specs.Sources.{source_texts, found, Adds};
 
 use crate::config::{Config, ConfigSource};
-use edit_base::{CargoResult, Error};
+use edit_base::Error;
 use std::alloc::{AllocError, Global};
 use std::collections::BTreeMap;
 
@@ -88,7 +88,7 @@ fn text_of(text: &Option<String>) -> Option<&str>
 }
 
 /// The first definition of each key of these files.
-fn first_definitions<'a>(
+pub(crate) fn first_definitions<'a>(
     alloc: Global,
     configs: &'a [Config],
 ) -> Result<BTreeMap<&'a str, Source<'a>>, AllocError>
@@ -114,7 +114,7 @@ fn with_default(source: Source<'_>) -> Source<'_>
 }
 
 /// The source that was found at a key, with an address where the key is that of the default registry.
-fn addressed<'a>(key: &str, source: Source<'a>) -> Source<'a>
+pub(crate) fn addressed<'a>(key: &str, source: Source<'a>) -> Source<'a>
     ensures { Some (source_texts result) ≡ spec.addressed key.now (Some (source_texts source.entry)) }
 {
     if key == CRATES_IO_INDEX {
@@ -134,7 +134,7 @@ fn is_default(registry: Option<&str>) -> bool
 }
 
 /// The key at which a registry begins.
-fn head_key<'a>(registry: Option<&'a str>) -> &'a str
+pub(crate) fn head_key<'a>(registry: Option<&'a str>) -> &'a str
     ensures { result.now ≡ spec.head_key (given registry.entry) }
 {
     match registry {
@@ -149,7 +149,7 @@ fn head_key<'a>(registry: Option<&'a str>) -> &'a str
 }
 
 /// The source at which a registry begins, of what its key defines.
-fn head<'a>(found: Option<Source<'a>>, registry: Option<&str>) -> Option<Source<'a>>
+pub(crate) fn head<'a>(found: Option<Source<'a>>, registry: Option<&str>) -> Option<Source<'a>>
     ensures { option_map source_texts result
         ≡ spec.head_source_of (given registry.entry) (option_map source_texts found.entry) }
 {
@@ -164,7 +164,7 @@ fn head<'a>(found: Option<Source<'a>>, registry: Option<&str>) -> Option<Source<
 }
 
 /// The refusal of a registry that no file defines.
-fn registry_not_found(alloc: Global, key: &str) -> Error
+pub(crate) fn registry_not_found(alloc: Global, key: &str) -> Error
     ensures { IsMemory result
         ⊎ ((name : String Global) × (result ≡ RegistryNotFound name) × (string_bytes name ≡ key.now)) }
 {
@@ -175,7 +175,7 @@ fn registry_not_found(alloc: Global, key: &str) -> Error
 }
 
 /// The refusal of a source that no file defines or that was used.
-fn source_not_found(alloc: Global, key: &str) -> Error
+pub(crate) fn source_not_found(alloc: Global, key: &str) -> Error
     ensures { IsMemory result
         ⊎ ((name : String Global) × (result ≡ SourceNotFound name) × (string_bytes name ≡ key.now)) }
 {
@@ -183,29 +183,4 @@ fn source_not_found(alloc: Global, key: &str) -> Error
         Ok(key) => Error::SourceNotFound { key },
         Err(error) => Error::from(error),
     }
-}
-
-/// The last source of the chain of a registry. Each definition that is followed is taken out, so
-/// that the walk ends and no key is used twice.
-pub(crate) fn last_source<'a>(
-    alloc: Global,
-    configs: &'a [Config],
-    registry: Option<&'a str>,
-) -> CargoResult<Source<'a>>
-    ensures ends { IfOk result (λ s. spec.EndsAt (all_definitions configs.entry.now) (given registry.entry)
-        (source_texts s)) }
-    ensures refused { IfErr result (λ e. IsMemory e ⊎ HasNoUrl configs.entry.now (given registry.entry) e) }
-{
-    let mut left = first_definitions(alloc, configs)?;
-    let first = head_key(registry);
-    let Some(mut source) = head(left.remove(first), registry) else {
-        return Err(registry_not_found(alloc, first));
-    };
-    while let Some(key) = source.replace_with {
-        match left.remove(key) {
-            Some(next) => source = addressed(key, next),
-            None => return Err(source_not_found(alloc, key)),
-        }
-    }
-    Ok(source)
 }

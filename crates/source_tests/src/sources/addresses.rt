@@ -1,7 +1,7 @@
 //! Addresses under configuration files.
 use super::looks::put;
 use edit_sources::config::{Config, read_configs};
-use edit_sources::registry::{registry_url, resolve};
+use edit_sources::registry::{Definitions, registry_url, resolve};
 use edit_store::MemoryStore;
 use std::alloc::Global;
 use std::test::Fail;
@@ -31,6 +31,10 @@ source.crates-io.replace-with = 'local'@source.local.registry = 'file:///idx'@
 source.crates-io.replace-with = 'local'@[source.local]@
 33 The source 'x' could not be found|a circle|x|/w/.cargo/config.toml|\
 [source.x]@replace-with = 'y'@[source.y]@replace-with = 'x'@
+33 The source 'x' could not be found|a circle of three|x|/w/.cargo/config.toml|\
+[source.x]@replace-with = 'y'@[source.y]@replace-with = 'z'@[source.z]@replace-with = 'x'@
+33 The source 'y' could not be found|a circle after the first|x|/w/.cargo/config.toml|\
+[source.x]@replace-with = 'y'@[source.y]@replace-with = 'z'@[source.z]@replace-with = 'y'@
 33 The source 'x' could not be found|replaced by itself|x|/w/.cargo/config.toml|\
 [source.x]@replace-with = 'x'@
 sparse+https://index.crates.io/|the default by its address|a|/w/.cargo/config.toml|\
@@ -135,4 +139,48 @@ fn configured(alloc: Global, path: &str) -> Result<String, Fail> {
 fn resolved_by_hand(rt: HostRuntime) -> Result<(), Fail> {
     let seen = configured(rt.alloc(), "/a/b/Cargo.toml")?;
     same("one file", seen.as_str(), "1 /.cargo/config file:///idx")
+}
+
+/// A chain of three sources, and the default registry replaced by the first of them.
+const CHAIN: &str = "\
+source.a.replace-with = 'b'@source.b.replace-with = 'c'@source.c.registry = 'file:///idx'@\
+source.crates-io.replace-with = 'a'@";
+
+/// The addresses of registries by one reading of the configurations, or the first refusal.
+fn by_one_reading(
+    alloc: Global,
+    configs: &[Config],
+    registries: &[Option<&str>],
+) -> Result<String, Fail> {
+    let mut definitions = match Definitions::read(alloc, configs) {
+        Ok(definitions) => definitions,
+        Err(error) => return told(alloc, error),
+    };
+    let mut seen = String::new(alloc);
+    for registry in registries {
+        match definitions.resolve(alloc, *registry) {
+            Ok(url) => seen.push_str(url.as_str())?,
+            Err(error) => return told(alloc, error),
+        }
+        seen.push('\n')?;
+    }
+    Ok(seen)
+}
+
+/// What those lines give for registries, in turn.
+fn chained(alloc: Global, registries: &[Option<&str>]) -> Result<String, Fail> {
+    let mut store = MemoryStore::new(alloc);
+    put(alloc, &mut store, "/.cargo/config", CHAIN)?;
+    match read_configs(alloc, &mut store, "/Cargo.toml", None) {
+        Ok(configs) => by_one_reading(alloc, &configs, registries),
+        Err(error) => told(alloc, error),
+    }
+}
+
+#[test]
+fn resolved_by_one_reading(rt: HostRuntime) -> Result<(), Fail> {
+    let seen = chained(rt.alloc(), &[Some("a"), Some("b"), None, Some("c")])?;
+    let address = "file:///idx\n";
+    let four = format!(in rt.alloc(); "{address}{address}{address}{address}")?;
+    same("one chain", seen.as_str(), four.as_str())
 }

@@ -1,4 +1,4 @@
-use Rattle.std.proofs.Common.{◌∙◌, ap, subst, sym}
+use Rattle.std.proofs.Common.{◌∙◌, ap, inl, inr, ⊎_elim, subst, sym}
 use Rattle.std.specs.Prelude.{option_copied, option_map}
 use Rattle.edit_version.specs.RustVersions.{numbers_of}
 use Rattle.edit_sources.specs.Configured.{given}
@@ -19,7 +19,8 @@ returns-in_err-see-clause-refused g c =
     (g.I.Index.view (index_of c.args.index.now)).gives
     (kept_by c.args.index.now) (g.I.Index.view (index_of c.args.index.now)).faults
     (g.I.Index.view (index_of c.args.index.now)).faults c.in_err-see.field-0.0
-    c.requires.source c.in_err-see.ensures.refused)
+    c.requires.source (⊎_elim (λ m. inl m)
+    (λ r. inr (r c.args.job.configs.now c.requires.addresses)) c.in_err-see.ensures.refused))
 
 pub returns-in_err-look_once-clause-left : goal.returns-in_err-look_once-clause-left
 returns-in_err-look_once-clause-left g c =
@@ -29,7 +30,8 @@ returns-in_err-look_once-clause-left g c =
     (g.I.Index.view (index_of c.args.index.now)).faults
     (g.I.Index.view (index_of c.look_once.new.index)).faults
     (kept_by c.args.index.now) (kept_by c.look_once.new.index) c.requires.source
-    (c.in_ok-see.ensures.are (given c.args.registry) c.in-Some.url.now
+    ((c.in_ok-see.ensures.are c.args.job.configs.now c.requires.addresses).has
+    (given c.args.registry) c.in-Some.url.now
     (sym c.url.ensures ∙ ap option_copied c.in-Some.is))
     c.as_str-name.ensures.value c.in_err-look_once.ensures.left
 
@@ -42,7 +44,8 @@ returns-in_err-look_once-clause-refused g c =
     (g.I.Index.view (index_of c.args.index.now)).gives (kept_by c.args.index.now)
     (g.I.Index.view (index_of c.args.index.now)).faults
     (g.I.Index.view (index_of c.look_once.new.index)).faults c.in_err-look_once.field-0.0 c.requires.source
-    (c.in_ok-see.ensures.are (given c.args.registry) c.in-Some.url.now
+    ((c.in_ok-see.ensures.are c.args.job.configs.now c.requires.addresses).has
+    (given c.args.registry) c.in-Some.url.now
     (sym c.url.ensures ∙ ap option_copied c.in-Some.is))
     c.as_str-name.ensures.value c.in_err-look_once.ensures.refused)
 
@@ -52,7 +55,8 @@ returns-in_err-row-clause-left g c =
     let e = seen_of c.args.entry.now in
     let first = (g.I.Index.view (index_of c.args.index.now)).gives in
     let before = (g.I.Index.view (index_of c.args.index.now)).faults in
-    let has = c.in_ok-see.ensures.are (given c.args.registry) c.in-Some.url.now
+    let has = (c.in_ok-see.ensures.are c.args.job.configs.now c.requires.addresses).has
+    (given c.args.registry) c.in-Some.url.now
     (sym c.url.ensures ∙ ap option_copied c.in-Some.is) in
     let left = registry-left configs e (given c.args.registry) c.in-Some.url.now c.as_str-name.result.now
     first (g.I.Index.view (index_of c.look_once.new.index)).gives before
@@ -74,7 +78,8 @@ returns-clause-row g c =
     (option_map numbers_of c.args.job.rust_version) c.args.job.configs.now (kept_by c.kept_row.new.index)
     (seen_of c.args.entry.now) (given c.args.registry) c.in-Some.url.now
     (line_of c.in_ok-row.row) c.requires.source
-    (c.in_ok-see.ensures.are (given c.args.registry) c.in-Some.url.now
+    ((c.in_ok-see.ensures.are c.args.job.configs.now c.requires.addresses).has
+    (given c.args.registry) c.in-Some.url.now
     (sym c.url.ensures ∙ ap option_copied c.in-Some.is)) c.in_ok-row.ensures.ok
 
 pub returns-clause-left : goal.returns-clause-left
@@ -83,7 +88,8 @@ returns-clause-left g c =
     let e = seen_of c.args.entry.now in
     let first = (g.I.Index.view (index_of c.args.index.now)).gives in
     let before = (g.I.Index.view (index_of c.args.index.now)).faults in
-    let has = c.in_ok-see.ensures.are (given c.args.registry) c.in-Some.url.now
+    let has = (c.in_ok-see.ensures.are c.args.job.configs.now c.requires.addresses).has
+    (given c.args.registry) c.in-Some.url.now
     (sym c.url.ensures ∙ ap option_copied c.in-Some.is) in
     let left = registry-left configs e (given c.args.registry) c.in-Some.url.now c.as_str-name.result.now
     first (g.I.Index.view (index_of c.look_once.new.index)).gives before

@@ -29,7 +29,7 @@ entries-init g c =
     let kept = kept_by c.args.index.now in
     let rust = option_map numbers_of c.args.job.rust_version in
     record {
-      addresses = λ named address h. cc (sym (c.new-addresses.ensures named) ∙ h);
+      addresses = c.in_ok-addresses.ensures.are;
       kept = c.requires.kept;
       steps = start kept c.args.books.now.looks.items (holds_pair c.args.books.now.pairs);
       passed = All-nil (IsPassed configs kept);

@@ -1,0 +1,155 @@
+//! What configurations define, for any number of registries.
+ghost use Rattle.std.specs.Prelude.{◌≡◌, ◌<◌, ◌⊎◌, ℕ, List, None, Some, Ok, cond, IfOk, IfErr, OnOk, OnErr, option_map, String, string_bytes};
+ghost use Rattle.std.specs.BTreeMap.{btree_map_len};
+ghost use Rattle.std.specs.declared.alloc.Global.{Global};
+ghost use Rattle.edit_base.specs.Errors.{IsMemory};
+ghost use Rattle.edit_base.specs.Paths.{texts};
+ghost use Rattle.edit_base.specs.declared.errors.Error.TheVariants.{SourceNotFound};
+ghost use Rattle.url.specs.Parser.{parse_url};
+ghost use Rattle.edit_sources.specs.SourceReplacement as spec;
+ghost use Rattle.edit_sources.specs.SourceReplacement.{is_used};
+ghost use Rattle.edit_sources.specs.Configured.{all_definitions, given, HasAddress, HasNoUrl, IsNoUrl};
+ghost use Rattle.edit_sources.specs.Definitions.{Defines, Lacks, Takes, end_at};
+ghost use Rattle.edit_sources.specs.Sources.{source_texts};
+ghost use Rattle.edit_sources.specs.declared.config.Config.{Config};
+
+use super::chain::{
+    Source, addressed, first_definitions, head, head_key, registry_not_found, source_not_found,
+};
+use crate::config::Config;
+use edit_base::{CargoResult, Error};
+use std::alloc::{AllocError, Global};
+use std::collections::BTreeMap;
+use url::{ParseError, Url};
+
+/// What configurations define, for any number of registries: each source is followed once.
+#[derive(Drop)]
+pub struct Definitions<'a> {
+    /// The first definition of each key, but of those that a chain has passed.
+    left: BTreeMap<&'a str, Source<'a>>,
+    /// The address at the end of the chain from a key that a chain has passed.
+    ends: BTreeMap<&'a str, &'a str>,
+}
+
+/// The URL of an address.
+fn url_of(alloc: Global, address: &str) -> CargoResult<Url>
+    ensures reads { IfOk result (λ url. parse_url None address.now ≡ Ok url) }
+    ensures refused { IfErr result (λ e. IsMemory e ⊎ IsNoUrl address.now e) }
+{
+    match Url::parse(alloc, address) {
+        Ok(url) => Ok(url),
+        Err(ParseError::OutOfMemory | ParseError::Overflow) => Err(Error::Memory),
+        Err(_) => Err(Error::InvalidUrl),
+    }
+}
+
+impl<'a> Definitions<'a> {
+    /// Reads what configurations define. They are in the order of their precedence, the first one first.
+    pub fn read(alloc: Global, configs: &'a [Config]) -> CargoResult<Definitions<'a>>
+        ensures defines { IfOk result (Defines configs.entry.now) }
+        ensures refused { IfErr result IsMemory }
+    {
+        let left = first_definitions(alloc, configs)?;
+        Ok(Definitions {
+            left,
+            ends: BTreeMap::new(alloc),
+        })
+    }
+
+    /// The address at the end of the chain from a key, where that was followed.
+    fn end_of(&self, key: &str) -> Option<&'a str>
+        ensures { option_map (λ a. a.now) result ≡ end_at self.now key.now }
+    {
+        self.ends.get(key).copied()
+    }
+
+    /// Takes out the source at a key, so that no key is used twice. The first key of the chain stays, and is
+    /// used.
+    fn take_out(&mut self, alloc: Global, beginning: &str, key: &'a str) -> CargoResult<Source<'a>>
+        ensures takes { IfOk result
+            (λ s. Takes beginning.now key.entry.now self.old self.new (source_texts s)) }
+        ensures shorter { OnOk result (btree_map_len self.new.left < btree_map_len self.old.left) }
+        ensures refused { IfErr result (λ e. IsMemory e
+            ⊎ ((name : String Global) × (e ≡ SourceNotFound name) × (string_bytes name ≡ key.entry.now))) }
+        ensures lacks { OnErr result (Lacks beginning.now key.entry.now self.old) }
+    {
+        if beginning == key {
+            return Err(source_not_found(alloc, key));
+        }
+        match self.left.remove(key) {
+            Some(source) => Ok(addressed(key, source)),
+            None => Err(source_not_found(alloc, key)),
+        }
+    }
+
+    /// Keeps the address to which these keys lead.
+    fn keep(&mut self, keys: &[&'a str], address: &'a str) -> Result<(), AllocError>
+        ensures left { self.new.left ≡ self.old.left }
+        ensures ends { OnOk result ((q : List ℕ) → end_at self.new q
+            ≡ cond (is_used (texts keys.now) q) (Some address.entry.now) (end_at self.old q)) }
+    {
+        for key in keys {
+            self.ends.insert(*key, address)?;
+        }
+        Ok(())
+    }
+
+    /// Follows the chain of a registry to the address at its end. Each definition that is passed is taken out,
+    /// so that the walk ends and no key is used twice.
+    fn follow(&mut self, alloc: Global, registry: Option<&str>) -> CargoResult<&'a str>
+        requires { end_at self.old (spec.head_key (given registry)) ≡ None }
+        ensures address { IfOk result (λ a. (configs : List Config) → Defines configs self.old
+            → spec.Address (all_definitions configs) (given registry.entry) a.now) }
+        ensures defines { OnOk result
+            ((configs : List Config) → Defines configs self.old → Defines configs self.new) }
+        ensures refused { IfErr result (λ e. IsMemory e ⊎ ((configs : List Config)
+            → Defines configs self.old → HasNoUrl configs (given registry.entry) e)) }
+    {
+        let first = head_key(registry);
+        let Some(mut source) = head(self.left.get(first).copied(), registry) else {
+            return Err(registry_not_found(alloc, first));
+        };
+        let mut passed = Vec::new(alloc);
+        while let Some(key) = source.replace_with {
+            if let Some(address) = self.end_of(key) {
+                self.keep(&passed, address)?;
+                return Ok(address);
+            }
+            source = self.take_out(alloc, first, key)?;
+            passed.push(key)?;
+        }
+        let Some(address) = source.registry else {
+            return Err(Error::MissingRegistry);
+        };
+        self.keep(&passed, address)?;
+        Ok(address)
+    }
+
+    /// The address at the end of the chain of a registry.
+    fn address_of(&mut self, alloc: Global, registry: Option<&str>) -> CargoResult<&'a str>
+        ensures address { IfOk result (λ a. (configs : List Config) → Defines configs self.old
+            → spec.Address (all_definitions configs) (given registry.entry) a.now) }
+        ensures defines { OnOk result
+            ((configs : List Config) → Defines configs self.old → Defines configs self.new) }
+        ensures refused { IfErr result (λ e. IsMemory e ⊎ ((configs : List Config)
+            → Defines configs self.old → HasNoUrl configs (given registry.entry) e)) }
+    {
+        match self.end_of(head_key(registry)) {
+            Some(address) => Ok(address),
+            None => self.follow(alloc, registry),
+        }
+    }
+
+    /// The address of a registry, as `resolve` has it. After a refusal nothing is said of the definitions.
+    pub fn resolve(&mut self, alloc: Global, registry: Option<&str>) -> CargoResult<Url>
+        ensures address { IfOk result (λ url. (configs : List Config) → Defines configs self.old
+            → HasAddress configs (given registry.entry) url) }
+        ensures defines { OnOk result
+            ((configs : List Config) → Defines configs self.old → Defines configs self.new) }
+        ensures refused { IfErr result (λ e. IsMemory e ⊎ ((configs : List Config)
+            → Defines configs self.old → HasNoUrl configs (given registry.entry) e)) }
+    {
+        let address = self.address_of(alloc, registry)?;
+        url_of(alloc, address)
+    }
+}
