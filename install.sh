@@ -42,8 +42,10 @@ fi
 mkdir -p "$prefix/bin"
 cp "$program" "$prefix/bin/cargo-edit.new"
 mv "$prefix/bin/cargo-edit.new" "$prefix/bin/cargo-edit"
-ln -sf cargo-edit "$prefix/bin/cargo-upgrade"
-ln -sf cargo-edit "$prefix/bin/cargo-set-version"
+for script in cargo-upgrade cargo-set-version; do
+    rm -f "$prefix/bin/$script"
+    cp "$here/bin/$script" "$prefix/bin/$script"
+done
 shared | while IFS= read -r file; do
     mkdir -p "$(dirname "$prefix/share/$file")"
     cp "$here/share/$file" "$prefix/share/$file"

@@ -22,8 +22,7 @@ top=$room/$name
 mkdir -p "$top/bin"
 cp "$program" "$top/bin/cargo-edit"
 chmod 755 "$top/bin/cargo-edit"
-ln -s cargo-edit "$top/bin/cargo-upgrade"
-ln -s cargo-edit "$top/bin/cargo-set-version"
+cp "$here/bin/cargo-upgrade" "$here/bin/cargo-set-version" "$top/bin"
 cp -R "$here/share" "$top/share"
 cp "$here/LICENSE-APACHE" "$here/LICENSE-MIT" "$here/install.sh" "$top"
 (cd "$top" && find . -type f | sort | sed 's|^\./||' | xargs sha256sum > "$room/sums" && mv "$room/sums" SHA256SUMS)

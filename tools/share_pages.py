@@ -1,7 +1,7 @@
 """Man pages in roff, made of a help."""
 STATUS = (
-    ("0", "All was done."),
-    ("1", "It was refused; the reason is printed behind `Error: `."),
+    ("0", "All was done; with --check: nothing would change."),
+    ("1", "It was refused; the reason is printed behind `Error: `. With --check and no such line: something would change."),
     ("2", "The command line is at fault."),
 )
 

@@ -12,7 +12,7 @@ def flags_of(page):
     return [flag for entry in page.options for flag in entry.flags]
 
 
-# An option whose values are listed may stand without one (the program fills it in), so another option may follow it.
+# Most options whose values are listed may stand without one (the program fills it in), so another option may follow them.
 
 
 # bash: one function for each name on the command line. Cargo's own completion hands a command's words on without the

@@ -48,3 +48,8 @@ filled_in : filled (codes "upgrade" ∷ codes "-i" ∷ codes "--pinned" ∷ code
     ∷ codes "true" ∷ codes "--" ∷ codes "-i" ∷ []
 unfolding filled
 filled_in = refl
+
+looks : fault_of edit_app (codes "looks" ∷ codes "--index-dir" ∷ codes "d" ∷ codes "--update-calls=f"
+    ∷ codes "--check" ∷ codes "--message-format" ∷ codes "json" ∷ codes "--diff" ∷ []) ≡ []
+unfolding clap_on_literals edit_app
+looks = refl

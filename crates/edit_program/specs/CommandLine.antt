@@ -1,6 +1,6 @@
 -- The command line: what the words of the program ask for.
-pub use Rattle.edit_program.specs.Rules.{choice_rule, count_rule, flag_rule, list_rule, path_rule, selections, with_rules}
-use Rattle.std.specs.Prelude.{◌≡◌, ◌⊎◌, ◌-◌, ℕ, ℤ, Bool, List, [], ◌∷◌, Option, Some, None, true, false, codes, if◌then◌else◌, min, nat_lt, negsuc, option_map, pos, unwrap_or}
+pub use Rattle.edit_program.specs.Rules.{choice_rule, count_rule, flag_rule, list_rule, path_rule, reports, selections, with_rules}
+use Rattle.std.specs.Prelude.{◌≡◌, ◌⊎◌, ◌||◌, ◌-◌, ℕ, ℤ, Bool, List, [], ◌∷◌, Option, Some, None, true, false, codes, if◌then◌else◌, min, nat_lt, negsuc, option_map, pos, unwrap_or}
 use Rattle.std.specs.Str.{bytes_eq}
 use Rattle.clap.specs.Words.{App, Row, Rule, Shape, Text, all_of, count_of, fault_of, first_of, new_app, subcommand_of, with_subcommand}
 use Rattle.clap.specs.declared.builder.value_parser.ValueParser.TheVariants as value
@@ -15,6 +15,10 @@ places =
     ∷ path_rule (codes "metadata-json")
     ∷ path_rule (codes "index-file")
     ∷ []
+
+-- the options that name the folder of an index, and the file of the calls that follow
+abbrev pub outlets : List Rule
+outlets = path_rule (codes "index-dir") ∷ path_rule (codes "update-calls") ∷ []
 
 -- the options that say which versions of Rust count
 abbrev pub rust_choices : List Rule
@@ -39,11 +43,11 @@ choices =
     ∷ record (choice_rule (codes "recursive")) { parser = Some value.Bool }
     ∷ []
 
--- the subcommand `upgrade`
-abbrev pub upgrade_app : App
-upgrade_app =
-    with_rules (with_rules (with_rules (with_rules (with_rules (new_app (codes "upgrade")) places) rust_choices)
-    switches) choices) selections
+-- the subcommand `upgrade`, and the one that takes the same words
+abbrev pub upgrade_app : Text → App
+upgrade_app name =
+    with_rules (with_rules (with_rules (with_rules (with_rules (with_rules (with_rules (new_app name)
+    places) outlets) rust_choices) switches) reports) choices) selections
 
 -- the program's own settings
 abbrev pub top_shape : Shape
@@ -56,8 +60,9 @@ top_shape = record (new_app (codes "cargo-edit")).top {
 
 -- the program's command line
 unfoldable pub edit_app : App
-edit_app = with_subcommand (with_subcommand (record { top = top_shape; subs = [] }) upgrade_app.top)
-    set_version_app.top
+edit_app =
+    with_subcommand (with_subcommand (with_subcommand (record { top = top_shape; subs = [] })
+    (upgrade_app (codes "upgrade")).top) (upgrade_app (codes "looks")).top) set_version_app.top
 
 -- the value of an option among the matches of `upgrade`, or this other one where it has none
 abbrev pub value_of : Text → Text → List Row → Text
@@ -70,6 +75,10 @@ values_of id rows = unwrap_or (all_of id rows) []
 -- whether a flag is given
 abbrev pub is_given : Text → List Row → Bool
 is_given id rows = bytes_eq (value_of id [] rows) (codes "true")
+
+-- whether nothing is to be written: at a dry run, and where a plan is only checked
+abbrev pub is_dry : List Row → Bool
+is_dry rows = is_given (codes "dry-run") rows || is_given (codes "check") rows
 
 -- what a value says of what may be upgraded: that it is allowed or ignored, or nothing
 abbrev pub status_of_value : Text → Option Bool
@@ -92,7 +101,7 @@ pub record AskForOptions (rows : List Row) (o : Options) : Type 0 where
   pub compatible : status_of (codes "compatible") rows ≡ Some o.compatible
   pub incompatible : status_of (codes "incompatible") rows ≡ Some o.incompatible
   pub pinned : status_of (codes "pinned") rows ≡ Some o.pinned
-  pub dry_run : o.dry_run ≡ is_given (codes "dry-run") rows
+  pub dry_run : o.dry_run ≡ is_dry rows
   pub locked : o.locked ≡ is_given (codes "locked") rows
   pub recursive : o.recursive
       ≡ option_map (λ v. bytes_eq v (codes "true")) (first_of (codes "recursive") rows)

@@ -1,6 +1,8 @@
 pub mod CommandLine
+pub mod Commands
 pub mod Filled
 pub mod Merged
+pub mod Presented
 pub mod Rules
 pub mod Runs
 pub mod SetVersionLine

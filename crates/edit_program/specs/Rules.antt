@@ -58,3 +58,11 @@ selections =
     record (list_rule (codes "package")) { short = Some 112 }
     ∷ list_rule (codes "exclude")
     ∷ []
+
+-- how a plan is printed, and whether it is only checked
+abbrev pub reports : List Rule
+reports =
+    flag_rule (codes "check")
+    ∷ record (choice_rule (codes "message-format")) { defaults = codes "human" ∷ [] }
+    ∷ flag_rule (codes "diff")
+    ∷ []

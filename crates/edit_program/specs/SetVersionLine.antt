@@ -3,7 +3,7 @@ use Rattle.std.specs.Prelude.{List, [], ◌∷◌, Some, codes}
 use Rattle.clap.specs.Words.{App, Rule, new_app, new_rule}
 use Rattle.clap.specs.declared.builder.action.ArgAction.TheVariants.{Set}
 use Rattle.clap.specs.declared.builder.value_parser.ValueParser.TheVariants as value
-use Rattle.edit_program.specs.Rules.{choice_rule, count_rule, flag_rule, option_rule, selections, with_rules}
+use Rattle.edit_program.specs.Rules.{choice_rule, count_rule, flag_rule, option_rule, reports, selections, with_rules}
 
 -- the version, as a word of its own
 abbrev pub version_word : Rule
@@ -46,5 +46,5 @@ ignored =
 -- the subcommand `set-version`
 abbrev pub set_version_app : App
 set_version_app =
-    with_rules (with_rules (with_rules (with_rules (with_rules (new_app (codes "set-version")) targets) sources)
-    selections) members) ignored
+    with_rules (with_rules (with_rules (with_rules (with_rules (with_rules (new_app (codes "set-version"))
+    targets) sources) selections) members) reports) ignored

@@ -1,5 +1,5 @@
--- What the words of `upgrade` ask for.
-use Rattle.std.specs.Prelude.{◌≡◌, ◌⊎◌, List, Bool, Option, Some, None, codes, true, false}
+-- What the words of `upgrade` and of `looks` ask for.
+use Rattle.std.specs.Prelude.{◌≡◌, ◌⊎◌, ◌&&◌, List, Bool, Option, Some, None, codes, is_some, true, false}
 use Rattle.clap.specs.Words.{Row, Text, first_of}
 use Rattle.edit_sources.specs.Configured.{given}
 use Rattle.edit_upgrade_read.specs.declared.asked.RustChoice.{RustChoice}
@@ -7,7 +7,8 @@ use Rattle.edit_upgrade_read.specs.declared.asked.RustChoice.TheVariants as choi
 use Rattle.edit_upgrade_run.specs.declared.words.UpgradeWords.{UpgradeWords}
 use Rattle.edit_version.specs.RustVersions.{numbers_of, rust_of}
 use Rattle.edit_version.specs.declared.rust_version.RustVersion.{RustVersion}
-use Rattle.edit_program.specs.CommandLine.{AskForOptions, HasBadStatus, HaveEntered, is_given}
+use Rattle.edit_program.specs.CommandLine.{AskForOptions, HasBadStatus, is_given}
+use Rattle.edit_program.specs.Presented.{presentation_of}
 
 -- the versions of Rust that count, by the one that is named and by whether they are ignored: those of the
 -- manifests, none, or the one that is named
@@ -24,28 +25,29 @@ HasNoRust None ignored = ⊥
 HasNoRust (Some text) false = rust_of text ≡ None
 HasNoRust (Some text) true = Unit {0}
 
+-- an index file and an index folder are named
+abbrev pub name_two_indexes : List Row → Bool
+name_two_indexes rows =
+    is_some (first_of (codes "index-file") rows) && is_some (first_of (codes "index-dir") rows)
+
 -- what the matches of `upgrade` ask for
 pub record AskForUpgrade (rows : List Row) (w : UpgradeWords) : Type 0 where
   pub manifest : given w.manifest_path ≡ first_of (codes "manifest-path") rows
   pub metadata : given w.metadata_json ≡ first_of (codes "metadata-json") rows
   pub index : given w.index_file ≡ first_of (codes "index-file") rows
-  pub rust : IsRust (first_of (codes "rust-version") rows) (is_given (codes "ignore-rust-version") rows) w.rust
+  pub folder : given w.index_dir ≡ first_of (codes "index-dir") rows
+  pub one_index : name_two_indexes rows ≡ false
+  pub rust : IsRust (first_of (codes "rust-version") rows)
+      (is_given (codes "ignore-rust-version") rows) w.rust
   pub options : AskForOptions rows w.options
+  pub presentation : presentation_of rows ≡ Some w.presentation
+  pub calls : given w.update_calls ≡ first_of (codes "update-calls") rows
 
--- one of the values is none that its option has, or it is not said which versions of Rust count
+-- two indexes are named, one of the values is none that its option has, it is not said which versions of Rust
+-- count, or not how the plan is printed
 abbrev pub HaveUpgradeFault : List Row → Type 0
 HaveUpgradeFault rows =
-    HasBadStatus rows
-    ⊎ HasNoRust (first_of (codes "rust-version") rows) (is_given (codes "ignore-rust-version") rows)
-
--- the command line takes the words, which ask for this upgrade
-pub record AskToUpgrade (words : List Text) (w : UpgradeWords) : Type 0 where
-  pub rows : List Row
-  pub entered : HaveEntered words (codes "upgrade") rows
-  pub asks : AskForUpgrade rows w
-
--- the command line takes the words, which name `upgrade` with what it does not take
-pub record HaveBadUpgrade (words : List Text) : Type 0 where
-  pub rows : List Row
-  pub entered : HaveEntered words (codes "upgrade") rows
-  pub fault : HaveUpgradeFault rows
+    (name_two_indexes rows ≡ true)
+    ⊎ (HasBadStatus rows
+    ⊎ (HasNoRust (first_of (codes "rust-version") rows) (is_given (codes "ignore-rust-version") rows)
+    ⊎ (presentation_of rows ≡ None)))

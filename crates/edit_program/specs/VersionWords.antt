@@ -8,7 +8,8 @@ use Rattle.edit_set_version.specs.Levels.{level_word}
 use Rattle.edit_set_version.specs.declared.set_version.BumpLevel.{BumpLevel}
 use Rattle.edit_set_version.specs.declared.set_version.BumpLevel.TheVariants.{Release}
 use Rattle.edit_set_version_run.specs.declared.words.SetVersionWords.{SetVersionWords}
-use Rattle.edit_program.specs.CommandLine.{HaveEntered, is_given, value_of, values_of}
+use Rattle.edit_program.specs.CommandLine.{is_dry, is_given, value_of, values_of}
+use Rattle.edit_program.specs.Presented.{presentation_of}
 
 -- the target that a version and a level name: one of the two alone, or with neither the level `release`
 abbrev pub IsTarget : Option Text → Option Text → Target → Type 0
@@ -44,24 +45,13 @@ pub record AskForVersions (rows : List Row) (w : SetVersionWords) : Type 0 where
       ≡ (is_given (codes "workspace") rows || is_given (codes "all") rows)
   pub metadata : option_map string_bytes w.selection.metadata ≡ first_of (codes "metadata") rows
   pub all : w.all ≡ is_given (codes "all") rows
-  pub dry_run : w.dry_run ≡ is_given (codes "dry-run") rows
+  pub dry_run : w.dry_run ≡ is_dry rows
+  pub presentation : presentation_of rows ≡ Some w.presentation
   pub named_once : names_twice rows ≡ false
 
--- the matches ask for no target, or name members twice
-abbrev pub HaveFault : List Row → Type 0
-HaveFault rows =
+-- the matches name members twice, ask for no target, or do not say how the plan is printed
+abbrev pub HaveVersionFault : List Row → Type 0
+HaveVersionFault rows =
     (names_twice rows ≡ true)
-    ⊎ HaveNoTarget (first_of (codes "target") rows) (first_of (codes "bump") rows)
-
--- the command line takes the words, which ask to set these versions
-pub record AskToSet (words : List Text) (w : SetVersionWords) : Type 0 where
-  pub rows : List Row
-  pub entered : HaveEntered words (codes "set-version") rows
-  pub asks : AskForVersions rows w
-
--- the command line takes the words, which name `set-version` with what it does not take together, or with a
--- target that is not read
-pub record HaveVersionFault (words : List Text) : Type 0 where
-  pub rows : List Row
-  pub entered : HaveEntered words (codes "set-version") rows
-  pub fault : HaveFault rows
+    ⊎ (HaveNoTarget (first_of (codes "target") rows) (first_of (codes "bump") rows)
+    ⊎ (presentation_of rows ≡ None))

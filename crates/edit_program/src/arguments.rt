@@ -2,8 +2,9 @@
 ghost use Rattle.std.specs.Prelude.{◌≡◌, IfOk, false};
 ghost use Rattle.clap.specs.Words.{app_of};
 ghost use Rattle.clap.specs.declared.builder.command.Command.TheViews.{out-Command as fields_of};
-ghost use Rattle.edit_program.specs.CommandLine.{choices, edit_app, places, rust_choices, selections, switches, upgrade_app, with_rules};
+ghost use Rattle.edit_program.specs.CommandLine.{choices, edit_app, outlets, places, rust_choices, selections, switches, upgrade_app, with_rules};
 
+use crate::presented::with_reports;
 use crate::rules::{choice, counted, flag, list, path};
 use crate::set_version_line::set_version_command;
 use clap::Command;
@@ -35,6 +36,27 @@ fn with_places<'a>(alloc: Global, command: Command<'a>) -> Result<Command<'a>, A
         "Index lines, as a registry's index has them",
     );
     command.arg(manifest)?.arg(metadata)?.arg(index)
+}
+
+/// Adds the options that name the folder of an index, and the file of the calls that follow.
+fn with_outlets<'a>(alloc: Global, command: Command<'a>) -> Result<Command<'a>, AllocError>
+    ensures app { IfOk result (λ c. app_of c ≡ with_rules (app_of command.entry) outlets) }
+    ensures local { IfOk result (λ c. (fields_of command.entry).has_globals ≡ false
+        → (fields_of c).has_globals ≡ false) }
+{
+    let index = path(
+        alloc,
+        "index-dir",
+        "DIR",
+        "A folder with a folder of index files for each registry",
+    );
+    let calls = path(
+        alloc,
+        "update-calls",
+        "FILE",
+        "Writes the calls of `cargo update` that follow to this file",
+    );
+    command.arg(index)?.arg(calls)
 }
 
 /// Adds the options that say which versions of Rust count.
@@ -133,26 +155,39 @@ fn with_selections<'a>(alloc: Global, command: Command<'a>) -> Result<Command<'a
     command.arg(package.short('p'))?.arg(exclude)
 }
 
-/// The subcommand `upgrade`.
-fn upgrade_command<'a>(alloc: Global) -> Result<Command<'a>, AllocError>
-    ensures app { IfOk result (λ c. app_of c ≡ upgrade_app) }
+/// A subcommand with the words of `upgrade`.
+fn upgrade_command<'a>(
+    alloc: Global,
+    name: &'a str,
+    about: &'a str,
+) -> Result<Command<'a>, AllocError>
+    ensures app { IfOk result (λ c. app_of c ≡ upgrade_app name.entry.now) }
     ensures local { IfOk result (λ c. (fields_of c).has_globals ≡ false) }
 {
-    let upgrade = Command::new(alloc, "upgrade").about(
-        "Raises the dependency requirements of a manifest",
-    );
-    let upgrade = with_places(alloc, upgrade)?;
-    let upgrade = with_rust_choices(alloc, upgrade)?;
-    let upgrade = with_switches(alloc, upgrade)?;
-    let upgrade = with_choices(alloc, upgrade)?;
-    with_selections(alloc, upgrade)
+    let command = Command::new(alloc, name).about(about);
+    let command = with_places(alloc, command)?;
+    let command = with_outlets(alloc, command)?;
+    let command = with_rust_choices(alloc, command)?;
+    let command = with_switches(alloc, command)?;
+    let command = with_reports(alloc, command)?;
+    let command = with_choices(alloc, command)?;
+    with_selections(alloc, command)
 }
 
 /// The program's command line.
 pub(crate) fn command<'a>(alloc: Global) -> Result<Command<'a>, AllocError>
     ensures { IfOk result (λ c. app_of c ≡ edit_app) }
 {
-    let upgrade = upgrade_command(alloc)?;
+    let upgrade = upgrade_command(
+        alloc,
+        "upgrade",
+        "Raises the dependency requirements of a manifest",
+    )?;
+    let looks = upgrade_command(
+        alloc,
+        "looks",
+        "Prints the index entries that an upgrade needs",
+    )?;
     let set_version = set_version_command(alloc)?;
     Command::new(alloc, "cargo-edit")
         .version("0.13.14")
@@ -162,5 +197,6 @@ pub(crate) fn command<'a>(alloc: Global) -> Result<Command<'a>, AllocError>
         .propagate_version(true)
         .subcommand_required(true)
         .subcommand(upgrade)?
+        .subcommand(looks)?
         .subcommand(set_version)
 }

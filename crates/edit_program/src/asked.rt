@@ -1,57 +1,21 @@
-//! What matched words ask for.
+//! What matched words of `upgrade` ask for.
 ghost use Rattle.std.specs.Prelude.{◌≡◌, ◌≢◌, IfErr, IfOk, None, Some, codes, false, map, option_map, string_bytes};
 ghost use Rattle.std.specs.Str.{bytes_eq};
 ghost use Rattle.clap.specs.Words.{first_of, found_of, rows_of};
-ghost use Rattle.edit_program.specs.declared.asked.WordsError.TheVariants as words;
-ghost use Rattle.edit_program.specs.CommandLine.{AskForOptions, HasBadStatus, is_given, status_of, status_of_value, values_of, verbosity_of};
-ghost use Rattle.edit_program.specs.UpgradeAsked.{AskForUpgrade, HasNoRust, HaveUpgradeFault, IsRust};
+ghost use Rattle.edit_program.specs.declared.words_fault.WordsError.TheVariants as words;
+ghost use Rattle.edit_program.specs.CommandLine.{AskForOptions, HasBadStatus, status_of, status_of_value, verbosity_of};
+ghost use Rattle.edit_program.specs.UpgradeAsked.{AskForUpgrade, HasNoRust, HaveUpgradeFault, IsRust, name_two_indexes};
 
+use crate::lookups::{is_given, values_of};
+use crate::presented::{is_dry, presentation};
+use crate::words_fault::{WordsError, WordsFault};
 use clap::ArgMatches;
 use edit_base::Error;
 use edit_upgrade::Options;
 use edit_upgrade_read::RustChoice;
 use edit_upgrade_run::UpgradeWords;
 use edit_version::RustVersion;
-use std::alloc::{AllocError, Global};
-
-/// A value that its option does not have.
-#[derive(Debug, Clone, Copy)]
-pub(crate) struct BadStatus<'a> {
-    pub(crate) option: &'a str,
-    pub(crate) value: &'a str,
-}
-
-/// What is wrong with matched words of `upgrade`.
-#[derive(Debug, Drop)]
-pub(crate) enum UpgradeFault<'a> {
-    Status(BadStatus<'a>),
-    /// A text that names no version of Rust, and why.
-    Rust(&'a str, Error),
-    /// A version of Rust is named, and all are to be ignored.
-    TwoRusts,
-}
-
-/// Why matched words are not read.
-#[derive(Debug, Drop)]
-pub(crate) enum WordsError<'a> {
-    Memory,
-    Fault(UpgradeFault<'a>),
-}
-
-impl<'a> From<AllocError> for WordsError<'a> {
-    ghost from_gives = { λ _ e. e ≡ words.Memory };
-
-    fn from(_error: AllocError) -> WordsError<'a> {
-        WordsError::Memory
-    }
-}
-
-/// Whether a flag is given.
-pub(crate) fn is_given(matches: &ArgMatches<'_>, id: &str) -> bool
-    ensures { result ≡ is_given id.now (rows_of (found_of matches.now)) }
-{
-    matches.get_str(id).unwrap_or("") == "true"
-}
+use std::alloc::Global;
 
 /// What a value says of what may be upgraded: that it is allowed or ignored, or nothing.
 fn status_of_value(value: &str) -> Option<bool>
@@ -72,7 +36,7 @@ fn status_of<'a>(matches: &ArgMatches<'a>, option: &'static str) -> Result<bool,
     let value = matches.get_str(option).unwrap_or("");
     match status_of_value(value) {
         Some(status) => Ok(status),
-        None => Err(WordsError::Fault(UpgradeFault::Status(BadStatus { option, value }))),
+        None => Err(WordsError::Fault(WordsFault::Value(option, "allow|ignore", value))),
     }
 }
 
@@ -98,32 +62,6 @@ fn verbosity(more: u8, less: u8) -> i8
     }
 }
 
-/// These texts, on memory of their own.
-fn copied_texts(alloc: Global, texts: &[&str]) -> Result<Vec<String>, AllocError>
-    ensures { IfOk result (λ v. map string_bytes v.items ≡ map (λ t. t.now) texts.now) }
-{
-    let mut copies = Vec::new(alloc);
-    'texts: for text in texts {
-        copies.push(String::from_str(alloc, *text)?)?;
-    }
-    Ok(copies)
-}
-
-/// The values of an option, of all its uses.
-pub(crate) fn values_of(
-    alloc: Global,
-    matches: &ArgMatches<'_>,
-    id: &str,
-) -> Result<Vec<String>, AllocError>
-    ensures { IfOk result (λ v. map string_bytes v.items
-        ≡ values_of id.now (rows_of (found_of matches.now))) }
-{
-    match matches.get_strs(id) {
-        Some(texts) => copied_texts(alloc, texts),
-        None => Ok(Vec::new(alloc)),
-    }
-}
-
 /// The version of Rust that a text names.
 fn named_rust<'a>(alloc: Global, text: &'a str) -> Result<RustChoice, WordsError<'a>>
     ensures ok { IfOk result (IsRust (Some text.now) false) }
@@ -132,7 +70,7 @@ fn named_rust<'a>(alloc: Global, text: &'a str) -> Result<RustChoice, WordsError
     match RustVersion::from_str(alloc, text) {
         Ok(version) => Ok(RustChoice::Given(version)),
         Err(Error::Memory) => Err(WordsError::Memory),
-        Err(error) => Err(WordsError::Fault(UpgradeFault::Rust(text, error))),
+        Err(error) => Err(WordsError::Fault(WordsFault::Rust(text, error))),
     }
 }
 
@@ -150,7 +88,10 @@ fn rust_choice<'a>(
         (None, false) => Ok(RustChoice::Own),
         (None, true) => Ok(RustChoice::Ignored),
         (Some(text), false) => named_rust(alloc, text),
-        (Some(_), true) => Err(WordsError::Fault(UpgradeFault::TwoRusts)),
+        (Some(_), true) => Err(WordsError::Fault(WordsFault::Together(
+            "--rust-version <VER>",
+            "--ignore-rust-version",
+        ))),
     }
 }
 
@@ -165,12 +106,21 @@ fn options_of<'a>(alloc: Global, matches: &ArgMatches<'a>) -> Result<Options, Wo
         pinned: status_of(matches, "pinned")?,
         package: values_of(alloc, matches, "package")?,
         exclude: values_of(alloc, matches, "exclude")?,
-        dry_run: is_given(matches, "dry-run"),
+        dry_run: is_dry(matches),
         locked: is_given(matches, "locked"),
         recursive: recursive(matches),
         verbosity: verbosity(matches.get_count("verbose"), matches.get_count("quiet")),
         never_lower: is_given(matches, "never-lower"),
     })
+}
+
+/// Whether matched words name an index file, and an index folder too.
+fn names_two_indexes(matches: &ArgMatches<'_>) -> bool
+    ensures { result ≡ name_two_indexes (rows_of (found_of matches.now)) }
+{
+    let file = matches.get_str("index-file").is_some();
+    let folder = matches.get_str("index-dir").is_some();
+    file && folder
 }
 
 /// What matched words of `upgrade` ask for.
@@ -182,13 +132,23 @@ pub(crate) fn upgrade_words<'a>(
     ensures refused { IfErr result (λ e. e ≢ words.Memory
         → HaveUpgradeFault (rows_of (found_of matches.now))) }
 {
+    if names_two_indexes(matches) {
+        return Err(WordsError::Fault(WordsFault::Together(
+            "--index-file <FILE>",
+            "--index-dir <DIR>",
+        )));
+    }
     let ignored = is_given(matches, "ignore-rust-version");
     let rust = rust_choice(alloc, matches.get_str("rust-version"), ignored)?;
+    let presentation = presentation(matches)?;
     Ok(UpgradeWords {
         manifest_path: matches.get_str("manifest-path"),
         metadata_json: matches.get_str("metadata-json"),
         index_file: matches.get_str("index-file"),
+        index_dir: matches.get_str("index-dir"),
         rust,
         options: options_of(alloc, matches)?,
+        presentation,
+        update_calls: matches.get_str("update-calls"),
     })
 }

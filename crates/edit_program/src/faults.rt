@@ -5,8 +5,7 @@ ghost use Rattle.edit_base.specs.Errors.{IsMemory};
 ghost use Rattle.edit_base.specs.declared.errors.Error.TheVariants.{Output};
 ghost use Rattle.edit_program.specs.Runs.{status_of};
 
-use crate::asked::{BadStatus, UpgradeFault};
-use crate::version_words::VersionFault;
+use crate::words_fault::WordsFault;
 use clap::error::ErrorKind;
 use edit_base::Error;
 use edit_steps::{Refusal, RunResult};
@@ -50,42 +49,28 @@ pub(crate) fn shown<O: io::Write, E: io::Write>(
     }
 }
 
-/// Prints what is wrong with words of `upgrade`, and answers the status of a fault.
-pub(crate) fn refuse_upgrade<E: io::Write>(fault: &UpgradeFault<'_>, err: &mut E) -> u8
+/// Prints what is wrong with matched words, and answers the status of a fault.
+pub(crate) fn refuse_words<E: io::Write>(fault: &WordsFault<'_>, err: &mut E) -> u8
     ensures { result ≡ 2 }
 {
     let _ = match fault {
-        UpgradeFault::Status(BadStatus { option, value }) => writeln!(
-            err,
-            "error: invalid value '{value}' for '--{option} <allow|ignore>'"
-        ),
-        UpgradeFault::Rust(text, error) => writeln!(
-            err,
-            "error: invalid value '{text}' for '--rust-version <VER>': {error}"
-        ),
-        UpgradeFault::TwoRusts => writeln!(
-            err,
-            "error: the argument '--rust-version <VER>' cannot be used with '--ignore-rust-version'"
-        ),
-    };
-    let _ = writeln!(err, "\nFor more information, try '--help'.");
-    2
-}
-
-/// Prints what is wrong with words of `set-version`, and answers the status of a fault.
-pub(crate) fn refuse_version<E: io::Write>(fault: &VersionFault<'_>, err: &mut E) -> u8
-    ensures { result ≡ 2 }
-{
-    let _ = match fault {
-        VersionFault::Together(one, other) => writeln!(
+        WordsFault::Together(one, other) => writeln!(
             err,
             "error: the argument '{one}' cannot be used with '{other}'"
         ),
-        VersionFault::Level(word, levels) => writeln!(
+        WordsFault::Value(option, values, value) => writeln!(
+            err,
+            "error: invalid value '{value}' for '--{option} <{values}>'"
+        ),
+        WordsFault::Rust(text, error) => writeln!(
+            err,
+            "error: invalid value '{text}' for '--rust-version <VER>': {error}"
+        ),
+        WordsFault::Level(word, levels) => writeln!(
             err,
             "error: invalid value '{word}' for '--bump <LEVEL>': {levels}"
         ),
-        VersionFault::Version(text, error) => writeln!(
+        WordsFault::Version(text, error) => writeln!(
             err,
             "error: invalid value '{text}' for '[TARGET]': {error}"
         ),

@@ -5,6 +5,7 @@ ghost use Rattle.clap.specs.declared.builder.command.Command.TheViews.{out-Comma
 ghost use Rattle.edit_program.specs.Rules.{selections, with_rules};
 ghost use Rattle.edit_program.specs.SetVersionLine.{ignored, members, set_version_app, sources, targets, version_word};
 
+use crate::presented::with_reports;
 use crate::rules::{choice, counted, flag, list, option};
 use clap::builder::ValueParser;
 use clap::{Arg, ArgAction, Command};
@@ -125,5 +126,6 @@ pub(crate) fn set_version_command<'a>(alloc: Global) -> Result<Command<'a>, Allo
     let command = with_sources(alloc, command)?;
     let command = with_names(alloc, command)?;
     let command = with_members(alloc, command)?;
+    let command = with_reports(alloc, command)?;
     with_ignored(alloc, command)
 }

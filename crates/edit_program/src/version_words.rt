@@ -2,43 +2,19 @@
 ghost use Rattle.std.specs.Prelude.{◌≡◌, ◌≢◌, ◌||◌, IfErr, IfOk, Some, None, codes, is_some, map, option_map, string_bytes, true};
 ghost use Rattle.clap.specs.Words.{first_of, found_of, rows_of};
 ghost use Rattle.edit_set_version.specs.Bumps.{target_of};
-ghost use Rattle.edit_program.specs.declared.version_words.VersionWordsError.TheVariants as words;
+ghost use Rattle.edit_program.specs.declared.words_fault.WordsError.TheVariants as words;
 ghost use Rattle.edit_program.specs.CommandLine.{is_given, values_of};
-ghost use Rattle.edit_program.specs.VersionWords.{AskForVersions, HaveFault, HaveNoTarget, IsTarget, names_twice};
+ghost use Rattle.edit_program.specs.VersionWords.{AskForVersions, HaveNoTarget, HaveVersionFault, IsTarget, names_twice};
 
-use crate::asked::{is_given, values_of};
+use crate::lookups::{is_given, values_of};
+use crate::presented::{is_dry, presentation};
+use crate::words_fault::{WordsError, WordsFault};
 use clap::ArgMatches;
 use edit_set_version::{BumpLevel, Selection, TargetVersion};
 use edit_set_version_run::SetVersionWords;
 use semver::Version;
 use std::alloc::{AllocError, Global};
 use std::str::FromStr;
-
-/// What is wrong with matched words of `set-version`.
-#[derive(Debug, Drop)]
-pub(crate) enum VersionFault<'a> {
-    /// Two arguments that are not taken together.
-    Together(&'static str, &'static str),
-    /// A word that is no level, and what is said of it.
-    Level(&'a str, &'static str),
-    /// A text that is no version, and why.
-    Version(&'a str, semver::Error),
-}
-
-/// Why matched words are not read.
-#[derive(Debug, Drop)]
-pub(crate) enum VersionWordsError<'a> {
-    Memory,
-    Fault(VersionFault<'a>),
-}
-
-impl<'a> From<AllocError> for VersionWordsError<'a> {
-    ghost from_gives = { λ _ e. e ≡ words.Memory };
-
-    fn from(_error: AllocError) -> VersionWordsError<'a> {
-        VersionWordsError::Memory
-    }
-}
 
 /// Two of the three ways to name members that are both there.
 fn twice_named(matches: &ArgMatches<'_>) -> Option<(&'static str, &'static str)>
@@ -59,21 +35,18 @@ fn twice_named(matches: &ArgMatches<'_>) -> Option<(&'static str, &'static str)>
 }
 
 /// The target that a level names.
-fn target_by_level<'a>(word: &'a str) -> Result<TargetVersion, VersionWordsError<'a>>
+fn target_by_level<'a>(word: &'a str) -> Result<TargetVersion, WordsError<'a>>
     ensures ok { IfOk result (λ t. IsTarget None (Some word.now) (target_of t)) }
     ensures refused { IfErr result (λ _. HaveNoTarget None (Some word.now)) }
 {
     match BumpLevel::from_str(word) {
         Ok(level) => Ok(TargetVersion::Relative(level)),
-        Err(levels) => Err(VersionWordsError::Fault(VersionFault::Level(word, levels))),
+        Err(levels) => Err(WordsError::Fault(WordsFault::Level(word, levels))),
     }
 }
 
 /// The target that a version is.
-fn target_by_version<'a>(
-    alloc: Global,
-    text: &'a str,
-) -> Result<TargetVersion, VersionWordsError<'a>>
+fn target_by_version<'a>(alloc: Global, text: &'a str) -> Result<TargetVersion, WordsError<'a>>
     ensures ok { IfOk result (λ t. IsTarget (Some text.now) None (target_of t)) }
     ensures refused { IfErr result (λ e. e ≢ words.Memory → HaveNoTarget (Some text.now) None) }
 {
@@ -81,9 +54,9 @@ fn target_by_version<'a>(
         Ok(version) => Ok(TargetVersion::Absolute(version)),
         Err(error) => {
             if error == semver::Error::from(AllocError) {
-                return Err(VersionWordsError::Memory);
+                return Err(WordsError::Memory);
             }
-            Err(VersionWordsError::Fault(VersionFault::Version(text, error)))
+            Err(WordsError::Fault(WordsFault::Version(text, error)))
         }
     }
 }
@@ -93,7 +66,7 @@ fn target<'a>(
     alloc: Global,
     version: Option<&'a str>,
     level: Option<&'a str>,
-) -> Result<TargetVersion, VersionWordsError<'a>>
+) -> Result<TargetVersion, WordsError<'a>>
     ensures ok { IfOk result (λ t. IsTarget (option_map (λ s. s.now) version.entry)
         (option_map (λ s. s.now) level.entry) (target_of t)) }
     ensures refused { IfErr result (λ e. e ≢ words.Memory
@@ -103,7 +76,7 @@ fn target<'a>(
         (None, None) => Ok(TargetVersion::default()),
         (None, Some(word)) => target_by_level(word),
         (Some(text), None) => target_by_version(alloc, text),
-        (Some(_), Some(_)) => Err(VersionWordsError::Fault(VersionFault::Together(
+        (Some(_), Some(_)) => Err(WordsError::Fault(WordsFault::Together(
             "[TARGET]",
             "--bump <LEVEL>",
         ))),
@@ -148,19 +121,21 @@ fn selection(alloc: Global, matches: &ArgMatches<'_>) -> Result<Selection, Alloc
 pub(crate) fn version_words<'a>(
     alloc: Global,
     matches: &ArgMatches<'a>,
-) -> Result<SetVersionWords<'a>, VersionWordsError<'a>>
+) -> Result<SetVersionWords<'a>, WordsError<'a>>
     ensures asks { IfOk result (AskForVersions (rows_of (found_of matches.now))) }
-    ensures refused { IfErr result (λ e. e ≢ words.Memory → HaveFault (rows_of (found_of matches.now))) }
+    ensures refused { IfErr result (λ e. e ≢ words.Memory → HaveVersionFault (rows_of (found_of matches.now))) }
 {
     if let Some((one, other)) = twice_named(matches) {
-        return Err(VersionWordsError::Fault(VersionFault::Together(one, other)));
+        return Err(WordsError::Fault(WordsFault::Together(one, other)));
     }
     let target = target(alloc, matches.get_str("target"), matches.get_str("bump"))?;
+    let presentation = presentation(matches)?;
     Ok(SetVersionWords {
         metadata_json: matches.get_str("metadata-json").unwrap_or("metadata.json"),
         target,
         selection: selection(alloc, matches)?,
         all: is_given(matches, "all"),
-        dry_run: is_given(matches, "dry-run"),
+        dry_run: is_dry(matches),
+        presentation,
     })
 }

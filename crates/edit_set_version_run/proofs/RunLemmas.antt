@@ -1,7 +1,9 @@
 -- A run of `set-version`, from its steps.
 use Rattle.std.proofs.Common.{◌≡◌, ◌≢◌, ℕ, List, [], Bool, true, false, length, inl, inr}
-use Rattle.std.specs.Prelude.{◌==◌, not, if◌then◌else◌}
+use Rattle.std.specs.Prelude.{◌==◌, ◌⊎◌, not, if◌then◌else◌}
+use Rattle.edit_base.specs.Errors.{IsMemory}
 use Rattle.edit_base.specs.declared.errors.Error.{Error}
+use Rattle.edit_base.specs.declared.errors.Error.TheVariants.{Output as Unwritten}
 use Rattle.edit_metadata.specs.Metadata.{WorkspaceSaid}
 use Rattle.edit_metadata.specs.declared.input.Input.{Input}
 use Rattle.edit_report.specs.Applied.{HaveDistinctPaths, path_of}
@@ -16,7 +18,7 @@ use Rattle.edit_steps.proofs.DistinctPaths.{none_differ, outputs_differ}
 use Rattle.edit_store.specs.Store.{StoreView}
 use Rattle.edit_set_version_run.specs.Causes.{IsSetVersionCause}
 use Rattle.edit_set_version_run.specs.Plans.{IsVersionPlan}
-use Rattle.edit_set_version_run.specs.Printed.{printed}
+use Rattle.edit_set_version_run.specs.Printed.{printed, shown}
 use Rattle.edit_set_version_run.specs.SetVersions.{IsPlannedTo, IsRead, written}
 use Rattle.edit_set_version_run.specs.declared.words.SetVersionWords.{SetVersionWords}
 
@@ -30,21 +32,29 @@ written_differ words is outputs own in_order = go words.dry_run
     go false = outputs_differ (λ path. not (length (outputs_at path outputs) == 0)) is outputs own in_order
 
 -- what was read, planned and printed, and what is left of the files
-pub planned_to : (Leaves : List Output → StoreView → StoreView → Type 0) (Shows : List ℕ → Type 0)
+pub planned_to : (Leaves : List Output → StoreView → StoreView → Type 0) (Shows Tells : List ℕ → Type 0)
     (words : SetVersionWords) (current : List ℕ) (old new : StoreView) (w : WorkspaceSaid) (is : List Input)
     (plan : SetVersionPlan) → (old.tells ≡ true → IsRead words current old.file_at w is)
     → IsVersionPlan (target_of words.target) (asked_of words.selection) w is plan
-    → Shows (printed words (told_lines plan)) → Leaves (written words plan.outputs.items) old new
-    → old.tells ≡ true → IsPlannedTo Leaves Shows words current old new
-planned_to Leaves Shows words current old new w is plan read planned shows leaves t = record {
+    → Shows (shown words current is plan) → Tells (printed words (told_lines plan))
+    → Leaves plan.outputs.items old new → old.tells ≡ true
+    → IsPlannedTo Leaves Shows Tells words current old new
+planned_to Leaves Shows Tells words current old new w is plan read planned shows tells leaves t = record {
   workspace = w;
   inputs = is;
   plan = plan;
   read = read t;
   planned = planned;
   shows = shows;
+  tells = tells;
   leaves = leaves;
 }
+
+-- what is printed was not taken, or memory ran out for it
+pub stream_cause : (words : SetVersionWords) (current : List ℕ) (old new : StoreView) (e : Error)
+    → IsMemory e ⊎ (e ≡ Unwritten) → IsSetVersionCause words current old new e
+stream_cause words current old new e (inl memory) = inl (inl (inl memory))
+stream_cause words current old new e (inr unwritten) = inr (inl unwritten)
 
 -- a plan that is not made
 pub plan_cause : (words : SetVersionWords) (current : List ℕ) (old new : StoreView) (w : WorkspaceSaid)

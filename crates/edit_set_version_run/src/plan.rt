@@ -8,7 +8,7 @@ ghost use Rattle.edit_set_version.specs.Selections.{asked_of};
 ghost use Rattle.edit_version.specs.Laws.{IsReadable};
 ghost use Rattle.semver.specs.Identifiers.{parts_of};
 ghost use Rattle.edit_set_version_run.specs.Plans.{IsVersionPlan};
-ghost use Rattle.edit_set_version_run.specs.SetVersions.{no_rust, written};
+ghost use Rattle.edit_set_version_run.specs.SetVersions.{has_some, no_rust, written};
 
 use crate::words::SetVersionWords;
 use edit_base::Error;
@@ -78,4 +78,11 @@ pub(crate) fn written<'a>(words: &SetVersionWords<'_>, plan: &'a SetVersionPlan)
     } else {
         plan.outputs.as_slice()
     }
+}
+
+/// Whether a plan has an output: one that is written, or at a dry run would be.
+pub(crate) fn has_some(plan: &SetVersionPlan) -> bool
+    ensures { result ≡ has_some plan.now.outputs.items }
+{
+    !plan.outputs.is_empty()
 }

@@ -1,6 +1,7 @@
 //! What `set-version` is asked for.
 
 use edit_set_version::{Selection, TargetVersion};
+use edit_shown::Presentation;
 
 /// What the words of `set-version` ask for.
 #[derive(Debug, Drop)]
@@ -12,4 +13,6 @@ pub struct SetVersionWords<'a> {
     /// Whether all members are asked for by the old name of that flag, `--all`.
     pub all: bool,
     pub dry_run: bool,
+    /// What standard output has of the plan.
+    pub presentation: Presentation,
 }

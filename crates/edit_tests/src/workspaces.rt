@@ -1,4 +1,4 @@
-//! The rows of `upgrade` over workspaces and over an index in files.
+//! The rows of `upgrade` over workspaces and over an index in files, and of words that stand in each command.
 use crate::program::{printed_over, streams, words_behind};
 use edit_store::{FaultStore, MemoryStore, Store};
 use std::alloc::Global;
@@ -9,7 +9,7 @@ mod files;
 mod rows;
 
 use files::{bytes_of, path_of};
-use rows::{ROWS, WORDS};
+use rows::{OTHERS, ROWS, WORDS};
 
 /// The files of a row.
 fn stored(alloc: Global, letters: &str) -> Option<MemoryStore> {
@@ -21,8 +21,14 @@ fn stored(alloc: Global, letters: &str) -> Option<MemoryStore> {
 }
 
 /// What words behind the usual ones print over files, and an index in files.
-fn outcome(alloc: Global, words: &str, files: &mut FaultStore, index: &str) -> Option<String> {
-    let words = words_behind(alloc, WORDS, words)?;
+fn outcome(
+    alloc: Global,
+    usual: &str,
+    words: &str,
+    files: &mut FaultStore,
+    index: &str,
+) -> Option<String> {
+    let words = words_behind(alloc, usual, words)?;
     let index_files = stored(alloc, index)?;
     let (status, out, err) = printed_over(alloc, words.as_slice(), "/w", files, index_files);
     streams(alloc, status, &out, &err)
@@ -36,12 +42,12 @@ fn stands(alloc: Global, letter: char, files: &mut FaultStore) -> bool {
     }
 }
 
-/// Runs a row: what is printed, and which of its last files do not stand.
-fn ran(alloc: Global, row: &str) -> Option<String> {
+/// Runs a row behind the usual words: what is printed, and which of its last files do not stand.
+fn ran(alloc: Global, usual: &str, row: &str) -> Option<String> {
     let at = field(row, 3).parse().ok()?;
     let inner = stored(alloc, field(row, 1))?;
     let mut files = FaultStore::new(inner, at, 4);
-    let mut seen = outcome(alloc, field(row, 4), &mut files, field(row, 2))?;
+    let mut seen = outcome(alloc, usual, field(row, 4), &mut files, field(row, 2))?;
     for letter in field(row, 5).chars() {
         if !stands(alloc, letter, &mut files) {
             seen.push(letter).ok()?;
@@ -50,11 +56,21 @@ fn ran(alloc: Global, row: &str) -> Option<String> {
     Some(seen)
 }
 
-#[test]
-fn upgrades_workspaces(rt: HostRuntime) -> Result<(), Fail> {
-    for row in ROWS.split('§') {
-        let seen = ran(rt.alloc(), row).ok_or("no outcome")?;
+/// Succeeds where each row behind the usual words gives what it wants.
+fn rows_hold(alloc: Global, usual: &str, rows: &str) -> Result<(), Fail> {
+    for row in rows.split('§') {
+        let seen = ran(alloc, usual, row).ok_or("no outcome")?;
         same(row, seen.as_str(), field(row, 6))?;
     }
     Ok(())
+}
+
+#[test]
+fn upgrades_workspaces(rt: HostRuntime) -> Result<(), Fail> {
+    rows_hold(rt.alloc(), WORDS, ROWS)
+}
+
+#[test]
+fn runs_words(rt: HostRuntime) -> Result<(), Fail> {
+    rows_hold(rt.alloc(), "", OTHERS)
 }

@@ -18,6 +18,7 @@ pub record Asking : Type 0 where
   pub manifest : Option (List ℕ)
   pub metadata : Option (List ℕ)
   pub index : Option (List ℕ)
+  pub index_dir : Option (List ℕ)
   pub rust : RustAsked
 
 -- what is asked for
@@ -26,5 +27,6 @@ asking_of asked = record {
   manifest = given asked.manifest_path;
   metadata = given asked.metadata_json;
   index = given asked.index_file;
+  index_dir = given asked.index_dir;
   rust = asked_rust asked.rust;
 }

@@ -15,6 +15,8 @@ use Rattle.edit_store.specs.Store.{Files}
 use Rattle.edit_tree.specs.Shown.{Shown}
 use Rattle.edit_upgrade_read.specs.Asking.{Asking}
 use Rattle.edit_upgrade_read.specs.Own.{IsManifestRead}
+use Rattle.edit_upgrade_read.specs.declared.index.IndexSource.{IndexSource}
+use Rattle.edit_upgrade_read.specs.declared.index.IndexSource.TheVariants as source
 use Rattle.edit_upgrade_read.specs.declared.sources.Sources.{Sources}
 use Rattle.edit_upgrade_read.specs.declared.target.Target.{Target}
 
@@ -52,18 +54,24 @@ pub record IsIndexAt (files : Files) (current named : List ℕ) (index : FileInd
   pub is : files path ≡ Some bytes
   pub holds : HoldsLines index bytes
 
--- an index was read where a file is named, and none where none is
-abbrev pub IsIndexRead : Files → List ℕ → Option (List ℕ) → Option FileIndex → Type 0
-IsIndexRead files current None None = ⊤
-IsIndexRead files current (Some named) (Some index) = IsIndexAt files current named index
-IsIndexRead files current _ _ = ⊥
+-- the index that is named, by its file and by its folder: the file was read where one is named, else the
+-- folder has this path where one is, else it is the index in files
+abbrev pub IsIndexOf : Files → List ℕ → Option (List ℕ) → Option (List ℕ) → IndexSource → Type 0
+IsIndexOf files current (Some named) dir (source.Lines index) = IsIndexAt files current named index
+IsIndexOf files current None (Some dir) (source.Folder path) = IsAbsoluteOf current dir (string_bytes path)
+IsIndexOf files current None None source.Files = ⊤
+IsIndexOf files current _ _ _ = ⊥
+
+-- the same, of what is asked for
+abbrev pub IsIndexRead : Files → List ℕ → Asking → IndexSource → Type 0
+IsIndexRead files current asking index = IsIndexOf files current asking.index asking.index_dir index
 
 -- all that an upgrade rests on was read: its manifests, the configurations of each, and the index
 pub record AreRead (files : Files) (current : List ℕ) (home : Option (List ℕ)) (asking : Asking)
     (s : Sources) : Type 0 where
   pub target : IsTargetRead files current asking s.target
   pub configured : AreConfigured files home s.target.inputs.items s.configs.items
-  pub indexed : IsIndexRead files current asking.index s.index
+  pub indexed : IsIndexRead files current asking s.index
 
 -- a plan may be made: each input has a path of its own, and a list of configurations
 pub record MayBePlanned (s : Sources) : Type 0 where

@@ -47,5 +47,7 @@ pub struct Asked<'a> {
     pub metadata_json: Option<&'a str>,
     /// The file with the lines of an index.
     pub index_file: Option<&'a str>,
+    /// A folder with a folder for each registry. Where an index file is named it is not looked at.
+    pub index_dir: Option<&'a str>,
     pub rust: RustChoice,
 }

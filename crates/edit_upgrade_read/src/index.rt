@@ -1,16 +1,27 @@
-//! The file of an index.
+//! The index that is planned over.
 ghost use Rattle.std.specs.Prelude.{◌≡◌, ◌⊎◌, IfErr, IfOk, true};
 ghost use Rattle.edit_base.specs.declared.errors.DeviceCall.TheVariants as call;
 ghost use Rattle.edit_sources.specs.Configured.{given};
 ghost use Rattle.edit_store.specs.Store.{OnlyReads, RefusesCall};
 ghost use Rattle.edit_upgrade_read.specs.Causes.{HasNoIndex, IsIndexCause};
-ghost use Rattle.edit_upgrade_read.specs.Sources.{IsIndexAt, IsIndexRead};
+ghost use Rattle.edit_upgrade_read.specs.Sources.{IsIndexAt, IsIndexOf};
 
 use edit_base::Error;
 use edit_sources::FileIndex;
 use edit_steps::{RunResult, absolute, at_path};
 use edit_store::Store;
 use std::alloc::Global;
+
+/// The index that an upgrade is planned over.
+#[derive(Drop)]
+pub enum IndexSource {
+    /// The one in files.
+    Files,
+    /// The lines of the file that is named.
+    Lines(FileIndex),
+    /// The folder with this absolute path, which has a folder for each registry.
+    Folder(String),
+}
 
 /// Reads the index in the file that is named.
 fn read_file<S: Store>(
@@ -38,23 +49,29 @@ fn read_file<S: Store>(
     }
 }
 
-/// Reads the index in the file that is named; none where no file is.
+/// The index to plan over: the lines of the file that is named, else the folder that is named, by its
+/// absolute normal path, else the one in files. Of a folder nothing is read.
 pub(crate) fn read_index<S: Store>(
     alloc: Global,
-    named: Option<&str>,
+    file: Option<&str>,
+    dir: Option<&str>,
     current: &str,
     files: &mut S,
-) -> RunResult<Option<FileIndex>>
+) -> RunResult<IndexSource>
     ensures store { OnlyReads (S.view files.old) (S.view files.new) }
     ensures read { IfOk result (λ i. (S.view files.old).tells ≡ true
-        → IsIndexRead (S.view files.old).file_at current.now (given named.entry) i) }
+        → IsIndexOf (S.view files.old).file_at current.now (given file.entry) (given dir.entry) i) }
     ensures refused { IfErr result (λ r. RefusesCall call.Read (S.view files.old) (S.view files.new) r.error
         ⊎ ((S.view files.old).tells ≡ true
-        → HasNoIndex (S.view files.old).file_at current.now (given named.entry) r.error)) }
+        → HasNoIndex (S.view files.old).file_at current.now (given file.entry) r.error)) }
 {
-    let Some(named) = named else {
-        return Ok(None);
+    if let Some(named) = file {
+        let index = read_file(alloc, named, current, files)?;
+        return Ok(IndexSource::Lines(index));
+    }
+    let Some(named) = dir else {
+        return Ok(IndexSource::Files);
     };
-    let index = read_file(alloc, named, current, files)?;
-    Ok(Some(index))
+    let path = absolute(alloc, current, named)?;
+    Ok(IndexSource::Folder(path))
 }

@@ -11,5 +11,6 @@ mod sources;
 mod target;
 
 pub use asked::{Asked, RustChoice};
+pub use index::IndexSource;
 pub use sources::{Sources, read_sources};
 pub use target::Target;

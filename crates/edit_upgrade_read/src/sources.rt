@@ -8,9 +8,9 @@ ghost use Rattle.edit_upgrade_read.specs.Sources.{AreRead, MayBePlanned};
 
 use crate::asked::Asked;
 use crate::configs::read_all;
-use crate::index::read_index;
+use crate::index::{IndexSource, read_index};
 use crate::target::{Target, read_target};
-use edit_sources::{Config, FileIndex};
+use edit_sources::Config;
 use edit_steps::RunResult;
 use edit_store::Store;
 use std::alloc::Global;
@@ -21,12 +21,13 @@ pub struct Sources {
     pub target: Target,
     /// The configurations of each input.
     pub configs: Vec<Vec<Config>>,
-    /// The index in the file that is named, where one is.
-    pub index: Option<FileIndex>,
+    /// The index to plan over.
+    pub index: IndexSource,
 }
 
 /// Reads what an upgrade rests on, in this order: the metadata that are named with their manifests, else the
-/// manifest that is found; the configurations of each; the file of an index that is named. No file changes.
+/// manifest that is found; the configurations of each; the file of an index that is named. Nothing is read of
+/// an index in a folder, and no file changes.
 pub fn read_sources<S: Store>(
     alloc: Global,
     asked: &Asked<'_>,
@@ -44,7 +45,7 @@ pub fn read_sources<S: Store>(
 {
     let target = read_target(alloc, asked, current, files)?;
     let configs = read_all(alloc, &target.inputs, cargo_home, files)?;
-    let index = read_index(alloc, asked.index_file, current, files)?;
+    let index = read_index(alloc, asked.index_file, asked.index_dir, current, files)?;
     Ok(Sources {
         target,
         configs,

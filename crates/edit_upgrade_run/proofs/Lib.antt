@@ -1,4 +1,5 @@
 pub mod PlanClauses
 pub mod PlanLemmas
 pub mod RowLemmas
+pub mod LookLemmas
 pub mod UpgradeLemmas

@@ -1,3 +1,4 @@
 pub mod Causes
+pub mod Looking
 pub mod Planned
 pub mod Upgrading

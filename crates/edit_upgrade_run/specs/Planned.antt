@@ -1,14 +1,14 @@
 -- What an upgrade asks for, and its plan over what was read.
-use Rattle.std.specs.Prelude.{ℕ, List, Option, Some, None}
+use Rattle.std.specs.Prelude.{ℕ, List, None, string_bytes}
 use Rattle.std.specs.Global.{Vec}
 use Rattle.edit_base.specs.declared.errors.Error.{Error}
+use Rattle.edit_index_dir.specs.DirIndex.{dir_view}
 use Rattle.edit_metadata.specs.declared.input.Input.{Input}
 use Rattle.edit_sources.specs.Configured.{given}
 use Rattle.edit_sources.specs.FileIndex.{file_view}
 use Rattle.edit_sources.specs.Index.{IndexView}
 use Rattle.edit_sources.specs.LocalIndex.{local_view}
 use Rattle.edit_sources.specs.declared.config.Config.{Config}
-use Rattle.edit_sources.specs.declared.file_index.FileIndex.{FileIndex}
 use Rattle.edit_store.specs.Store.{StoreView}
 use Rattle.edit_upgrade.specs.Caches.{CacheView}
 use Rattle.edit_upgrade.specs.Causes.{IsCause}
@@ -18,6 +18,8 @@ use Rattle.edit_upgrade.specs.WordCauses.{IsRefusedFor}
 use Rattle.edit_decision.specs.declared.options.Options.{Options}
 use Rattle.edit_upgrade.specs.declared.upgrade.UpgradePlan.{UpgradePlan}
 use Rattle.edit_upgrade_read.specs.Asking.{Asking, asked_rust}
+use Rattle.edit_upgrade_read.specs.declared.index.IndexSource.{IndexSource}
+use Rattle.edit_upgrade_read.specs.declared.index.IndexSource.TheVariants as source
 use Rattle.edit_upgrade_run.specs.declared.words.UpgradeWords.{UpgradeWords}
 
 -- what the words ask to read
@@ -26,13 +28,26 @@ asking words = record {
   manifest = given words.manifest_path;
   metadata = given words.metadata_json;
   index = given words.index_file;
+  index_dir = given words.index_dir;
   rust = asked_rust words.rust;
 }
 
--- the index of an upgrade: the file that was read, else the one that stands in files
-abbrev pub index_view : Option FileIndex → StoreView → IndexView
-index_view (Some index) local = file_view index
-index_view None local = local_view local
+-- the same without an index
+abbrev pub asking_for_looks : UpgradeWords → Asking
+asking_for_looks words = record {
+  manifest = given words.manifest_path;
+  metadata = given words.metadata_json;
+  index = None;
+  index_dir = None;
+  rust = asked_rust words.rust;
+}
+
+-- the index of an upgrade: the lines of the file that was read, the folder that is named, or the one in files;
+-- the last two stand in the same files
+abbrev pub index_view : IndexSource → StoreView → IndexView
+index_view source.Files local = local_view local
+index_view (source.Lines index) local = file_view index
+index_view (source.Folder folder) local = dir_view (string_bytes folder) local
 
 -- no answer is kept
 abbrev pub nothing_kept : Kept

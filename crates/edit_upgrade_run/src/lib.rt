@@ -1,9 +1,12 @@
 //! The command `upgrade`, over any files, any index and any writers.
 #![tactic(auto)]
 
+mod delivering;
+mod looking;
 mod plan;
 mod upgrading;
 pub mod words;
 
+pub use looking::looks;
 pub use upgrading::upgrade;
 pub use words::UpgradeWords;

@@ -7,14 +7,15 @@ ghost use Rattle.edit_upgrade_run.specs.Planned.{IsPlanCause, IsPlanned, index_v
 
 use edit_base::CargoResult;
 use edit_cache::IndexCache;
-use edit_sources::{Config, FileIndex, Index, LocalIndex};
+use edit_index_dir::DirIndex;
+use edit_sources::{Config, Index, LocalIndex};
 use edit_store::Store;
 use edit_upgrade::{Options, UpgradePlan, plan_documents, plan_upgrade};
-use edit_upgrade_read::Target;
+use edit_upgrade_read::{IndexSource, Target};
 use std::alloc::Global;
 
 /// The plan for manifests over an index, by their documents where those were read.
-fn plan_over<I: Index + Drop>(
+pub(crate) fn plan_over<I: Index + Drop>(
     alloc: Global,
     options: &Options,
     target: &Target,
@@ -40,13 +41,14 @@ fn plan_over<I: Index + Drop>(
     plan_documents(alloc, options, inputs, documents, configs, &mut cache)
 }
 
-/// The plan for manifests over the index that was read, else over the one in files.
+/// The plan for manifests over the lines that were read, over the folder that is named, or over the index in
+/// files.
 pub(crate) fn plan_for<T: Store + Drop>(
     alloc: Global,
     options: &Options,
     target: &Target,
     configs: &[Vec<Config>],
-    index: Option<FileIndex>,
+    index: IndexSource,
     index_files: T,
 ) -> CargoResult<UpgradePlan>
     requires paths { HaveOwnPaths target.now.inputs.items }
@@ -59,13 +61,20 @@ pub(crate) fn plan_for<T: Store + Drop>(
         (index_view index (T.view index_files)) e) }
 {
     match index {
-        Some(index) => plan_over(alloc, options, target, configs, index),
-        None => plan_over(
+        IndexSource::Files => plan_over(
             alloc,
             options,
             target,
             configs,
             LocalIndex::new(index_files),
+        ),
+        IndexSource::Lines(index) => plan_over(alloc, options, target, configs, index),
+        IndexSource::Folder(folder) => plan_over(
+            alloc,
+            options,
+            target,
+            configs,
+            DirIndex::new(index_files, folder),
         ),
     }
 }

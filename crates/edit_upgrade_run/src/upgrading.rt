@@ -1,22 +1,23 @@
 //! The command `upgrade`: reads, plans, then writes.
-ghost use Rattle.std.specs.Prelude.{◌≡◌, ◌⊎◌, IfErr, OnErr, OnOk, true};
+ghost use Rattle.std.specs.Prelude.{◌≡◌, ◌⊎◌, IfErr, IfOk, OnErr, true};
 ghost use Rattle.std.specs.Io.KnownBytes.{Appends};
 ghost use Rattle.edit_sources.specs.Configured.{given};
 ghost use Rattle.edit_store.specs.Store.{SameFiles};
 ghost use Rattle.edit_upgrade_run.specs.Causes.{IsUpgradeCause};
 ghost use Rattle.edit_upgrade_run.specs.Upgrading.{IsBroken, IsUpgraded};
 
+use crate::delivering::{deliver_plan, path_of};
 use crate::plan::plan_for;
 use crate::words::UpgradeWords;
 use edit_steps::{RunResult, at_input};
 use edit_store::Store;
 use edit_upgrade_read::{Sources, read_sources};
-use edit_upgrade_told::deliver;
 use std::alloc::Global;
 use std::io;
 
 /// Raises the requirements of the manifests that the words name, over the index that they name, else over
-/// that in files. No file changes before the plan is made and its report printed.
+/// that in files; answers whether the plan changes a manifest. No file changes before the plan is made and
+/// printed.
 pub fn upgrade<S: Store, T: Store + Drop, O: io::Write, E: io::Write>(
     alloc: Global,
     words: &UpgradeWords<'_>,
@@ -26,10 +27,10 @@ pub fn upgrade<S: Store, T: Store + Drop, O: io::Write, E: io::Write>(
     index_files: T,
     out: &mut O,
     err: &mut E,
-) -> RunResult<()>
+) -> RunResult<bool>
     ensures tells { (S.view files.new).tells ≡ (S.view files.old).tells }
-    ensures done { OnOk result ((S.view files.old).tells ≡ true
-        → IsUpgraded (Appends (O.contents out.old) (O.contents out.new))
+    ensures done { IfOk result (λ due. (S.view files.old).tells ≡ true
+        → IsUpgraded due (Appends (O.contents out.old) (O.contents out.new))
         (Appends (E.contents err.old) (E.contents err.new)) words.now current.now
         (given cargo_home.entry) (T.view index_files) (S.view files.old) (S.view files.new)) }
     // a refusal before the first write leaves each file as it was
@@ -41,6 +42,7 @@ pub fn upgrade<S: Store, T: Store + Drop, O: io::Write, E: io::Write>(
     ensures why { IfErr result (λ r. IsUpgradeCause words.now current.now (given cargo_home.entry)
         (T.view index_files) (S.view files.old) (S.view files.new) r.error) }
 {
+    let named = path_of(alloc, current, words.update_calls)?;
     let sources = read_sources(alloc, &words.asked(), current, cargo_home, files)?;
     let Sources {
         target,
@@ -52,15 +54,6 @@ pub fn upgrade<S: Store, T: Store + Drop, O: io::Write, E: io::Write>(
         Ok(plan) => plan,
         Err(error) => return Err(at_input(alloc, error, &target.inputs)),
     };
-    let workspace = target.workspace.as_ref();
-    deliver(
-        alloc,
-        &plan,
-        &target.inputs,
-        workspace,
-        options,
-        files,
-        out,
-        err,
-    )
+    let path = named.as_deref();
+    deliver_plan(alloc, words, current, &target, &plan, path, files, out, err)
 }

@@ -1,5 +1,6 @@
 -- A delivery, from its steps.
-use Rattle.std.proofs.Common.{◌≡◌, ◌∙◌, ◌+◌, ℕ, suc, List, [], ◌∷◌, ◌++◌, Option, Some, Bool, true, false, ap, append-nil, arith, inl, inr, length, map, subst, sym}
+use Rattle.std.proofs.Common.{◌≡◌, ◌∙◌, ◌+◌, ◌≤◌, ℕ, suc, Bor, List, [], ◌∷◌, ◌++◌, Option, Some, Bool, true, false, ap, append-nil, arith, inl, inr, length, map, option_map, subst, sym, ⊎_elim}
+use Rattle.std.proofs.Math.Nat.{eq-or-lt_of_le}
 use Rattle.std.specs.Prelude.{◌≢◌, ◌⊎◌, ◌||◌, ℤ, if◌then◌else◌, slice_get, string_bytes}
 use Rattle.std.specs.Io.KnownBytes.{Appends}
 use Rattle.std.specs.List.{flat_map}
@@ -7,21 +8,28 @@ use Rattle.std.specs.Option.{option_map_or}
 use Rattle.std.proofs.KnownBytes.{Appends-trans}
 use Rattle.std.proofs.lemmas.Grind.{flat_map-append}
 use Rattle.edit_base.specs.Errors.{IsMemory}
+use Rattle.edit_base.specs.declared.errors.DeviceCall.{DeviceCall}
 use Rattle.edit_base.specs.declared.errors.Error.{Error}
 use Rattle.edit_base.specs.declared.errors.Error.TheVariants.{Output as Unwritten}
+use Rattle.edit_metadata.specs.Metadata.{WorkspaceSaid}
 use Rattle.edit_metadata.specs.declared.input.Input.{Input}
-use Rattle.edit_report.specs.Applied.{HaveDistinctPaths, path_of}
+use Rattle.edit_report.specs.Applied.{AreWritten, HaveDistinctPaths, path_of}
 use Rattle.edit_report.specs.declared.output.Output.{Output}
 use Rattle.edit_steps.proofs.DistinctPaths.{none_differ}
-use Rattle.edit_store.specs.Store.{StoreView}
+use Rattle.edit_store.specs.Store.{RefusesCall, StoreView, raised}
+use Rattle.edit_update.specs.UpdateCalls.{Call}
 use Rattle.edit_upgrade.specs.Inputs.{below}
 use Rattle.edit_decision.specs.declared.options.Options.{Options}
 use Rattle.edit_upgrade.specs.declared.upgrade.UpgradePlan.{UpgradePlan}
 use Rattle.edit_upgrade.specs.declared.upgrade.Warning.{Warning}
+use Rattle.edit_upgrade_told.specs.CallsFile.{calls_files, due_path, file_of}
 use Rattle.edit_upgrade_told.specs.Causes.{AreTold, HasBadWord, IsDeliveryCause}
-use Rattle.edit_upgrade_told.specs.Delivered.{IsToldTo, written}
+use Rattle.edit_upgrade_told.specs.Delivered.{AreBothWritten, IsBehind, IsDelivered, IsToldTo, written}
+use Rattle.edit_upgrade_told.specs.Delivery.{Delivery, calls_of, delivery_of}
 use Rattle.edit_upgrade_told.specs.Said.{check, check_at}
+use Rattle.edit_upgrade_told.specs.Shown.{diffs_if, messages_as}
 use Rattle.edit_upgrade_told.specs.Tables.{tables}
+use Rattle.edit_upgrade_told.specs.declared.telling.Telling.{Telling}
 
 -- one number more
 below_more : (f : ℕ → List ℕ) (i : ℕ) → flat_map f (below (i + 1)) ≡ flat_map f (below i) ++ f i
@@ -55,12 +63,14 @@ pub stream_cause : (p : UpgradePlan) (o : Options) (old new : StoreView) (e : Er
 stream_cause p o old new e (inl memory) = inl (inl memory)
 stream_cause p o old new e (inr unwritten) = inr (inl unwritten)
 
--- names that are missing were told, or memory ran out for them
-pub names_cause : (p : UpgradePlan) (o : Options) (old new : StoreView) (e : Error)
-    → IsMemory e ⊎ ((map string_bytes p.missing.items ≢ []) × AreTold (map string_bytes p.missing.items) e)
+-- what is said last was not said
+pub end_cause : (p : UpgradePlan) (o : Options) (old new : StoreView) (e : Error)
+    → IsMemory e ⊎ ((e ≡ Unwritten)
+    ⊎ ((map string_bytes p.missing.items ≢ []) × AreTold (map string_bytes p.missing.items) e))
     → IsDeliveryCause p o old new e
-names_cause p o old new e (inl memory) = inl (inl memory)
-names_cause p o old new e (inr told) = inr (inr (inl (inr told)))
+end_cause p o old new e (inl memory) = inl (inl memory)
+end_cause p o old new e (inr (inl unwritten)) = inr (inl unwritten)
+end_cause p o old new e (inr (inr told)) = inr (inr (inl (inr told)))
 
 -- what is to be written goes to paths of its own
 pub written_differ : (o : Options) (outputs : List Output) → HaveDistinctPaths outputs
@@ -71,14 +81,53 @@ written_differ o outputs differ = go (o.dry_run || o.locked)
     go true = none_differ (λ a b. path_of a ≢ path_of b)
     go false = differ
 
--- what was printed and is not held back, and what is left of the files
-pub told_to : (Leaves : List Output → StoreView → StoreView → Type 0) (Shows : List ℕ → Type 0)
-    (p : UpgradePlan) (inputs : List Input) (o : Options) (old new : StoreView) (outputs : List Output) (v : ℤ)
-    → v ≡ o.verbosity → Shows (tables v p.rows.items (length inputs))
-    → (o.locked ≡ true → p.outputs.items ≡ []) → outputs ≡ written o p.outputs.items → Leaves outputs old new
-    → IsToldTo Leaves Shows p inputs o old new
-told_to Leaves Shows p inputs o old new outputs v known shows unlocked is leaves = record {
-  shows = subst (λ n. Shows (tables n p.rows.items (length inputs))) known shows;
-  unlocked = unlocked;
-  leaves = subst (λ xs. Leaves xs old new) is leaves;
+-- what is left of the last of some outputs, behind the first
+pub behind_first : (Leaves : List Output → StoreView → StoreView → Type 0) (first last : List Output)
+    (old mid new : StoreView) → mid.tells ≡ old.tells → AreWritten first old mid → Leaves last mid new
+    → IsBehind Leaves first last old new
+behind_first Leaves first last old mid new tells before behind = record {
+  mid = mid;
+  tells = tells;
+  before = before;
+  behind = behind;
 }
+
+raised_later : (a b c : ℕ) → a ≤ b → raised b c → raised a c
+raised_later a b c le (inl lt) = inl (omega arith)
+raised_later a b c le (inr ends) = ⊎_elim (λ same. inr (same ∙ ends.0, ends.1)) (λ lt. inl (omega arith))
+    (eq-or-lt_of_le le)
+
+-- a refusal of the device is one from an earlier count on
+pub refused_later : (of : DeviceCall) (old mid new : StoreView) (e : Error) → old.faults ≤ mid.faults
+    → RefusesCall of mid new e → RefusesCall of old new e
+refused_later of old mid new e later (inl memory) = inl memory
+refused_later of old mid new e later (inr failed) =
+    inr (failed.0, raised_later old.faults mid.faults new.faults later failed.1)
+
+-- what was printed and is not held back, and what is left of the files
+pub told_to : (Leaves : List Output → List Output → StoreView → StoreView → Type 0) (Shows : List ℕ → Type 0)
+    (p : UpgradePlan) (inputs : List Input) (w : Option WorkspaceSaid) (o : Options) (t : Telling)
+    (old new : StoreView) (calls : List Call) (outputs made file : List Output)
+    → calls ≡ calls_of p o w
+    → Shows (tables t.presentation.format o.verbosity p.rows.items (length inputs)
+    ++ (messages_as t.presentation.format p inputs o calls
+    ++ diffs_if t.presentation.diff t.current.now inputs p.outputs.items))
+    → (o.locked ≡ true → p.outputs.items ≡ []) → outputs ≡ written o p.outputs.items → file ≡ made
+    → map file_of made ≡ calls_files (due_path o (option_map (λ path. path.now) t.update_calls)) calls
+    → Leaves outputs file old new → IsToldTo Leaves Shows (delivery_of p inputs w o t) old new
+told_to Leaves Shows p inputs w o t old new calls outputs made file of shows unlocked is same are leaves = record {
+  shows = subst (λ cs. Shows (tables t.presentation.format o.verbosity p.rows.items (length inputs)
+      ++ (messages_as t.presentation.format p inputs o cs
+      ++ diffs_if t.presentation.diff t.current.now inputs p.outputs.items))) of shows;
+  unlocked = unlocked;
+  calls = file;
+  are = ap (map file_of) same ∙ are
+      ∙ ap (calls_files (due_path o (option_map (λ (path : Bor (List ℕ)). path.now) t.update_calls))) of;
+  leaves = subst (λ xs. Leaves xs file old new) is leaves;
+}
+
+-- and where no name is missing, the plan was delivered
+pub delivered : (Shows : List ℕ → Type 0) (d : Delivery) (old new : StoreView)
+    → IsToldTo AreBothWritten Shows d old new → map string_bytes d.plan.missing.items ≡ []
+    → IsDelivered Shows d old new
+delivered Shows d old new told complete = record { told = told; complete = complete }

@@ -1,5 +1,6 @@
 pub mod CopyLemmas
 mod DeliveryLemmas
+pub mod DryRuns
 mod NameLemmas
 mod NoteLemmas
 mod RowLemmas

@@ -1,5 +1,5 @@
 -- What an upgrade prints on standard error (own, after cargo-edit).
-use Rattle.std.specs.Prelude.{ℕ, ℤ, pos, int_le, nat_le, List, [], ◌∷◌, ◌++◌, Bool, true, false, not, ◌&&◌, ◌||◌, ◌==◌, if◌then◌else◌, Option, codes, filter, length, slice_get, string_bytes}
+use Rattle.std.specs.Prelude.{ℕ, ℤ, pos, int_le, nat_le, List, [], ◌∷◌, ◌++◌, Bool, true, false, not, ◌&&◌, ◌||◌, ◌==◌, if◌then◌else◌, codes, filter, length, slice_get, string_bytes}
 use Rattle.std.specs.BTreeSet.{insert_key}
 use Rattle.std.specs.Cmp.Lexicographic.{slice_cmp}
 use Rattle.std.specs.Fmt.{decimal}
@@ -7,18 +7,17 @@ use Rattle.std.specs.List.{flat_map, fold, join_by}
 use Rattle.std.specs.Option.{option_map_or}
 use Rattle.std.specs.Ordering.{nat_cmp}
 use Rattle.std.specs.Str.{bytes_eq}
-use Rattle.edit_metadata.specs.Metadata.{WorkspaceSaid}
 use Rattle.edit_metadata.specs.declared.input.Input.{Input}
 use Rattle.edit_report.specs.Messages.{message_text}
 use Rattle.edit_report.specs.Shown.{is_shown}
 use Rattle.edit_report.specs.Table.{name_text, reason_text}
 use Rattle.edit_report.specs.declared.row.Row.{Row}
-use Rattle.edit_update.specs.Asked.{asked_by}
-use Rattle.edit_update.specs.UpdateCalls.{Call, update_calls}
+use Rattle.edit_update.specs.UpdateCalls.{Call}
 use Rattle.edit_upgrade.specs.Inputs.{below}
 use Rattle.edit_decision.specs.declared.options.Options.{Options}
 use Rattle.edit_upgrade.specs.declared.upgrade.UpgradePlan.{UpgradePlan}
 use Rattle.edit_upgrade.specs.declared.upgrade.Warning.{Warning}
+use Rattle.edit_upgrade_told.specs.Delivery.{Delivery}
 
 -- a warning
 abbrev pub warning : List ℕ → List ℕ
@@ -50,10 +49,6 @@ check_at verbosity warnings inputs i =
 -- the same of so many inputs, one behind another
 abbrev pub checks : ℤ → List Warning → List Input → ℕ → List ℕ
 checks verbosity warnings inputs n = flat_map (check_at verbosity warnings inputs) (below n)
-
--- the calls of `cargo update`, where there is a workspace
-abbrev pub calls_of : UpgradePlan → Options → Option WorkspaceSaid → List Call
-calls_of plan options workspace = option_map_or (update_calls (asked_by plan options)) workspace []
 
 -- a call, as a status with its words
 abbrev pub run : Call → List ℕ
@@ -138,7 +133,7 @@ notes plan options =
     ++ when options.dry_run (warning (codes "aborting upgrade due to dry run"))))
 
 -- all that is said of a plan: of each input, the calls, the notes
-abbrev pub said : UpgradePlan → List Input → Options → Option WorkspaceSaid → List ℕ
-said plan inputs options workspace =
-    checks options.verbosity plan.warnings.items inputs (length inputs)
-    ++ (runs (calls_of plan options workspace) ++ notes plan options)
+abbrev pub said : Delivery → List ℕ
+said d =
+    checks d.options.verbosity d.plan.warnings.items d.inputs (length d.inputs)
+    ++ (runs d.calls ++ notes d.plan d.options)

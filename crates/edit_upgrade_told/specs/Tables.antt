@@ -1,9 +1,11 @@
--- What an upgrade prints on standard output: a table for each input (own, after cargo-edit).
-use Rattle.std.specs.Prelude.{ℕ, ℤ, List, ◌==◌, filter}
+-- What an upgrade prints on standard output for people: a table for each input (own, after cargo-edit).
+use Rattle.std.specs.Prelude.{ℕ, ℤ, List, [], ◌==◌, filter}
 use Rattle.std.specs.List.{flat_map}
 use Rattle.std.specs.List.Sorted.{IsNonDecreasingBy}
 use Rattle.edit_report.specs.Table.{report_text}
 use Rattle.edit_report.specs.declared.row.Row.{Row}
+use Rattle.edit_shown.specs.declared.presentation.MessageFormat.{MessageFormat}
+use Rattle.edit_shown.specs.declared.presentation.MessageFormat.TheVariants.{Human, Json}
 use Rattle.edit_upgrade.specs.Inputs.{below}
 
 -- the rows of an input
@@ -14,6 +16,11 @@ rows_at i rows = filter (λ row. row.input == i) rows
 abbrev pub AreInOrder : List Row → Type 0
 AreInOrder rows = IsNonDecreasingBy (λ row. row.input) rows
 
--- a table of the rows of each of so many inputs, one table behind another
-abbrev pub tables : ℤ → List Row → ℕ → List ℕ
-tables verbosity rows n = flat_map (λ i. report_text verbosity (rows_at i rows)) (below n)
+-- the table of the rows of an input; none where a plan is shown as JSON
+abbrev pub table : MessageFormat → ℤ → List Row → ℕ → List ℕ
+table Human verbosity rows i = report_text verbosity (rows_at i rows)
+table Json verbosity rows i = []
+
+-- the tables of so many inputs, one behind another
+abbrev pub tables : MessageFormat → ℤ → List Row → ℕ → List ℕ
+tables format verbosity rows n = flat_map (table format verbosity rows) (below n)

@@ -8,7 +8,8 @@ ghost use Rattle.edit_metadata.specs.Workspaces.{workspace_said};
 ghost use Rattle.edit_update.specs.Asked.{asked_by, is_due};
 ghost use Rattle.edit_update.specs.Pins.{IsFirstRefused};
 ghost use Rattle.edit_update.specs.Views.{calls_seen, words_seen};
-ghost use Rattle.edit_upgrade_told.specs.Said.{calls_of, run, runs};
+ghost use Rattle.edit_upgrade_told.specs.Delivery.{calls_of};
+ghost use Rattle.edit_upgrade_told.specs.Said.{run, runs};
 
 use edit_base::CargoResult;
 use edit_metadata::Workspace;

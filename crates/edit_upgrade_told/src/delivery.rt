@@ -6,31 +6,36 @@ ghost use Rattle.edit_report.specs.Applied.{HaveDistinctPaths};
 ghost use Rattle.edit_store.specs.Store.{SameFiles};
 ghost use Rattle.edit_upgrade_told.specs.Causes.{IsDeliveryCause};
 ghost use Rattle.edit_upgrade_told.specs.Delivered.{IsCutShort, IsDelivered};
+ghost use Rattle.edit_upgrade_told.specs.Delivery.{delivery_of};
 ghost use Rattle.edit_upgrade_told.specs.Said.{said};
 ghost use Rattle.edit_upgrade_told.specs.Tables.{AreInOrder};
 
-use crate::calls::{calls_of, print_calls};
-use crate::held::{check_lock, check_names, written};
-use crate::notes::print_notes;
-use crate::reports::print_reports;
+use crate::calls::calls_of;
+use crate::calls_file::calls_outputs;
+use crate::carried::{carry_out, conclude};
+use crate::held::{check_lock, written};
+use crate::shown::print_plan;
+use crate::telling::Telling;
 use edit_metadata::{Input, Workspace};
-use edit_steps::{RunResult, write_outputs};
+use edit_steps::RunResult;
 use edit_store::Store;
 use edit_upgrade::{Options, UpgradePlan};
 use std::alloc::Global;
 use std::io;
 
-/// Prints a plan for inputs, input after input, writes its outputs, tells the calls of `cargo update` that
-/// follow where the workspace is known, refuses missing names, and prints the notes.
+/// Prints a plan for inputs, writes its outputs, tells the calls of `cargo update` that follow where the
+/// workspace is known, writes them to the file that is named for them, refuses missing names, and prints the
+/// notes.
 ///
-/// Nothing is written at a dry run or where the manifests are locked; if there is something to write then,
-/// that is a refusal.
+/// Nothing is written at a dry run or where the manifests are locked; if the plan has outputs where they are
+/// locked, that is a refusal.
 pub fn deliver<S: Store, O: io::Write, E: io::Write>(
     alloc: Global,
     plan: &UpgradePlan,
     inputs: &[Input],
     workspace: Option<&Workspace>,
     options: &Options,
+    telling: &Telling<'_>,
     files: &mut S,
     out: &mut O,
     err: &mut E,
@@ -40,23 +45,26 @@ pub fn deliver<S: Store, O: io::Write, E: io::Write>(
     ensures tells { (S.view files.new).tells ≡ (S.view files.old).tells }
     ensures later { (S.view files.old).faults ≤ (S.view files.new).faults }
     ensures done { OnOk result (IsDelivered (Appends (O.contents out.old) (O.contents out.new))
-        plan.now inputs.now options.now (S.view files.old) (S.view files.new)) }
+        (delivery_of plan.now inputs.now (option_map (λ w. workspace_said w.now) workspace.entry) options.now
+        telling.now) (S.view files.old) (S.view files.new)) }
     ensures said { OnOk result (Appends (E.contents err.old) (E.contents err.new)
-        (said plan.now inputs.now options.now (option_map (λ w. workspace_said w.now) workspace.entry))) }
+        (said (delivery_of plan.now inputs.now (option_map (λ w. workspace_said w.now) workspace.entry) options.now
+        telling.now))) }
     // a refusal before the first write leaves each file as it was
     ensures stopped { OnErr result (SameFiles (S.view files.old).file_at (S.view files.new).file_at
         ⊎ IsCutShort (Appends (O.contents out.old) (O.contents out.new))
-        plan.now inputs.now options.now (S.view files.old) (S.view files.new)) }
+        (delivery_of plan.now inputs.now (option_map (λ w. workspace_said w.now) workspace.entry) options.now
+        telling.now) (S.view files.old) (S.view files.new)) }
     // and each refusal has its cause
     ensures cause { IfErr result (λ r. IsDeliveryCause plan.now options.now
         (S.view files.old) (S.view files.new) r.error) }
 {
-    let calls = calls_of(alloc, plan, options, workspace)?;
-    print_reports(alloc, plan, inputs, options.verbosity, out, err)?;
+    let made = calls_of(alloc, plan, options, workspace)?;
+    let calls = made.as_slice();
+    let outputs = calls_outputs(alloc, options, telling.update_calls, calls)?;
+    let file = outputs.as_slice();
+    print_plan(alloc, plan, inputs, options, telling, calls, out, err)?;
     check_lock(options, plan)?;
-    write_outputs(alloc, written(options, plan), files)?;
-    print_calls(alloc, calls.as_slice(), err)?;
-    check_names(alloc, plan)?;
-    print_notes(alloc, plan, options, err)?;
-    Ok(())
+    carry_out(alloc, written(options, plan), calls, file, files, err)?;
+    conclude(alloc, plan, options, err)
 }

@@ -2,11 +2,16 @@
 #![tactic(auto)]
 
 mod calls;
+mod calls_file;
+mod carried;
 mod delivery;
 mod held;
 mod hidden;
 mod notes;
 mod reports;
 mod rows;
+mod shown;
+mod telling;
 
 pub use delivery::deliver;
+pub use telling::Telling;

@@ -1,4 +1,4 @@
-//! What is printed of each input: whose dependencies are looked at, the warnings, the table.
+//! What is printed of each input: whose dependencies are looked at, the warnings, the table for people.
 ghost use Rattle.std.specs.Prelude.{◌≡◌, ◌++◌, ◌⊎◌, IfErr, OnOk, codes, length, true};
 ghost use Rattle.std.specs.Io.KnownBytes.{Appends};
 ghost use Rattle.std.specs.List.{flat_map};
@@ -7,12 +7,13 @@ ghost use Rattle.edit_base.specs.declared.errors.Error.TheVariants.{Output};
 ghost use Rattle.edit_report.specs.Messages.{message_text};
 ghost use Rattle.edit_report.specs.Table.{report_text};
 ghost use Rattle.edit_upgrade_told.specs.Said.{check, checks, is_heard, warning_on};
-ghost use Rattle.edit_upgrade_told.specs.Tables.{AreInOrder, rows_at, tables};
+ghost use Rattle.edit_upgrade_told.specs.Tables.{AreInOrder, rows_at, table, tables};
 
 use crate::rows::rows_at;
 use edit_base::CargoResult;
 use edit_metadata::Input;
 use edit_report::{Row, shell_status, shell_warn, shell_write_stdout, table_text};
+use edit_shown::MessageFormat;
 use edit_upgrade::{UpgradePlan, Warning};
 use std::alloc::Global;
 use std::io;
@@ -70,8 +71,8 @@ fn print_warnings<E: io::Write>(
     Ok(())
 }
 
-/// Prints the table of the rows of an input.
-fn print_table<O: io::Write>(
+/// Prints the rows of an input as a table.
+fn print_rows<O: io::Write>(
     alloc: Global,
     rows: &[Row],
     input: usize,
@@ -85,6 +86,26 @@ fn print_table<O: io::Write>(
 {
     let table = table_text(alloc, rows_at(rows, input), verbosity)?;
     shell_write_stdout(out, table.as_str())
+}
+
+/// Prints the table of the rows of an input; none where the plan is shown as JSON.
+fn print_table<O: io::Write>(
+    alloc: Global,
+    format: MessageFormat,
+    rows: &[Row],
+    input: usize,
+    verbosity: i8,
+    out: &mut O,
+) -> CargoResult<()>
+    requires { AreInOrder rows.now }
+    ensures table { OnOk result (Appends (O.contents out.old) (O.contents out.new)
+        (table format verbosity rows.now input)) }
+    ensures refused { IfErr result (λ e. IsMemory e ⊎ (e ≡ Output)) }
+{
+    match format {
+        MessageFormat::Human => print_rows(alloc, rows, input, verbosity, out),
+        MessageFormat::Json => Ok(()),
+    }
 }
 
 /// Prints what is said before an input, and its warnings.
@@ -110,12 +131,13 @@ pub(crate) fn print_reports<O: io::Write, E: io::Write>(
     plan: &UpgradePlan,
     inputs: &[Input],
     verbosity: i8,
+    format: MessageFormat,
     out: &mut O,
     err: &mut E,
 ) -> CargoResult<()>
     requires { AreInOrder plan.now.rows.items }
     ensures tables { OnOk result (Appends (O.contents out.old) (O.contents out.new)
-        (tables verbosity plan.now.rows.items (length inputs.now))) }
+        (tables format verbosity plan.now.rows.items (length inputs.now))) }
     ensures checks { OnOk result (Appends (E.contents err.old) (E.contents err.new)
         (checks verbosity plan.now.warnings.items inputs.now (length inputs.now))) }
     ensures refused { IfErr result (λ e. IsMemory e ⊎ (e ≡ Output)) }
@@ -130,7 +152,7 @@ pub(crate) fn print_reports<O: io::Write, E: io::Write>(
             verbosity,
             err,
         )?;
-        print_table(alloc, rows.as_slice(), i, verbosity, out)?;
+        print_table(alloc, format, rows.as_slice(), i, verbosity, out)?;
     }
     Ok(())
 }

@@ -1,5 +1,5 @@
 //! Tests of what `cargo upgrade` and `cargo set-version` need in daily use: looks in a folder of registries,
-//! diffs and messages.
+//! diffs and messages, and a plan in those forms.
 //!
 //! They stand in a crate of their own, since a crate with tests is proved once more with them.
 #![tactic(auto)]
@@ -12,3 +12,5 @@ mod folders;
 mod looks;
 #[cfg(test)]
 mod messages;
+#[cfg(test)]
+mod shown;

@@ -76,7 +76,7 @@ fn input_of(alloc: Global, text: &str) -> CargoResult<Input>
 }
 
 /// What an upgrade is asked for without words.
-fn plain(alloc: Global) -> Options {
+pub(crate) fn plain(alloc: Global) -> Options {
     Options {
         compatible: true,
         incompatible: false,

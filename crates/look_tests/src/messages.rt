@@ -15,7 +15,11 @@ fn some(alloc: Global, text: &str) -> CargoResult<Option<String>> {
 }
 
 /// The row of an entry in an array of a table.
-fn row_of(alloc: Global, reason: Option<Reason>, change: Option<Change>) -> CargoResult<Row> {
+pub(crate) fn row_of(
+    alloc: Global,
+    reason: Option<Reason>,
+    change: Option<Change>,
+) -> CargoResult<Row> {
     let mut place = Vec::new(alloc);
     place.push(Step::Key(String::from_str(alloc, "dependencies")?))?;
     place.push(Step::Index(1))?;
@@ -83,7 +87,7 @@ fn tells_rows(rt: HostRuntime) -> Result<(), Fail> {
 }
 
 /// These texts, each on memory of its own.
-fn texts(alloc: Global, words: &[&str]) -> Result<Vec<String>, Fail> {
+pub(crate) fn texts(alloc: Global, words: &[&str]) -> Result<Vec<String>, Fail> {
     let mut all = Vec::new(alloc);
     'words: for word in words {
         all.push(String::from_str(alloc, *word)?)?;

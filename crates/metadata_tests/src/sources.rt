@@ -2,7 +2,7 @@
 use edit_metadata::Input;
 use edit_sources::Config;
 use edit_store::{MemoryStore, Store};
-use edit_upgrade_read::{Asked, RustChoice, Sources, read_sources};
+use edit_upgrade_read::{Asked, IndexSource, RustChoice, Sources, read_sources};
 use edit_version::RustVersion;
 use std::alloc::Global;
 use std::test::Fail;
@@ -97,10 +97,10 @@ fn shown(alloc: Global, sources: &Sources) -> Result<String, Fail> {
         let one = shown_input(alloc, input, configs)?;
         all.push_str(one.as_str())?;
     }
-    let index = if sources.index.is_some() {
-        "a file"
-    } else {
-        "files"
+    let index = match &sources.index {
+        IndexSource::Files => "files",
+        IndexSource::Lines(_) => "a file",
+        IndexSource::Folder(path) => path.as_str(),
     };
     let documents = sources.target.documents.len();
     let rest = format!(in alloc; "{index}, {documents}")?;
@@ -122,19 +122,23 @@ fn named(word: &str) -> Option<&str> {
     if word == "-" { None } else { Some(word) }
 }
 
-/// What is read in `/w/a/src`, with the home `/h`: the words name a manifest and metadata; and an index and
-/// the choice of a Rust version.
+/// A word of some, from 0; `-` where there is none.
+fn nth(words: &str, n: usize) -> &str {
+    words.split(' ').nth(n).unwrap_or("-")
+}
+
+/// What is read in `/w/a/src`, with the home `/h`: the words name a manifest and metadata; and an index, the
+/// choice of a Rust version and a folder of registries.
 fn read(alloc: Global, target: &str, more: &str) -> Result<String, Fail> {
     let mut store = MemoryStore::new(alloc);
     put_files(alloc, &mut store)?;
     put_metadata(alloc, &mut store)?;
-    let (manifest, metadata) = target.split_once(' ').unwrap_or((target, "-"));
-    let (index, rust) = more.split_once(' ').unwrap_or((more, "-"));
     let asked = Asked {
-        manifest_path: named(manifest),
-        metadata_json: named(metadata),
-        index_file: named(index),
-        rust: choice(alloc, rust)?,
+        manifest_path: named(nth(target, 0)),
+        metadata_json: named(nth(target, 1)),
+        index_file: named(nth(more, 0)),
+        index_dir: named(nth(more, 2)),
+        rust: choice(alloc, nth(more, 1))?,
     };
     match read_sources(alloc, &asked, "/w/a/src", Some("/h"), &mut store) {
         Ok(sources) => shown(alloc, &sources),
@@ -142,7 +146,7 @@ fn read(alloc: Global, target: &str, more: &str) -> Result<String, Fail> {
     }
 }
 
-/// What is read; the manifest and the metadata that are named; the index and the Rust version.
+/// What is read; the manifest and the metadata that are named; the index, the Rust version and the folder.
 const READ: &str = "\
 a /w/a/Cargo.toml 1.70.0 2; files, 1|- -|- -\
 ~virtual workspace /w/Cargo.toml - 2; a file, 1|/w -|../../index -\
@@ -161,7 +165,11 @@ of/w/c /w/c/Cargo.toml - 2; files, 0|- /w/all.json|- !\
 ~36 Invalid workspace metadata|- /w/index|- -\
 ~31 invalid cargo config at /v/.cargo/config|/v -|/nowhere -\
 ~31 invalid cargo config at /v/.cargo/config|- /w/other.json|/w/bad_index -\
-~30 Invalid index line 1|- -|/w/bad_index -";
+~30 Invalid index line 1|- -|/w/bad_index -\
+~a /w/a/Cargo.toml 1.70.0 2; /w/a/registries, 1|- -|- - ../registries\
+~a /w/a/Cargo.toml 1.70.0 2; /r, 1|- -|- - /r/\
+~virtual workspace /w/Cargo.toml - 2; a file, 1|/w -|../../index - /r\
+~30 Invalid index line 1|- -|/w/bad_index - /r";
 
 #[test]
 fn reads_sources(rt: HostRuntime) -> Result<(), Fail> {

@@ -9,15 +9,19 @@ use crate::tables::rows_of;
 use crate::updates::{metadata, options_of, plan_of, words_of};
 use edit_metadata::{Input, Workspace};
 use edit_report::{Output, Row};
+use edit_shown::{MessageFormat, Presentation};
 use edit_store::{FaultStore, MemoryStore, Store};
 use edit_upgrade::{Options, UpgradePlan, Warning};
-use edit_upgrade_told::deliver;
+use edit_upgrade_told::{Telling, deliver};
 use std::alloc::Global;
 use std::str;
 use std::test::Fail;
 use test_rows::{LINES, field, rows_hold, text, told};
 
 const PATH: &str = "/w/Cargo.toml";
+
+/// The file of the calls.
+const CALLS: &str = "/w/calls";
 
 /// Inputs of these names.
 fn inputs_of(alloc: Global, names: &str) -> Result<Vec<Input>, Fail> {
@@ -26,7 +30,7 @@ fn inputs_of(alloc: Global, names: &str) -> Result<Vec<Input>, Fail> {
         inputs.push(Input {
             name: text(alloc, name)?,
             path: text(alloc, PATH)?,
-            bytes: Vec::new(alloc),
+            bytes: Vec::from_slice(alloc, b"old")?,
             rust_version: None,
         })?;
     }
@@ -116,6 +120,25 @@ fn files_by(alloc: Global, flags: &str) -> Result<FaultStore, Fail> {
     Ok(FaultStore::new(files, at, 0))
 }
 
+/// How a plan is told, by letters: `j` as JSON, `u` with diffs, `k` with a file for the calls.
+fn telling_by(flags: &str) -> Telling<'static> {
+    let format = if flags.contains('j') {
+        MessageFormat::Json
+    } else {
+        MessageFormat::Human
+    };
+    let diff = flags.contains('u');
+    Telling {
+        current: "/w",
+        presentation: Presentation { format, diff },
+        update_calls: if flags.contains('k') {
+            Some(CALLS)
+        } else {
+            None
+        },
+    }
+}
+
 /// What a stream holds, with `@` for a line's end.
 fn printed(alloc: Global, stream: &[u8]) -> Result<String, Fail> {
     let seen = str::from_utf8(stream)?;
@@ -123,7 +146,18 @@ fn printed(alloc: Global, stream: &[u8]) -> Result<String, Fail> {
     Ok(lines.join(alloc, "@")?)
 }
 
-/// How a delivery ends, what the file holds then, and what stands on standard output and standard error.
+/// What the file of the calls holds, behind a semicolon, where one is named.
+fn calls_held(alloc: Global, flags: &str, files: &mut FaultStore) -> Result<String, Fail> {
+    if !flags.contains('k') {
+        return text(alloc, "");
+    }
+    let calls = held(alloc, files, CALLS)?;
+    let lines = printed(alloc, calls.as_bytes())?;
+    Ok(format!(in alloc; ";{lines}")?)
+}
+
+/// How a delivery ends, what the file holds then, what stands on standard output and standard error, and what
+/// the file of the calls holds.
 fn delivery(alloc: Global, flags: &str, fields: &str) -> Result<String, Fail> {
     let plan = planned(alloc, flags, fields)?;
     let inputs = inputs_of(alloc, field(fields, 0))?;
@@ -138,9 +172,9 @@ fn delivery(alloc: Global, flags: &str, fields: &str) -> Result<String, Fail> {
     let mut files = files_by(alloc, flags)?;
     let mut out = Vec::new(alloc);
     let mut err = Vec::new(alloc);
-    let inputs = inputs.as_slice();
+    let telling = telling_by(flags);
     let end = match deliver(
-        alloc, &plan, inputs, known, &options, &mut files, &mut out, &mut err,
+        alloc, &plan, &inputs, known, &options, &telling, &mut files, &mut out, &mut err,
     ) {
         Ok(()) => text(alloc, "done")?,
         Err(refusal) => told(alloc, refusal.error)?,
@@ -148,7 +182,8 @@ fn delivery(alloc: Global, flags: &str, fields: &str) -> Result<String, Fail> {
     let file = held(alloc, &mut files, PATH)?;
     let out = printed(alloc, out.as_slice())?;
     let err = printed(alloc, err.as_slice())?;
-    Ok(format!(in alloc; "{end};{file};{out};{err}")?)
+    let calls = calls_held(alloc, flags, &mut files)?;
+    Ok(format!(in alloc; "{end};{file};{out};{err}{calls}")?)
 }
 
 /// What is wanted; letters; inputs; rows; warnings; missing names; modified names; packages; package words.
@@ -214,7 +249,46 @@ name  old req compatible latest new req@\
 ====  ======= ========== ====== =======@\
 serde 1.0     1.2.3      1.2.3  1.2    @;    Checking x's dependencies@\
 |of|x|serde,-,1.0,1.2.3,1.2.3,1.2,-|||serde||
-20 Invalid name `a/b`: /;old;;|co|x|serde,-,1.0,1.2.3,1.2.3,1.2,-|||serde|serde@1.2.3|a/b";
+20 Invalid name `a/b`: /;old;;|co|x|serde,-,1.0,1.2.3,1.2.3,1.2,-|||serde|serde@1.2.3|a/b
+done;new;\
+{\"change\":null,\"compatible\":\"1.2.3\",\"latest\":\"1.2.3\",\"manifest_path\":\"/w/Cargo.toml\",\
+\"name\":\"serde\",\"new\":\"1.2\",\"old\":\"1.0\",\"place\":[],\"reason\":\"upgrade-row\",\
+\"rename\":null,\"why\":null}@\
+{\"manifest_path\":\"/w/Cargo.toml\",\"reason\":\"upgrade-file\",\"written\":true}@\
+{\"dry_run\":false,\"git_crates\":[],\"incompatible_present\":false,\"missing\":[],\
+\"modified\":[\"serde\"],\"pinned_present\":false,\"reason\":\"upgrade-summary\",\
+\"update_calls\":[[\"cargo\",\"update\",\"--manifest-path\",\"/w/Cargo.toml\",\"--aggressive\",\
+\"--package\",\"serde@1.2.3\",\"--offline\"]]}@\
+--- a/Cargo.toml@+++ b/Cargo.toml@@@ -1 +1 @@@\
+-old@\\ No newline at end of file@+new@\\ No newline at end of file@;    \
+Checking x's dependencies@         \
+Run cargo update --manifest-path /w/Cargo.toml --aggressive --package serde@1.2.3 --offline@;\
+cargo@update@--manifest-path@/w/Cargo.toml@--aggressive@--package@serde@1.2.3@--offline@@\
+|cojuk|x|serde,-,1.0,1.2.3,1.2.3,1.2,-|||serde|serde@1.2.3|
+done;old;\
+{\"change\":null,\"compatible\":\"1.0.0\",\"latest\":\"1.0.0\",\"manifest_path\":\"/w/Cargo.toml\",\
+\"name\":\"a\",\"new\":\"1\",\"old\":\"1\",\"place\":[],\"reason\":\"upgrade-row\",\
+\"rename\":null,\"why\":\"latest\"}@\
+{\"manifest_path\":\"/w/Cargo.toml\",\"message\":\"keeping x\",\"reason\":\"upgrade-warning\"}@\
+{\"manifest_path\":\"/w/Cargo.toml\",\"reason\":\"upgrade-file\",\"written\":false}@\
+{\"dry_run\":true,\"git_crates\":[],\"incompatible_present\":false,\"missing\":[],\"modified\":[],\
+\"pinned_present\":true,\"reason\":\"upgrade-summary\",\"update_calls\":[]}@;    \
+Checking x's dependencies@\
+note: Re-run with `--pinned` to upgrade pinned version requirements@\
+note: Re-run with `--verbose` to show more dependencies@  latest: a@\
+warning: aborting upgrade due to dry run@;no file\
+|dopjk|x|a,-,1,1.0.0,1.0.0,1,latest|0+verbose+keeping x||||
+done;old;;    Checking x's dependencies@\
+note: Re-run with `--verbose` to show more dependencies@  latest: a@;\
+|uk|x|a,-,1,1.0.0,1.0.0,1,latest|||||
+43 dependency nothere doesn't exist;new;\
+name  old req compatible latest new req@\
+====  ======= ========== ====== =======@\
+serde 1.0     1.2.3      1.2.3  1.2    @\
+--- a/Cargo.toml@+++ b/Cargo.toml@@@ -1 +1 @@@\
+-old@\\ No newline at end of file@+new@\\ No newline at end of file@;    \
+Checking x's dependencies@;\
+|ouk|x|serde,-,1.0,1.2.3,1.2.3,1.2,-||nothere|serde||";
 
 #[test]
 fn delivers_plans(rt: HostRuntime) -> Result<(), Fail> {

@@ -24,6 +24,42 @@ For more information, try '--help'.
 2 error: invalid value 'one' for '--rust-version <VER>': Invalid version requirement `one`
 
 For more information, try '--help'.
+§- --index-dir folder|\
+2 error: the argument '--index-file <FILE>' cannot be used with '--index-dir <DIR>'
+
+For more information, try '--help'.
+§upgrade --index-dir ''|\
+2 error: a value is required for '--index-dir <DIR>' but none was supplied
+
+For more information, try '--help'.
+§upgrade --update-calls=|\
+2 error: a value is required for '--update-calls <FILE>' but none was supplied
+
+For more information, try '--help'.
+§- --message-format xml|\
+2 error: invalid value 'xml' for '--message-format <human|json>'
+
+For more information, try '--help'.
+§- --message-format json --diff|\
+2 error: the argument '--message-format json' cannot be used with '--diff'
+
+For more information, try '--help'.
+§looks --pinned=maybe|\
+2 error: invalid value 'maybe' for '--pinned <allow|ignore>'
+
+For more information, try '--help'.
+§looks --index-dir a --index-file b|\
+2 error: the argument '--index-file <FILE>' cannot be used with '--index-dir <DIR>'
+
+For more information, try '--help'.
+§set-version --metadata-json m --message-format JSON|\
+2 error: invalid value 'JSON' for '--message-format <human|json>'
+
+For more information, try '--help'.
+§set-version --metadata-json m --message-format json --diff|\
+2 error: the argument '--message-format json' cannot be used with '--diff'
+
+For more information, try '--help'.
 §upgrade --help|\
 0 Raises the dependency requirements of a manifest
 
@@ -33,6 +69,8 @@ Options:
       --manifest-path <PATH>         The manifest, or a folder with one
       --metadata-json <FILE>         What `cargo metadata` says of the workspace
       --index-file <FILE>            Index lines, as a registry's index has them
+      --index-dir <DIR>              A folder with a folder of index files for each registry
+      --update-calls <FILE>          Writes the calls of `cargo update` that follow to this file
       --rust-version <VER>           Override `rust-version`
       --ignore-rust-version          Ignore `rust-version` specification in packages
   -n, --dry-run                      Prints what would change, and changes nothing
@@ -40,6 +78,9 @@ Options:
   -v, --verbose...                   Reports more
   -q, --quiet...                     Reports less
       --never-lower                  Lowers no requirement
+      --check                        Like `--dry-run`, with status 1 where something would change
+      --message-format <human|json>  How the report is printed [default: human]
+      --diff                         Prints the changes of manifests as diffs
       --compatible <allow|ignore>    Upgrades to the latest compatible version [default: allow]
   -i, --incompatible <allow|ignore>  Upgrades to the latest incompatible version [default: ignore]
       --pinned <allow|ignore>        Upgrades pinned requirements to the latest version [default: ignore]
@@ -135,6 +176,41 @@ note: Re-run with `--verbose` to show more dependencies
 serde 1.0     1.2.3      1.2.3  1.2    
     Checking virtual workspace's dependencies
 warning: aborting upgrade due to dry run
+§a check that finds a change|mi|99|- --check|1 manifest name  old req compatible latest new req
+====  ======= ========== ====== =======
+serde 1.0     1.2.3      1.2.3  1.2    
+    Checking virtual workspace's dependencies
+warning: aborting upgrade due to dry run
+§a check that finds none|aj|99|- --check|0 up to date     Checking virtual workspace's dependencies
+note: Re-run with `--verbose` to show more dependencies
+  latest: a
+warning: aborting upgrade due to dry run
+§a check behind a lock|mi|99|- --check --locked|1 manifest name  old req compatible latest new req
+====  ======= ========== ====== =======
+serde 1.0     1.2.3      1.2.3  1.2    
+    Checking virtual workspace's dependencies
+Error: cannot upgrade due to `--locked`
+§a change as a diff|mi|99|- --diff|0 raised name  old req compatible latest new req
+====  ======= ========== ====== =======
+serde 1.0     1.2.3      1.2.3  1.2    
+--- a/Cargo.toml
++++ b/Cargo.toml
+@@ -1,2 +1,2 @@
+ [dependencies]
+-serde = { version = '1.0', optional = true } # keep
++serde = { version = \"1.2\", optional = true } # keep
+    Checking virtual workspace's dependencies
+§no change as a diff|aj|99|- --diff|0 up to date     Checking virtual workspace's dependencies
+note: Re-run with `--verbose` to show more dependencies
+  latest: a
+§messages as JSON|mi|99|- --message-format json|0 raised \
+{\"change\":\"compatible\",\"compatible\":\"1.2.3\",\"latest\":\"1.2.3\",\"manifest_path\":\"/w/Cargo.toml\",\
+\"name\":\"serde\",\"new\":\"1.2\",\"old\":\"1.0\",\"place\":[\"dependencies\",\"serde\"],\"reason\":\"upgrade-row\",\
+\"rename\":null,\"why\":null}
+{\"manifest_path\":\"/w/Cargo.toml\",\"reason\":\"upgrade-file\",\"written\":true}
+{\"dry_run\":false,\"git_crates\":[],\"incompatible_present\":false,\"missing\":[],\"modified\":[\"serde\"],\
+\"pinned_present\":false,\"reason\":\"upgrade-summary\",\"update_calls\":[]}
+    Checking virtual workspace's dependencies
 §a lock|mi|99|- --locked --dry-run|1 manifest name  old req compatible latest new req
 ====  ======= ========== ====== =======
 serde 1.0     1.2.3      1.2.3  1.2    

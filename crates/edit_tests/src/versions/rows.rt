@@ -115,6 +115,7 @@ Usage: cargo-edit <COMMAND>
 
 Commands:
   upgrade      Raises the dependency requirements of a manifest
+  looks        Prints the index entries that an upgrade needs
   set-version  Change a package's version in the local manifest file (i.e. Cargo.toml)
   help         Print this message or the help of the given subcommand(s)
 
@@ -130,21 +131,24 @@ Arguments:
   [TARGET]  Version to change manifests to
 
 Options:
-      --bump <LEVEL>          Increment manifest version
-  -m, --metadata <METADATA>   Specify the version metadata field (e.g. a wrapped libraries version)
-      --metadata-json <FILE>  What `cargo metadata` says of the workspace
-      --manifest-path <PATH>  Accepted, and changes nothing
-  -p, --package <PKGID>       Package id of the crate to change the version of
-      --exclude <PKGID>       Crates to exclude and not modify
-      --all                   [deprecated in favor of `--workspace`]
-      --workspace             Modify all packages in the workspace
-  -n, --dry-run               Print changes to be made without making them
-      --offline               Accepted, and changes nothing
-      --locked                Accepted, and changes nothing
-  -v, --verbose...            Accepted, and changes nothing
-  -q, --quiet...              Accepted, and changes nothing
-  -h, --help                  Print help
-  -V, --version               Print version
+      --bump <LEVEL>                 Increment manifest version
+  -m, --metadata <METADATA>          Specify the version metadata field (e.g. a wrapped libraries version)
+      --metadata-json <FILE>         What `cargo metadata` says of the workspace
+      --manifest-path <PATH>         Accepted, and changes nothing
+  -p, --package <PKGID>              Package id of the crate to change the version of
+      --exclude <PKGID>              Crates to exclude and not modify
+      --all                          [deprecated in favor of `--workspace`]
+      --workspace                    Modify all packages in the workspace
+  -n, --dry-run                      Print changes to be made without making them
+      --check                        Like `--dry-run`, with status 1 where something would change
+      --message-format <human|json>  How the report is printed [default: human]
+      --diff                         Prints the changes of manifests as diffs
+      --offline                      Accepted, and changes nothing
+      --locked                       Accepted, and changes nothing
+  -v, --verbose...                   Accepted, and changes nothing
+  -q, --quiet...                     Accepted, and changes nothing
+  -h, --help                         Print help
+  -V, --version                      Print version
 §set-version -V|\
 0 cargo-edit-set-version 0.13.14
 §set-version 1.0.0|\

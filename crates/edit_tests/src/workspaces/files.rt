@@ -19,15 +19,20 @@ const INDEX: &str = "\
 const LOCAL: &str = "\
 [source.crates-io]\nreplace-with = \"local\"\n[source.local]\nregistry = \"file:///idx\"\n";
 
+const CALLS: &str = "\
+cargo\nupdate\n--manifest-path\n/w/Cargo.toml\n--aggressive\n--package\nserde@1.0.5\n--package\nlog@0.4.3\n--offline\n\n";
+
 /// Where a file of a row stands.
 pub(super) fn path_of(file: char) -> &'static str {
     match file {
         'm' | 'n' => "/w/metadata.json",
         'i' => "/w/index.json",
         's' => "/idx/se/rd/serde",
+        'p' => "/w/dir/file:%2F%2F%2Fidx/se/rd/serde",
+        'u' | 'U' => "/w/calls",
         'c' => "/w/.cargo/config.toml",
-        'r' | 'R' | 'e' | 'd' | 'D' | 'f' | 'F' | 'G' => "/w/Cargo.toml",
-        'a' | 'A' | 'x' => "/w/a/Cargo.toml",
+        'r' | 'R' | 'e' | 'd' | 'D' | 'f' | 'F' | 'G' | 'o' => "/w/Cargo.toml",
+        'a' | 'A' | 'x' | 'v' | 'V' => "/w/a/Cargo.toml",
         _ => "/w/b/Cargo.toml",
     }
 }
@@ -38,7 +43,8 @@ pub(super) fn bytes_of(file: char) -> &'static [u8] {
         'm' => METADATA.as_bytes(),
         'n' => OF_DOCOPT.as_bytes(),
         'i' => INDEX.as_bytes(),
-        's' => b"{\"name\":\"serde\",\"vers\":\"1.2.3\"}\n",
+        's' | 'p' => b"{\"name\":\"serde\",\"vers\":\"1.2.3\"}\n",
+        'u' => CALLS.as_bytes(),
         'c' => LOCAL.as_bytes(),
         'r' => b"[workspace.dependencies]\nserde = '1.0' # all\n",
         'R' => b"[workspace.dependencies]\nserde = \"1.2\" # all\n",
@@ -46,6 +52,11 @@ pub(super) fn bytes_of(file: char) -> &'static [u8] {
         'a' => b"[dependencies]\nserde.workspace = true\nlog = \"0.4.0\"\n",
         'A' => b"[dependencies]\nserde.workspace = true\nlog = \"0.4.5\"\n",
         'x' => b"a = 1 2",
+        'v' => b"[package]\nversion = \"0.1.0\"\n",
+        'V' => b"[package]\nversion = \"0.2.0\"\n",
+        'y' => b"[dependencies]\na = { path = \"../a\", version = \"0.1\" }\n",
+        'Y' => b"[dependencies]\na = { path = \"../a\", version = \"0.2\" }\n",
+        'o' => b"[dependencies]\n'no name' = '1'\n",
         'b' => b"[dev-dependencies]\nserde = \"1\"\n",
         'd' => b"[dependencies]\ndocopt = \"0.8\"\n",
         'D' => b"[dependencies]\ndocopt = \"99999.0.0\"\n",

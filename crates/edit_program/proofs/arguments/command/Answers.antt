@@ -1,4 +1,4 @@
-use Rattle.std.proofs.Common.{rules, ap, ap₂, [], ◌≡◌, ◌∙◌}
+use Rattle.std.proofs.Common.{rules, ap, ap₂, codes, [], ◌≡◌, ◌∙◌}
 use Rattle.std.proofs.lemmas.Result.{IfOk-weaker}
 use Rattle.clap.specs.Words.{App, app_of, with_subcommand}
 use Rattle.edit_program.specs.CommandLine.{edit_app, top_shape, upgrade_app}
@@ -9,8 +9,13 @@ unfolding edit_app
 returns c =
     let top : App = record { top = top_shape; subs = [] } in
     let top_is : app_of c.subcommand_required.result ≡ top = search rules in
-    let one : app_of c.in_ok-subcommand.field-0 ≡ with_subcommand top upgrade_app.top =
-    c.in_ok-subcommand.ensures.shape c.in_ok-upgrade.ensures.local
+    let one : app_of c.in_ok-subcommand.field-0 ≡ with_subcommand top (upgrade_app (codes "upgrade")).top
+    = c.in_ok-subcommand.ensures.shape c.in_ok-upgrade.ensures.local
     ∙ ap₂ with_subcommand top_is (ap (λ (a : App). a.top) c.in_ok-upgrade.ensures.app) in
-    IfOk-weaker c.subcommand-2.result _ _ (λ r h. h.shape c.in_ok-set_version.ensures.local
-    ∙ ap₂ with_subcommand one (ap (λ (a : App). a.top) c.in_ok-set_version.ensures.app)) c.subcommand-2.ensures
+    let two : app_of c.in_ok-subcommand-2.field-0
+    ≡ with_subcommand (with_subcommand top (upgrade_app (codes "upgrade")).top)
+    (upgrade_app (codes "looks")).top =
+    c.in_ok-subcommand-2.ensures.shape c.in_ok-looks.ensures.local
+    ∙ ap₂ with_subcommand one (ap (λ (a : App). a.top) c.in_ok-looks.ensures.app) in
+    IfOk-weaker c.subcommand-3.result _ _ (λ r h. h.shape c.in_ok-set_version.ensures.local
+    ∙ ap₂ with_subcommand two (ap (λ (a : App). a.top) c.in_ok-set_version.ensures.app)) c.subcommand-3.ensures

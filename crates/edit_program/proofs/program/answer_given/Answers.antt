@@ -3,7 +3,7 @@ use Rattle.std.specs.Prelude.{IfErr, IfOk, OnErr}
 use Rattle.std.specs.Io.KnownBytes.{Appends}
 use Rattle.edit_sources.specs.Configured.{given}
 use Rattle.edit_program.specs.Filled.{filled}
-use Rattle.edit_program.specs.Runs.{AreAtFault, IsDone, IsRefused, IsRunCause}
+use Rattle.edit_program.specs.Runs.{AreAtFault, IsEnded, IsRefused, IsRunCause}
 use Rattle.edit_program.proofs.program.answer_given.Goals as goal
 
 pub returns-clause-fault : goal.returns-clause-fault
@@ -11,18 +11,18 @@ returns-clause-fault g c =
     let same : map (λ (w : Bor (List ℕ)). w.now) c.as_slice.result.now
     ≡ filled (map (λ (w : Bor (List ℕ)). w.now) c.args.words.now) = search rules in
     subst (λ (ws : List (List ℕ)). IfOk c.answer.result
-    (λ s. s ≢ 0 → (s ≡ 2) × AreAtFault ws)) same c.answer.ensures.fault
+    (λ s. s ≡ 2 → AreAtFault ws)) same c.answer.ensures.fault
 
-pub returns-clause-done : goal.returns-clause-done
-returns-clause-done g c =
+pub returns-clause-ended : goal.returns-clause-ended
+returns-clause-ended g c =
     let same : map (λ (w : Bor (List ℕ)). w.now) c.as_slice.result.now
     ≡ filled (map (λ (w : Bor (List ℕ)). w.now) c.args.words.now) = search rules in
     subst (λ (ws : List (List ℕ)). IfOk c.answer.result
-    (λ s. s ≡ 0 → (g.S.Store.view c.args.files.now).tells ≡ true
-    → IsDone ws (Appends (g.O.Write.contents c.args.out.now) (g.O.Write.contents c.answer.new.out))
+    (λ s. s ≢ 2 → (g.S.Store.view c.args.files.now).tells ≡ true
+    → IsEnded ws s (Appends (g.O.Write.contents c.args.out.now) (g.O.Write.contents c.answer.new.out))
     (Appends (g.E.Write.contents c.args.err.now) (g.E.Write.contents c.answer.new.err))
     c.args.current.now (given c.args.cargo_home) (g.T.Store.view c.args.index_files)
-    (g.S.Store.view c.args.files.now) (g.S.Store.view c.answer.new.files))) same c.answer.ensures.done
+    (g.S.Store.view c.args.files.now) (g.S.Store.view c.answer.new.files))) same c.answer.ensures.ended
 
 pub returns-clause-refused : goal.returns-clause-refused
 returns-clause-refused g c =

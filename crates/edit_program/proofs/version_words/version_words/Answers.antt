@@ -1,4 +1,4 @@
-use Rattle.std.proofs.Common.{Bor, List, codes, inr, refl, rules, subst, ℕ}
+use Rattle.std.proofs.Common.{Bor, List, codes, inl, inr, refl, rules, subst, ℕ}
 use Rattle.std.specs.Prelude.{Option, option_map}
 use Rattle.clap.specs.Words.{Text, first_of, found_of, rows_of}
 use Rattle.edit_set_version.specs.Bumps.{target_of}
@@ -12,10 +12,16 @@ returns-in_err-target-clause-refused c =
     let version = kept_is c.args.matches.now (codes "target") c.get_str.result _ refl c.get_str.ensures in
     let level = kept_is c.args.matches.now (codes "bump") c.get_str-2.result _ refl c.get_str-2.ensures in
     err_same c.from_residual.result c.in_err-target.field-0.0 _ c.from_residual.ensures.1 (λ other.
-    inr (subst (λ (b : Option Text). HaveNoTarget (first_of (codes "target") rows) b) level
+    inr (inl (subst (λ (b : Option Text). HaveNoTarget (first_of (codes "target") rows) b) level
     (subst (λ (a : Option Text).
     HaveNoTarget a (option_map (λ (s : Bor (List ℕ)). s.now) c.get_str-2.result)) version
-    (c.in_err-target.ensures.refused other))))
+    (c.in_err-target.ensures.refused other)))))
+
+pub returns-in_err-presentation-clause-refused : goal.returns-in_err-presentation-clause-refused
+returns-in_err-presentation-clause-refused c =
+    err_same c.from_residual-in_err-presentation.result c.in_err-presentation.field-0.0 _
+    c.from_residual-in_err-presentation.ensures.1 (λ other.
+    inr (inr c.in_err-presentation.ensures.refused))
 
 pub returns-clause-asks : goal.returns-clause-asks
 returns-clause-asks c =
@@ -35,6 +41,7 @@ returns-clause-asks c =
       workspace = c.in_ok-selection.ensures.workspace;
       metadata = c.in_ok-selection.ensures.metadata;
       all = c.is_given.ensures;
-      dry_run = c.is_given-2.ensures;
+      dry_run = c.is_dry.ensures;
+      presentation = c.in_ok-presentation.ensures.ok;
       named_once = search rules;
     }

@@ -1,9 +1,8 @@
 use Rattle.std.proofs.Common.{◌∙◌, ap, length, of_z, refl, subst, sym, to_z, w8}
 use Rattle.std.specs.Io.KnownBytes.{Appends}
 use Rattle.std.proofs.lemmas.Option.{slice_get_read}
-use Rattle.edit_report.specs.Table.{report_text}
 use Rattle.edit_upgrade_told.specs.Said.{check, check_at}
-use Rattle.edit_upgrade_told.specs.Tables.{rows_at}
+use Rattle.edit_upgrade_told.specs.Tables.{table}
 use Rattle.edit_upgrade_told.proofs.DeliveryLemmas.{check_is, text_more}
 use Rattle.edit_upgrade_told.proofs.reports.print_reports.Goals as goal
 
@@ -20,9 +19,9 @@ inputs-preserved g c =
     let err = g.E.Write.contents c.inputs.err in
     let err_new = g.E.Write.contents c.print_check.new.err in
     record {
-      tables = text_more (λ j. report_text v (rows_at j rows)) i (g.O.Write.contents c.args.out.now) out out_new
+      tables = text_more (table c.args.format v rows) i (g.O.Write.contents c.args.out.now) out out_new
           c.inputs.invariant.tables
-          (subst (λ xs. Appends out out_new (report_text v (rows_at i xs))) c.as_slice-in-inputs.ensures.value
+          (subst (λ xs. Appends out out_new (table c.args.format v xs i)) c.as_slice-in-inputs.ensures.value
           c.in_ok-print_table.ensures.table);
       checks = text_more (check_at v warnings inputs) i (g.E.Write.contents c.args.err.now) err err_new
           c.inputs.invariant.checks

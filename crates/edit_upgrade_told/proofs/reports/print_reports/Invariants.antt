@@ -6,7 +6,7 @@ use Rattle.edit_upgrade_told.proofs.reports.print_reports.Given as goal
 abbrev pub invariant-inputs : goal.invariant-inputs
 invariant-inputs g l = record {
   tables : Appends (g.O.Write.contents l.fn.out) (g.O.Write.contents l.out)
-      (tables l.verbosity l.plan.rows.items l.i);
+      (tables l.format l.verbosity l.plan.rows.items l.i);
   checks : Appends (g.E.Write.contents l.fn.err) (g.E.Write.contents l.err)
       (checks l.verbosity l.plan.warnings.items l.inputs l.i);
 }

@@ -1,0 +1,54 @@
+-- Behind a check no file has changed.
+use Rattle.std.proofs.Common.{◌≡◌, ◌∙◌, ◌≤◌, ◌&&◌, ◌||◌, ℕ, Bool, List, [], ◌∷◌, Option, true, false, ap, arith, codes, refl, sym}
+use Rattle.std.specs.Prelude.{if◌then◌else◌}
+use Rattle.std.proofs.lemmas.List.Elements.{All-nil}
+use Rattle.clap.specs.Words.{Row}
+use Rattle.edit_report.specs.Applied.{AreWritten, path_of}
+use Rattle.edit_report.specs.declared.output.Output.{Output}
+use Rattle.edit_set_version_run.specs.SetVersions.{AreVersionsSet, written}
+use Rattle.edit_set_version_run.specs.declared.words.SetVersionWords.{SetVersionWords}
+use Rattle.edit_store.specs.Store.{SameFiles, StoreView}
+use Rattle.edit_upgrade_run.specs.Upgrading.{IsUpgraded, delivery_by}
+use Rattle.edit_upgrade_run.specs.declared.words.UpgradeWords.{UpgradeWords}
+use Rattle.edit_upgrade_told.proofs.DryRuns.{dry_keeps}
+use Rattle.edit_program.specs.CommandLine.{is_dry, is_given}
+use Rattle.edit_program.specs.Presented.{status_after}
+
+-- a status behind a plan is 0 or 1
+small_by : (check due : Bool) (s : ℕ) → s ≡ (if check && due then 1 else 0) → s ≤ 1
+small_by true true s is = omega (arith, is)
+small_by true false s is = omega (arith, is)
+small_by false due s is = omega (arith, is)
+
+pub small_after : (rows : List Row) (due : Bool) (s : ℕ) → s ≡ status_after rows due → s ≤ 1
+small_after rows due s is = small_by (is_given (codes "check") rows) due s is
+
+-- at status 1 nothing was to be written
+dry_by : (dry check due : Bool) (s : ℕ) → s ≡ (if check && due then 1 else 0) → s ≡ 1 → (dry || check) ≡ true
+dry_by true check due s is one = refl
+dry_by false true due s is one = refl
+dry_by false false due s is one = let bad : 1 ≡ 0 = sym one ∙ is in absurd (omega (arith, bad))
+
+pub dry_after : (rows : List Row) (due : Bool) (s : ℕ) → s ≡ status_after rows due → s ≡ 1 → is_dry rows ≡ true
+dry_after rows due s is one =
+    dry_by (is_given (codes "dry-run") rows) (is_given (codes "check") rows) due s is one
+
+-- an upgrade at a dry run leaves each file as it was
+pub dry_upgrade : (due : Bool) (Shows Says : List ℕ → Type 0) (words : UpgradeWords) (current : List ℕ)
+    (home : Option (List ℕ)) (local old new : StoreView) → words.options.dry_run ≡ true
+    → IsUpgraded due Shows Says words current home local old new → SameFiles old.file_at new.file_at
+dry_upgrade due Shows Says words current home local old new dry h =
+    dry_keeps Shows (delivery_by words current h.plan h.sources.target h.path) old new dry h.ends.delivered.told
+
+nothing_written : (outputs : List Output) (old new : StoreView) → outputs ≡ [] → AreWritten outputs old new
+    → SameFiles old.file_at new.file_at
+nothing_written [] old new is are path = are.others path (All-nil (λ (o : Output). path ≡ path_of o → ⊥))
+nothing_written (o ∷ outputs) old new is are path = cc
+
+-- and so does a setting of versions
+pub dry_versions : (Shows Tells : List ℕ → Type 0) (words : SetVersionWords) (current : List ℕ) (due : Bool)
+    (old new : StoreView) → words.dry_run ≡ true → AreVersionsSet Shows Tells words current due old new
+    → SameFiles old.file_at new.file_at
+dry_versions Shows Tells words current due old new dry set =
+    nothing_written (written words set.plan.outputs.items) old new
+    (ap (λ (b : Bool). if b then [] else set.plan.outputs.items) dry) set.leaves.0

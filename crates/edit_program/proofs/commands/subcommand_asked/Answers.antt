@@ -1,0 +1,67 @@
+use Rattle.std.proofs.Common.{inl, inr, refl}
+use Rattle.std.proofs.lemmas.Result.{IfErr-weaker, IfOk-weaker, on_err_weaker}
+use Rattle.edit_steps.proofs.Refusals.{on_refusal}
+use Rattle.edit_program.proofs.CommandCases.{in_right}
+use Rattle.edit_program.proofs.commands.subcommand_asked.Goals as goal
+
+pub returns-in-upgrade-clause-fault : goal.returns-in-upgrade-clause-fault
+returns-in-upgrade-clause-fault g c = IfOk-weaker c.upgrade_asked.result _ _
+    (λ s h two. inr (inl (c.in-upgrade.is, h two))) c.upgrade_asked.ensures.fault
+
+pub returns-in-upgrade-clause-done : goal.returns-in-upgrade-clause-done
+returns-in-upgrade-clause-done g c = IfOk-weaker c.upgrade_asked.result _ _
+    (λ s h other t. inl (c.in-upgrade.is, h other t)) c.upgrade_asked.ensures.done
+
+pub returns-in-upgrade-clause-refused : goal.returns-in-upgrade-clause-refused
+returns-in-upgrade-clause-refused g c = on_err_weaker c.upgrade_asked.result
+    (λ h t. in_right (λ broken. inl (c.in-upgrade.is, broken)) (h t)) c.upgrade_asked.ensures.refused
+
+pub returns-in-upgrade-clause-why : goal.returns-in-upgrade-clause-why
+returns-in-upgrade-clause-why g c = IfErr-weaker c.upgrade_asked.result _ _
+    (λ r h. in_right (λ cause. inl (c.in-upgrade.is, cause)) h) c.upgrade_asked.ensures.why
+
+pub returns-in-looks-clause-checked : goal.returns-in-looks-clause-checked
+returns-in-looks-clause-checked g c = IfOk-weaker c.looks_asked.result _ _
+    (λ s h one t. c.looks_asked.ensures.kept) c.looks_asked.ensures.status
+
+pub returns-in-looks-clause-fault : goal.returns-in-looks-clause-fault
+returns-in-looks-clause-fault g c = IfOk-weaker c.looks_asked.result _ _
+    (λ s h two. inr (inr (inl (c.in-looks.is, h two)))) c.looks_asked.ensures.fault
+
+pub returns-in-looks-clause-done : goal.returns-in-looks-clause-done
+returns-in-looks-clause-done g c = IfOk-weaker c.looks_asked.result _ _
+    (λ s h other t. let looked = h other t in inr (inl (c.in-looks.is, looked.0, looked.1)))
+    c.looks_asked.ensures.done
+
+pub returns-in-looks-clause-refused : goal.returns-in-looks-clause-refused
+returns-in-looks-clause-refused g c = on_refusal c.looks_asked.result _ (λ t. inl c.looks_asked.ensures.kept)
+
+pub returns-in-looks-clause-why : goal.returns-in-looks-clause-why
+returns-in-looks-clause-why g c = IfErr-weaker c.looks_asked.result _ _
+    (λ r h. in_right (λ cause. inr (inl (c.in-looks.is, cause))) h) c.looks_asked.ensures.why
+
+pub returns-in-text-clause-fault : goal.returns-in-text-clause-fault
+returns-in-text-clause-fault g c = IfOk-weaker c.versions_asked.result _ _
+    (λ s h two. inr (inr (inr (c.in-text.is, h two)))) c.versions_asked.ensures.fault
+
+pub returns-in-text-clause-done : goal.returns-in-text-clause-done
+returns-in-text-clause-done g c = IfOk-weaker c.versions_asked.result _ _
+    (λ s h other t. inr (inr (c.in-text.is, h other t))) c.versions_asked.ensures.done
+
+pub returns-in-text-clause-refused : goal.returns-in-text-clause-refused
+returns-in-text-clause-refused g c = on_err_weaker c.versions_asked.result
+    (λ h t. in_right (λ stopped. inr (c.in-text.is, stopped)) (h t)) c.versions_asked.ensures.refused
+
+pub returns-in-text-clause-why : goal.returns-in-text-clause-why
+returns-in-text-clause-why g c = IfErr-weaker c.versions_asked.result _ _
+    (λ r h. in_right (λ cause. inr (inr (c.in-text.is, cause))) h) c.versions_asked.ensures.why
+
+pub returns-in_default-clause-fault : goal.returns-in_default-clause-fault
+returns-in_default-clause-fault g c two = inl (record {
+  no_upgrade = c.in_default.not-upgrade;
+  no_looks = c.in_default.not-looks;
+  no_set_version = c.in_default.not-text;
+})
+
+pub returns-in_default-clause-done : goal.returns-in_default-clause-done
+returns-in_default-clause-done g c other t = absurd (other refl)

@@ -1,0 +1,114 @@
+-- What each subcommand leaves of files and streams, by its matches.
+use Rattle.std.specs.Prelude.{◌≡◌, ◌≢◌, ◌⊎◌, ℕ, Bool, List, Option, codes}
+use Rattle.clap.specs.Words.{Row, Text}
+use Rattle.edit_base.specs.declared.errors.Error.{Error}
+use Rattle.edit_set_version_run.specs.Causes.{IsSetVersionCause}
+use Rattle.edit_set_version_run.specs.SetVersions.{AreVersionsSet, IsCutShort}
+use Rattle.edit_set_version_run.specs.declared.words.SetVersionWords.{SetVersionWords}
+use Rattle.edit_store.specs.Store.{StoreView}
+use Rattle.edit_upgrade_run.specs.Causes.{IsLooksCause, IsUpgradeCause}
+use Rattle.edit_upgrade_run.specs.Looking.{AreLooksShown}
+use Rattle.edit_upgrade_run.specs.Upgrading.{IsBroken, IsUpgraded}
+use Rattle.edit_upgrade_run.specs.declared.words.UpgradeWords.{UpgradeWords}
+use Rattle.edit_program.specs.Presented.{status_after}
+use Rattle.edit_program.specs.UpgradeAsked.{AskForUpgrade, HaveUpgradeFault}
+use Rattle.edit_program.specs.VersionWords.{AskForVersions, HaveVersionFault}
+
+-- the manifests that the matches name were upgraded, behind what is shown and said of the plan; the status is 1
+-- where they ask to check that and the plan has an output
+pub record HasUpgraded (rows : List Row) (status : ℕ) (Shows Says : List ℕ → Type 0) (current : List ℕ)
+    (home : Option (List ℕ)) (local old new : StoreView) : Type 0 where
+  pub asked : UpgradeWords
+  pub asks : AskForUpgrade rows asked
+  pub due : Bool
+  pub upgraded : IsUpgraded due Shows Says asked current home local old new
+  pub ends : status ≡ status_after rows due
+
+-- the upgrade of the manifests that the matches name was refused, at a write or behind all of them
+pub record HasBroken (rows : List Row) (Shows : List ℕ → Type 0) (current : List ℕ) (home : Option (List ℕ))
+    (local old new : StoreView) : Type 0 where
+  pub asked : UpgradeWords
+  pub asks : AskForUpgrade rows asked
+  pub broken : IsBroken Shows asked current home local old new
+
+-- the upgrade that the matches ask for was refused
+pub record HasUpgradeCause (rows : List Row) (current : List ℕ) (home : Option (List ℕ))
+    (local old new : StoreView) (e : Error) : Type 0 where
+  pub asked : UpgradeWords
+  pub asks : AskForUpgrade rows asked
+  pub cause : IsUpgradeCause asked current home local old new e
+
+-- the looks that the upgrade needs which the matches ask for were printed
+pub record HasLooked (rows : List Row) (Shows : List ℕ → Type 0) (current : List ℕ) (home : Option (List ℕ))
+    (old : StoreView) : Type 0 where
+  pub asked : UpgradeWords
+  pub asks : AskForUpgrade rows asked
+  pub looked : AreLooksShown Shows asked current home old.file_at
+
+-- they were refused
+pub record HasLooksCause (rows : List Row) (current : List ℕ) (home : Option (List ℕ)) (old new : StoreView)
+    (e : Error) : Type 0 where
+  pub asked : UpgradeWords
+  pub asks : AskForUpgrade rows asked
+  pub cause : IsLooksCause asked current home old new e
+
+-- the versions that the matches ask for were set, behind what is shown and told of them; the status is 1 where
+-- they ask to check that and the plan has an output
+pub record HasSetVersions (rows : List Row) (status : ℕ) (Shows Tells : List ℕ → Type 0) (current : List ℕ)
+    (old new : StoreView) : Type 0 where
+  pub asked : SetVersionWords
+  pub asks : AskForVersions rows asked
+  pub due : Bool
+  pub set : AreVersionsSet Shows Tells asked current due old new
+  pub ends : status ≡ status_after rows due
+
+-- the same, but the writing stopped at an output
+pub record HasStoppedSetting (rows : List Row) (Shows Tells : List ℕ → Type 0) (current : List ℕ)
+    (old new : StoreView) : Type 0 where
+  pub asked : SetVersionWords
+  pub asks : AskForVersions rows asked
+  pub stopped : IsCutShort Shows Tells asked current old new
+
+-- the setting of the versions that the matches ask for was refused
+pub record HasSetVersionCause (rows : List Row) (current : List ℕ) (old new : StoreView) (e : Error)
+    : Type 0 where
+  pub asked : SetVersionWords
+  pub asks : AskForVersions rows asked
+  pub cause : IsSetVersionCause asked current old new e
+
+-- a subcommand of another name than those of the program
+pub record IsAnother (name : Text) : Type 0 where
+  pub no_upgrade : name ≢ codes "upgrade"
+  pub no_looks : name ≢ codes "looks"
+  pub no_set_version : name ≢ codes "set-version"
+
+-- a subcommand is none of the program, or what its matches ask for does not go together or is not read
+abbrev pub IsAtFault : Text → List Row → Type 0
+IsAtFault name rows =
+    IsAnother name
+    ⊎ (((name ≡ codes "upgrade") × HaveUpgradeFault rows)
+    ⊎ (((name ≡ codes "looks") × HaveUpgradeFault rows)
+    ⊎ ((name ≡ codes "set-version") × HaveVersionFault rows)))
+
+-- a subcommand has done what its matches ask for, with this status
+abbrev pub IsDoneBy : Text → List Row → ℕ → (List ℕ → Type 0) → (List ℕ → Type 0) → List ℕ → Option (List ℕ)
+    → StoreView → StoreView → StoreView → Type 0
+IsDoneBy name rows status Shows Tells current home local old new =
+    ((name ≡ codes "upgrade") × HasUpgraded rows status Shows Tells current home local old new)
+    ⊎ (((name ≡ codes "looks") × (status ≡ 0) × HasLooked rows Shows current home old)
+    ⊎ ((name ≡ codes "set-version") × HasSetVersions rows status Shows Tells current old new))
+
+-- a subcommand was refused at one of its writes, or behind all of them
+abbrev pub IsBrokenBy : Text → List Row → (List ℕ → Type 0) → (List ℕ → Type 0) → List ℕ → Option (List ℕ)
+    → StoreView → StoreView → StoreView → Type 0
+IsBrokenBy name rows Shows Tells current home local old new =
+    ((name ≡ codes "upgrade") × HasBroken rows Shows current home local old new)
+    ⊎ ((name ≡ codes "set-version") × HasStoppedSetting rows Shows Tells current old new)
+
+-- why a subcommand is refused, but for want of memory
+abbrev pub IsCauseBy : Text → List Row → List ℕ → Option (List ℕ) → StoreView → StoreView → StoreView → Error
+    → Type 0
+IsCauseBy name rows current home local old new e =
+    ((name ≡ codes "upgrade") × HasUpgradeCause rows current home local old new e)
+    ⊎ (((name ≡ codes "looks") × HasLooksCause rows current home old new e)
+    ⊎ ((name ≡ codes "set-version") × HasSetVersionCause rows current old new e))

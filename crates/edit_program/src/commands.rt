@@ -1,0 +1,185 @@
+//! What each subcommand comes to, by its matches.
+ghost use Rattle.std.specs.Prelude.{◌≡◌, ◌≢◌, ◌⊎◌, ◌≤◌, IfErr, IfOk, OnErr, true};
+ghost use Rattle.std.specs.Io.KnownBytes.{Appends};
+ghost use Rattle.clap.specs.Words.{found_of, rows_of};
+ghost use Rattle.edit_base.specs.Errors.{IsMemory};
+ghost use Rattle.edit_sources.specs.Configured.{given};
+ghost use Rattle.edit_store.specs.Store.{SameFiles};
+ghost use Rattle.edit_program.specs.Commands.{HasBroken, HasLooked, HasLooksCause, HasSetVersionCause, HasSetVersions, HasStoppedSetting, HasUpgradeCause, HasUpgraded, IsAtFault, IsBrokenBy, IsCauseBy, IsDoneBy};
+ghost use Rattle.edit_program.specs.UpgradeAsked.{HaveUpgradeFault};
+ghost use Rattle.edit_program.specs.VersionWords.{HaveVersionFault};
+
+use crate::asked::upgrade_words;
+use crate::faults::refuse_words;
+use crate::presented::status_after;
+use crate::version_words::version_words;
+use crate::words_fault::WordsError;
+use clap::ArgMatches;
+use edit_base::Error;
+use edit_set_version_run::set_version;
+use edit_steps::{Refusal, RunResult};
+use edit_store::Store;
+use edit_upgrade_run::{looks, upgrade};
+use std::alloc::Global;
+use std::io;
+
+/// Upgrades the manifests that matched words name: what the words come to.
+fn upgrade_asked<S: Store, T: Store + Drop, O: io::Write, E: io::Write>(
+    alloc: Global,
+    matches: &ArgMatches<'_>,
+    current: &str,
+    cargo_home: Option<&str>,
+    files: &mut S,
+    index_files: T,
+    out: &mut O,
+    err: &mut E,
+) -> RunResult<u8>
+    ensures status { IfOk result (λ s. s ≤ 2) }
+    ensures answered { IfOk result (λ s. s ≡ 2 → files.new ≡ files.old) }
+    ensures checked { IfOk result (λ s. s ≡ 1 → (S.view files.old).tells ≡ true
+        → SameFiles (S.view files.old).file_at (S.view files.new).file_at) }
+    ensures fault { IfOk result (λ s. s ≡ 2 → HaveUpgradeFault (rows_of (found_of matches.now))) }
+    ensures done { IfOk result (λ s. s ≢ 2 → (S.view files.old).tells ≡ true
+        → HasUpgraded (rows_of (found_of matches.now)) s (Appends (O.contents out.old) (O.contents out.new))
+        (Appends (E.contents err.old) (E.contents err.new)) current.now (given cargo_home.entry)
+        (T.view index_files) (S.view files.old) (S.view files.new)) }
+    ensures refused { OnErr result ((S.view files.old).tells ≡ true
+        → SameFiles (S.view files.old).file_at (S.view files.new).file_at
+        ⊎ HasBroken (rows_of (found_of matches.now)) (Appends (O.contents out.old) (O.contents out.new))
+        current.now (given cargo_home.entry)
+        (T.view index_files) (S.view files.old) (S.view files.new)) }
+    ensures why { IfErr result (λ r. IsMemory r.error ⊎ HasUpgradeCause (rows_of (found_of matches.now))
+        current.now (given cargo_home.entry) (T.view index_files) (S.view files.old) (S.view files.new)
+        r.error) }
+{
+    let words = match upgrade_words(alloc, matches) {
+        Ok(words) => words,
+        Err(WordsError::Memory) => return Err(Refusal::from(Error::Memory)),
+        Err(WordsError::Fault(fault)) => return Ok(refuse_words(&fault, err)),
+    };
+    let due = upgrade(
+        alloc,
+        &words,
+        current,
+        cargo_home,
+        files,
+        index_files,
+        out,
+        err,
+    )?;
+    Ok(status_after(matches, due))
+}
+
+/// Prints the looks that an upgrade by matched words needs: what the words come to.
+fn looks_asked<S: Store, O: io::Write, E: io::Write>(
+    alloc: Global,
+    matches: &ArgMatches<'_>,
+    current: &str,
+    cargo_home: Option<&str>,
+    files: &mut S,
+    out: &mut O,
+    err: &mut E,
+) -> RunResult<u8>
+    ensures status { IfOk result (λ s. s ≤ 2) }
+    ensures answered { IfOk result (λ s. s ≡ 2 → files.new ≡ files.old) }
+    ensures kept { SameFiles (S.view files.old).file_at (S.view files.new).file_at }
+    ensures fault { IfOk result (λ s. s ≡ 2 → HaveUpgradeFault (rows_of (found_of matches.now))) }
+    ensures done { IfOk result (λ s. s ≢ 2 → (S.view files.old).tells ≡ true
+        → (s ≡ 0) × HasLooked (rows_of (found_of matches.now))
+        (Appends (O.contents out.old) (O.contents out.new)) current.now (given cargo_home.entry)
+        (S.view files.old)) }
+    ensures why { IfErr result (λ r. IsMemory r.error ⊎ HasLooksCause (rows_of (found_of matches.now))
+        current.now (given cargo_home.entry) (S.view files.old) (S.view files.new) r.error) }
+{
+    let words = match upgrade_words(alloc, matches) {
+        Ok(words) => words,
+        Err(WordsError::Memory) => return Err(Refusal::from(Error::Memory)),
+        Err(WordsError::Fault(fault)) => return Ok(refuse_words(&fault, err)),
+    };
+    looks(alloc, &words, current, cargo_home, files, out)?;
+    Ok(0)
+}
+
+/// Sets the versions that matched words ask for: what the words come to.
+fn versions_asked<S: Store, O: io::Write, E: io::Write>(
+    alloc: Global,
+    matches: &ArgMatches<'_>,
+    current: &str,
+    files: &mut S,
+    out: &mut O,
+    err: &mut E,
+) -> RunResult<u8>
+    ensures status { IfOk result (λ s. s ≤ 2) }
+    ensures answered { IfOk result (λ s. s ≡ 2 → files.new ≡ files.old) }
+    ensures checked { IfOk result (λ s. s ≡ 1 → (S.view files.old).tells ≡ true
+        → SameFiles (S.view files.old).file_at (S.view files.new).file_at) }
+    ensures fault { IfOk result (λ s. s ≡ 2 → HaveVersionFault (rows_of (found_of matches.now))) }
+    ensures done { IfOk result (λ s. s ≢ 2 → (S.view files.old).tells ≡ true
+        → HasSetVersions (rows_of (found_of matches.now)) s
+        (Appends (O.contents out.old) (O.contents out.new))
+        (Appends (E.contents err.old) (E.contents err.new)) current.now (S.view files.old) (S.view files.new)) }
+    ensures refused { OnErr result ((S.view files.old).tells ≡ true
+        → SameFiles (S.view files.old).file_at (S.view files.new).file_at
+        ⊎ HasStoppedSetting (rows_of (found_of matches.now))
+        (Appends (O.contents out.old) (O.contents out.new))
+        (Appends (E.contents err.old) (E.contents err.new)) current.now (S.view files.old) (S.view files.new)) }
+    ensures why { IfErr result (λ r. IsMemory r.error ⊎ HasSetVersionCause (rows_of (found_of matches.now))
+        current.now (S.view files.old) (S.view files.new) r.error) }
+{
+    let words = match version_words(alloc, matches) {
+        Ok(words) => words,
+        Err(WordsError::Memory) => return Err(Refusal::from(Error::Memory)),
+        Err(WordsError::Fault(fault)) => return Ok(refuse_words(&fault, err)),
+    };
+    let due = set_version(alloc, &words, current, files, out, err)?;
+    Ok(status_after(matches, due))
+}
+
+/// What a subcommand and its matches come to.
+pub(crate) fn subcommand_asked<S: Store, T: Store + Drop, O: io::Write, E: io::Write>(
+    alloc: Global,
+    name: &str,
+    matches: &ArgMatches<'_>,
+    current: &str,
+    cargo_home: Option<&str>,
+    files: &mut S,
+    index_files: T,
+    out: &mut O,
+    err: &mut E,
+) -> RunResult<u8>
+    ensures status { IfOk result (λ s. s ≤ 2) }
+    ensures answered { IfOk result (λ s. s ≡ 2 → files.new ≡ files.old) }
+    ensures checked { IfOk result (λ s. s ≡ 1 → (S.view files.old).tells ≡ true
+        → SameFiles (S.view files.old).file_at (S.view files.new).file_at) }
+    ensures fault { IfOk result (λ s. s ≡ 2 → IsAtFault name.now (rows_of (found_of matches.now))) }
+    ensures done { IfOk result (λ s. s ≢ 2 → (S.view files.old).tells ≡ true
+        → IsDoneBy name.now (rows_of (found_of matches.now)) s
+        (Appends (O.contents out.old) (O.contents out.new))
+        (Appends (E.contents err.old) (E.contents err.new)) current.now (given cargo_home.entry)
+        (T.view index_files) (S.view files.old) (S.view files.new)) }
+    ensures refused { OnErr result ((S.view files.old).tells ≡ true
+        → SameFiles (S.view files.old).file_at (S.view files.new).file_at
+        ⊎ IsBrokenBy name.now (rows_of (found_of matches.now))
+        (Appends (O.contents out.old) (O.contents out.new))
+        (Appends (E.contents err.old) (E.contents err.new)) current.now (given cargo_home.entry)
+        (T.view index_files) (S.view files.old) (S.view files.new)) }
+    ensures why { IfErr result (λ r. IsMemory r.error ⊎ IsCauseBy name.now (rows_of (found_of matches.now))
+        current.now (given cargo_home.entry) (T.view index_files) (S.view files.old) (S.view files.new)
+        r.error) }
+{
+    match name {
+        "upgrade" => upgrade_asked(
+            alloc,
+            matches,
+            current,
+            cargo_home,
+            files,
+            index_files,
+            out,
+            err,
+        ),
+        "looks" => looks_asked(alloc, matches, current, cargo_home, files, out, err),
+        "set-version" => versions_asked(alloc, matches, current, files, out, err),
+        _ => Ok(2),
+    }
+}

@@ -1,0 +1,40 @@
+//! Values of options among matched words.
+ghost use Rattle.std.specs.Prelude.{◌≡◌, IfOk, map, string_bytes};
+ghost use Rattle.clap.specs.Words.{found_of, rows_of};
+ghost use Rattle.edit_program.specs.CommandLine.{is_given, values_of};
+
+use clap::ArgMatches;
+use std::alloc::{AllocError, Global};
+
+/// Whether a flag is given.
+pub(crate) fn is_given(matches: &ArgMatches<'_>, id: &str) -> bool
+    ensures { result ≡ is_given id.now (rows_of (found_of matches.now)) }
+{
+    matches.get_str(id).unwrap_or("") == "true"
+}
+
+/// These texts, on memory of their own.
+fn copied_texts(alloc: Global, texts: &[&str]) -> Result<Vec<String>, AllocError>
+    ensures { IfOk result (λ v. map string_bytes v.items ≡ map (λ t. t.now) texts.now) }
+{
+    let mut copies = Vec::new(alloc);
+    'texts: for text in texts {
+        copies.push(String::from_str(alloc, *text)?)?;
+    }
+    Ok(copies)
+}
+
+/// The values of an option, of all its uses.
+pub(crate) fn values_of(
+    alloc: Global,
+    matches: &ArgMatches<'_>,
+    id: &str,
+) -> Result<Vec<String>, AllocError>
+    ensures { IfOk result (λ v. map string_bytes v.items
+        ≡ values_of id.now (rows_of (found_of matches.now))) }
+{
+    match matches.get_strs(id) {
+        Some(texts) => copied_texts(alloc, texts),
+        None => Ok(Vec::new(alloc)),
+    }
+}

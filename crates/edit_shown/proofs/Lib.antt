@@ -1,0 +1,4 @@
+pub mod DiffLemmas
+pub mod PathLemmas
+pub mod PrintedLemmas
+pub mod SummaryLemmas

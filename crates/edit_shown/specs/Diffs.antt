@@ -1,0 +1,47 @@
+-- The changes of manifests as unified diffs (own).
+use Rattle.std.specs.Prelude.{ℕ, List, [], ◌∷◌, ◌++◌, Bool, codes, drop, if◌then◌else◌, length, nat_eq, string_bytes}
+use Rattle.std.specs.List.{ends_with, starts_with}
+use Rattle.std.specs.Str.{bytes_eq}
+use Rattle.edit_diff.specs.Unified.{diff_text}
+use Rattle.edit_metadata.specs.declared.input.Input.{Input}
+use Rattle.edit_report.specs.declared.output.Output.{Output}
+
+-- a folder's path with the `/` that ends it (own)
+abbrev pub folder_text : List ℕ → List ℕ
+folder_text current = if ends_with nat_eq current (codes "/") then current else current ++ codes "/"
+
+-- a path as it is shown below a folder: what stands behind the folder, else behind the first `/` (own)
+abbrev pub below : List ℕ → List ℕ → List ℕ
+below folder path =
+    if starts_with nat_eq path folder then drop (length folder) path
+    else if starts_with nat_eq path (codes "/") then drop 1 path
+    else path
+
+-- a path as it is shown in the current folder (own)
+abbrev pub shown_path : List ℕ → List ℕ → List ℕ
+shown_path current path = below (folder_text current) path
+
+-- the change of a manifest (own)
+abbrev pub diff_of : List ℕ → Input → Output → List ℕ
+diff_of current input output =
+    diff_text (shown_path current (string_bytes input.path)) input.bytes.items output.bytes.items
+
+-- whether an output is this input's (own)
+abbrev pub is_of : Input → Output → Bool
+is_of input output = bytes_eq (string_bytes input.path) (string_bytes output.path)
+
+-- the change of an input, where the first output is its own (own)
+abbrev pub next_diff : List ℕ → Input → List Output → List ℕ
+next_diff current input [] = []
+next_diff current input (output ∷ outputs) = if is_of input output then diff_of current input output else []
+
+-- the outputs of the other inputs (own)
+abbrev pub other_outputs : Input → List Output → List Output
+other_outputs input [] = []
+other_outputs input (output ∷ outputs) = if is_of input output then outputs else output ∷ outputs
+
+-- the changes of the inputs that have an output; outputs stand in the order of their inputs (own)
+abbrev pub diffs : List ℕ → List Input → List Output → List ℕ
+diffs current [] outputs = []
+diffs current (input ∷ inputs) outputs =
+    next_diff current input outputs ++ diffs current inputs (other_outputs input outputs)

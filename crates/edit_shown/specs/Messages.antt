@@ -1,0 +1,64 @@
+-- What is reported as JSON: messages, one a line (own).
+use Rattle.std.specs.Prelude.{ℕ, List, [], ◌∷◌, ◌++◌, not, ◌||◌, codes, slice_get, string_bytes}
+use Rattle.std.specs.List.{flat_map}
+use Rattle.std.specs.Option.{option_map_or}
+use Rattle.serde_json.specs.Data.{boolean, string}
+use Rattle.edit_decision.specs.declared.options.Options.{Options}
+use Rattle.edit_messages.specs.Fields.{list_data, text_data}
+use Rattle.edit_messages.specs.Messages.{MessageMembers, change_members, file_members, message_text, row_members, warning_members}
+use Rattle.edit_metadata.specs.declared.input.Input.{Input}
+use Rattle.edit_report.specs.declared.output.Output.{Output}
+use Rattle.edit_report.specs.declared.row.Row.{Row}
+use Rattle.edit_set_version.specs.PlanLines.{Told}
+use Rattle.edit_update.specs.UpdateCalls.{Call}
+use Rattle.edit_upgrade.specs.declared.upgrade.UpgradePlan.{UpgradePlan}
+use Rattle.edit_upgrade.specs.declared.upgrade.Warning.{Warning}
+
+-- the path of the input with this number; the empty text where there is none (own)
+abbrev pub path_at : List Input → ℕ → List ℕ
+path_at inputs i = option_map_or (λ input. string_bytes input.path) (slice_get inputs i) []
+
+-- a row, with the path of its manifest (own)
+abbrev pub row_message : List Input → Row → List ℕ
+row_message inputs row = message_text (row_members (path_at inputs row.input) row)
+
+-- a warning, with the path of its manifest (own)
+abbrev pub warning_message : List Input → Warning → List ℕ
+warning_message inputs w = message_text (warning_members (path_at inputs w.input) (string_bytes w.text))
+
+-- a manifest that changes: written, but at a dry run and where the manifests are locked (own)
+abbrev pub file_message : Options → Output → List ℕ
+file_message o output = message_text (file_members (string_bytes output.path) (not (o.dry_run || o.locked)))
+
+-- the members of what an upgrade says last, with the calls of `cargo update` that are due (own)
+abbrev pub summary_members : UpgradePlan → Options → List Call → MessageMembers
+summary_members plan o calls =
+    (codes "reason", string (codes "upgrade-summary"))
+    ∷ (codes "dry_run", boolean o.dry_run)
+    ∷ (codes "modified", list_data text_data plan.modified.items)
+    ∷ (codes "git_crates", list_data text_data plan.git_crates.items)
+    ∷ (codes "missing", list_data text_data plan.missing.items)
+    ∷ (codes "pinned_present", boolean plan.pinned_present)
+    ∷ (codes "incompatible_present", boolean plan.incompatible_present)
+    ∷ (codes "update_calls", list_data (λ call. list_data string call) calls)
+    ∷ []
+
+-- what an upgrade says last (own)
+abbrev pub summary_message : UpgradePlan → Options → List Call → List ℕ
+summary_message plan o calls = message_text (summary_members plan o calls)
+
+-- an upgrade: its rows, its warnings, the manifests that change, the summary (own)
+abbrev pub messages : UpgradePlan → List Input → Options → List Call → List ℕ
+messages plan inputs o calls =
+    flat_map (row_message inputs) plan.rows.items
+    ++ (flat_map (warning_message inputs) plan.warnings.items
+    ++ (flat_map (file_message o) plan.outputs.items
+    ++ summary_message plan o calls))
+
+-- a line of new versions: what is done, and to what (own)
+abbrev pub change_message : Told → List ℕ
+change_message line = message_text (change_members line.0 line.1)
+
+-- the lines of new versions (own)
+abbrev pub changes : List Told → List ℕ
+changes lines = flat_map change_message lines

@@ -1,0 +1,43 @@
+//! The lines of new versions as JSON, one message a line.
+ghost use Rattle.std.specs.Prelude.{◌≡◌, ◌⊎◌, IfErr, OnOk, map};
+ghost use Rattle.std.specs.Io.KnownBytes.{Appends};
+ghost use Rattle.edit_base.specs.Errors.{IsMemory};
+ghost use Rattle.edit_base.specs.declared.errors.Error.TheVariants.{Output};
+ghost use Rattle.edit_set_version.specs.ToldLines.{line_told};
+ghost use Rattle.edit_shown.specs.Messages.{change_message, changes};
+
+use edit_base::CargoResult;
+use edit_messages::change_message;
+use edit_report::shell_write_stdout;
+use std::alloc::Global;
+use std::io;
+
+/// Prints the message of a line.
+fn print_change<O: io::Write>(
+    alloc: Global,
+    line: &(String, String),
+    out: &mut O,
+) -> CargoResult<()>
+    ensures text { OnOk result (Appends (O.contents out.old) (O.contents out.new)
+        (change_message (line_told line.now))) }
+    ensures refused { IfErr result (λ e. IsMemory e ⊎ (e ≡ Output)) }
+{
+    let text = change_message(alloc, line.0.as_str(), line.1.as_str())?;
+    shell_write_stdout(out, text.as_str())
+}
+
+/// Prints the lines of new versions as JSON, one message a line.
+pub fn print_changes<O: io::Write>(
+    alloc: Global,
+    lines: &[(String, String)],
+    out: &mut O,
+) -> CargoResult<()>
+    ensures text { OnOk result (Appends (O.contents out.old) (O.contents out.new)
+        (changes (map line_told lines.now))) }
+    ensures refused { IfErr result (λ e. IsMemory e ⊎ (e ≡ Output)) }
+{
+    for line in lines {
+        print_change(alloc, line, out)?;
+    }
+    Ok(())
+}

@@ -1,0 +1,80 @@
+//! The changes of manifests as unified diffs.
+ghost use Rattle.std.specs.Prelude.{◌≡◌, ◌⊎◌, IfErr, IfOk, OnOk};
+ghost use Rattle.std.specs.Io.KnownBytes.{Appends};
+ghost use Rattle.edit_base.specs.Errors.{IsMemory};
+ghost use Rattle.edit_base.specs.declared.errors.Error.TheVariants as error;
+ghost use Rattle.edit_shown.specs.Diffs.{diff_of, diffs, is_of, next_diff, other_outputs};
+
+use crate::paths::shown_path;
+use edit_base::CargoResult;
+use edit_diff::write_diff;
+use edit_metadata::Input;
+use edit_report::Output;
+use std::alloc::Global;
+use std::io;
+
+/// Whether an output is this input's.
+fn is_of(input: &Input, output: &Output) -> bool
+    ensures { result ≡ is_of input.now output.now }
+{
+    input.path.as_str() == output.path.as_str()
+}
+
+/// Prints the change of a manifest.
+fn print_diff<O: io::Write>(
+    alloc: Global,
+    current: &str,
+    input: &Input,
+    output: &Output,
+    out: &mut O,
+) -> CargoResult<()>
+    ensures text { OnOk result (Appends (O.contents out.old) (O.contents out.new)
+        (diff_of current.now input.now output.now)) }
+    ensures refused { IfErr result (λ e. IsMemory e ⊎ (e ≡ error.Output)) }
+{
+    let path = shown_path(alloc, current, input.path.as_str())?;
+    write_diff(alloc, out, path, &input.bytes, &output.bytes)
+}
+
+/// Prints the change of an input where the first output is its own. Answers the outputs of the other inputs.
+fn print_next<'a, O: io::Write>(
+    alloc: Global,
+    current: &str,
+    input: &Input,
+    outputs: &'a [Output],
+    out: &mut O,
+) -> CargoResult<&'a [Output]>
+    ensures text { OnOk result (Appends (O.contents out.old) (O.contents out.new)
+        (next_diff current.now input.now outputs.now)) }
+    ensures others { IfOk result (λ others. others.now ≡ other_outputs input.now outputs.now) }
+    ensures refused { IfErr result (λ e. IsMemory e ⊎ (e ≡ error.Output)) }
+{
+    let [output, others @ ..] = outputs else {
+        return Ok(outputs);
+    };
+    if !is_of(input, output) {
+        return Ok(outputs);
+    }
+    print_diff(alloc, current, input, output, out)?;
+    Ok(others)
+}
+
+/// Prints the change of each manifest as a unified diff, by its path below the current folder (another path
+/// without its first `/`). Outputs stand in the order of their inputs.
+pub fn print_diffs<O: io::Write>(
+    alloc: Global,
+    current: &str,
+    inputs: &[Input],
+    outputs: &[Output],
+    out: &mut O,
+) -> CargoResult<()>
+    ensures text { OnOk result (Appends (O.contents out.old) (O.contents out.new)
+        (diffs current.now inputs.now outputs.now)) }
+    ensures refused { IfErr result (λ e. IsMemory e ⊎ (e ≡ error.Output)) }
+{
+    let mut rest = outputs;
+    for input in inputs {
+        rest = print_next(alloc, current, input, rest, out)?;
+    }
+    Ok(())
+}

@@ -1,0 +1,40 @@
+//! Paths of manifests as a diff has them.
+ghost use Rattle.std.specs.Prelude.{◌≡◌, IfErr, IfOk, string_bytes};
+ghost use Rattle.edit_base.specs.Errors.{IsMemory};
+ghost use Rattle.edit_shown.specs.Diffs.{below, folder_text, shown_path};
+
+use edit_base::CargoResult;
+use std::alloc::Global;
+
+/// A folder's path with the `/` that ends it.
+fn folder_text(alloc: Global, current: &str) -> CargoResult<String>
+    ensures text { IfOk result (λ s. string_bytes s ≡ folder_text current.now) }
+    ensures refused { IfErr result IsMemory }
+{
+    if current.ends_with('/') {
+        return Ok(String::from_str(alloc, current)?);
+    }
+    Ok(format!(in alloc; "{current}/")?)
+}
+
+/// A path as it is shown below a folder: what stands behind the folder, else behind the first `/`.
+fn below<'a>(folder: &str, path: &'a str) -> &'a str
+    ensures { result.now ≡ below folder.now path.now }
+{
+    if let Some(rest) = path.strip_prefix(folder) {
+        return rest;
+    }
+    match path.strip_prefix("/") {
+        Some(rest) => rest,
+        None => path,
+    }
+}
+
+/// A path as it is shown in the current folder.
+pub(crate) fn shown_path<'a>(alloc: Global, current: &str, path: &'a str) -> CargoResult<&'a str>
+    ensures text { IfOk result (λ s. s.now ≡ shown_path current.now path.now) }
+    ensures refused { IfErr result IsMemory }
+{
+    let folder = folder_text(alloc, current)?;
+    Ok(below(folder.as_str(), path))
+}

@@ -1,0 +1,14 @@
+//! How an upgrade is told.
+
+use edit_shown::Presentation;
+
+/// How an upgrade is told, and where its calls of `cargo update` go.
+#[derive(Clone, Copy, Debug)]
+pub struct Telling<'a> {
+    /// The folder that paths of diffs start from.
+    pub current: &'a str,
+    pub presentation: Presentation,
+    /// The file, by an absolute normal path, to which the calls are written: one word a line, and an empty
+    /// line behind each call.
+    pub update_calls: Option<&'a str>,
+}

@@ -1,0 +1,154 @@
+#!/usr/bin/env bash
+# cargo.sh PROGRAM [FILE]   `cargo upgrade` and `cargo set-version` by the scripts of bin/, with real cargo, over registries on the
+# loopback interface (cargo_registry.py): two sparse ones with a crate of one name, one as a folder, and a workspace of five
+# members with inherited, renamed, target, git and path entries. Left out where cargo, curl or git is not on PATH.
+set -eu -o pipefail
+here=$(cd "$(dirname "$0")/../.." && pwd)
+for tool in cargo curl git; do
+  command -v "$tool" > /dev/null || { echo "cargo.sh: left out, there is no $tool on PATH"; exit 0; }
+done
+room=$(mktemp -d)
+server=
+trap 'touch "$room/stop"; [ -z "$server" ] || wait "$server"; rm -rf "$room"' EXIT
+mkdir "$room/bin" "$room/home" "$room/ws"
+cp "$1" "$room/bin/cargo-edit"
+cp "$here/bin/cargo-upgrade" "$here/bin/cargo-set-version" "$room/bin"
+python3 "$here/tools/checks/cargo_registry.py" "$room" &
+server=$!
+for _ in $(seq 100); do [ -f "$room/port" ] || sleep 0.1; done
+base=http://127.0.0.1:$(cat "$room/port")
+export NO_PROXY=127.0.0.1 no_proxy=127.0.0.1
+curl -sf -o "$room/answer" "$base/one/config.json" || { echo "cargo.sh: left out, the loopback interface does not answer"; exit 0; }
+export CARGO_HOME="$room/home" XDG_CACHE_HOME="$room/cache" CARGO_NET_GIT_FETCH_WITH_CLI=true PATH="$room/bin:$PATH"
+cargo --version > "$room/answer" 2>&1 || { echo "cargo.sh: left out, cargo does not run"; exit 0; }
+cat > "$room/home/config.toml" << END
+[source.crates-io]
+replace-with = "one"
+
+[source.one]
+registry = "sparse+$base/one/"
+
+[registries.two]
+index = "sparse+$base/two/"
+
+[registries.files]
+index = "file://$room/files"
+END
+
+package() { # folder, name, the rest of its manifest
+  mkdir -p "$1/src"
+  touch "$1/src/lib.rs"
+  printf '[package]\nname = "%s"\nversion.workspace = true\nedition = "2021"\n\n%s\n' "$2" "$3" > "$1/Cargo.toml"
+}
+package "$room/repo" local ''
+sed -i 's/^version.workspace = true/version = "0.1.0"/' "$room/repo/Cargo.toml"
+git init -q "$room/repo"
+git -C "$room/repo" add .
+git -C "$room/repo" -c user.name=a -c user.email=a@b.invalid commit -q -m local
+cd "$room/ws"
+printf '[workspace]\nmembers = ["a", "b", "c", "d", "e"]\nresolver = "2"\n\n[workspace.package]\nversion = "0.1.0"\n\n%s\n' \
+  '[workspace.dependencies]
+dep = "1.0"' > Cargo.toml
+package a a '[dependencies]
+dep.workspace = true'
+package b b '[dependencies]
+d2 = { package = "other", version = "0.2.0" } # renamed'
+package c c "[target.'cfg(unix)'.dependencies]
+third = \"1.0\""
+package d d "[dependencies]
+a = { path = \"../a\", version = \"0.1.0\" }
+local = { git = \"file://$room/repo\" }"
+package e e '[dependencies]
+dep = { version = "2.0", registry = "two" }
+filed = { version = "1.0", registry = "files" }'
+cargo generate-lockfile 2> /dev/null
+cargo update --precise 1.0.0 dep@1.2.3 2> /dev/null
+mkdir "$room/first"
+cp -R . "$room/first"
+
+# A text with names in place of what another run has otherwise.
+named() { sed -e "s|$room/ws|/ws|g" -e "s|$base|http://registry|g" -e "s|$room|/room|g"; }
+
+step=
+fails() { echo "cargo.sh: $step: $1"; sed 's/^/  /' "$room/out" "$room/err"; exit 1; }
+runs() { # status, words of cargo
+  local wanted=$1 status=0
+  shift
+  step="cargo $*"
+  : > "$room/asked"
+  cargo "$@" > "$room/out.raw" 2> "$room/err.raw" || status=$?
+  named < "$room/out.raw" > "$room/out"
+  # (what cargo itself says of a registry or of a lock file is left out)
+  named < "$room/err.raw" | grep -v -E '^note: pass |^ +(Updating (crates|git|`|http|file)|Locking|Adding|Downgrading|Removing|Downloading|Downloaded|Updating [a-z0-9]+ v|Unchanged|Blocking)' \
+    > "$room/err" || true
+  printf '$ cargo %s\n' "$*" | cat - "$room/err" "$room/out" >> "$room/transcript"
+  [ "$status" = 0 ] || echo "(status $status)" >> "$room/transcript"
+  echo >> "$room/transcript"
+  [ "$status" = "$wanted" ] || fails "status $status in place of $wanted"
+}
+prints() { diff - "$room/out" > "$room/diff" || fails "$(cat "$room/diff")"; }
+tells() { diff - "$room/err" > "$room/diff" || fails "$(cat "$room/diff")"; }
+has() { grep -q -F -- "$2" "$1" || fails "no \`$2\` in $1"; }
+locks() { # name, version
+  grep -A 1 "^name = \"$1\"" Cargo.lock | grep -q "^version = \"$2\"" || fails "$1 $2 is not locked"
+}
+unchanged() { diff -r "$room/${1:-first}" . > "$room/out" || fails 'a file changed'; }
+again() { rm -rf ./*; cp -R "$room/first/." .; }
+requires() { # the requirements of dep, other, third, the second dep, filed
+  has Cargo.toml "dep = \"$1\""
+  has b/Cargo.toml "d2 = { package = \"other\", version = \"$2\" } # renamed"
+  has c/Cargo.toml "third = \"$3\""
+  has e/Cargo.toml "dep = { version = \"$4\", registry = \"two\" }"
+  has e/Cargo.toml "filed = { version = \"$5\", registry = \"files\" }"
+}
+
+runs 0 upgrade --dry-run
+unchanged
+runs 1 upgrade --locked
+unchanged
+runs 0 upgrade
+requires 1.2 0.2.5 1.1 2.4 1.3
+has a/Cargo.toml 'dep.workspace = true'
+has d/Cargo.toml 'a = { path = "../a", version = "0.1.0" }'
+locks dep 1.2.3
+locks dep 2.4.0
+has "$room/asked" '/two/3/d/dep kept'
+[ "$(wc -l < "$room/asked")" -eq 4 ] || fails 'each entry is asked for once'
+mkdir "$room/second"
+cp -R . "$room/second"
+cargo fetch -q
+runs 0 upgrade --offline
+unchanged second
+[ ! -s "$room/asked" ] || fails 'a request'
+for mode in down slow short; do
+  echo "$mode" > "$room/mode"
+  rm -rf ./*
+  cp -R "$room/first/." .
+  if [ "$mode" = short ]; then find "$room/cache" -name '*.etag' -delete; fi
+  CARGO_HTTP_TIMEOUT=2 runs 0 upgrade
+  has "$room/err" 'what is kept is used'
+  requires 1.2 0.2.5 1.1 2.4 1.3
+done
+rm "$room/mode"
+rm -rf "$room/cache"
+again
+runs 0 upgrade --offline
+has "$room/err" 'nothing is kept of `dep`'
+requires 1.0 0.2.0 1.0 2.0 1.3
+again
+runs 0 upgrade -i
+requires 2.0 0.2.5 1.1 3.0 1.3
+locks dep 2.0.0
+locks dep 3.0.0
+again
+runs 0 upgrade -p third@1.1.0
+requires 1.0 0.2.0 1.1.0 2.0 1.0
+again
+runs 0 upgrade --exclude dep
+requires 1.0 0.2.5 1.1 2.0 1.3
+again
+runs 0 set-version --bump minor --workspace
+has Cargo.toml 'version = "0.2.0"'
+has d/Cargo.toml 'a = { path = "../a", version = "0.2.0" }'
+locks a 0.2.0
+[ $# -lt 2 ] || cp "$room/transcript" "$2"
