@@ -2,7 +2,7 @@
 """features.py CALLS: what an update of an entry costs by its features, where their texts collide under the hash of the set
 that joins them and where they do not, by the program edit_calls (CALLS).
 
-Each run reads a manifest of one entry with N features, reads the entry's record, adds one feature, and updates the entry.
+Each run reads a manifest of one entry with N features, reads the entry's record, adds one feature and an option, and updates the entry.
 Processor seconds, least of ROUNDS interleaved rounds; beside them what reading the manifest alone costs."""
 
 import pathlib
@@ -16,7 +16,7 @@ COUNTS = (1_000, 10_000, 50_000)
 TEXTS = {"plain": "%08d_and_as_long_a_name_as_those", "collide": "VCt84XxmJ16jGQv_PwRfGXPs%08d"}
 CALLS = {
     "read alone": ["set_literal", ".none", "=", "x"],
-    "update": ["update", ".dependencies", ".x", "=", "1", "one-more"],
+    "update": ["update", ".dependencies", ".x", "=", "1.0", "1", "one-more"],
 }
 
 

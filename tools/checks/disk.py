@@ -1,8 +1,8 @@
 #!/usr/bin/env python3
 """disk.py PROGRAM: runs that may not write. On a disk without room, and under a limit of the size of files, the manifest
 stays as it was, the refusal is told and no file is left; with room again it is raised. A manifest that may not be written
-stays; in a folder where none may be made it is written in place. Of runs at once each leaves it whole, and the last that
-writes wins."""
+stays; in a folder where none may be made it is written in place. Of runs at once, over one manifest or a workspace of 20,
+each leaves manifests whole, and the last that writes wins."""
 
 import os
 import pathlib
@@ -11,6 +11,8 @@ import shutil
 import subprocess
 import sys
 import tempfile
+
+from killed import Manifests
 
 OLD = b'[dependencies]\na = "1.0"\n' + (b"# " + b"x" * 98 + b"\n") * 3000
 FIVE, SEVEN = OLD.replace(b"1.0", b"1.5"), OLD.replace(b"1.0", b"1.7")
@@ -124,6 +126,26 @@ def at_once(place):
         yield "the same run wrote last each time"
 
 
+def workspace_at_once(program, folder):
+    """Two runs at once over a workspace, with two indexes: each manifest is one of the two texts, whole."""
+    global tries
+    folder.mkdir()
+    (folder / "index7.json").write_bytes(b'{"name":"a","vers":"1.7.0"}\n')
+    manifests = Manifests(program, folder)
+    seven = manifests.old.replace(b'a = "1.0"', b'a = "1.7"')
+    words = [manifests.words, [*manifests.words[:-1], str(folder / "index7.json")]]
+    for number in range(ROUNDS):
+        manifests.reset()
+        runs = [subprocess.Popen(words[(turn + number) % 2], stdout=subprocess.DEVNULL, stderr=subprocess.PIPE) for turn in range(2)]
+        tries += 2
+        for run in runs:
+            said = run.communicate()[1]
+            if run.returncode:
+                yield f"one of two runs at once over a workspace: {said!r}"
+        if not manifests.hold(manifests.new, seven) or manifests.left():
+            yield f"two runs at once over a workspace left a manifest cut, or {manifests.left()} files"
+
+
 def main():
     os.umask(0o022)
     with tempfile.TemporaryDirectory() as name:
@@ -132,7 +154,8 @@ def main():
         program = str(room / "cargo-edit")
         shutil.copy(sys.argv[1], program)
         wrong = [*limited(Place(program, room / "limited")), *full(program, room / "full"),
-                 *forbidden(program, room / "forbidden"), *at_once(Place(program, room / "at-once"))]
+                 *forbidden(program, room / "forbidden"), *at_once(Place(program, room / "at-once")),
+                 *workspace_at_once(program, room / "workspace")]
     print("\n".join([*wrong, f"{tries} runs that may not write, or at once; {len(wrong)} faults"]))
     sys.exit(1 if wrong else 0)
 

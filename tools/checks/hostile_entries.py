@@ -72,6 +72,9 @@ def chains():
     yield manifest("a chain without an address", entry, 1, b"Error: missing `registry`", config=chain(20_000, b""))
     yield manifest("20,000 registries, of which one is named", entry,
                    config=lambda: numbered(20_000, b'[registries.s%d]\nindex = "file:///i"\n'))
+    yield manifest("1,000 registries, each named by an entry",
+                   lambda: TABLE + b"".join(b'c%d = { version = "1", registry = "s%d" }\n' % (n, n) for n in range(1000)),
+                   config=lambda: numbered(1000, b'[registries.s%d]\nindex = "file:///i"\n'))
     for what, text in (("100,000 brackets", b"a = " + b"[" * 100_000), ("100,000 braces", b"a = " + b"{a=" * 100_000),
                        ("100,000 parts in a key", b"a" + b".a" * 100_000 + b" = 1"), ("no text", b"\xff" * 1_000_000),
                        ("a table of another kind", b"[registries]\na = 1\n"), ("an index that is no text", b"registries.a.index = 1\n"),

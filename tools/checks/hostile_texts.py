@@ -1,41 +1,43 @@
-"""The texts of hostile.py, reader by reader: what a row shows, its files, the words or the call, the status, and a text
-that must be printed. What is wanted comes from the standard (TOML 1.0.0, JSON), from the limits that the README states
-and from what the original says."""
+"""The texts of hostile.py, reader by reader: what a row shows, its files, the words, the status, and a text that must be
+printed. What is wanted comes from the standard (TOML 1.0.0, JSON), from the limits that the README states and from what
+the original says."""
 
 from dataclasses import dataclass
 from typing import Callable
 
 MANY = 100_000
-PARSE, NO_LINE, NO_CONFIG = b"Error: Unable to parse Cargo.toml\n", b"refused 30 ", b"Error: invalid cargo config at "
+PARSE, NO_CONFIG = b"Error: Unable to parse Cargo.toml\n", b"Error: invalid cargo config at "
 CHECKING = b"    Checking "
+
+
+HERE = "@HERE@"
+INDEX_FILE = ("--index-file", f"{HERE}/index.json")
 
 
 @dataclass
 class Row:
+    """What a row shows, its files, the words of the program (@HERE@ is the folder of the files), the status, a text that is
+    printed, and whether each file stays; a row of `calls` is one of the program edit_plan_calls."""
     what: str
     files: Callable[[], dict]
+    words: tuple
     status: int = 0
     text: bytes = b""
-    call: tuple = ()
-    words: tuple = ()
     stays: bool = True
+    calls: bool = False
 
 
 def manifest(what, text, status=0, said=CHECKING, words=(), stays=True, **files):
     """A manifest under an upgrade; the text is made when the row is tried."""
     others = {"index": "index.json", "config": ".cargo/config.toml"}
-    return Row(what, lambda: {"Cargo.toml": text(), **{others[name]: make() for name, make in files.items()}},
-               status, said, words=words, stays=stays)
+    words = ("upgrade", "--manifest-path", f"{HERE}/Cargo.toml", *INDEX_FILE, *words)
+    return Row(what, lambda: {"Cargo.toml": text(), **{others[name]: make() for name, make in files.items()}}, words,
+               status, said, stays)
 
 
 def refused(what, text):
     """A manifest that is no document."""
     return manifest(what, text, 1, PARSE)
-
-
-def reader(what, text, said, *call):
-    """Bytes under one of the readers."""
-    return Row(what, lambda: {"file": text()}, 0, said, call=call)
 
 
 def numbered(count, line):

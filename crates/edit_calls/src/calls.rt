@@ -1,11 +1,23 @@
 //! Edits by words. Each tells whether it was made: not where its conditions do not hold.
+ghost use Rattle.edit_tree.specs.NewItems.{IsEntry};
+ghost use Rattle.edit_document.specs.NewItemViews.{item_seen};
+
 use crate::words::Words;
-use edit_document::{CargoResult, Document, NewValue, Step};
-use edit_record::Dependency;
+use edit_document::{CargoResult, Document, Error, NewItem, Step};
+use edit_manifest::Manifest;
+use edit_record::{Dependency, RegistrySource, Source};
 use std::alloc::Global;
 
 /// The folder that paths of entries are seen from.
 const ROOT: &str = "/";
+
+/// That an edit was made.
+fn made(answer: CargoResult<()>) -> CargoResult<bool> {
+    match answer {
+        Ok(()) => Ok(true),
+        Err(error) => Err(error),
+    }
+}
 
 /// Inserts a member.
 fn insert(
@@ -22,8 +34,7 @@ fn insert(
     if !item.is_table_like() || item.get(key).is_some() || place.len() > 70 {
         return Ok(false);
     }
-    document.insert(alloc, place, key, &value)?;
-    Ok(true)
+    made(document.insert(alloc, place, key, &value))
 }
 
 /// Removes an item.
@@ -31,8 +42,7 @@ fn remove(alloc: Global, document: &mut Document, place: &[Step]) -> CargoResult
     if place.is_empty() || document.item(place).is_none() {
         return Ok(false);
     }
-    document.remove(alloc, place)?;
-    Ok(true)
+    made(document.remove(alloc, place))
 }
 
 /// Sets a value.
@@ -40,13 +50,13 @@ fn set_value(
     alloc: Global,
     document: &mut Document,
     place: &[Step],
-    value: NewValue,
+    words: &mut Words<'_>,
 ) -> CargoResult<bool> {
+    let value = words.take_value(alloc)?;
     if !document.is_value(place) || place.len() > 79 {
         return Ok(false);
     }
-    document.set_value(alloc, place, &value)?;
-    Ok(true)
+    made(document.set_value(alloc, place, &value))
 }
 
 /// Sets a string.
@@ -59,11 +69,25 @@ fn set_literal(
     if !document.is_value(place) {
         return Ok(false);
     }
-    document.set_literal(alloc, place, text)?;
-    Ok(true)
+    made(document.set_literal(alloc, place, text))
 }
 
-/// Replaces an entry.
+/// Replaces an entry by a new one.
+fn replace_by(
+    alloc: Global,
+    document: &mut Document,
+    place: &[Step],
+    item: &NewItem,
+) -> CargoResult<bool>
+    requires entry { IsEntry (item_seen item.now) }
+{
+    if !document.one_statement(place) || place.len() > 70 {
+        return Ok(false);
+    }
+    made(document.replace_entry(alloc, place, item))
+}
+
+/// Replaces an entry by that of the words.
 fn replace_entry(
     alloc: Global,
     document: &mut Document,
@@ -71,51 +95,133 @@ fn replace_entry(
     words: &mut Words<'_>,
 ) -> CargoResult<bool> {
     let item = words.take_item(alloc)?;
-    if !document.one_statement(place) || place.len() > 70 {
-        return Ok(false);
-    }
-    document.replace_entry(alloc, place, &item)?;
-    Ok(true)
+    replace_by(alloc, document, place, &item)
 }
 
-/// Reads the record of an entry, gives it more features, and updates the entry with it.
+/// The record of the entry at a place.
+fn record(alloc: Global, document: &Document, place: &[Step]) -> CargoResult<Dependency> {
+    match (place.last(), document.item(place)) {
+        (Some(Step::Key(key)), Some(item)) => {
+            Dependency::from_toml(alloc, ROOT, key.as_str(), item)
+        }
+        _ => Err(Error::MissingVersion),
+    }
+}
+
+/// Replaces an entry by what a record says.
+fn rewrite_by(
+    alloc: Global,
+    document: &mut Document,
+    place: &[Step],
+    dependency: &Dependency,
+) -> CargoResult<bool> {
+    let item = dependency.to_toml(alloc, ROOT)?;
+    replace_by(alloc, document, place, &item)
+}
+
+/// Replaces an entry by what its own record says.
+fn rewrite(alloc: Global, document: &mut Document, place: &[Step]) -> CargoResult<bool> {
+    let dependency = record(alloc, document, place)?;
+    rewrite_by(alloc, document, place, &dependency)
+}
+
+/// Updates an entry with a record.
+fn update_with(
+    alloc: Global,
+    document: &mut Document,
+    place: &[Step],
+    dependency: &Dependency,
+) -> CargoResult<bool> {
+    if document.item(place).is_none() || place.len() > 70 {
+        return Ok(false);
+    }
+    made(dependency.update_toml(alloc, ROOT, document, place))
+}
+
+/// Gives a record more features, and updates an entry with it.
+fn update_with_features(
+    alloc: Global,
+    document: &mut Document,
+    place: &[Step],
+    dependency: Dependency,
+    features: Vec<String>,
+) -> CargoResult<bool> {
+    let dependency = dependency.extend_features(alloc, features)?;
+    update_with(alloc, document, place, &dependency)
+}
+
+/// Updates an entry with its record, where that has another source and more features, and is optional.
+fn update_to(
+    alloc: Global,
+    document: &mut Document,
+    place: &[Step],
+    source: RegistrySource,
+    features: Vec<String>,
+) -> CargoResult<bool> {
+    let dependency = record(alloc, document, place)?;
+    let dependency = dependency.set_source(Source::Registry(source));
+    let dependency = dependency.set_optional(true);
+    update_with_features(alloc, document, place, dependency, features)
+}
+
+/// The same by words.
 fn update(
     alloc: Global,
     document: &mut Document,
     place: &[Step],
     words: &mut Words<'_>,
 ) -> CargoResult<bool> {
+    let source = RegistrySource::new(alloc, words.take())?;
     let features = words.take_texts(alloc)?;
-    let Some(Step::Key(key)) = place.last() else {
-        return Ok(false);
-    };
-    let Some(item) = document.item(place) else {
-        return Ok(false);
-    };
-    if place.len() > 70 {
-        return Ok(false);
+    update_to(alloc, document, place, source, features)
+}
+
+/// Takes a key out of the features.
+fn gc_dep(alloc: Global, manifest: &mut Manifest, key: &str) -> CargoResult<bool> {
+    made(manifest.gc_dep(alloc, key))
+}
+
+/// Removes an entry, and its table where that has no other.
+fn remove_from_table(
+    alloc: Global,
+    manifest: &mut Manifest,
+    words: &mut Words<'_>,
+) -> CargoResult<bool> {
+    let table = words.take_texts(alloc)?;
+    made(manifest.remove_from_table(alloc, &table, words.take()))
+}
+
+/// Makes the edit of a document at a place.
+fn edit_at(
+    alloc: Global,
+    document: &mut Document,
+    place: &[Step],
+    call: &str,
+    words: &mut Words<'_>,
+) -> CargoResult<bool> {
+    match call {
+        "insert" => insert(alloc, document, place, words),
+        "remove" => remove(alloc, document, place),
+        "set_value" => set_value(alloc, document, place, words),
+        "set_literal" => set_literal(alloc, document, place, words.take()),
+        "replace_entry" => replace_entry(alloc, document, place, words),
+        "rewrite" => rewrite(alloc, document, place),
+        "update" => update(alloc, document, place, words),
+        _ => Ok(false),
     }
-    let dependency = Dependency::from_toml(alloc, ROOT, key.as_str(), item)?;
-    let dependency = dependency.extend_features(alloc, features)?;
-    dependency.update_toml(alloc, ROOT, document, place)?;
-    Ok(true)
 }
 
 /// Makes the edit that the words name.
 pub(crate) fn edit(
     alloc: Global,
-    document: &mut Document,
+    manifest: &mut Manifest,
     words: &mut Words<'_>,
 ) -> CargoResult<bool> {
     let call = words.take();
     let place = words.take_place(alloc)?;
     match call {
-        "insert" => insert(alloc, document, &place, words),
-        "remove" => remove(alloc, document, &place),
-        "set_value" => set_value(alloc, document, &place, words.take_value(alloc)?),
-        "set_literal" => set_literal(alloc, document, &place, words.take()),
-        "replace_entry" => replace_entry(alloc, document, &place, words),
-        "update" => update(alloc, document, &place, words),
-        _ => Ok(false),
+        "gc_dep" => gc_dep(alloc, manifest, words.take()),
+        "remove_from_table" => remove_from_table(alloc, manifest, words),
+        _ => edit_at(alloc, &mut manifest.document, &place, call, words),
     }
 }

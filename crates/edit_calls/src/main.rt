@@ -1,4 +1,4 @@
-//! The program `edit_calls`: makes the edit of a document that its words name, and prints what it leaves. It
+//! The program `edit_calls`: makes the edit of a manifest that its words name, and prints what it leaves. It
 //! is for the checks of the gate, and is not installed.
 //!
 //!     edit_calls FILE insert STEP.. = KEY VALUE
@@ -6,52 +6,94 @@
 //!     edit_calls FILE set_value STEP.. = VALUE
 //!     edit_calls FILE set_literal STEP.. = TEXT
 //!     edit_calls FILE replace_entry STEP.. = ENTRY
-//!     edit_calls FILE update STEP.. = N FEATURE ..
+//!     edit_calls FILE rewrite STEP.. =
+//!     edit_calls FILE update STEP.. = VERSION N FEATURE ..
+//!     edit_calls FILE gc_dep = KEY
+//!     edit_calls FILE remove_from_table = N NAME .. KEY
 //!
 //! A step is `.NAME` or `#INDEX`. VALUE is `text TEXT`, `truth true`, `truth false` or `list N TEXT ..`;
-//! ENTRY is a VALUE, `table N NAME VALUE ..` or `dotted`. It prints `done`, `no such place`, or `refused`, a
-//! number and a text, and below it the text of the document.
+//! ENTRY is a VALUE, `table N NAME VALUE ..` or `dotted`. `rewrite` reads an entry's record and replaces the
+//! entry by it; `update` gives the record another version and more features, makes it optional, and updates
+//! the entry with it. It prints `done`, `no such place`, or `refused`, a number and a text, and below it the
+//! text of the document. Where memory ran out it then prints the kinds of what the document shows, makes the
+//! edit once more, and prints the answer to that.
 #![tactic(auto)]
 
 mod calls;
+mod views;
 mod words;
 
 use calls::edit;
-use edit_document::{CargoResult, Document, Error};
+use edit_document::{CargoResult, Error};
+use edit_manifest::Manifest;
 use edit_store::{HostStore, Store};
 use std::env;
 use std::io::Write;
 use std::process::ExitCode;
+use views::show_views;
 use words::Words;
 
-/// What a call answers.
-fn answer(rt: &HostRuntime) -> CargoResult<String> {
-    let alloc = rt.alloc();
-    let words: Vec<String> = env::args(rt)?.skip(1).collect(alloc)?;
-    let mut words = Words::new(words.as_slice());
+/// Prints a refusal and the text that stands then. Tells whether memory ran out.
+fn refused(rt: &HostRuntime, manifest: &Manifest, error: &Error) -> CargoResult<bool> {
+    let number = error.number();
+    write!(
+        rt.stdout(),
+        "refused {number} {error}\n{}",
+        manifest.document
+    )?;
+    Ok(number == 46)
+}
+
+/// Makes the edit, and prints what it answers and the text that stands then. Tells whether memory ran out.
+fn edited(rt: &HostRuntime, manifest: &mut Manifest, words: &[String]) -> CargoResult<bool> {
+    let said = match edit(rt.alloc(), manifest, &mut Words::new(words)) {
+        Ok(true) => "done",
+        Ok(false) => "no such place",
+        Err(error) => return refused(rt, manifest, &error),
+    };
+    write!(rt.stdout(), "{said}\n{}", manifest.document)?;
+    Ok(false)
+}
+
+/// The manifest of a file.
+fn manifest_of(rt: &HostRuntime, path: &str) -> CargoResult<Manifest> {
     let mut files = HostStore::new(rt.clone()?);
-    let Some(bytes) = files.read(alloc, words.take())? else {
-        return Err(Error::NoManifest);
-    };
-    let Ok(text) = String::from_utf8(bytes) else {
-        return Err(Error::NotUtf8);
-    };
-    let mut document = Document::read(alloc, text.as_str())?;
-    let told = match edit(alloc, &mut document, &mut words) {
-        Ok(true) => String::from_str(alloc, "done")?,
-        Ok(false) => String::from_str(alloc, "no such place")?,
-        Err(error) => format!(in alloc; "refused {} {error}", error.number())?,
-    };
-    Ok(format!(in alloc; "{told}\n{document}")?)
+    match files.read(rt.alloc(), path)? {
+        Some(bytes) => Manifest::read_bytes(rt.alloc(), &bytes),
+        None => Err(Error::NoManifest),
+    }
+}
+
+/// Makes the edit of the words, and again where memory ran out.
+fn answer_on(rt: &HostRuntime, manifest: &mut Manifest, words: &[String]) -> CargoResult<()> {
+    if edited(rt, manifest, words)? {
+        show_views(rt, &manifest.document)?;
+        edited(rt, manifest, words)?;
+    }
+    Ok(())
+}
+
+/// The same on the manifest of a file.
+fn answer_to(rt: &HostRuntime, path: &str, words: &[String]) -> CargoResult<()> {
+    let mut manifest = manifest_of(rt, path)?;
+    answer_on(rt, &mut manifest, words)
+}
+
+/// Answers the words of the call.
+fn answer(rt: &HostRuntime) -> CargoResult<()> {
+    let words: Vec<String> = env::args(rt)?.skip(1).collect(rt.alloc())?;
+    match words.as_slice() {
+        [path, words @ ..] => answer_to(rt, path.as_str(), words),
+        [] => Ok(()),
+    }
 }
 
 fn main(rt: HostRuntime) -> ExitCode {
-    let status = match answer(&rt) {
-        Ok(text) => write!(rt.stdout(), "{text}").is_err(),
+    match answer(&rt) {
+        Ok(()) => ExitCode::from(0),
         Err(error) => {
             let _ = writeln!(rt.stderr(), "Error: {error}");
-            true
+            ExitCode::from(1)
         }
-    };
-    ExitCode::from(u8::from(status))
+    }
 }

@@ -1,0 +1,88 @@
+//! Plans of new versions.
+ghost use Rattle.std.specs.Prelude.{◌≡◌, IfOk};
+ghost use Rattle.edit_metadata.specs.Workspaces.{HasOwnFolders, workspace_said};
+ghost use Rattle.edit_report.specs.Applied.{HaveDistinctPaths};
+ghost use Rattle.edit_set_version.specs.Planned.{OutputsInOrder};
+ghost use Rattle.edit_set_version.specs.Projects.{AreInputsOf};
+ghost use Rattle.edit_steps.specs.Workspaces.{HaveOwnPaths};
+
+use edit_base::CargoResult;
+use edit_report::{Output, apply};
+use edit_set_version::{BumpLevel, Selection, SetVersionPlan, TargetVersion, plan_set_version};
+use edit_steps::{ReadWorkspace, read_workspace};
+use edit_store::HostStore;
+use std::alloc::Global;
+use std::io::Write;
+
+/// Prints a text and a line end.
+pub(crate) fn show(rt: &HostRuntime, text: &[u8]) -> CargoResult<()> {
+    rt.stdout().write_all(text)?;
+    rt.stdout().write_all(b"\n")?;
+    Ok(())
+}
+
+/// Prints the texts of outputs, each behind its path.
+pub(crate) fn show_outputs(rt: &HostRuntime, outputs: &[Output]) -> CargoResult<()> {
+    for output in outputs {
+        show(rt, output.path.as_bytes())?;
+        show(rt, &output.bytes)?;
+    }
+    Ok(())
+}
+
+/// Writes outputs.
+fn write_outputs(rt: &HostRuntime, outputs: &[Output]) -> CargoResult<()>
+    requires { HaveDistinctPaths outputs.now }
+{
+    let mut files = HostStore::new(rt.clone()?);
+    apply(rt.alloc(), outputs, &mut files)
+}
+
+/// Plans the next minor version of each member.
+fn plan_for(alloc: Global, read: &ReadWorkspace) -> CargoResult<SetVersionPlan>
+    requires inputs { AreInputsOf (workspace_said read.now.workspace) read.now.inputs.items }
+    requires folders { HasOwnFolders (workspace_said read.now.workspace) }
+    ensures { IfOk result (λ plan. OutputsInOrder read.now.inputs.items plan.outputs.items) }
+{
+    let all = Selection {
+        packages: Vec::new(alloc),
+        exclude: Vec::new(alloc),
+        workspace: true,
+        metadata: None,
+    };
+    let target = TargetVersion::Relative(BumpLevel::Minor);
+    plan_set_version(alloc, &target, &all, &read.workspace, &read.inputs)
+}
+
+/// Makes the plan for a workspace, and writes its outputs or prints them.
+fn planned(rt: &HostRuntime, read: &ReadWorkspace, writes: bool) -> CargoResult<()>
+    requires inputs { AreInputsOf (workspace_said read.now.workspace) read.now.inputs.items }
+    requires folders { HasOwnFolders (workspace_said read.now.workspace) }
+    requires paths { HaveOwnPaths read.now.inputs.items }
+{
+    let plan = plan_for(rt.alloc(), read)?;
+    if writes {
+        write_outputs(rt, &plan.outputs)
+    } else {
+        show_outputs(rt, &plan.outputs)
+    }
+}
+
+/// Reads the workspace of a folder.
+fn workspace_of(rt: &HostRuntime, folder: &str) -> CargoResult<ReadWorkspace>
+    ensures inputs { IfOk result (λ r. AreInputsOf (workspace_said r.workspace) r.inputs.items) }
+    ensures folders { IfOk result (λ r. HasOwnFolders (workspace_said r.workspace)) }
+    ensures paths { IfOk result (λ r. HaveOwnPaths r.inputs.items) }
+{
+    let mut files = HostStore::new(rt.clone()?);
+    match read_workspace(rt.alloc(), "metadata.json", folder, None, true, &mut files) {
+        Ok(read) => Ok(read),
+        Err(refusal) => Err(refusal.error),
+    }
+}
+
+/// Plans for the workspace of a folder.
+pub(crate) fn set_versions(rt: &HostRuntime, folder: &str, writes: bool) -> CargoResult<()> {
+    let read = workspace_of(rt, folder)?;
+    planned(rt, &read, writes)
+}

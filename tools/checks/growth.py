@@ -1,0 +1,173 @@
+#!/usr/bin/env python3
+"""growth.py LIBRARY CALLS PLANS: each request for memory of a call is refused in turn. LIBRARY refuses the one whose number
+REFUSE_AT is; CALLS is the program edit_calls, PLANS the program edit_plan_calls.
+
+Request 1 is refused, then 2, until a run ends without a refusal. Each run must answer 46, or what is wanted where nothing
+is refused; the last must give what is wanted. After 46 the manifest that an edit was lent has its old text and shows what
+it showed, and the same edit of it then gives what is wanted; a cache still has the answer that it held, and the same call
+then gives what is wanted; of three outputs those before the refusal are whole and those behind it untouched; no output is
+written by a plan, and no further file is left. What is wanted is written here by hand."""
+
+import itertools
+import json
+import os
+import pathlib
+import subprocess
+import sys
+import tempfile
+from concurrent.futures import ThreadPoolExecutor
+from dataclasses import dataclass
+
+LACK = b"out of memory"
+AT_ONCE = 4
+FIRST = b"[dependencies]\nserde = { version = '1.0', optional = true } # keep\n"
+RAISED = FIRST.replace(b"'1.0'", b'"1.2"')
+TABLES = b"dependencies: table\nserde: inline table\n"
+RECORD = b'[dependencies]\nserde = { features = ["a"], version = "1" }\n'
+FEATURES = b'[features]\nx = ["dep", "dep/std", "other"]\n'
+ONE = b"[dependencies]\ncargo-edit = '0.1.0'\n"
+ENTRIES = b'{"name":"serde","vers":"1.2.3"}\n{"name":"held","vers":"1.0.0"}\n'
+VERSIONS = b"".join(b'{"name":"a","vers":"%s"%s}\n' % (version, rest) for version, rest in (
+    (b"1.0.0+a", b""), (b"1.2.0", b""), (b"1.0.0+b", b""), (b"bad", b""), (b"1.3.0", b',"yanked":true'))) \
+    + b'{"name":"held","vers":"1.0.0"}\n'
+HELD = b"behind a refusal 46, 1 held, then "
+MEMBER = b'[package]\nname = "%s"\nversion = "0.1.0"\n\n[dependencies]\n'
+OLD = {"a": MEMBER % b"a", "b": MEMBER % b"b" + b'a = { path = "../a", version = "0.1" }\n',
+       "c": MEMBER % b"c" + b"b = { path = '../b', version = '^0.1.0' } # keep\n"}
+NEW = {"a": OLD["a"].replace(b"0.1.0", b"0.2.0"), "b": OLD["b"].replace(b"0.1.0", b"0.2.0").replace(b"0.1", b"0.2"),
+       "c": MEMBER.replace(b"0.1.0", b"0.2.0") % b"c" + b"b = { path = '../b', version = \"^0.2.0\" } # keep\n"}
+
+
+@dataclass
+class Call:
+    """A call: its name, its program and words, the files where it runs (with the folder's path for @HERE@), what it prints
+    where nothing is refused, what it may print where it met a refusal, the files that it leaves, and those that it may leave
+    behind a refusal."""
+    what: str
+    words: list
+    files: dict
+    answer: bytes
+    lacks: list
+    left: dict
+    left_by_refusal: list
+
+
+def edit(what, before, views, after, *words):
+    """An edit of a manifest, which shows these views."""
+    files = {"Cargo.toml": before}
+    again = b"refused 46 " + LACK + b"\n" + before + views + b"done\n" + after
+    return Call(what, ["calls", "Cargo.toml", *words], files, b"done\n" + after, [again], files, [files])
+
+
+def plan(what, answer, files, *words, held=False, **others):
+    """A call of a plan or a reader, with a cache that holds an answer or without one."""
+    lacks = [b"refused 46 " + LACK + b"\n"] + [HELD + answer + b"done\n"] * held
+    left = {"left": files, "left_by_refusal": [files], **others}
+    return Call(what, ["plans", *words], files, answer + b"done\n", lacks, **left)
+
+
+def edits():
+    place = (".dependencies", ".serde")
+    files = {"Cargo.toml": FIRST}
+    yield Call("read", ["calls", "Cargo.toml", "none", "="], files, b"no such place\n" + FIRST, [], files, [files])
+    yield edit("set_value", FIRST, TABLES, FIRST.replace(b"true", b"false"),
+               "set_value", *place, ".optional", "=", "truth", "false")
+    yield edit("set_literal", FIRST, TABLES, RAISED, "set_literal", *place, ".version", "=", "1.2")
+    yield edit("insert", FIRST, TABLES, FIRST + b'log = "0.4"\n', "insert", place[0], "=", "log", "text", "0.4")
+    yield edit("remove", FIRST, TABLES, FIRST.replace(b", optional = true", b""), "remove", *place, ".optional", "=")
+    yield edit("replace_entry", FIRST, TABLES, b'[dependencies]\nserde = { version = "2" } # keep\n',
+               "replace_entry", *place, "=", "table", "1", "version", "text", "2")
+    yield edit("from_toml, to_toml", RECORD, TABLES, b'[dependencies]\nserde = { version = "1", features = ["a"] }\n',
+               "rewrite", *place, "=")
+    yield edit("update_toml", b'[dependencies]\nserde = { version = "1", features = ["a"] }\n', TABLES, b'[dependencies]\n'
+               b'serde = { version = "2", features = ["a", "b"], optional = true }\n', "update", *place, "=", "2", "2", "b", "a")
+    yield edit("gc_dep", FEATURES, b"features: table\nx: array\n", b'[features]\nx = ["other"]\n', "gc_dep", "=", "dep")
+    yield edit("remove_from_table", ONE, b"dependencies: table\ncargo-edit: string\n", b"",
+               "remove_from_table", "=", "1", "dependencies", "cargo-edit")
+
+
+def workspace(members):
+    """The files of a workspace of these members."""
+    packages = [{"name": name, "id": name, "version": "0.1.0", "manifest_path": f"@HERE@/{name}/Cargo.toml"} for name in OLD]
+    told = {"workspace_root": "@HERE@", "workspace_members": list(OLD), "packages": packages}
+    return {"metadata.json": json.dumps(told).encode(), "Cargo.toml": b'[workspace]\nmembers = ["a", "b", "c"]\n',
+            **{f"{name}/Cargo.toml": text for name, text in members.items()}}
+
+
+def plans():
+    raised = {"Cargo.toml": FIRST, "index.json": ENTRIES}
+    yield plan("plan_upgrade", b"@HERE@/Cargo.toml\n" + RAISED + b"\n", raised, "upgrade", "@HERE@", held=True)
+    ranked = {"Cargo.toml": b"", "index.json": VERSIONS}
+    yield plan("ranked", b"1.2.0 1.0.0+b 1.0.0+a ", ranked, "ranked", "@HERE@", "a", held=True)
+    yield plan("plan_set_version", b"".join(b"@HERE@/%s/Cargo.toml\n%s\n" % (name.encode(), text) for name, text in NEW.items()),
+               workspace(OLD), "set_version", "@HERE@")
+    # behind a refusal so many of the three outputs are written
+    written = [{name: (NEW if number < count else OLD)[name] for number, name in enumerate(OLD)} for count in range(4)]
+    yield plan("apply", b"", workspace(OLD), "apply", "@HERE@", left=workspace(NEW),
+               left_by_refusal=[workspace(members) for members in written])
+    yield plan("a word", b"serde\n", {"word": b"serde@1.0, <2"}, "word", "word")
+
+
+def lay_out(room, files):
+    """Writes the files of a call into a folder."""
+    for name, text in files.items():
+        (room / name).parent.mkdir(parents=True, exist_ok=True)
+        (room / name).write_bytes(text.replace(b"@HERE@", os.fsencode(room)))
+
+
+def run(programs, call, library, number):
+    """A run with a refused request: what it answered, whether a request was refused, and the files left."""
+    with tempfile.TemporaryDirectory() as folder:
+        room, seen = pathlib.Path(folder) / "in", pathlib.Path(folder) / "seen"
+        room.mkdir()
+        lay_out(room, call.files)
+        words = [word.replace("@HERE@", str(room)) for word in call.words[1:]]
+        environment = {"LD_PRELOAD": library, "REFUSE_AT": str(number), "REFUSE_SEEN": str(seen)}
+        done = subprocess.run([programs[call.words[0]], *words], cwd=room, env=environment, capture_output=True,
+                              check=False, timeout=60)
+        here = os.fsencode(room)
+        left = {str(path.relative_to(room)): path.read_bytes().replace(here, b"@HERE@")
+                for path in room.rglob("*") if path.is_file()}
+        return (done.returncode, done.stdout.replace(here, b"@HERE@"), done.stderr), seen.exists(), left
+
+
+def judged(call, answer, left):
+    """What is wrong with a run, and whether it met a refusal that it told."""
+    if answer == (0, call.answer, b""):
+        return "" if left == call.left else "the files", False
+    # (what is refused before an edit, as the words or the manifest, is told on standard error)
+    told = answer in [(0, lack, b"") for lack in call.lacks] or answer == (1, b"", b"Error: " + LACK + b"\n")
+    if not told:
+        return "neither 46 nor the usual answer", False
+    return "" if left in call.left_by_refusal else "the files", True
+
+
+def refused(pool, programs, call, library):
+    """How many requests were refused in turn, and how many runs answered 46."""
+    told = 0
+    for first in itertools.count(1, 4 * AT_ONCE):
+        runs = pool.map(lambda number: run(programs, call, library, number), range(first, first + 4 * AT_ONCE))
+        for number, (answer, seen, left) in enumerate(runs, first):
+            fault, lacks = judged(call, answer, left)
+            if fault:
+                sys.exit(f"{call.what}, request {number}: {fault}: {answer} {left}")
+            told += lacks
+            if not seen:
+                if lacks or not told:
+                    sys.exit(f"{call.what}: " + ("a run without a refusal answered 46" if lacks else "no refusal was told"))
+                return number - 1, told
+
+
+def main():
+    library, calls, plans_at = (str(pathlib.Path(word).resolve()) for word in sys.argv[1:4])
+    counts = []
+    with ThreadPoolExecutor(AT_ONCE) as pool:
+        for call in [*edits(), *plans()]:
+            counts.append(refused(pool, {"calls": calls, "plans": plans_at}, call, library))
+            print(f"{call.what}: {counts[-1][0]} requests refused in turn, {counts[-1][1]} answers 46")
+    print(f"{sum(count for count, _ in counts)} requests for memory refused in turn, over {len(counts)} calls, "
+          f"{sum(told for _, told in counts)} answers 46")
+
+
+if __name__ == "__main__":
+    main()
