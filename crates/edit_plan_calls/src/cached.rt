@@ -11,7 +11,7 @@ use edit_sources::registry::resolve;
 use edit_sources::{Config, FileIndex};
 use edit_store::HostStore;
 use edit_upgrade::{Options, plan_upgrade};
-use edit_upgrade_read::{Asked, RustChoice, Sources, read_sources};
+use edit_upgrade_read::{Asked, IndexSource, RustChoice, Sources, read_sources};
 use std::alloc::Global;
 use std::io::Write;
 use url::Url;
@@ -128,6 +128,7 @@ fn sources_of(rt: &HostRuntime, folder: &str) -> CargoResult<Sources>
         manifest_path: None,
         metadata_json: None,
         index_file: Some("index.json"),
+        index_dir: None,
         rust: RustChoice::Ignored,
     };
     match read_sources(rt.alloc(), &asked, folder, None, &mut files) {
@@ -144,7 +145,7 @@ fn over_files(rt: &HostRuntime, folder: &str, registry: &Url, name: &str) -> Car
         configs,
         index,
     } = sources;
-    let Some(index) = index else {
+    let IndexSource::Lines(index) = index else {
         return Ok(());
     };
     let mut cache = IndexCache::new(rt.alloc(), index);
