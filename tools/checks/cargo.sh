@@ -1,8 +1,10 @@
 #!/usr/bin/env bash
 # cargo.sh PROGRAM [FILE]   `cargo upgrade` and `cargo set-version` by the scripts of bin/, with real cargo, over registries on the
 # loopback interface (cargo_registry.py): two sparse ones with a crate of one name, one as a folder, and a workspace of five
-# members with inherited, renamed, target, git and path entries. Left out where cargo, curl or git is not on PATH.
+# members with inherited, renamed, target, git and path entries. The commands are installed from the tarball of
+# tools/dist.sh, which is all that the folder they run from has. Left out where cargo, curl or git is not on PATH.
 set -eu -o pipefail
+export LC_ALL=C
 here=$(cd "$(dirname "$0")/../.." && pwd)
 for tool in cargo curl git; do
   command -v "$tool" > /dev/null || { echo "cargo.sh: left out, there is no $tool on PATH"; exit 0; }
@@ -10,9 +12,10 @@ done
 room=$(mktemp -d)
 server=
 trap 'touch "$room/stop"; [ -z "$server" ] || wait "$server"; rm -rf "$room"' EXIT
-mkdir "$room/bin" "$room/home" "$room/ws"
-cp "$1" "$room/bin/cargo-edit"
-cp "$here/bin/cargo-upgrade" "$here/bin/cargo-set-version" "$room/bin"
+mkdir "$room/home" "$room/ws" "$room/alone"
+"$here/tools/dist.sh" "$room" "$1" > "$room/answer"
+tar -xzf "$room"/cargo-edit-*.tar.gz -C "$room/alone"
+(cd "$room"/alone/* && ./install.sh "$room") > "$room/answer"
 python3 "$here/tools/checks/cargo_registry.py" "$room" &
 server=$!
 for _ in $(seq 100); do [ -f "$room/port" ] || sleep 0.1; done
@@ -87,7 +90,37 @@ runs() { # status, words of cargo
   [ "$status" = "$wanted" ] || fails "status $status in place of $wanted"
 }
 prints() { diff - "$room/out" > "$room/diff" || fails "$(cat "$room/diff")"; }
-tells() { diff - "$room/err" > "$room/diff" || fails "$(cat "$room/diff")"; }
+tells() { # (answers come in any order, and so do the warnings of what was not fetched)
+  { grep '^warning: .*`' "$room/err" | sort; grep -v '^warning: .*`' "$room/err"; } > "$room/told"
+  diff - "$room/told" > "$room/diff" || fails "$(cat "$room/diff")"
+}
+looks() { # whose dependencies are looked at
+  for it in 'virtual workspace' a b c d e; do printf '    Checking %s'"'"'s dependencies\n' "$it"; done
+}
+calls() { printf "         Run cargo update --manifest-path /ws/Cargo.toml %s --offline\n" "$@"; }
+others() { printf 'note: Re-run with `--%s\n' "$@"; }
+pinned='pinned` to upgrade pinned version requirements'
+incompatible='incompatible` to upgrade incompatible version requirements'
+verbose='verbose` to show more dependencies'
+git='--package local@0.1.0'
+raised='--aggressive --package dep@1.0.0 --package dep@2.4.0 --package filed@1.3.0 --package other@0.2.5 --package third@1.1.0'
+raises() { # the tables of a whole upgrade
+  prints << END
+name old req compatible latest new req note        
+==== ======= ========== ====== ======= ====        
+dep  1.0     1.2.3      2.0.0  1.2     incompatible
+name       old req compatible latest new req note  
+====       ======= ========== ====== ======= ====  
+other (d2) 0.2.0   0.2.5      0.3.0  0.2.5   pinned
+name  old req compatible latest new req
+====  ======= ========== ====== =======
+third 1.0     1.1.0      1.1.0  1.1    
+name  old req compatible latest new req note        
+====  ======= ========== ====== ======= ====        
+dep   2.0     2.4.0      3.0.0  2.4     incompatible
+filed 1.0     1.3.0      1.3.0  1.3                 
+END
+}
 has() { grep -q -F -- "$2" "$1" || fails "no \`$2\` in $1"; }
 locks() { # name, version
   grep -A 1 "^name = \"$1\"" Cargo.lock | grep -q "^version = \"$2\"" || fails "$1 $2 is not locked"
@@ -102,11 +135,28 @@ requires() { # the requirements of dep, other, third, the second dep, filed
   has e/Cargo.toml "filed = { version = \"$5\", registry = \"files\" }"
 }
 
+held() { printf '  git: local\n  latest: %s\n' "${1:-a}"; }
+whole() { looks; calls "$git" "$raised"; others "$pinned" "$incompatible" "$verbose"; held; }
+unfetched() { # what the registry and curl answered
+  printf 'warning: `%s` could not be fetched from sparse+http://registry/%s/ (%s): what is kept is used\n' \
+    dep one "$1" dep two "$1" other one "$1" third one "$1"
+}
+unkept() {
+  printf 'warning: nothing is kept of `%s` at sparse+http://registry/%s/, and --offline fetches nothing\n' \
+    dep one dep two other one third one
+}
+
 runs 0 upgrade --dry-run
+raises
+{ looks; others "$pinned" "$incompatible" "$verbose"; held; echo 'warning: aborting upgrade due to dry run'; } | tells
 unchanged
 runs 1 upgrade --locked
+raises
+{ looks; echo 'Error: cannot upgrade due to `--locked`'; } | tells
 unchanged
 runs 0 upgrade
+raises
+whole | tells
 requires 1.2 0.2.5 1.1 2.4 1.3
 has a/Cargo.toml 'dep.workspace = true'
 has d/Cargo.toml 'a = { path = "../a", version = "0.1.0" }'
@@ -118,36 +168,101 @@ mkdir "$room/second"
 cp -R . "$room/second"
 cargo fetch -q
 runs 0 upgrade --offline
+prints < /dev/null
+{
+  looks
+  others "$pinned" "$incompatible" "$verbose"
+  printf '  git: local\n  incompatible: dep\n  latest: a, filed, third\n  pinned: other (d2)\n'
+} | tells
 unchanged second
 [ ! -s "$room/asked" ] || fails 'a request'
-for mode in down slow short; do
+while read -r mode answer; do
   echo "$mode" > "$room/mode"
-  rm -rf ./*
-  cp -R "$room/first/." .
+  again
   if [ "$mode" = short ]; then find "$room/cache" -name '*.etag' -delete; fi
-  CARGO_HTTP_TIMEOUT=2 runs 0 upgrade
-  has "$room/err" 'what is kept is used'
+  CARGO_HTTP_TIMEOUT=2 runs 0 upgrade < /dev/null
+  raises
+  { unfetched "$answer"; whole; } | tells
   requires 1.2 0.2.5 1.1 2.4 1.3
-done
+done << END
+down status 503, curl 0
+slow status 000, curl 28
+short status 200, curl 18
+END
 rm "$room/mode"
 rm -rf "$room/cache"
 again
 runs 0 upgrade --offline
-has "$room/err" 'nothing is kept of `dep`'
+prints << END
+name  old req compatible latest new req
+====  ======= ========== ====== =======
+filed 1.0     1.3.0      1.3.0  1.3    
+END
+{ unkept; looks; calls "$git" '--aggressive --package filed@1.3.0'; others "$verbose"; held '4 packages'; } | tells
 requires 1.0 0.2.0 1.0 2.0 1.3
 again
 runs 0 upgrade -i
+prints << END
+name old req compatible latest new req
+==== ======= ========== ====== =======
+dep  1.0     1.2.3      2.0.0  2.0    
+name       old req compatible latest new req note  
+====       ======= ========== ====== ======= ====  
+other (d2) 0.2.0   0.2.5      0.3.0  0.2.5   pinned
+name  old req compatible latest new req
+====  ======= ========== ====== =======
+third 1.0     1.1.0      1.1.0  1.1    
+name  old req compatible latest new req
+====  ======= ========== ====== =======
+dep   2.0     2.4.0      3.0.0  3.0    
+filed 1.0     1.3.0      1.3.0  1.3    
+END
+{ looks; calls "$git" "$raised"; others "$pinned" "$verbose"; held; } | tells
 requires 2.0 0.2.5 1.1 3.0 1.3
 locks dep 2.0.0
 locks dep 3.0.0
 again
 runs 0 upgrade -p third@1.1.0
+prints << END
+name  old req compatible latest new req
+====  ======= ========== ====== =======
+third 1.0     1.1.0      1.1.0  1.1.0  
+END
+{ looks; calls '--precise 1.1.0 --package third@1.1.0'; others "$verbose"; echo '  excluded: 5 packages'; } | tells
 requires 1.0 0.2.0 1.1.0 2.0 1.0
 again
 runs 0 upgrade --exclude dep
+prints << END
+name       old req compatible latest new req note  
+====       ======= ========== ====== ======= ====  
+other (d2) 0.2.0   0.2.5      0.3.0  0.2.5   pinned
+name  old req compatible latest new req
+====  ======= ========== ====== =======
+third 1.0     1.1.0      1.1.0  1.1    
+name  old req compatible latest new req
+====  ======= ========== ====== =======
+filed 1.0     1.3.0      1.3.0  1.3    
+END
+{
+  looks
+  calls "$git" '--aggressive --package filed@1.3.0 --package other@0.2.5 --package third@1.1.0'
+  others "$pinned" "$verbose"
+  echo '  excluded: dep'
+  held
+} | tells
 requires 1.0 0.2.5 1.1 2.0 1.3
 again
 runs 0 set-version --bump minor --workspace
+prints < /dev/null
+tells << END
+   Upgrading workspace version from 0.1.0 to 0.2.0
+   Upgrading a from 0.1.0 to 0.2.0 (inherited from workspace)
+    Updating d's dependency from 0.1.0 to 0.2.0
+   Upgrading b from 0.1.0 to 0.2.0 (inherited from workspace)
+   Upgrading c from 0.1.0 to 0.2.0 (inherited from workspace)
+   Upgrading d from 0.1.0 to 0.2.0 (inherited from workspace)
+   Upgrading e from 0.1.0 to 0.2.0 (inherited from workspace)
+END
 has Cargo.toml 'version = "0.2.0"'
 has d/Cargo.toml 'a = { path = "../a", version = "0.2.0" }'
 locks a 0.2.0
