@@ -15,7 +15,7 @@ trap 'touch "$room/stop"; [ -z "$server" ] || wait "$server"; rm -rf "$room"' EX
 mkdir "$room/home" "$room/ws" "$room/alone"
 "$here/tools/dist.sh" "$room" "$1" > "$room/answer"
 tar -xzf "$room"/cargo-edit-*.tar.gz -C "$room/alone"
-(cd "$room"/alone/* && ./install.sh "$room") > "$room/answer"
+(cd "$room"/alone/* && ./install.sh "$room") 2> "$room/answer"
 python3 "$here/tools/checks/cargo_registry.py" "$room" &
 server=$!
 for _ in $(seq 100); do [ -f "$room/port" ] || sleep 0.1; done
@@ -91,7 +91,7 @@ runs() { # status, words of cargo
 }
 prints() { diff - "$room/out" > "$room/diff" || fails "$(cat "$room/diff")"; }
 tells() { # (answers come in any order, and so do the warnings of what was not fetched)
-  { grep '^warning: .*`' "$room/err" | sort; grep -v '^warning: .*`' "$room/err"; } > "$room/told"
+  { sed -n '/^warning: .*`/p' "$room/err" | sort; sed '/^warning: .*`/d' "$room/err"; } > "$room/told"
   diff - "$room/told" > "$room/diff" || fails "$(cat "$room/diff")"
 }
 looks() { # whose dependencies are looked at

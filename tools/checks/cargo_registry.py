@@ -105,8 +105,16 @@ class Answers(http.server.BaseHTTPRequestHandler):
         pass
 
 
+class Server(http.server.ThreadingHTTPServer):
+    """A server for clients that give up before they have an answer."""
+
+    def handle_error(self, request, client_address):
+        if not isinstance(sys.exc_info()[1], ConnectionError):
+            super().handle_error(request, client_address)
+
+
 room = os.path.abspath(sys.argv[1])
-server = http.server.ThreadingHTTPServer(("127.0.0.1", 0), Answers)
+server = Server(("127.0.0.1", 0), Answers)
 port = server.server_address[1]
 for registry, name, versions in CRATES:
     lines = ""
