@@ -69,12 +69,15 @@ def chains():
         yield manifest(f"a circle of {length} sources", entry, 1, b"Error: The source 's0' could not be found",
                        config=chain(length, b'replace-with = "s0"\n'))
     yield manifest("a chain of 20,000 sources", entry, config=chain(20_000, b'registry = "file:///idx"\n'))
+    yield manifest("4,000 entries, each with another start of one chain",
+                   lambda: TABLE + b"".join(b'c%d = { version = "1", registry = "s%d" }\n' % (n, n) for n in range(4000)),
+                   config=chain(4000, b'registry = "file:///idx"\n'))
     yield manifest("a chain without an address", entry, 1, b"Error: missing `registry`", config=chain(20_000, b""))
     yield manifest("20,000 registries, of which one is named", entry,
                    config=lambda: numbered(20_000, b'[registries.s%d]\nindex = "file:///i"\n'))
-    yield manifest("1,000 registries, each named by an entry",
-                   lambda: TABLE + b"".join(b'c%d = { version = "1", registry = "s%d" }\n' % (n, n) for n in range(1000)),
-                   config=lambda: numbered(1000, b'[registries.s%d]\nindex = "file:///i"\n'))
+    yield manifest("8,000 registries, each named by an entry",
+                   lambda: TABLE + b"".join(b'c%d = { version = "1", registry = "s%d" }\n' % (n, n) for n in range(8000)),
+                   config=lambda: numbered(8000, b'[registries.s%d]\nindex = "file:///i"\n'))
     for what, text in (("100,000 brackets", b"a = " + b"[" * 100_000), ("100,000 braces", b"a = " + b"{a=" * 100_000),
                        ("100,000 parts in a key", b"a" + b".a" * 100_000 + b" = 1"), ("no text", b"\xff" * 1_000_000),
                        ("a table of another kind", b"[registries]\na = 1\n"), ("an index that is no text", b"registries.a.index = 1\n"),
