@@ -122,8 +122,11 @@ filed 1.0     1.3.0      1.3.0  1.3
 END
 }
 has() { grep -q -F -- "$2" "$1" || fails "no \`$2\` in $1"; }
-locks() { # name, version
-  grep -A 1 "^name = \"$1\"" Cargo.lock | grep -q "^version = \"$2\"" || fails "$1 $2 is not locked"
+locks() { # the versions of dep, parted by blanks; third 1.1.0, which needs dep 1, is locked all along, and so is the rest
+  printf 'dep %s\n' $1 > "$room/wanted"
+  printf '%s\n' 'filed 1.3.0' 'other 0.2.5' 'third 1.1.0' >> "$room/wanted"
+  awk '{ gsub(/"/, "") } $1 == "name" { name = $3 } $1 == "version" && name ~ /^(dep|filed|other|third)$/ { print name, $3 }' \
+    Cargo.lock | sort | diff "$room/wanted" - > "$room/diff" || fails "$(cat "$room/diff")"
 }
 unchanged() { diff -r "$room/${1:-first}" . > "$room/out" || fails 'a file changed'; }
 again() { rm -rf ./*; cp -R "$room/first/." .; }
@@ -160,8 +163,7 @@ whole | tells
 requires 1.2 0.2.5 1.1 2.4 1.3
 has a/Cargo.toml 'dep.workspace = true'
 has d/Cargo.toml 'a = { path = "../a", version = "0.1.0" }'
-locks dep 1.2.3
-locks dep 2.4.0
+locks '1.2.3 2.4.0'
 has "$room/asked" '/two/3/d/dep kept'
 [ "$(wc -l < "$room/asked")" -eq 4 ] || fails 'each entry is asked for once'
 mkdir "$room/second"
@@ -184,6 +186,7 @@ while read -r mode answer; do
   raises
   { unfetched "$answer"; whole; } | tells
   requires 1.2 0.2.5 1.1 2.4 1.3
+  locks '1.2.3 2.4.0'
 done << END
 down status 503, curl 0
 slow status 000, curl 28
@@ -200,6 +203,7 @@ filed 1.0     1.3.0      1.3.0  1.3
 END
 { unkept; looks; calls "$git" '--aggressive --package filed@1.3.0'; others "$verbose"; held '4 packages'; } | tells
 requires 1.0 0.2.0 1.0 2.0 1.3
+locks '1.0.0 2.4.0'
 again
 runs 0 upgrade -i
 prints << END
@@ -219,8 +223,7 @@ filed 1.0     1.3.0      1.3.0  1.3
 END
 { looks; calls "$git" "$raised"; others "$pinned" "$verbose"; held; } | tells
 requires 2.0 0.2.5 1.1 3.0 1.3
-locks dep 2.0.0
-locks dep 3.0.0
+locks '1.2.3 2.0.0 3.0.0'
 again
 runs 0 upgrade -p third@1.1.0
 prints << END
@@ -230,6 +233,7 @@ third 1.0     1.1.0      1.1.0  1.1.0
 END
 { looks; calls '--precise 1.1.0 --package third@1.1.0'; others "$verbose"; echo '  excluded: 5 packages'; } | tells
 requires 1.0 0.2.0 1.1.0 2.0 1.0
+locks '1.0.0 2.4.0'
 again
 runs 0 upgrade --exclude dep
 prints << END
@@ -251,6 +255,7 @@ END
   held
 } | tells
 requires 1.0 0.2.5 1.1 2.0 1.3
+locks '1.2.3 2.4.0' # the dependency of third, which is brought along
 again
 runs 0 set-version --bump minor --workspace
 prints < /dev/null
@@ -265,5 +270,5 @@ tells << END
 END
 has Cargo.toml 'version = "0.2.0"'
 has d/Cargo.toml 'a = { path = "../a", version = "0.2.0" }'
-locks a 0.2.0
+grep -A 1 '^name = "a"' Cargo.lock | grep -q '^version = "0.2.0"' || fails 'a is not locked'
 [ $# -lt 2 ] || cp "$room/transcript" "$2"
