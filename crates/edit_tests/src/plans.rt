@@ -1,5 +1,0 @@
-//! Tests of plans.
-mod forms;
-mod inputs;
-mod rows;
-mod upgrade;
