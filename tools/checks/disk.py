@@ -1,8 +1,8 @@
 #!/usr/bin/env python3
 """disk.py PROGRAM: runs that may not write. On a disk without room, and under a limit of the size of files, the manifest
 stays as it was, the refusal is told and no file is left; with room again it is raised. A manifest that may not be written
-stays; in a folder where none may be made it is written in place. Of runs at once, over one manifest or a workspace of 20,
-each leaves manifests whole, and the last that writes wins."""
+stays; in a folder where none may be made it is overwritten, and where it would grow on a disk without room it stays. Of runs
+at once, over one manifest or a workspace of 20, each leaves manifests whole, and the last that writes wins."""
 
 import os
 import pathlib
@@ -16,6 +16,9 @@ from killed import Manifests
 
 OLD = b'[dependencies]\na = "1.0"\n' + (b"# " + b"x" * 98 + b"\n") * 3000
 FIVE, SEVEN = OLD.replace(b"1.0", b"1.5"), OLD.replace(b"1.0", b"1.7")
+# (of whole pages, so that what is longer by a byte takes one more)
+PAGES = b'[dependencies]\na = "1.0"\n'.ljust(10 * 4096 - 1, b"#") + b"\n"
+LONGER = PAGES.replace(b"1.0", b"1.10")
 REFUSED = b"Error: Failed to write updated Cargo.toml\n"
 LIMIT, ROUNDS, AT_ONCE = 100_000, 25, 4
 NOBODY = ["setpriv", "--reuid=65534", "--regid=65534", "--clear-groups"]
@@ -29,7 +32,7 @@ class Place:
         self.program, self.folder = program, pathlib.Path(folder)
         self.manifest = self.folder / "in" / "Cargo.toml"
         self.manifest.parent.mkdir(parents=True)
-        for minor in (5, 7):
+        for minor in (5, 7, 10):
             (self.folder / f"index{minor}.json").write_bytes(b'{"name":"a","vers":"1.%d.0"}\n' % minor)
         self.manifest.write_bytes(OLD)
 
@@ -37,11 +40,11 @@ class Place:
         return [self.program, "upgrade", "--manifest-path", str(self.manifest), "--index-file",
                 str(self.folder / f"index{minor}.json")]
 
-    def run(self, by=(), **options):
+    def run(self, by=(), minor=5, **options):
         global tries
         tries += 1
         environment = {"HOME": str(self.folder), "PATH": os.environ["PATH"]}
-        return subprocess.run([*by, *self.words()], capture_output=True, check=False, env=environment, **options)
+        return subprocess.run([*by, *self.words(minor)], capture_output=True, check=False, env=environment, **options)
 
     def faults(self, what, run, status, text):
         """What is wrong with a run that was to end so and to leave this text, and no other file."""
@@ -81,7 +84,29 @@ def full(program, folder):
         yield from place.faults(f"a disk with {room} bytes left", place.run(), 1, OLD)
         filler.unlink()
     yield from place.faults("a disk with room again", place.run(), 0, FIVE)
+    yield from full_and_forbidden(place)
     subprocess.run(["umount", str(folder)], check=True)
+
+
+def full_and_forbidden(place):
+    """On the same disk without room, in a folder where no file may be made: a manifest is overwritten, and stays whole where
+    it would grow."""
+    by = NOBODY if os.getuid() == 0 else []
+    if by and subprocess.run([*by, "true"], capture_output=True, check=False).returncode:
+        print("no other user: a disk without room was not tried with a folder that may not be written")
+        return
+    place.manifest.write_bytes(PAGES)
+    if by:
+        shutil.chown(place.manifest, 65534)
+    place.manifest.parent.chmod(0o555)
+    filler = place.folder / "filler"
+    filler.write_bytes(b"\0" * (os.statvfs(place.folder).f_bavail * os.statvfs(place.folder).f_frsize))
+    for what, minor, status, text in (("a longer text in place, without room", 10, 1, PAGES),
+                                      ("a text of one length in place, without room", 5, 0, PAGES.replace(b"1.0", b"1.5"))):
+        yield from place.faults(what, place.run(by, minor), status, text)
+    filler.unlink()
+    yield from place.faults("a longer text in place, with room", place.run(by, 10), 0, LONGER)
+    place.manifest.parent.chmod(0o755)
 
 
 def forbidden(program, folder):

@@ -14,8 +14,8 @@ use Rattle.edit_program.specs.Presented.{status_after}
 use Rattle.edit_program.specs.UpgradeAsked.{AskForUpgrade, HaveUpgradeFault}
 use Rattle.edit_program.specs.VersionWords.{AskForVersions, HaveVersionFault}
 
--- the manifests that the matches name were upgraded, behind what is shown and said of the plan; the status is 1
--- where they ask to check that and the plan has an output
+-- the manifests that the matches name were upgraded, behind what is shown and said of the plan; the status is
+-- 1 where they ask to check that and the plan has an output
 pub record HasUpgraded (rows : List Row) (status : ℕ) (Shows Says : List ℕ → Type 0) (current : List ℕ)
     (home : Option (List ℕ)) (local old new : StoreView) : Type 0 where
   pub asked : UpgradeWords
@@ -52,8 +52,8 @@ pub record HasLooksCause (rows : List Row) (current : List ℕ) (home : Option (
   pub asks : AskForUpgrade rows asked
   pub cause : IsLooksCause asked current home old new e
 
--- the versions that the matches ask for were set, behind what is shown and told of them; the status is 1 where
--- they ask to check that and the plan has an output
+-- the versions that the matches ask for were set, behind what is shown and told of them; the status is 1
+-- where they ask to check that and the plan has an output
 pub record HasSetVersions (rows : List Row) (status : ℕ) (Shows Tells : List ℕ → Type 0) (current : List ℕ)
     (old new : StoreView) : Type 0 where
   pub asked : SetVersionWords

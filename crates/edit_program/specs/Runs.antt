@@ -54,8 +54,8 @@ IsDone words Shows Tells current home local old new =
     (IsAnswered words 0 × SameFiles old.file_at new.file_at)
     ⊎ Enter words (λ name rows. IsDoneBy name rows 0 Shows Tells current home local old new)
 
--- a check found what is to be changed: no file changed, and the subcommand ends with status 1, since the words
--- ask to check and its plan has an output
+-- a check found what is to be changed: no file changed, and the subcommand ends with status 1, since the
+-- words ask to check and its plan has an output
 pub record HasFound (words : List (List ℕ)) (Shows Tells : List ℕ → Type 0) (current : List ℕ)
     (home : Option (List ℕ)) (local old new : StoreView) : Type 0 where
   pub kept : SameFiles old.file_at new.file_at
@@ -68,8 +68,8 @@ IsEnded words status Shows Tells current home local old new =
     ((status ≡ 0) × IsDone words Shows Tells current home local old new)
     ⊎ ((status ≡ 1) × HasFound words Shows Tells current home local old new)
 
--- a run that was refused: each file is as it was, or the subcommand was refused at one of its writes or behind
--- all of them
+-- a run that was refused: each file is as it was, or the subcommand was refused at one of its writes or
+-- behind all of them
 abbrev pub IsRefused : List (List ℕ) → (List ℕ → Type 0) → (List ℕ → Type 0) → List ℕ → Option (List ℕ)
     → StoreView → StoreView → StoreView → Type 0
 IsRefused words Shows Tells current home local old new =

@@ -117,12 +117,14 @@ fn versions_asked<S: Store, O: io::Write, E: io::Write>(
     ensures done { IfOk result (λ s. s ≢ 2 → (S.view files.old).tells ≡ true
         → HasSetVersions (rows_of (found_of matches.now)) s
         (Appends (O.contents out.old) (O.contents out.new))
-        (Appends (E.contents err.old) (E.contents err.new)) current.now (S.view files.old) (S.view files.new)) }
+        (Appends (E.contents err.old) (E.contents err.new))
+        current.now (S.view files.old) (S.view files.new)) }
     ensures refused { OnErr result ((S.view files.old).tells ≡ true
         → SameFiles (S.view files.old).file_at (S.view files.new).file_at
         ⊎ HasStoppedSetting (rows_of (found_of matches.now))
         (Appends (O.contents out.old) (O.contents out.new))
-        (Appends (E.contents err.old) (E.contents err.new)) current.now (S.view files.old) (S.view files.new)) }
+        (Appends (E.contents err.old) (E.contents err.new))
+        current.now (S.view files.old) (S.view files.new)) }
     ensures why { IfErr result (λ r. IsMemory r.error ⊎ HasSetVersionCause (rows_of (found_of matches.now))
         current.now (S.view files.old) (S.view files.new) r.error) }
 {

@@ -82,7 +82,8 @@ fn answer_given<S: Store, T: Store + Drop, O: io::Write, E: io::Write>(
 ) -> RunResult<u8>
     ensures status { IfOk result (λ s. s ≤ 2) }
     ensures answered { IfOk result (λ s. s ≡ 2 → files.new ≡ files.old) }
-    ensures merged { (command : MergedCommand) → merged_of (filled (map (λ w. w.now) words.now)) ≡ Some command
+    ensures merged { (command : MergedCommand)
+        → merged_of (filled (map (λ w. w.now) words.now)) ≡ Some command
         → IsErr result × (files.new ≡ files.old) }
     ensures fault { IfOk result (λ s. s ≡ 2 → AreAtFault (filled (map (λ w. w.now) words.now))) }
     ensures ended { IfOk result (λ s. s ≢ 2 → (S.view files.old).tells ≡ true
@@ -110,13 +111,13 @@ fn answer_given<S: Store, T: Store + Drop, O: io::Write, E: io::Write>(
 }
 
 /// Runs the words, which begin with the subcommand, and answers the status: 0 done; 1 a refusal, whose text
-/// is printed on `err` behind `Error: `, with its place in a second line where it is known (of `add` and `rm`,
-/// whatever follows, that cargo has them by itself), or, with `--check`, that something would change; 2 a fault
-/// of the command line, also an empty path. An option that may stand without its value then says yes. `current`
-/// is the absolute folder that relative paths start from.
+/// is printed on `err` behind `Error: `, with its place in a second line where it is known (of `add` and
+/// `rm`, whatever follows, that cargo has them by itself), or, with `--check`, that something would change; 2
+/// a fault of the command line, also an empty path. An option that may stand without its value then says yes.
+/// `current` is the absolute folder that relative paths start from.
 /// Manifests, configurations, metadata and the index file are read, and manifests and the file of the calls
-/// written, through `files`; `cargo_home` is the folder whose configuration counts last. `index_files` has the
-/// index that is looked in where no index file is named, and is taken over.
+/// written, through `files`; `cargo_home` is the folder whose configuration counts last. `index_files` has
+/// the index that is looked in where no index file is named, and is taken over.
 pub fn run<S: Store, T: Store + Drop, O: io::Write, E: io::Write>(
     alloc: Global,
     words: &[&str],
@@ -128,7 +129,8 @@ pub fn run<S: Store, T: Store + Drop, O: io::Write, E: io::Write>(
     err: &mut E,
 ) -> u8
     ensures status { result ≤ 2 }
-    ensures merged { (command : MergedCommand) → merged_of (filled (map (λ w. w.now) words.now)) ≡ Some command
+    ensures merged { (command : MergedCommand)
+        → merged_of (filled (map (λ w. w.now) words.now)) ≡ Some command
         → (result ≡ 1) × (files.new ≡ files.old) }
     ensures faulty { result ≡ 2 → files.new ≡ files.old }
     ensures fault { result ≡ 2 → AreAtFault (filled (map (λ w. w.now) words.now)) }

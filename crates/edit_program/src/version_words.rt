@@ -89,7 +89,8 @@ fn copied_value(
     matches: &ArgMatches<'_>,
     id: &str,
 ) -> Result<Option<String>, AllocError>
-    ensures { IfOk result (λ o. option_map string_bytes o ≡ first_of id.now (rows_of (found_of matches.now))) }
+    ensures { IfOk result (λ o.
+        option_map string_bytes o ≡ first_of id.now (rows_of (found_of matches.now))) }
 {
     match matches.get_str(id) {
         Some(text) => Ok(Some(String::from_str(alloc, text)?)),
@@ -123,7 +124,8 @@ pub(crate) fn version_words<'a>(
     matches: &ArgMatches<'a>,
 ) -> Result<SetVersionWords<'a>, WordsError<'a>>
     ensures asks { IfOk result (AskForVersions (rows_of (found_of matches.now))) }
-    ensures refused { IfErr result (λ e. e ≢ words.Memory → HaveVersionFault (rows_of (found_of matches.now))) }
+    ensures refused { IfErr result (λ e. e ≢ words.Memory
+        → HaveVersionFault (rows_of (found_of matches.now))) }
 {
     if let Some((one, other)) = twice_named(matches) {
         return Err(WordsError::Fault(WordsFault::Together(one, other)));

@@ -4,6 +4,7 @@ pub mod ConfigurationLemmas
 pub mod DefinitionLemmas
 pub mod FileLemmas
 pub mod FolderLemmas
+pub mod KeptLemmas
 pub mod KeyLemmas
 pub mod LineLemmas
 pub mod NameLemmas

@@ -1,6 +1,6 @@
 -- Which configuration files count, the first one first (Cargo
 -- reference, "Configuration", Hierarchical structure).
-use Rattle.std.specs.Prelude.{◌≡◌, ◌≢◌, ℕ, List, [], ◌∷◌, ◌++◌, map, Option, Some, None, option_map, Bool, true, codes, ⊤, string_bytes}
+use Rattle.std.specs.Prelude.{◌≡◌, ℕ, List, [], ◌∷◌, ◌++◌, map, Option, Some, None, option_map, Bool, true, codes, ⊤, string_bytes}
 use Rattle.std.specs.List.{filter_map, AllZip}
 use Rattle.std.specs.Option.{option_to_list}
 use Rattle.edit_base.specs.Paths.{joined, IsFolderOf}

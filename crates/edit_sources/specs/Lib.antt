@@ -5,6 +5,7 @@ pub mod Definitions
 pub mod FileIndex
 pub mod Index
 pub mod IndexLines
+pub mod KeptConfigs
 pub mod LocalIndex
 pub mod Names
 pub mod SourceReplacement

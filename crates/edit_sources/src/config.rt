@@ -12,9 +12,11 @@ use edit_base::{CargoResult, Error};
 use std::alloc::{AllocError, Global};
 use toml::{Table, Value};
 
+mod cache;
+mod copies;
 mod files;
 
-pub use files::read_configs;
+pub use cache::{ConfigCache, read_configs};
 
 /// What a configuration file of cargo says of registries and sources.
 #[derive(Debug, Drop)]

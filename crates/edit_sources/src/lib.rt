@@ -10,7 +10,7 @@ mod index_path;
 pub mod local_index;
 pub mod registry;
 
-pub use config::{Config, ConfigSource};
+pub use config::{Config, ConfigCache, ConfigSource};
 pub use file_index::FileIndex;
 pub use index::{Index, IndexKrate};
 pub use local_index::LocalIndex;

@@ -2,15 +2,15 @@
 use crate::beside::make_beside;
 use std::alloc::Global;
 use std::fs::{File, Files, Metadata, OpenOptions};
-use std::io::{ErrorKind, Write};
+use std::io::{ErrorKind, Seek, SeekFrom, Write};
 use std::os::unix::fs::{MetadataExt, chown};
 use std::{fs, io};
 
 /// Writes a whole file, a link followed.
 ///
-/// The bytes are written beside the file, flushed to the disk, and moved over it. A file that does
-/// not stand yet, or in whose folder none may be made, is written in place. What is no regular file
-/// is refused.
+/// The bytes are written beside the file, flushed to the disk, and moved over it. A file in whose
+/// folder none may be made is overwritten, and one that does not stand yet is made. What is no
+/// regular file is refused.
 pub(crate) fn replace<R: Files<File = File> + Alloc<A = Global>>(
     rt: &R,
     alloc: Global,
@@ -30,8 +30,39 @@ pub(crate) fn replace<R: Files<File = File> + Alloc<A = Global>>(
     may_write(rt, target, &old)?;
     match make_beside(rt, alloc, target)? {
         Some((mut file, name)) => { move_over(rt, &mut file, name.as_str(), target, &old, bytes) }
-        None => fs::write(rt, target, bytes),
+        None => overwrite(rt, target, &old, bytes),
     }
+}
+
+/// Overwrites a file. What goes past its old end is written first, so that a disk without room for
+/// it leaves the old bytes.
+fn overwrite<R: Files<File = File>>(
+    rt: &R,
+    path: &str,
+    old: &Metadata,
+    bytes: &[u8],
+) -> io::Result<()> {
+    let mut file = OpenOptions::new().write(true).open(rt, path)?;
+    let end = old.len();
+    if let Some((within, further)) = bytes.split_at_checked(end as usize) {
+        append(&mut file, end, further)?;
+        file.seek(SeekFrom::Start(0))?;
+        file.write_all(within)?;
+    } else {
+        file.write_all(bytes)?;
+        file.set_len(bytes.len() as u64)?;
+    }
+    file.sync_all()
+}
+
+/// Writes bytes behind a file's end, or leaves the file as it was.
+fn append(file: &mut File, end: u64, bytes: &[u8]) -> io::Result<()> {
+    file.seek(SeekFrom::Start(end))?;
+    let done = file.write_all(bytes);
+    if done.is_err() {
+        let _ = file.set_len(end);
+    }
+    done
 }
 
 /// Refuses a file that may not be written.

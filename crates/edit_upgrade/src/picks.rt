@@ -52,7 +52,8 @@ pub(crate) fn kept_requirement<'a>(words: &'a Words, name: &str) -> Option<&'a s
 /// Keeps a name, where it is new.
 fn add_first(alloc: Global, words: &mut Words, name: &str) -> CargoResult<()>
     ensures names { OnOk result (map string_bytes words.new.names.items
-        ≡ map string_bytes words.old.names.items ++ (if has_name words.old name.now then [] else name.now ∷ [])) }
+        ≡ map string_bytes words.old.names.items
+        ++ (if has_name words.old name.now then [] else name.now ∷ [])) }
     ensures requirements { words.new.requirements ≡ words.old.requirements }
     ensures refused { IfErr result (λ e. e ≡ error.Memory) }
 {

@@ -33,7 +33,8 @@ own_name t = unwrap_or (package_text t (codes "name")) (codes "virtual workspace
 abbrev pub own_rust : Tree → Option Numbers
 own_rust t = option_and_then rust_of (package_text t (codes "rust-version"))
 
--- an input has the name that its bytes say, and the Rust version that is asked for, else the one that they say
+-- an input has the name that its bytes say, and the Rust version that is asked for, else the one that they
+-- say
 pub record SaysOfItself (asked : RustAsked) (input : Input) : Type 0 where
   pub form : Text
   pub manifest : IsManifest input.bytes.items form

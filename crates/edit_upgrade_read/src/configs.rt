@@ -8,12 +8,11 @@ ghost use Rattle.edit_upgrade_read.specs.Sources.{AreConfigured};
 
 use edit_base::CargoResult;
 use edit_metadata::Input;
-use edit_sources::Config;
-use edit_sources::config::read_configs;
+use edit_sources::{Config, ConfigCache};
 use edit_store::Store;
 use std::alloc::Global;
 
-/// Reads the configurations of each of the inputs, in their order.
+/// Reads the configurations of each of the inputs, in their order, and each file once.
 pub(crate) fn read_all<S: Store>(
     alloc: Global,
     inputs: &[Input],
@@ -28,9 +27,13 @@ pub(crate) fn read_all<S: Store>(
         ⊎ ((S.view files.old).tells ≡ true
         → IsUnconfigured (S.view files.old).file_at (given cargo_home.entry) inputs.now e)) }
 {
+    let mut cache = ConfigCache::new(alloc);
     let mut all = Vec::new(alloc);
     'inputs: for input in inputs {
-        let configs = read_configs(alloc, files, input.path.as_str(), cargo_home)?;
+        let configs = match cache.read_configs(alloc, files, input.path.as_str(), cargo_home) {
+            Ok(configs) => configs,
+            Err(error) => return Err(error),
+        };
         all.push(configs)?;
     }
     Ok(all)

@@ -63,7 +63,8 @@ pub(crate) fn read_manifest<S: Store>(
 ) -> RunResult<ReadManifest>
     ensures store { OnlyReads (S.view files.old) (S.view files.new) }
     ensures read { IfOk result (λ m. (S.view files.old).tells ≡ true
-        → IsManifestRead (S.view files.old).file_at current.now (given named.entry) (asked_rust rust) m.input) }
+        → IsManifestRead (S.view files.old).file_at current.now (given named.entry) (asked_rust rust)
+        m.input) }
     ensures document { IfOk result (λ m. m.document.bytes ≡ m.input.bytes.items) }
     ensures refused { IfErr result (λ r. IsFailure (S.view files.old) (S.view files.new) r.error
         ⊎ ((S.view files.old).tells ≡ true

@@ -40,8 +40,8 @@ pub fn read_sources<S: Store>(
         → AreRead (S.view files.old).file_at current.now (given cargo_home.entry) (asking_of asked.now) s) }
     // and what a plan asks for, over any store
     ensures planned { IfOk result MayBePlanned }
-    ensures refused { IfErr result (λ r. IsReadCause current.now (given cargo_home.entry) (asking_of asked.now)
-        (S.view files.old) (S.view files.new) r.error) }
+    ensures refused { IfErr result (λ r. IsReadCause current.now (given cargo_home.entry)
+        (asking_of asked.now) (S.view files.old) (S.view files.new) r.error) }
 {
     let target = read_target(alloc, asked, current, files)?;
     let configs = read_all(alloc, &target.inputs, cargo_home, files)?;

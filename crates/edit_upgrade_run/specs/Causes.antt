@@ -39,8 +39,8 @@ IsUnfit words current home local files e =
 
 -- why an upgrade is refused: memory or the device failed, a stream did not take what is printed, or what the
 -- words name is unfit
-abbrev pub IsUpgradeCause : UpgradeWords → List ℕ → Option (List ℕ) → StoreView → StoreView → StoreView → Error
-    → Type 0
+abbrev pub IsUpgradeCause : UpgradeWords → List ℕ → Option (List ℕ)
+    → StoreView → StoreView → StoreView → Error → Type 0
 IsUpgradeCause words current home local old new e =
     IsFailure old new e
     ⊎ (RefusesCall call.Write old new e
@@ -53,8 +53,8 @@ IsUnfitForLooks words current home files e =
     IsWrong files current home (asking_for_looks words) e
     ⊎ HasNoPlan words.options (λ s. no_view) (asking_for_looks words) current home files e
 
--- why looks are not told: memory or the device failed, the stream did not take them, or what the words name is
--- unfit
+-- why looks are not told: memory or the device failed, the stream did not take them, or what the words name
+-- is unfit
 abbrev pub IsLooksCause : UpgradeWords → List ℕ → Option (List ℕ) → StoreView → StoreView → Error → Type 0
 IsLooksCause words current home old new e =
     IsFailure old new e

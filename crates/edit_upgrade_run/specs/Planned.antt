@@ -42,8 +42,8 @@ asking_for_looks words = record {
   rust = asked_rust words.rust;
 }
 
--- the index of an upgrade: the lines of the file that was read, the folder that is named, or the one in files;
--- the last two stand in the same files
+-- the index of an upgrade: the lines of the file that was read, the folder that is named, or the one in
+-- files; the last two stand in the same files
 abbrev pub index_view : IndexSource → StoreView → IndexView
 index_view source.Files local = local_view local
 index_view (source.Lines index) local = file_view index
@@ -63,8 +63,8 @@ pub record IsPlanned (o : Options) (inputs : List Input) (configs : List (Vec Co
   pub kept : Kept
   pub is : IsPlan o inputs configs (over view nothing_kept) (over view kept) plan
 
--- a plan is stopped by the first input that is no manifest, or that has an entry whose registry has no address
--- or whose look is refused
+-- a plan is stopped by the first input that is no manifest, or that has an entry whose registry has no
+-- address or whose look is refused
 pub record IsPlanStopped (inputs : List Input) (configs : List (Vec Config)) (view : IndexView) (e : Error)
     : Type 0 where
   pub kept : Kept

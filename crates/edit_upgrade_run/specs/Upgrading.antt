@@ -64,8 +64,8 @@ pub record IsAnsweredWith (due : Bool) (Shows Says : List ℕ → Type 0) (old n
   pub says : Says (said d)
 
 -- the manifests that the words name were upgraded: each output of the plan that is to be written stands in
--- its file, and behind them the calls in theirs, and no other file changed; the plan is shown, and what is said
--- of it; the answer is whether it changes a manifest
+-- its file, and behind them the calls in theirs, and no other file changed; the plan is shown, and what is
+-- said of it; the answer is whether it changes a manifest
 abbrev pub IsUpgraded : Bool → (List ℕ → Type 0) → (List ℕ → Type 0) → UpgradeWords → List ℕ
     → Option (List ℕ) → StoreView → StoreView → StoreView → Type 0
 IsUpgraded due Shows Says words current home local old new =

@@ -44,9 +44,9 @@ fn lines_for(
     looks_text(alloc, &plan.looks)
 }
 
-/// Prints a line for each look that an upgrade by these words needs: the address, the name, and the name's path
-/// in an index's layout, parted by tabs. No index is read, the one that the words name is not looked at, and
-/// nothing is written.
+/// Prints a line for each look that an upgrade by these words needs: the address, the name, and the name's
+/// path in an index's layout, parted by tabs. No index is read, the one that the words name is not looked at,
+/// and nothing is written.
 pub fn looks<S: Store, O: io::Write>(
     alloc: Global,
     words: &UpgradeWords<'_>,

@@ -29,8 +29,8 @@ abbrev pub HaveStopped : List Output → List Output → StoreView → StoreView
 HaveStopped first last old new =
     HasStopped first old new ⊎ (AreWritten first old new ⊎ IsBehind HasStopped first last old new)
 
--- this holds of what is to be written, the plan's outputs and then the file of the calls, behind what is shown;
--- and where the manifests are locked the plan has no outputs
+-- this holds of what is to be written, the plan's outputs and then the file of the calls, behind what is
+-- shown; and where the manifests are locked the plan has no outputs
 pub record IsToldTo (Leaves : List Output → List Output → StoreView → StoreView → Type 0)
     (Shows : List ℕ → Type 0) (d : Delivery) (old new : StoreView) : Type 0 where
   pub shows : Shows (shown d)
@@ -39,8 +39,8 @@ pub record IsToldTo (Leaves : List Output → List Output → StoreView → Stor
   pub are : map file_of calls ≡ calls_files (due_path d.options d.calls_path) d.calls
   pub leaves : Leaves (written d.options d.plan.outputs.items) calls old new
 
--- a plan was delivered: its outputs and the file of the calls were written, behind what is shown, and no name is
--- missing
+-- a plan was delivered: its outputs and the file of the calls were written, behind what is shown, and no name
+-- is missing
 pub record IsDelivered (Shows : List ℕ → Type 0) (d : Delivery) (old new : StoreView) : Type 0 where
   pub told : IsToldTo AreBothWritten Shows d old new
   pub complete : map string_bytes d.plan.missing.items ≡ []

@@ -48,8 +48,8 @@ pub fn deliver<S: Store, O: io::Write, E: io::Write>(
         (delivery_of plan.now inputs.now (option_map (λ w. workspace_said w.now) workspace.entry) options.now
         telling.now) (S.view files.old) (S.view files.new)) }
     ensures said { OnOk result (Appends (E.contents err.old) (E.contents err.new)
-        (said (delivery_of plan.now inputs.now (option_map (λ w. workspace_said w.now) workspace.entry) options.now
-        telling.now))) }
+        (said (delivery_of plan.now inputs.now (option_map (λ w. workspace_said w.now) workspace.entry)
+        options.now telling.now))) }
     // a refusal before the first write leaves each file as it was
     ensures stopped { OnErr result (SameFiles (S.view files.old).file_at (S.view files.new).file_at
         ⊎ IsCutShort (Appends (O.contents out.old) (O.contents out.new))

@@ -59,7 +59,8 @@ fn add_name(alloc: Global, reason: &str, row: &Row, names: &mut BTreeSet<String>
 
 /// The names of the rows of a reason, in byte order, each once.
 fn names_of(alloc: Global, reason: &str, rows: &[&Row]) -> CargoResult<Vec<String>>
-    ensures ok { IfOk result (λ v. map string_bytes v.items ≡ names_of reason.now (map (λ r. r.now) rows.now)) }
+    ensures ok { IfOk result (λ v.
+        map string_bytes v.items ≡ names_of reason.now (map (λ r. r.now) rows.now)) }
     ensures refused { IfErr result IsMemory }
 {
     let mut names = BTreeSet::new(alloc);

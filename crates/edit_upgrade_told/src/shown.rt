@@ -73,7 +73,8 @@ pub(crate) fn print_plan<O: io::Write, E: io::Write>(
     ensures shows { OnOk result (Appends (O.contents out.old) (O.contents out.new)
         (tables telling.now.presentation.format options.now.verbosity plan.now.rows.items (length inputs.now)
         ++ (messages_as telling.now.presentation.format plan.now inputs.now options.now (calls_seen calls.now)
-        ++ diffs_if telling.now.presentation.diff telling.now.current.now inputs.now plan.now.outputs.items))) }
+        ++ diffs_if telling.now.presentation.diff telling.now.current.now inputs.now
+        plan.now.outputs.items))) }
     ensures checks { OnOk result (Appends (E.contents err.old) (E.contents err.new)
         (checks options.now.verbosity plan.now.warnings.items inputs.now (length inputs.now))) }
     ensures refused { IfErr result (λ e. IsMemory e ⊎ (e ≡ Unwritten)) }

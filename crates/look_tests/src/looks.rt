@@ -43,8 +43,8 @@ fn tells_looks(rt: HostRuntime) -> Result<(), Fail> {
     same("a bad name", seen.as_str(), "29 Invalid crate name `a/b`")
 }
 
-/// A manifest whose entries need four looks: one name of two registries and twice of one, one by its key, none
-/// for a folder.
+/// A manifest whose entries need four looks: one name of two registries and twice of one, one by its key,
+/// none for a folder.
 const MANIFEST: &str = "\
 [dependencies]
 serde = \"1.0\"

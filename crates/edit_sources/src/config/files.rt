@@ -1,11 +1,10 @@
-//! Which configuration files count.
-ghost use Rattle.std.specs.Prelude.{◌≡◌, ◌⊎◌, ◌++◌, ℕ, List, true, IfOk, IfErr, OnOk, map, string_bytes};
-ghost use Rattle.std.specs.List.{AllZip};
+//! Where configuration files stand.
+ghost use Rattle.std.specs.Prelude.{◌≡◌, ◌⊎◌, ◌++◌, true, IfOk, IfErr, OnOk, map, string_bytes};
 ghost use Rattle.std.specs.Option.{option_to_list};
 ghost use Rattle.edit_base.specs.Errors.{IsMemory};
 ghost use Rattle.edit_base.specs.Paths.{texts};
 ghost use Rattle.edit_sources.specs.Configured.{given};
-ghost use Rattle.edit_sources.specs.ConfigurationFiles.{IsUpwards, IsSearched, IsReadOf, IsReadFrom, HasFailed, FileFails, PlaceFails, AreConfigs, ConfigsFail, standing, file_in, files_in};
+ghost use Rattle.edit_sources.specs.ConfigurationFiles.{IsUpwards, IsSearched, IsReadOf, HasFailed, FileFails, standing, file_in};
 ghost use Rattle.edit_store.specs.Store.{OnlyReads};
 
 use super::Config;
@@ -29,7 +28,11 @@ fn folders_upwards<'a>(alloc: Global, path: &'a str) -> Result<Vec<&'a str>, All
 }
 
 /// The folders where configuration files may stand.
-fn places(alloc: Global, manifest_path: &str, cargo_home: Option<&str>) -> CargoResult<Vec<String>>
+pub(super) fn places(
+    alloc: Global,
+    manifest_path: &str,
+    cargo_home: Option<&str>,
+) -> CargoResult<Vec<String>>
     ensures searched { IfOk result (λ v. IsSearched manifest_path.now (given cargo_home.entry)
         (map string_bytes v.items)) }
     ensures refused { IfErr result IsMemory }
@@ -66,7 +69,11 @@ fn read_file<S: Store>(alloc: Global, store: &mut S, path: &str) -> CargoResult<
 }
 
 /// The configuration that counts in a place, none where no file stands there.
-fn config_in<S: Store>(alloc: Global, store: &mut S, place: &str) -> CargoResult<Option<Config>>
+pub(super) fn config_in<S: Store>(
+    alloc: Global,
+    store: &mut S,
+    place: &str,
+) -> CargoResult<Option<Config>>
     ensures store { OnlyReads (S.view store.old) (S.view store.new) }
     ensures read { IfOk result (λ found. (S.view store.old).tells ≡ true
         → IsReadOf (file_in (S.view store.old).file_at place.now) found) }
@@ -94,60 +101,11 @@ fn config_in<S: Store>(alloc: Global, store: &mut S, place: &str) -> CargoResult
 }
 
 /// Adds what was found.
-fn add(configs: &mut Vec<Config>, found: Option<Config>) -> Result<(), AllocError>
+pub(super) fn add(configs: &mut Vec<Config>, found: Option<Config>) -> Result<(), AllocError>
     ensures { OnOk result (configs.new.items ≡ configs.old.items ++ option_to_list found) }
 {
     if let Some(config) = found {
         configs.push(config)?;
     }
     Ok(())
-}
-
-/// The configurations that count in these places, in their order.
-fn configs_in<S: Store>(alloc: Global, store: &mut S, places: &[String]) -> CargoResult<Vec<Config>>
-    ensures store { OnlyReads (S.view store.old) (S.view store.new) }
-    ensures read { IfOk result (λ v. (S.view store.old).tells ≡ true
-        → AllZip IsReadFrom (files_in (S.view store.old).file_at (map string_bytes places.now)) v.items) }
-    ensures refused { IfErr result (λ e. IsMemory e
-        ⊎ (HasFailed (S.view store.old).faults (S.view store.new).faults e
-        ⊎ PlaceFails (S.view store.old).tells (S.view store.old).file_at (map string_bytes places.now) e)) }
-{
-    let mut configs = Vec::new(alloc);
-    for place in places {
-        let found = match config_in(alloc, store, place.as_str()) {
-            Ok(found) => found,
-            Err(error) => return Err(error),
-        };
-        add(&mut configs, found)?;
-    }
-    Ok(configs)
-}
-
-/// The configurations of a manifest, the first one first: in each folder from the manifest's
-/// upwards `.cargo/config`, else `.cargo/config.toml`, and then `config`, else `config.toml` of
-/// the home of cargo, where one is given. Only files count.
-///
-/// `Config` where such a file is no configuration, and `Device` where the store fails.
-pub fn read_configs<S: Store>(
-    alloc: Global,
-    store: &mut S,
-    manifest_path: &str,
-    cargo_home: Option<&str>,
-) -> CargoResult<Vec<Config>>
-    ensures store { OnlyReads (S.view store.old) (S.view store.new) }
-    ensures read { IfOk result (λ v. (S.view store.old).tells ≡ true
-        → AreConfigs (S.view store.old).file_at manifest_path.now (given cargo_home.entry) v.items) }
-    ensures refused { IfErr result (λ e. IsMemory e
-        ⊎ (HasFailed (S.view store.old).faults (S.view store.new).faults e
-        ⊎ ConfigsFail (S.view store.old).tells (S.view store.old).file_at manifest_path.now
-        (given cargo_home.entry) e)) }
-{
-    let places = match places(alloc, manifest_path, cargo_home) {
-        Ok(places) => places,
-        Err(error) => return Err(error),
-    };
-    match configs_in(alloc, store, &places) {
-        Ok(configs) => Ok(configs),
-        Err(error) => Err(error),
-    }
 }

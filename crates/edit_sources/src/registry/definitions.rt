@@ -94,8 +94,8 @@ impl<'a> Definitions<'a> {
         Ok(())
     }
 
-    /// Follows the chain of a registry to the address at its end. Each definition that is passed is taken out,
-    /// so that the walk ends and no key is used twice.
+    /// Follows the chain of a registry to the address at its end. Each definition that is passed is taken
+    /// out, so that the walk ends and no key is used twice.
     fn follow(&mut self, alloc: Global, registry: Option<&str>) -> CargoResult<&'a str>
         requires { end_at self.old (spec.head_key (given registry)) ≡ None }
         ensures address { IfOk result (λ a. (configs : List Config) → Defines configs self.old

@@ -1,8 +1,8 @@
 //! Addresses under configuration files.
 use super::looks::put;
-use edit_sources::config::{Config, read_configs};
+use edit_sources::config::{Config, ConfigCache, read_configs};
 use edit_sources::registry::{Definitions, registry_url, resolve};
-use edit_store::MemoryStore;
+use edit_store::{FaultStore, MemoryStore};
 use std::alloc::Global;
 use std::test::Fail;
 use test_rows::{LINES, field, rows_hold, same, text, told, unfolded, word};
@@ -139,6 +139,105 @@ fn configured(alloc: Global, path: &str) -> Result<String, Fail> {
 fn resolved_by_hand(rt: HostRuntime) -> Result<(), Fail> {
     let seen = configured(rt.alloc(), "/a/b/Cargo.toml")?;
     same("one file", seen.as_str(), "1 /.cargo/config file:///idx")
+}
+
+/// The manifest of a member, the place behind its name, and the configurations that count there, each
+/// by its path, with the address that the first of them to define the registry gives it.
+const MEMBERS: &str = "\
+/w/a/.cargo/config /w/.cargo/config.toml /home/config file:///a|a member's own|/w/a/Cargo.toml
+/w/.cargo/config.toml /home/config file:///w|a member without|/w/b/Cargo.toml
+/w/a/.cargo/config /w/.cargo/config.toml /home/config file:///a|the first again|/w/a/Cargo.toml";
+
+/// The paths of configurations, and the address that they give a registry.
+fn shown(alloc: Global, configs: &[Config]) -> Result<String, Fail> {
+    let mut seen = String::new(alloc);
+    for config in configs {
+        seen.push_str(config.path.as_str())?;
+        seen.push(' ')?;
+    }
+    match resolve(alloc, configs, Some("r")) {
+        Ok(url) => seen.push_str(url.as_str())?,
+        Err(error) => return told(alloc, error),
+    }
+    Ok(seen)
+}
+
+/// The files of a workspace of two members.
+fn workspace(alloc: Global) -> Result<MemoryStore, Fail> {
+    let mut store = MemoryStore::new(alloc);
+    put(
+        alloc,
+        &mut store,
+        "/w/a/.cargo/config",
+        "registries.r.index = 'file:///a'",
+    )?;
+    put(
+        alloc,
+        &mut store,
+        "/w/.cargo/config.toml",
+        "registries.r.index = 'file:///w'",
+    )?;
+    put(
+        alloc,
+        &mut store,
+        "/home/config",
+        "registries.r.index = 'file:///home'",
+    )?;
+    Ok(store)
+}
+
+/// What counts for a manifest of the workspace.
+fn counted(alloc: Global, _name: &str, path: &str) -> Result<String, Fail> {
+    let mut store = workspace(alloc)?;
+    match read_configs(alloc, &mut store, path, Some("/home")) {
+        Ok(configs) => shown(alloc, &configs),
+        Err(error) => told(alloc, error),
+    }
+}
+
+#[test]
+fn configurations_of_members(rt: HostRuntime) -> Result<(), Fail> {
+    rows_hold(rt.alloc(), MEMBERS, LINES, counted)
+}
+
+/// The same by a cache.
+fn kept(
+    alloc: Global,
+    cache: &mut ConfigCache,
+    store: &mut FaultStore,
+    path: &str,
+) -> Result<String, Fail> {
+    match cache.read_configs(alloc, store, path, Some("/home")) {
+        Ok(configs) => shown(alloc, &configs),
+        Err(error) => told(alloc, error),
+    }
+}
+
+/// Whether one cache gives each manifest in turn what counts for it.
+fn kept_rows(alloc: Global, cache: &mut ConfigCache, store: &mut FaultStore) -> Result<(), Fail> {
+    'rows: for row in MEMBERS.lines() {
+        let seen = kept(alloc, cache, store, field(row, 2))?;
+        same(row, seen.as_str(), field(row, 0))?;
+    }
+    Ok(())
+}
+
+/// The first manifest takes six reads, since two of its four places have no `config`, the second one two
+/// of the place that is its own, and the third one none: the ninth, which would fail, is never made.
+#[test]
+fn configurations_by_one_cache(rt: HostRuntime) -> Result<(), Fail> {
+    let mut store = FaultStore::new(workspace(rt.alloc())?, 8, 0);
+    let mut cache = ConfigCache::new(rt.alloc());
+    kept_rows(rt.alloc(), &mut cache, &mut store)
+}
+
+#[test]
+fn a_refusal_is_not_kept(rt: HostRuntime) -> Result<(), Fail> {
+    let mut store = FaultStore::new(workspace(rt.alloc())?, 1, 0);
+    let mut cache = ConfigCache::new(rt.alloc());
+    let seen = kept(rt.alloc(), &mut cache, &mut store, "/w/a/Cargo.toml")?;
+    same("the second read", seen.as_str(), "3 Failed to read a file")?;
+    kept_rows(rt.alloc(), &mut cache, &mut store)
 }
 
 /// A chain of three sources, and the default registry replaced by the first of them.

@@ -1,5 +1,6 @@
 use Rattle.std.proofs.Common.{◌≡◌, length, take, true}
 use Rattle.edit_sources.specs.Configured.{given}
+use Rattle.edit_sources.specs.KeptConfigs.{AreKept}
 use Rattle.edit_store.specs.Store.{OnlyReads}
 use Rattle.edit_upgrade_read.specs.Sources.{AreConfigured}
 use Rattle.edit_upgrade_read.proofs.configs.read_all.Given as goal
@@ -7,6 +8,7 @@ use Rattle.edit_upgrade_read.proofs.configs.read_all.Given as goal
 abbrev pub invariant-inputs : goal.invariant-inputs
 invariant-inputs g l = record {
   store : OnlyReads (g.S.Store.view l.initial.files) (g.S.Store.view l.files);
+  kept : AreKept (g.S.Store.view l.files) l.cache;
   each : length l.all.items ≡ length (take l.input-index l.inputs);
   read : (g.S.Store.view l.initial.files).tells ≡ true
       → AreConfigured (g.S.Store.view l.initial.files).file_at (given l.cargo_home)

@@ -1,0 +1,153 @@
+//! The configurations of manifests, each file read once for all of them.
+ghost use Rattle.std.specs.Prelude.{◌≡◌, ◌⊎◌, true, IfOk, IfErr, map, string_bytes};
+ghost use Rattle.std.specs.List.{AllZip};
+ghost use Rattle.edit_base.specs.Errors.{IsMemory};
+ghost use Rattle.edit_sources.specs.Configured.{given};
+ghost use Rattle.edit_sources.specs.ConfigurationFiles.{IsReadOf, IsReadFrom, HasFailed, FileFails, PlaceFails, AreConfigs, ConfigsFail, file_in, files_in};
+ghost use Rattle.edit_sources.specs.KeptConfigs.{AreKept};
+ghost use Rattle.edit_store.specs.Store.{OnlyReads, StoreView};
+
+use super::Config;
+use super::copies::copied;
+use super::files::{add, config_in, places};
+use edit_base::CargoResult;
+use edit_store::store::Store;
+use std::alloc::{AllocError, Global};
+use std::collections::BTreeMap;
+
+/// What was found in each place where configuration files were looked for. A refusal is not kept.
+#[derive(Debug, Drop)]
+pub struct ConfigCache {
+    found: BTreeMap<String, Option<Config>>,
+}
+
+impl ConfigCache {
+    /// A cache that keeps nothing yet.
+    pub fn new(alloc: Global) -> ConfigCache
+        ensures { (seen : StoreView) → AreKept seen result }
+    {
+        ConfigCache {
+            found: BTreeMap::new(alloc),
+        }
+    }
+
+    /// Keeps what was found in a place.
+    fn keep(&mut self, alloc: Global, place: &str, found: Option<Config>) -> Result<(), AllocError>
+        ensures { (seen : StoreView) → AreKept seen self.old
+            → (seen.tells ≡ true → IsReadOf (file_in seen.file_at place.now) found)
+            → AreKept seen self.new }
+    {
+        let place = String::from_str(alloc, place)?;
+        self.found.insert(place, found)?;
+        Ok(())
+    }
+
+    /// The configuration that counts in a place, looked for where nothing is kept of it.
+    fn config_in<S: Store>(
+        &mut self,
+        alloc: Global,
+        store: &mut S,
+        place: &str,
+    ) -> CargoResult<Option<Config>>
+        ensures store { OnlyReads (S.view store.old) (S.view store.new) }
+        ensures kept { AreKept (S.view store.old) self.old → AreKept (S.view store.new) self.new }
+        ensures read { IfOk result (λ found. AreKept (S.view store.old) self.old
+            → (S.view store.old).tells ≡ true
+            → IsReadOf (file_in (S.view store.old).file_at place.now) found) }
+        ensures refused { IfErr result (λ e. IsMemory e
+            ⊎ (HasFailed (S.view store.old).faults (S.view store.new).faults e
+            ⊎ FileFails (S.view store.old).tells (file_in (S.view store.old).file_at place.now) e)) }
+    {
+        if let Some(found) = self.found.get(place) {
+            let copy = copied(alloc, found.as_ref())?;
+            return Ok(copy);
+        }
+        let found = match config_in(alloc, store, place) {
+            Ok(found) => found,
+            Err(error) => return Err(error),
+        };
+        let copy = copied(alloc, found.as_ref())?;
+        self.keep(alloc, place, found)?;
+        Ok(copy)
+    }
+
+    /// The configurations that count in these places, in their order.
+    fn configs_in<S: Store>(
+        &mut self,
+        alloc: Global,
+        store: &mut S,
+        places: &[String],
+    ) -> CargoResult<Vec<Config>>
+        ensures store { OnlyReads (S.view store.old) (S.view store.new) }
+        ensures kept { AreKept (S.view store.old) self.old → AreKept (S.view store.new) self.new }
+        ensures read { IfOk result (λ v. AreKept (S.view store.old) self.old
+            → (S.view store.old).tells ≡ true → AllZip IsReadFrom
+            (files_in (S.view store.old).file_at (map string_bytes places.now)) v.items) }
+        ensures refused { IfErr result (λ e. IsMemory e
+            ⊎ (HasFailed (S.view store.old).faults (S.view store.new).faults e ⊎ PlaceFails
+            (S.view store.old).tells (S.view store.old).file_at (map string_bytes places.now) e)) }
+    {
+        let mut configs = Vec::new(alloc);
+        for place in places {
+            let found = match self.config_in(alloc, store, place.as_str()) {
+                Ok(found) => found,
+                Err(error) => return Err(error),
+            };
+            add(&mut configs, found)?;
+        }
+        Ok(configs)
+    }
+
+    /// The configurations of a manifest, as `read_configs` gives them. A place that an earlier call
+    /// looked into is not looked into again, so the files are to stay as they are.
+    pub fn read_configs<S: Store>(
+        &mut self,
+        alloc: Global,
+        store: &mut S,
+        manifest_path: &str,
+        cargo_home: Option<&str>,
+    ) -> CargoResult<Vec<Config>>
+        ensures store { OnlyReads (S.view store.old) (S.view store.new) }
+        ensures kept { AreKept (S.view store.old) self.old → AreKept (S.view store.new) self.new }
+        ensures read { IfOk result (λ v. AreKept (S.view store.old) self.old
+            → (S.view store.old).tells ≡ true
+            → AreConfigs (S.view store.old).file_at manifest_path.now (given cargo_home.entry) v.items) }
+        // a refusal is never for what is kept
+        ensures refused { IfErr result (λ e. IsMemory e
+            ⊎ (HasFailed (S.view store.old).faults (S.view store.new).faults e
+            ⊎ ConfigsFail (S.view store.old).tells (S.view store.old).file_at manifest_path.now
+            (given cargo_home.entry) e)) }
+    {
+        let places = match places(alloc, manifest_path, cargo_home) {
+            Ok(places) => places,
+            Err(error) => return Err(error),
+        };
+        match self.configs_in(alloc, store, &places) {
+            Ok(configs) => Ok(configs),
+            Err(error) => Err(error),
+        }
+    }
+}
+
+/// The configurations of a manifest, the first one first: in each folder from the manifest's
+/// upwards `.cargo/config`, else `.cargo/config.toml`, and then `config`, else `config.toml` of
+/// the home of cargo, where one is given. Only files count.
+///
+/// `Config` where such a file is no configuration, and `Device` where the store fails.
+pub fn read_configs<S: Store>(
+    alloc: Global,
+    store: &mut S,
+    manifest_path: &str,
+    cargo_home: Option<&str>,
+) -> CargoResult<Vec<Config>>
+    ensures store { OnlyReads (S.view store.old) (S.view store.new) }
+    ensures read { IfOk result (λ v. (S.view store.old).tells ≡ true
+        → AreConfigs (S.view store.old).file_at manifest_path.now (given cargo_home.entry) v.items) }
+    ensures refused { IfErr result (λ e. IsMemory e
+        ⊎ (HasFailed (S.view store.old).faults (S.view store.new).faults e
+        ⊎ ConfigsFail (S.view store.old).tells (S.view store.old).file_at manifest_path.now
+        (given cargo_home.entry) e)) }
+{
+    let mut cache = ConfigCache::new(alloc);
+    cache.read_configs(alloc, store, manifest_path, cargo_home)
+}
