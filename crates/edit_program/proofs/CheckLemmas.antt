@@ -11,7 +11,7 @@ use Rattle.edit_store.specs.Store.{SameFiles, StoreView}
 use Rattle.edit_upgrade_run.specs.Upgrading.{IsUpgraded, delivery_by}
 use Rattle.edit_upgrade_run.specs.declared.words.UpgradeWords.{UpgradeWords}
 use Rattle.edit_upgrade_told.proofs.DryRuns.{dry_keeps}
-use Rattle.edit_program.specs.CommandLine.{is_dry, is_given}
+use Rattle.edit_program.specs.Asked.{is_dry, is_given}
 use Rattle.edit_program.specs.Presented.{status_after}
 
 -- a status behind a plan is 0 or 1

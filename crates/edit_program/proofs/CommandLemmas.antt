@@ -1,27 +1,18 @@
 -- What the matches of the command line say of its words.
 use Rattle.std.proofs.Common.{◌≡◌, ◌∙◌, ℕ, List, [], Option, Some, None, true, ap, ap₂, inl, inr, refl, subst, sym}
 use Rattle.std.specs.Prelude.{option_map}
-use Rattle.clap.specs.Words.{App, HasKind, HasMatchesOf, IsAmong, Kinds, Row, Text, fault_of, found_of, is_simple, is_simple_and_free, kind_of, rows_of, subcommand_name_of, subcommand_of, subcommand_rows_of, takes}
+use Rattle.clap.specs.Words.{App, HasKind, HasMatchesOf, IsAmong, Kinds, Row, Text, fault_of, found_of, is_simple, kind_of, rows_of, subcommand_name_of, subcommand_of, subcommand_rows_of, takes}
 use Rattle.clap.specs.declared.error.Error.{Error}
 use Rattle.clap.specs.declared.error.kind.ErrorKind.TheVariants.{OutOfMemory}
 use Rattle.clap.specs.declared.parser.ArgMatches.{ArgMatches}
 use Rattle.clap.specs.declared.parser.matches.ArgMatches.TheViews.{out-ArgMatches}
-use Rattle.edit_program.specs.CommandLine.{HaveEntered, edit_app}
-use Rattle.edit_program.specs.Runs.{AreNotTaken, IsAnswered, NameNone, status_of}
-
-simple : is_simple edit_app ≡ true
-unfolding edit_app
-simple = refl
-
-pub free : is_simple_and_free edit_app ≡ true
-unfolding edit_app
-free = refl
+use Rattle.edit_words.specs.CommandLine.{edit_app}
+use Rattle.edit_program.specs.Runs.{AreNotTaken, HaveEntered, IsAnswered, NameNone, status_of}
 
 -- words that are matched are taken
-pub taken_by : (app : App) (words : List Text) → app ≡ edit_app
-    → (is_simple_and_free app ≡ true → fault_of app words ≡ []) → fault_of edit_app words ≡ []
-taken_by app words is taken = ap (λ (a : App). fault_of a words) (sym is)
-    ∙ taken (ap is_simple_and_free is ∙ free)
+taken_by : (app : App) (words : List Text) → app ≡ edit_app → fault_of app words ≡ []
+    → fault_of edit_app words ≡ []
+taken_by app words is taken = ap (λ (a : App). fault_of a words) (sym is) ∙ taken
 
 both_of : (o : Option (Text × List Row)) (name : Text) (rows : List Row)
     → option_map (λ (p : Text × List Row). p.0) o ≡ Some name
@@ -38,26 +29,25 @@ map_map f g None = refl
 map_map f g (Some a) = refl
 
 -- the subcommand of the words is the one that was met
-met_by : (app : App) (words : List Text) (m : ArgMatches) → app ≡ edit_app → HasMatchesOf app words m
-    → subcommand_of edit_app words ≡ subcommand_rows_of m
-met_by app words m is matches =
-    ap (λ (a : App). subcommand_of a words) (sym is) ∙ sym (matches (ap is_simple is ∙ simple)).1
+met_by : (app : App) (words : List Text) (m : ArgMatches) → app ≡ edit_app → is_simple app ≡ true
+    → HasMatchesOf app words m → subcommand_of edit_app words ≡ subcommand_rows_of m
+met_by app words m is simple matches =
+    ap (λ (a : App). subcommand_of a words) (sym is) ∙ sym (matches simple).1
 
 -- the words name this subcommand, and its matches are those that were met
 pub entered_by : (app : App) (words : List Text) (m sub : ArgMatches) (name : Text) → app ≡ edit_app
-    → HasMatchesOf app words m
-    → (is_simple_and_free app ≡ true → fault_of app words ≡ [])
+    → is_simple app ≡ true → HasMatchesOf app words m → fault_of app words ≡ []
     → Some name ≡ subcommand_name_of m
     → Some (rows_of (found_of sub)) ≡ option_map (λ (p : Text × List Row). p.1) (subcommand_rows_of m)
     → HaveEntered words name (rows_of (found_of sub))
-entered_by app words m sub name is matches taken named rows =
+entered_by app words m sub name is simple matches taken named rows =
     let alike : option_map (λ (p : Text × List Row). p.0) (subcommand_rows_of m) ≡ subcommand_name_of m =
     map_map _ _ (out-ArgMatches m).subcommand in
     let met : subcommand_rows_of m ≡ Some (name, rows_of (found_of sub)) =
     both_of (subcommand_rows_of m) name (rows_of (found_of sub)) (alike ∙ sym named) (sym rows) in
     record {
       taken = taken_by app words is taken;
-      entered = met_by app words m is matches ∙ met;
+      entered = met_by app words m is simple matches ∙ met;
     }
 
 no_name : (o : Option (Text × List Row)) → option_map (λ (p : Text × List Row). p.0) o ≡ None → o ≡ None
@@ -65,15 +55,15 @@ no_name None is = refl
 no_name (Some p) is = cc
 
 -- the words name no subcommand, and none was met
-pub none_by : (app : App) (words : List Text) (m : ArgMatches) → app ≡ edit_app → HasMatchesOf app words m
-    → (is_simple_and_free app ≡ true → fault_of app words ≡ []) → None ≡ subcommand_name_of m
+pub none_by : (app : App) (words : List Text) (m : ArgMatches) → app ≡ edit_app → is_simple app ≡ true
+    → HasMatchesOf app words m → fault_of app words ≡ [] → None ≡ subcommand_name_of m
     → NameNone words
-none_by app words m is matches taken named =
+none_by app words m is simple matches taken named =
     let alike : option_map (λ (p : Text × List Row). p.0) (subcommand_rows_of m) ≡ subcommand_name_of m =
     map_map _ _ (out-ArgMatches m).subcommand in
     record {
       taken = taken_by app words is taken;
-      none = met_by app words m is matches ∙ no_name (subcommand_rows_of m) (alike ∙ sym named);
+      none = met_by app words m is simple matches ∙ no_name (subcommand_rows_of m) (alike ∙ sym named);
     }
 
 -- words that are refused, and not for want of memory, are not taken
@@ -91,13 +81,12 @@ among kinds e (inr kind) other = kind
 -- so the command line answers them, by the status of that kind
 pub answered : (app : App) (words : List Text) (e : Error) (status : ℕ) → app ≡ edit_app
     → (takes app words ≡ true → kind_of e ≡ OutOfMemory)
-    → (is_simple_and_free app ≡ true → HasKind (fault_of app words) e) → (kind_of e ≡ OutOfMemory → ⊥)
-    → status ≡ status_of (kind_of e)
+    → HasKind (fault_of app words) e → (kind_of e ≡ OutOfMemory → ⊥) → status ≡ status_of (kind_of e)
     → IsAnswered words status
 answered app words e status is passes kinds other same = record {
   not_taken = not_taken app words e is passes other;
   kind = kind_of e;
   among = among (fault_of edit_app words) e
-      (subst (λ (a : App). HasKind (fault_of a words) e) is (kinds (ap is_simple_and_free is ∙ free))) other;
+      (subst (λ (a : App). HasKind (fault_of a words) e) is kinds) other;
   is = same;
 }

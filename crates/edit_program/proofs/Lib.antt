@@ -1,10 +1,7 @@
 pub mod AskedLemmas
 pub mod CheckLemmas
 pub mod CommandCases
-pub mod CommandFacts
 pub mod CommandLemmas
-pub mod FilledLemmas
-pub mod LocalLemmas
 pub mod RunLemmas
 pub mod ShownLemmas
 pub mod TwiceLemmas

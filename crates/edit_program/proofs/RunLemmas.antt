@@ -5,9 +5,8 @@ use Rattle.clap.specs.Words.{Row, Text}
 use Rattle.edit_base.specs.Errors.{IsMemory}
 use Rattle.edit_steps.specs.declared.refusal.Refusal.{Refusal}
 use Rattle.edit_store.specs.Store.{SameFiles, StoreView}
-use Rattle.edit_program.specs.CommandLine.{HaveEntered}
 use Rattle.edit_program.specs.Commands.{IsAtFault, IsBrokenBy, IsCauseBy, IsDoneBy}
-use Rattle.edit_program.specs.Runs.{AreAtFault, HasFound, IsDone, IsEnded, IsRefused, IsRunCause}
+use Rattle.edit_program.specs.Runs.{AreAtFault, HasFound, HaveEntered, IsDone, IsEnded, IsRefused, IsRunCause}
 
 -- a fault of the subcommand is one of the words
 pub command_fault : (words : List Text) (name : Text) (rows : List Row) (r : Result ℕ Refusal)

@@ -1,21 +1,21 @@
 -- What is printed in place of matches answers the words.
 use Rattle.std.proofs.Common.{◌≡◌, ◌≤◌, ◌≢◌, ℕ, List, Option, Result, Ok, Err, true, arith, inl, inr, refl, subst, sym}
 use Rattle.std.specs.Prelude.{◌⊎◌, IfErr, IfOk, IsErrAnd}
-use Rattle.clap.specs.Words.{App, HasKind, Text, fault_of, is_simple_and_free, kind_of, takes}
+use Rattle.clap.specs.Words.{App, HasKind, Text, fault_of, kind_of, takes}
 use Rattle.clap.specs.declared.error.Error.{Error}
 use Rattle.clap.specs.declared.error.kind.ErrorKind.TheVariants.{OutOfMemory}
 use Rattle.edit_base.specs.Errors.{IsMemory}
 use Rattle.edit_base.specs.declared.errors.Error.TheVariants.{Output}
 use Rattle.edit_steps.specs.declared.refusal.Refusal.{Refusal}
 use Rattle.edit_store.specs.Store.{StoreView}
-use Rattle.edit_program.specs.CommandLine.{edit_app}
+use Rattle.edit_words.specs.CommandLine.{edit_app}
 use Rattle.edit_program.specs.Runs.{AreAtFault, IsAnswered, IsEnded, IsRunCause, status_of}
 use Rattle.edit_program.proofs.CommandLemmas.{answered}
 
 -- what was printed in place of matches answers the words
 shown_is : (app : App) (words : List Text) (e : Error) (r : Result ℕ Refusal) → app ≡ edit_app
     → (takes app words ≡ true → kind_of e ≡ OutOfMemory)
-    → (is_simple_and_free app ≡ true → HasKind (fault_of app words) e)
+    → HasKind (fault_of app words) e
     → (kind_of e ≡ OutOfMemory → IsErrAnd r (λ x. IsMemory x.error))
     → IfOk r (λ s. s ≡ status_of (kind_of e)) → IfOk r (IsAnswered words)
 shown_is app words e (Ok s) is passes kinds memory same =
@@ -36,7 +36,7 @@ fault_in words (Err x) by = tt
 -- 2 is that of a fault
 pub shown_fault : (app : App) (words : List Text) (e : Error) (r : Result ℕ Refusal) → app ≡ edit_app
     → (takes app words ≡ true → kind_of e ≡ OutOfMemory)
-    → (is_simple_and_free app ≡ true → HasKind (fault_of app words) e)
+    → HasKind (fault_of app words) e
     → (kind_of e ≡ OutOfMemory → IsErrAnd r (λ x. IsMemory x.error))
     → IfOk r (λ s. s ≡ status_of (kind_of e))
     → IfOk r (λ s. s ≡ 2 → AreAtFault words)
@@ -57,7 +57,7 @@ pub shown_ended : (app : App) (words : List Text) (e : Error) (r : Result ℕ Re
     (Shows Tells : List ℕ → Type 0) (current : List ℕ) (home : Option (List ℕ)) (local files : StoreView)
     → app ≡ edit_app
     → (takes app words ≡ true → kind_of e ≡ OutOfMemory)
-    → (is_simple_and_free app ≡ true → HasKind (fault_of app words) e)
+    → HasKind (fault_of app words) e
     → (kind_of e ≡ OutOfMemory → IsErrAnd r (λ x. IsMemory x.error)) → IfOk r (λ s. s ≡ status_of (kind_of e))
     → IfOk r (λ s. (s ≡ 0) ⊎ (s ≡ 2))
     → IfOk r (λ s. s ≢ 2 → Q → IsEnded words s Shows Tells current home local files files)
@@ -69,7 +69,7 @@ shown_ended app words e r Q Shows Tells current home local files is passes kinds
 pub shown_why : (app : App) (words : List Text) (e : Error) (r : Result ℕ Refusal) (current : List ℕ)
     (home : Option (List ℕ)) (local old new : StoreView) → app ≡ edit_app
     → (takes app words ≡ true → kind_of e ≡ OutOfMemory)
-    → (is_simple_and_free app ≡ true → HasKind (fault_of app words) e)
+    → HasKind (fault_of app words) e
     → IfErr r (λ x. IsMemory x.error ⊎ ((x.error ≡ Output) × (status_of (kind_of e) ≡ 0)))
     → IfErr r (λ x. IsRunCause words current home local old new x.error)
 shown_why app words e (Ok s) current home local old new is passes kinds why = tt

@@ -1,10 +1,6 @@
-pub mod CommandLine
+pub mod Asked
 pub mod Commands
-pub mod Filled
-pub mod Merged
 pub mod Presented
-pub mod Rules
 pub mod Runs
-pub mod SetVersionLine
 pub mod UpgradeAsked
 pub mod VersionWords

@@ -4,7 +4,7 @@ use Rattle.std.specs.Str.{bytes_eq}
 use Rattle.clap.specs.Words.{Row, Text}
 use Rattle.edit_shown.specs.declared.presentation.MessageFormat.TheVariants.{Human, Json}
 use Rattle.edit_shown.specs.declared.presentation.Presentation.{Presentation}
-use Rattle.edit_program.specs.CommandLine.{is_given, value_of}
+use Rattle.edit_program.specs.Asked.{is_given, value_of}
 
 -- how a plan is printed, by the format that is named and whether diffs are asked for: none beside JSON
 abbrev pub presented_by : Text → Bool → Option Presentation

@@ -9,9 +9,14 @@ use Rattle.edit_base.specs.declared.errors.Error.{Error}
 use Rattle.edit_base.specs.declared.errors.Error.TheVariants.{Merged, Output}
 use Rattle.edit_base.specs.declared.errors.details.MergedCommand.{MergedCommand}
 use Rattle.edit_store.specs.Store.{SameFiles, StoreView}
-use Rattle.edit_program.specs.CommandLine.{HaveEntered, edit_app}
+use Rattle.edit_words.specs.CommandLine.{edit_app}
+use Rattle.edit_words.specs.Merged.{merged_of}
 use Rattle.edit_program.specs.Commands.{IsAtFault, IsBrokenBy, IsCauseBy, IsDoneBy}
-use Rattle.edit_program.specs.Merged.{merged_of}
+
+-- the command line takes the words, and these are the matches of the subcommand that they name
+pub record HaveEntered (words : List Text) (name : Text) (rows : List Row) : Type 0 where
+  pub taken : fault_of edit_app words ≡ []
+  pub entered : subcommand_of edit_app words ≡ Some (name, rows)
 
 -- the command line does not take the words: they are at fault, or ask for help or the version
 abbrev pub AreNotTaken : List (List ℕ) → Type 0

@@ -7,7 +7,7 @@ use Rattle.edit_upgrade_read.specs.declared.asked.RustChoice.TheVariants as choi
 use Rattle.edit_upgrade_run.specs.declared.words.UpgradeWords.{UpgradeWords}
 use Rattle.edit_version.specs.RustVersions.{numbers_of, rust_of}
 use Rattle.edit_version.specs.declared.rust_version.RustVersion.{RustVersion}
-use Rattle.edit_program.specs.CommandLine.{AskForOptions, HasBadStatus, is_given}
+use Rattle.edit_program.specs.Asked.{AskForOptions, HasBadStatus, is_given}
 use Rattle.edit_program.specs.Presented.{presentation_of}
 
 -- the versions of Rust that count, by the one that is named and by whether they are ignored: those of the

@@ -8,7 +8,7 @@ use Rattle.edit_set_version.specs.Levels.{level_word}
 use Rattle.edit_set_version.specs.declared.set_version.BumpLevel.{BumpLevel}
 use Rattle.edit_set_version.specs.declared.set_version.BumpLevel.TheVariants.{Release}
 use Rattle.edit_set_version_run.specs.declared.words.SetVersionWords.{SetVersionWords}
-use Rattle.edit_program.specs.CommandLine.{is_dry, is_given, value_of, values_of}
+use Rattle.edit_program.specs.Asked.{is_dry, is_given, value_of, values_of}
 use Rattle.edit_program.specs.Presented.{presentation_of}
 
 -- the target that a version and a level name: one of the two alone, or with neither the level `release`

@@ -3,7 +3,7 @@ ghost use Rattle.std.specs.Prelude.{◌≡◌, ◌≢◌, IfErr, IfOk, None, Som
 ghost use Rattle.std.specs.Str.{bytes_eq};
 ghost use Rattle.clap.specs.Words.{first_of, found_of, rows_of};
 ghost use Rattle.edit_program.specs.declared.words_fault.WordsError.TheVariants as words;
-ghost use Rattle.edit_program.specs.CommandLine.{AskForOptions, HasBadStatus, status_of, status_of_value, verbosity_of};
+ghost use Rattle.edit_program.specs.Asked.{AskForOptions, HasBadStatus, status_of, status_of_value, verbosity_of};
 ghost use Rattle.edit_program.specs.UpgradeAsked.{AskForUpgrade, HasNoRust, HaveUpgradeFault, IsRust, name_two_indexes};
 
 use crate::lookups::{is_given, values_of};

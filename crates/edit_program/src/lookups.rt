@@ -1,7 +1,7 @@
 //! Values of options among matched words.
 ghost use Rattle.std.specs.Prelude.{◌≡◌, IfOk, map, string_bytes};
 ghost use Rattle.clap.specs.Words.{found_of, rows_of};
-ghost use Rattle.edit_program.specs.CommandLine.{is_given, values_of};
+ghost use Rattle.edit_program.specs.Asked.{is_given, values_of};
 
 use clap::ArgMatches;
 use std::alloc::{AllocError, Global};

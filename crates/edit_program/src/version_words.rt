@@ -3,7 +3,7 @@ ghost use Rattle.std.specs.Prelude.{◌≡◌, ◌≢◌, ◌||◌, IfErr, IfOk,
 ghost use Rattle.clap.specs.Words.{first_of, found_of, rows_of};
 ghost use Rattle.edit_set_version.specs.Bumps.{target_of};
 ghost use Rattle.edit_program.specs.declared.words_fault.WordsError.TheVariants as words;
-ghost use Rattle.edit_program.specs.CommandLine.{is_given, values_of};
+ghost use Rattle.edit_program.specs.Asked.{is_given, values_of};
 ghost use Rattle.edit_program.specs.VersionWords.{AskForVersions, HaveNoTarget, HaveVersionFault, IsTarget, names_twice};
 
 use crate::lookups::{is_given, values_of};

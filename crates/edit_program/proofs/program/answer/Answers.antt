@@ -12,28 +12,32 @@ pub returns-in-Err-clause-fault : goal.returns-in-Err-clause-fault
 returns-in-Err-clause-fault g c =
     shown_fault (app_of c.in_ok-command.command) (map (λ (w : Bor (List ℕ)). w.now) c.args.words.now)
     c.in-Err.error c.shown.result
-    c.in_ok-command.ensures c.in-Err.ensures.passes c.in-Err.ensures.kinds c.shown.ensures.memory
+    c.in_ok-command.ensures.app c.in-Err.ensures.passes
+    (c.in-Err.ensures.kinds c.in_ok-command.ensures.free) c.shown.ensures.memory
     c.shown.ensures.ok
 
 pub returns-in-Err-clause-ended : goal.returns-in-Err-clause-ended
 returns-in-Err-clause-ended g c =
     shown_ended (app_of c.in_ok-command.command) (map (λ (w : Bor (List ℕ)). w.now) c.args.words.now)
     c.in-Err.error c.shown.result _ _ _ _ _ _ _
-    c.in_ok-command.ensures c.in-Err.ensures.passes c.in-Err.ensures.kinds c.shown.ensures.memory
+    c.in_ok-command.ensures.app c.in-Err.ensures.passes
+    (c.in-Err.ensures.kinds c.in_ok-command.ensures.free) c.shown.ensures.memory
     c.shown.ensures.ok c.shown.ensures.small
 
 pub returns-in-Err-clause-why : goal.returns-in-Err-clause-why
 returns-in-Err-clause-why g c =
     shown_why (app_of c.in_ok-command.command) (map (λ (w : Bor (List ℕ)). w.now) c.args.words.now)
     c.in-Err.error c.shown.result _ _ _ _ _
-    c.in_ok-command.ensures c.in-Err.ensures.passes c.in-Err.ensures.kinds c.shown.ensures.refused
+    c.in_ok-command.ensures.app c.in-Err.ensures.passes
+    (c.in-Err.ensures.kinds c.in_ok-command.ensures.free) c.shown.ensures.refused
 
 pub returns-in-Some-subcommand-clause-fault : goal.returns-in-Some-subcommand-clause-fault
 returns-in-Some-subcommand-clause-fault g c =
     let words = map (λ (w : Bor (List ℕ)). w.now) c.args.words.now in
     let met = c.in-Some-subcommand in
-    let entered = entered_by (app_of c.in_ok-command.command) words c.in-Ok.matches met.matches.now met.name.now
-    c.in_ok-command.ensures c.in-Ok.ensures.matches c.in-Ok.ensures.kinds met.ensures.name met.ensures.rows in
+    let entered = entered_by (app_of c.in_ok-command.command) words c.in-Ok.matches met.matches.now
+    met.name.now c.in_ok-command.ensures.app c.in_ok-command.ensures.simple c.in-Ok.ensures.matches
+    (c.in-Ok.ensures.kinds c.in_ok-command.ensures.free) met.ensures.name met.ensures.rows in
     command_fault words met.name.now (rows_of (found_of met.matches.now)) c.subcommand_asked.result
     entered c.subcommand_asked.ensures.fault
 
@@ -41,8 +45,9 @@ pub returns-in-Some-subcommand-clause-ended : goal.returns-in-Some-subcommand-cl
 returns-in-Some-subcommand-clause-ended g c =
     let words = map (λ (w : Bor (List ℕ)). w.now) c.args.words.now in
     let met = c.in-Some-subcommand in
-    let entered = entered_by (app_of c.in_ok-command.command) words c.in-Ok.matches met.matches.now met.name.now
-    c.in_ok-command.ensures c.in-Ok.ensures.matches c.in-Ok.ensures.kinds met.ensures.name met.ensures.rows in
+    let entered = entered_by (app_of c.in_ok-command.command) words c.in-Ok.matches met.matches.now
+    met.name.now c.in_ok-command.ensures.app c.in_ok-command.ensures.simple c.in-Ok.ensures.matches
+    (c.in-Ok.ensures.kinds c.in_ok-command.ensures.free) met.ensures.name met.ensures.rows in
     command_ended words met.name.now (rows_of (found_of met.matches.now)) _ _ c.args.current.now
     _ _ _ _ c.subcommand_asked.result _ entered c.subcommand_asked.ensures.status
     c.subcommand_asked.ensures.checked c.subcommand_asked.ensures.done
@@ -51,8 +56,9 @@ pub returns-in-Some-subcommand-clause-refused : goal.returns-in-Some-subcommand-
 returns-in-Some-subcommand-clause-refused g c =
     let words = map (λ (w : Bor (List ℕ)). w.now) c.args.words.now in
     let met = c.in-Some-subcommand in
-    let entered = entered_by (app_of c.in_ok-command.command) words c.in-Ok.matches met.matches.now met.name.now
-    c.in_ok-command.ensures c.in-Ok.ensures.matches c.in-Ok.ensures.kinds met.ensures.name met.ensures.rows in
+    let entered = entered_by (app_of c.in_ok-command.command) words c.in-Ok.matches met.matches.now
+    met.name.now c.in_ok-command.ensures.app c.in_ok-command.ensures.simple c.in-Ok.ensures.matches
+    (c.in-Ok.ensures.kinds c.in_ok-command.ensures.free) met.ensures.name met.ensures.rows in
     command_refused words met.name.now (rows_of (found_of met.matches.now)) _ _ c.args.current.now
     _ _ _ _ c.subcommand_asked.result _ entered c.subcommand_asked.ensures.refused
 
@@ -60,15 +66,17 @@ pub returns-in-Some-subcommand-clause-why : goal.returns-in-Some-subcommand-clau
 returns-in-Some-subcommand-clause-why g c =
     let words = map (λ (w : Bor (List ℕ)). w.now) c.args.words.now in
     let met = c.in-Some-subcommand in
-    let entered = entered_by (app_of c.in_ok-command.command) words c.in-Ok.matches met.matches.now met.name.now
-    c.in_ok-command.ensures c.in-Ok.ensures.matches c.in-Ok.ensures.kinds met.ensures.name met.ensures.rows in
+    let entered = entered_by (app_of c.in_ok-command.command) words c.in-Ok.matches met.matches.now
+    met.name.now c.in_ok-command.ensures.app c.in_ok-command.ensures.simple c.in-Ok.ensures.matches
+    (c.in-Ok.ensures.kinds c.in_ok-command.ensures.free) met.ensures.name met.ensures.rows in
     command_why words met.name.now (rows_of (found_of met.matches.now)) c.args.current.now _ _ _ _
     c.subcommand_asked.result entered c.subcommand_asked.ensures.why
 
 pub returns-in-None-clause-fault : goal.returns-in-None-clause-fault
 returns-in-None-clause-fault g c two = inr (inl (none_by (app_of c.in_ok-command.command)
-    (map (λ (w : Bor (List ℕ)). w.now) c.args.words.now) c.in-Ok.matches c.in_ok-command.ensures
-    c.in-Ok.ensures.matches c.in-Ok.ensures.kinds c.in-None.ensures.name))
+    (map (λ (w : Bor (List ℕ)). w.now) c.args.words.now) c.in-Ok.matches c.in_ok-command.ensures.app
+    c.in_ok-command.ensures.simple c.in-Ok.ensures.matches
+    (c.in-Ok.ensures.kinds c.in_ok-command.ensures.free) c.in-None.ensures.name))
 
 pub returns-in-None-clause-ended : goal.returns-in-None-clause-ended
 returns-in-None-clause-ended g c other t = absurd (other refl)

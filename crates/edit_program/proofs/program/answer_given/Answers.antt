@@ -2,7 +2,7 @@ use Rattle.std.proofs.Common.{Bor, List, ℕ, map, rules, subst, true, ◌≡◌
 use Rattle.std.specs.Prelude.{IfErr, IfOk, OnErr}
 use Rattle.std.specs.Io.KnownBytes.{Appends}
 use Rattle.edit_sources.specs.Configured.{given}
-use Rattle.edit_program.specs.Filled.{filled}
+use Rattle.edit_words.specs.Filled.{filled}
 use Rattle.edit_program.specs.Runs.{AreAtFault, IsEnded, IsRefused, IsRunCause}
 use Rattle.edit_program.proofs.program.answer_given.Goals as goal
 

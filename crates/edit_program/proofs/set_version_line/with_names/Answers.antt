@@ -1,9 +1,0 @@
-use Rattle.std.proofs.Common.{rules}
-use Rattle.std.proofs.lemmas.Result.{IfOk-weaker}
-use Rattle.edit_program.proofs.LocalLemmas.{local_after}
-use Rattle.edit_program.proofs.set_version_line.with_names.Goals as goal
-
-pub returns-clause-local : goal.returns-clause-local
-returns-clause-local c = IfOk-weaker c.arg-2.result _ _ (λ r h start.
-    local_after _ _ _ h (search rules) (local_after _ _ _ c.in_ok-arg.ensures (search rules) start))
-    c.arg-2.ensures

@@ -1,0 +1,13 @@
+//! The command line of `cargo-edit`: which words there are, and what becomes of words before they are parsed.
+#![tactic(auto)]
+
+mod arguments;
+mod filled;
+mod merged;
+mod reports;
+mod rules;
+mod set_version_line;
+
+pub use arguments::command;
+pub use filled::filled_words;
+pub use merged::merged_of;
