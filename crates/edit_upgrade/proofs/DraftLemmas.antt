@@ -72,6 +72,21 @@ more-below f n m xs ys is low own =
     (All-weaker (λ x. f x < n) (λ x. f x < m) (λ x e. omega (arith, e, is)) xs low)
     (All-weaker (λ x. f x ≡ n) (λ x. f x < m) (λ x e. omega (arith, e, is)) ys own)
 
+-- those of each number, one number after another, with those of the next number behind them
+in-turn-more : {A : Type 0} (f : A → ℕ) (n m : ℕ) (xs ys : List A) → m ≡ suc n → All (λ x. f x < n) xs
+    → All (λ x. f x ≡ n) ys → xs ≡ flat_map (λ i. filter (λ x. f x == i) xs) (below n)
+    → xs ++ ys ≡ flat_map (λ i. filter (λ x. f x == i) (xs ++ ys)) (below m)
+in-turn-more {A} f n m xs ys is low own turns =
+    let old : ℕ → List A = λ i. filter (λ x. f x == i) xs in
+    let all : ℕ → List A = λ i. filter (λ x. f x == i) (xs ++ ys) in
+    let front : flat_map old (below n) ≡ flat_map all (below n) =
+    flat-same old all (below n) (all-below (λ i. old i ≡ all i) n
+    (λ i less. sym (filter-front (λ x. f x == i) xs ys (others f n i ys less own)))) in
+    let last : all n ≡ ys = filter-last (λ x. f x == n) xs ys (lows f n xs low) (owns f n ys own) in
+    ap (λ (l : List A). l ++ ys) (turns ∙ front)
+    ∙ ap (λ (l : List A). flat_map all (below n) ++ l) (sym last ∙ sym (flat-one all n))
+    ∙ sym (flat_map-append all (below n) (n ∷ [])) ∙ ap (λ (k : ℕ). flat_map all (below k)) (sym is)
+
 -- outputs of an input whose path none of these has
 not-there : (xs : List Input) (path : List ℕ) (os : List Output)
     → ((j : ℕ) (y : Input) → slice_get xs j ≡ Some y → path_of y ≢ path)
@@ -200,16 +215,12 @@ module _ (o : Options) (now next : Kept) (xs : List Input) (cs : List (Vec Confi
           (sym told-last) one)))))
 
   rows-more : ls ++ lines ≡ flat_map (λ i. lines_on i (ls ++ lines)) (below (length (xs ++ x ∷ [])))
-  rows-more =
-      let n = length xs in
-      let all : ℕ → List Line = λ i. lines_on i (ls ++ lines) in
-      let front : flat_map (λ i. lines_on i ls) (below n) ≡ flat_map all (below n) =
-      flat-same (λ i. lines_on i ls) all (below n) (all-below (λ i. lines_on i ls ≡ all i) n
-      (λ i low. sym (lines-front i low))) in
-      ap (λ (l : List Line). l ++ lines) (p.rows_in_order ∙ front)
-      ∙ ap (λ (l : List Line). flat_map all (below n) ++ l) (sym lines-last ∙ sym (flat-one all n))
-      ∙ sym (flat_map-append all (below n) (n ∷ [])) ∙ ap (λ (k : ℕ). flat_map all (below k))
-      (sym (length-more xs x))
+  rows-more = in-turn-more (λ (l : Line). l.input) (length xs) (length (xs ++ x ∷ [])) ls lines
+      (length-more xs x) p.rows_below rows-own p.rows_in_order
+
+  told-more : ts ++ told ≡ flat_map (λ i. told_on i (ts ++ told)) (below (length (xs ++ x ∷ [])))
+  told-more = in-turn-more (λ (t : Told). t.input) (length xs) (length (xs ++ x ∷ [])) ts told
+      (length-more xs x) p.told_below told-own p.told_in_order
 
   outputs-more : map output_path (os ++ outputs) ≡ filter (has_some (os ++ outputs))
       (map path_of (xs ++ x ∷ []))
@@ -234,6 +245,7 @@ module _ (o : Options) (now next : Kept) (xs : List Input) (cs : List (Vec Confi
     each = each-more;
     rows_in_order = rows-more;
     outputs_in_order = outputs-more;
+    told_in_order = told-more;
     rows_below = more-below (λ (l : Line). l.input) (length xs) (length (xs ++ x ∷ [])) ls lines
         (length-more xs x) p.rows_below rows-own;
     told_below = more-below (λ (t : Told). t.input) (length xs) (length (xs ++ x ∷ [])) ts told

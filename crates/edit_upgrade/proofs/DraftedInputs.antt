@@ -132,6 +132,7 @@ module _ (o : Options) (inputs : List Input) (configs : List (Vec Config)) (old 
     outputs = all-outputs;
     outputs_in_order = p.outputs_in_order;
     warnings = all-warnings;
+    warnings_in_order = p.told_in_order;
     narrowing = all-lines Narrows long (λ s bytes lines same k. rows-narrow s bytes lines k);
     reach = all-lines Reaches long (λ s bytes lines same k. rows-reach s bytes lines k);
     latest = all-lines LatestIsNotLess long (λ s bytes lines same k. rows-latest s bytes lines k);

@@ -46,6 +46,7 @@ planned-start o kept rows outputs warnings a b c =
       each = λ i x own e f. absurd (no x e);
       rows_in_order = refl;
       outputs_in_order = refl;
+      told_in_order = refl;
       rows_below = All-nil (λ (l : Line). l.input < 0);
       told_below = All-nil (λ (t : Told). t.input < 0);
       paths_among = All-nil (λ (q : Output). IsPathAmong [] (output_path q));

@@ -70,6 +70,7 @@ pub record ArePlanned (o : Options) (kept : Kept) (inputs : List Input) (configs
   pub rows_in_order : lines ≡ flat_map (λ i. lines_on i lines) (below (length inputs))
   pub outputs_in_order : map output_path outputs
       ≡ filter (λ path. not (length (outputs_on path outputs) == 0)) (map path_of inputs)
+  pub told_in_order : told ≡ flat_map (λ i. told_on i told) (below (length inputs))
   pub rows_below : All (λ line. line.input < length inputs) lines
   pub told_below : All (λ t. t.input < length inputs) told
   pub paths_among : All (λ output. IsPathAmong inputs (output_path output)) outputs

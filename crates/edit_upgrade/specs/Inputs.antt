@@ -6,6 +6,7 @@ use Rattle.std.specs.Str.{bytes_eq}
 use Rattle.edit_version.specs.RustVersions.{Numbers, numbers_of}
 use Rattle.edit_sources.specs.declared.config.Config.{Config}
 use Rattle.edit_upgrade.specs.Lines.{line_of}
+use Rattle.edit_upgrade.specs.Lists.{Told, warning_view}
 use Rattle.edit_upgrade.specs.Rows.{Line}
 use Rattle.edit_metadata.specs.declared.input.Input.{Input}
 use Rattle.edit_upgrade.specs.declared.upgrade.Look.{Look}
@@ -51,6 +52,15 @@ below (suc n) = below n ++ n ∷ []
 -- the rows are those of the inputs, one input after another (own)
 abbrev pub RowsInOrder : List Input → UpgradePlan → Type 0
 RowsInOrder inputs p = map line_of p.rows.items ≡ flat_map (λ i. rows_of i p) (below (length inputs))
+
+-- the warnings on an input
+abbrev pub warnings_of : ℕ → UpgradePlan → List Told
+warnings_of i p = filter (λ told. told.input == i) (map warning_view p.warnings.items)
+
+-- the warnings are those on the inputs, one input after another (own)
+abbrev pub WarningsInOrder : List Input → UpgradePlan → Type 0
+WarningsInOrder inputs p =
+    map warning_view p.warnings.items ≡ flat_map (λ i. warnings_of i p) (below (length inputs))
 
 -- the path of an input
 abbrev pub path_of : Input → List ℕ

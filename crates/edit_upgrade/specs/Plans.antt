@@ -5,7 +5,7 @@ use Rattle.edit_metadata.specs.declared.input.Input.{Input}
 use Rattle.edit_sources.specs.declared.config.Config.{Config}
 use Rattle.edit_upgrade.specs.Caches.{CacheView}
 use Rattle.edit_upgrade.specs.Headline.{IsSettled, LatestIsNotLess, Narrows, NeedsAsBefore, NeverLowers, Reaches}
-use Rattle.edit_upgrade.specs.Inputs.{EachInput, OutputsInOrder, RowsInOrder}
+use Rattle.edit_upgrade.specs.Inputs.{EachInput, OutputsInOrder, RowsInOrder, WarningsInOrder}
 use Rattle.edit_upgrade.specs.Lines.{line_of}
 use Rattle.edit_upgrade.specs.Lists.{Tells}
 use Rattle.edit_upgrade.specs.Looks.{AreLooks}
@@ -28,6 +28,7 @@ pub record IsPlan (o : Options) (inputs : List Input) (configs : List (Vec Confi
   pub outputs : EachInput o inputs configs HasItsOutputs p
   pub outputs_in_order : OutputsInOrder inputs p
   pub warnings : EachInput o inputs configs HasItsWarnings p
+  pub warnings_in_order : WarningsInOrder inputs p
   pub narrowing : All Narrows (map line_of p.rows.items)
   pub reach : All Reaches (map line_of p.rows.items)
   pub latest : All LatestIsNotLess (map line_of p.rows.items)

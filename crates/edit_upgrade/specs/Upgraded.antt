@@ -1,5 +1,5 @@
 -- What a plan gives for a manifest: its rows, and the looks that they rest on.
-use Rattle.std.specs.Prelude.{◌≡◌, ◌==◌, ℕ, List, [], Some, Contains, filter, map, slice_get}
+use Rattle.std.specs.Prelude.{◌≡◌, ℕ, List, [], Some, Contains, slice_get}
 use Rattle.std.specs.Global.{Vec}
 use Rattle.std.specs.List.{AllZip}
 use Rattle.edit_syntax.specs.Grammar.{Text}
@@ -9,8 +9,8 @@ use Rattle.edit_entries.specs.Entries.{entries}
 use Rattle.edit_sources.specs.declared.config.Config.{Config}
 use Rattle.url.specs.Parts as url
 use Rattle.url.specs.Parts.{serialize}
-use Rattle.edit_upgrade.specs.Inputs.{Setting, path_of, outputs_at, rows_of}
-use Rattle.edit_upgrade.specs.Lists.{AreWarnings, Told, warning_view}
+use Rattle.edit_upgrade.specs.Inputs.{Setting, path_of, outputs_at, rows_of, warnings_of}
+use Rattle.edit_upgrade.specs.Lists.{AreWarnings, Told}
 use Rattle.edit_upgrade.specs.Looks.{told}
 use Rattle.edit_upgrade.specs.Outputs.{HasOutputs}
 use Rattle.edit_upgrade.specs.Records.{Seen, seen}
@@ -73,10 +73,6 @@ HasItsRows s input p = HasRows s input.bytes.items (rows_of s.input p)
 abbrev pub HasItsOutputs : Setting → Input → UpgradePlan → Type 0
 HasItsOutputs s input p =
     HasOutputs (path_of input) input.bytes.items (rows_of s.input p) (outputs_at (path_of input) p)
-
--- the warnings of an input
-abbrev pub warnings_of : ℕ → UpgradePlan → List Told
-warnings_of i p = filter (λ told. told.input == i) (map warning_view p.warnings.items)
 
 -- the bytes are a manifest, and these are the warnings on its entries
 pub record HasWarnings (input : ℕ) (bytes : List ℕ) (told : List Told) : Type 0 where

@@ -8,7 +8,7 @@ ghost use Rattle.edit_cache.specs.IndexCache.{index_of};
 ghost use Rattle.edit_upgrade.specs.Caches.{LeavesCache, StopsDocuments, StopsInputs, StopsManifest, cache_view};
 ghost use Rattle.edit_upgrade.specs.Drafts.{AddsInput, AreGiven, IsDraft};
 ghost use Rattle.edit_upgrade.specs.Headline.{IsSettled, LatestIsNotLess, Narrows, NeedsAsBefore, NeverLowers, Reaches};
-ghost use Rattle.edit_upgrade.specs.Inputs.{EachInput, HaveDistinctPaths, OutputsInOrder, RowsInOrder};
+ghost use Rattle.edit_upgrade.specs.Inputs.{EachInput, HaveDistinctPaths, OutputsInOrder, RowsInOrder, WarningsInOrder};
 ghost use Rattle.edit_upgrade.specs.Lines.{line_of};
 ghost use Rattle.edit_upgrade.specs.Lists.{Tells};
 ghost use Rattle.edit_upgrade.specs.Looked.{AreKept};
@@ -202,6 +202,7 @@ pub fn plan_upgrade<I: Index>(
     ensures outputs_in_order { IfOk result (OutputsInOrder inputs.now) }
     // on each entry that has no record, takes all from its workspace, or has a requirement that is not read
     ensures warnings { IfOk result (EachInput options.now inputs.now configs.now HasItsWarnings) }
+    ensures warnings_in_order { IfOk result (WarningsInOrder inputs.now) }
     // a compatible change leaves a requirement that is read and admits nothing that the old one did not
     ensures narrowing { IfOk result (λ p. All Narrows (map line_of p.rows.items)) }
     // a change admits the version that it was made for

@@ -1,5 +1,5 @@
 pub mod PlanClauses
 pub mod PlanLemmas
-pub mod RowLemmas
+pub mod OrderLemmas
 pub mod LookLemmas
 pub mod UpgradeLemmas

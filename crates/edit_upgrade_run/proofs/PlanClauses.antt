@@ -7,7 +7,7 @@ use Rattle.edit_metadata.specs.declared.input.Input.{Input}
 use Rattle.edit_sources.specs.declared.config.Config.{Config}
 use Rattle.edit_upgrade.specs.Caches.{CacheView}
 use Rattle.edit_upgrade.specs.Headline.{IsSettled, LatestIsNotLess, Narrows, NeedsAsBefore, NeverLowers, Reaches}
-use Rattle.edit_upgrade.specs.Inputs.{EachInput, OutputsInOrder, RowsInOrder}
+use Rattle.edit_upgrade.specs.Inputs.{EachInput, OutputsInOrder, RowsInOrder, WarningsInOrder}
 use Rattle.edit_upgrade.specs.Lines.{line_of}
 use Rattle.edit_upgrade.specs.Lists.{Tells}
 use Rattle.edit_upgrade.specs.Missing.{TellsMissing}
@@ -21,18 +21,20 @@ pub one_plan : (o : Options) (inputs : List Input) (configs : List (Vec Config))
     (r : Result UpgradePlan Error) → IfOk r (EachInput o inputs configs HasItsRows)
     → IfOk r (RowsInOrder inputs) → IfOk r (EachInput o inputs configs HasItsOutputs)
     → IfOk r (OutputsInOrder inputs) → IfOk r (EachInput o inputs configs HasItsWarnings)
-    → IfOk r (λ p. All Narrows (map line_of p.rows.items)) → IfOk r (λ p. All Reaches (map line_of p.rows.items))
+    → IfOk r (WarningsInOrder inputs) → IfOk r (λ p. All Narrows (map line_of p.rows.items))
+    → IfOk r (λ p. All Reaches (map line_of p.rows.items))
     → IfOk r (λ p. All LatestIsNotLess (map line_of p.rows.items)) → IfOk r (NeverLowers o)
     → IfOk r (EachInput o inputs configs IsSettled) → IfOk r (EachInput o inputs configs NeedsAsBefore)
     → IfOk r (TellsMissing o inputs) → IfOk r (HasLooks inputs configs old new) → IfOk r Tells
     → IfOk r (IsPlan o inputs configs old new)
-one_plan o inputs configs old new (Ok p) rows rows_in_order outputs outputs_in_order warnings narrowing reach
-    latest never_lower fixed_point needs missing looks lists = record {
+one_plan o inputs configs old new (Ok p) rows rows_in_order outputs outputs_in_order warnings
+    warnings_in_order narrowing reach latest never_lower fixed_point needs missing looks lists = record {
       rows = rows;
       rows_in_order = rows_in_order;
       outputs = outputs;
       outputs_in_order = outputs_in_order;
       warnings = warnings;
+      warnings_in_order = warnings_in_order;
       narrowing = narrowing;
       reach = reach;
       latest = latest;
@@ -43,5 +45,5 @@ one_plan o inputs configs old new (Ok p) rows rows_in_order outputs outputs_in_o
       looks = looks;
       lists = lists;
     }
-one_plan o inputs configs old new (Err e) rows rows_in_order outputs outputs_in_order warnings narrowing reach
-    latest never_lower fixed_point needs missing looks lists = tt
+one_plan o inputs configs old new (Err e) rows rows_in_order outputs outputs_in_order warnings
+    warnings_in_order narrowing reach latest never_lower fixed_point needs missing looks lists = tt

@@ -35,6 +35,7 @@ answers_count o inputs configs old now view p h = record {
   outputs = h.outputs;
   outputs_in_order = h.outputs_in_order;
   warnings = h.warnings;
+  warnings_in_order = h.warnings_in_order;
   narrowing = h.narrowing;
   reach = h.reach;
   latest = h.latest;

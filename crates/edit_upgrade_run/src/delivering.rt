@@ -8,6 +8,7 @@ ghost use Rattle.edit_store.specs.Store.{SameFiles};
 ghost use Rattle.edit_upgrade_run.specs.Upgrading.{IsAnsweredWith, IsPathOf, delivery_by};
 ghost use Rattle.edit_upgrade_told.specs.Causes.{IsDeliveryCause};
 ghost use Rattle.edit_upgrade_told.specs.Delivered.{IsCutShort};
+ghost use Rattle.edit_upgrade_told.specs.Said.{AreWarningsInOrder};
 ghost use Rattle.edit_upgrade_told.specs.Tables.{AreInOrder};
 
 use crate::words::UpgradeWords;
@@ -52,6 +53,7 @@ pub(crate) fn deliver_plan<S: Store, O: io::Write, E: io::Write>(
 ) -> RunResult<bool>
     requires outputs { HaveDistinctPaths plan.now.outputs.items }
     requires rows { AreInOrder plan.now.rows.items }
+    requires warnings { AreWarningsInOrder plan.now.warnings.items }
     ensures tells { (S.view files.new).tells ≡ (S.view files.old).tells }
     ensures later { (S.view files.old).faults ≤ (S.view files.new).faults }
     ensures done { IfOk result (λ due. IsAnsweredWith due (Appends (O.contents out.old) (O.contents out.new))

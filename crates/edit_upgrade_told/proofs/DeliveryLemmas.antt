@@ -1,11 +1,12 @@
 -- A delivery, from its steps.
 use Rattle.std.proofs.Common.{◌≡◌, ◌∙◌, ◌+◌, ◌≤◌, ℕ, suc, Bor, List, [], ◌∷◌, ◌++◌, Option, Some, Bool, true, false, ap, append-nil, arith, inl, inr, length, map, option_map, subst, sym, ⊎_elim}
 use Rattle.std.proofs.Math.Nat.{eq-or-lt_of_le}
-use Rattle.std.specs.Prelude.{◌≢◌, ◌⊎◌, ◌||◌, ℤ, if◌then◌else◌, slice_get, string_bytes}
+use Rattle.std.specs.Prelude.{◌≢◌, ◌⊎◌, ◌||◌, ◌==◌, ℤ, pos, int_le, if◌then◌else◌, not, slice_get, string_bytes}
 use Rattle.std.specs.Io.KnownBytes.{Appends}
 use Rattle.std.specs.List.{flat_map}
 use Rattle.std.specs.Option.{option_map_or}
 use Rattle.std.proofs.KnownBytes.{Appends-trans}
+use Rattle.std.proofs.lemmas.Bool.{and_right}
 use Rattle.std.proofs.lemmas.Grind.{flat_map-append}
 use Rattle.edit_base.specs.Errors.{IsMemory}
 use Rattle.edit_base.specs.declared.errors.DeviceCall.{DeviceCall}
@@ -26,10 +27,11 @@ use Rattle.edit_upgrade_told.specs.CallsFile.{calls_files, due_path, file_of}
 use Rattle.edit_upgrade_told.specs.Causes.{AreTold, HasBadWord, IsDeliveryCause}
 use Rattle.edit_upgrade_told.specs.Delivered.{AreBothWritten, IsBehind, IsDelivered, IsToldTo, written}
 use Rattle.edit_upgrade_told.specs.Delivery.{Delivery, calls_of, delivery_of}
-use Rattle.edit_upgrade_told.specs.Said.{check, check_at}
+use Rattle.edit_upgrade_told.specs.Said.{check, check_at, warning, warning_on, warnings_at}
 use Rattle.edit_upgrade_told.specs.Shown.{diffs_if, messages_as}
 use Rattle.edit_upgrade_told.specs.Tables.{tables}
 use Rattle.edit_upgrade_told.specs.declared.telling.Telling.{Telling}
+use Rattle.edit_upgrade_told.proofs.PartLemmas.{made_of_part}
 
 -- one number more
 below_more : (f : ℕ → List ℕ) (i : ℕ) → flat_map f (below (i + 1)) ≡ flat_map f (below i) ++ f i
@@ -50,6 +52,14 @@ pub check_is : (verbosity : ℤ) (warnings : List Warning) (inputs : List Input)
     → check_at verbosity warnings inputs i ≡ check verbosity warnings i (string_bytes input.name)
 check_is verbosity warnings inputs i input is =
     ap (λ o. option_map_or (λ (x : Input). check verbosity warnings i (string_bytes x.name)) o []) is
+
+-- what is said of the warnings on an input is what is said of it by all warnings
+pub said_of_own : (verbosity : ℤ) (i : ℕ) (warnings : List Warning)
+    → flat_map (warning_on verbosity i) (warnings_at i warnings) ≡ flat_map (warning_on verbosity i) warnings
+said_of_own verbosity i warnings =
+    made_of_part (λ w. w.input == i) (warning_on verbosity i) warnings
+    (λ w other. ap (λ heard. if heard then warning (string_bytes w.text) else [])
+    (and_right (not w.verbose || int_le (pos 1) verbosity) (w.input == i) other))
 
 -- the calls are not known
 pub calls_cause : (p : UpgradePlan) (o : Options) (old new : StoreView) (e : Error)

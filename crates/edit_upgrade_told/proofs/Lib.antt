@@ -3,4 +3,4 @@ mod DeliveryLemmas
 pub mod DryRuns
 mod NameLemmas
 mod NoteLemmas
-mod RowLemmas
+mod PartLemmas

@@ -4,6 +4,7 @@ use Rattle.std.specs.BTreeSet.{insert_key}
 use Rattle.std.specs.Cmp.Lexicographic.{slice_cmp}
 use Rattle.std.specs.Fmt.{decimal}
 use Rattle.std.specs.List.{flat_map, fold, join_by}
+use Rattle.std.specs.List.Sorted.{IsNonDecreasingBy}
 use Rattle.std.specs.Option.{option_map_or}
 use Rattle.std.specs.Ordering.{nat_cmp}
 use Rattle.std.specs.Str.{bytes_eq}
@@ -34,6 +35,14 @@ is_heard verbosity i w = (not w.verbose || int_le (pos 1) verbosity) && w.input 
 -- the warning, where a report of this verbosity has it for this input
 abbrev pub warning_on : ℤ → ℕ → Warning → List ℕ
 warning_on verbosity i w = if is_heard verbosity i w then warning (string_bytes w.text) else []
+
+-- the warnings on an input
+abbrev pub warnings_at : ℕ → List Warning → List Warning
+warnings_at i warnings = filter (λ w. w.input == i) warnings
+
+-- the warnings stand in the order of their inputs
+abbrev pub AreWarningsInOrder : List Warning → Type 0
+AreWarningsInOrder warnings = IsNonDecreasingBy (λ w. w.input) warnings
 
 -- whose dependencies are looked at, and the warnings on them
 abbrev pub check : ℤ → List Warning → ℕ → List ℕ → List ℕ

@@ -7,7 +7,7 @@ ghost use Rattle.edit_store.specs.Store.{SameFiles};
 ghost use Rattle.edit_upgrade_told.specs.Causes.{IsDeliveryCause};
 ghost use Rattle.edit_upgrade_told.specs.Delivered.{IsCutShort, IsDelivered};
 ghost use Rattle.edit_upgrade_told.specs.Delivery.{delivery_of};
-ghost use Rattle.edit_upgrade_told.specs.Said.{said};
+ghost use Rattle.edit_upgrade_told.specs.Said.{AreWarningsInOrder, said};
 ghost use Rattle.edit_upgrade_told.specs.Tables.{AreInOrder};
 
 use crate::calls::calls_of;
@@ -42,6 +42,7 @@ pub fn deliver<S: Store, O: io::Write, E: io::Write>(
 ) -> RunResult<()>
     requires outputs { HaveDistinctPaths plan.now.outputs.items }
     requires rows { AreInOrder plan.now.rows.items }
+    requires warnings { AreWarningsInOrder plan.now.warnings.items }
     ensures tells { (S.view files.new).tells ≡ (S.view files.old).tells }
     ensures later { (S.view files.old).faults ≤ (S.view files.new).faults }
     ensures done { OnOk result (IsDelivered (Appends (O.contents out.old) (O.contents out.new))

@@ -12,6 +12,7 @@ mod reports;
 mod rows;
 mod shown;
 mod telling;
+mod warnings;
 
 pub use delivery::deliver;
 pub use telling::Telling;

@@ -6,10 +6,11 @@ ghost use Rattle.edit_base.specs.Errors.{IsMemory};
 ghost use Rattle.edit_base.specs.declared.errors.Error.TheVariants.{Output};
 ghost use Rattle.edit_report.specs.Messages.{message_text};
 ghost use Rattle.edit_report.specs.Table.{report_text};
-ghost use Rattle.edit_upgrade_told.specs.Said.{check, checks, is_heard, warning_on};
+ghost use Rattle.edit_upgrade_told.specs.Said.{AreWarningsInOrder, check, checks, is_heard, warning_on};
 ghost use Rattle.edit_upgrade_told.specs.Tables.{AreInOrder, rows_at, table, tables};
 
 use crate::rows::rows_at;
+use crate::warnings::warnings_at;
 use edit_base::CargoResult;
 use edit_metadata::Input;
 use edit_report::{Row, shell_status, shell_warn, shell_write_stdout, table_text};
@@ -117,12 +118,13 @@ fn print_check<E: io::Write>(
     verbosity: i8,
     err: &mut E,
 ) -> CargoResult<()>
+    requires { AreWarningsInOrder warnings.now }
     ensures text { OnOk result (Appends (E.contents err.old) (E.contents err.new)
         (check verbosity warnings.now input name.now)) }
     ensures refused { IfErr result (λ e. IsMemory e ⊎ (e ≡ Output)) }
 {
     print_status(alloc, name, err)?;
-    print_warnings(warnings, input, verbosity, err)
+    print_warnings(warnings_at(warnings, input), input, verbosity, err)
 }
 
 /// Prints what is said of each input, one behind another, before a file is written.
@@ -135,7 +137,8 @@ pub(crate) fn print_reports<O: io::Write, E: io::Write>(
     out: &mut O,
     err: &mut E,
 ) -> CargoResult<()>
-    requires { AreInOrder plan.now.rows.items }
+    requires rows { AreInOrder plan.now.rows.items }
+    requires warnings { AreWarningsInOrder plan.now.warnings.items }
     ensures tables { OnOk result (Appends (O.contents out.old) (O.contents out.new)
         (tables format verbosity plan.now.rows.items (length inputs.now))) }
     ensures checks { OnOk result (Appends (E.contents err.old) (E.contents err.new)

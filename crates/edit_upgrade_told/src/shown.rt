@@ -4,7 +4,7 @@ ghost use Rattle.std.specs.Io.KnownBytes.{Appends};
 ghost use Rattle.edit_base.specs.Errors.{IsMemory};
 ghost use Rattle.edit_base.specs.declared.errors.Error.TheVariants.{Output as Unwritten};
 ghost use Rattle.edit_update.specs.Views.{calls_seen};
-ghost use Rattle.edit_upgrade_told.specs.Said.{checks};
+ghost use Rattle.edit_upgrade_told.specs.Said.{AreWarningsInOrder, checks};
 ghost use Rattle.edit_upgrade_told.specs.Shown.{diffs_if, messages_as};
 ghost use Rattle.edit_upgrade_told.specs.Tables.{AreInOrder, tables};
 
@@ -69,7 +69,8 @@ pub(crate) fn print_plan<O: io::Write, E: io::Write>(
     out: &mut O,
     err: &mut E,
 ) -> CargoResult<()>
-    requires { AreInOrder plan.now.rows.items }
+    requires rows { AreInOrder plan.now.rows.items }
+    requires warnings { AreWarningsInOrder plan.now.warnings.items }
     ensures shows { OnOk result (Appends (O.contents out.old) (O.contents out.new)
         (tables telling.now.presentation.format options.now.verbosity plan.now.rows.items (length inputs.now)
         ++ (messages_as telling.now.presentation.format plan.now inputs.now options.now (calls_seen calls.now)

@@ -1,24 +1,17 @@
 //! Rows of upgrades that are delivered: their end, what the file of the output holds then, and what was
 //! printed.
-ghost use Rattle.std.specs.Prelude.{◌≡◌, IfOk};
-ghost use Rattle.edit_report.specs.Applied.{HaveDistinctPaths};
-ghost use Rattle.edit_upgrade_told.specs.Tables.{AreInOrder};
-
 use crate::outputs::held;
-use crate::tables::rows_of;
-use crate::updates::{metadata, options_of, plan_of, words_of};
+use crate::plans::{PATH, planned};
+use crate::updates::{metadata, options_of};
 use edit_metadata::{Input, Workspace};
-use edit_report::{Output, Row};
 use edit_shown::{MessageFormat, Presentation};
 use edit_store::{FaultStore, MemoryStore, Store};
-use edit_upgrade::{Options, UpgradePlan, Warning};
+use edit_upgrade::Options;
 use edit_upgrade_told::{Telling, deliver};
 use std::alloc::Global;
 use std::str;
 use std::test::Fail;
 use test_rows::{LINES, field, rows_hold, text, told};
-
-const PATH: &str = "/w/Cargo.toml";
 
 /// The file of the calls.
 const CALLS: &str = "/w/calls";
@@ -35,72 +28,6 @@ fn inputs_of(alloc: Global, names: &str) -> Result<Vec<Input>, Fail> {
         })?;
     }
     Ok(inputs)
-}
-
-/// Rows in the order of their inputs.
-fn in_order(mut rows: Vec<Row>) -> Result<Vec<Row>, Fail>
-    ensures { IfOk result (λ v. AreInOrder v.items) }
-{
-    rows.sort_by_key(
-        |row: &Row| -> usize
-            ensures { result ≡ row.now.input }
-        { row.input },
-    )?;
-    Ok(rows)
-}
-
-/// One output, where it is due.
-fn outputs_of(alloc: Global, due: bool) -> Result<Vec<Output>, Fail>
-    ensures { IfOk result (λ v. HaveDistinctPaths v.items) }
-{
-    let mut outputs = Vec::new(alloc);
-    if due {
-        outputs.push(Output {
-            path: text(alloc, PATH)?,
-            bytes: Vec::from_slice(alloc, b"new")?,
-        })?;
-    }
-    Ok(outputs)
-}
-
-/// A part of a warning's word `input+verbose+text`, from 0.
-fn part(word: &str, n: usize) -> &str {
-    word.split('+').nth(n).unwrap_or("")
-}
-
-/// Warnings, each behind a semicolon but the first.
-fn warnings_of(alloc: Global, words: &str) -> Result<Vec<Warning>, Fail> {
-    let mut warnings = Vec::new(alloc);
-    for word in words.split(';') {
-        if !word.is_empty() {
-            warnings.push(Warning {
-                input: part(word, 0).parse()?,
-                verbose: part(word, 1) == "verbose",
-                text: text(alloc, part(word, 2))?,
-            })?;
-        }
-    }
-    Ok(warnings)
-}
-
-/// A plan by letters: `o` an output, `p` pinned entries are held back, `i` incompatible ones; and by fields.
-fn planned(alloc: Global, flags: &str, fields: &str) -> Result<UpgradePlan, Fail>
-    ensures outputs { IfOk result (λ p. HaveDistinctPaths p.outputs.items) }
-    ensures rows { IfOk result (λ p. AreInOrder p.rows.items) }
-{
-    let outputs = outputs_of(alloc, flags.contains('o'))?;
-    let rows = in_order(rows_of(alloc, field(fields, 1))?)?;
-    Ok(UpgradePlan {
-        outputs,
-        rows,
-        looks: Vec::new(alloc),
-        warnings: warnings_of(alloc, field(fields, 2))?,
-        missing: words_of(alloc, field(fields, 3))?,
-        modified: words_of(alloc, field(fields, 4))?,
-        git_crates: Vec::new(alloc),
-        pinned_present: flags.contains('p'),
-        incompatible_present: flags.contains('i'),
-    })
 }
 
 /// Options by letters, as rows of calls have them, and `v` for a verbosity of 1; and words.

@@ -11,6 +11,8 @@ mod messages;
 #[cfg(test)]
 mod outputs;
 #[cfg(test)]
+mod plans;
+#[cfg(test)]
 mod tables;
 #[cfg(test)]
 mod updates;

@@ -10,7 +10,7 @@ use Rattle.edit_upgrade_read.specs.Sources.{AreRead}
 use Rattle.edit_upgrade_run.specs.Causes.{IsUpgradeCause}
 use Rattle.edit_upgrade_run.specs.Planned.{IsPlanCause, IsPlanned, index_view}
 use Rattle.edit_upgrade_run.specs.Upgrading.{IsPathOf, IsRead}
-use Rattle.edit_upgrade_run.proofs.RowLemmas.{rows_in_order}
+use Rattle.edit_upgrade_run.proofs.OrderLemmas.{rows_in_order, warnings_in_order}
 use Rattle.edit_upgrade_run.proofs.UpgradeLemmas.{broken, plan_cause, plan_paths, read_cause, stop_cause, upgraded}
 use Rattle.edit_upgrade_run.proofs.upgrading.upgrade.Goals as goal
 
@@ -59,6 +59,11 @@ pub deliver_plan-requires-clause-rows : goal.deliver_plan-requires-clause-rows
 deliver_plan-requires-clause-rows g c =
     rows_in_order c.in_ok-sources.sources.target.inputs.items c.in-Ok.plan
     c.in-Ok.ensures.planned.is.rows_in_order
+
+pub deliver_plan-requires-clause-warnings : goal.deliver_plan-requires-clause-warnings
+deliver_plan-requires-clause-warnings g c =
+    warnings_in_order c.in_ok-sources.sources.target.inputs.items c.in-Ok.plan
+    c.in-Ok.ensures.planned.is.warnings_in_order
 
 pub returns-clause-done : goal.returns-clause-done
 returns-clause-done g c =
