@@ -94,6 +94,13 @@ def metadata_rows():
             packages(1, HERE + "/a%d/Cargo.toml")), 0, CHECKING, member)
     yield metadata("metadata: 1,000 members", lambda: packages(1000, HERE + "/a%d/Cargo.toml"), 0, CHECKING,
                    lambda: {f"a{n}/Cargo.toml": TABLE + b'x = "1"\n' for n in range(1000)})
+    registries = lambda count: numbered(count, b'[registries.s%d]\nindex = "file:///i"\n')
+    for what, status, said, config in (("100 kB of comments", 0, CHECKING, lambda: b"# a line of a configuration\n" * 3600),
+                                       ("400 registries", 0, CHECKING, lambda: registries(400)),
+                                       ("6,000 registries", 1, b"Error: out of memory\n", lambda: registries(6000))):
+        yield metadata(f"1,000 members under one configuration: {what}", lambda: packages(1000, HERE + "/a%d/Cargo.toml"),
+                       status, said, lambda config=config: {".cargo/config.toml": config(), **{
+                           f"a{n}/Cargo.toml": TABLE + b'x = "1"\n' for n in range(1000)}})
     for second in ("/w/./a/Cargo.toml", "/w//a/Cargo.toml", "/w/b/../a/Cargo.toml", "//w/a//Cargo.toml", "/../w/a/./Cargo.toml",
                    "/w/a/x/y/../../Cargo.toml", "/w/a/other.toml", "/x" * MANY + "/.." * MANY + "/w/a/Cargo.toml"):
         yield metadata(f"two members in one folder: {second[:30]}", lambda second=second: two(second),
