@@ -83,14 +83,35 @@ fn calls_held(alloc: Global, flags: &str, files: &mut FaultStore) -> Result<Stri
     Ok(format!(in alloc; ";{lines}")?)
 }
 
-/// How a delivery ends, what the file holds then, what stands on standard output and standard error, and what
+/// The end of a delivery, what the file holds then, what stands on standard output and standard error, and what
 /// the file of the calls holds.
+fn left(
+    alloc: Global,
+    end: &str,
+    flags: &str,
+    files: &mut FaultStore,
+    out: &[u8],
+    err: &[u8],
+) -> Result<String, Fail> {
+    let file = held(alloc, files, PATH)?;
+    let out = printed(alloc, out)?;
+    let err = printed(alloc, err)?;
+    let calls = calls_held(alloc, flags, files)?;
+    Ok(format!(in alloc; "{end};{file};{out};{err}{calls}")?)
+}
+
+/// The workspace with these packages.
+fn workspace_by(alloc: Global, packages: &str) -> Result<Workspace, Fail> {
+    let json = metadata(alloc, packages)?;
+    Ok(Workspace::read(alloc, json.as_bytes())?)
+}
+
+/// How a delivery ends, and what it leaves.
 fn delivery(alloc: Global, flags: &str, fields: &str) -> Result<String, Fail> {
     let plan = planned(alloc, flags, fields)?;
     let inputs = inputs_of(alloc, field(fields, 0))?;
     let options = options_by(alloc, flags, field(fields, 6))?;
-    let json = metadata(alloc, field(fields, 5))?;
-    let workspace = Workspace::read(alloc, json.as_bytes())?;
+    let workspace = workspace_by(alloc, field(fields, 5))?;
     let known = if field(fields, 5).is_empty() {
         None
     } else {
@@ -106,11 +127,7 @@ fn delivery(alloc: Global, flags: &str, fields: &str) -> Result<String, Fail> {
         Ok(()) => text(alloc, "done")?,
         Err(refusal) => told(alloc, refusal.error)?,
     };
-    let file = held(alloc, &mut files, PATH)?;
-    let out = printed(alloc, out.as_slice())?;
-    let err = printed(alloc, err.as_slice())?;
-    let calls = calls_held(alloc, flags, &mut files)?;
-    Ok(format!(in alloc; "{end};{file};{out};{err}{calls}")?)
+    left(alloc, end.as_str(), flags, &mut files, &out, &err)
 }
 
 /// What is wanted; letters; inputs; rows; warnings; missing names; modified names; packages; package words.

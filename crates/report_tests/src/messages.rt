@@ -6,7 +6,7 @@ use edit_report::{
 use std::alloc::Global;
 use std::test::Fail;
 use std::{io, str};
-use test_rows::{LINES, field, rows_hold, text, unfolded};
+use test_rows::{LINES, field, rows_hold, unfolded};
 
 /// Writes a message by a call's name.
 fn write_by(out: &mut Vec<u8>, call: &str, first: &str, message: &str) -> CargoResult<()> {
@@ -59,18 +59,19 @@ fn ended(alloc: Global, end: &CliError) -> Result<String, Fail> {
     Ok(format!(in alloc; "{} {told}", end.exit_code)?)
 }
 
+/// The end that a call's name makes.
+fn end_by(call: &str) -> CliError {
+    match call {
+        "new" => CliError::new(Error::Locked, 3),
+        "code" => CliError::code(4),
+        "error" => CliError::from(Error::Locked),
+        _ => CliError::from(io::Error::from(io::ErrorKind::NotFound)),
+    }
+}
+
 /// The status of the end that a call's name makes.
 fn status(alloc: Global, call: &str, _words: &str) -> Result<String, Fail> {
-    match call {
-        "new" => ended(alloc, &CliError::new(Error::Locked, 3)),
-        "code" => ended(alloc, &CliError::code(4)),
-        "error" => ended(alloc, &CliError::from(Error::Locked)),
-        "io" => ended(
-            alloc,
-            &CliError::from(io::Error::from(io::ErrorKind::NotFound)),
-        ),
-        _ => text(alloc, "none"),
-    }
+    ended(alloc, &end_by(call))
 }
 
 /// The status and whether an error is told; the call.

@@ -25,6 +25,33 @@ fn cut(member: &str) -> (&str, &str) {
     member.split_once(' ').unwrap_or((member, ""))
 }
 
+/// Adds a member to the ids and to the packages of metadata.
+fn push_member(
+    alloc: Global,
+    member: &str,
+    ids: &mut String,
+    packages: &mut String,
+) -> Result<(), Fail> {
+    let (name, rest) = cut(member);
+    let (version, _) = cut(rest);
+    let comma = if ids.is_empty() { "" } else { "," };
+    ids.push_str(comma)?;
+    ids.push_str(format!(in alloc; "'{name}'")?.as_str())?;
+    let fields = format!(in alloc; "'name':'{name}','id':'{name}','version':'{version}'")?;
+    let path = path_of(alloc, name)?;
+    let package = format!(in alloc; "{comma}{{{fields},'manifest_path':'{path}'}}")?;
+    packages.push_str(package.as_str())?;
+    Ok(())
+}
+
+/// The metadata of a workspace in `/w` with these ids and packages.
+fn metadata_of(alloc: Global, ids: &str, packages: &str) -> Result<String, Fail> {
+    let listed = format!(in alloc; "'workspace_members':[{ids}],'packages':[{packages}]")?;
+    let json = format!(in alloc; "{{'workspace_root':'/w',{listed}}}")?;
+    let parts: Vec<&str> = json.split('\'').collect(alloc)?;
+    Ok(parts.join(alloc, "\"")?)
+}
+
 /// The workspace in `/w` with these members, each with its name and its version before its manifest.
 fn workspace_of(alloc: Global, members: &str) -> Result<Workspace, Fail>
     ensures folders { IfOk result (λ w. HasOwnFolders (workspace_said w)) }
@@ -32,20 +59,9 @@ fn workspace_of(alloc: Global, members: &str) -> Result<Workspace, Fail>
     let mut ids = String::new(alloc);
     let mut packages = String::new(alloc);
     'members: for member in members.split(';') {
-        let (name, rest) = cut(member);
-        let (version, _) = cut(rest);
-        let path = path_of(alloc, name)?;
-        let comma = if ids.is_empty() { "" } else { "," };
-        let id = format!(in alloc; "{comma}'{name}'")?;
-        ids.push_str(id.as_str())?;
-        let fields = format!(in alloc; "'name':'{name}','id':'{name}','version':'{version}'")?;
-        let package = format!(in alloc; "{comma}{{{fields},'manifest_path':'{path}'}}")?;
-        packages.push_str(package.as_str())?;
+        push_member(alloc, member, &mut ids, &mut packages)?;
     }
-    let listed = format!(in alloc; "'workspace_members':[{ids}],'packages':[{packages}]")?;
-    let json = format!(in alloc; "{{'workspace_root':'/w',{listed}}}")?;
-    let parts: Vec<&str> = json.split('\'').collect(alloc)?;
-    let json = parts.join(alloc, "\"")?;
+    let json = metadata_of(alloc, ids.as_str(), packages.as_str())?;
     Ok(Workspace::read(alloc, json.as_bytes())?)
 }
 
