@@ -40,21 +40,29 @@ fn put_files(alloc: Global, store: &mut MemoryStore) -> Result<(), Fail> {
     Ok(())
 }
 
+/// Adds the member in a folder to the ids and to the packages of metadata.
+fn push_member(
+    alloc: Global,
+    member: &str,
+    ids: &mut String,
+    packages: &mut String,
+) -> Result<(), Fail> {
+    let comma = if ids.is_empty() { "" } else { "," };
+    ids.push_str(comma)?;
+    ids.push_str(format!(in alloc; "'{member}'")?.as_str())?;
+    let fields = format!(in alloc; "'name':'of{member}','id':'{member}','version':'1.0.0'")?;
+    let path = format!(in alloc; "'manifest_path':'{member}/Cargo.toml','rust_version':'1.72'")?;
+    packages.push_str(format!(in alloc; "{comma}{{{fields},{path}}}")?.as_str())?;
+    Ok(())
+}
+
 /// The metadata of a workspace at a root with members in these folders, `'` being a quote.
 fn metadata(alloc: Global, folders: &str) -> Result<String, Fail> {
     let (root, members) = folders.split_once(' ').unwrap_or((folders, ""));
     let mut ids = String::new(alloc);
     let mut packages = String::new(alloc);
     for member in members.split(' ') {
-        let comma = if ids.is_empty() { "" } else { "," };
-        let id = format!(in alloc; "{comma}'{member}'")?;
-        ids.push_str(id.as_str())?;
-        let fields = format!(in alloc; "'name':'of{member}','id':'{member}','version':'1.0.0'")?;
-        let path = format!(in alloc;
-            "'manifest_path':'{member}/Cargo.toml','rust_version':'1.72'"
-        )?;
-        let package = format!(in alloc; "{comma}{{{fields},{path}}}")?;
-        packages.push_str(package.as_str())?;
+        push_member(alloc, member, &mut ids, &mut packages)?;
     }
     let listed = format!(in alloc; "'workspace_members':[{ids}],'packages':[{packages}]")?;
     Ok(format!(in alloc; "{{'workspace_root':'{root}',{listed}}}")?)
