@@ -74,6 +74,21 @@ def two(second):
     return told
 
 
+def thousand():
+    """Metadata of 1,000 members."""
+    return packages(1000, HERE + "/a%d/Cargo.toml")
+
+
+def manifests():
+    """Their manifests, with an entry each."""
+    return {f"a{n}/Cargo.toml": TABLE + b'x = "1"\n' for n in range(1000)}
+
+
+def registries(count):
+    """A configuration with so many registries."""
+    return numbered(count, b'[registries.s%d]\nindex = "file:///i"\n')
+
+
 def metadata_rows():
     one = packages(1, "/w/a%d/Cargo.toml")
     for what, text in (("100,000 brackets", lambda: b"[" * MANY), ("no object", lambda: []), ("no text", lambda: b"\xff"),
@@ -92,15 +107,13 @@ def metadata_rows():
                           ("100,000 further members of an object", lambda told: {f"x{n}": n for n in range(MANY)})):
         yield metadata("metadata: " + what, lambda changed=changed: (lambda told: {**told, **changed(told)})(
             packages(1, HERE + "/a%d/Cargo.toml")), 0, CHECKING, member)
-    yield metadata("metadata: 1,000 members", lambda: packages(1000, HERE + "/a%d/Cargo.toml"), 0, CHECKING,
-                   lambda: {f"a{n}/Cargo.toml": TABLE + b'x = "1"\n' for n in range(1000)})
-    registries = lambda count: numbered(count, b'[registries.s%d]\nindex = "file:///i"\n')
-    for what, status, said, config in (("100 kB of comments", 0, CHECKING, lambda: b"# a line of a configuration\n" * 3600),
-                                       ("400 registries", 0, CHECKING, lambda: registries(400)),
-                                       ("6,000 registries", 1, b"Error: out of memory\n", lambda: registries(6000))):
-        yield metadata(f"1,000 members under one configuration: {what}", lambda: packages(1000, HERE + "/a%d/Cargo.toml"),
-                       status, said, lambda config=config: {".cargo/config.toml": config(), **{
-                           f"a{n}/Cargo.toml": TABLE + b'x = "1"\n' for n in range(1000)}})
+    yield metadata("metadata: 1,000 members", thousand, 0, CHECKING, manifests)
+    for what, status, said, config in (
+            ("100 kB of comments", 0, CHECKING, lambda: b"# a line of a configuration\n" * 3600),
+            ("400 registries", 0, CHECKING, lambda: registries(400)),
+            ("6,000 registries", 1, b"Error: out of memory\n", lambda: registries(6000))):
+        yield metadata(f"1,000 members under one configuration: {what}", thousand, status, said,
+                       lambda config=config: {".cargo/config.toml": config(), **manifests()})
     for second in ("/w/./a/Cargo.toml", "/w//a/Cargo.toml", "/w/b/../a/Cargo.toml", "//w/a//Cargo.toml", "/../w/a/./Cargo.toml",
                    "/w/a/x/y/../../Cargo.toml", "/w/a/other.toml", "/x" * MANY + "/.." * MANY + "/w/a/Cargo.toml"):
         yield metadata(f"two members in one folder: {second[:30]}", lambda second=second: two(second),
