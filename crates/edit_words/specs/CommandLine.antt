@@ -1,5 +1,6 @@
 -- The command line: which words the program has.
-pub use Rattle.edit_words.specs.Rules.{choice_rule, count_rule, flag_rule, list_rule, path_rule, reports, selections, with_rules}
+pub use Rattle.edit_words.specs.Rules.{choice_rule, count_rule, flag_rule, list_rule, path_rule}
+pub use Rattle.edit_words.specs.Rules.{reports, selections, with_rules}
 use Rattle.std.specs.Prelude.{List, [], ◌∷◌, Some, true, codes}
 use Rattle.clap.specs.Words.{App, Rule, Shape, Text, new_app, with_subcommand}
 use Rattle.clap.specs.declared.builder.value_parser.ValueParser.TheVariants as value

@@ -83,8 +83,8 @@ fn calls_held(alloc: Global, flags: &str, files: &mut FaultStore) -> Result<Stri
     Ok(format!(in alloc; ";{lines}")?)
 }
 
-/// The end of a delivery, what the file holds then, what stands on standard output and standard error, and what
-/// the file of the calls holds.
+/// The end of a delivery, and what it leaves: what the file holds then, what stands on standard output and on
+/// standard error, and what the file of the calls holds.
 fn left(
     alloc: Global,
     end: &str,
