@@ -1,7 +1,8 @@
 -- What is reported as JSON: messages, one a line (own).
-use Rattle.std.specs.Prelude.{ℕ, List, [], ◌∷◌, ◌++◌, not, ◌||◌, codes, slice_get, string_bytes}
+use Rattle.std.specs.Prelude.{ℕ, List, [], ◌∷◌, ◌++◌, not, ◌||◌, String, codes, slice_get, string_bytes}
 use Rattle.std.specs.List.{flat_map}
 use Rattle.std.specs.Option.{option_map_or}
+use Rattle.std.specs.declared.alloc.Global.{Global}
 use Rattle.serde_json.specs.Data.{boolean, string}
 use Rattle.edit_decision.specs.declared.options.Options.{Options}
 use Rattle.edit_messages.specs.Fields.{list_data, text_data}
@@ -9,7 +10,6 @@ use Rattle.edit_messages.specs.Messages.{MessageMembers, change_members, file_me
 use Rattle.edit_metadata.specs.declared.input.Input.{Input}
 use Rattle.edit_report.specs.declared.output.Output.{Output}
 use Rattle.edit_report.specs.declared.row.Row.{Row}
-use Rattle.edit_set_version.specs.PlanLines.{Told}
 use Rattle.edit_update.specs.UpdateCalls.{Call}
 use Rattle.edit_upgrade.specs.declared.upgrade.UpgradePlan.{UpgradePlan}
 use Rattle.edit_upgrade.specs.declared.upgrade.Warning.{Warning}
@@ -56,9 +56,13 @@ messages plan inputs o calls =
     ++ summary_message plan o calls))
 
 -- a line of new versions: what is done, and to what (own)
-abbrev pub change_message : Told → List ℕ
+abbrev pub line_shown : String Global × String Global → List ℕ × List ℕ
+line_shown line = (string_bytes line.0, string_bytes line.1)
+
+-- a line of new versions as a message (own)
+abbrev pub change_message : List ℕ × List ℕ → List ℕ
 change_message line = message_text (change_members line.0 line.1)
 
 -- the lines of new versions (own)
-abbrev pub changes : List Told → List ℕ
+abbrev pub changes : List (List ℕ × List ℕ) → List ℕ
 changes lines = flat_map change_message lines

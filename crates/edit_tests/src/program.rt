@@ -7,7 +7,6 @@ use std::test::Fail;
 use std::{fs, process, str};
 use test_rows::{field, same};
 
-mod faults;
 mod files;
 mod given;
 

@@ -1,6 +1,5 @@
 //! Runs over the examples in which each call of the files fails in turn, or whose streams take only so many
 //! bytes.
-use super::words_of;
 use edit_program::run;
 use edit_store::{FaultStore, MemoryStore, Store};
 use std::alloc::Global;
@@ -21,6 +20,11 @@ const FAULTS: [&str; 3] = [
 
 /// How many bytes the streams of these runs take at most.
 const ROOM: usize = 2048;
+
+/// The words of an example.
+fn words_of(alloc: Global, example: Example) -> Option<Vec<&'static str>> {
+    example.words.split_ascii_whitespace().collect(alloc).ok()
+}
 
 /// The files of a table.
 fn stored(alloc: Global, table: &str) -> Option<MemoryStore> {
@@ -103,7 +107,7 @@ fn outcome(
     files: &mut FaultStore,
     index: FaultStore,
 ) -> Option<(u8, Vec<u8>)> {
-    let words = words_of(alloc, example.words)?;
+    let words = words_of(alloc, example)?;
     let mut out = Vec::new(alloc);
     let mut err = Vec::new(alloc);
     let status = run(
@@ -178,7 +182,7 @@ fn each_call_of_the_index_fails(rt: HostRuntime) -> Result<(), Fail> {
 
 /// Runs an example where the streams take so many bytes: the status, and how the manifests stand.
 fn in_room(alloc: Global, example: Example, out: usize, err: usize) -> Option<(u8, String)> {
-    let words = words_of(alloc, example.words)?;
+    let words = words_of(alloc, example)?;
     let mut files = laid_out(alloc, example)?;
     let index = stored(alloc, example.index)?;
     let mut out_room = [0u8; ROOM];
@@ -215,7 +219,7 @@ fn stands_in_room(
 
 /// How many bytes an example prints on both streams.
 fn lengths(alloc: Global, example: Example) -> Option<(usize, usize)> {
-    let words = words_of(alloc, example.words)?;
+    let words = words_of(alloc, example)?;
     let mut files = laid_out(alloc, example)?;
     let index = stored(alloc, example.index)?;
     let mut out = Vec::new(alloc);
