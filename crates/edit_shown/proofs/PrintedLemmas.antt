@@ -10,7 +10,6 @@ use Rattle.edit_decision.specs.declared.options.Options.{Options}
 use Rattle.edit_metadata.specs.declared.input.Input.{Input}
 use Rattle.edit_report.specs.declared.output.Output.{Output}
 use Rattle.edit_report.specs.declared.row.Row.{Row}
-use Rattle.edit_update.specs.UpdateCalls.{Call}
 use Rattle.edit_upgrade.specs.declared.upgrade.UpgradePlan.{UpgradePlan}
 use Rattle.edit_upgrade.specs.declared.upgrade.Warning.{Warning}
 use Rattle.edit_shown.specs.Messages.{change_message, changes, file_message, line_shown, messages, row_message, summary_message, warning_message}
@@ -40,7 +39,7 @@ changes_more lines i line a b c within is before one =
     (Appends-trans a b c _ _ before one)
 
 -- an upgrade, from its parts
-pub messages_all : (plan : UpgradePlan) (inputs : List Input) (o : Options) (calls : List Call)
+pub messages_all : (plan : UpgradePlan) (inputs : List Input) (o : Options) (calls : List (List (List ℕ)))
     (rows : List Row) (warnings : List Warning) (outputs : List Output) (a b c d e : Option (List ℕ))
     → rows ≡ plan.rows.items → warnings ≡ plan.warnings.items → outputs ≡ plan.outputs.items
     → Appends a b (flat_map (row_message inputs) rows)

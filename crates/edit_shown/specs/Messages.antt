@@ -1,5 +1,5 @@
 -- What is reported as JSON: messages, one a line (own).
-use Rattle.std.specs.Prelude.{ℕ, List, [], ◌∷◌, ◌++◌, not, ◌||◌, String, codes, slice_get, string_bytes}
+use Rattle.std.specs.Prelude.{ℕ, List, [], ◌∷◌, ◌++◌, not, ◌||◌, String, Vec, codes, map, slice_get, string_bytes}
 use Rattle.std.specs.List.{flat_map}
 use Rattle.std.specs.Option.{option_map_or}
 use Rattle.std.specs.declared.alloc.Global.{Global}
@@ -10,7 +10,6 @@ use Rattle.edit_messages.specs.Messages.{MessageMembers, change_members, file_me
 use Rattle.edit_metadata.specs.declared.input.Input.{Input}
 use Rattle.edit_report.specs.declared.output.Output.{Output}
 use Rattle.edit_report.specs.declared.row.Row.{Row}
-use Rattle.edit_update.specs.UpdateCalls.{Call}
 use Rattle.edit_upgrade.specs.declared.upgrade.UpgradePlan.{UpgradePlan}
 use Rattle.edit_upgrade.specs.declared.upgrade.Warning.{Warning}
 
@@ -30,8 +29,12 @@ warning_message inputs w = message_text (warning_members (path_at inputs w.input
 abbrev pub file_message : Options → Output → List ℕ
 file_message o output = message_text (file_members (string_bytes output.path) (not (o.dry_run || o.locked)))
 
+-- calls of `cargo update`, each as its words (own)
+abbrev pub calls_shown : List (Vec (String Global) Global) → List (List (List ℕ))
+calls_shown calls = map (λ call. map string_bytes call.items) calls
+
 -- the members of what an upgrade says last, with the calls of `cargo update` that are due (own)
-abbrev pub summary_members : UpgradePlan → Options → List Call → MessageMembers
+abbrev pub summary_members : UpgradePlan → Options → List (List (List ℕ)) → MessageMembers
 summary_members plan o calls =
     (codes "reason", string (codes "upgrade-summary"))
     ∷ (codes "dry_run", boolean o.dry_run)
@@ -44,11 +47,11 @@ summary_members plan o calls =
     ∷ []
 
 -- what an upgrade says last (own)
-abbrev pub summary_message : UpgradePlan → Options → List Call → List ℕ
+abbrev pub summary_message : UpgradePlan → Options → List (List (List ℕ)) → List ℕ
 summary_message plan o calls = message_text (summary_members plan o calls)
 
 -- an upgrade: its rows, its warnings, the manifests that change, the summary (own)
-abbrev pub messages : UpgradePlan → List Input → Options → List Call → List ℕ
+abbrev pub messages : UpgradePlan → List Input → Options → List (List (List ℕ)) → List ℕ
 messages plan inputs o calls =
     flat_map (row_message inputs) plan.rows.items
     ++ (flat_map (warning_message inputs) plan.warnings.items

@@ -5,7 +5,6 @@ ghost use Rattle.std.specs.List.{flat_map};
 ghost use Rattle.edit_base.specs.Errors.{IsMemory};
 ghost use Rattle.edit_base.specs.declared.errors.Error.TheVariants as error;
 ghost use Rattle.edit_messages.specs.Messages.{summary_members};
-ghost use Rattle.edit_update.specs.Views.{calls_seen};
 ghost use Rattle.edit_shown.specs.Messages as spec;
 
 use edit_base::CargoResult;
@@ -127,7 +126,7 @@ fn print_files<O: io::Write>(
 /// What a plan and its calls come to.
 fn summary_of<'a>(plan: &'a UpgradePlan, options: &Options, calls: &'a [Vec<String>]) -> Summary<'a>
     ensures { summary_members result
-        ≡ spec.summary_members plan.now options.now (calls_seen calls.now) }
+        ≡ spec.summary_members plan.now options.now (spec.calls_shown calls.now) }
 {
     Summary {
         dry_run: options.dry_run,
@@ -149,7 +148,7 @@ fn print_summary<O: io::Write>(
     out: &mut O,
 ) -> CargoResult<()>
     ensures text { OnOk result (Appends (O.contents out.old) (O.contents out.new)
-        (spec.summary_message plan.now options.now (calls_seen calls.now))) }
+        (spec.summary_message plan.now options.now (spec.calls_shown calls.now))) }
     ensures refused { IfErr result (λ e. IsMemory e ⊎ (e ≡ error.Output)) }
 {
     let line = summary_message(alloc, summary_of(plan, options, calls))?;
@@ -167,7 +166,7 @@ pub fn print_messages<O: io::Write>(
     out: &mut O,
 ) -> CargoResult<()>
     ensures text { OnOk result (Appends (O.contents out.old) (O.contents out.new)
-        (spec.messages plan.now inputs.now options.now (calls_seen calls.now))) }
+        (spec.messages plan.now inputs.now options.now (spec.calls_shown calls.now))) }
     ensures refused { IfErr result (λ e. IsMemory e ⊎ (e ≡ error.Output)) }
 {
     print_rows(alloc, inputs, plan.rows.as_slice(), out)?;

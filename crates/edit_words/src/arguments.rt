@@ -17,25 +17,25 @@ fn with_places<'a>(alloc: Global, command: Command<'a>) -> Result<Command<'a>, A
     ensures local { IfOk result (λ c. (fields_of command.entry).has_globals ≡ false
         → (fields_of c).has_globals ≡ false) }
 {
-    let manifest = path(
-        alloc,
-        "manifest-path",
-        "PATH",
-        "The manifest, or a folder with one",
-    );
-    let metadata = path(
-        alloc,
-        "metadata-json",
-        "FILE",
-        "What `cargo metadata` says of the workspace",
-    );
-    let index = path(
-        alloc,
-        "index-file",
-        "FILE",
-        "Index lines, as a registry's index has them",
-    );
-    command.arg(manifest)?.arg(metadata)?.arg(index)
+    command
+        .arg(path(
+            alloc,
+            "manifest-path",
+            "PATH",
+            "The manifest, or a folder with one",
+        ))?
+        .arg(path(
+            alloc,
+            "metadata-json",
+            "FILE",
+            "What `cargo metadata` says of the workspace",
+        ))?
+        .arg(path(
+            alloc,
+            "index-file",
+            "FILE",
+            "Index lines, as a registry's index has them",
+        ))
 }
 
 /// Adds the options that name the folder of an index, and the file of the calls that follow.
@@ -44,19 +44,19 @@ fn with_outlets<'a>(alloc: Global, command: Command<'a>) -> Result<Command<'a>, 
     ensures local { IfOk result (λ c. (fields_of command.entry).has_globals ≡ false
         → (fields_of c).has_globals ≡ false) }
 {
-    let index = path(
-        alloc,
-        "index-dir",
-        "DIR",
-        "A folder with a folder of index files for each registry",
-    );
-    let calls = path(
-        alloc,
-        "update-calls",
-        "FILE",
-        "Writes the calls of `cargo update` that follow to this file",
-    );
-    command.arg(index)?.arg(calls)
+    command
+        .arg(path(
+            alloc,
+            "index-dir",
+            "DIR",
+            "A folder with a folder of index files for each registry",
+        ))?
+        .arg(path(
+            alloc,
+            "update-calls",
+            "FILE",
+            "Writes the calls of `cargo update` that follow to this file",
+        ))
 }
 
 /// Adds the options that say which versions of Rust count.
@@ -65,13 +65,13 @@ fn with_rust_choices<'a>(alloc: Global, command: Command<'a>) -> Result<Command<
     ensures local { IfOk result (λ c. (fields_of command.entry).has_globals ≡ false
         → (fields_of c).has_globals ≡ false) }
 {
-    let given = choice(alloc, "rust-version", "VER", "Override `rust-version`");
-    let ignored = flag(
-        alloc,
-        "ignore-rust-version",
-        "Ignore `rust-version` specification in packages",
-    );
-    command.arg(given)?.arg(ignored)
+    command
+        .arg(choice(alloc, "rust-version", "VER", "Override `rust-version`"))?
+        .arg(flag(
+            alloc,
+            "ignore-rust-version",
+            "Ignore `rust-version` specification in packages",
+        ))
 }
 
 /// Adds the flags.
@@ -80,21 +80,17 @@ fn with_switches<'a>(alloc: Global, command: Command<'a>) -> Result<Command<'a>,
     ensures local { IfOk result (λ c. (fields_of command.entry).has_globals ≡ false
         → (fields_of c).has_globals ≡ false) }
 {
-    let dry_run = flag(
-        alloc,
-        "dry-run",
-        "Prints what would change, and changes nothing",
-    );
-    let locked = flag(alloc, "locked", "Refuses to change the manifest");
-    let verbose = counted(alloc, "verbose", 'v', "Reports more");
-    let quiet = counted(alloc, "quiet", 'q', "Reports less");
-    let never_lower = flag(alloc, "never-lower", "Lowers no requirement");
     command
-        .arg(dry_run.short('n'))?
-        .arg(locked)?
-        .arg(verbose)?
-        .arg(quiet)?
-        .arg(never_lower)
+        .arg(flag(
+            alloc,
+            "dry-run",
+            "Prints what would change, and changes nothing",
+        )
+        .short('n'))?
+        .arg(flag(alloc, "locked", "Refuses to change the manifest"))?
+        .arg(counted(alloc, "verbose", 'v', "Reports more"))?
+        .arg(counted(alloc, "quiet", 'q', "Reports less"))?
+        .arg(flag(alloc, "never-lower", "Lowers no requirement"))
 }
 
 /// Adds the options that say what may be upgraded.
@@ -103,35 +99,38 @@ fn with_choices<'a>(alloc: Global, command: Command<'a>) -> Result<Command<'a>, 
     ensures local { IfOk result (λ c. (fields_of command.entry).has_globals ≡ false
         → (fields_of c).has_globals ≡ false) }
 {
-    let compatible = choice(
-        alloc,
-        "compatible",
-        "allow|ignore",
-        "Upgrades to the latest compatible version",
-    );
-    let incompatible = choice(
-        alloc,
-        "incompatible",
-        "allow|ignore",
-        "Upgrades to the latest incompatible version",
-    );
-    let pinned = choice(
-        alloc,
-        "pinned",
-        "allow|ignore",
-        "Upgrades pinned requirements to the latest version",
-    );
-    let recursive = choice(
-        alloc,
-        "recursive",
-        "true|false",
-        "Updates locked dependencies recursively",
-    );
     command
-        .arg(compatible.default_value("allow"))?
-        .arg(incompatible.short('i').default_value("ignore"))?
-        .arg(pinned.default_value("ignore"))?
-        .arg(recursive.value_parser(ValueParser::Bool))
+        .arg(choice(
+            alloc,
+            "compatible",
+            "allow|ignore",
+            "Upgrades to the latest compatible version",
+        )
+        .default_value("allow"))?
+        .arg(
+            choice(
+                alloc,
+                "incompatible",
+                "allow|ignore",
+                "Upgrades to the latest incompatible version",
+            )
+            .short('i')
+            .default_value("ignore"),
+        )?
+        .arg(choice(
+            alloc,
+            "pinned",
+            "allow|ignore",
+            "Upgrades pinned requirements to the latest version",
+        )
+        .default_value("ignore"))?
+        .arg(choice(
+            alloc,
+            "recursive",
+            "true|false",
+            "Updates locked dependencies recursively",
+        )
+        .value_parser(ValueParser::Bool))
 }
 
 /// Adds the options that say which entries may be upgraded.
@@ -140,19 +139,20 @@ fn with_selections<'a>(alloc: Global, command: Command<'a>) -> Result<Command<'a
     ensures local { IfOk result (λ c. (fields_of command.entry).has_globals ≡ false
         → (fields_of c).has_globals ≡ false) }
 {
-    let package = list(
-        alloc,
-        "package",
-        "PKGID[@<VERSION>]",
-        "Crate to be upgraded",
-    );
-    let exclude = list(
-        alloc,
-        "exclude",
-        "PKGID",
-        "Crates to exclude and not upgrade",
-    );
-    command.arg(package.short('p'))?.arg(exclude)
+    command
+        .arg(list(
+            alloc,
+            "package",
+            "PKGID[@<VERSION>]",
+            "Crate to be upgraded",
+        )
+        .short('p'))?
+        .arg(list(
+            alloc,
+            "exclude",
+            "PKGID",
+            "Crates to exclude and not upgrade",
+        ))
 }
 
 /// A subcommand with the words of `upgrade`.
@@ -183,17 +183,6 @@ pub fn command<'a>(alloc: Global) -> Result<Command<'a>, AllocError>
     // and of such a one, which faults
     ensures free { IfOk result (λ c. is_simple_and_free (app_of c) ≡ true) }
 {
-    let upgrade = upgrade_command(
-        alloc,
-        "upgrade",
-        "Raises the dependency requirements of a manifest",
-    )?;
-    let looks = upgrade_command(
-        alloc,
-        "looks",
-        "Prints the index entries that an upgrade needs",
-    )?;
-    let set_version = set_version_command(alloc)?;
     Command::new(alloc, "cargo-edit")
         .version("0.13.14")
         .about("Edits the dependency requirements and versions of Cargo.toml files")
@@ -201,7 +190,15 @@ pub fn command<'a>(alloc: Global) -> Result<Command<'a>, AllocError>
         .bin_name("cargo-edit")?
         .propagate_version(true)
         .subcommand_required(true)
-        .subcommand(upgrade)?
-        .subcommand(looks)?
-        .subcommand(set_version)
+        .subcommand(upgrade_command(
+            alloc,
+            "upgrade",
+            "Raises the dependency requirements of a manifest",
+        )?)?
+        .subcommand(upgrade_command(
+            alloc,
+            "looks",
+            "Prints the index entries that an upgrade needs",
+        )?)?
+        .subcommand(set_version_command(alloc)?)
 }

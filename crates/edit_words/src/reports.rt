@@ -17,20 +17,18 @@ pub(crate) fn with_reports<'a>(
     ensures local { IfOk result (λ c. (fields_of command.entry).has_globals ≡ false
         → (fields_of c).has_globals ≡ false) }
 {
-    let check = flag(
-        alloc,
-        "check",
-        "Like `--dry-run`, with status 1 where something would change",
-    );
-    let format = choice(
-        alloc,
-        "message-format",
-        "human|json",
-        "How the report is printed",
-    );
-    let diff = flag(alloc, "diff", "Prints the changes of manifests as diffs");
     command
-        .arg(check)?
-        .arg(format.default_value("human"))?
-        .arg(diff)
+        .arg(flag(
+            alloc,
+            "check",
+            "Like `--dry-run`, with status 1 where something would change",
+        ))?
+        .arg(choice(
+            alloc,
+            "message-format",
+            "human|json",
+            "How the report is printed",
+        )
+        .default_value("human"))?
+        .arg(flag(alloc, "diff", "Prints the changes of manifests as diffs"))
 }

@@ -29,17 +29,16 @@ fn with_targets<'a>(alloc: Global, command: Command<'a>) -> Result<Command<'a>, 
     ensures local { IfOk result (λ c. (fields_of command.entry).has_globals ≡ false
         → (fields_of c).has_globals ≡ false) }
 {
-    let bump = choice(alloc, "bump", "LEVEL", "Increment manifest version");
-    let metadata = choice(
-        alloc,
-        "metadata",
-        "METADATA",
-        "Specify the version metadata field (e.g. a wrapped libraries version)",
-    );
     command
         .arg(version_word(alloc))?
-        .arg(bump)?
-        .arg(metadata.short('m'))
+        .arg(choice(alloc, "bump", "LEVEL", "Increment manifest version"))?
+        .arg(choice(
+            alloc,
+            "metadata",
+            "METADATA",
+            "Specify the version metadata field (e.g. a wrapped libraries version)",
+        )
+        .short('m'))
 }
 
 /// Adds the options that name files.
@@ -48,19 +47,19 @@ fn with_sources<'a>(alloc: Global, command: Command<'a>) -> Result<Command<'a>, 
     ensures local { IfOk result (λ c. (fields_of command.entry).has_globals ≡ false
         → (fields_of c).has_globals ≡ false) }
 {
-    let metadata = option(
-        alloc,
-        "metadata-json",
-        "FILE",
-        "What `cargo metadata` says of the workspace",
-    );
-    let manifest = choice(
-        alloc,
-        "manifest-path",
-        "PATH",
-        "Accepted, and changes nothing",
-    );
-    command.arg(metadata)?.arg(manifest)
+    command
+        .arg(option(
+            alloc,
+            "metadata-json",
+            "FILE",
+            "What `cargo metadata` says of the workspace",
+        ))?
+        .arg(choice(
+            alloc,
+            "manifest-path",
+            "PATH",
+            "Accepted, and changes nothing",
+        ))
 }
 
 /// Adds the options that name members.
@@ -69,19 +68,20 @@ fn with_names<'a>(alloc: Global, command: Command<'a>) -> Result<Command<'a>, Al
     ensures local { IfOk result (λ c. (fields_of command.entry).has_globals ≡ false
         → (fields_of c).has_globals ≡ false) }
 {
-    let package = list(
-        alloc,
-        "package",
-        "PKGID",
-        "Package id of the crate to change the version of",
-    );
-    let exclude = list(
-        alloc,
-        "exclude",
-        "PKGID",
-        "Crates to exclude and not modify",
-    );
-    command.arg(package.short('p'))?.arg(exclude)
+    command
+        .arg(list(
+            alloc,
+            "package",
+            "PKGID",
+            "Package id of the crate to change the version of",
+        )
+        .short('p'))?
+        .arg(list(
+            alloc,
+            "exclude",
+            "PKGID",
+            "Crates to exclude and not modify",
+        ))
 }
 
 /// Adds the flags that ask for all members, and that for a dry run.
@@ -90,14 +90,15 @@ fn with_members<'a>(alloc: Global, command: Command<'a>) -> Result<Command<'a>, 
     ensures local { IfOk result (λ c. (fields_of command.entry).has_globals ≡ false
         → (fields_of c).has_globals ≡ false) }
 {
-    let all = flag(alloc, "all", "[deprecated in favor of `--workspace`]");
-    let workspace = flag(alloc, "workspace", "Modify all packages in the workspace");
-    let dry_run = flag(
-        alloc,
-        "dry-run",
-        "Print changes to be made without making them",
-    );
-    command.arg(all)?.arg(workspace)?.arg(dry_run.short('n'))
+    command
+        .arg(flag(alloc, "all", "[deprecated in favor of `--workspace`]"))?
+        .arg(flag(alloc, "workspace", "Modify all packages in the workspace"))?
+        .arg(flag(
+            alloc,
+            "dry-run",
+            "Print changes to be made without making them",
+        )
+        .short('n'))
 }
 
 /// Adds the flags that change nothing.
@@ -107,11 +108,11 @@ fn with_ignored<'a>(alloc: Global, command: Command<'a>) -> Result<Command<'a>, 
         → (fields_of c).has_globals ≡ false) }
 {
     let about = "Accepted, and changes nothing";
-    let offline = flag(alloc, "offline", about);
-    let locked = flag(alloc, "locked", about);
-    let verbose = counted(alloc, "verbose", 'v', about);
-    let quiet = counted(alloc, "quiet", 'q', about);
-    command.arg(offline)?.arg(locked)?.arg(verbose)?.arg(quiet)
+    command
+        .arg(flag(alloc, "offline", about))?
+        .arg(flag(alloc, "locked", about))?
+        .arg(counted(alloc, "verbose", 'v', about))?
+        .arg(counted(alloc, "quiet", 'q', about))
 }
 
 /// The subcommand `set-version`.

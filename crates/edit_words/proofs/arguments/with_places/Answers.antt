@@ -9,17 +9,17 @@ pub returns-clause-app : goal.returns-clause-app
 returns-clause-app c =
     let start = app_of c.args.command in
     let first : app_of c.in_ok-arg.field-0 ≡ with_rule start (path_rule (codes "manifest-path")) =
-    c.in_ok-arg.ensures.shape c.path-manifest.ensures.local
-    ∙ ap (with_rule start) c.path-manifest.ensures.rule in
+    c.in_ok-arg.ensures.shape c.path.ensures.local
+    ∙ ap (with_rule start) c.path.ensures.rule in
     let second : app_of c.in_ok-arg-2.field-0
     ≡ with_rule (with_rule start (path_rule (codes "manifest-path"))) (path_rule (codes "metadata-json")) =
-    c.in_ok-arg-2.ensures.shape c.path-metadata.ensures.local
-    ∙ ap₂ with_rule first c.path-metadata.ensures.rule in
-    IfOk-weaker c.arg-3.result _ _ (λ r h. h.shape c.path-index.ensures.local
-    ∙ ap₂ with_rule second c.path-index.ensures.rule) c.arg-3.ensures
+    c.in_ok-arg-2.ensures.shape c.path-2.ensures.local
+    ∙ ap₂ with_rule first c.path-2.ensures.rule in
+    IfOk-weaker c.arg-3.result _ _ (λ r h. h.shape c.path-3.ensures.local
+    ∙ ap₂ with_rule second c.path-3.ensures.rule) c.arg-3.ensures
 
 pub returns-clause-local : goal.returns-clause-local
 returns-clause-local c = IfOk-weaker c.arg-3.result _ _ (λ r h start.
-    local_after _ _ _ h c.path-index.ensures.local
-    (local_after _ _ _ c.in_ok-arg-2.ensures c.path-metadata.ensures.local
-    (local_after _ _ _ c.in_ok-arg.ensures c.path-manifest.ensures.local start))) c.arg-3.ensures
+    local_after _ _ _ h c.path-3.ensures.local
+    (local_after _ _ _ c.in_ok-arg-2.ensures c.path-2.ensures.local
+    (local_after _ _ _ c.in_ok-arg.ensures c.path.ensures.local start))) c.arg-3.ensures

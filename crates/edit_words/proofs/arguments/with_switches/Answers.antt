@@ -14,10 +14,10 @@ returns-clause-app c =
     let quiet : Rule = count_rule (codes "quiet") 113 in
     let never : Rule = flag_rule (codes "never-lower") in
     let one_is : rule_of c.short.result ≡ dry = search rules in
-    let two_is : rule_of c.flag-locked.result ≡ locked = search rules in
-    let three_is : rule_of c.counted-verbose.result ≡ verbose = search rules in
-    let four_is : rule_of c.counted-quiet.result ≡ quiet = search rules in
-    let five_is : rule_of c.flag-never_lower.result ≡ never = search rules in
+    let two_is : rule_of c.flag-2.result ≡ locked = search rules in
+    let three_is : rule_of c.counted.result ≡ verbose = search rules in
+    let four_is : rule_of c.counted-2.result ≡ quiet = search rules in
+    let five_is : rule_of c.flag-3.result ≡ never = search rules in
     let one : app_of c.in_ok-arg.field-0 ≡ with_rule start dry =
     c.in_ok-arg.ensures.shape (search rules) ∙ ap (with_rule start) one_is in
     let two : app_of c.in_ok-arg-2.field-0 ≡ with_rule (with_rule start dry) locked =

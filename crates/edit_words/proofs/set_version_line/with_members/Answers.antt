@@ -11,8 +11,8 @@ returns-clause-app c =
     let all : Rule = flag_rule (codes "all") in
     let workspace : Rule = flag_rule (codes "workspace") in
     let dry : Rule = record (flag_rule (codes "dry-run")) { short = Some 110 } in
-    let one_is : rule_of c.flag-all.result ≡ all = search rules in
-    let two_is : rule_of c.flag-workspace.result ≡ workspace = search rules in
+    let one_is : rule_of c.flag.result ≡ all = search rules in
+    let two_is : rule_of c.flag-2.result ≡ workspace = search rules in
     let three_is : rule_of c.short.result ≡ dry = search rules in
     let one : app_of c.in_ok-arg.field-0 ≡ with_rule start all =
     c.in_ok-arg.ensures.shape (search rules) ∙ ap (with_rule start) one_is in

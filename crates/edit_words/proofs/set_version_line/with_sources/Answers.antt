@@ -9,12 +9,12 @@ pub returns-clause-app : goal.returns-clause-app
 returns-clause-app c =
     let first : app_of c.in_ok-arg.field-0
     ≡ with_rule (app_of c.args.command) (option_rule (codes "metadata-json")) =
-    c.in_ok-arg.ensures.shape c.option-metadata.ensures.local
-    ∙ ap (with_rule (app_of c.args.command)) c.option-metadata.ensures.rule in
-    IfOk-weaker c.arg-2.result _ _ (λ r h. h.shape c.choice-manifest.ensures.local
-    ∙ ap₂ with_rule first c.choice-manifest.ensures.rule) c.arg-2.ensures
+    c.in_ok-arg.ensures.shape c.option.ensures.local
+    ∙ ap (with_rule (app_of c.args.command)) c.option.ensures.rule in
+    IfOk-weaker c.arg-2.result _ _ (λ r h. h.shape c.choice.ensures.local
+    ∙ ap₂ with_rule first c.choice.ensures.rule) c.arg-2.ensures
 
 pub returns-clause-local : goal.returns-clause-local
 returns-clause-local c = IfOk-weaker c.arg-2.result _ _ (λ r h start.
-    local_after _ _ _ h c.choice-manifest.ensures.local
-    (local_after _ _ _ c.in_ok-arg.ensures c.option-metadata.ensures.local start)) c.arg-2.ensures
+    local_after _ _ _ h c.choice.ensures.local
+    (local_after _ _ _ c.in_ok-arg.ensures c.option.ensures.local start)) c.arg-2.ensures
