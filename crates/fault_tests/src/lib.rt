@@ -1,4 +1,5 @@
-//! Tests of the program where files, an index or its streams fail, by the public calls of `edit_program` alone.
+//! Tests of the program where files, an index or its streams fail, by the public calls of `edit_program`
+//! alone.
 //!
 //! They stand beside `edit_tests`, so that both are proved at once behind the program.
 #![tactic(auto)]
