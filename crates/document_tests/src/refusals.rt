@@ -26,7 +26,7 @@ const REFUSALS: &str = "\
 13 No version literal to set|13|~\
 14 Invalid version requirement `one`|14|one~\
 15 Support for modifying >1 is currently unsupported|15|>1~\
-16 Cannot increment the alpha field for 1.0.0-rc.1|16|1.0.0-rc.1~\
+16 Cannot increment the alpha field for 1.0.0-rc.1|16|alpha@1.0.0-rc.1~\
 17 This version scheme is not supported. Use format like `pre`, `dev` or `alpha.1` for prerelease symbol|17|~\
 18 A number of 1.2.18446744073709551615 is at its end|18|~\
 19 Invalid build metadata `a_b`|19|a_b~\

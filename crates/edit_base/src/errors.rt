@@ -81,7 +81,7 @@ pub enum Error {
     },
     #[error("Cannot increment the {level} field for {version}")]
     ReleaseLevel {
-        level: &'static str,
+        level: String,
         version: String,
     },
     #[error("This version scheme is not supported. Use format like `pre`, `dev` or `alpha.1` for prerelease symbol")]
@@ -103,9 +103,9 @@ pub enum Error {
     },
     #[error("Found {actual} for {key} when {expected} was expected for {dep}")]
     InvalidType {
-        actual: &'static str,
+        actual: String,
         key: String,
-        expected: &'static str,
+        expected: String,
         dep: String,
     },
     #[error("`{key}.workspace = false` is unsupported")]

@@ -94,7 +94,7 @@ shown_at i = below (tree_of (document_of i)) (place_of i)
 -- the error is this refusal, with these texts (own)
 abbrev pub Tells : Refusal → Error → Type 0
 Tells (wrong_type found name expected dep) (error.InvalidType a k x d) =
-    (a.now ≡ found) × (string_bytes k ≡ name) × (x.now ≡ expected) × (string_bytes d ≡ dep)
+    (string_bytes a ≡ found) × (string_bytes k ≡ name) × (string_bytes x ≡ expected) × (string_bytes d ≡ dep)
 Tells (workspace_false dep) (error.WorkspaceFalse k) = string_bytes k ≡ dep
 Tells (unknown_source dep) (error.UnknownSource k) = string_bytes k ≡ dep
 Tells (old_default_features dep) (error.OldDefaultFeatures k) = string_bytes k ≡ dep

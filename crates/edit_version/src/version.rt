@@ -260,7 +260,7 @@ fn next_number(alloc: Global, version: &Version, phase: Phase) -> CargoResult<u6
     };
     if phase.is_before(word) {
         return Err(Error::ReleaseLevel {
-            level: phase.word(),
+            level: String::from_str(alloc, phase.word())?,
             version: format!(in alloc; "{version}")?,
         });
     }

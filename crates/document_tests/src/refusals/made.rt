@@ -63,10 +63,6 @@ fn named(number: u32, text: String) -> Option<Error> {
         8 => Some(Error::NoTable { step: text }),
         14 => Some(Error::InvalidRequirement { text }),
         15 => Some(Error::Unsupported { comparator: text }),
-        16 => Some(Error::ReleaseLevel {
-            level: "alpha",
-            version: text,
-        }),
         19 => Some(Error::InvalidMetadata { text }),
         22 => Some(Error::WorkspaceFalse { key: text }),
         23 => Some(Error::UnknownSource { key: text }),
@@ -90,15 +86,13 @@ fn paired(number: u32, first: String, second: String) -> Option<Error> {
             name: first,
             path: second,
         }),
+        16 => Some(Error::ReleaseLevel {
+            level: first,
+            version: second,
+        }),
         20 => Some(Error::InvalidName {
             name: first,
             characters: second,
-        }),
-        21 => Some(Error::InvalidType {
-            actual: "integer",
-            key: first,
-            expected: "string",
-            dep: second,
         }),
         40 => Some(Error::CannotExclude {
             excluded: first,
@@ -136,12 +130,25 @@ fn command_line(alloc: Global) -> Option<Error> {
     }
 }
 
+/// The refusal of a number where a text is expected.
+fn of_type(alloc: Global, key: &str, dep: &str) -> Result<Error, AllocError> {
+    Ok(Error::InvalidType {
+        actual: String::from_str(alloc, "integer")?,
+        key: String::from_str(alloc, key)?,
+        expected: String::from_str(alloc, "string")?,
+        dep: String::from_str(alloc, dep)?,
+    })
+}
+
 /// A refusal that carries one text, or several.
 fn told_of(alloc: Global, number: u32, parts: &str) -> Result<Option<Error>, AllocError> {
     if let Some(error) = missing(number, listed(alloc, parts, '@')?) {
         return Ok(Some(error));
     }
     if let Some((first, second)) = parts.split_once('@') {
+        if number == 21 {
+            return Ok(Some(of_type(alloc, first, second)?));
+        }
         let first = String::from_str(alloc, first)?;
         return Ok(paired(number, first, String::from_str(alloc, second)?));
     }

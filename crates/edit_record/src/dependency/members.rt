@@ -18,16 +18,16 @@ pub(crate) fn wrong_type(
     alloc: Global,
     dep: &str,
     name: &str,
-    expected: &'static str,
+    expected: &str,
     item: Item<'_>,
 ) -> Result<Error, AllocError>
     ensures { IfOk result
         (Tells (wrong_type (type_name_of (view_of item.entry)) name.now expected.now dep.now)) }
 {
     Ok(Error::InvalidType {
-        actual: item.type_name(),
+        actual: String::from_str(alloc, item.type_name())?,
         key: String::from_str(alloc, name)?,
-        expected,
+        expected: String::from_str(alloc, expected)?,
         dep: String::from_str(alloc, dep)?,
     })
 }

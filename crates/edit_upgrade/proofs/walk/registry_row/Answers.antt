@@ -3,13 +3,15 @@ use Rattle.std.specs.Prelude.{option_copied, option_map}
 use Rattle.edit_version.specs.RustVersions.{numbers_of}
 use Rattle.edit_sources.specs.Configured.{given}
 use Rattle.edit_cache.specs.IndexCache.{index_of}
+use Rattle.url.specs.Parts.{serialize}
 use Rattle.edit_upgrade.specs.Found.{seen_of}
 use Rattle.edit_upgrade.specs.Lines.{line_of}
-use Rattle.edit_upgrade.specs.Looked.{Leaves}
+use Rattle.edit_upgrade.specs.Looked.{IsStep, Leaves}
 use Rattle.edit_upgrade.specs.Looks.{Kept, kept_by}
+use Rattle.edit_upgrade.specs.PairSets.{holds_pair}
 use Rattle.edit_upgrade.specs.Upgraded.{IsNeededFor}
 use Rattle.edit_upgrade.proofs.PlannedLemmas.{refusal-has}
-use Rattle.edit_upgrade.proofs.WalkLemmas.{no-look, no-registry, registry-decided, registry-left}
+use Rattle.edit_upgrade.proofs.WalkLemmas.{no-look, no-registry, registry-decided, registry-left, registry-step}
 use Rattle.edit_upgrade.proofs.walk.registry_row.Goals as goal
 
 pub returns-in_err-see-clause-refused : goal.returns-in_err-see-clause-refused
@@ -71,6 +73,24 @@ returns-in_err-row-clause-left g c =
     (subst (λ i. Leaves (IsNeededFor configs e) first (g.I.Index.view i).gives before
     (g.I.Index.view i).faults (kept_by c.args.index.now) (kept_by c.look_once.new.index))
     (sym c.in_err-row.ensures.index) left)
+
+pub returns-clause-step : goal.returns-clause-step
+returns-clause-step g c =
+    let e = seen_of c.args.entry.now in
+    let address = c.in-Some.url.now in
+    let name = c.as_str-name.result.now in
+    let first = (g.I.Index.view (index_of c.args.index.now)).gives in
+    let old = kept_by c.args.index.now in
+    registry-step c.args.job.configs.now e (given c.args.registry) address name first old
+    (kept_by c.kept_row.new.index) c.args.books.now.looks.items c.look_once.new.looks.items
+    (holds_pair c.args.books.now.pairs) (holds_pair c.look_once.new.pairs) c.requires.source
+    ((c.in_ok-see.ensures.are c.args.job.configs.now c.requires.addresses).has
+    (given c.args.registry) address
+    (sym c.url.ensures ∙ ap option_copied c.in-Some.is)) c.as_str-name.ensures.value
+    (subst (λ (k : Kept). IsStep (serialize address) name first old k
+    c.args.books.now.looks.items c.look_once.new.looks.items
+    (holds_pair c.args.books.now.pairs) (holds_pair c.look_once.new.pairs))
+    (sym c.in_ok-row.ensures.kept) c.in_ok-look_once.ensures.step)
 
 pub returns-clause-row : goal.returns-clause-row
 returns-clause-row g c =
