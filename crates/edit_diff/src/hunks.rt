@@ -41,9 +41,8 @@ fn note(line: &[u8]) -> &'static str
 }
 
 /// Adds a line behind its sign.
-fn push_line(text: &mut Vec<u8>, mark: Mark, line: &[u8]) -> CargoResult<()>
+fn push_line(text: &mut Vec<u8>, mark: Mark, line: &[u8]) -> Result<(), AllocError>
     ensures ok { OnOk result (text.new.items ≡ text.old.items ++ spec.line_text mark line.now) }
-    ensures refused { IfErr result IsMemory }
 {
     text.push(sign(mark))?;
     text.extend_from_slice(line)?;
@@ -72,10 +71,14 @@ fn range_text(alloc: Global, before: usize, count: usize) -> Result<String, Allo
 }
 
 /// Adds from which line on, and how many.
-fn push_range(alloc: Global, text: &mut Vec<u8>, before: usize, count: usize) -> CargoResult<()>
+fn push_range(
+    alloc: Global,
+    text: &mut Vec<u8>,
+    before: usize,
+    count: usize,
+) -> Result<(), AllocError>
     requires { before + count < 2 ^ 64 }
     ensures ok { OnOk result (text.new.items ≡ text.old.items ++ spec.range_text before count) }
-    ensures refused { IfErr result IsMemory }
 {
     let range = range_text(alloc, before, count)?;
     text.extend_from_slice(range.as_bytes())?;
@@ -83,10 +86,14 @@ fn push_range(alloc: Global, text: &mut Vec<u8>, before: usize, count: usize) ->
 }
 
 /// Adds the head of a part behind some lines.
-fn push_head(alloc: Global, text: &mut Vec<u8>, before: &[Mark], part: &[Mark]) -> CargoResult<()>
+fn push_head(
+    alloc: Global,
+    text: &mut Vec<u8>,
+    before: &[Mark],
+    part: &[Mark],
+) -> Result<(), AllocError>
     requires { length before.now + length part.now < 2 ^ 64 }
     ensures ok { OnOk result (text.new.items ≡ text.old.items ++ spec.head_text before.now part.now) }
-    ensures refused { IfErr result IsMemory }
 {
     text.extend_from_slice(b"@@ -")?;
     push_range(alloc, text, count_old(before), count_old(part))?;
@@ -105,10 +112,14 @@ fn begins(marks: &[Mark], i: usize) -> bool
 }
 
 /// Adds the head of a part where one begins at a line that is shown.
-fn push_head_at(alloc: Global, text: &mut Vec<u8>, marks: &[Mark], i: usize) -> CargoResult<()>
+fn push_head_at(
+    alloc: Global,
+    text: &mut Vec<u8>,
+    marks: &[Mark],
+    i: usize,
+) -> Result<(), AllocError>
     requires { i < length marks.now }
     ensures ok { OnOk result (text.new.items ≡ text.old.items ++ spec.head_where marks.now i) }
-    ensures refused { IfErr result IsMemory }
 {
     if !begins(marks, i) {
         return Ok(());
@@ -125,12 +136,11 @@ fn push_at(
     marks: &[Mark],
     lines: &[&[u8]],
     i: usize,
-) -> CargoResult<()>
+) -> Result<(), AllocError>
     requires within { i < length marks.now }
     requires lines { length lines.now ≡ length marks.now }
     ensures ok { OnOk result (text.new.items
         ≡ text.old.items ++ spec.text_at marks.now (map (λ l. l.now) lines.now) i) }
-    ensures refused { IfErr result IsMemory }
 {
     if !is_shown(marks, i) {
         return Ok(());
@@ -145,11 +155,10 @@ pub(crate) fn push_parts(
     text: &mut Vec<u8>,
     marks: &[Mark],
     lines: &[&[u8]],
-) -> CargoResult<()>
+) -> Result<(), AllocError>
     requires { length lines.now ≡ length marks.now }
     ensures ok { OnOk result (text.new.items
         ≡ text.old.items ++ spec.parts_text marks.now (map (λ l. l.now) lines.now)) }
-    ensures refused { IfErr result IsMemory }
 {
     for i in 0..marks.len() {
         push_at(alloc, text, marks, lines, i)?;

@@ -4,7 +4,7 @@ ghost use Rattle.edit_base.specs.Errors.{IsMemory};
 ghost use Rattle.edit_diff.specs.Lines.{line_length, lines_of, IsCut};
 
 use edit_base::CargoResult;
-use std::alloc::Global;
+use std::alloc::{AllocError, Global};
 
 /// How long the first line is, with its line feed.
 fn line_length(text: &[u8]) -> usize
@@ -30,9 +30,8 @@ fn first_line(text: &[u8]) -> Option<(&[u8], &[u8])>
 }
 
 /// The lines of a text, each with its line feed where it has one.
-pub(crate) fn lines_of(alloc: Global, text: &[u8]) -> CargoResult<Vec<&[u8]>>
+pub(crate) fn lines_of(alloc: Global, text: &[u8]) -> Result<Vec<&[u8]>, AllocError>
     ensures ok { IfOk result (λ v. map (λ l. l.now) v.items ≡ lines_of text.now) }
-    ensures refused { IfErr result IsMemory }
 {
     let mut lines = Vec::new(alloc);
     let mut rest = text;

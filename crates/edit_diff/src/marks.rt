@@ -4,7 +4,7 @@ ghost use Rattle.edit_base.specs.Errors.{IsMemory};
 ghost use Rattle.edit_diff.specs.Marks.{lines_in, marked, marked_at, marks_in};
 
 use edit_base::CargoResult;
-use std::alloc::Global;
+use std::alloc::{AllocError, Global};
 
 /// What becomes of a line.
 #[derive(Clone, Copy, Debug, PartialEq, Eq)]
@@ -23,11 +23,10 @@ pub(crate) struct MarkedLines<'a> {
 
 impl<'a> MarkedLines<'a> {
     /// Adds a line.
-    fn push(&mut self, mark: Mark, line: &'a [u8]) -> CargoResult<()>
+    fn push(&mut self, mark: Mark, line: &'a [u8]) -> Result<(), AllocError>
         ensures marks { OnOk result (self.new.marks.items ≡ self.old.marks.items ++ mark ∷ []) }
         ensures lines { OnOk result (map (λ l. l.now) self.new.lines.items
             ≡ map (λ l. l.now) self.old.lines.items ++ line.now ∷ []) }
-        ensures refused { IfErr result IsMemory }
     {
         self.marks.push(mark)?;
         self.lines.push(line)?;
@@ -35,7 +34,7 @@ impl<'a> MarkedLines<'a> {
     }
 
     /// Adds the lines that stand at one number of two texts.
-    fn push_at(&mut self, old: Option<&'a [u8]>, new: Option<&'a [u8]>) -> CargoResult<()>
+    fn push_at(&mut self, old: Option<&'a [u8]>, new: Option<&'a [u8]>) -> Result<(), AllocError>
         ensures marks { OnOk result (self.new.marks.items ≡ self.old.marks.items
             ++ marks_in (marked_at (option_map (λ l. l.now) old.entry)
             (option_map (λ l. l.now) new.entry))) }
@@ -43,7 +42,6 @@ impl<'a> MarkedLines<'a> {
             ≡ map (λ l. l.now) self.old.lines.items
             ++ lines_in (marked_at (option_map (λ l. l.now) old.entry)
             (option_map (λ l. l.now) new.entry))) }
-        ensures refused { IfErr result IsMemory }
     {
         match (old, new) {
             (Some(old), Some(new)) => {
@@ -79,12 +77,11 @@ pub(crate) fn marked<'a>(
     alloc: Global,
     olds: &[&'a [u8]],
     news: &[&'a [u8]],
-) -> CargoResult<MarkedLines<'a>>
+) -> Result<MarkedLines<'a>, AllocError>
     ensures marks { IfOk result (λ m. m.marks.items
         ≡ marks_in (marked (map (λ l. l.now) olds.now) (map (λ l. l.now) news.now))) }
     ensures lines { IfOk result (λ m. map (λ l. l.now) m.lines.items
         ≡ lines_in (marked (map (λ l. l.now) olds.now) (map (λ l. l.now) news.now))) }
-    ensures refused { IfErr result IsMemory }
 {
     let mut marked = MarkedLines {
         marks: Vec::new(alloc),

@@ -11,13 +11,12 @@ use crate::hunks::push_parts;
 use crate::lines::lines_of;
 use crate::marks::marked;
 use edit_base::{CargoResult, Error};
-use std::alloc::Global;
+use std::alloc::{AllocError, Global};
 use std::io;
 
 /// Adds the two lines that name a file.
-fn push_names(text: &mut Vec<u8>, path: &str) -> CargoResult<()>
+fn push_names(text: &mut Vec<u8>, path: &str) -> Result<(), AllocError>
     ensures ok { OnOk result (text.new.items ≡ text.old.items ++ spec.names_text path.now) }
-    ensures refused { IfErr result IsMemory }
 {
     text.extend_from_slice(b"--- a/")?;
     text.extend_from_slice(path.as_bytes())?;
@@ -28,10 +27,9 @@ fn push_names(text: &mut Vec<u8>, path: &str) -> CargoResult<()>
 }
 
 /// Adds the parts of the diff of two texts.
-fn push_changes(alloc: Global, text: &mut Vec<u8>, old: &[u8], new: &[u8]) -> CargoResult<()>
+fn push_changes(alloc: Global, text: &mut Vec<u8>, old: &[u8], new: &[u8]) -> Result<(), AllocError>
     ensures ok { OnOk result (text.new.items ≡ text.old.items
         ++ spec.parts_of (marked (lines_of old.now) (lines_of new.now))) }
-    ensures refused { IfErr result IsMemory }
 {
     let olds = lines_of(alloc, old)?;
     let news = lines_of(alloc, new)?;
