@@ -1,6 +1,6 @@
 #!/usr/bin/env python3
-"""growth.py LIBRARY CALLS PLANS: each request for memory of a call is refused in turn. LIBRARY refuses the one whose number
-REFUSE_AT is; CALLS is the program edit_calls, PLANS the program edit_plan_calls.
+"""growth.py LIBRARY CALLS: each request for memory of a call is refused in turn. LIBRARY refuses the one whose number
+REFUSE_AT is; CALLS is the program edit_calls.
 
 Request 1 is refused, then 2, until a run ends without a refusal. Each run must answer 46, or what is wanted where nothing
 is refused; the last must give what is wanted. After 46 the manifest that an edit was lent has its old text and shows what
@@ -40,7 +40,7 @@ NEW = {"a": OLD["a"].replace(b"0.1.0", b"0.2.0"), "b": OLD["b"].replace(b"0.1.0"
 
 @dataclass
 class Call:
-    """A call: its name, its program and words, the files where it runs (with the folder's path for @HERE@), what it prints
+    """A call: its name, its words, the files where it runs (with the folder's path for @HERE@), what it prints
     where nothing is refused, what it may print where it met a refusal, the files that it leaves, and those that it may leave
     behind a refusal."""
     what: str
@@ -56,20 +56,20 @@ def edit(what, before, views, after, *words):
     """An edit of a manifest, which shows these views."""
     files = {"Cargo.toml": before}
     again = b"refused 46 " + LACK + b"\n" + before + views + b"done\n" + after
-    return Call(what, ["calls", "Cargo.toml", *words], files, b"done\n" + after, [again], files, [files])
+    return Call(what, ["Cargo.toml", *words], files, b"done\n" + after, [again], files, [files])
 
 
 def plan(what, answer, files, *words, held=False, **others):
     """A call of a plan or a reader, with a cache that holds an answer or without one."""
     lacks = [b"refused 46 " + LACK + b"\n"] + [HELD + answer + b"done\n"] * held
     left = {"left": files, "left_by_refusal": [files], **others}
-    return Call(what, ["plans", *words], files, answer + b"done\n", lacks, **left)
+    return Call(what, words, files, answer + b"done\n", lacks, **left)
 
 
 def edits():
     place = (".dependencies", ".serde")
     files = {"Cargo.toml": FIRST}
-    yield Call("read", ["calls", "Cargo.toml", "none", "="], files, b"no such place\n" + FIRST, [], files, [files])
+    yield Call("read", ["Cargo.toml", "none", "="], files, b"no such place\n" + FIRST, [], files, [files])
     yield edit("set_value", FIRST, TABLES, FIRST.replace(b"true", b"false"),
                "set_value", *place, ".optional", "=", "truth", "false")
     yield edit("set_literal", FIRST, TABLES, RAISED, "set_literal", *place, ".version", "=", "1.2")
@@ -115,15 +115,15 @@ def lay_out(room, files):
         (room / name).write_bytes(text.replace(b"@HERE@", os.fsencode(room)))
 
 
-def run(programs, call, library, number):
+def run(program, call, library, number):
     """A run with a refused request: what it answered, whether a request was refused, and the files left."""
     with tempfile.TemporaryDirectory() as folder:
         room, seen = pathlib.Path(folder) / "in", pathlib.Path(folder) / "seen"
         room.mkdir()
         lay_out(room, call.files)
-        words = [word.replace("@HERE@", str(room)) for word in call.words[1:]]
+        words = [word.replace("@HERE@", str(room)) for word in call.words]
         environment = {"LD_PRELOAD": library, "REFUSE_AT": str(number), "REFUSE_SEEN": str(seen)}
-        done = subprocess.run([programs[call.words[0]], *words], cwd=room, env=environment, capture_output=True,
+        done = subprocess.run([program, *words], cwd=room, env=environment, capture_output=True,
                               check=False, timeout=60)
         here = os.fsencode(room)
         left = {str(path.relative_to(room)): path.read_bytes().replace(here, b"@HERE@")
@@ -142,11 +142,11 @@ def judged(call, answer, left):
     return "" if left in call.left_by_refusal else "the files", True
 
 
-def refused(pool, programs, call, library):
+def refused(pool, program, call, library):
     """How many requests were refused in turn, and how many runs answered 46."""
     told = 0
     for first in itertools.count(1, 4 * AT_ONCE):
-        runs = pool.map(lambda number: run(programs, call, library, number), range(first, first + 4 * AT_ONCE))
+        runs = pool.map(lambda number: run(program, call, library, number), range(first, first + 4 * AT_ONCE))
         for number, (answer, seen, left) in enumerate(runs, first):
             fault, lacks = judged(call, answer, left)
             if fault:
@@ -159,11 +159,11 @@ def refused(pool, programs, call, library):
 
 
 def main():
-    library, calls, plans_at = (str(pathlib.Path(word).resolve()) for word in sys.argv[1:4])
+    library, program = (str(pathlib.Path(word).resolve()) for word in sys.argv[1:3])
     counts = []
     with ThreadPoolExecutor(AT_ONCE) as pool:
         for call in [*edits(), *plans()]:
-            counts.append(refused(pool, {"calls": calls, "plans": plans_at}, call, library))
+            counts.append(refused(pool, program, call, library))
             print(f"{call.what}: {counts[-1][0]} requests refused in turn, {counts[-1][1]} answers 46")
     print(f"{sum(count for count, _ in counts)} requests for memory refused in turn, over {len(counts)} calls, "
           f"{sum(told for _, told in counts)} answers 46")

@@ -17,7 +17,7 @@ INDEX_FILE = ("--index-file", f"{HERE}/index.json")
 @dataclass
 class Row:
     """What a row shows, its files, the words of the program (@HERE@ is the folder of the files), the status, a text that is
-    printed, and whether each file stays; a row of `calls` is one of the program edit_plan_calls."""
+    printed, and whether each file stays; a row of `calls` is one of the program edit_calls."""
     what: str
     files: Callable[[], dict]
     words: tuple

@@ -1,5 +1,5 @@
-//! Tests of documents, of paths and of the texts of refusals, by the public calls of `edit_document` and
-//! `edit_base` alone.
+//! Tests of documents, of paths, of the texts of refusals, of manifests and of new versions, by the public
+//! calls of `edit_document`, `edit_base`, `edit_manifest` and `edit_set_version` alone.
 //!
 //! They stand in a crate of their own, since a crate with tests is proved once more with them.
 #![tactic(auto)]
@@ -21,6 +21,8 @@ mod keys;
 #[cfg(test)]
 mod literals;
 #[cfg(test)]
+mod manifests;
+#[cfg(test)]
 mod new_items;
 #[cfg(test)]
 mod one_statement;
@@ -40,3 +42,5 @@ mod shown;
 mod texts;
 #[cfg(test)]
 mod values;
+#[cfg(test)]
+mod versions;

@@ -1,5 +1,6 @@
-//! The program `edit_calls`: makes the edit of a manifest that its words name, and prints what it leaves. It
-//! is for the checks of the gate, and is not installed.
+//! The program `edit_calls`: makes the edit of a manifest that its words name, or one call of a plan, of a
+//! ranking or of a reader, and prints what it leaves or answers. It is for the checks of the gate, and is not
+//! installed.
 //!
 //!     edit_calls FILE insert STEP.. = KEY VALUE
 //!     edit_calls FILE remove STEP.. =
@@ -17,9 +18,25 @@
 //! the entry with it. It prints `done`, `no such place`, or `refused`, a number and a text, and below it the
 //! text of the document. Where memory ran out it then prints the kinds of what the document shows, makes the
 //! edit once more, and prints the answer to that.
+//!
+//!     edit_calls upgrade FOLDER
+//!     edit_calls ranked FOLDER NAME
+//!     edit_calls set_version FOLDER
+//!     edit_calls apply FOLDER
+//!     edit_calls word FILE
+//!
+//! The first two read `Cargo.toml` and `index.json` of the folder, and lend the call a cache that holds an
+//! answer; where memory ran out they tell what the cache still has, and make the call again. `set_version`
+//! plans the next minor version of each member of the workspace that `metadata.json` tells of, and `apply`
+//! writes that plan. `word` reads the word that a file holds. It prints the texts that a plan would write,
+//! the first versions of a ranking or the name in the word, and then `done`; or `refused`, a number and a
+//! text.
 #![tactic(auto)]
 
+mod cached;
 mod calls;
+mod plans;
+mod readers;
 mod views;
 mod words;
 
@@ -27,6 +44,7 @@ use calls::edit;
 use edit_document::{CargoResult, Error};
 use edit_manifest::Manifest;
 use edit_store::{HostStore, Store};
+use readers::planned_call;
 use std::env;
 use std::io::Write;
 use std::process::ExitCode;
@@ -82,6 +100,9 @@ fn answer_to(rt: &HostRuntime, path: &str, words: &[String]) -> CargoResult<()> 
 /// Answers the words of the call.
 fn answer(rt: &HostRuntime) -> CargoResult<()> {
     let words: Vec<String> = env::args(rt)?.skip(1).collect(rt.alloc())?;
+    if let Some(call) = planned_call(&words) {
+        return call.show(rt);
+    }
     match words.as_slice() {
         [path, words @ ..] => answer_to(rt, path.as_str(), words),
         [] => Ok(()),

@@ -1,11 +1,9 @@
 //! The lines of a diff, and the heads of its parts.
-ghost use Rattle.std.specs.Prelude.{◌≡◌, ◌+◌, ◌^◌, ◌<◌, ◌++◌, IfErr, IfOk, OnOk, length, map, string_bytes};
-ghost use Rattle.edit_base.specs.Errors.{IsMemory};
+ghost use Rattle.std.specs.Prelude.{◌≡◌, ◌+◌, ◌^◌, ◌<◌, ◌++◌, IfOk, OnOk, length, map, string_bytes};
 ghost use Rattle.edit_diff.specs.Hunks as spec;
 
 use crate::marks::Mark;
 use crate::shown::{count_new, count_old, is_shown, part_length};
-use edit_base::CargoResult;
 use std::alloc::{AllocError, Global};
 
 /// Whether a line ends with a line feed.

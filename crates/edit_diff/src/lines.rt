@@ -1,9 +1,7 @@
 //! The lines of a text.
-ghost use Rattle.std.specs.Prelude.{◌≡◌, ◌≤◌, [], IfErr, IfOk, MatchOption, length, map};
-ghost use Rattle.edit_base.specs.Errors.{IsMemory};
+ghost use Rattle.std.specs.Prelude.{◌≡◌, ◌≤◌, [], IfOk, MatchOption, length, map};
 ghost use Rattle.edit_diff.specs.Lines.{line_length, lines_of, IsCut};
 
-use edit_base::CargoResult;
 use std::alloc::{AllocError, Global};
 
 /// How long the first line is, with its line feed.

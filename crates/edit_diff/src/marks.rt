@@ -1,9 +1,7 @@
 //! The lines of two texts, compared one by one.
-ghost use Rattle.std.specs.Prelude.{◌≡◌, [], ◌∷◌, ◌++◌, IfErr, IfOk, OnOk, map, option_copied, option_map, slice_get};
-ghost use Rattle.edit_base.specs.Errors.{IsMemory};
+ghost use Rattle.std.specs.Prelude.{◌≡◌, [], ◌∷◌, ◌++◌, IfOk, OnOk, map, option_copied, option_map, slice_get};
 ghost use Rattle.edit_diff.specs.Marks.{lines_in, marked, marked_at, marks_in};
 
-use edit_base::CargoResult;
 use std::alloc::{AllocError, Global};
 
 /// What becomes of a line.

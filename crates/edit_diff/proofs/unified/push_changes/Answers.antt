@@ -11,5 +11,7 @@ returns c =
     (ap now c.deref-4.ensures.value ∙ c.in_ok-marked.ensures.lines)
     (ap now c.deref.ensures.value ∙ c.in_ok-olds.ensures.ok)
     (ap now c.deref-2.ensures.value ∙ c.in_ok-news.ensures.ok) in
-    record { ok = subst (λ (t : List ℕ). OnOk c.push_parts.result
-    (c.push_parts.new.text.items ≡ c.args.text.now.items ++ t)) e c.push_parts.ensures.ok }
+    record {
+      ok = subst (λ (t : List ℕ). OnOk c.push_parts.result
+          (c.push_parts.new.text.items ≡ c.args.text.now.items ++ t)) e c.push_parts.ensures.ok;
+    }

@@ -1,0 +1,77 @@
+//! Calls of plans, rankings and readers by words.
+
+use crate::cached::over_cache;
+use crate::plans::{set_versions, show};
+use edit_base::{CargoResult, Error};
+use edit_store::{HostStore, Store};
+use edit_version::CrateSpec;
+use std::io::Write;
+use std::str;
+
+/// The bytes of a file.
+fn bytes_of(rt: &HostRuntime, path: &str) -> CargoResult<Vec<u8>> {
+    let mut files = HostStore::new(rt.clone()?);
+    match files.read(rt.alloc(), path) {
+        Ok(Some(bytes)) => Ok(bytes),
+        Ok(None) => Err(Error::NoPath),
+        Err(error) => Err(error),
+    }
+}
+
+/// Prints the name in a word.
+fn show_name(rt: &HostRuntime, word: &str) -> CargoResult<()> {
+    let spec = CrateSpec::resolve(rt.alloc(), word)?;
+    show(rt, spec.name.as_bytes())
+}
+
+/// Prints the name in the word that a file holds.
+fn word(rt: &HostRuntime, path: &str) -> CargoResult<()> {
+    let bytes = bytes_of(rt, path)?;
+    show_name(rt, str::from_utf8(&bytes).unwrap_or(""))
+}
+
+/// A call: what is called, over which folder or file, and for which name, if for one.
+#[derive(Clone, Copy)]
+pub(crate) struct Call<'a> {
+    what: &'a str,
+    at: &'a str,
+    name: &'a str,
+}
+
+impl<'a> Call<'a> {
+    /// Makes the call, which prints what it answers.
+    fn make(self, rt: &HostRuntime) -> CargoResult<()> {
+        match self.what {
+            "upgrade" | "ranked" => over_cache(rt, self.at, self.name),
+            "set_version" => set_versions(rt, self.at, false),
+            "apply" => set_versions(rt, self.at, true),
+            _ => word(rt, self.at),
+        }
+    }
+
+    /// Makes the call, and prints whether it was refused.
+    pub(crate) fn show(self, rt: &HostRuntime) -> CargoResult<()> {
+        match self.make(rt) {
+            Ok(()) => writeln!(rt.stdout(), "done")?,
+            Err(error) => writeln!(rt.stdout(), "refused {} {error}", error.number())?,
+        }
+        Ok(())
+    }
+}
+
+/// The call in words, where they ask for one.
+pub(crate) fn planned_call(words: &[String]) -> Option<Call<'_>> {
+    let what = words.first()?.as_str();
+    if !matches!(
+        what,
+        "upgrade" | "ranked" | "set_version" | "apply" | "word"
+    ) {
+        return None;
+    }
+    let at = words.get(1)?.as_str();
+    let name = match words.get(2) {
+        Some(name) => name.as_str(),
+        None => "",
+    };
+    Some(Call { what, at, name })
+}
