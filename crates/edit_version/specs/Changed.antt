@@ -12,7 +12,8 @@ use Rattle.edit_version.specs.declared.version.Phase.{Phase}
 -- why a change was refused, with what the refusal tells of the version as it was (own)
 abbrev pub IsCause : Change → Parts → Error → Type 0
 IsCause c old (error.ReleaseLevel level version) =
-    (p : Phase) × (c ≡ Refused (Behind p)) × (string_bytes level ≡ word p) × (string_bytes version ≡ parts_text old)
+    (p : Phase) × (c ≡ Refused (Behind p)) × (string_bytes level ≡ word p)
+    × (string_bytes version ≡ parts_text old)
 IsCause c old error.PrereleaseScheme = c ≡ Refused Scheme
 IsCause c old (error.NumberAtEnd major minor patch) =
     (c ≡ Refused AtEnd) × (major ≡ old.0) × (minor ≡ old.1) × (patch ≡ old.2)
