@@ -1,174 +1,150 @@
-//! The program's rows, over files in memory.
-use edit_base::paths::join;
+//! The program where a call of the files fails, or where standard output has no room. Its other rows stand in
+//! tools/checks/rows.
 use edit_program::run;
-use edit_store::{FaultStore, HostStore, MemoryStore, Store};
+use edit_store::{FaultStore, MemoryStore, Store};
 use std::alloc::Global;
+use std::str;
 use std::test::Fail;
-use std::{fs, process, str};
 use test_rows::{field, same};
 
-mod files;
-mod given;
+const MANIFEST: &str = "[dependencies]\nserde = { version = '1.0', optional = true } # keep\n";
 
-use files::{INDEX, MANIFEST, bytes_of, name_of, path_of};
-use given::{ROWS, STATUSES, TEXTS, UNWRITTEN, WORDS};
+const OF_A_REGISTRY: &str = "[dependencies]\nserde = { version = \"1.0\", registry = \"r\" }\n";
+
+const REGISTRIES: &str = "[registries]\nr = { index = \"file:///r\" }\n";
+
+const METADATA: &str = "\
+{\"workspace_root\":\"/w\",\"workspace_members\":[\"a\",\"b\"],\"packages\":[\
+{\"name\":\"a\",\"id\":\"a\",\"version\":\"0.1.0\",\"manifest_path\":\"/w/a/Cargo.toml\"},\
+{\"name\":\"b\",\"id\":\"b\",\"version\":\"0.1.0\",\"manifest_path\":\"/w/b/Cargo.toml\"}]}";
+
+const DEPENDENT: &str = "[dependencies]\na = { path = \"../a\", version = \"0.1\" }\n";
+
+/// Where a file of a row stands, and what it holds; `A` is raised, `k`, `p` and `e` are cut where a write
+/// failed.
+fn file(letter: char) -> (&'static str, &'static str) {
+    match letter {
+        'm' => ("/w/Cargo.toml", MANIFEST),
+        'k' => ("/w/Cargo.toml", "[dep"),
+        'r' => ("/w/Cargo.toml", OF_A_REGISTRY),
+        'c' => ("/w/.cargo/config.toml", REGISTRIES),
+        's' => ("/w/a/b/x", ""),
+        'n' => ("/w/index.json", "\n{}\n"),
+        'i' => ("/w/index.json", "{\"name\":\"serde\",\"vers\":\"1.2.3\"}\n"),
+        'd' => ("/w/metadata.json", METADATA),
+        'w' => ("/w/Cargo.toml", "[workspace]\n"),
+        'a' => ("/w/a/Cargo.toml", "[package]\nversion = \"0.1.0\" # kept\n"),
+        'A' => ("/w/a/Cargo.toml", "[package]\nversion = \"0.2.0\" # kept\n"),
+        'p' => ("/w/a/Cargo.toml", "[pac"),
+        'b' => ("/w/b/Cargo.toml", DEPENDENT),
+        _ => ("/w/b/Cargo.toml", "[dep"),
+    }
+}
+
+/// Words of an upgrade of one manifest.
+const WORDS: &str = "upgrade --manifest-path Cargo.toml --index-file index.json";
+
+/// Each row: what it shows, the files, which call of the store fails, the words, the files afterwards, and the
+/// status and what was printed. Between two rows stands `§`.
+const ROWS: &str = "\
+a configuration's read fails|rci|3|upgrade --manifest-path Cargo.toml --index-file index.json|r|\
+1 Error: Failed to read a file
+§the look fails|mi|0|upgrade --manifest-path Cargo.toml --index-file index.json|m|\
+1 Error: Failed to look at a path
+  at /w/Cargo.toml
+§the look above fails|snm|1|upgrade --manifest-path a/b --index-file index.json|m|\
+1 Error: Failed to look at a path
+  at /w/a/b
+§the manifest's read fails|mi|1|upgrade --manifest-path Cargo.toml --index-file index.json|m|\
+1 Error: Failed to read a file
+  at /w/Cargo.toml
+§the index file's read fails|mi|8|upgrade --manifest-path Cargo.toml --index-file index.json|m|\
+1 Error: Failed to read a file
+  at /w/index.json
+§the write fails after four bytes|mi|9|upgrade --manifest-path Cargo.toml --index-file index.json|k|\
+1 name  old req compatible latest new req
+====  ======= ========== ====== =======
+serde 1.0     1.2.3      1.2.3  1.2    
+    Checking virtual workspace's dependencies
+Error: Failed to write updated Cargo.toml
+  at /w/Cargo.toml
+§the first write fails after four bytes|dwab|4|set-version --metadata-json metadata.json --bump minor -p a|dwpb|\
+1    Upgrading a from 0.1.0 to 0.2.0
+    Updating b's dependency from 0.1 to 0.2
+Error: Failed to write updated Cargo.toml
+  at /w/a/Cargo.toml
+§a later write fails after four bytes|dwab|5|set-version --metadata-json metadata.json --bump minor -p a|dwAe|\
+1    Upgrading a from 0.1.0 to 0.2.0
+    Updating b's dependency from 0.1 to 0.2
+Error: Failed to write updated Cargo.toml
+  at /w/b/Cargo.toml
+§the read of the metadata fails|dwab|0|set-version --metadata-json metadata.json 2.0.0|dwab|\
+1 Error: Failed to read a file
+  at /w/metadata.json
+";
+
+/// What is seen where the table is not taken: the manifest is as it was.
+const UNWRITTEN: &str = "\
+1 manifest     Checking virtual workspace's dependencies
+Error: Failed to write message
+";
 
 /// The files of a row.
 fn stored(alloc: Global, letters: &str) -> Option<MemoryStore> {
     let mut files = MemoryStore::new(alloc);
     for letter in letters.chars() {
-        files.write(alloc, path_of(letter), bytes_of(letter)).ok()?;
+        let (path, text) = file(letter);
+        files.write(alloc, path, text.as_bytes()).ok()?;
     }
     Some(files)
 }
 
-/// The last field of a row, as it was.
-fn shown(
-    alloc: Global,
-    status: u8,
-    after: Option<&[u8]>,
-    out: &[u8],
-    err: &[u8],
-) -> Option<String> {
-    let out = str::from_utf8(out).ok()?;
-    let err = str::from_utf8(err).ok()?;
-    let after = match after {
-        Some(bytes) => name_of(bytes),
-        None => "none",
-    };
-    format!(in alloc; "{status} {after} {out}{err}").ok()
+/// Whether a file stands as its letter says.
+fn stands<S: Store>(alloc: Global, letter: char, files: &mut S) -> bool {
+    let (path, text) = file(letter);
+    match files.read(alloc, path) {
+        Ok(Some(bytes)) => bytes.as_slice() == text.as_bytes(),
+        _ => false,
+    }
 }
 
-/// What words print over files, from a folder: the status, and both streams.
-pub(crate) fn printed<S: Store>(
-    alloc: Global,
-    words: &[&str],
-    folder: &str,
-    files: &mut S,
-) -> (u8, Vec<u8>, Vec<u8>) {
-    printed_over(alloc, words, folder, files, MemoryStore::new(alloc))
-}
-
-/// The same, with an index in files.
-pub(crate) fn printed_over<S: Store>(
-    alloc: Global,
-    words: &[&str],
-    folder: &str,
-    files: &mut S,
-    index_files: MemoryStore,
-) -> (u8, Vec<u8>, Vec<u8>) {
+/// What words print over files.
+fn outcome(alloc: Global, words: &str, files: &mut FaultStore) -> Option<String> {
+    let words: Vec<&str> = words.split_ascii_whitespace().collect(alloc).ok()?;
     let mut out = Vec::new(alloc);
     let mut err = Vec::new(alloc);
     let status = run(
         alloc,
-        words,
-        folder,
+        words.as_slice(),
+        "/w",
         Some("/h"),
         files,
-        index_files,
+        MemoryStore::new(alloc),
         &mut out,
         &mut err,
     );
-    (status, out, err)
-}
-
-/// Runs words over files, from a folder.
-fn outcome<S: Store>(alloc: Global, words: &[&str], folder: &str, files: &mut S) -> Option<String> {
-    let path = join(alloc, folder, "Cargo.toml").ok()?;
-    let (status, out, err) = printed(alloc, words, folder, files);
-    let after = files.read(alloc, path.as_str()).ok()?;
-    shown(alloc, status, after.as_deref(), &out, &err)
-}
-
-/// The usual words, and then those of a row; `''` is an empty one.
-pub(crate) fn words_behind<'a>(
-    alloc: Global,
-    usual: &'a str,
-    own: &'a str,
-) -> Option<Vec<&'a str>> {
-    let words = usual
-        .split_ascii_whitespace()
-        .chain(own.split_ascii_whitespace());
-    words
-        .map(|word| if word == "''" { "" } else { word })
-        .collect(alloc)
-        .ok()
-}
-
-/// The words of a row; behind a `-` the usual ones, and then those of the row.
-fn words_of<'a>(alloc: Global, text: &'a str) -> Option<Vec<&'a str>> {
-    match text.strip_prefix("-") {
-        Some(own) => words_behind(alloc, WORDS, own),
-        None => words_behind(alloc, "", text),
-    }
-}
-
-/// Runs a row over its files.
-fn ran(alloc: Global, row: &str) -> Option<String> {
-    let at = field(row, 2).parse().ok()?;
-    let words = words_of(alloc, field(row, 3))?;
-    let inner = stored(alloc, field(row, 1))?;
-    let mut files = FaultStore::new(inner, at, 4);
-    outcome(alloc, words.as_slice(), "/w", &mut files)
-}
-
-/// Succeeds where a row gives what it wants.
-fn row_holds(alloc: Global, row: &str) -> Result<(), Fail> {
-    let seen = ran(alloc, row).ok_or("no outcome")?;
-    same(row, seen.as_str(), field(row, 4))
-}
-
-/// Succeeds where what a row gives begins with what it wants.
-fn status_holds(alloc: Global, row: &str) -> Result<(), Fail> {
-    let seen = ran(alloc, row).ok_or("no outcome")?;
-    let want = field(row, 4);
-    same(row, seen.get(..want.len()).unwrap_or(""), want)
-}
-
-#[test]
-fn rows(rt: HostRuntime) -> Result<(), Fail> {
-    for row in ROWS.split('§') {
-        row_holds(rt.alloc(), row)?;
-    }
-    for row in STATUSES.split('§') {
-        status_holds(rt.alloc(), row)?;
-    }
-    Ok(())
-}
-
-/// A status, what stands on standard output, and what stands on standard error.
-pub(crate) fn streams(alloc: Global, status: u8, out: &[u8], err: &[u8]) -> Option<String> {
-    let out = str::from_utf8(out).ok()?;
-    let err = str::from_utf8(err).ok()?;
+    let out = str::from_utf8(&out).ok()?;
+    let err = str::from_utf8(&err).ok()?;
     format!(in alloc; "{status} {out}{err}").ok()
 }
 
-/// What words print over no files.
-pub(crate) fn texts_of(alloc: Global, words: &[&str]) -> Option<String> {
-    let mut files = MemoryStore::new(alloc);
-    let (status, out, err) = printed(alloc, words, "/w", &mut files);
-    streams(alloc, status, &out, &err)
-}
-
-/// Succeeds where the words of a row print what it wants.
-fn text_holds(alloc: Global, row: &str) -> Result<(), Fail> {
-    let (words, text) = row.split_once('|').ok_or("no text wanted")?;
-    let words = words_of(alloc, words).ok_or("no words")?;
-    let seen = texts_of(alloc, words.as_slice()).ok_or("no text")?;
-    same(row, seen.as_str(), text)
-}
-
-#[test]
-fn texts(rt: HostRuntime) -> Result<(), Fail> {
-    for row in TEXTS.split('§') {
-        text_holds(rt.alloc(), row)?;
+/// Runs a row: what is printed, and which of its last files do not stand.
+fn ran(alloc: Global, row: &str) -> Option<String> {
+    let at = field(row, 2).parse().ok()?;
+    let inner = stored(alloc, field(row, 1))?;
+    let mut files = FaultStore::new(inner, at, 4);
+    let mut seen = outcome(alloc, field(row, 3), &mut files)?;
+    for letter in field(row, 4).chars() {
+        if !stands(alloc, letter, &mut files) {
+            seen.push(letter).ok()?;
+        }
     }
-    Ok(())
+    Some(seen)
 }
 
-/// Runs the usual words where standard output takes five bytes.
+/// Runs the words of an upgrade where standard output takes five bytes.
 fn ran_without_room(alloc: Global) -> Option<String> {
-    let words = words_of(alloc, "-")?;
+    let words: Vec<&str> = WORDS.split_ascii_whitespace().collect(alloc).ok()?;
     let mut files = stored(alloc, "mi")?;
     let index_files = MemoryStore::new(alloc);
     let mut room = [0u8; 5];
@@ -184,43 +160,26 @@ fn ran_without_room(alloc: Global) -> Option<String> {
         &mut out,
         &mut err,
     );
-    let after = files.read(alloc, "/w/Cargo.toml").ok()?;
-    shown(alloc, status, after.as_deref(), b"", &err)
+    let err = str::from_utf8(&err).ok()?;
+    let after = if stands(alloc, 'm', &mut files) {
+        "manifest"
+    } else {
+        "other"
+    };
+    format!(in alloc; "{status} {after} {err}").ok()
+}
+
+#[test]
+fn calls_that_fail(rt: HostRuntime) -> Result<(), Fail> {
+    for row in ROWS.split('§') {
+        let seen = ran(rt.alloc(), row).ok_or("no outcome")?;
+        same(row, seen.as_str(), field(row, 5))?;
+    }
+    Ok(())
 }
 
 #[test]
 fn no_room(rt: HostRuntime) -> Result<(), Fail> {
     let seen = ran_without_room(rt.alloc()).ok_or("no outcome")?;
     same("no room", seen.as_str(), UNWRITTEN)
-}
-
-/// Writes a file into a folder of the machine.
-fn put(rt: &HostRuntime, folder: &str, name: &str, text: &str) -> Option<()> {
-    let path = join(rt.alloc(), folder, name).ok()?;
-    fs::write(rt, path.as_str(), text.as_bytes()).ok()
-}
-
-/// Lays out a manifest and an index file in a folder of the machine.
-fn lay_out(rt: &HostRuntime, folder: &str) -> Option<()> {
-    fs::create_dir_all(rt, folder).ok()?;
-    put(rt, folder, "Cargo.toml", MANIFEST)?;
-    put(rt, folder, "index.json", INDEX)
-}
-
-/// Runs the usual words over the files of the machine, in a folder.
-fn ran_in(rt: &HostRuntime, folder: &str) -> Option<String> {
-    let mut files = HostStore::new(rt.clone().ok()?);
-    let words = words_of(rt.alloc(), "-")?;
-    outcome(rt.alloc(), words.as_slice(), folder, &mut files)
-}
-
-#[test]
-fn real_files(rt: HostRuntime) -> Result<(), Fail> {
-    let id = process::id(rt.process());
-    let folder = format!(in rt.alloc(); "/tmp/cargo-edit-{id}")?;
-    lay_out(&rt, folder.as_str()).ok_or("no files")?;
-    let seen = ran_in(&rt, folder.as_str()).ok_or("no outcome")?;
-    fs::remove_dir_all(&rt, folder.as_str())?;
-    let wanted = field(ROWS.split('§').next().unwrap_or(""), 4);
-    same("real files", seen.as_str(), wanted)
 }
