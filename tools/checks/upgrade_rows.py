@@ -45,9 +45,20 @@ def index_lines(names, versions):
     return "".join(json.dumps(entry) + "\n" for entry in entries)
 
 
+def index_of(crates):
+    """The lines of an index by its crates, which stand with semicolons between them: a name and its versions."""
+    return "".join(index_lines(*crate.split(maxsplit=1)) for crate in crates.split(";") if crate)
+
+
 def member(name, folder):
     """What metadata say of the member of a workspace with this name, in this folder."""
     return {"name": name, "id": name, "manifest_path": f"@ROOT@{folder}/Cargo.toml", "version": "1.0.0"}
+
+
+def package(word):
+    """What metadata say of a package by its word `name@version@source`."""
+    name, version, source = (word.split("@", 2) + [""])[:3]
+    return {"name": name, "id": name, "manifest_path": "/c/Cargo.toml", "version": version, "source": source}
 
 
 def metadata(members, packages=()):
