@@ -74,7 +74,7 @@ def written(ran, manifest):
 def is_settled(ran):
     """Whether a run came to a plan that changes nothing."""
     changes = [row["change"] for row in messages(ran, "upgrade-row") if row["change"]]
-    return ran.out and not changes and not messages(ran, "upgrade-file")
+    return ran.out != "" and not changes and not messages(ran, "upgrade-file")
 
 
 def looks_told(check, call, manifest):
