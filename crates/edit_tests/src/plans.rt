@@ -1,6 +1,3 @@
-//! Tests of plans, by the public calls of `cargo_edit` alone.
+//! A test of plans, by the public calls of `cargo_edit` alone.
 
-mod forms;
 mod inputs;
-mod rows;
-mod upgrade;

@@ -1,9 +1,6 @@
-//! Tests of reports, of the calls that follow an upgrade and of its delivery, by the public calls of
-//! `edit_report`, `edit_update` and `edit_upgrade_told` alone.
+//! Tests of what the program does not show of reports and of the calls that follow an upgrade, by the public
+//! calls of `edit_report` and `edit_update` alone.
 
-mod deliveries;
 mod messages;
 mod outputs;
-mod plans;
-mod tables;
 mod updates;

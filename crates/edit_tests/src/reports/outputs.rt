@@ -39,7 +39,7 @@ fn files_failing(alloc: Global, at: u64) -> CargoResult<FaultStore> {
 }
 
 /// What a file holds.
-pub(crate) fn held(alloc: Global, files: &mut FaultStore, path: &str) -> Result<String, Fail> {
+fn held(alloc: Global, files: &mut FaultStore, path: &str) -> Result<String, Fail> {
     match files.read(alloc, path)? {
         Some(bytes) => text(alloc, str::from_utf8(&bytes)?),
         None => text(alloc, "no file"),
@@ -60,13 +60,9 @@ fn outcome(alloc: Global, at: u64) -> Result<String, Fail> {
 }
 
 #[test]
-fn applies_each_output(rt: HostRuntime) -> Result<(), Fail> {
+fn applies_outputs(rt: HostRuntime) -> Result<(), Fail> {
     let seen = outcome(rt.alloc(), 9)?;
-    same("each write", seen.as_str(), "done; new a; new c")
-}
-
-#[test]
-fn stops_at_the_first_fault(rt: HostRuntime) -> Result<(), Fail> {
+    same("each write", seen.as_str(), "done; new a; new c")?;
     let seen = outcome(rt.alloc(), 1)?;
     let want = "3 Failed to write updated Cargo.toml; new a; old c";
     same("the second write fails", seen.as_str(), want)

@@ -1,20 +1,19 @@
-//! The forms in which an entry may be written.
-use super::upgrade::outcome;
-use std::alloc::Global;
-use std::test::Fail;
-use test_rows::{TILDES, rows_hold};
+"""The forms in which an entry may be written: what is told of the plan, the call, and the manifest, as
+plan_rows.py has them. The first line of a manifest says what it shows, and a row ends at `~`."""
 
-/// The manifest afterwards, and behind a blank line what is told of each entry and of the looks; what the
-/// plan is made with; the manifest, of which the first line says what it shows. A row ends at `~`.
-const ROWS: &str = r#"# below a header: a pair, dotted keys, an inline table; headers of their own
+from plan_rows import told
+from upgrade_rows import cut_rows
+
+FORMS = """\
+# below a header: a pair, dotted keys, an inline table; headers of their own
 [package]
 name = "w"
 version = "1.0.0" # "1.0"
 authors = ["1.0", '1.0'] # of an array
-description = """
+description = \"""
 [dependencies]
 a = "1.0"
-"""
+\"""
 
 [[bin]]
 name = "w"
@@ -57,10 +56,10 @@ looks: 5
 name = "w"
 version = "1.0.0" # "1.0"
 authors = ["1.0", '1.0'] # of an array
-description = """
+description = \"""
 [dependencies]
 a = "1.0"
-"""
+\"""
 
 [[bin]]
 name = "w"
@@ -117,14 +116,14 @@ looks: 5
 times = [1979-05-27, 07:32:00, 1979-05-27 07:32:00.5]
 dependencies.a = "1.0"
 dependencies.b.version = "1.0"
-dependencies . "c" = { version = """1.0""" }
+dependencies . "c" = { version = \"""1.0\""" }
 dependencies.d.optional = true
 text = '''
 dependencies.a = "1.0"
 '''
 dependencies.d.version = '''
 1.0''' # kept
-dependencies.e = "\u0031.0"
+dependencies.e = "\\u0031.0"
 
 [[bin]]
 dependencies.a = "1.0"
@@ -137,8 +136,8 @@ versions = [["1.0"], [{ version = "1.0" }]]
 [[test]]
 a = "1.0"
 [[test]]
-a = """
-1.0"""
+a = \"""
+1.0\"""
 
 1.0 1.2.3 1.2.3 1.2 None Some(Compatible)
 1.0 1.2.3 1.2.3 1.2 None Some(Compatible)
@@ -152,8 +151,8 @@ versions = [["1.0"], [{ version = "1.0" }]]
 [[test]]
 a = "1.0"
 [[test]]
-a = """
-1.0"""
+a = \"""
+1.0\"""
 ~# headers alone, in any order
 [dependencies.a]
 version = "1.2"
@@ -193,14 +192,10 @@ version = "1.0"
 e = "1.0"
 [[bin]]
 version = 1.0
-"#;
+"""
 
-/// What is told of the plan for a manifest.
-fn told_of(alloc: Global, call: &str, manifest: &str) -> Result<String, Fail> {
-    outcome(alloc, call, manifest.as_bytes())
-}
 
-#[test]
-fn forms_of_an_entry(rt: HostRuntime) -> Result<(), Fail> {
-    rows_hold(rt.alloc(), ROWS, TILDES, told_of)
-}
+def rows(check):
+    """The table of forms."""
+    for want, call, manifest in cut_rows(FORMS, 3, end="~"):
+        check.same("forms of an entry", manifest.split("\n", 1)[0], told(check, call, manifest), want)

@@ -1,8 +1,0 @@
-use Rattle.std.proofs.Common.{rules}
-use Rattle.std.proofs.lemmas.List.Sorted.{IsNonDecreasingBy-from_sort_by_key}
-use Rattle.edit_upgrade.specs.declared.upgrade.Warning.{Warning}
-use Rattle.edit_tests.proofs.reports.plans.warnings_in_order.Goals as goal
-
-pub returns : goal.returns
-returns c = IsNonDecreasingBy-from_sort_by_key (λ (w : Warning). w.input) _ c.in_ok-sort_by_key.ensures.sorted
-    (λ a r q k. search rules)
