@@ -102,8 +102,8 @@ def many(check):
 
 
 # The inputs; the root and the members, each with its Rust version, if it has one; what is asked of Rust
-# versions: `-` nothing, `!` that they are ignored. An input is its name, its path, what it holds (`#` and the
-# length of its path) and its Rust version.
+# versions: `-` nothing, `!` that they are ignored. An input is its name, its path, what it holds (`#` and
+# the length of its path) and its Rust version.
 INPUTS = """\
 virtual workspace /w/Cargo.toml #13 1.70.0; 1.71 /w/a/Cargo.toml #15 1.71.0; \
 1.70 /w/bb/Cargo.toml #16 1.70.0|/w /w/a/Cargo.toml=1.71 /w/bb/Cargo.toml=1.70|-
