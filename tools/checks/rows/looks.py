@@ -10,7 +10,7 @@ def told(ran):
     """A refusal's number and text, with a space between them; None where there is none."""
     if ran.status == 0:
         return None
-    text = ran.err.splitlines()[0].removeprefix("Error: ")
+    text = ran.err.partition("\n")[0].removeprefix("Error: ")
     number = next((number for said, number in NUMBERS.items() if text.startswith(said)), 0)
     return f"{number} {text}"
 
@@ -70,7 +70,7 @@ def paths(check):
         want, row, name = line.split("|")
         files = {"/w/Cargo.toml": f"[dependencies]\n{json.dumps(name)} = '1'\n"}
         ran = check.run(["looks"], files)
-        seen = told(ran) or ran.out.removesuffix("\n").split("\t")[2]
+        seen = told(ran) or ran.out.removesuffix("\n").rpartition("\t")[2]
         check.same("paths of names", row, seen, want)
         if want.startswith("29 "):
             ran = check.run(["upgrade", "--index-dir", "@ROOT@/look"], files)
@@ -95,11 +95,10 @@ a bad name|file:///idx|a/b|29 Invalid crate name `a/b`"""
 
 
 def found(out):
-    """The versions that match a requirement that names each of those in the files."""
-    lines = [json.loads(line) for line in out.splitlines()]
-    seen = [f"{line['name']} {line['compatible']}." for line in lines
-            if line["reason"] == "upgrade-row" and line["compatible"]]
-    return "".join(seen) or "none"
+    """The versions that match the requirement of an entry, each behind the name; `none` where none does."""
+    told_rows = [json.loads(line) for line in out.splitlines() if '"reason":"upgrade-row"' in line]
+    seen = [f"{row['name']} {row['compatible']}." for row in told_rows if row["compatible"]]
+    return "".join(seen) or ("none" if told_rows else "no row")
 
 
 def looks(check):

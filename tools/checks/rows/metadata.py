@@ -15,7 +15,7 @@ def told(ran):
     that of 2 too, which has a place here."""
     if ran.status == 0:
         return None
-    text, *place = ran.err.splitlines()
+    text, *place = ran.err.splitlines() or [""]
     text = text.removeprefix("Error: ")
     number = next((number for said, number in NUMBERS.items() if text.startswith(said)), 0)
     return f"{2 if number == 5 and place else number} {text}"
