@@ -1,4 +1,4 @@
-//! Looks as lines.
+//! The looks that a plan needs. What the program tells of them is in `tools/checks/rows/looks.py`.
 ghost use Rattle.std.specs.Prelude.{◌≡◌, IfOk};
 
 use edit_base::CargoResult;
@@ -7,41 +7,10 @@ use edit_document::Document;
 use edit_looks::{looks_text, needed_looks};
 use edit_metadata::Input;
 use edit_sources::Config;
-use edit_upgrade::Look;
 use std::alloc::Global;
 use std::slice::from_ref;
 use std::test::Fail;
-use test_rows::{made, same};
-use url::Url;
-
-/// A look without an answer.
-fn look_of(alloc: Global, address: &str, name: &str) -> Result<Look, Fail> {
-    Ok(Look {
-        registry: Url::parse(alloc, address).map_err(|_| "no address")?,
-        name: String::from_str(alloc, name)?,
-        answer: None,
-    })
-}
-
-/// The lines of two looks, or their refusal.
-fn lines(alloc: Global, first: &str, second: &str) -> Result<String, Fail> {
-    let mut looks = Vec::new(alloc);
-    looks.push(look_of(alloc, "sparse+https://one.example/", first)?)?;
-    looks.push(look_of(alloc, "file:///idx", second)?)?;
-    made(alloc, looks_text(alloc, &looks))
-}
-
-#[test]
-fn tells_looks(rt: HostRuntime) -> Result<(), Fail> {
-    let seen = lines(rt.alloc(), "serde", "Abc")?;
-    same(
-        "two looks",
-        seen.as_str(),
-        "sparse+https://one.example/\tserde\tse/rd/serde\nfile:///idx\tAbc\t3/a/abc\n",
-    )?;
-    let seen = lines(rt.alloc(), "serde", "a/b")?;
-    same("a bad name", seen.as_str(), "29 Invalid crate name `a/b`")
-}
+use test_rows::same;
 
 /// A manifest whose entries need four looks: one name of two registries and twice of one, one by its key,
 /// none for a folder.
@@ -64,12 +33,12 @@ registries.one.index = 'sparse+https://one.example/'
 ";
 
 /// A manifest to plan for.
-fn input_of(alloc: Global, text: &str) -> CargoResult<Input>
+pub(crate) fn input_of(alloc: Global, path: &str, text: &str) -> CargoResult<Input>
     ensures { IfOk result (λ i. i.bytes.items ≡ text.now) }
 {
     Ok(Input {
         name: String::from_str(alloc, "w")?,
-        path: String::from_str(alloc, "/w/Cargo.toml")?,
+        path: String::from_str(alloc, path)?,
         bytes: Vec::from_slice(alloc, text.as_bytes())?,
         rust_version: None,
     })
@@ -94,7 +63,7 @@ pub(crate) fn plain(alloc: Global) -> Options {
 /// The lines of the looks that a manifest needs.
 fn needed(alloc: Global, text: &str) -> CargoResult<String> {
     let document = Document::read(alloc, text)?;
-    let input = input_of(alloc, text)?;
+    let input = input_of(alloc, "/w/Cargo.toml", text)?;
     let options = plain(alloc);
     let mut configs = Vec::new(alloc);
     configs.push(Config::read(alloc, "/w/.cargo/config.toml", CONFIG)?)?;
@@ -110,7 +79,7 @@ fn needed(alloc: Global, text: &str) -> CargoResult<String> {
 
 #[test]
 fn tells_what_a_manifest_needs(rt: HostRuntime) -> Result<(), Fail> {
-    let seen = made(rt.alloc(), needed(rt.alloc(), MANIFEST))?;
+    let seen = needed(rt.alloc(), MANIFEST)?;
     same(
         "a manifest",
         seen.as_str(),

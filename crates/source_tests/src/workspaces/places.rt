@@ -1,19 +1,19 @@
-//! Rows of where a refusal of a plan arose.
+//! Rows of where a refusal arose that is not that of the first input. The others are in
+//! `tools/checks/rows/metadata.py`.
 use edit_base::Error;
 use edit_metadata::Input;
 use edit_steps::{Refusal, at_input};
 use std::alloc::Global;
 use std::test::Fail;
-use test_rows::{TILDES, rows_hold, text, unfolded};
+use test_rows::{TILDES, rows_hold, text};
 
 /// An input by its path and what its file holds, `!` being a byte that no character begins with.
 fn input_of(alloc: Global, row: &str) -> Result<Input, Fail> {
     let (path, held) = row.split_once(' ').unwrap_or((row, ""));
-    let lines = unfolded(alloc, held)?;
     let bytes = if held == "!" {
         b"\xff".as_slice()
     } else {
-        lines.as_bytes()
+        held.as_bytes()
     };
     Ok(Input {
         name: String::new(alloc),
@@ -47,11 +47,7 @@ fn place_of(alloc: Global, word: &str, inputs: &str) -> Result<String, Fail> {
 
 /// The place; the refusal; the inputs.
 const PLACES: &str = "\
-/b/Cargo.toml:1:2|#|/a/Cargo.toml x = 1@;/b/Cargo.toml y@\
-~/b/Cargo.toml:2:2|#######|/b/Cargo.toml x = 1@y@\
-~/b/Cargo.toml:1:5|#####|/b/Cargo.toml 'é' y\
-~/a/Cargo.toml:1:1||/a/Cargo.toml =;/b/Cargo.toml =\
-~/b/Cargo.toml:1:1||/a/Cargo.toml !;/b/Cargo.toml =\
+/b/Cargo.toml:1:1||/a/Cargo.toml !;/b/Cargo.toml =\
 ~/b/Cargo.toml|utf8|/a/Cargo.toml =;/b/Cargo.toml !\
 ~-|path|/a/Cargo.toml =\
 ~-|utf8|/a/Cargo.toml =";

@@ -1,0 +1,127 @@
+"""Diffs of manifests that an upgrade changes, their names in diffs, and messages that stand as JSON."""
+
+import json
+import os
+import re
+
+NINE = "l1\nl2\nl3\nl4\nl5\nl6\nl7\nl8\nl9\n"
+TWELVE = NINE + "l10\nl11\nl12\n"
+
+# What changes, the old text, the new one, and what `diff -U3 --label a/f --label b/f` of GNU diffutils 3.8
+# gives for them. Each line is that of an entry, by its name; a new line is the one that is raised in its
+# place.
+DIFFS = [
+    ("one line of five", "l1\nl2\nl3\nl4\nl5\n", "l1\nl2\nnew\nl4\nl5\n",
+     "--- a/f\n+++ b/f\n@@ -1,5 +1,5 @@\n l1\n l2\n-l3\n+new\n l4\n l5\n"),
+    ("the first line", NINE, "new\nl2\nl3\nl4\nl5\nl6\nl7\nl8\nl9\n",
+     "--- a/f\n+++ b/f\n@@ -1,4 +1,4 @@\n-l1\n+new\n l2\n l3\n l4\n"),
+    ("the last line", NINE, "l1\nl2\nl3\nl4\nl5\nl6\nl7\nl8\nnew\n",
+     "--- a/f\n+++ b/f\n@@ -6,4 +6,4 @@\n l6\n l7\n l8\n-l9\n+new\n"),
+    ("one part: six lines between", TWELVE, "l1\nnew\nl3\nl4\nl5\nl6\nl7\nl8\nother\nl10\nl11\nl12\n",
+     "--- a/f\n+++ b/f\n@@ -1,12 +1,12 @@\n l1\n-l2\n+new\n l3\n l4\n l5\n l6\n l7\n l8\n-l9\n"
+     "+other\n l10\n l11\n l12\n"),
+    ("two parts: seven lines between", TWELVE, "l1\nnew\nl3\nl4\nl5\nl6\nl7\nl8\nl9\nother\nl11\nl12\n",
+     "--- a/f\n+++ b/f\n@@ -1,5 +1,5 @@\n l1\n-l2\n+new\n l3\n l4\n l5\n@@ -7,6 +7,6 @@\n l7\n"
+     " l8\n l9\n-l10\n+other\n l11\n l12\n"),
+    ("no last line feed", "a\nb", "a\nc",
+     "--- a/f\n+++ b/f\n@@ -1,2 +1,2 @@\n a\n-b\n\\ No newline at end of file\n+c\n"
+     "\\ No newline at end of file\n"),
+    ("lines that end in CR LF", "a\r\nb\r\n", "a\r\nc\r\n",
+     "--- a/f\n+++ b/f\n@@ -1,2 +1,2 @@\n a\r\n-b\r\n+c\r\n"),
+    ("a line of one", "a\n", "b\n", "--- a/f\n+++ b/f\n@@ -1 +1 @@\n-a\n+b\n"),
+]
+
+
+def entry_line(name, version):
+    """The line of an entry."""
+    return f'dependencies.{name} = "{version}"'
+
+
+def raised(old, new):
+    """The names of entries whose lines change, each with the line that stands in its place."""
+    pairs = zip(old.split(), new.split(), strict=True)
+    return {before: after for before, after in pairs if before != after}
+
+
+def shown_rows(diff, changed):
+    """A diff of entries as one of their names, and of the lines in their place."""
+    diff = re.sub(r'dependencies\.(\w+) = "1\.0"', r"\1", diff)
+    for name, line in changed.items():
+        diff = diff.replace(entry_line(name, "1.2"), line)
+    return diff.replace("--- a/Cargo.toml\n+++ b/Cargo.toml\n", "--- a/f\n+++ b/f\n")
+
+
+def diffs_of(out):
+    """The diffs on standard output, behind the tables."""
+    _, mark, rest = out.partition("--- a/")
+    return mark + rest
+
+
+def diffs(check):
+    """Each row as a manifest of entries, of which those that change have a newer version."""
+    for row, old, new, want in DIFFS:
+        changed = raised(old, new)
+        index = "".join(f'{{"name":"{name}","vers":"1.{2 * (name in changed)}.0"}}\n'
+                        for name in old.split())
+        manifest = re.sub(r"\w+", lambda word: entry_line(word[0], "1.0"), old)
+        ran = check.run(["upgrade", "--index-file", "index", "--diff"],
+                        {"/w/Cargo.toml": manifest, "/w/index": index})
+        check.same("changes as diffs", row, shown_rows(diffs_of(ran.out), changed), want)
+
+
+# The current folder, and the names in their diffs of two of three manifests.
+FOLDERS = """\
+/w|m/Cargo.toml|v/Cargo.toml
+/|w/m/Cargo.toml|v/Cargo.toml
+/w/m/Car|w/m/Cargo.toml|v/Cargo.toml"""
+
+THREE = {
+    "workspace_root": "@ROOT@/w", "workspace_members": ["/w/m", "/v"],
+    "packages": [{"name": "m", "id": at, "version": "0.1.0", "manifest_path": f"@ROOT@{at}/Cargo.toml"}
+                 for at in ("/w/m", "/v")],
+}
+
+HUNK = '--- a/{0}\n+++ b/{0}\n@@ -1 +1 @@\n-dependencies.x = "1.0"\n+dependencies.x = "1.2"\n'
+
+
+def names(check):
+    """The manifests of a workspace, of which the members' are raised. For the folder `/` the run is in that
+    of the machine: what is shown then begins with the folder that stands for it, and is cut as ever."""
+    words = ["upgrade", "--metadata-json", "@ROOT@/x/m.json", "--index-file", "@ROOT@/x/index", "--diff"]
+    entry = entry_line("x", "1.0") + "\n"
+    files = {"/x/m.json": json.dumps(THREE), "/x/index": '{"name":"x","vers":"1.2.0"}\n',
+             "/w/Cargo.toml": "[workspace]\n", "/w/m/Cargo.toml": entry, "/v/Cargo.toml": entry}
+    for row in FOLDERS.splitlines():
+        current, one, other = row.split("|")
+        folder = "/" + os.path.relpath("/", check.room) if current == "/" else current
+        ran = check.run(words, files, folder)
+        check.same("names in diffs", row, diffs_of(ran.out), HUNK.format(one) + HUNK.format(other))
+
+
+# The message of a manifest that is written, and of a line of new versions.
+FILE = '{"manifest_path":"/w/Cargo.toml","reason":"upgrade-file","written":true}\n'
+VERSION = '{"action":"Upgrading","message":"a from 0.1.0 to 0.2.0","reason":"set-version-change"}\n'
+
+ONE = {
+    "workspace_root": "@ROOT@/w", "workspace_members": ["a"],
+    "packages": [{"name": "a", "id": "a", "version": "0.1.0", "manifest_path": "@ROOT@/w/Cargo.toml"}],
+}
+
+
+def messages(check):
+    """The messages of a manifest that is raised, and of a member that gets a version."""
+    files = {"/w/Cargo.toml": entry_line("x", "1.0") + "\n", "/w/index": '{"name":"x","vers":"1.2.0"}\n'}
+    ran = check.run(["upgrade", "--index-file", "index", "--message-format", "json"], files)
+    seen = [line for line in ran.out.splitlines(True) if '"reason":"upgrade-file"' in line]
+    check.same("messages of files and versions", "file", seen, [FILE])
+    files = {"/w/Cargo.toml": '[package]\nname = "a"\nversion = "0.1.0"\n', "/w/m.json": json.dumps(ONE)}
+    words = ["set-version", "--metadata-json", "m.json", "--bump", "minor", "--message-format", "json"]
+    ran = check.run(words, files)
+    check.same("messages of files and versions", "version, and new versions", ran.out, VERSION)
+
+
+def rows(check):
+    """The tables."""
+    diffs(check)
+    names(check)
+    messages(check)
