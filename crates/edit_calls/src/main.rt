@@ -50,7 +50,7 @@ use edit_document::{CargoResult, Error};
 use edit_manifest::Manifest;
 use edit_store::{HostStore, Store};
 use readers::planned_call;
-use shown::{is_shown, show_words};
+use shown::show_words;
 use std::env;
 use std::io::Write;
 use std::process::ExitCode;
@@ -100,10 +100,12 @@ fn answer_on(rt: &HostRuntime, manifest: &mut Manifest, words: &[String]) -> Car
 /// The same on the manifest of a file.
 fn answer_to(rt: &HostRuntime, path: &str, words: &[String]) -> CargoResult<()> {
     let mut manifest = manifest_of(rt, path)?;
-    if is_shown(words) {
-        return show_words(rt, &manifest.document, words);
+    match words {
+        [call, words @ ..] if call.as_str() == "show" => {
+            show_words(rt, &manifest.document, words)
+        }
+        _ => answer_on(rt, &mut manifest, words),
     }
-    answer_on(rt, &mut manifest, words)
 }
 
 /// Answers the words of the call.

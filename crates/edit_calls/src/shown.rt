@@ -25,24 +25,19 @@ fn walked<'a>(root: Item<'a>, place: &[Step]) -> Option<Item<'a>> {
     Some(item)
 }
 
-/// Prints the type of an item, how many members or elements it has, and its truth, `-` where it is none.
-fn show_type(rt: &HostRuntime, item: Item<'_>) -> CargoResult<()> {
+/// Prints the type of an item, how many members or elements it has, and which views.
+fn show_kind(rt: &HostRuntime, item: Item<'_>) -> CargoResult<()> {
+    let array = item.as_array().map_or("-", |array| array.type_name());
     let truth = item.as_bool().map_or("-", word);
     let name = item.type_name();
     let count = item.len();
-    writeln!(rt.stdout(), "type {name}\nlen {count}\ntruth {truth}")?;
-    Ok(())
-}
-
-/// Prints which views an item has.
-fn show_views_of(rt: &HostRuntime, item: Item<'_>) -> CargoResult<()> {
-    let array = item.as_array().map_or("-", |array| array.type_name());
     let text = word(item.is_str());
     let table = word(item.is_table_like());
     let inline = word(item.is_inline_table());
     writeln!(
         rt.stdout(),
-        "array {array}\nis_str {text}\nis_table_like {table}\nis_inline_table {inline}"
+        "type {name}\nlen {count}\ntruth {truth}\narray {array}\nis_str {text}\n\
+        is_table_like {table}\nis_inline_table {inline}"
     )?;
     Ok(())
 }
@@ -55,20 +50,14 @@ fn show_keys(rt: &HostRuntime, item: Item<'_>) -> CargoResult<()> {
     Ok(())
 }
 
-/// Prints the string that an item is.
-fn show_string(rt: &HostRuntime, item: Item<'_>) -> CargoResult<()> {
+/// Prints what an item shows, its string last.
+fn show_item(rt: &HostRuntime, item: Item<'_>) -> CargoResult<()> {
+    show_kind(rt, item)?;
+    show_keys(rt, item)?;
     if let Some(text) = item.as_str() {
         write!(rt.stdout(), "string {text}")?;
     }
     Ok(())
-}
-
-/// Prints what an item shows, its string last.
-fn show_item(rt: &HostRuntime, item: Item<'_>) -> CargoResult<()> {
-    show_type(rt, item)?;
-    show_views_of(rt, item)?;
-    show_keys(rt, item)?;
-    show_string(rt, item)
 }
 
 /// Prints what stands at a place below an item; nothing where nothing stands.
@@ -96,16 +85,6 @@ fn show_entry(rt: &HostRuntime, place: &[Step], words: &mut Words<'_>) -> CargoR
     show_below(rt, item.view(), place)
 }
 
-/// Whether the words ask what stands somewhere.
-pub(crate) fn is_shown(words: &[String]) -> bool {
-    words.first().is_some_and(|word| word.as_str() == "show")
-}
-
-/// Whether no entry stands behind the place.
-fn is_place_alone(words: &[String]) -> bool {
-    words.last().is_some_and(|word| word.as_str() == "=")
-}
-
 /// Prints what stands at the place of the words, in the document or in the entry behind the place.
 pub(crate) fn show_words(
     rt: &HostRuntime,
@@ -113,10 +92,9 @@ pub(crate) fn show_words(
     words: &[String],
 ) -> CargoResult<()> {
     let mut taken = Words::new(words);
-    let _call = taken.take();
     let place = taken.take_place(rt.alloc())?;
-    if is_place_alone(words) {
-        return show_place(rt, document, &place);
+    match words.last() {
+        Some(last) if last.as_str() == "=" => show_place(rt, document, &place),
+        _ => show_entry(rt, &place, &mut taken),
     }
-    show_entry(rt, &place, &mut taken)
 }
