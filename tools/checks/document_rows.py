@@ -81,7 +81,7 @@ def views(out):
     """What is shown of an item, by the name of the view; its string comes last, since it can have lines."""
     head, is_string, text = out.partition("\nstring ")
     shown = {"keys": [], "string": text if is_string else "-"}
-    for line in head.splitlines():
+    for line in head.split("\n"):
         name, _, said = line.partition(" ")
         if name == "key":
             shown["keys"].append(said)
@@ -95,7 +95,7 @@ def seen(out, question):
     shown = views(out)
     if "type" not in shown and question not in ("item", "one_statement"):
         return "-"
-    return " ".join(shown["keys"]) if question == "keys" else shown[question]
+    return " ".join(shown["keys"]) if question == "keys" else shown.get(question, "not shown")
 
 
 def answer(check, call, source):
@@ -107,9 +107,9 @@ def answer(check, call, source):
         return "no"
     if ran.status or ran.err:
         return f"{ran.status} {ran.err}"
-    if question != "read":
-        return seen(ran.out, question)
-    return "yes" if ran.out == "no such place\n" + source else "another text"
+    if question == "read":
+        return "yes" if ran.out == "no such place\n" + source else "another text"
+    return seen(ran.out, question) if ran.out.startswith("item ") else "not shown"
 
 
 def entry_answer(check, call, words):
