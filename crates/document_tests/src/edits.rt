@@ -3,15 +3,35 @@ ghost use Rattle.std.specs.Prelude.{IfOk};
 ghost use Rattle.edit_tree.specs.NewItems.{IsEntry};
 ghost use Rattle.edit_document.specs.NewItemViews.{item_seen};
 
-use super::answers::text_named;
-use super::shown::place_of;
 use edit_document::{CargoResult, Document, NewItem, NewValue, Step};
 use std::alloc::{AllocError, Global};
 use std::test::Fail;
-use test_rows::{text, told};
+use test_rows::{made, text, told};
+
+/// The index that stands behind a number sign; none where a step is a key.
+fn index_of(step: &str) -> Option<usize> {
+    Some(step.strip_prefix("#")?.parse().unwrap_or(99))
+}
+
+/// A step: an index behind a number sign, or a key.
+fn step_of(alloc: Global, step: &str) -> Result<Step, AllocError> {
+    match index_of(step) {
+        Some(index) => Ok(Step::Index(index)),
+        None => Ok(Step::Key(String::from_str(alloc, step)?)),
+    }
+}
+
+/// The steps of a place, which stand with slashes between them; none of the empty text.
+fn place_of(alloc: Global, place: &str) -> Result<Vec<Step>, AllocError> {
+    let mut steps = Vec::new(alloc);
+    'steps: for step in place.split_terminator('/') {
+        steps.push(step_of(alloc, step)?)?;
+    }
+    Ok(steps)
+}
 
 /// The text before the first space, and the text behind it.
-pub(crate) fn parted(words: &str) -> (&str, &str) {
+fn parted(words: &str) -> (&str, &str) {
     words.split_once(' ').unwrap_or((words, ""))
 }
 
@@ -202,7 +222,7 @@ fn edited_all(alloc: Global, document: &mut Document, calls: &str) -> CargoResul
 /// The text of a document after edits; where one is refused, what it says, if the text is the same then.
 fn left(alloc: Global, document: &mut Document, calls: &str, before: &str) -> Result<String, Fail> {
     match edited_all(alloc, document, calls) {
-        Ok(word) if word == "done" => text(alloc, document.as_str()),
+        Ok(word) if word == "done" => made(alloc, document.text(alloc)),
         Ok(word) => text(alloc, word),
         Err(error) if document.as_str() == before => told(alloc, error),
         Err(_) => text(alloc, "refused and changed"),
@@ -210,8 +230,7 @@ fn left(alloc: Global, document: &mut Document, calls: &str, before: &str) -> Re
 }
 
 /// A text after edits.
-pub(crate) fn edited(alloc: Global, calls: &str, argument: &str) -> Result<String, Fail> {
-    let before = text_named(argument);
+pub(crate) fn edited(alloc: Global, calls: &str, before: &str) -> Result<String, Fail> {
     match Document::read(alloc, before) {
         Ok(mut document) => left(alloc, &mut document, calls, before),
         Err(error) => told(alloc, error),

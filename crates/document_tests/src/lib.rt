@@ -5,42 +5,16 @@
 #![tactic(auto)]
 
 #[cfg(test)]
-mod answers;
-#[cfg(test)]
-mod arrays;
-#[cfg(test)]
 mod edits;
-#[cfg(test)]
-mod entry_views;
-#[cfg(test)]
-mod inline_lines;
-#[cfg(test)]
-mod inserts;
-#[cfg(test)]
-mod keys;
-#[cfg(test)]
-mod literals;
 #[cfg(test)]
 mod manifests;
 #[cfg(test)]
 mod new_items;
-#[cfg(test)]
-mod one_statement;
 #[cfg(test)]
 mod paths;
 #[cfg(test)]
 mod pieces;
 #[cfg(test)]
 mod refusals;
-#[cfg(test)]
-mod removes;
-#[cfg(test)]
-mod replaces;
-#[cfg(test)]
-mod shown;
-#[cfg(test)]
-mod texts;
-#[cfg(test)]
-mod values;
 #[cfg(test)]
 mod versions;

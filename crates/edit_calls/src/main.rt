@@ -11,13 +11,17 @@
 //!     edit_calls FILE update STEP.. = VERSION N FEATURE ..
 //!     edit_calls FILE gc_dep = KEY
 //!     edit_calls FILE remove_from_table = N NAME .. KEY
+//!     edit_calls FILE show STEP.. =
+//!     edit_calls FILE show STEP.. = ENTRY
 //!
 //! A step is `.NAME` or `#INDEX`. VALUE is `text TEXT`, `truth true`, `truth false` or `list N TEXT ..`;
 //! ENTRY is a VALUE, `table N NAME VALUE ..` or `dotted`. `rewrite` reads an entry's record and replaces the
 //! entry by it; `update` gives the record another version and more features, makes it optional, and updates
 //! the entry with it. It prints `done`, `no such place`, or `refused`, a number and a text, and below it the
 //! text of the document. Where memory ran out it then prints the kinds of what the document shows, makes the
-//! edit once more, and prints the answer to that.
+//! edit once more, and prints the answer to that. `show` prints what stands at a place of the document, or of
+//! a new entry: its type, how many members or elements, its truth, which views it has, its keys, and last its
+//! string; of the document also whether one statement alone names the place.
 //!
 //!     edit_calls upgrade FOLDER
 //!     edit_calls ranked FOLDER NAME
@@ -37,6 +41,7 @@ mod cached;
 mod calls;
 mod plans;
 mod readers;
+mod shown;
 mod views;
 mod words;
 
@@ -45,6 +50,7 @@ use edit_document::{CargoResult, Error};
 use edit_manifest::Manifest;
 use edit_store::{HostStore, Store};
 use readers::planned_call;
+use shown::show_words;
 use std::env;
 use std::io::Write;
 use std::process::ExitCode;
@@ -94,7 +100,12 @@ fn answer_on(rt: &HostRuntime, manifest: &mut Manifest, words: &[String]) -> Car
 /// The same on the manifest of a file.
 fn answer_to(rt: &HostRuntime, path: &str, words: &[String]) -> CargoResult<()> {
     let mut manifest = manifest_of(rt, path)?;
-    answer_on(rt, &mut manifest, words)
+    match words {
+        [call, words @ ..] if call.as_str() == "show" => {
+            show_words(rt, &manifest.document, words)
+        }
+        _ => answer_on(rt, &mut manifest, words),
+    }
 }
 
 /// Answers the words of the call.

@@ -1,44 +1,73 @@
-//! Rows of keys and headers: the examples of TOML 1.0.0, "Keys", "Table", "Inline Table" and "Array of
-//! Tables", with strings in the place of numbers.
-use super::answers::answer;
-use std::test::Fail;
-use test_rows::{TILDES, rows_hold};
+"""Rows of keys and headers: the examples of TOML 1.0.0, "Keys", "Table", "Inline Table" and "Array of
+Tables", with strings in the place of numbers. A row is what is answered, the question and the place, and
+the text."""
 
-/// Texts that are documents, then texts that are none, and what stands at the places of one.
-const ROWS: &str = "\
-yes|read|key = \"value\"
-bare_key = \"value\"
-bare-key = \"value\"
-1234 = \"value\"
-~yes|read|\"127.0.0.1\" = \"value\"
-\"character encoding\" = \"value\"
-\"ʎǝʞ\" = \"value\"
-'key2' = \"value\"
-'quoted \"value\"' = \"value\"
-~yes|read|\"\" = \"blank\"
-~yes|read|name = \"Orange\"
-physical.color = \"orange\"
-physical.shape = \"round\"
-site.\"google.com\" = true
-~yes|read|fruit.name = \"banana\"
-fruit. color = \"yellow\"
-fruit . flavor = \"banana\"
+from document_rows import answers_hold
+
+# A document, of which rows name the places.
+FRUITS = """\
+physical.color = "orange"
+animal = { type.name = "pug", type.age = "two" }
+
+[[fruits]]
+name = "apple"
+
+[fruits.physical]  # subtable
+color = "red"
+shape = "round"
+
+[[fruits.varieties]]  # nested array of tables
+name = "red delicious"
+
+[[fruits.varieties]]
+name = "granny smith"
+
+
+[[fruits]]
+name = "banana"
+
+[[fruits.varieties]]
+name = "plantain"
+
+[x.y.z]
+[x]
+"""
+
+# Texts that are documents, then texts that are none, and what stands at the places of one.
+KEYS = """\
+yes|read|key = "value"
+bare_key = "value"
+bare-key = "value"
+1234 = "value"
+~yes|read|"127.0.0.1" = "value"
+"character encoding" = "value"
+"ʎǝʞ" = "value"
+'key2' = "value"
+'quoted "value"' = "value"
+~yes|read|"" = "blank"
+~yes|read|name = "Orange"
+physical.color = "orange"
+physical.shape = "round"
+site."google.com" = true
+~yes|read|fruit.name = "banana"
+fruit. color = "yellow"
+fruit . flavor = "banana"
 ~yes|read|fruit.apple.smooth = true
-fruit.orange = \"2\"
-~yes|read|apple.type = \"fruit\"
-orange.type = \"fruit\"
-apple.skin = \"thin\"
-orange.skin = \"thick\"
-apple.color = \"red\"
-orange.color = \"orange\"
-~yes|read|3.14159 = \"pi\"
+fruit.orange = "2"
+~yes|read|apple.type = "fruit"
+orange.type = "fruit"
+apple.skin = "thin"
+orange.skin = "thick"
+apple.color = "red"
+orange.color = "orange"
+~yes|read|3.14159 = "pi"
 ~yes|read|[table]
-~yes|read|[dog.\"tater.man\"]
-type.name = \"pug\"
+~yes|read|[dog."tater.man"]
+type.name = "pug"
 ~yes|read|[a.b.c]            # this is best practice
 [ d.e.f ]          # same as [d.e.f]
 [ g .  h  . i ]    # same as [g.h.i]
-[ j . \"ʞ\" . 'l' ]  # same as [j.\"ʞ\".'l']
+[ j . "ʞ" . 'l' ]  # same as [j."ʞ".'l']
 ~yes|read|# [x] you
 # [x.y] don't
 # [x.y.z] need these
@@ -48,20 +77,20 @@ type.name = \"pug\"
 ~yes|read|[fruit.apple]
 [animal]
 [fruit.orange]
-~yes|read|fruit.apple.color = \"red\"
+~yes|read|fruit.apple.color = "red"
 fruit.apple.taste.sweet = true
 ~yes|read|[fruit]
-apple.color = \"red\"
+apple.color = "red"
 apple.taste.sweet = true
 [fruit.apple.texture]  # you can add sub-tables
 smooth = true
-~yes|read|animal = { type.name = \"pug\" }
+~yes|read|animal = { type.name = "pug" }
 ~yes|read|[[products]]
-name = \"Hammer\"
+name = "Hammer"
 [[products]]  # empty table within the array
 [[products]]
-name = \"Nail\"
-color = \"gray\"
+name = "Nail"
+color = "gray"
 ~yes|read|[[p]]
 [p.q]
 [[p]]
@@ -77,49 +106,49 @@ color = \"gray\"
 b.c = true
 [[a]]
 b.c = true
-~yes|read|\u{feff}~yes|read|\u{feff}[a]
+~yes|read|\ufeff~yes|read|\ufeff[a]
 ~\
-no|read|name = \"Tom\"
-name = \"Pradyun\"
-~no|read|spelling = \"favorite\"
-\"spelling\" = \"favourite\"
-~no|read|fruit.apple = \"1\"
+no|read|name = "Tom"
+name = "Pradyun"
+~no|read|spelling = "favorite"
+"spelling" = "favourite"
+~no|read|fruit.apple = "1"
 fruit.apple.smooth = true
 ~no|read|[fruit]
-apple = \"red\"
+apple = "red"
 [fruit]
-orange = \"orange\"
+orange = "orange"
 ~no|read|[fruit]
-apple = \"red\"
+apple = "red"
 [fruit.apple]
-texture = \"smooth\"
+texture = "smooth"
 ~no|read|[fruit]
-apple.color = \"red\"
+apple.color = "red"
 [fruit.apple]
 ~no|read|[fruit]
 apple.taste.sweet = true
 [fruit.apple.taste]
 ~no|read|[product]
-type = { name = \"Nail\" }
+type = { name = "Nail" }
 type.edible = false
 ~no|read|[product]
-type.name = \"Nail\"
+type.name = "Nail"
 type = { edible = false }
 ~no|read|[fruit.physical]  # subtable, but to which parent element should it belong?
-color = \"red\"
+color = "red"
 [[fruit]]
-name = \"apple\"
+name = "apple"
 ~no|read|[[fruits]]
-name = \"apple\"
+name = "apple"
 [[fruits.varieties]]
-name = \"red delicious\"
+name = "red delicious"
 [fruits.varieties]
-name = \"granny smith\"
+name = "granny smith"
 ~no|read|[[fruits]]
 [fruits.physical]
-color = \"red\"
+color = "red"
 [[fruits.physical]]
-color = \"green\"
+color = "green"
 ~no|read|a.b = true
 [a]
 ~no|read|a = true
@@ -151,9 +180,9 @@ b = true
 ~no|read|[a.b
 ~no|read|a.
 b = true
-~no|read|\u{feff}\u{feff}[a]
+~no|read|\ufeff\ufeff[a]
 ~no|read|
-\u{feff}[a]
+\ufeff[a]
 ~\
 table|item physical|fruits~\
 string|item physical/color|fruits~\
@@ -185,38 +214,9 @@ table|item x/y/z|fruits~\
 false|is_table_like fruits|fruits~\
 -|array fruits|fruits~\
 banana|string fruits/#1/name|fruits~\
-physical animal fruits x|keys|fruits";
-
-/// A document, of which rows name the places.
-pub(crate) const FRUITS: &str = "\
-physical.color = \"orange\"
-animal = { type.name = \"pug\", type.age = \"two\" }
-
-[[fruits]]
-name = \"apple\"
-
-[fruits.physical]  # subtable
-color = \"red\"
-shape = \"round\"
-
-[[fruits.varieties]]  # nested array of tables
-name = \"red delicious\"
-
-[[fruits.varieties]]
-name = \"granny smith\"
+physical animal fruits x|keys|fruits"""
 
 
-[[fruits]]
-name = \"banana\"
-
-[[fruits.varieties]]
-name = \"plantain\"
-
-[x.y.z]
-[x]
-";
-
-#[test]
-fn reads_and_shows_keys_and_headers(rt: HostRuntime) -> Result<(), Fail> {
-    rows_hold(rt.alloc(), ROWS, TILDES, answer)
-}
+def rows(check):
+    """Asks about the text of each row."""
+    answers_hold(check, "KEYS", KEYS, {"fruits": FRUITS})
