@@ -25,7 +25,7 @@ def refusal(ran):
         return None
     found = re.fullmatch(r"Error: (.*?)(\n  at .*)?\n", ran.err, re.DOTALL)
     if found is None:
-        return ran.err
+        return ran.err or "status %d" % ran.status
     text = found.group(1)
     numbers = [number for front, number in NUMBERS.items() if text.startswith(front)]
     return "%s %s" % (numbers[0] if numbers else "?", text)

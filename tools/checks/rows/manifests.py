@@ -182,17 +182,20 @@ def upgraded(check, files, folder, *words):
 
 
 def upgrade_rows(ran):
-    """The rows that an upgrade told as JSON."""
+    """The rows that an upgrade told as JSON before its summary, None where it told no summary."""
     messages = [json.loads(line) for line in ran.out.splitlines()]
-    return [message for message in messages if message["reason"] == "upgrade-row"]
+    return messages[:-1] if messages and messages[-1]["reason"] == "upgrade-summary" else None
 
 
 def tables(check, _call, source):
     """The dependency tables of a text, each by its entries: below each header stands one more."""
     lines = [line + '\nmore = "1"' if line.startswith("[") else line for line in source.split("\n")]
     ran = upgraded(check, {"/w/Cargo.toml": "\n".join(lines)}, "/w")
-    places = ["/".join(row["place"][:-1]) for row in upgrade_rows(ran)]
-    return refusal(ran) or "".join(place + ";" for place, _ in itertools.groupby(places))
+    seen = upgrade_rows(ran)
+    if seen is None:
+        return refusal(ran) or "no summary"
+    places = ["/".join(row["place"][:-1]) for row in seen]
+    return "".join(place + ";" for place, _ in itertools.groupby(places))
 
 
 def inherited(check, text):
@@ -230,9 +233,10 @@ def found(check, named, current):
     ran = upgraded(check, files, current, *([] if named == "-" else ["--manifest-path", path]))
     if ran.err.startswith("Error: Failed to read manifest contents\n  at "):
         return ran.err.splitlines()[1].removeprefix("  at ")
-    said = refusal(ran)
-    if said is None:
-        return " ".join(row["manifest_path"] for row in upgrade_rows(ran))
+    seen = upgrade_rows(ran)
+    if seen is not None:
+        return " ".join(row["manifest_path"] for row in seen)
+    said = refusal(ran) or "no summary"
     return said + "/" if said.endswith(" for ") else said
 
 

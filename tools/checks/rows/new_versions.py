@@ -182,8 +182,10 @@ def pointed(check, manifest):
         for name, old, path in moved(before, ran.text("/w/m/Cargo.toml")):
             leads = os.path.normpath(os.path.join("/w/m", path)) == folder
             seen.setdefault(old, []).append("%s %s %s;" % (name, old, path if leads else folder))
-    lines = told(followers(check, manifest, FOLDERS)).split(";")
-    order = re.findall("Updating m's dependency from (.*) to", "\n".join(lines))
+    said = told(followers(check, manifest, FOLDERS))
+    if said.count("Upgrading ") != len(FOLDERS):
+        return "not raised: " + said
+    order = re.findall("Updating m's dependency from (.*?) to", said)
     return "".join("".join(seen.pop(old, ["?"])) for old in order) + "".join(map(str, seen))
 
 
