@@ -1,8 +1,6 @@
-//! Tests of manifests, by the public calls of `edit_manifest` alone.
+//! Tests of manifests, by those public calls of `edit_manifest` that no program makes, or where one fails.
 
-mod calls;
 mod found;
 mod kinds;
-mod removals;
 mod tables;
 mod versions;

@@ -1,10 +1,11 @@
 //! Rows of manifests that are found, read and written.
-use edit_manifest::{LocalManifest, Manifest, find};
+use edit_base::CargoResult;
+use edit_manifest::{LocalManifest, find};
 use edit_store::{FaultStore, MemoryStore, Store};
 use semver::Version;
 use std::alloc::Global;
 use std::test::Fail;
-use test_rows::{field, made, same, told};
+use test_rows::{field, made, same};
 
 /// Paths of files, each with its text; the last one has none.
 const FILES: &str = "\
@@ -30,82 +31,41 @@ fn store_of(alloc: Global, at: u64) -> Result<FaultStore, Fail> {
     Ok(FaultStore::new(store, at, 0))
 }
 
-/// The path that is specified, none for a hyphen.
-fn specified(word: &str) -> Option<&str> {
-    if word == "-" {
-        return None;
-    }
-    Some(word)
-}
-
-/// The text of the manifest that is read at a path.
-fn opened<S: Store>(alloc: Global, store: &mut S, path: &str) -> Result<String, Fail> {
-    match LocalManifest::try_new(alloc, store, path) {
-        Ok(local) => Ok(format!(in alloc; "{}", local.manifest)?),
-        Err(error) => told(alloc, error),
-    }
-}
-
-/// The text of the manifest that these bytes are.
-fn read(alloc: Global, bytes: &[u8]) -> Result<String, Fail> {
-    match Manifest::read_bytes(alloc, bytes) {
-        Ok(manifest) => Ok(format!(in alloc; "{manifest}")?),
-        Err(error) => told(alloc, error),
-    }
-}
-
-/// Gives a manifest's package another version.
-fn raise(alloc: Global, local: &mut LocalManifest) -> Result<(), Fail> {
-    let version = Version::parse(alloc, "0.2.0")?;
-    local.set_package_version(alloc, &version)?;
-    Ok(())
-}
-
-/// The text that stands in the file of a manifest once it is written.
-fn written<S: Store>(alloc: Global, store: &mut S, local: &LocalManifest) -> Result<String, Fail> {
-    match local.write(alloc, store) {
-        Ok(()) => opened(alloc, store, local.path.as_str()),
-        Err(error) => told(alloc, error),
-    }
-}
-
-/// What becomes of a manifest: its path and its text, or what is written where its package is raised.
-fn of_local<S: Store>(
+/// The manifest that is found, with another version of its package, read again once it is written.
+fn written(
     alloc: Global,
-    store: &mut S,
-    local: &mut LocalManifest,
-    call: &str,
-) -> Result<String, Fail> {
-    if call != "write" {
-        return Ok(format!(in alloc; "{} {}", local.path, local.manifest)?);
-    }
-    raise(alloc, local)?;
-    written(alloc, store, local)
+    store: &mut FaultStore,
+    named: Option<&str>,
+    current: &str,
+) -> CargoResult<LocalManifest> {
+    let mut local = LocalManifest::find(alloc, store, named, current)?;
+    local.set_package_version(alloc, &Version::new(0, 2, 0))?;
+    local.write(alloc, store)?;
+    LocalManifest::try_new(alloc, store, local.path.as_str())
 }
 
-/// The same of the manifest that is found and read.
-fn loaded<S: Store>(alloc: Global, store: &mut S, row: &str) -> Result<String, Fail> {
-    match LocalManifest::find(alloc, store, specified(field(row, 2)), field(row, 3)) {
-        Ok(mut local) => of_local(alloc, store, &mut local, field(row, 1)),
-        Err(error) => told(alloc, error),
+/// What becomes of a row.
+fn answer(alloc: Global, store: &mut FaultStore, row: &str) -> CargoResult<String> {
+    let (call, path, current) = (field(row, 1), field(row, 2), field(row, 3));
+    let named = match path {
+        "-" => None,
+        path => Some(path),
+    };
+    let local = match call {
+        "find" => return find(alloc, store, named, current),
+        "open" => LocalManifest::try_new(alloc, store, path)?,
+        "write" => written(alloc, store, named, current)?,
+        _ => LocalManifest::find(alloc, store, named, current)?,
+    };
+    match call {
+        "load" => Ok(format!(in alloc; "{} {}", local.path, local.manifest)?),
+        _ => Ok(format!(in alloc; "{}", local.manifest)?),
     }
 }
 
-/// What is wanted; whether the manifest is found, loaded, written, opened or read; the path that is
-/// specified, `-` for none, or the bytes; the current folder.
+/// What is wanted; whether a manifest is found, loaded, written or opened; the path that is specified, `-`
+/// for none; the current folder.
 const ROWS: &str = "\
-/w/Cargo.toml|find|-|/w/a
-/w/Cargo.toml|find|-|/w/a/src
-/w/Cargo.toml|find|a|/w
-/w/Cargo.toml|find|../a/src/.|/w/b
-/w/Cargo.toml|find|/w|/x
-/w/Cargo.toml|find|Cargo.toml|/w
-/w/b/Cargo.toml|find|b|/w
-/w/c/own.toml|find|c/own.toml|/w
-6 Failed to get cargo file metadata|find|nothing|/w
-7 Unable to find Cargo.toml for /x/y|find|-|/x/y
-7 Unable to find Cargo.toml for /x/y|find|y|/x
-7 Unable to find Cargo.toml for /|find|/|/w
 /w/Cargo.toml [package]|load|-|/w/a
 /w/c/own.toml version = 1|load|c/own.toml|/w
 7 Unable to find Cargo.toml for /x|load|-|/x
@@ -117,9 +77,7 @@ const ROWS: &str = "\
 5 Failed to read manifest contents|open|/w|
 1 Unable to parse Cargo.toml|open|/w/d/Cargo.toml|
 2 Failed to read manifest contents|open|/w/e/Cargo.toml|
-package.version = \"0.2.0\" # v|write|-|/v
-[package] # é|read|[package] # é|
-1 Unable to parse Cargo.toml|read|[package|";
+package.version = \"0.2.0\" # v|write|-|/v";
 
 /// The same, where the first call fails.
 const FAULTS: &str = "\
@@ -131,24 +89,11 @@ const FAULTS: &str = "\
 /// The same, where the third call fails.
 const WRITE_FAULTS: &str = "3 Failed to write updated Cargo.toml|write|-|/v";
 
-/// What becomes of a row.
-fn answer<S: Store>(alloc: Global, store: &mut S, row: &str) -> Result<String, Fail> {
-    match field(row, 1) {
-        "find" => made(
-            alloc,
-            find(alloc, store, specified(field(row, 2)), field(row, 3)),
-        ),
-        "read" => read(alloc, field(row, 2).as_bytes()),
-        "open" => opened(alloc, store, field(row, 2)),
-        _ => loaded(alloc, store, row),
-    }
-}
-
 /// Succeeds where each row of a table gives what it wants over files of which a call fails.
 fn hold(alloc: Global, table: &str, at: u64) -> Result<(), Fail> {
     'rows: for row in table.lines() {
         let mut store = store_of(alloc, at)?;
-        let seen = answer(alloc, &mut store, row)?;
+        let seen = made(alloc, answer(alloc, &mut store, row))?;
         same(row, seen.as_str(), field(row, 0))?;
     }
     Ok(())

@@ -13,28 +13,18 @@ fn kind_of(word: &str) -> DepKind {
     }
 }
 
-/// A table of a kind, for a target where one is named.
-fn table_of(alloc: Global, kind: &str, target: &str) -> Result<DepTable, Fail> {
-    let table = DepTable::new().set_kind(kind_of(kind));
-    if target.is_empty() {
-        return Ok(table);
+/// The name of a table of a kind, and the target of its copy.
+fn answer(alloc: Global, kind: &str, target: &str) -> Result<String, Fail> {
+    let mut table = DepTable::new().set_kind(kind_of(kind));
+    if !target.is_empty() {
+        table = table.set_target(alloc, target)?;
     }
-    Ok(table.set_target(alloc, target)?)
-}
-
-/// The name of a table, and the target of its copy.
-fn shown(alloc: Global, table: &DepTable, copy: &DepTable) -> Result<String, Fail> {
+    let copy = table.try_clone(alloc)?;
     if copy != table {
         return text(alloc, "another copy");
     }
     let target = copy.target.as_ref().map_or("all", |target| target.as_str());
     Ok(format!(in alloc; "{} {target}", table.kind_table())?)
-}
-
-/// The name of a table of a kind, and its target.
-fn answer(alloc: Global, kind: &str, target: &str) -> Result<String, Fail> {
-    let table = table_of(alloc, kind, target)?;
-    shown(alloc, &table, &table.try_clone(alloc)?)
 }
 
 /// The name of a kind's table, and the target; the kind and the target.
@@ -45,12 +35,8 @@ build-dependencies all|build|
 dev-dependencies cfg(unix)|development|cfg(unix)";
 
 #[test]
-fn names_the_tables_of_kinds(rt: HostRuntime) -> Result<(), Fail> {
-    rows_hold(rt.alloc(), KINDS, LINES, answer)
-}
-
-#[test]
-fn makes_tables_of_kinds(_rt: HostRuntime) -> Result<(), Fail> {
+fn makes_tables_of_kinds(rt: HostRuntime) -> Result<(), Fail> {
+    rows_hold(rt.alloc(), KINDS, LINES, answer)?;
     let is_new = DepTable::default() == DepTable::new();
     let is_build = DepTable::from(DepKind::Build) == DepTable::new().set_kind(DepKind::Build);
     if is_new && is_build && DepKind::Normal < DepKind::Development {
