@@ -1,4 +1,4 @@
-"""What an upgrade reads of words, of an index's entries and of Rust versions, and which entries it refuses."""
+"""What an upgrade reads of words, an index's entries and Rust versions, and which entries it refuses."""
 
 import json
 
