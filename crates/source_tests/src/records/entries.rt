@@ -9,14 +9,14 @@ use std::alloc::{AllocError, Global};
 use std::test::Fail;
 use test_rows::{LINES, rows_hold, text};
 
-/// What a call of an entry gives: of that alone, or among others none.
+/// What a call gives of an entry that asks for Rust 1.70, and the call.
 const FOUND: &str = "\
 x 1.0.0 -|latest
 x 1.0.0 -|compatible
 x 1.0.0 -|depends
 false|suits 1.0.0";
 
-/// An entry that asks for Rust 1.70.
+/// That entry.
 fn entry(alloc: Global) -> Result<IndexVersion, AllocError> {
     Ok(IndexVersion {
         name: String::from_str(alloc, "x")?,
