@@ -1,48 +1,30 @@
 //! What the tests of records make and tell.
-use edit_base::CargoResult;
+use edit_base::{CargoResult, Error};
 use edit_document::{Document, Item};
-use edit_record::{Dependency, IndexVersion};
-use edit_version::upgrade_requirement;
-use semver::{Version, VersionReq};
-use std::alloc::{AllocError, Global};
+use edit_record::Dependency;
+use std::alloc::Global;
 use std::cmp::Ordering;
 use std::hash::{BuildHasher, BuildHasherDefault, FoldHasher, Hash};
 use std::test::Fail;
 use test_rows::{text, told};
 
-/// A version that a row names.
-pub(crate) fn version(alloc: Global, text: &str) -> Result<Version, Fail> {
-    Ok(Version::parse(alloc, text)?)
-}
-
-/// A requirement that a row names.
-pub(crate) fn requirement(alloc: Global, text: &str) -> Result<VersionReq, Fail> {
-    Ok(VersionReq::parse(alloc, text)?)
-}
-
-/// An entry of the crate `x`, with a Rust version or, of the empty text, none.
-pub(crate) fn entry(
-    alloc: Global,
-    version: &str,
-    yanked: bool,
-    rust_version: &str,
-) -> Result<IndexVersion, AllocError> {
-    let asked = if rust_version.is_empty() {
-        None
-    } else {
-        Some(String::from_str(alloc, rust_version)?)
-    };
-    Ok(IndexVersion {
-        name: String::from_str(alloc, "x")?,
-        version: String::from_str(alloc, version)?,
-        yanked,
-        rust_version: asked,
-    })
-}
-
 /// The entry of a key among a document's dependencies.
-pub(crate) fn entry_at<'a>(document: &'a Document, key: &str) -> Option<Item<'a>> {
+fn entry_at<'a>(document: &'a Document, key: &str) -> Option<Item<'a>> {
     document.item(&[])?.get("dependencies")?.get(key)
+}
+
+/// The record of the entry of a key of a manifest in a folder.
+pub(crate) fn record_at(
+    alloc: Global,
+    root: &str,
+    key: &str,
+    manifest: &str,
+) -> CargoResult<Dependency> {
+    let document = Document::read(alloc, manifest)?;
+    match entry_at(&document, key) {
+        Some(item) => Dependency::from_toml(alloc, root, key, item),
+        None => Err(Error::MissingVersion),
+    }
 }
 
 /// The name of a dependency, its version and its new name; `-` for none.
@@ -60,16 +42,6 @@ pub(crate) fn chosen(
 ) -> Result<String, Fail> {
     match chosen {
         Ok(Some(dependency)) => shown(alloc, &dependency),
-        Ok(None) => text(alloc, "-"),
-        Err(error) => told(alloc, error),
-    }
-}
-
-/// The text that a requirement is raised to, `-` for none, or the refusal.
-pub(crate) fn upgraded(alloc: Global, req: &str, version_text: &str) -> Result<String, Fail> {
-    let version = version(alloc, version_text)?;
-    match upgrade_requirement(alloc, req, &version) {
-        Ok(Some(text)) => Ok(text),
         Ok(None) => text(alloc, "-"),
         Err(error) => told(alloc, error),
     }

@@ -6,7 +6,7 @@ use edit_document::{Document, Place, Step};
 use edit_record::Dependency;
 use std::alloc::{AllocError, Global};
 use std::test::Fail;
-use test_rows::{LINES, rows_hold, text, told, unfolded};
+use test_rows::{LINES, rows_hold, unfolded, word};
 
 /// Strings, and tables of one member that one pair names: another entry stands there. Inline tables.
 /// Features: those of the entry and then those of the record, each once. Tables with a header of their
@@ -106,35 +106,34 @@ x = [], 49 Edit would change more than its place|x = []|registry=2
 /// The header above a manifest of entries alone.
 const HEADER: &str = "[dependencies]\n";
 
-/// The key of the first dependency.
-fn first_key(document: &Document) -> Option<&str> {
-    document.item(&[])?.get("dependencies")?.keys().next()
-}
-
-/// The place of a dependency.
-fn place_of(alloc: Global, key: &str) -> Result<Place, AllocError> {
+/// The place of the dependency of a row: of `serde` where its manifest begins with that key, else of `x`.
+fn place_of(alloc: Global, lines: &str) -> Result<Place, AllocError> {
+    let key = if lines.starts_with("serde") {
+        "serde"
+    } else {
+        "x"
+    };
     let mut place = Vec::new(alloc);
     place.push(Step::Key(String::from_str(alloc, "dependencies")?))?;
     place.push(Step::Key(String::from_str(alloc, key)?))?;
     Ok(place)
 }
 
-/// Updates the entry at a place of at most 70 steps; whether there is one.
+/// Updates the entry at a place, where one stands there.
 fn update(
     alloc: Global,
     document: &mut Document,
     record: &Dependency,
     place: &[Step],
-) -> CargoResult<bool> {
+) -> CargoResult<()> {
     if place.len() > 70 || document.item(place).is_none() {
-        return Ok(false);
+        return Ok(());
     }
-    record.update_toml(alloc, "/foo", document, place)?;
-    Ok(true)
+    record.update_toml(alloc, "/foo", document, place)
 }
 
 /// What is left of a manifest, and why it was refused where it was.
-fn shown(alloc: Global, document: &Document, refusal: &str) -> Result<String, Fail> {
+fn left(alloc: Global, document: &Document, refusal: &str) -> Result<String, Fail> {
     let text = document.as_str();
     let text = text.strip_prefix(HEADER).unwrap_or(text);
     let mut left = text.replace(alloc, '\n', "@")?;
@@ -145,34 +144,6 @@ fn shown(alloc: Global, document: &Document, refusal: &str) -> Result<String, Fa
     Ok(left)
 }
 
-/// The same after an update of the entry at a place.
-fn left(
-    alloc: Global,
-    document: &mut Document,
-    record: &Dependency,
-    place: &[Step],
-) -> Result<String, Fail> {
-    match update(alloc, document, record, place) {
-        Ok(true) => shown(alloc, document, ""),
-        Ok(false) => text(alloc, "no entry"),
-        Err(error) => shown(alloc, document, told(alloc, error)?.as_str()),
-    }
-}
-
-/// The same after an update of the first dependency.
-fn first_left(alloc: Global, document: &mut Document, record: &Dependency) -> Result<String, Fail> {
-    let place = place_of(alloc, first_key(document).unwrap_or(""))?;
-    left(alloc, document, record, &place)
-}
-
-/// What a manifest is after an update of its first dependency.
-fn updated_text(alloc: Global, text: &str, record: &Dependency) -> Result<String, Fail> {
-    match Document::read(alloc, text) {
-        Ok(mut document) => first_left(alloc, &mut document, record),
-        Err(error) => told(alloc, error),
-    }
-}
-
 /// The manifest of a row: below a header where it has none.
 fn manifest(alloc: Global, lines: &str) -> Result<String, Fail> {
     let is_whole = lines.starts_with('[') || lines.starts_with("dependencies");
@@ -181,11 +152,17 @@ fn manifest(alloc: Global, lines: &str) -> Result<String, Fail> {
     Ok(format!(in alloc; "{header}{lines}")?)
 }
 
-/// What the manifest of a row is after an update of its first dependency.
+/// What the manifest of a row is after an update of its dependency with a record.
+fn left_by(alloc: Global, lines: &str, record: &Dependency) -> Result<String, Fail> {
+    let place = place_of(alloc, lines)?;
+    let mut document = Document::read(alloc, manifest(alloc, lines)?.as_str())?;
+    let answer = update(alloc, &mut document, record, &place);
+    left(alloc, &document, word(alloc, answer, "")?.as_str())
+}
+
+/// The same with the record of the row.
 fn updated(alloc: Global, lines: &str, parts: &str) -> Result<String, Fail> {
-    let manifest = manifest(alloc, lines)?;
-    let record = record(alloc, parts)?;
-    updated_text(alloc, manifest.as_str(), &record)
+    left_by(alloc, lines, &record(alloc, parts)?)
 }
 
 #[test]

@@ -1,8 +1,8 @@
 //! Rows of records and their new entries: what is written, the folder of the manifest, and what the record
 //! says, its parts between semicolons.
-use super::parts::entry_at;
+use super::parts::record_at;
 use edit_base::CargoResult;
-use edit_document::{Document, NewItem};
+use edit_document::NewItem;
 use edit_record::{Dependency, GitSource, PathSource, RegistrySource, Source, WorkspaceSource};
 use std::alloc::{AllocError, Global};
 use std::collections::BTreeMap;
@@ -181,26 +181,12 @@ fn entry(alloc: Global, root: &str, record: &Dependency) -> Result<String, Fail>
     told(alloc, &item)
 }
 
-/// The entry of what is read of an entry of a document.
-fn entry_again(alloc: Global, root: &str, key: &str, document: &Document) -> Result<String, Fail> {
-    let Some(item) = entry_at(document, key) else {
-        return text(alloc, "no entry");
-    };
-    let record = Dependency::from_toml(alloc, root, key, item)?;
-    entry(alloc, root, &record)
-}
-
-/// The same of a manifest.
-fn text_again(alloc: Global, root: &str, key: &str, text: &str) -> Result<String, Fail> {
-    let document = Document::read(alloc, text)?;
-    entry_again(alloc, root, key, &document)
-}
-
 /// The entry of what is read of an entry.
-fn again(alloc: Global, root: &str, key: &str, entry: &str) -> Result<String, Fail> {
-    let equals = if entry.starts_with('.') { "" } else { " = " };
-    let text = format!(in alloc; "[dependencies]\n{key}{equals}{entry}")?;
-    text_again(alloc, root, key, text.as_str())
+fn again(alloc: Global, root: &str, key: &str, first: &str) -> Result<String, Fail> {
+    let equals = if first.starts_with('.') { "" } else { " = " };
+    let manifest = format!(in alloc; "[dependencies]\n{key}{equals}{first}")?;
+    let record = record_at(alloc, root, key, manifest.as_str())?;
+    entry(alloc, root, &record)
 }
 
 /// An entry, and where it is another one the entry of what is read of it.
