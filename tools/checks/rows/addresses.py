@@ -112,7 +112,7 @@ def addresses(ran):
 def address(ran):
     """The address of the one look, or the refusal."""
     seen = addresses(ran)
-    return seen["k"] if isinstance(seen, dict) and list(seen) == ["k"] else seen
+    return seen["k"] if isinstance(seen, dict) and list(seen) == ["k"] else str(seen)
 
 
 def registries(check):

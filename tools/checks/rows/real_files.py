@@ -130,7 +130,7 @@ class Files:
         said = self.run("upgrade", "--dry-run", "--manifest-path", "Cargo.toml", "--index-file", path)
         if said == "Failed to get cargo file metadata":
             return "none"
-        return word_of(pathlib.Path(path).read_text())
+        return word_of(pathlib.Path(path).read_text()) if os.path.isfile(path) else "read, and no file"
 
     def write(self, path, word):
         """What becomes of the manifest at a path that is raised to the word's; or, where no file stands, of
@@ -177,24 +177,19 @@ SHOWN = {"mode": lambda path: f"{os.stat(path).st_mode & 0o777:o}",
          "is link": lambda path: str(os.path.islink(path)).lower()}
 
 
-def step(files, call, path, argument):
-    """What a step gives."""
-    path = files.folder + path
-    if call in CHANGES:
-        CHANGES[call](path, argument)
-        return "done"
-    if call in SHOWN:
-        return SHOWN[call](path)
-    return getattr(files, call)(path, argument)
-
-
 def steps(check, name, table, variables):
-    """Takes the steps of a table in turn, in a new folder."""
+    """Takes the steps of a table in turn, in a new folder. What changes the machine alone is not counted."""
     with tempfile.TemporaryDirectory() as room:
         files = Files(check.program, os.path.realpath(room), variables)
         for row in table.splitlines():
             row, call, path, argument, want = row.split("|")
-            check.same(name, row, step(files, call, path, argument), want)
+            path = files.folder + path
+            if call in CHANGES:
+                CHANGES[call](path, argument)
+            elif call in SHOWN:
+                check.same(name, row, SHOWN[call](path), want)
+            else:
+                check.same(name, row, getattr(files, call)(path, argument), want)
 
 
 def unmoved(check, library, room):
