@@ -2,7 +2,5 @@
 mod addresses;
 mod kept;
 mod looks;
-mod machine;
 mod steps;
 mod stores;
-mod unmoved;

@@ -2,7 +2,7 @@
 use super::looks::{entries, files_of};
 use crate::records::parts::chosen;
 use edit_cache::{IndexCache, Ranked};
-use edit_sources::{Index, IndexKrate, LocalIndex};
+use edit_sources::{FileIndex, Index, IndexKrate, LocalIndex};
 use edit_store::FaultStore;
 use semver::VersionReq;
 use std::alloc::Global;
@@ -152,6 +152,20 @@ fn calls<I: Index>(alloc: Global, cache: &mut IndexCache<I>, rows: &str) -> Resu
     Ok(())
 }
 
+/// The lines of two crates.
+const TWO: &[u8] =
+    b"{\"name\":\"a\",\"vers\":\"1.0.0\"}\r\n \t\n{\"name\":\"b\",\"vers\":\"2.0.0\"}\n\
+{\"name\":\"a\",\"vers\":\"1.1.0\",\"yanked\":true,\"rust_version\":null}\n";
+
+/// The call over them.
+const OVER_TWO: &str = "both lines, in order|krate|a||a 1.0.0.a 1.1.0!";
+
+#[test]
+fn a_look_in_one_file(rt: HostRuntime) -> Result<(), Fail> {
+    let mut cache = IndexCache::new(rt.alloc(), FileIndex::read(rt.alloc(), TWO)?);
+    calls(rt.alloc(), &mut cache, OVER_TWO)
+}
+
 /// A path, and lines of which the last is cut short.
 const BROKEN: &str = "/idx/1/a|{\"name\":\"a\",\"vers\":\"1.0.0\"}@{\"na";
 
@@ -172,17 +186,22 @@ fn failing(alloc: Global, files: &str, at: u64) -> Result<LocalIndex<FaultStore>
     Ok(LocalIndex::new(FaultStore::new(files_of(alloc, files)?, at, 0)))
 }
 
-/// Puts another index below a cache.
-fn replace<I: Index + Drop>(cache: &mut IndexCache<I>, index: I) {
-    let _old = cache.replace_index(index);
+/// Puts another index below a cache, and tells how often the one before it failed.
+fn replace<I: Index + Drop>(cache: &mut IndexCache<I>, index: I) -> u64 {
+    cache.replace_index(index).faults()
 }
 
-/// Makes calls over one index after the other, each with its files and the call of its store that fails.
+/// Makes calls over one index after the other, each with its files and the call of its store that fails. A
+/// fault is counted where that is the first one.
 fn kept(alloc: Global, indexes: &[(&str, u64, &str)]) -> Result<(), Fail> {
-    let mut cache = IndexCache::new(alloc, failing(alloc, "", 0)?);
+    let mut cache = IndexCache::new(alloc, failing(alloc, "", 9)?);
     'indexes: for (files, at, rows) in indexes {
         replace(&mut cache, failing(alloc, files, *at)?);
         calls(alloc, &mut cache, rows)?;
+        let failed = replace(&mut cache, failing(alloc, "", 9)?);
+        if (failed == 0) == (*at == 0) {
+            return Err(Fail::new("another count of faults"));
+        }
     }
     Ok(())
 }
@@ -193,14 +212,16 @@ fn no_refusal_is_kept(rt: HostRuntime) -> Result<(), Fail> {
     kept(rt.alloc(), &indexes)
 }
 
-/// Paths with lines: those of one are read, of the other the last is cut short.
+/// Paths with lines: of one the last is cut short, those of another are read, and one has none.
 const HALF_BROKEN: &str = "\
 /idx/1/a|{\"name\":\"a\",\"vers\":\"1.0.0\"}@{\"na
-/idx/1/b|{\"name\":\"b\",\"vers\":\"2.0.0\"}@";
+/idx/1/b|{\"name\":\"b\",\"vers\":\"2.0.0\"}@
+/idx/1/x|";
 
 /// The calls over them.
 const OVER_HALF_BROKEN: &str = "\
 an answer|ranked|b||2.0.0;
+one letter, no line|krate|x||
 a line cut short|ranked|a||30 Invalid index line 2
 nothing is kept|shown|a||none
 nor ranked|shown ranking|a||none

@@ -24,22 +24,12 @@ fn read<S: Store>(alloc: Global, store: &mut S, path: &str) -> Result<String, Fa
 }
 
 /// What becomes of a write.
-pub(crate) fn write<S: Store>(
-    alloc: Global,
-    store: &mut S,
-    path: &str,
-    new: &str,
-) -> Result<String, Fail> {
+fn write<S: Store>(alloc: Global, store: &mut S, path: &str, new: &str) -> Result<String, Fail> {
     word(alloc, store.write(alloc, path, new.as_bytes()), "written")
 }
 
 /// What a step gives. Its row has a name, a call, a path and the text that is written.
-pub(crate) fn step<S: Store>(
-    alloc: Global,
-    store: &mut S,
-    path: &str,
-    row: &str,
-) -> Result<String, Fail> {
+fn step<S: Store>(alloc: Global, store: &mut S, path: &str, row: &str) -> Result<String, Fail> {
     match field(row, 1) {
         "kind" => kind(alloc, store, path),
         "read" => read(alloc, store, path),

@@ -1,6 +1,6 @@
-//! Stores in memory, and a call that fails.
+//! Stores in memory, a call that fails, and a device of the machine.
 use super::steps::steps;
-use edit_store::{FaultStore, MemoryStore};
+use edit_store::{FaultStore, HostStore, MemoryStore};
 use std::test::Fail;
 
 /// A name, a call, a path, the text that is written, and what is wanted.
@@ -71,4 +71,20 @@ fn the_first_call_fails(rt: HostRuntime) -> Result<(), Fail> {
         steps(rt.alloc(), &mut store, row)?;
     }
     Ok(())
+}
+
+/// A device, which is no file, among the files of the machine.
+const DEVICE: &str = "\
+no fault yet|faults|||0
+a device is no file|kind|/dev/null||absent
+a device has a text|read|/dev/null||
+a device is not written|write|/dev/null|six|3 Failed to write updated Cargo.toml
+a fault|faults|||1
+nor once more|write|/dev/null|six|3 Failed to write updated Cargo.toml
+a second fault|faults|||2";
+
+#[test]
+fn a_device_is_no_file(rt: HostRuntime) -> Result<(), Fail> {
+    let mut store = HostStore::new(rt.clone()?);
+    steps(rt.alloc(), &mut store, DEVICE)
 }
