@@ -50,8 +50,8 @@ class Check:
 
     def lay_out(self, files):
         """Empties the folder that stands for `/`, and puts files there: bytes, or text in which `@ROOT@` is that folder."""
-        for it in os.listdir(self.room):
-            shutil.rmtree(os.path.join(self.room, it))
+        for it in pathlib.Path(self.room).iterdir():
+            shutil.rmtree(it) if it.is_dir() and not it.is_symlink() else it.unlink()
         for path, content in {"/w/": None, **files}.items():
             at = pathlib.Path(self.room + path)
             if content is None:
