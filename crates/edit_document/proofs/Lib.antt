@@ -69,6 +69,7 @@ pub mod StatedLines
 pub mod SpotTexts
 pub mod StatementSpots
 pub mod InsertedLines
+pub mod InsertedTexts
 pub mod EntryChoices
 -- An entry replaced
 pub mod EntryParts
