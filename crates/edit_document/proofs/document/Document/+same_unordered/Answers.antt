@@ -1,5 +1,6 @@
-use Rattle.std.proofs.Common.{sym, ◌∙◌, refl, arith}
-use Rattle.edit_document.specs.Items.{view_numbered}
+use Rattle.std.proofs.Common.{List, [], ◌∷◌, length, length-append, sym, ap, ◌∙◌, refl, arith}
+use Rattle.edit_tree.specs.Assertions.{Step}
+use Rattle.edit_document.specs.Items.{place_numbered, view_numbered}
 use Rattle.edit_document.proofs.SameParts.{part_some}
 use Rattle.edit_document.proofs.UnorderedNodes.{unordered_all, unordered_here, unordered_down, unordered_more, unordered_lacks}
 use Rattle.edit_document.proofs.document.Document.+same_unordered.Goals as goal
@@ -50,3 +51,13 @@ returns t c = (
       (omega (arith, lt, c.parts-test.false, c.member_count-count.ensures)) ps),
   λ h. refl,
 )
+
+pub parts-init : goal.parts-init
+parts-init t c j step lt = absurd (omega arith)
+
+pub same_unordered-requires : goal.same_unordered-requires
+same_unordered-requires t c =
+    let part = c.in-Some.ensures {u = tt} in
+    let deep = ap {A = List Step} length part.3
+    ∙ length-append (place_numbered c.args.self.now c.args.number) (part.0 ∷ []) in
+    (omega arith, (part.2, ((c.in-Some-counterpart.ensures {u = tt} part.0 part.1).2, omega (arith, deep))))
