@@ -1,9 +1,9 @@
 #!/usr/bin/env python3
-"""rows.py PROGRAM CALLS [NAME ..]: the tables of rows/NAME.py (all, where none is named), each row run by the built
-program (PROGRAM) or by edit_calls (CALLS), and what it prints, answers and leaves compared with what the row wants. The
-wanted values come from outside: the standard, cargo's reference, the original's own tests. A module of rows/ has a
-function `rows(check)`, which takes its tables to `check.same`. Last it prints how many rows each table has; the status is
-1 where one differs, or where a module has none."""
+"""rows.py PROGRAM CALLS [NAME ..]: the tables of rows/NAME.py (all, where none is named), each row run by
+the built program (PROGRAM) or by edit_calls (CALLS), and what it prints, answers and leaves compared with what
+the row wants. The wanted values come from outside: the standard, cargo's reference, the original's own tests.
+A module of rows/ has a function `rows(check)`, which takes its tables to `check.same`. Last it prints how many
+rows each table has; the status is 1 where one differs, or where a module has none."""
 
 import collections
 import importlib.util
@@ -49,7 +49,7 @@ class Check:
         self.held, self.failed = collections.Counter(), 0
 
     def lay_out(self, files):
-        """Empties the folder that stands for `/`, and puts files there: bytes, or text in which `@ROOT@` is that folder."""
+        """Empties the folder that stands for `/`, and puts files there: bytes, or text with it as `@ROOT@`."""
         for it in pathlib.Path(self.room).iterdir():
             shutil.rmtree(it) if it.is_dir() and not it.is_symlink() else it.unlink()
         for path, content in {"/w/": None, **files}.items():
@@ -58,20 +58,23 @@ class Check:
                 at.mkdir(parents=True, exist_ok=True)
                 continue
             at.parent.mkdir(parents=True, exist_ok=True)
-            at.write_bytes(content if isinstance(content, bytes) else content.replace("@ROOT@", self.room).encode())
+            is_text = isinstance(content, str)
+            at.write_bytes(content.replace("@ROOT@", self.room).encode() if is_text else content)
 
     def ran(self, program, words, files, folder, environment):
+        """What a program answers and leaves."""
         self.lay_out(files)
         words = [word.replace("@ROOT@", self.room) for word in words]
-        environment = {name: value.replace("@ROOT@", self.room) for name, value in environment.items()}
+        environment = {name: text.replace("@ROOT@", self.room) for name, text in environment.items()}
         (pathlib.Path(self.room) / folder[1:]).mkdir(parents=True, exist_ok=True)
-        done = subprocess.run([program, *words], cwd=self.room + folder, env=environment, stdin=subprocess.DEVNULL,
-                              capture_output=True, timeout=60, check=False)
+        done = subprocess.run(
+            [program, *words], cwd=self.room + folder, env=environment, stdin=subprocess.DEVNULL,
+            capture_output=True, timeout=60, check=False)
         return Ran(self.room, done)
 
     def run(self, words, files=(), folder="/w", **environment):
-        """Runs the program by words over files (path: bytes, text, or None for a folder), from a folder; `@ROOT@` in
-        words, texts and the environment is the folder that stands for `/`."""
+        """Runs the program by words over files (path: bytes, text, or None for a folder), from a folder;
+        `@ROOT@` in words, texts and the environment is the folder that stands for `/`."""
         return self.ran(self.program, words, dict(files), folder, environment)
 
     def call(self, words, files=(), folder="/w", **environment):
@@ -96,6 +99,7 @@ def module(name):
 
 
 def main():
+    """Runs the modules that are named, or all."""
     sys.dont_write_bytecode = True
     sys.path.insert(0, str(HERE))
     program, calls, *names = sys.argv[1:]

@@ -46,7 +46,7 @@ def index_lines(names, versions):
 
 
 def index_of(crates):
-    """The lines of an index by its crates, which stand with semicolons between them: a name and its versions."""
+    """The lines of an index by its crates, with semicolons between them: a name and its versions."""
     return "".join(index_lines(*crate.split(maxsplit=1)) for crate in crates.split(";") if crate)
 
 
