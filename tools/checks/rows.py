@@ -1,9 +1,9 @@
 #!/usr/bin/env python3
 """rows.py PROGRAM CALLS [NAME ..]: the tables of rows/NAME.py (all, where none is named), each row run by
-the built program (PROGRAM) or by edit_calls (CALLS), and what it prints, answers and leaves compared with what
-the row wants. The wanted values come from outside: the standard, cargo's reference, the original's own tests.
-A module of rows/ has a function `rows(check)`, which takes its tables to `check.same`. Last it prints how many
-rows each table has; the status is 1 where one differs, or where a module has none."""
+the built program (PROGRAM) or by edit_calls (CALLS), and what it prints, answers and leaves compared with
+what the row wants. The wanted values come from outside: the standard, cargo's reference, the original's own
+tests. A module of rows/ has a function `rows(check)`, which takes its tables to `check.same`. Last it prints
+how many rows each table has; the status is 1 where one differs, or where a module has none."""
 
 import collections
 import importlib.util
@@ -49,7 +49,7 @@ class Check:
         self.held, self.failed = collections.Counter(), 0
 
     def lay_out(self, files):
-        """Empties the folder that stands for `/`, and puts files there: bytes, or text with it as `@ROOT@`."""
+        """Empties the folder that stands for `/`, and puts files there, bytes or text with it as `@ROOT@`."""
         for it in pathlib.Path(self.room).iterdir():
             shutil.rmtree(it) if it.is_dir() and not it.is_symlink() else it.unlink()
         for path, content in {"/w/": None, **files}.items():
