@@ -1,5 +1,5 @@
-//! Plans in other forms than their tables, against texts that were written by hand. Those that the program can
-//! show are in `tools/checks/rows/daily.py`.
+//! Plans in other forms than their tables, against texts that were written by hand. Those that the program
+//! can show are in `tools/checks/rows/daily.py`.
 use super::looks::{input_of, plain};
 use edit_base::CargoResult;
 use edit_document::Step;

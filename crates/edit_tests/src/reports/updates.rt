@@ -1,5 +1,5 @@
-//! Rows of calls that follow an upgrade: words that are refused, and that are not read at a dry run. The program
-//! reads each word before.
+//! Rows of calls that follow an upgrade: words that are refused, and that are not read at a dry run. The
+//! program reads each word before.
 use edit_metadata::Workspace;
 use edit_update::update_calls;
 use edit_upgrade::{Options, UpgradePlan};

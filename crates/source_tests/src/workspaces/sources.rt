@@ -36,7 +36,8 @@ fn put_files(alloc: Global, store: &mut MemoryStore) -> Result<(), Fail> {
     Ok(())
 }
 
-/// The inputs that were read: the name, the path, the Rust version of each and how many configurations it has.
+/// The inputs that were read: the name, the path and the Rust version of each, and how many configurations
+/// it has.
 fn inputs_shown(alloc: Global, sources: &Sources) -> Result<String, Fail> {
     let mut all = String::new(alloc);
     for (i, input) in sources.target.inputs.iter().enumerate() {
