@@ -68,12 +68,14 @@ serde 1.0     1.2.3      1.2.3  1.2
     Checking virtual workspace's dependencies
 Error: Failed to write updated Cargo.toml
   at /w/Cargo.toml
-§the first write fails after four bytes|dwab|4|set-version --metadata-json metadata.json --bump minor -p a|dwpb|\
+§the first write fails after four bytes|dwab|4|\
+set-version --metadata-json metadata.json --bump minor -p a|dwpb|\
 1    Upgrading a from 0.1.0 to 0.2.0
     Updating b's dependency from 0.1 to 0.2
 Error: Failed to write updated Cargo.toml
   at /w/a/Cargo.toml
-§a later write fails after four bytes|dwab|5|set-version --metadata-json metadata.json --bump minor -p a|dwAe|\
+§a later write fails after four bytes|dwab|5|\
+set-version --metadata-json metadata.json --bump minor -p a|dwAe|\
 1    Upgrading a from 0.1.0 to 0.2.0
     Updating b's dependency from 0.1 to 0.2
 Error: Failed to write updated Cargo.toml
