@@ -1,12 +1,11 @@
 //! Edits of documents by the words of a row: new values and entries, what is done, and what is left.
-ghost use Rattle.std.specs.Prelude.{IfOk};
 ghost use Rattle.edit_tree.specs.NewItems.{IsEntry};
 ghost use Rattle.edit_document.specs.NewItemViews.{item_seen};
 
-use edit_document::{CargoResult, Document, NewItem, NewValue, Step};
-use std::alloc::{AllocError, Global};
-use std::test::Fail;
-use test_rows::{made, text, told};
+use super::stop::{kept, must, push, said, text};
+use edit_document::{Document, NewItem, NewValue, Step};
+use std::alloc::Global;
+use std::process::Abort;
 
 /// The index that stands behind a number sign; none where a step is a key.
 fn index_of(step: &str) -> Option<usize> {
@@ -14,20 +13,20 @@ fn index_of(step: &str) -> Option<usize> {
 }
 
 /// A step: an index behind a number sign, or a key.
-fn step_of(alloc: Global, step: &str) -> Result<Step, AllocError> {
+fn step_of(rt: &impl Abort, alloc: Global, step: &str) -> Step {
     match index_of(step) {
-        Some(index) => Ok(Step::Index(index)),
-        None => Ok(Step::Key(String::from_str(alloc, step)?)),
+        Some(index) => Step::Index(index),
+        None => Step::Key(text(rt, alloc, step)),
     }
 }
 
 /// The steps of a place, which stand with slashes between them; none of the empty text.
-fn place_of(alloc: Global, place: &str) -> Result<Vec<Step>, AllocError> {
+fn place_of(rt: &impl Abort, alloc: Global, place: &str) -> Vec<Step> {
     let mut steps = Vec::new(alloc);
     'steps: for step in place.split_terminator('/') {
-        steps.push(step_of(alloc, step)?)?;
+        push(rt, &mut steps, step_of(rt, alloc, step));
     }
-    Ok(steps)
+    steps
 }
 
 /// The text before the first space, and the text behind it.
@@ -36,229 +35,261 @@ fn parted(words: &str) -> (&str, &str) {
 }
 
 /// The strings of a list, which stand with a sign between them; none of the empty text.
-pub(crate) fn listed(alloc: Global, words: &str, sign: char) -> Result<Vec<String>, AllocError> {
+pub(crate) fn listed(rt: &impl Abort, alloc: Global, words: &str, sign: char) -> Vec<String> {
     let mut strings = Vec::new(alloc);
     'words: for word in words.split_terminator(sign) {
-        strings.push(String::from_str(alloc, word)?)?;
+        push(rt, &mut strings, text(rt, alloc, word));
     }
-    Ok(strings)
+    strings
 }
 
 /// A new value: a list behind a bracket, a truth for its word, or a string.
-fn value_of(alloc: Global, words: &str) -> Result<NewValue, AllocError> {
+fn value_of(rt: &impl Abort, alloc: Global, words: &str) -> NewValue {
     if let Some(words) = words.strip_prefix("[") {
-        return Ok(NewValue::Strings(listed(alloc, words, ',')?));
+        return NewValue::Strings(listed(rt, alloc, words, ','));
     }
     match words {
-        "true" => Ok(NewValue::Bool(true)),
-        "false" => Ok(NewValue::Bool(false)),
-        _ => Ok(NewValue::Str(String::from_str(alloc, words)?)),
+        "true" => NewValue::Bool(true),
+        "false" => NewValue::Bool(false),
+        _ => NewValue::Str(text(rt, alloc, words)),
     }
 }
 
 /// Members between semicolons, each a name, an equals sign and a value; none of the empty text.
-fn members_of(alloc: Global, words: &str) -> Result<Vec<(String, NewValue)>, AllocError> {
+fn members_of(rt: &impl Abort, alloc: Global, words: &str) -> Vec<(String, NewValue)> {
     let mut members = Vec::new(alloc);
     'members: for member in words.split_terminator(';') {
         let (name, value) = member.split_once('=').unwrap_or((member, ""));
-        members.push((String::from_str(alloc, name)?, value_of(alloc, value)?))?;
+        push(
+            rt,
+            &mut members,
+            (text(rt, alloc, name), value_of(rt, alloc, value)),
+        );
     }
-    Ok(members)
+    members
 }
 
 /// The entry that is written by a dotted key.
-fn dotted(alloc: Global) -> Result<NewItem, AllocError>
-    ensures { IfOk result (λ item. IsEntry (item_seen item)) }
+fn dotted(rt: &impl Abort, alloc: Global) -> NewItem
+    ensures { IsEntry (item_seen result) }
 {
     let mut members = Vec::new(alloc);
-    members.push((String::from_str(alloc, "workspace")?, NewValue::Bool(true)))?;
-    Ok(NewItem::Inline {
+    push(
+        rt,
+        &mut members,
+        (text(rt, alloc, "workspace"), NewValue::Bool(true)),
+    );
+    NewItem::Inline {
         members,
         dotted: true,
-    })
+    }
 }
 
 /// A new entry: members behind a brace, the one by a dotted key for a dot, or a value.
-pub(crate) fn entry_of(alloc: Global, words: &str) -> Result<NewItem, AllocError>
-    ensures { IfOk result (λ item. IsEntry (item_seen item)) }
+pub(crate) fn entry_of(rt: &impl Abort, alloc: Global, words: &str) -> NewItem
+    ensures { IsEntry (item_seen result) }
 {
     if words == "." {
-        return dotted(alloc);
+        return dotted(rt, alloc);
     }
     match words.strip_prefix("{") {
-        Some(words) => Ok(NewItem::Inline {
-            members: members_of(alloc, words)?,
+        Some(words) => NewItem::Inline {
+            members: members_of(rt, alloc, words),
             dotted: false,
-        }),
-        None => Ok(NewItem::Value(value_of(alloc, words)?)),
+        },
+        None => NewItem::Value(value_of(rt, alloc, words)),
     }
 }
 
-/// Sets a string, or a value, where a value stands; whether it did.
+/// What is said where a place does not allow an edit.
+fn not_there(rt: &impl Abort, alloc: Global) -> String {
+    text(rt, alloc, "not there")
+}
+
+/// Sets a string where a value stands; what is said of it.
 fn set(
+    rt: &impl Abort,
     alloc: Global,
     document: &mut Document,
     place: &[Step],
-    is_string: bool,
     words: &str,
-) -> CargoResult<bool> {
+) -> String {
     if !document.is_value(place) || place.len() > 79 {
-        return Ok(false);
+        return not_there(rt, alloc);
     }
-    if is_string {
-        document.set_literal(alloc, place, words)?;
-    } else {
-        document.set_value(alloc, place, &value_of(alloc, words)?)?;
-    }
-    Ok(true)
+    said(rt, alloc, document.set_literal(alloc, place, words))
 }
 
-/// Inserts a member of a name and a value where something without one of this name stands; whether it did.
-fn insert(
+/// Sets a value where one stands; what is said of it.
+fn set_value(
+    rt: &impl Abort,
     alloc: Global,
     document: &mut Document,
     place: &[Step],
     words: &str,
-) -> CargoResult<bool> {
+) -> String {
+    if !document.is_value(place) || place.len() > 79 {
+        return not_there(rt, alloc);
+    }
+    let value = value_of(rt, alloc, words);
+    said(rt, alloc, document.set_value(alloc, place, &value))
+}
+
+/// Inserts a member of a name and a value where something without one of this name stands: what is said.
+fn insert(
+    rt: &impl Abort,
+    alloc: Global,
+    document: &mut Document,
+    place: &[Step],
+    words: &str,
+) -> String {
     let (key, value) = parted(words);
     let Some(item) = document.item(place) else {
-        return Ok(false);
+        return not_there(rt, alloc);
     };
     if item.get(key).is_some() {
-        return Ok(false);
+        return not_there(rt, alloc);
     }
-    document.insert(alloc, place, key, &value_of(alloc, value)?)?;
-    Ok(true)
+    let value = value_of(rt, alloc, value);
+    said(rt, alloc, document.insert(alloc, place, key, &value))
 }
 
-/// Replaces the entry at a place that one statement names, and of at most 70 steps; whether it did.
+/// Replaces the entry at a place that one statement names, and of at most 70 steps; what is said of it.
 fn replace(
+    rt: &impl Abort,
     alloc: Global,
     document: &mut Document,
     place: &[Step],
     words: &str,
-) -> CargoResult<bool> {
+) -> String {
     if !document.one_statement(place) || place.len() > 70 {
-        return Ok(false);
+        return not_there(rt, alloc);
     }
-    document.replace_entry(alloc, place, &entry_of(alloc, words)?)?;
-    Ok(true)
+    let entry = entry_of(rt, alloc, words);
+    said(rt, alloc, document.replace_entry(alloc, place, &entry))
 }
 
-/// Removes the item at a place; whether there was one.
-fn remove(alloc: Global, document: &mut Document, place: &[Step]) -> CargoResult<bool> {
+/// Removes the item at a place; what is said of it.
+fn remove(rt: &impl Abort, alloc: Global, document: &mut Document, place: &[Step]) -> String {
     if place.is_empty() || document.item(place).is_none() {
-        return Ok(false);
+        return not_there(rt, alloc);
     }
-    document.remove(alloc, place)?;
-    Ok(true)
+    said(rt, alloc, document.remove(alloc, place))
 }
 
-/// Does what a verb says at a place; whether it did.
+/// Puts a copy in the place of a document.
+fn copy(rt: &impl Abort, alloc: Global, document: &mut Document) -> String {
+    *document = must(rt, document.try_clone(alloc));
+    text(rt, alloc, "done")
+}
+
+/// Does what a verb says at a place; what is said of it.
 fn done(
+    rt: &impl Abort,
     alloc: Global,
     document: &mut Document,
     verb: &str,
     place: &[Step],
     words: &str,
-) -> CargoResult<bool> {
+) -> String {
     match verb {
-        "set" => set(alloc, document, place, true, words),
-        "value" => set(alloc, document, place, false, words),
-        "insert" => insert(alloc, document, place, words),
-        "entry" => replace(alloc, document, place, words),
-        "remove" => remove(alloc, document, place),
-        "copy" => {
-            *document = document.try_clone(alloc)?;
-            Ok(true)
-        }
-        _ => Ok(verb == "read"),
+        "set" => set(rt, alloc, document, place, words),
+        "value" => set_value(rt, alloc, document, place, words),
+        "insert" => insert(rt, alloc, document, place, words),
+        "entry" => replace(rt, alloc, document, place, words),
+        "remove" => remove(rt, alloc, document, place),
+        "copy" => copy(rt, alloc, document),
+        "read" => text(rt, alloc, "done"),
+        _ => not_there(rt, alloc),
     }
 }
 
 /// The pieces of a document with a text between them.
-fn joined(alloc: Global, document: &Document, between: &str) -> Result<String, AllocError> {
+fn joined(rt: &impl Abort, alloc: Global, document: &Document, between: &str) -> String {
     let mut pieces = Vec::new(alloc);
     'numbers: for number in 0..document.pieces() {
-        pieces.push(document.piece(number).unwrap_or("none"))?;
+        push(rt, &mut pieces, document.piece(number).unwrap_or("none"));
     }
-    pieces.join(alloc, between)
+    kept(rt, pieces.join(alloc, between))
 }
 
 /// Whether the pieces joined are the text, and at most two more than before.
-fn pieces_hold(alloc: Global, document: &Document, before: usize) -> Result<bool, AllocError> {
-    let joined = joined(alloc, document, "")?;
-    let is_text = joined.as_str() == document.as_str();
-    Ok(is_text && document.pieces().saturating_sub(before) <= 2)
+fn pieces_hold(rt: &impl Abort, alloc: Global, document: &Document, before: usize) -> bool {
+    let is_text = joined(rt, alloc, document, "").as_str() == document.as_str();
+    is_text && document.pieces().saturating_sub(before) <= 2
 }
 
-/// Does one edit, and tells `done` where its pieces hold.
-fn edited_once(alloc: Global, document: &mut Document, call: &str) -> CargoResult<&'static str> {
+/// Does one edit: what is said of it.
+fn edited_at(rt: &impl Abort, alloc: Global, document: &mut Document, call: &str) -> String {
     let (verb, rest) = parted(call);
     let (place, words) = match verb {
         "remove" => (rest, ""),
         _ => parted(rest),
     };
-    let place = place_of(alloc, place)?;
-    let before = document.pieces();
-    if !done(alloc, document, verb, &place, words)? {
-        return Ok("not there");
-    }
-    let hold = pieces_hold(alloc, document, before)?;
-    Ok(if hold { "done" } else { "other pieces" })
+    let place = place_of(rt, alloc, place);
+    done(rt, alloc, document, verb, &place, words)
 }
 
-/// Does edits one behind the other, and tells `done` where each of them is.
-fn edited_all(alloc: Global, document: &mut Document, calls: &str) -> CargoResult<&'static str> {
+/// Does one edit: what is said of it, `done` where its pieces hold.
+fn edited_once(rt: &impl Abort, alloc: Global, document: &mut Document, call: &str) -> String {
+    let before = document.pieces();
+    let word = edited_at(rt, alloc, document, call);
+    if word.as_str() == "done" && !pieces_hold(rt, alloc, document, before) {
+        return text(rt, alloc, "other pieces");
+    }
+    word
+}
+
+/// Does edits one behind the other: what is said of the last one, and of the first that is not done.
+fn edited_all(rt: &impl Abort, alloc: Global, document: &mut Document, calls: &str) -> String {
     'calls: for call in calls.split('&') {
-        let word = edited_once(alloc, document, call)?;
-        if word != "done" {
-            return Ok(word);
+        let word = edited_once(rt, alloc, document, call);
+        if word.as_str() != "done" {
+            return word;
         }
     }
-    Ok("done")
+    text(rt, alloc, "done")
 }
 
 /// The text of a document after edits; where one is refused, what it says, if the text is the same then.
-fn left(alloc: Global, document: &mut Document, calls: &str, before: &str) -> Result<String, Fail> {
-    match edited_all(alloc, document, calls) {
-        Ok(word) if word == "done" => made(alloc, document.text(alloc)),
-        Ok(word) => text(alloc, word),
-        Err(error) if document.as_str() == before => told(alloc, error),
-        Err(_) => text(alloc, "refused and changed"),
+fn left(
+    rt: &impl Abort,
+    alloc: Global,
+    document: &mut Document,
+    calls: &str,
+    before: &str,
+) -> String {
+    let word = edited_all(rt, alloc, document, calls);
+    if word.as_str() == "done" {
+        return must(rt, document.text(alloc));
     }
+    if document.as_str() != before {
+        return text(rt, alloc, "refused and changed");
+    }
+    word
 }
 
 /// A text after edits.
-pub(crate) fn edited(alloc: Global, calls: &str, before: &str) -> Result<String, Fail> {
-    match Document::read(alloc, before) {
-        Ok(mut document) => left(alloc, &mut document, calls, before),
-        Err(error) => told(alloc, error),
-    }
+pub(crate) fn edited(rt: &impl Abort, alloc: Global, calls: &str, before: &str) -> String {
+    let mut document = must(rt, Document::read(alloc, before));
+    left(rt, alloc, &mut document, calls, before)
 }
 
 /// The pieces of a document with carets between them.
-fn pieces_of(alloc: Global, document: &Document) -> Result<String, AllocError> {
-    let mut out = joined(alloc, document, "^")?;
+fn pieces_of(rt: &impl Abort, alloc: Global, document: &Document) -> String {
+    let mut out = joined(rt, alloc, document, "^");
     if document.piece(document.pieces()).is_some() {
-        out.push_str("^one more")?;
+        kept(rt, out.push_str("^one more"));
     }
-    Ok(out)
-}
-
-/// The pieces of a document after edits.
-fn pieces_left(alloc: Global, document: &mut Document, calls: &str) -> Result<String, Fail> {
-    match edited_all(alloc, document, calls) {
-        Ok(word) if word == "done" => Ok(pieces_of(alloc, document)?),
-        Ok(word) => text(alloc, word),
-        Err(error) => told(alloc, error),
-    }
+    out
 }
 
 /// The pieces of a text after edits.
-pub(crate) fn kept(alloc: Global, calls: &str, argument: &str) -> Result<String, Fail> {
-    match Document::read(alloc, argument) {
-        Ok(mut document) => pieces_left(alloc, &mut document, calls),
-        Err(error) => told(alloc, error),
+pub(crate) fn pieced(rt: &impl Abort, alloc: Global, calls: &str, argument: &str) -> String {
+    let mut document = must(rt, Document::read(alloc, argument));
+    let word = edited_all(rt, alloc, &mut document, calls);
+    if word.as_str() == "done" {
+        return pieces_of(rt, alloc, &document);
     }
+    word
 }

@@ -1,5 +1,5 @@
-//! Tests of documents, of paths, of the texts of refusals, of manifests and of new versions, by the public
-//! calls of `edit_document`, `edit_base`, `edit_manifest` and `edit_set_version` alone.
+//! Tests of documents, of paths, of the texts of refusals and of manifests, by the public calls of
+//! `edit_document`, `edit_base` and `edit_manifest` alone.
 //!
 //! They stand in a crate of their own, since a crate with tests is proved once more with them.
 #![tactic(auto)]
@@ -17,4 +17,4 @@ mod pieces;
 #[cfg(test)]
 mod refusals;
 #[cfg(test)]
-mod versions;
+mod stop;

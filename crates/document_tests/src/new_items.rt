@@ -1,8 +1,9 @@
 //! Rows of new entries: how one is written, and the entry; a row ends at `~`.
 use super::edits::entry_of;
+use super::stop::{made, rows_hold};
 use std::alloc::Global;
-use std::test::Fail;
-use test_rows::{TILDES, made, rows_hold};
+use std::process::Abort;
+use test_rows::TILDES;
 
 /// A string, a boolean, lists, tables, keys that are not bare, and a dotted entry.
 const WRITTEN: &str = "\
@@ -20,11 +21,13 @@ false|false~\
 { a-B_1 = \"\", \"é\" = \"\\u0000\", \"\\\"\" = \"'\" }|{a-B_1=;é=\0;\"='";
 
 /// How a new entry is written.
-fn written(alloc: Global, words: &str, _row: &str) -> Result<String, Fail> {
-    made(alloc, entry_of(alloc, words)?.text(alloc))
+fn written(rt: &impl Abort, alloc: Global, words: &str) -> String {
+    made(rt, alloc, entry_of(rt, alloc, words).text(alloc))
 }
 
 #[test]
-fn writes_entries(rt: HostRuntime) -> Result<(), Fail> {
-    rows_hold(rt.alloc(), WRITTEN, TILDES, written)
+fn writes_entries(rt: HostRuntime) {
+    rows_hold(&rt, rt.alloc(), WRITTEN, TILDES, |alloc, words, _row| {
+        written(&rt, alloc, words)
+    });
 }

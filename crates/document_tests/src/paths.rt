@@ -1,8 +1,9 @@
 //! Rows of paths.
+use super::stop::{made, rows_hold, text};
 use edit_base::paths::{folder, join, normal, relative};
 use std::alloc::Global;
-use std::test::Fail;
-use test_rows::{LINES, made, rows_hold, text};
+use std::process::Abort;
+use test_rows::LINES;
 
 /// A path, the call, and its arguments with a space between them: paths below a folder, absolute ones, a
 /// folder that ends in a slash, no folder, nothing below one; parts that drop out; folders; ways from one
@@ -31,17 +32,19 @@ sibling/crate|relative|/sibling/crate /
 c|relative|/a//b/./c /a/b/";
 
 /// The path that a call gives.
-fn path(alloc: Global, call: &str, argument: &str) -> Result<String, Fail> {
+fn path(rt: &impl Abort, alloc: Global, call: &str, argument: &str) -> String {
     let (first, second) = argument.split_once(' ').unwrap_or((argument, ""));
     match call {
-        "join" => made(alloc, join(alloc, first, second)),
-        "normal" => made(alloc, normal(alloc, first)),
-        "relative" => made(alloc, relative(alloc, first, second)),
-        _ => text(alloc, folder(first)),
+        "join" => made(rt, alloc, join(alloc, first, second)),
+        "normal" => made(rt, alloc, normal(alloc, first)),
+        "relative" => made(rt, alloc, relative(alloc, first, second)),
+        _ => text(rt, alloc, folder(first)),
     }
 }
 
 #[test]
-fn paths_are_made(rt: HostRuntime) -> Result<(), Fail> {
-    rows_hold(rt.alloc(), PATHS, LINES, path)
+fn paths_are_made(rt: HostRuntime) {
+    rows_hold(&rt, rt.alloc(), PATHS, LINES, |alloc, call, argument| {
+        path(&rt, alloc, call, argument)
+    });
 }

@@ -1,8 +1,8 @@
 //! Rows of pieces: the pieces that a text is kept in, or the text, what was done, with `&` between edits, and
 //! the text before it; a row ends at `~`.
-use super::edits::{edited, kept};
-use std::test::Fail;
-use test_rows::{TILDES, rows_hold};
+use super::edits::{edited, pieced};
+use super::stop::rows_hold;
+use test_rows::TILDES;
 
 /// A text that was read is one piece, none where it is empty. A string that was set is a piece of its own,
 /// also in a copy.
@@ -39,11 +39,15 @@ x = \"\\u0000\\u0007\\u000B\\u001B\\u001F\\u007F\" # c|entry x \0\u{7}\u{b}\u{1b
 49 Edit would change more than its place|insert a n true|[[a]]";
 
 #[test]
-fn pieces(rt: HostRuntime) -> Result<(), Fail> {
-    rows_hold(rt.alloc(), ROWS, TILDES, kept)
+fn pieces(rt: HostRuntime) {
+    rows_hold(&rt, rt.alloc(), ROWS, TILDES, |alloc, calls, before| {
+        pieced(&rt, alloc, calls, before)
+    });
 }
 
 #[test]
-fn pieces_behind_edits(rt: HostRuntime) -> Result<(), Fail> {
-    rows_hold(rt.alloc(), EDITS, TILDES, edited)
+fn pieces_behind_edits(rt: HostRuntime) {
+    rows_hold(&rt, rt.alloc(), EDITS, TILDES, |alloc, calls, before| {
+        edited(&rt, alloc, calls, before)
+    });
 }

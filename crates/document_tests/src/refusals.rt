@@ -2,10 +2,11 @@
 //! between `@`; a row ends at `~`.
 mod made;
 
+use super::stop::{rows_hold, told};
 use made::refusal;
 use std::alloc::Global;
-use std::test::Fail;
-use test_rows::{TILDES, rows_hold, told};
+use std::process::Abort;
+use test_rows::TILDES;
 
 /// Each refusal, and each form of those that have several.
 const REFUSALS: &str = "\
@@ -70,12 +71,17 @@ Try adding `--workspace`.|38|~\
 49 Edit would change more than its place|49|";
 
 /// The number and the text of the refusal of a row.
-fn text(alloc: Global, number: &str, parts: &str) -> Result<String, Fail> {
-    let error = refusal(alloc, number.parse().unwrap_or(0), parts)?;
-    told(alloc, error)
+fn text(rt: &impl Abort, alloc: Global, number: &str, parts: &str) -> String {
+    told(
+        rt,
+        alloc,
+        refusal(rt, alloc, number.parse().unwrap_or(0), parts),
+    )
 }
 
 #[test]
-fn refusals(rt: HostRuntime) -> Result<(), Fail> {
-    rows_hold(rt.alloc(), REFUSALS, TILDES, text)
+fn refusals(rt: HostRuntime) {
+    rows_hold(&rt, rt.alloc(), REFUSALS, TILDES, |alloc, number, parts| {
+        text(&rt, alloc, number, parts)
+    });
 }

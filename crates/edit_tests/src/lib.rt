@@ -16,3 +16,7 @@ mod plans;
 mod program;
 #[cfg(test)]
 mod reports;
+#[cfg(test)]
+mod stop;
+#[cfg(test)]
+mod versions;

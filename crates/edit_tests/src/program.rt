@@ -1,11 +1,12 @@
 //! The program where a call of the files fails, or where standard output has no room. Its other rows stand in
 //! tools/checks/rows.
+use super::stop::{kept, must, same};
 use edit_program::run;
 use edit_store::{FaultStore, MemoryStore, Store};
 use std::alloc::Global;
+use std::process::Abort;
 use std::str;
-use std::test::Fail;
-use test_rows::{field, same};
+use test_rows::field;
 
 const MANIFEST: &str = "[dependencies]\nserde = { version = '1.0', optional = true } # keep\n";
 
@@ -92,13 +93,13 @@ Error: Failed to write message
 ";
 
 /// The files of a row.
-fn stored(alloc: Global, letters: &str) -> Option<MemoryStore> {
+fn stored(rt: &impl Abort, alloc: Global, letters: &str) -> MemoryStore {
     let mut files = MemoryStore::new(alloc);
     for letter in letters.chars() {
         let (path, text) = file(letter);
-        files.write(alloc, path, text.as_bytes()).ok()?;
+        must(rt, files.write(alloc, path, text.as_bytes()));
     }
-    Some(files)
+    files
 }
 
 /// Whether a file stands as its letter says.
@@ -110,9 +111,21 @@ fn stands<S: Store>(alloc: Global, letter: char, files: &mut S) -> bool {
     }
 }
 
+/// The words of a command line.
+fn words_of<'a>(rt: &impl Abort, alloc: Global, words: &'a str) -> Vec<&'a str> {
+    kept(rt, words.split_ascii_whitespace().collect(alloc))
+}
+
+/// A status and what is printed, as a text.
+fn shown(rt: &impl Abort, alloc: Global, status: u8, out: &[u8], err: &[u8]) -> String {
+    let out = str::from_utf8(out).expect(rt, "UTF-8");
+    let err = str::from_utf8(err).expect(rt, "UTF-8");
+    kept(rt, format!(in alloc; "{status} {out}{err}"))
+}
+
 /// What words print over files.
-fn outcome(alloc: Global, words: &str, files: &mut FaultStore) -> Option<String> {
-    let words: Vec<&str> = words.split_ascii_whitespace().collect(alloc).ok()?;
+fn outcome(rt: &impl Abort, alloc: Global, words: &str, files: &mut FaultStore) -> String {
+    let words = words_of(rt, alloc, words);
     let mut out = Vec::new(alloc);
     let mut err = Vec::new(alloc);
     let status = run(
@@ -125,29 +138,26 @@ fn outcome(alloc: Global, words: &str, files: &mut FaultStore) -> Option<String>
         &mut out,
         &mut err,
     );
-    let out = str::from_utf8(&out).ok()?;
-    let err = str::from_utf8(&err).ok()?;
-    format!(in alloc; "{status} {out}{err}").ok()
+    shown(rt, alloc, status, &out, &err)
 }
 
 /// Runs a row: what is printed, and which of its last files do not stand.
-fn ran(alloc: Global, row: &str) -> Option<String> {
-    let at = field(row, 2).parse().ok()?;
-    let inner = stored(alloc, field(row, 1))?;
-    let mut files = FaultStore::new(inner, at, 4);
-    let mut seen = outcome(alloc, field(row, 3), &mut files)?;
+fn ran(rt: &impl Abort, alloc: Global, row: &str) -> String {
+    let at = field(row, 2).parse().expect(rt, "a number");
+    let mut files = FaultStore::new(stored(rt, alloc, field(row, 1)), at, 4);
+    let mut seen = outcome(rt, alloc, field(row, 3), &mut files);
     for letter in field(row, 4).chars() {
         if !stands(alloc, letter, &mut files) {
-            seen.push(letter).ok()?;
+            kept(rt, seen.push(letter));
         }
     }
-    Some(seen)
+    seen
 }
 
 /// Runs the words of an upgrade where standard output takes five bytes.
-fn ran_without_room(alloc: Global) -> Option<String> {
-    let words: Vec<&str> = WORDS.split_ascii_whitespace().collect(alloc).ok()?;
-    let mut files = stored(alloc, "mi")?;
+fn ran_without_room(rt: &impl Abort, alloc: Global) -> String {
+    let words = words_of(rt, alloc, WORDS);
+    let mut files = stored(rt, alloc, "mi");
     let index_files = MemoryStore::new(alloc);
     let mut room = [0u8; 5];
     let mut out = room.as_mut_slice();
@@ -162,26 +172,24 @@ fn ran_without_room(alloc: Global) -> Option<String> {
         &mut out,
         &mut err,
     );
-    let err = str::from_utf8(&err).ok()?;
     let after = if stands(alloc, 'm', &mut files) {
-        "manifest"
+        "manifest "
     } else {
-        "other"
+        "other "
     };
-    format!(in alloc; "{status} {after} {err}").ok()
+    shown(rt, alloc, status, after.as_bytes(), &err)
 }
 
 #[test]
-fn calls_that_fail(rt: HostRuntime) -> Result<(), Fail> {
+fn calls_that_fail(rt: HostRuntime) {
     for row in ROWS.split('§') {
-        let seen = ran(rt.alloc(), row).ok_or("no outcome")?;
-        same(row, seen.as_str(), field(row, 5))?;
+        let seen = ran(&rt, rt.alloc(), row);
+        same(&rt, row, seen.as_str(), field(row, 5));
     }
-    Ok(())
 }
 
 #[test]
-fn no_room(rt: HostRuntime) -> Result<(), Fail> {
-    let seen = ran_without_room(rt.alloc()).ok_or("no outcome")?;
-    same("no room", seen.as_str(), UNWRITTEN)
+fn no_room(rt: HostRuntime) {
+    let seen = ran_without_room(&rt, rt.alloc());
+    same(&rt, "no room", seen.as_str(), UNWRITTEN);
 }

@@ -1,11 +1,12 @@
 //! Rows of manifests that are found, read and written.
+use super::super::stop::{kept, made, must, same, told};
 use edit_base::CargoResult;
 use edit_manifest::{LocalManifest, find};
 use edit_store::{FaultStore, MemoryStore, Store};
 use semver::Version;
 use std::alloc::Global;
-use std::test::Fail;
-use test_rows::{field, made, same};
+use std::process::Abort;
+use test_rows::field;
 
 /// Paths of files, each with its text; the last one has none.
 const FILES: &str = "\
@@ -19,16 +20,16 @@ const FILES: &str = "\
 /w/e/Cargo.toml|";
 
 /// A store of these files, of which a call fails.
-fn store_of(alloc: Global, at: u64) -> Result<FaultStore, Fail> {
+fn store_of(rt: &impl Abort, alloc: Global, at: u64) -> FaultStore {
     let mut store = MemoryStore::new(alloc);
     'rows: for row in FILES.lines() {
         let bytes = match field(row, 1) {
             "" => b"a\xff".as_slice(),
             text => text.as_bytes(),
         };
-        store.write(alloc, field(row, 0), bytes)?;
+        must(rt, store.write(alloc, field(row, 0), bytes));
     }
-    Ok(FaultStore::new(store, at, 0))
+    FaultStore::new(store, at, 0)
 }
 
 /// The manifest that is found, with another version of its package, read again once it is written.
@@ -44,23 +45,30 @@ fn written(
     LocalManifest::try_new(alloc, store, local.path.as_str())
 }
 
-/// What becomes of a row.
-fn answer(alloc: Global, store: &mut FaultStore, row: &str) -> CargoResult<String> {
-    let (call, path, current) = (field(row, 1), field(row, 2), field(row, 3));
-    let named = match path {
-        "-" => None,
-        path => Some(path),
-    };
-    let local = match call {
-        "find" => return find(alloc, store, named, current),
-        "open" => LocalManifest::try_new(alloc, store, path)?,
-        "write" => written(alloc, store, named, current)?,
-        _ => LocalManifest::find(alloc, store, named, current)?,
-    };
-    match call {
-        "load" => Ok(format!(in alloc; "{} {}", local.path, local.manifest)?),
-        _ => Ok(format!(in alloc; "{}", local.manifest)?),
+/// The text of a manifest, behind its path where it is loaded; or what the refusal says.
+fn shown(rt: &impl Abort, alloc: Global, call: &str, local: CargoResult<LocalManifest>) -> String {
+    match local {
+        Ok(local) if call == "load" => {
+            kept(rt, format!(in alloc; "{} {}", local.path, local.manifest))
+        }
+        Ok(local) => kept(rt, format!(in alloc; "{}", local.manifest)),
+        Err(error) => told(rt, alloc, error),
     }
+}
+
+/// What becomes of a row.
+fn answer(rt: &impl Abort, alloc: Global, store: &mut FaultStore, row: &str) -> String {
+    let (call, path, current) = (field(row, 1), field(row, 2), field(row, 3));
+    let named = (path != "-").then_some(path);
+    if call == "find" {
+        return made(rt, alloc, find(alloc, store, named, current));
+    }
+    let local = match call {
+        "open" => LocalManifest::try_new(alloc, store, path),
+        "write" => written(alloc, store, named, current),
+        _ => LocalManifest::find(alloc, store, named, current),
+    };
+    shown(rt, alloc, call, local)
 }
 
 /// What is wanted; whether a manifest is found, loaded, written or opened; the path that is specified, `-`
@@ -89,20 +97,18 @@ const FAULTS: &str = "\
 /// The same, where the third call fails.
 const WRITE_FAULTS: &str = "3 Failed to write updated Cargo.toml|write|-|/v";
 
-/// Succeeds where each row of a table gives what it wants over files of which a call fails.
-fn hold(alloc: Global, table: &str, at: u64) -> Result<(), Fail> {
+/// Ends the test where a row of a table does not give what it wants over files of which a call fails.
+fn hold(rt: &impl Abort, alloc: Global, table: &str, at: u64) {
     'rows: for row in table.lines() {
-        let mut store = store_of(alloc, at)?;
-        let seen = made(alloc, answer(alloc, &mut store, row))?;
-        same(row, seen.as_str(), field(row, 0))?;
+        let mut store = store_of(rt, alloc, at);
+        let seen = answer(rt, alloc, &mut store, row);
+        same(rt, row, seen.as_str(), field(row, 0));
     }
-    Ok(())
 }
 
 #[test]
-fn finds_reads_and_writes_manifests(rt: HostRuntime) -> Result<(), Fail> {
+fn finds_reads_and_writes_manifests(rt: HostRuntime) {
     'tables: for (table, at) in [(ROWS, 99), (FAULTS, 0), (WRITE_FAULTS, 2)] {
-        hold(rt.alloc(), table, at)?;
+        hold(&rt, rt.alloc(), table, at);
     }
-    Ok(())
 }

@@ -1,8 +1,9 @@
 //! Kinds of dependencies and their tables.
+use super::super::stop::{kept, must, rows_hold, text};
 use edit_manifest::{DepKind, DepTable};
 use std::alloc::Global;
-use std::test::Fail;
-use test_rows::{LINES, rows_hold, text};
+use std::process::Abort;
+use test_rows::LINES;
 
 /// The kind that a word names.
 fn kind_of(word: &str) -> DepKind {
@@ -13,18 +14,32 @@ fn kind_of(word: &str) -> DepKind {
     }
 }
 
+/// The table of a kind and a target.
+fn table_of(rt: &impl Abort, alloc: Global, kind: &str, target: &str) -> DepTable {
+    let table = DepTable::new().set_kind(kind_of(kind));
+    if target.is_empty() {
+        return table;
+    }
+    must(rt, table.set_target(alloc, target))
+}
+
+/// The name of a table, and its target.
+fn shown(rt: &impl Abort, alloc: Global, table: &DepTable) -> String {
+    let target = table
+        .target
+        .as_ref()
+        .map_or("all", |target| target.as_str());
+    kept(rt, format!(in alloc; "{} {target}", table.kind_table()))
+}
+
 /// The name of a table of a kind, and the target of its copy.
-fn answer(alloc: Global, kind: &str, target: &str) -> Result<String, Fail> {
-    let mut table = DepTable::new().set_kind(kind_of(kind));
-    if !target.is_empty() {
-        table = table.set_target(alloc, target)?;
-    }
-    let copy = table.try_clone(alloc)?;
+fn answer(rt: &impl Abort, alloc: Global, kind: &str, target: &str) -> String {
+    let table = table_of(rt, alloc, kind, target);
+    let copy = must(rt, table.try_clone(alloc));
     if copy != table {
-        return text(alloc, "another copy");
+        return text(rt, alloc, "another copy");
     }
-    let target = copy.target.as_ref().map_or("all", |target| target.as_str());
-    Ok(format!(in alloc; "{} {target}", table.kind_table())?)
+    shown(rt, alloc, &copy)
 }
 
 /// The name of a kind's table, and the target; the kind and the target.
@@ -35,12 +50,11 @@ build-dependencies all|build|
 dev-dependencies cfg(unix)|development|cfg(unix)";
 
 #[test]
-fn makes_tables_of_kinds(rt: HostRuntime) -> Result<(), Fail> {
-    rows_hold(rt.alloc(), KINDS, LINES, answer)?;
-    let is_new = DepTable::default() == DepTable::new();
-    let is_build = DepTable::from(DepKind::Build) == DepTable::new().set_kind(DepKind::Build);
-    if is_new && is_build && DepKind::Normal < DepKind::Development {
-        return Ok(());
-    }
-    Err(Fail::new(format_args!("new {is_new}, from a kind {is_build}")))
+fn makes_tables_of_kinds(rt: HostRuntime) {
+    rows_hold(&rt, rt.alloc(), KINDS, LINES, |alloc, kind, target| {
+        answer(&rt, alloc, kind, target)
+    });
+    assert!(rt; DepTable::default() == DepTable::new());
+    assert!(rt; DepTable::from(DepKind::Build) == DepTable::new().set_kind(DepKind::Build));
+    assert!(rt; DepKind::Normal < DepKind::Development);
 }

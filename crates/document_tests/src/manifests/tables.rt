@@ -1,40 +1,53 @@
 //! Rows of dependency tables, by calls that no program makes.
+use super::super::stop::{kept, must, push, rows_hold, same, text};
 use edit_document::{Step, copied_place};
 use edit_manifest::Manifest;
 use std::alloc::Global;
-use std::test::Fail;
-use test_rows::{TILDES, rows_hold, same, text};
+use std::process::Abort;
+use test_rows::TILDES;
+
+/// A step as a text.
+fn step_shown(rt: &impl Abort, alloc: Global, step: &Step) -> String {
+    match step {
+        Step::Key(name) => text(rt, alloc, name.as_str()),
+        Step::Index(index) => kept(rt, format!(in alloc; "#{index}")),
+    }
+}
 
 /// The steps of a place, with a slash between them.
-fn shown(alloc: Global, place: &[Step]) -> Result<String, Fail> {
-    let mut seen = String::new(alloc);
-    'steps: for (n, step) in place.iter().enumerate() {
-        if n > 0 {
-            seen.push('/')?;
-        }
-        match step {
-            Step::Key(name) => seen.push_str(name.as_str())?,
-            Step::Index(index) => write!(seen, "#{index}")?,
-        }
+fn shown(rt: &impl Abort, alloc: Global, place: &[Step]) -> String {
+    let mut seen = Vec::new(alloc);
+    'steps: for step in place {
+        push(rt, &mut seen, step_shown(rt, alloc, step));
     }
-    Ok(seen)
+    kept(rt, seen.join(alloc, "/"))
+}
+
+/// The dependency table that the members of a workspace share.
+fn shared(rt: &impl Abort, alloc: Global, manifest: &Manifest) -> String {
+    match must(rt, manifest.get_workspace_dependency_table_mut(alloc)) {
+        Some(place) => shown(rt, alloc, &place),
+        None => text(rt, alloc, "none"),
+    }
+}
+
+/// The dependency tables of a manifest, each with a semicolon behind it.
+fn tables(rt: &impl Abort, alloc: Global, manifest: &Manifest) -> String {
+    let mut seen = String::new(alloc);
+    'places: for place in &must(rt, manifest.get_dependency_tables_mut(alloc)) {
+        kept(rt, seen.push_str(shown(rt, alloc, place).as_str()));
+        kept(rt, seen.push(';'));
+    }
+    seen
 }
 
 /// The dependency tables of a manifest, or the one that the members of its workspace share.
-fn answer(alloc: Global, call: &str, source: &str) -> Result<String, Fail> {
-    let manifest = Manifest::read(alloc, source)?;
-    if call == "shared" {
-        return match manifest.get_workspace_dependency_table_mut(alloc)? {
-            Some(place) => shown(alloc, &place),
-            None => text(alloc, "none"),
-        };
+fn answer(rt: &impl Abort, alloc: Global, call: &str, source: &str) -> String {
+    let manifest = must(rt, Manifest::read(alloc, source));
+    match call {
+        "shared" => shared(rt, alloc, &manifest),
+        _ => tables(rt, alloc, &manifest),
     }
-    let mut seen = String::new(alloc);
-    'places: for place in &manifest.get_dependency_tables_mut(alloc)? {
-        seen.push_str(shown(alloc, place)?.as_str())?;
-        seen.push(';')?;
-    }
-    Ok(seen)
 }
 
 /// The tables in the order of a walk, member by member, and the call and the text; a row ends at `~` (Cargo
@@ -51,13 +64,20 @@ none|shared|workspace = 1\n~\
 none|shared|[[workspace]]\n[workspace.dependencies]\n";
 
 #[test]
-fn tells_the_dependency_tables(rt: HostRuntime) -> Result<(), Fail> {
-    rows_hold(rt.alloc(), TABLES, TILDES, answer)
+fn tells_the_dependency_tables(rt: HostRuntime) {
+    rows_hold(&rt, rt.alloc(), TABLES, TILDES, |alloc, call, source| {
+        answer(&rt, alloc, call, source)
+    });
 }
 
 #[test]
-fn copies_a_place(rt: HostRuntime) -> Result<(), Fail> {
-    let steps = [Step::Key(text(rt.alloc(), "bin")?), Step::Index(2)];
-    let seen = shown(rt.alloc(), &copied_place(rt.alloc(), &steps)?)?;
-    same("a place", seen.as_str(), "bin/#2")
+fn copies_a_place(rt: HostRuntime) {
+    let steps = [Step::Key(text(&rt, rt.alloc(), "bin")), Step::Index(2)];
+    let copy = must(&rt, copied_place(rt.alloc(), &steps));
+    same(
+        &rt,
+        "a place",
+        shown(&rt, rt.alloc(), &copy).as_str(),
+        "bin/#2",
+    );
 }

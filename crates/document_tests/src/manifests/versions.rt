@@ -1,68 +1,85 @@
 //! Rows of versions that a manifest names, by calls that no program makes.
-use edit_base::{CargoResult, Error};
+use super::super::stop::{must, push, rows_hold, said, text, told};
 use edit_document::{Document, Place, Step};
 use edit_manifest::{Manifest, get_dep_version, set_dep_version};
 use semver::Version;
-use std::alloc::{AllocError, Global};
-use std::test::Fail;
-use test_rows::{TILDES, made, rows_hold, text, told};
+use std::alloc::Global;
+use std::process::Abort;
+use test_rows::TILDES;
 
 /// The place of names with a slash between them.
-fn place_of(alloc: Global, names: &str) -> Result<Place, AllocError> {
+fn place_of(rt: &impl Abort, alloc: Global, names: &str) -> Place {
     let mut place = Vec::new(alloc);
     'names: for name in names.split('/') {
-        place.push(Step::Key(String::from_str(alloc, name)?))?;
+        push(rt, &mut place, Step::Key(text(rt, alloc, name)));
     }
-    Ok(place)
+    place
 }
 
 /// The requirement of the entry at a place.
-fn requirement(alloc: Global, document: &Document, names: &str) -> CargoResult<String> {
-    let place = place_of(alloc, names)?;
-    let Some(item) = document.item(&place) else {
-        return Ok(String::new(alloc));
-    };
-    Ok(String::from_str(alloc, get_dep_version(item)?)?)
-}
-
-/// Sets the requirement of the entry at a place; refused where another one stands there then.
-fn require(alloc: Global, document: &mut Document, words: &str) -> CargoResult<()> {
-    let (names, new) = words.split_once(' ').unwrap_or((words, ""));
-    let place = place_of(alloc, names)?;
-    set_dep_version(alloc, document, &place, new)?;
-    if requirement(alloc, document, names)?.as_str() == new {
-        return Ok(());
+fn requirement(rt: &impl Abort, alloc: Global, document: &Document, place: &[Step]) -> String {
+    match document.item(place).map(|item| get_dep_version(item)) {
+        Some(Ok(requirement)) => text(rt, alloc, requirement),
+        Some(Err(error)) => told(rt, alloc, error),
+        None => text(rt, alloc, "no entry"),
     }
-    Err(Error::EditRefused)
 }
 
-/// Sets a version, of the package or of the workspace, or a requirement.
-fn set(
+/// Sets the requirement of the entry at a place; `done` where it stands there then.
+fn require(rt: &impl Abort, alloc: Global, document: &mut Document, words: &str) -> String {
+    let (names, new) = words.split_once(' ').unwrap_or((words, ""));
+    let place = place_of(rt, alloc, names);
+    let word = said(rt, alloc, set_dep_version(alloc, document, &place, new));
+    if word.as_str() == "done" && requirement(rt, alloc, document, &place).as_str() != new {
+        return text(rt, alloc, "another one");
+    }
+    word
+}
+
+/// The version of a text.
+fn version_of(rt: &impl Abort, alloc: Global, words: &str) -> Version {
+    Version::parse(alloc, words).expect(rt, "a version")
+}
+
+/// Sets a version, of the package or of the workspace, or a requirement; what is said of it.
+fn set(rt: &impl Abort, alloc: Global, manifest: &mut Manifest, word: &str, rest: &str) -> String {
+    if word == "require" {
+        return require(rt, alloc, &mut manifest.document, rest);
+    }
+    let version = version_of(rt, alloc, rest);
+    match word {
+        "package" => said(rt, alloc, manifest.set_package_version(alloc, &version)),
+        _ => said(rt, alloc, manifest.set_workspace_version(alloc, &version)),
+    }
+}
+
+/// The text of a manifest after a change; or what the refusal says, where the text is as it was then.
+fn changed(
+    rt: &impl Abort,
     alloc: Global,
     manifest: &mut Manifest,
-    word: &str,
-    rest: &str,
-) -> Result<CargoResult<()>, Fail> {
-    Ok(match word {
-        "package" => manifest.set_package_version(alloc, &Version::parse(alloc, rest)?),
-        "workspace" => manifest.set_workspace_version(alloc, &Version::parse(alloc, rest)?),
-        _ => require(alloc, &mut manifest.document, rest),
-    })
+    (word, rest): (&str, &str),
+    source: &str,
+) -> String {
+    let word = set(rt, alloc, manifest, word, rest);
+    if word.as_str() == "done" {
+        return text(rt, alloc, manifest.document.as_str());
+    }
+    if manifest.document.as_str() != source {
+        return text(rt, alloc, "refused and changed");
+    }
+    word
 }
 
-/// What is answered about a copy of a manifest: a requirement, or its text after a change; or what the
-/// refusal says, where the text is as it was then.
-fn answer(alloc: Global, call: &str, source: &str) -> Result<String, Fail> {
-    let mut copy = Manifest::read(alloc, source)?.try_clone(alloc)?;
+/// What is answered about a copy of a manifest: a requirement, or its text after a change.
+fn answer(rt: &impl Abort, alloc: Global, call: &str, source: &str) -> String {
+    let manifest = must(rt, Manifest::read(alloc, source));
+    let mut copy = must(rt, manifest.try_clone(alloc));
     let (word, rest) = call.split_once(' ').unwrap_or((call, ""));
     if word == "requirement" {
-        return made(alloc, requirement(alloc, &copy.document, rest));
+        return requirement(rt, alloc, &copy.document, &place_of(rt, alloc, rest));
     }
-    match set(alloc, &mut copy, word, rest)? {
-        Ok(()) => text(alloc, copy.document.as_str()),
-        Err(error) if copy.document.as_str() == source => told(alloc, error),
-        Err(_) => text(alloc, "refused and changed"),
-    }
+    changed(rt, alloc, &mut copy, (word, rest), source)
 }
 
 /// What is answered, the call and the text; a row ends at `~` (Cargo reference, "The Manifest Format", The
@@ -101,7 +118,10 @@ a = { version = \"2\" }\n|require a 2|a = { version = [ 1, 2 ] }\n~\
 13 No version literal to set|require a 2|[a.version]\nworkspace = true\n";
 
 #[test]
-fn tells_and_sets_versions(rt: HostRuntime) -> Result<(), Fail> {
-    rows_hold(rt.alloc(), VERSIONS, TILDES, answer)?;
-    rows_hold(rt.alloc(), REQUIREMENTS, TILDES, answer)
+fn tells_and_sets_versions(rt: HostRuntime) {
+    'tables: for table in [VERSIONS, REQUIREMENTS] {
+        rows_hold(&rt, rt.alloc(), table, TILDES, |alloc, call, source| {
+            answer(&rt, alloc, call, source)
+        });
+    }
 }

@@ -1,11 +1,12 @@
 //! The refusal of a number, with what a row says that it carries.
 use super::super::edits::listed;
+use super::super::stop::text as text_of;
 use clap::Command;
 use edit_base::{DeviceCall, Error, MergedCommand, MissingKind, MissingNames};
 use std::alloc::{AllocError, Global};
 use std::io;
 use std::io::ErrorKind;
-use std::test::Fail;
+use std::process::Abort;
 
 /// A refusal that carries nothing.
 fn bare(number: u32) -> Option<Error> {
@@ -131,40 +132,51 @@ fn command_line(alloc: Global) -> Option<Error> {
 }
 
 /// The refusal of a number where a text is expected.
-fn of_type(alloc: Global, key: &str, dep: &str) -> Result<Error, AllocError> {
-    Ok(Error::InvalidType {
-        actual: String::from_str(alloc, "integer")?,
-        key: String::from_str(alloc, key)?,
-        expected: String::from_str(alloc, "string")?,
-        dep: String::from_str(alloc, dep)?,
-    })
+fn of_type(rt: &impl Abort, alloc: Global, key: &str, dep: &str) -> Error {
+    Error::InvalidType {
+        actual: text_of(rt, alloc, "integer"),
+        key: text_of(rt, alloc, key),
+        expected: text_of(rt, alloc, "string"),
+        dep: text_of(rt, alloc, dep),
+    }
+}
+
+/// A refusal that carries two texts, or more.
+fn of_parts(
+    rt: &impl Abort,
+    alloc: Global,
+    number: u32,
+    first: &str,
+    second: &str,
+) -> Option<Error> {
+    if number == 21 {
+        return Some(of_type(rt, alloc, first, second));
+    }
+    paired(
+        number,
+        text_of(rt, alloc, first),
+        text_of(rt, alloc, second),
+    )
 }
 
 /// A refusal that carries one text, or several.
-fn told_of(alloc: Global, number: u32, parts: &str) -> Result<Option<Error>, AllocError> {
-    if let Some(error) = missing(number, listed(alloc, parts, '@')?) {
-        return Ok(Some(error));
+fn told_of(rt: &impl Abort, alloc: Global, number: u32, parts: &str) -> Option<Error> {
+    if number == 39 || number == 43 {
+        return missing(number, listed(rt, alloc, parts, '@'));
     }
-    if let Some((first, second)) = parts.split_once('@') {
-        if number == 21 {
-            return Ok(Some(of_type(alloc, first, second)?));
-        }
-        let first = String::from_str(alloc, first)?;
-        return Ok(paired(number, first, String::from_str(alloc, second)?));
+    match parts.split_once('@') {
+        Some((first, second)) => of_parts(rt, alloc, number, first, second),
+        None => named(number, text_of(rt, alloc, parts)),
     }
-    Ok(named(number, String::from_str(alloc, parts)?))
 }
 
 /// The refusal of a number.
-pub(super) fn refusal(alloc: Global, number: u32, parts: &str) -> Result<Error, Fail> {
-    let plain = if number == 47 {
-        command_line(alloc)
-    } else {
-        bare(number).or(counted(number, parts))
+pub(super) fn refusal(rt: &impl Abort, alloc: Global, number: u32, parts: &str) -> Error {
+    let made = match number {
+        47 => command_line(alloc),
+        1 | 3 | 18 | 30 | 44 => counted(number, parts),
+        _ if parts.is_empty() => bare(number),
+        _ => told_of(rt, alloc, number, parts),
     };
-    let made = match plain {
-        Some(error) => Some(error),
-        None => told_of(alloc, number, parts)?,
-    };
-    Ok(made.ok_or("a number from 1 to 49")?)
+    made.expect(rt, "a number from 1 to 49")
 }

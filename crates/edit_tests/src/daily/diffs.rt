@@ -1,9 +1,9 @@
 //! Diffs of texts that no edit makes of one another. The others are in `tools/checks/rows/daily.py`.
+use super::super::stop::{must, same};
 use edit_diff::diff_text;
 use std::alloc::Global;
+use std::process::Abort;
 use std::str;
-use std::test::Fail;
-use test_rows::same;
 
 /// A name, the old text, the new one, and what `diff -U3 --label a/f --label b/f` of GNU diffutils 3.8 gives
 /// for them.
@@ -47,17 +47,15 @@ const ROWS: [(&str, &str, &str, &str); 7] = [
     ("equal texts", "a\nb\n", "a\nb\n", ""),
 ];
 
-/// Whether the diff of two texts is what is wanted.
-fn diff_is(alloc: Global, row: &str, old: &str, new: &str, want: &str) -> Result<(), Fail> {
-    let diff = diff_text(alloc, "f", old.as_bytes(), new.as_bytes())?;
-    let seen = str::from_utf8(&diff).map_err(|_| "no UTF-8")?;
-    same(row, seen, want)
+/// Ends the test where the diff of two texts is not what is wanted.
+fn diff_is(rt: &impl Abort, alloc: Global, row: &str, (old, new): (&str, &str), want: &str) {
+    let diff = must(rt, diff_text(alloc, "f", old.as_bytes(), new.as_bytes()));
+    same(rt, row, str::from_utf8(&diff).expect(rt, "UTF-8"), want);
 }
 
 #[test]
-fn shows_changes(rt: HostRuntime) -> Result<(), Fail> {
+fn shows_changes(rt: HostRuntime) {
     'rows: for (row, old, new, want) in ROWS {
-        diff_is(rt.alloc(), row, old, new, want)?;
+        diff_is(&rt, rt.alloc(), row, (old, new), want);
     }
-    Ok(())
 }

@@ -1,16 +1,15 @@
 //! The looks that a plan needs. What the program tells of them is in `tools/checks/rows/looks.py`.
-ghost use Rattle.std.specs.Prelude.{◌≡◌, IfOk};
+ghost use Rattle.std.specs.Prelude.{◌≡◌};
 
-use edit_base::CargoResult;
+use super::super::stop::{kept, must, push, same, text as text_of};
 use edit_decision::options::Options;
 use edit_document::Document;
 use edit_looks::{looks_text, needed_looks};
 use edit_metadata::Input;
 use edit_sources::Config;
 use std::alloc::Global;
+use std::process::Abort;
 use std::slice::from_ref;
-use std::test::Fail;
-use test_rows::same;
 
 /// A manifest whose entries need four looks: one name of two registries and twice of one, one by its key,
 /// none for a folder.
@@ -33,15 +32,15 @@ registries.one.index = 'sparse+https://one.example/'
 ";
 
 /// A manifest to plan for.
-pub(crate) fn input_of(alloc: Global, path: &str, text: &str) -> CargoResult<Input>
-    ensures { IfOk result (λ i. i.bytes.items ≡ text.now) }
+pub(crate) fn input_of(rt: &impl Abort, alloc: Global, path: &str, text: &str) -> Input
+    ensures { result.bytes.items ≡ text.now }
 {
-    Ok(Input {
-        name: String::from_str(alloc, "w")?,
-        path: String::from_str(alloc, path)?,
-        bytes: Vec::from_slice(alloc, text.as_bytes())?,
+    Input {
+        name: text_of(rt, alloc, "w"),
+        path: text_of(rt, alloc, path),
+        bytes: kept(rt, Vec::from_slice(alloc, text.as_bytes())),
         rust_version: None,
-    })
+    }
 }
 
 /// What an upgrade is asked for without words.
@@ -60,30 +59,37 @@ pub(crate) fn plain(alloc: Global) -> Options {
     }
 }
 
-/// The lines of the looks that a manifest needs.
-fn needed(alloc: Global, text: &str) -> CargoResult<String> {
-    let document = Document::read(alloc, text)?;
-    let input = input_of(alloc, "/w/Cargo.toml", text)?;
-    let options = plain(alloc);
+/// Where the registries of a manifest are.
+fn configs_of(rt: &impl Abort, alloc: Global) -> Vec<Config> {
     let mut configs = Vec::new(alloc);
-    configs.push(Config::read(alloc, "/w/.cargo/config.toml", CONFIG)?)?;
+    push(
+        rt,
+        &mut configs,
+        must(rt, Config::read(alloc, "/w/.cargo/config.toml", CONFIG)),
+    );
+    configs
+}
+
+/// The lines of the looks that a manifest needs.
+fn needed(rt: &impl Abort, alloc: Global, text: &str) -> String {
+    let document = must(rt, Document::read(alloc, text));
+    let input = input_of(rt, alloc, "/w/Cargo.toml", text);
+    let options = plain(alloc);
+    let configs = configs_of(rt, alloc);
     let looks = needed_looks(
         alloc,
         &options,
         from_ref(&input),
         from_ref(&document),
         from_ref(&configs),
-    )?;
-    looks_text(alloc, &looks)
+    );
+    must(rt, looks_text(alloc, &must(rt, looks)))
 }
 
 #[test]
-fn tells_what_a_manifest_needs(rt: HostRuntime) -> Result<(), Fail> {
-    let seen = needed(rt.alloc(), MANIFEST)?;
-    same(
-        "a manifest",
-        seen.as_str(),
-        "file:///idx\tserde\tse/rd/serde\nfile:///idx\tabc\t3/a/abc\n\
-sparse+https://one.example/\tserde\tse/rd/serde\nfile:///idx\tX\t1/x\n",
-    )
+fn tells_what_a_manifest_needs(rt: HostRuntime) {
+    let seen = needed(&rt, rt.alloc(), MANIFEST);
+    let want = "file:///idx\tserde\tse/rd/serde\nfile:///idx\tabc\t3/a/abc\n\
+sparse+https://one.example/\tserde\tse/rd/serde\nfile:///idx\tX\t1/x\n";
+    same(&rt, "a manifest", seen.as_str(), want);
 }

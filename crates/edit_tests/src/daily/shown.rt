@@ -1,7 +1,7 @@
 //! Plans in other forms than their tables, against texts that were written by hand. Those that the program
 //! can show are in `tools/checks/rows/daily.py`.
+use super::super::stop::{kept, must, push, same, text as text_of};
 use super::looks::{input_of, plain};
-use edit_base::CargoResult;
 use edit_document::Step;
 use edit_messages::{Summary, summary_message};
 use edit_metadata::Input;
@@ -9,9 +9,8 @@ use edit_report::{Change, Output, Reason, Row};
 use edit_shown::{print_diffs, print_messages};
 use edit_upgrade::{Options, UpgradePlan, Warning};
 use std::alloc::Global;
+use std::process::Abort;
 use std::str;
-use std::test::Fail;
-use test_rows::same;
 
 /// Manifests: the path of each and its text.
 const MANIFESTS: [(&str, &str); 3] = [
@@ -24,67 +23,77 @@ const MANIFESTS: [(&str, &str); 3] = [
 const CHANGED: [(&str, &str); 2] = [("/w/m/Cargo.toml", "new\n"), ("/v/Cargo.toml", "other\n")];
 
 /// The manifests.
-fn inputs_of(alloc: Global) -> CargoResult<Vec<Input>> {
+fn inputs_of(rt: &impl Abort, alloc: Global) -> Vec<Input> {
     let mut inputs = Vec::new(alloc);
     'manifests: for (path, text) in MANIFESTS {
-        inputs.push(input_of(alloc, path, text)?)?;
+        push(rt, &mut inputs, input_of(rt, alloc, path, text));
     }
-    Ok(inputs)
+    inputs
 }
 
 /// Those that change.
-fn outputs_of(alloc: Global) -> CargoResult<Vec<Output>> {
+fn outputs_of(rt: &impl Abort, alloc: Global) -> Vec<Output> {
     let mut outputs = Vec::new(alloc);
     'manifests: for (path, text) in CHANGED {
-        outputs.push(Output {
-            path: String::from_str(alloc, path)?,
-            bytes: Vec::from_slice(alloc, text.as_bytes())?,
-        })?;
+        let output = Output {
+            path: text_of(rt, alloc, path),
+            bytes: kept(rt, Vec::from_slice(alloc, text.as_bytes())),
+        };
+        push(rt, &mut outputs, output);
     }
-    Ok(outputs)
+    outputs
 }
 
 #[test]
-fn shows_diffs_in_a_folder_that_ends_with_a_slash(rt: HostRuntime) -> Result<(), Fail> {
-    let inputs = inputs_of(rt.alloc())?;
-    let outputs = outputs_of(rt.alloc())?;
+fn shows_diffs_in_a_folder_that_ends_with_a_slash(rt: HostRuntime) {
+    let inputs = inputs_of(&rt, rt.alloc());
+    let outputs = outputs_of(&rt, rt.alloc());
     let mut out = Vec::new(rt.alloc());
-    print_diffs(rt.alloc(), "/w/", &inputs, &outputs, &mut out)?;
-    let seen = str::from_utf8(&out).map_err(|_| "no UTF-8")?;
-    same(
-        "/w/",
-        seen,
-        "--- a/m/Cargo.toml\n+++ b/m/Cargo.toml\n@@ -1 +1 @@\n-b\n+new\n\
---- a/v/Cargo.toml\n+++ b/v/Cargo.toml\n@@ -1 +1 @@\n-c\n+other\n",
-    )
+    must(
+        &rt,
+        print_diffs(rt.alloc(), "/w/", &inputs, &outputs, &mut out),
+    );
+    let want = "--- a/m/Cargo.toml\n+++ b/m/Cargo.toml\n@@ -1 +1 @@\n-b\n+new\n\
+--- a/v/Cargo.toml\n+++ b/v/Cargo.toml\n@@ -1 +1 @@\n-c\n+other\n";
+    same(&rt, "/w/", str::from_utf8(&out).expect(&rt, "UTF-8"), want);
+}
+
+/// The place of an entry in an array of a table.
+fn place_of(rt: &impl Abort, alloc: Global) -> Vec<Step> {
+    let mut place = Vec::new(alloc);
+    push(
+        rt,
+        &mut place,
+        Step::Key(text_of(rt, alloc, "dependencies")),
+    );
+    push(rt, &mut place, Step::Index(1));
+    place
 }
 
 /// The row of an entry in an array of a table.
 fn row_of(
+    rt: &impl Abort,
     alloc: Global,
     input: usize,
     reason: Option<Reason>,
     change: Option<Change>,
-) -> CargoResult<Row> {
-    let mut place = Vec::new(alloc);
-    place.push(Step::Key(String::from_str(alloc, "dependencies")?))?;
-    place.push(Step::Index(1))?;
-    Ok(Row {
+) -> Row {
+    Row {
         input,
-        name: String::from_str(alloc, "serde")?,
-        place,
-        rename: Some(String::from_str(alloc, "s\"e")?),
-        old: Some(String::from_str(alloc, "1.0")?),
-        compatible: Some(String::from_str(alloc, "1.2.3")?),
+        name: text_of(rt, alloc, "serde"),
+        place: place_of(rt, alloc),
+        rename: Some(text_of(rt, alloc, "s\"e")),
+        old: Some(text_of(rt, alloc, "1.0")),
+        compatible: Some(text_of(rt, alloc, "1.2.3")),
         latest: None,
-        new: Some(String::from_str(alloc, "1.2")?),
+        new: Some(text_of(rt, alloc, "1.2")),
         reason,
         change,
-    })
+    }
 }
 
 /// A row for each reason and each change.
-fn rows_of(alloc: Global) -> CargoResult<Vec<Row>> {
+fn rows_of(rt: &impl Abort, alloc: Global) -> Vec<Row> {
     let rows = [
         (0, None, None),
         (0, Some(Reason::Latest), Some(Change::Latest)),
@@ -98,46 +107,47 @@ fn rows_of(alloc: Global) -> CargoResult<Vec<Row>> {
     ];
     let mut all = Vec::new(alloc);
     'rows: for (input, reason, change) in rows {
-        all.push(row_of(alloc, input, reason, change)?)?;
+        push(rt, &mut all, row_of(rt, alloc, input, reason, change));
     }
-    Ok(all)
+    all
 }
 
 /// These texts, each on memory of its own.
-fn texts(alloc: Global, words: &[&str]) -> CargoResult<Vec<String>> {
+fn texts(rt: &impl Abort, alloc: Global, words: &[&str]) -> Vec<String> {
     let mut all = Vec::new(alloc);
     'words: for word in words {
-        all.push(String::from_str(alloc, *word)?)?;
+        push(rt, &mut all, text_of(rt, alloc, *word));
     }
-    Ok(all)
+    all
 }
 
 /// Two warnings on the first manifest.
-fn warnings_of(alloc: Global) -> CargoResult<Vec<Warning>> {
+fn warnings_of(rt: &impl Abort, alloc: Global) -> Vec<Warning> {
     let mut warnings = Vec::new(alloc);
     'texts: for text in ["no version", "a\tb"] {
-        warnings.push(Warning {
+        let warning = Warning {
             input: 0,
             verbose: true,
-            text: String::from_str(alloc, text)?,
-        })?;
+            text: text_of(rt, alloc, text),
+        };
+        push(rt, &mut warnings, warning);
     }
-    Ok(warnings)
+    warnings
 }
 
 /// A plan with these rows and warnings.
-fn plan_of(alloc: Global) -> CargoResult<UpgradePlan> {
-    Ok(UpgradePlan {
-        outputs: outputs_of(alloc)?,
-        rows: rows_of(alloc)?,
+fn plan_of(rt: &impl Abort, alloc: Global) -> UpgradePlan {
+    UpgradePlan {
+        outputs: outputs_of(rt, alloc),
+        rows: rows_of(rt, alloc),
         looks: Vec::new(alloc),
-        warnings: warnings_of(alloc)?,
+        warnings: warnings_of(rt, alloc),
         missing: Vec::new(alloc),
-        modified: texts(alloc, &["serde"])?,
-        git_crates: texts(alloc, &["g"])?,
+        modified: texts(rt, alloc, &["serde"]),
+        git_crates: texts(rt, alloc, &["g"]),
         pinned_present: true,
         incompatible_present: false,
-    })
+    }
 }
 
 /// The messages of that plan at a dry run.
@@ -178,29 +188,42 @@ const MESSAGES: &str = "\
 \"update_calls\":[[\"cargo\",\"update\"],[\"true\"]]}
 ";
 
+/// The calls that follow an upgrade, each by its words.
+fn calls_of(rt: &impl Abort, alloc: Global, calls: &[&[&str]]) -> Vec<Vec<String>> {
+    let mut all = Vec::new(alloc);
+    'calls: for words in calls {
+        push(rt, &mut all, texts(rt, alloc, *words));
+    }
+    all
+}
+
 #[test]
-fn shows_messages(rt: HostRuntime) -> Result<(), Fail> {
-    let plan = plan_of(rt.alloc())?;
-    let inputs = inputs_of(rt.alloc())?;
+fn shows_messages(rt: HostRuntime) {
+    let plan = plan_of(&rt, rt.alloc());
+    let inputs = inputs_of(&rt, rt.alloc());
     let options = Options {
         dry_run: true,
         ..plain(rt.alloc())
     };
-    let mut calls = Vec::new(rt.alloc());
-    calls.push(texts(rt.alloc(), &["cargo", "update"])?)?;
-    calls.push(texts(rt.alloc(), &["true"])?)?;
+    let calls = calls_of(&rt, rt.alloc(), &[&["cargo", "update"], &["true"]]);
     let mut out = Vec::new(rt.alloc());
-    print_messages(rt.alloc(), &plan, &inputs, &options, &calls, &mut out)?;
-    let seen = str::from_utf8(&out).map_err(|_| "no UTF-8")?;
-    same("an upgrade", seen, MESSAGES)
+    must(
+        &rt,
+        print_messages(rt.alloc(), &plan, &inputs, &options, &calls, &mut out),
+    );
+    same(
+        &rt,
+        "an upgrade",
+        str::from_utf8(&out).expect(&rt, "UTF-8"),
+        MESSAGES,
+    );
 }
 
 #[test]
-fn tells_the_summary(rt: HostRuntime) -> Result<(), Fail> {
-    let modified = texts(rt.alloc(), &["a", "b"])?;
-    let none = texts(rt.alloc(), &[])?;
-    let mut calls = Vec::new(rt.alloc());
-    calls.push(texts(rt.alloc(), &["cargo", "update", "--offline"])?)?;
+fn tells_the_summary(rt: HostRuntime) {
+    let modified = texts(&rt, rt.alloc(), &["a", "b"]);
+    let none = texts(&rt, rt.alloc(), &[]);
+    let calls = calls_of(&rt, rt.alloc(), &[&["cargo", "update", "--offline"]]);
     let summary = Summary {
         dry_run: true,
         modified: &modified,
@@ -210,12 +233,9 @@ fn tells_the_summary(rt: HostRuntime) -> Result<(), Fail> {
         incompatible_present: true,
         update_calls: &calls,
     };
-    let seen = summary_message(rt.alloc(), summary)?;
-    same(
-        "summary",
-        seen.as_str(),
-        "{\"dry_run\":true,\"git_crates\":[],\"incompatible_present\":true,\"missing\":[],\
+    let seen = must(&rt, summary_message(rt.alloc(), summary));
+    let want = "{\"dry_run\":true,\"git_crates\":[],\"incompatible_present\":true,\"missing\":[],\
 \"modified\":[\"a\",\"b\"],\"pinned_present\":false,\"reason\":\"upgrade-summary\",\
-\"update_calls\":[[\"cargo\",\"update\",\"--offline\"]]}\n",
-    )
+\"update_calls\":[[\"cargo\",\"update\",\"--offline\"]]}\n";
+    same(&rt, "summary", seen.as_str(), want);
 }

@@ -1,10 +1,11 @@
 //! Rows of messages to a writer, and of the statuses that programs end with.
+use super::super::stop::{kept, must, rows_hold};
 use edit_base::{CargoResult, CliError, Error};
 use edit_report::{shell_print, shell_write_stderr, shell_write_stdout};
 use std::alloc::Global;
-use std::test::Fail;
+use std::process::Abort;
 use std::{io, str};
-use test_rows::{LINES, field, rows_hold};
+use test_rows::{LINES, field};
 
 /// Writes a message by a call's name.
 fn write_by(out: &mut Vec<u8>, call: &str, first: &str, message: &str) -> CargoResult<()> {
@@ -17,12 +18,15 @@ fn write_by(out: &mut Vec<u8>, call: &str, first: &str, message: &str) -> CargoR
 }
 
 /// What a writer holds after a message: its status and the message, with `@` for a line's end.
-fn written(alloc: Global, call: &str, words: &str) -> Result<String, Fail> {
+fn written(rt: &impl Abort, alloc: Global, call: &str, words: &str) -> String {
     let mut out = Vec::new(alloc);
-    write_by(&mut out, call, field(words, 0), field(words, 1))?;
-    let seen = str::from_utf8(&out)?;
-    let lines: Vec<&str> = seen.split('\n').collect(alloc)?;
-    Ok(lines.join(alloc, "@")?)
+    must(
+        rt,
+        write_by(&mut out, call, field(words, 0), field(words, 1)),
+    );
+    let seen = str::from_utf8(&out).expect(rt, "UTF-8");
+    let lines: Vec<&str> = kept(rt, seen.split('\n').collect(alloc));
+    kept(rt, lines.join(alloc, "@"))
 }
 
 /// What is written, with `@` for a line's end; the call; the status; the message.
@@ -34,8 +38,10 @@ a fragment|stderr||a fragment
 a fragment|stdout||a fragment";
 
 #[test]
-fn writes_messages(rt: HostRuntime) -> Result<(), Fail> {
-    rows_hold(rt.alloc(), MESSAGES, LINES, written)
+fn writes_messages(rt: HostRuntime) {
+    rows_hold(&rt, rt.alloc(), MESSAGES, LINES, |alloc, call, words| {
+        written(&rt, alloc, call, words)
+    });
 }
 
 /// The end that a call's name makes.
@@ -49,14 +55,14 @@ fn end_by(call: &str) -> CliError {
 }
 
 /// The status of the end that a call's name makes, and whether it tells an error.
-fn status(alloc: Global, call: &str, _words: &str) -> Result<String, Fail> {
+fn status(rt: &impl Abort, alloc: Global, call: &str) -> String {
     let end = end_by(call);
     let told = if end.error.is_some() {
         "told"
     } else {
         "untold"
     };
-    Ok(format!(in alloc; "{} {told}", end.exit_code)?)
+    kept(rt, format!(in alloc; "{} {told}", end.exit_code))
 }
 
 /// The status and whether an error is told; the call.
@@ -67,6 +73,8 @@ const ENDS: &str = "\
 1 told|io";
 
 #[test]
-fn ends_with_a_status(rt: HostRuntime) -> Result<(), Fail> {
-    rows_hold(rt.alloc(), ENDS, LINES, status)
+fn ends_with_a_status(rt: HostRuntime) {
+    rows_hold(&rt, rt.alloc(), ENDS, LINES, |alloc, call, _words| {
+        status(&rt, alloc, call)
+    });
 }

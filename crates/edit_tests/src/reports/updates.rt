@@ -1,56 +1,64 @@
 //! Rows of calls that follow an upgrade: words that are refused, and that are not read at a dry run. The
 //! program reads each word before.
+use super::super::stop::{kept, must, push, rows_hold, text, told};
 use edit_metadata::Workspace;
 use edit_update::update_calls;
 use edit_upgrade::{Options, UpgradePlan};
 use std::alloc::Global;
-use std::test::Fail;
-use test_rows::{LINES, rows_hold, text, told};
+use std::process::Abort;
+use test_rows::LINES;
 
 /// The metadata of a workspace at `/w` with a package.
 const METADATA: &str = "\
 {\"workspace_root\":\"/w\",\"workspace_members\":[],\"packages\":[{\"name\":\"serde\",\"id\":\"serde\",\
 \"manifest_path\":\"/c/Cargo.toml\",\"version\":\"1.2.3\",\"source\":\"\"}]}";
 
+/// A word as a list.
+fn alone(rt: &impl Abort, alloc: Global, word: &str) -> Vec<String> {
+    let mut words = Vec::new(alloc);
+    push(rt, &mut words, text(rt, alloc, word));
+    words
+}
+
 /// A plan that modified a name.
-fn plan_of(alloc: Global, modified: &str) -> Result<UpgradePlan, Fail> {
-    Ok(UpgradePlan {
+fn plan_of(rt: &impl Abort, alloc: Global, modified: &str) -> UpgradePlan {
+    UpgradePlan {
         outputs: Vec::new(alloc),
         rows: Vec::new(alloc),
         looks: Vec::new(alloc),
         warnings: Vec::new(alloc),
         missing: Vec::new(alloc),
-        modified: vec![in alloc; text(alloc, modified)?]?,
+        modified: alone(rt, alloc, modified),
         git_crates: Vec::new(alloc),
         pinned_present: false,
         incompatible_present: false,
-    })
+    }
 }
 
 /// Options by letters, `c` compatible and `d` dry run, and a word.
-fn options_of(alloc: Global, flags: &str, word: &str) -> Result<Options, Fail> {
-    Ok(Options {
+fn options_of(rt: &impl Abort, alloc: Global, flags: &str, word: &str) -> Options {
+    Options {
         compatible: flags.contains('c'),
         incompatible: false,
         pinned: false,
-        package: vec![in alloc; text(alloc, word)?]?,
+        package: alone(rt, alloc, word),
         exclude: Vec::new(alloc),
         dry_run: flags.contains('d'),
         locked: false,
         recursive: None,
         verbosity: 0,
         never_lower: false,
-    })
+    }
 }
 
 /// How many calls there are for letters and a word.
-fn calls(alloc: Global, flags: &str, word: &str) -> Result<String, Fail> {
-    let options = options_of(alloc, flags, word)?;
-    let plan = plan_of(alloc, "serde")?;
-    let workspace = Workspace::read(alloc, METADATA.as_bytes())?;
+fn calls(rt: &impl Abort, alloc: Global, flags: &str, word: &str) -> String {
+    let options = options_of(rt, alloc, flags, word);
+    let plan = plan_of(rt, alloc, "serde");
+    let workspace = must(rt, Workspace::read(alloc, METADATA.as_bytes()));
     match update_calls(alloc, &plan, &workspace, &options) {
-        Ok(calls) => Ok(format!(in alloc; "{} calls", calls.len())?),
-        Err(error) => told(alloc, error),
+        Ok(calls) => kept(rt, format!(in alloc; "{} calls", calls.len())),
+        Err(error) => told(rt, alloc, error),
     }
 }
 
@@ -61,6 +69,8 @@ const CALLS: &str = "\
 0 calls|cd|a/b";
 
 #[test]
-fn calls_that_follow(rt: HostRuntime) -> Result<(), Fail> {
-    rows_hold(rt.alloc(), CALLS, LINES, calls)
+fn calls_that_follow(rt: HostRuntime) {
+    rows_hold(&rt, rt.alloc(), CALLS, LINES, |alloc, flags, word| {
+        calls(&rt, alloc, flags, word)
+    });
 }
