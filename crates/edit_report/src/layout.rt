@@ -1,13 +1,11 @@
 //! The text of a table's lines.
-ghost use Rattle.std.specs.Prelude.{◌≡◌, ◌++◌, ◌∷◌, ◌-◌, IfErr, IfOk, OnOk, length, map, string_bytes};
+ghost use Rattle.std.specs.Prelude.{◌≡◌, ◌++◌, ◌∷◌, ◌-◌, IfOk, OnOk, length, map, string_bytes};
 ghost use Rattle.std.specs.List.{flat_map};
-ghost use Rattle.edit_base.specs.Errors.{IsMemory};
 ghost use Rattle.edit_report.specs.Table.{columns, lines_text, padded};
 ghost use Rattle.edit_report.specs.Widths.{cells_of, column_of, joined_cells, line_width, wide, wide_line};
 
 use crate::lines::{Column, Line, Wide};
-use edit_base::CargoResult;
-use std::alloc::Global;
+use std::alloc::{AllocError, Global};
 
 /// The columns, with the note or without.
 fn columns(noted: bool) -> &'static [Column]
@@ -44,9 +42,8 @@ fn width(lines: &[Line<'_>], column: Column) -> usize
 }
 
 /// The columns with their widths.
-fn measured(alloc: Global, columns: &[Column], lines: &[Line<'_>]) -> CargoResult<Vec<Wide>>
+fn measured(alloc: Global, columns: &[Column], lines: &[Line<'_>]) -> Result<Vec<Wide>, AllocError>
     ensures ok { IfOk result (λ v. v.items ≡ map (wide lines.now) columns.now) }
-    ensures refused { IfErr result IsMemory }
 {
     let columns = columns.iter().map(|column| Wide {
         column: *column,
@@ -56,9 +53,8 @@ fn measured(alloc: Global, columns: &[Column], lines: &[Line<'_>]) -> CargoResul
 }
 
 /// Adds a cell, and spaces up to the width.
-fn push_cell(text: &mut String, cell: &str, width: usize) -> CargoResult<()>
+fn push_cell(text: &mut String, cell: &str, width: usize) -> Result<(), AllocError>
     ensures ok { OnOk result (string_bytes text.new ≡ string_bytes text.old ++ padded width cell.now) }
-    ensures refused { IfErr result IsMemory }
 {
     text.push_str(cell)?;
     let missing = width.saturating_sub(cell.len());
@@ -69,10 +65,9 @@ fn push_cell(text: &mut String, cell: &str, width: usize) -> CargoResult<()>
 }
 
 /// Adds the cells of a line, joined by a space.
-fn push_cells(text: &mut String, columns: &[Wide], line: &Line<'_>) -> CargoResult<()>
+fn push_cells(text: &mut String, columns: &[Wide], line: &Line<'_>) -> Result<(), AllocError>
     ensures ok { OnOk result (string_bytes text.new
         ≡ string_bytes text.old ++ joined_cells columns.now (cells_of line.now)) }
-    ensures refused { IfErr result IsMemory }
 {
     let Some((first, others)) = columns.split_first() else {
         return Ok(());
@@ -86,10 +81,9 @@ fn push_cells(text: &mut String, columns: &[Wide], line: &Line<'_>) -> CargoResu
 }
 
 /// Adds a line: its cells, joined by a space, and a line end.
-fn push_line(text: &mut String, columns: &[Wide], line: &Line<'_>) -> CargoResult<()>
+fn push_line(text: &mut String, columns: &[Wide], line: &Line<'_>) -> Result<(), AllocError>
     ensures ok { OnOk result (string_bytes text.new
         ≡ string_bytes text.old ++ wide_line columns.now (cells_of line.now)) }
-    ensures refused { IfErr result IsMemory }
 {
     push_cells(text, columns, line)?;
     text.push('\n')?;
@@ -97,10 +91,9 @@ fn push_line(text: &mut String, columns: &[Wide], line: &Line<'_>) -> CargoResul
 }
 
 /// The text of lines in columns with their widths.
-fn wide_text(alloc: Global, columns: &[Wide], lines: &[Line<'_>]) -> CargoResult<String>
+fn wide_text(alloc: Global, columns: &[Wide], lines: &[Line<'_>]) -> Result<String, AllocError>
     ensures ok { IfOk result (λ s. string_bytes s
         ≡ flat_map (λ line. wide_line columns.now (cells_of line)) lines.now) }
-    ensures refused { IfErr result IsMemory }
 {
     let mut text = String::new(alloc);
     for line in lines {
@@ -110,9 +103,12 @@ fn wide_text(alloc: Global, columns: &[Wide], lines: &[Line<'_>]) -> CargoResult
 }
 
 /// The text of a table with these lines.
-pub(crate) fn lines_text(alloc: Global, lines: &[Line<'_>], noted: bool) -> CargoResult<String>
+pub(crate) fn lines_text(
+    alloc: Global,
+    lines: &[Line<'_>],
+    noted: bool,
+) -> Result<String, AllocError>
     ensures ok { IfOk result (λ s. string_bytes s ≡ lines_text (columns noted) (map cells_of lines.now)) }
-    ensures refused { IfErr result IsMemory }
 {
     let columns = measured(alloc, columns(noted), lines)?;
     wide_text(alloc, columns.as_slice(), lines)

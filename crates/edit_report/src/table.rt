@@ -53,9 +53,8 @@ pub fn reason_text(reason: Option<Reason>) -> &'static str
 }
 
 /// The first line.
-fn heading_line(alloc: Global) -> CargoResult<Line<'static>>
+fn heading_line(alloc: Global) -> Result<Line<'static>, AllocError>
     ensures ok { IfOk result (λ l. cells_of l ≡ headings) }
-    ensures refused { IfErr result IsMemory }
 {
     Ok(Line {
         name: String::from_str(alloc, "name")?,
@@ -68,9 +67,8 @@ fn heading_line(alloc: Global) -> CargoResult<Line<'static>>
 }
 
 /// The line below it.
-fn underline_line(alloc: Global) -> CargoResult<Line<'static>>
+fn underline_line(alloc: Global) -> Result<Line<'static>, AllocError>
     ensures ok { IfOk result (λ l. cells_of l ≡ underlines) }
-    ensures refused { IfErr result IsMemory }
 {
     Ok(Line {
         name: String::from_str(alloc, "====")?,
@@ -83,9 +81,8 @@ fn underline_line(alloc: Global) -> CargoResult<Line<'static>>
 }
 
 /// The line of a row.
-fn row_line(alloc: Global, row: &Row) -> CargoResult<Line<'_>>
+fn row_line(alloc: Global, row: &Row) -> Result<Line<'_>, AllocError>
     ensures ok { IfOk result (λ l. cells_of l ≡ row_cells row.now) }
-    ensures refused { IfErr result IsMemory }
 {
     Ok(Line {
         name: name_text(alloc, row)?,
@@ -112,10 +109,9 @@ fn shown_rows<'a>(alloc: Global, rows: &'a [Row], verbosity: i8) -> CargoResult<
 }
 
 /// The lines of a table with these rows.
-fn table_lines<'a>(alloc: Global, rows: &[&'a Row]) -> CargoResult<Vec<Line<'a>>>
+fn table_lines<'a>(alloc: Global, rows: &[&'a Row]) -> Result<Vec<Line<'a>>, AllocError>
     ensures ok { IfOk result (λ v. map cells_of v.items
         ≡ headings ∷ underlines ∷ map (λ r. row_cells r.now) rows.now) }
-    ensures refused { IfErr result IsMemory }
 {
     let mut lines = Vec::new(alloc);
     lines.push(heading_line(alloc)?)?;
@@ -143,5 +139,6 @@ pub fn table_text(alloc: Global, rows: &[Row], verbosity: i8) -> CargoResult<Str
         return Ok(String::new(alloc));
     }
     let lines = table_lines(alloc, rows.as_slice())?;
-    lines_text(alloc, lines.as_slice(), are_noted(rows.as_slice()))
+    let text = lines_text(alloc, lines.as_slice(), are_noted(rows.as_slice()))?;
+    Ok(text)
 }

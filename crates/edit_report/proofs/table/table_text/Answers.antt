@@ -1,6 +1,5 @@
 -- The table of the rows that are shown is the table of the report.
-use Rattle.std.proofs.Common.{◌≡◌, ◌<◌, ◌∷◌, ◌∙◌, Bor, IfOk, List, ap, arith, length, map, subst, w8, ℕ, ℤ}
-use Rattle.std.specs.Prelude.{string_bytes}
+use Rattle.std.proofs.Common.{◌<◌, ◌∷◌, ◌∙◌, Bor, List, ap, arith, length, map, w8, ℤ}
 use Rattle.std.specs.List.{filter, list_any}
 use Rattle.std.proofs.lemmas.Grind.{common_steps}
 use Rattle.std.proofs.lemmas.Int.{to_z-of_z}
@@ -26,4 +25,4 @@ returns-clause-text c =
     ∙ ap table_of c.in_ok-rows.ensures.ok
     ∙ ap (λ (v : ℤ). table_of (filter (is_shown v) c.args.rows.now))
     (to_z-of_z w8 c.args.verbosity c.ranges.verbosity) in
-    subst (λ (t : List ℕ). IfOk c.lines_text.result (λ s. string_bytes s ≡ t)) e c.lines_text.ensures.ok
+    c.in_ok-text.ensures.ok ∙ e
