@@ -1,7 +1,7 @@
 //! Calls that are lent a cache.
 ghost use Rattle.std.specs.Prelude.{◌≡◌, IfOk, length};
 ghost use Rattle.edit_steps.specs.Workspaces.{HaveOwnPaths};
-ghost use Rattle.edit_upgrade_read.specs.Sources.{MayBePlanned};
+ghost use Rattle.edit_steps.specs.Sources.{MayBePlanned};
 
 use crate::plans::show_outputs;
 use edit_base::CargoResult;
@@ -9,9 +9,9 @@ use edit_cache::IndexCache;
 use edit_metadata::Input;
 use edit_sources::registry::resolve;
 use edit_sources::{Config, FileIndex};
+use edit_steps::upgrade_read::{Asked, IndexSource, RustChoice, Sources, read_sources};
 use edit_store::HostStore;
 use edit_upgrade::{Options, plan_upgrade};
-use edit_upgrade_read::{Asked, IndexSource, RustChoice, Sources, read_sources};
 use std::alloc::Global;
 use std::io::Write;
 use url::Url;

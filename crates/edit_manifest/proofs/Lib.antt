@@ -11,3 +11,11 @@ pub mod StaleTurns
 pub mod StayingStrings
 pub mod TakenOut
 pub mod Withouts
+mod Texts
+pub mod RecordVersions
+pub mod EntryPlaces
+mod Elements
+pub mod MembersApart
+pub mod EntriesApart
+pub mod TablesAfter
+pub mod EntriesAfter

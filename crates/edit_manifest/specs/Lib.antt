@@ -9,3 +9,5 @@ pub mod Removals
 pub mod RemovedEntries
 pub mod Tables
 pub mod Versions
+pub mod Entries
+pub mod EntryViews

@@ -2,6 +2,7 @@
 #![tactic(auto)]
 
 pub mod dep_table;
+pub mod entries;
 mod features;
 pub mod local_manifest;
 pub mod locate;

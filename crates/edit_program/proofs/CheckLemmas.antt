@@ -5,12 +5,12 @@ use Rattle.std.proofs.lemmas.List.Elements.{All-nil}
 use Rattle.clap.specs.Words.{Row}
 use Rattle.edit_report.specs.Applied.{AreWritten, path_of}
 use Rattle.edit_report.specs.declared.output.Output.{Output}
-use Rattle.edit_set_version_run.specs.SetVersions.{AreVersionsSet, written}
-use Rattle.edit_set_version_run.specs.declared.words.SetVersionWords.{SetVersionWords}
+use Rattle.edit_program.specs.SetVersions.{AreVersionsSet, written}
+use Rattle.edit_program.specs.declared.set_version_run.words.SetVersionWords.{SetVersionWords}
 use Rattle.edit_store.specs.Store.{SameFiles, StoreView}
-use Rattle.edit_upgrade_run.specs.Upgrading.{IsUpgraded, delivery_by}
-use Rattle.edit_upgrade_run.specs.declared.words.UpgradeWords.{UpgradeWords}
-use Rattle.edit_upgrade_told.proofs.DryRuns.{dry_keeps}
+use Rattle.edit_program.specs.Upgrading.{IsUpgraded, delivery_by}
+use Rattle.edit_program.specs.declared.upgrade_run.words.UpgradeWords.{UpgradeWords}
+use Rattle.edit_program.proofs.DryRuns.{dry_keeps}
 use Rattle.edit_program.specs.Asked.{is_dry, is_given}
 use Rattle.edit_program.specs.Presented.{status_after}
 

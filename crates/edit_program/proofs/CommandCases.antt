@@ -2,11 +2,11 @@
 use Rattle.std.proofs.Common.{ℕ, List, Option, inl, inr}
 use Rattle.std.specs.Prelude.{◌⊎◌}
 use Rattle.clap.specs.Words.{Row}
-use Rattle.edit_set_version_run.specs.SetVersions.{IsCutShort}
-use Rattle.edit_set_version_run.specs.declared.words.SetVersionWords.{SetVersionWords}
+use Rattle.edit_program.specs.SetVersions.{IsCutShort}
+use Rattle.edit_program.specs.declared.set_version_run.words.SetVersionWords.{SetVersionWords}
 use Rattle.edit_store.specs.Store.{SameFiles, StoreView}
-use Rattle.edit_upgrade_run.specs.Upgrading.{IsBroken}
-use Rattle.edit_upgrade_run.specs.declared.words.UpgradeWords.{UpgradeWords}
+use Rattle.edit_program.specs.Upgrading.{IsBroken}
+use Rattle.edit_program.specs.declared.upgrade_run.words.UpgradeWords.{UpgradeWords}
 use Rattle.edit_program.specs.Commands.{HasBroken, HasStoppedSetting}
 use Rattle.edit_program.specs.UpgradeAsked.{AskForUpgrade}
 use Rattle.edit_program.specs.VersionWords.{AskForVersions}

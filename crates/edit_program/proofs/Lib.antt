@@ -5,3 +5,16 @@ pub mod CommandLemmas
 pub mod RunLemmas
 pub mod ShownLemmas
 pub mod TwiceLemmas
+pub mod PlanClauses
+pub mod PlanLemmas
+pub mod OrderLemmas
+pub mod LookLemmas
+pub mod UpgradeLemmas
+pub mod PrintedLemmas
+pub mod SetVersionLemmas
+pub mod CopyLemmas
+mod DeliveryLemmas
+pub mod DryRuns
+mod NameLemmas
+mod NoteLemmas
+mod PartLemmas

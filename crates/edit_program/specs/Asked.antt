@@ -2,7 +2,7 @@
 use Rattle.std.specs.Prelude.{◌≡◌, ◌⊎◌, ◌||◌, ◌-◌, ℕ, ℤ, Bool, List, [], Option, Some, None, true, false, codes, if◌then◌else◌, min, nat_lt, negsuc, option_map, pos, unwrap_or}
 use Rattle.std.specs.Str.{bytes_eq}
 use Rattle.clap.specs.Words.{Row, Text, all_of, count_of, first_of}
-use Rattle.edit_decision.specs.declared.options.Options.{Options}
+use Rattle.edit_upgrade.specs.declared.decision.options.Options.{Options}
 use Rattle.edit_upgrade.specs.Words.{excluded_of, words_of}
 
 -- the value of an option among the matches of `upgrade`, or this other one where it has none

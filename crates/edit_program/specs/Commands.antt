@@ -2,14 +2,14 @@
 use Rattle.std.specs.Prelude.{◌≡◌, ◌≢◌, ◌⊎◌, ℕ, Bool, List, Option, codes}
 use Rattle.clap.specs.Words.{Row, Text}
 use Rattle.edit_base.specs.declared.errors.Error.{Error}
-use Rattle.edit_set_version_run.specs.Causes.{IsSetVersionCause}
-use Rattle.edit_set_version_run.specs.SetVersions.{AreVersionsSet, IsCutShort}
-use Rattle.edit_set_version_run.specs.declared.words.SetVersionWords.{SetVersionWords}
+use Rattle.edit_program.specs.SetVersionCauses.{IsSetVersionCause}
+use Rattle.edit_program.specs.SetVersions.{AreVersionsSet, IsCutShort}
+use Rattle.edit_program.specs.declared.set_version_run.words.SetVersionWords.{SetVersionWords}
 use Rattle.edit_store.specs.Store.{StoreView}
-use Rattle.edit_upgrade_run.specs.Causes.{IsLooksCause, IsUpgradeCause}
-use Rattle.edit_upgrade_run.specs.Looking.{AreLooksShown}
-use Rattle.edit_upgrade_run.specs.Upgrading.{IsBroken, IsUpgraded}
-use Rattle.edit_upgrade_run.specs.declared.words.UpgradeWords.{UpgradeWords}
+use Rattle.edit_program.specs.UpgradeCauses.{IsLooksCause, IsUpgradeCause}
+use Rattle.edit_program.specs.Looking.{AreLooksShown}
+use Rattle.edit_program.specs.Upgrading.{IsBroken, IsUpgraded}
+use Rattle.edit_program.specs.declared.upgrade_run.words.UpgradeWords.{UpgradeWords}
 use Rattle.edit_program.specs.Presented.{status_after}
 use Rattle.edit_program.specs.UpgradeAsked.{AskForUpgrade, HaveUpgradeFault}
 use Rattle.edit_program.specs.VersionWords.{AskForVersions, HaveVersionFault}

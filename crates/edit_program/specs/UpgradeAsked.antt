@@ -2,9 +2,9 @@
 use Rattle.std.specs.Prelude.{◌≡◌, ◌⊎◌, ◌&&◌, List, Bool, Option, Some, None, codes, is_some, true, false}
 use Rattle.clap.specs.Words.{Row, Text, first_of}
 use Rattle.edit_sources.specs.Configured.{given}
-use Rattle.edit_upgrade_read.specs.declared.asked.RustChoice.{RustChoice}
-use Rattle.edit_upgrade_read.specs.declared.asked.RustChoice.TheVariants as choice
-use Rattle.edit_upgrade_run.specs.declared.words.UpgradeWords.{UpgradeWords}
+use Rattle.edit_steps.specs.declared.upgrade_read.asked.RustChoice.{RustChoice}
+use Rattle.edit_steps.specs.declared.upgrade_read.asked.RustChoice.TheVariants as choice
+use Rattle.edit_program.specs.declared.upgrade_run.words.UpgradeWords.{UpgradeWords}
 use Rattle.edit_version.specs.RustVersions.{numbers_of, rust_of}
 use Rattle.edit_version.specs.declared.rust_version.RustVersion.{RustVersion}
 use Rattle.edit_program.specs.Asked.{AskForOptions, HasBadStatus, is_given}

@@ -7,7 +7,7 @@ use Rattle.edit_set_version.specs.Bumps.{Target, by_level, exactly, target_of}
 use Rattle.edit_set_version.specs.Levels.{level_word}
 use Rattle.edit_set_version.specs.declared.set_version.BumpLevel.{BumpLevel}
 use Rattle.edit_set_version.specs.declared.set_version.BumpLevel.TheVariants.{Release}
-use Rattle.edit_set_version_run.specs.declared.words.SetVersionWords.{SetVersionWords}
+use Rattle.edit_program.specs.declared.set_version_run.words.SetVersionWords.{SetVersionWords}
 use Rattle.edit_program.specs.Asked.{is_dry, is_given, value_of, values_of}
 use Rattle.edit_program.specs.Presented.{presentation_of}
 

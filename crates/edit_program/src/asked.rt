@@ -8,12 +8,12 @@ ghost use Rattle.edit_program.specs.UpgradeAsked.{AskForUpgrade, HasNoRust, Have
 
 use crate::lookups::{is_given, values_of};
 use crate::presented::{is_dry, presentation};
+use crate::upgrade_run::UpgradeWords;
 use crate::words_fault::{WordsError, WordsFault};
 use clap::ArgMatches;
 use edit_base::Error;
+use edit_steps::upgrade_read::RustChoice;
 use edit_upgrade::Options;
-use edit_upgrade_read::RustChoice;
-use edit_upgrade_run::UpgradeWords;
 use edit_version::RustVersion;
 use std::alloc::Global;
 

@@ -12,14 +12,14 @@ ghost use Rattle.edit_program.specs.VersionWords.{HaveVersionFault};
 use crate::asked::upgrade_words;
 use crate::faults::refuse_words;
 use crate::presented::status_after;
+use crate::set_version_run::set_version;
+use crate::upgrade_run::{looks, upgrade};
 use crate::version_words::version_words;
 use crate::words_fault::WordsError;
 use clap::ArgMatches;
 use edit_base::Error;
-use edit_set_version_run::set_version;
 use edit_steps::{Refusal, RunResult};
 use edit_store::Store;
-use edit_upgrade_run::{looks, upgrade};
 use std::alloc::Global;
 use std::io;
 

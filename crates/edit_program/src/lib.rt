@@ -4,9 +4,13 @@
 mod asked;
 mod commands;
 mod faults;
+pub mod looks;
 mod lookups;
 mod presented;
 mod program;
+pub mod set_version_run;
+pub mod upgrade_run;
+pub mod upgrade_told;
 mod version_words;
 mod words_fault;
 

@@ -8,10 +8,10 @@ ghost use Rattle.edit_program.specs.VersionWords.{AskForVersions, HaveNoTarget, 
 
 use crate::lookups::{is_given, values_of};
 use crate::presented::{is_dry, presentation};
+use crate::set_version_run::SetVersionWords;
 use crate::words_fault::{WordsError, WordsFault};
 use clap::ArgMatches;
 use edit_set_version::{BumpLevel, Selection, TargetVersion};
-use edit_set_version_run::SetVersionWords;
 use semver::Version;
 use std::alloc::{AllocError, Global};
 use std::str::FromStr;

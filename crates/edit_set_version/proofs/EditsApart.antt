@@ -13,8 +13,8 @@ use Rattle.edit_tree.specs.Replaces.{AreDistinct, AreOutside, AreStrings, AreVal
 use Rattle.edit_tree.specs.Tree.{View, is_value_at, string, view_at}
 use Rattle.edit_tree.proofs.ReplacedStrings.{strings_values}
 use Rattle.edit_tree.proofs.SamePlace.{same_place_is, same_place_self}
-use Rattle.edit_entries.specs.Entries.{Entry, entries as recorded, entries_of, entry_at, literal_at}
-use Rattle.edit_entries.proofs.EntriesApart.{Differ, IsEntryOf, entries-apart, entries-of, same_literal}
+use Rattle.edit_manifest.specs.Entries.{Entry, entries as recorded, entries_of, entry_at, literal_at}
+use Rattle.edit_manifest.proofs.EntriesApart.{Differ, IsEntryOf, entries-apart, entries-of, same_literal}
 use Rattle.edit_manifest.specs.Tables.{Tree, dependency_tables, keyed, member_names}
 use Rattle.edit_manifest.specs.Versions.{package_version, shared_version, version_member, workspace_version}
 use Rattle.edit_set_version.specs.Apart.{AreApart}

@@ -2,3 +2,8 @@ pub mod DiffLemmas
 pub mod PathLemmas
 pub mod PrintedLemmas
 pub mod SummaryLemmas
+pub mod UnifiedLemmas
+pub mod LineLaws
+pub mod LineLemmas
+pub mod MarkLemmas
+pub mod FloatLemmas

@@ -4,10 +4,10 @@ use Rattle.std.specs.Prelude.{String, Vec, codes, string_bytes}
 use Rattle.std.specs.declared.alloc.Global.{Global}
 use Rattle.serde_json.specs.Data.{array, boolean, string}
 use Rattle.serde_json.specs.View.{items_of}
-use Rattle.edit_decision.specs.declared.options.Options.{Options}
-use Rattle.edit_messages.specs.Fields.{list_data, text_data}
-use Rattle.edit_messages.specs.Messages as told
-use Rattle.edit_messages.specs.declared.messages.Summary.{Summary}
+use Rattle.edit_upgrade.specs.declared.decision.options.Options.{Options}
+use Rattle.edit_shown.specs.Fields.{list_data, text_data}
+use Rattle.edit_shown.specs.JsonMessages as told
+use Rattle.edit_shown.specs.declared.json.messages.Summary.{Summary}
 use Rattle.edit_upgrade.specs.declared.upgrade.UpgradePlan.{UpgradePlan}
 use Rattle.edit_shown.specs.Messages.{calls_shown, summary_members}
 

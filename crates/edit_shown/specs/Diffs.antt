@@ -2,7 +2,7 @@
 use Rattle.std.specs.Prelude.{ℕ, List, [], ◌∷◌, ◌++◌, Bool, codes, drop, if◌then◌else◌, length, nat_eq, string_bytes}
 use Rattle.std.specs.List.{ends_with, starts_with}
 use Rattle.std.specs.Str.{bytes_eq}
-use Rattle.edit_diff.specs.Unified.{diff_text}
+use Rattle.edit_shown.specs.Unified.{diff_text}
 use Rattle.edit_metadata.specs.declared.input.Input.{Input}
 use Rattle.edit_report.specs.declared.output.Output.{Output}
 

@@ -1,2 +1,9 @@
 pub mod Diffs
 pub mod Messages
+pub mod Hunks
+pub mod Lines
+pub mod Marks
+pub mod Shown
+pub mod Unified
+pub mod Fields
+pub mod JsonMessages

@@ -4,9 +4,9 @@ use Rattle.std.specs.List.{flat_map}
 use Rattle.std.specs.Option.{option_map_or}
 use Rattle.std.specs.declared.alloc.Global.{Global}
 use Rattle.serde_json.specs.Data.{boolean, string}
-use Rattle.edit_decision.specs.declared.options.Options.{Options}
-use Rattle.edit_messages.specs.Fields.{list_data, text_data}
-use Rattle.edit_messages.specs.Messages.{MessageMembers, change_members, file_members, message_text, row_members, warning_members}
+use Rattle.edit_upgrade.specs.declared.decision.options.Options.{Options}
+use Rattle.edit_shown.specs.Fields.{list_data, text_data}
+use Rattle.edit_shown.specs.JsonMessages.{MessageMembers, change_members, file_members, message_text, row_members, warning_members}
 use Rattle.edit_metadata.specs.declared.input.Input.{Input}
 use Rattle.edit_report.specs.declared.output.Output.{Output}
 use Rattle.edit_report.specs.declared.row.Row.{Row}

@@ -5,8 +5,8 @@ ghost use Rattle.edit_base.specs.Errors.{IsMemory};
 ghost use Rattle.edit_base.specs.declared.errors.Error.TheVariants.{Output};
 ghost use Rattle.edit_shown.specs.Messages.{change_message, changes, line_shown};
 
+use crate::json::change_message;
 use edit_base::CargoResult;
-use edit_messages::change_message;
 use edit_report::shell_write_stdout;
 use std::alloc::Global;
 use std::io;

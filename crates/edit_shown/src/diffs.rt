@@ -5,9 +5,9 @@ ghost use Rattle.edit_base.specs.Errors.{IsMemory};
 ghost use Rattle.edit_base.specs.declared.errors.Error.TheVariants as error;
 ghost use Rattle.edit_shown.specs.Diffs.{diff_of, diffs, is_of, next_diff, other_outputs};
 
+use crate::diff::write_diff;
 use crate::paths::shown_path;
 use edit_base::CargoResult;
-use edit_diff::write_diff;
 use edit_metadata::Input;
 use edit_report::Output;
 use std::alloc::Global;

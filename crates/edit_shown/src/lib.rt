@@ -2,7 +2,9 @@
 #![tactic(auto)]
 
 mod changes;
+pub mod diff;
 mod diffs;
+pub mod json;
 mod messages;
 mod paths;
 mod presentation;

@@ -4,11 +4,11 @@ ghost use Rattle.std.specs.Io.KnownBytes.{Appends};
 ghost use Rattle.std.specs.List.{flat_map};
 ghost use Rattle.edit_base.specs.Errors.{IsMemory};
 ghost use Rattle.edit_base.specs.declared.errors.Error.TheVariants as error;
-ghost use Rattle.edit_messages.specs.Messages.{summary_members};
+ghost use Rattle.edit_shown.specs.JsonMessages.{summary_members};
 ghost use Rattle.edit_shown.specs.Messages as spec;
 
+use crate::json::{Summary, file_message, row_message, summary_message, warning_message};
 use edit_base::CargoResult;
-use edit_messages::{Summary, file_message, row_message, summary_message, warning_message};
 use edit_metadata::Input;
 use edit_report::{Output, Row, shell_write_stdout};
 use edit_upgrade::{Options, UpgradePlan, Warning};

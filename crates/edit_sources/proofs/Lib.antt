@@ -10,3 +10,4 @@ pub mod LineLemmas
 pub mod NameLemmas
 pub mod OutcomeLemmas
 pub mod SourceLemmas
+pub mod FolderOutcomes

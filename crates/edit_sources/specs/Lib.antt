@@ -10,3 +10,5 @@ pub mod LocalIndex
 pub mod Names
 pub mod SourceReplacement
 pub mod Sources
+pub mod DirIndex
+pub mod Folders

@@ -5,6 +5,7 @@ pub mod config;
 mod crate_name;
 pub mod file_index;
 pub mod index;
+pub mod index_dir;
 pub mod index_lines;
 mod index_path;
 pub mod local_index;

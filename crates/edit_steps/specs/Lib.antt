@@ -1,2 +1,6 @@
 pub mod Absolute
 pub mod Workspaces
+pub mod Asking
+pub mod Causes
+pub mod Own
+pub mod Sources

@@ -6,6 +6,7 @@ mod inputs;
 mod outputs;
 mod paths;
 mod refusal;
+pub mod upgrade_read;
 mod workspaces;
 
 pub use inputs::at_input;

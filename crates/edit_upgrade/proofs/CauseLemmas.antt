@@ -19,7 +19,7 @@ use Rattle.edit_upgrade.specs.Lists.{Told}
 use Rattle.edit_upgrade.specs.Records.{seen}
 use Rattle.edit_upgrade.specs.Rows.{Line}
 use Rattle.edit_upgrade.specs.Upgraded.{IsNeeded}
-use Rattle.edit_decision.specs.declared.options.Options.{Options}
+use Rattle.edit_upgrade.specs.declared.decision.options.Options.{Options}
 use Rattle.edit_tree.specs.Tree.{view_at}
 use Rattle.edit_report.specs.declared.output.Output.{Output}
 use Rattle.std.proofs.lemmas.List.Elements.{All-head}

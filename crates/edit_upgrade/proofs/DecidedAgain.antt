@@ -12,15 +12,15 @@ use Rattle.edit_version.specs.Requirement.{Nothing, Raised, Text, Unread, Unsupp
 use Rattle.edit_version.specs.Selection.{IsCompatible, IsLatest, is_admitted, is_offered}
 use Rattle.edit_version.proofs.Orders.{greatest-has, greatest-same}
 use Rattle.edit_version.proofs.Outcomes.{form-of, text-outcome, valid-version}
-use Rattle.edit_decision.specs.Decision.{Case, decision, first_row, has_pin_read, is_pin, is_too_low, newer, row_change, row_of, row_text, text_or, unless, when}
+use Rattle.edit_upgrade.specs.Decision.{Case, decision, first_row, has_pin_read, is_pin, is_too_low, newer, row_change, row_of, row_text, text_or, unless, when}
 use Rattle.edit_upgrade.specs.Records.{Seen}
 use Rattle.edit_upgrade.specs.Rows.{case_for}
 use Rattle.edit_upgrade.specs.Words.{is_excluded, requirement_for}
-use Rattle.edit_decision.specs.declared.options.Options.{Options}
-use Rattle.edit_decision.proofs.LowAgain.{low-again}
-use Rattle.edit_decision.proofs.Narrowing.{latest-lands}
-use Rattle.edit_decision.proofs.RaisedAgain.{compatible-far, compatible-near, latest-settles}
-use Rattle.edit_decision.proofs.TakenVersions.{far-some, far_text, near-some, near_text, newer-latest, unless-some, when-some}
+use Rattle.edit_upgrade.specs.declared.decision.options.Options.{Options}
+use Rattle.edit_upgrade.proofs.LowAgain.{low-again}
+use Rattle.edit_upgrade.proofs.Narrowing.{latest-lands}
+use Rattle.edit_upgrade.proofs.RaisedAgain.{compatible-far, compatible-near, latest-settles}
+use Rattle.edit_upgrade.proofs.TakenVersions.{far-some, far_text, near-some, near_text, newer-latest, unless-some, when-some}
 
 -- ---- pinned entries
 

@@ -22,7 +22,7 @@ use Rattle.edit_upgrade.specs.Looked.{Stays}
 use Rattle.edit_upgrade.specs.Looks.{Kept}
 use Rattle.edit_upgrade.specs.Records.{seen}
 use Rattle.edit_upgrade.specs.Rows.{Line}
-use Rattle.edit_decision.specs.declared.options.Options.{Options}
+use Rattle.edit_upgrade.specs.declared.decision.options.Options.{Options}
 use Rattle.edit_upgrade.proofs.Bytes.{apart-false, same-refl}
 use Rattle.edit_upgrade.proofs.EndLemmas.{all-below, filter-front, filter-last, filter-same, flat-one, flat-same, get-cases, get-front, get-last, length-more}
 use Rattle.edit_upgrade.proofs.InputRows.{decided-inputs, one-path-order, warned-inputs, written-paths}

@@ -23,7 +23,7 @@ use Rattle.edit_upgrade.specs.Upgraded.{HasItsOutputs, HasItsRows, HasItsWarning
 use Rattle.edit_upgrade.specs.declared.draft.Draft.{Draft}
 use Rattle.edit_upgrade.specs.declared.upgrade.Look.{Look}
 use Rattle.edit_upgrade.specs.declared.upgrade.Warning.{Warning}
-use Rattle.edit_decision.specs.declared.options.Options.{Options}
+use Rattle.edit_upgrade.specs.declared.decision.options.Options.{Options}
 use Rattle.edit_upgrade.specs.declared.upgrade.UpgradePlan.{UpgradePlan}
 use Rattle.edit_upgrade.proofs.EndLemmas.{all-below, all-flat, each-some, get-some}
 use Rattle.edit_upgrade.proofs.HeadlineRows.{rows-floor, rows-latest, rows-narrow, rows-reach}

@@ -18,7 +18,7 @@ use Rattle.edit_version.proofs.Outcomes.{valid-version}
 use Rattle.edit_sources.proofs.AddressLemmas.{one_url}
 use Rattle.url.specs.Parts as url
 use Rattle.url.specs.Parts.{serialize}
-use Rattle.edit_decision.specs.Decision.{Case, Outcome, compatible_text, decision, first_row, given, is_too_low, kept, latest_text, left_out, may_jump, newer, row_change, row_of, row_text, text_or, to_compatible, to_latest, unless_old, unread, when}
+use Rattle.edit_upgrade.specs.Decision.{Case, Outcome, compatible_text, decision, first_row, given, is_too_low, kept, latest_text, left_out, may_jump, newer, row_change, row_of, row_text, text_or, to_compatible, to_latest, unless_old, unread, when}
 use Rattle.edit_upgrade.specs.Headline.{HasNoChange}
 use Rattle.edit_upgrade.specs.Inputs.{Setting}
 use Rattle.edit_upgrade.specs.Looks.{told}
@@ -29,10 +29,10 @@ use Rattle.edit_upgrade.specs.Rows.{AreVersionsFor, IsDecided, IsRowOver, Line, 
 use Rattle.edit_upgrade.specs.Upgraded.{IsRow, basis_of}
 use Rattle.edit_upgrade.specs.Words.{is_excluded, requirement_for}
 use Rattle.edit_report.specs.declared.row.Change.{Change}
-use Rattle.edit_decision.specs.declared.options.Options.{Options}
+use Rattle.edit_upgrade.specs.declared.decision.options.Options.{Options}
 use Rattle.edit_upgrade.proofs.DecidedAgain.{again, case-plain, case_of}
 use Rattle.edit_upgrade.proofs.HeadlineRows.{offered-valid}
-use Rattle.edit_decision.proofs.TakenVersions.{far-some, far_text, near-some, newer-latest, unless-some, when-some}
+use Rattle.edit_upgrade.proofs.TakenVersions.{far-some, far_text, near-some, newer-latest, unless-some, when-some}
 use Rattle.edit_upgrade.proofs.WrittenEntries.{old_after, renew, renewed}
 use Rattle.edit_upgrade.proofs.SomeRows.{other-versions}
 

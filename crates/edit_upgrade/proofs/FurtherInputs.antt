@@ -24,7 +24,7 @@ use Rattle.edit_upgrade.specs.Records.{seen}
 use Rattle.edit_upgrade.specs.Rows.{Line}
 use Rattle.edit_upgrade.specs.Upgraded.{IsNeeded, IsNeededBy}
 use Rattle.edit_upgrade.specs.declared.draft.Draft.{Draft}
-use Rattle.edit_decision.specs.declared.options.Options.{Options}
+use Rattle.edit_upgrade.specs.declared.decision.options.Options.{Options}
 use Rattle.edit_upgrade.specs.declared.upgrade.Warning.{Warning}
 use Rattle.edit_upgrade.proofs.DraftLemmas.{planned-more}
 use Rattle.edit_upgrade.proofs.EndLemmas.{get-at, get-cases, get-front, get-last, get-of-taken}

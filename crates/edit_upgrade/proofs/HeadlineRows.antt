@@ -19,17 +19,17 @@ use Rattle.edit_version.proofs.Builds.{admits-without_build, plain_text-read, wi
 use Rattle.edit_version.proofs.GreatestEntries.{all-valid}
 use Rattle.edit_version.proofs.Orders.{greatest-has}
 use Rattle.edit_sources.specs.Index.{answer_of}
-use Rattle.edit_decision.specs.Decision.{decision, newer, or_else}
+use Rattle.edit_upgrade.specs.Decision.{decision, newer, or_else}
 use Rattle.edit_upgrade.specs.Headline.{IsVersionTold, KeepsFloor, LatestIsNotLess, Narrows, Reaches}
 use Rattle.edit_upgrade.specs.Inputs.{Setting}
 use Rattle.edit_upgrade.specs.Looks.{Answer, look_at, versions_in}
 use Rattle.edit_upgrade.specs.Records.{Seen, seen}
 use Rattle.edit_upgrade.specs.Rows.{AreVersionsFor, IsDecided, IsRowOver, Line, case_for, dashes, elsewhere, line_for, told_there}
 use Rattle.edit_upgrade.specs.Upgraded.{HasRows, IsRow, basis_of}
-use Rattle.edit_decision.specs.declared.options.Options.{Options}
-use Rattle.edit_decision.proofs.KeptFloors.{compatible-kept, latest-kept}
-use Rattle.edit_decision.proofs.Narrowing.{latest-not-less, narrowing, reach}
-use Rattle.edit_decision.proofs.NotLess.{not-less, not-less-itself}
+use Rattle.edit_upgrade.specs.declared.decision.options.Options.{Options}
+use Rattle.edit_upgrade.proofs.KeptFloors.{compatible-kept, latest-kept}
+use Rattle.edit_upgrade.proofs.Narrowing.{latest-not-less, narrowing, reach}
+use Rattle.edit_upgrade.proofs.NotLess.{not-less, not-less-itself}
 
 -- ---- versions
 

@@ -14,7 +14,7 @@ use Rattle.edit_upgrade.specs.Drafts.{outputs_on}
 use Rattle.edit_upgrade.specs.Inputs.{EachInput, HaveDistinctPaths, OutputsInOrder, Setting, output_path, outputs_at, path_of, setting_of}
 use Rattle.edit_upgrade.specs.Looks.{Kept}
 use Rattle.edit_upgrade.specs.Upgraded.{IsNeeded, IsNeededBy}
-use Rattle.edit_decision.specs.declared.options.Options.{Options}
+use Rattle.edit_upgrade.specs.declared.decision.options.Options.{Options}
 use Rattle.edit_upgrade.specs.declared.upgrade.UpgradePlan.{UpgradePlan}
 use Rattle.edit_upgrade.proofs.Bytes.{same-refl}
 

@@ -5,8 +5,8 @@ use Rattle.std.specs.List.{AllZip, cons_option, filter_map}
 use Rattle.std.proofs.lemmas.List.Elements.{All-cons, All-nil}
 use Rattle.edit_tree.specs.Replaces.{Edits}
 use Rattle.edit_tree.specs.Tree.{view_at}
-use Rattle.edit_entries.specs.Entries as found
-use Rattle.edit_entries.specs.Entries.{entries}
+use Rattle.edit_manifest.specs.Entries as found
+use Rattle.edit_manifest.specs.Entries.{entries}
 use Rattle.edit_record.specs.EntryRecords.{EntryRecord}
 use Rattle.edit_report.specs.declared.output.Output.{Output}
 use Rattle.edit_sources.specs.declared.config.Config.{Config}
@@ -20,7 +20,7 @@ use Rattle.edit_upgrade.specs.Outputs.{AreOutputs, HasOutputs, changed, unchange
 use Rattle.edit_upgrade.specs.Records.{Seen, Source, seen, source_of, version_of}
 use Rattle.edit_upgrade.specs.Rows.{AreDecided, IsRowOver, Line, writes}
 use Rattle.edit_upgrade.specs.Upgraded.{HasWarnings}
-use Rattle.edit_decision.specs.declared.options.Options.{Options}
+use Rattle.edit_upgrade.specs.declared.decision.options.Options.{Options}
 
 -- ---- rows
 

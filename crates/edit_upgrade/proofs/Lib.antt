@@ -28,3 +28,18 @@ pub mod DraftedInputs
 pub mod CauseLemmas
 pub mod MissingLemmas
 pub mod WordCauseLemmas
+pub mod Readable
+pub mod NotLess
+pub mod LowerLemmas
+pub mod FloorLemmas
+pub mod Pins
+pub mod TakenVersions
+pub mod Narrowing
+pub mod KeptFloors
+pub mod RaisedAgain
+pub mod LowAgain
+mod DecisionFacts
+pub mod Entries
+pub mod Kept
+mod PinFacts
+mod UpdateFacts

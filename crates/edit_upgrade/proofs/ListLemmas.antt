@@ -11,7 +11,7 @@ use Rattle.std.proofs.lemmas.List.Elements.{filter_map-append}
 use Rattle.std.proofs.lemmas.List.Folds.{list_any-append}
 use Rattle.std.proofs.lemmas.Map.Text.{is_eq-slice_cmp}
 use Rattle.std.proofs.lemmas.Slice.Zip.{all_zipped_more}
-use Rattle.edit_entries.specs.Entries.{Entry}
+use Rattle.edit_manifest.specs.Entries.{Entry}
 use Rattle.edit_upgrade.proofs.Bytes.{same-swap}
 use Rattle.edit_upgrade.proofs.Steps.{names-more}
 use Rattle.edit_upgrade.specs.Lines.{line_of}

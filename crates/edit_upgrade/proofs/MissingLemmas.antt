@@ -5,13 +5,13 @@ use Rattle.std.specs.List.{AllZip, list_any}
 use Rattle.std.specs.Str.{bytes_eq}
 use Rattle.std.proofs.lemmas.List.Elements.{All-weaker, filter-append, filter_map-append}
 use Rattle.std.proofs.lemmas.List.Folds.{list_any-append}
-use Rattle.edit_entries.specs.Entries.{Entry}
+use Rattle.edit_manifest.specs.Entries.{Entry}
 use Rattle.edit_metadata.specs.declared.input.Input.{Input}
 use Rattle.edit_record.specs.EntryUpdates.{each_once}
 use Rattle.edit_version.specs.CrateWords.{word_name}
 use Rattle.edit_upgrade.specs.Missing.{AddsNames, AreKnown, AreMissing, HasNames, is_among, name_of, names_in}
 use Rattle.edit_upgrade.specs.Words.{is_named, words_of}
-use Rattle.edit_decision.specs.declared.options.Options.{Options}
+use Rattle.edit_upgrade.specs.declared.decision.options.Options.{Options}
 use Rattle.edit_upgrade.proofs.EndLemmas.{filter-same}
 use Rattle.edit_upgrade.proofs.Steps.{taken-more}
 use Rattle.edit_upgrade.proofs.WordLemmas.{once_named}

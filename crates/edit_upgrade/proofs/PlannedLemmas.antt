@@ -13,8 +13,8 @@ use Rattle.edit_tree.specs.Tree.{view_at}
 use Rattle.edit_base.specs.declared.errors.Error.{Error}
 use Rattle.edit_tree.proofs.Shallow.{one_form}
 use Rattle.edit_manifest.specs.Tables.{Tree}
-use Rattle.edit_entries.specs.Entries as found
-use Rattle.edit_entries.specs.Entries.{entries}
+use Rattle.edit_manifest.specs.Entries as found
+use Rattle.edit_manifest.specs.Entries.{entries}
 use Rattle.edit_sources.specs.Index.{Outcomes}
 use Rattle.edit_sources.specs.declared.config.Config.{Config}
 use Rattle.edit_upgrade.specs.Causes.{HasBadEntry, IsPassed, StopsFirst}
@@ -32,7 +32,7 @@ use Rattle.edit_upgrade.specs.Upgraded.{HasWarnings, IsNeededBy, IsNeededIn}
 use Rattle.edit_upgrade.specs.Words.{is_named, words_of}
 use Rattle.edit_upgrade.specs.declared.planned.Planned.{Planned}
 use Rattle.edit_upgrade.specs.declared.seen.Entry.{Entry}
-use Rattle.edit_decision.specs.declared.options.Options.{Options}
+use Rattle.edit_upgrade.specs.declared.decision.options.Options.{Options}
 use Rattle.edit_upgrade.specs.declared.walk.Books.{Books}
 use Rattle.edit_metadata.specs.declared.input.Input.{Input}
 use Rattle.edit_version.specs.RustVersions.{numbers_of}

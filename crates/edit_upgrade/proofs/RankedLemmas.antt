@@ -22,7 +22,7 @@ use Rattle.edit_sources.specs.declared.index.IndexKrate.{IndexKrate}
 use Rattle.edit_cache.specs.declared.ranking.Ranked.{Ranked}
 use Rattle.edit_upgrade.specs.Looks.{Answer, kept_by, versions_in}
 use Rattle.edit_upgrade.specs.Rankings.{IsRankingOf}
-use Rattle.edit_decision.proofs.Readable.{requirement-err}
+use Rattle.edit_upgrade.proofs.Readable.{requirement-err}
 
 -- the ranking that is kept beside an answer is that of its entries
 pub ranking-kept : (answer : Option (Option IndexKrate)) (ranked : Option Ranked) → IsRankedAt answer ranked

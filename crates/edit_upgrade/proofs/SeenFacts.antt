@@ -10,10 +10,10 @@ use Rattle.edit_tree.specs.Tree.{string, view_at}
 use Rattle.edit_version.specs.Requirement.{cut}
 use Rattle.edit_record.specs.EntryRecords.{EntryRecord}
 use Rattle.edit_manifest.specs.Tables.{Tree}
-use Rattle.edit_entries.specs.Entries.{Entry, entries, entry_at}
-use Rattle.edit_entries.proofs.EntriesApart.{Differ, IsEntryOf, entries-apart, entries-of, entry-literal, same_literal}
-use Rattle.edit_entries.proofs.EntryPlaces.{IsLiteral}
-use Rattle.edit_entries.proofs.RecordVersions.{version-stands}
+use Rattle.edit_manifest.specs.Entries.{Entry, entries, entry_at}
+use Rattle.edit_manifest.proofs.EntriesApart.{Differ, IsEntryOf, entries-apart, entries-of, entry-literal, same_literal}
+use Rattle.edit_manifest.proofs.EntryPlaces.{IsLiteral}
+use Rattle.edit_manifest.proofs.RecordVersions.{version-stands}
 use Rattle.edit_upgrade.specs.Records.{Seen, Source, seen, seen_at, seen_by, source_of, with_row}
 use Rattle.edit_upgrade.specs.Rows.{Line, with_write, write_at, write_on, writes}
 use Rattle.edit_report.specs.declared.row.Change.{Change}

@@ -9,12 +9,12 @@ use Rattle.edit_version.specs.VersionOrder.{full_order}
 use Rattle.edit_version.proofs.Greatests.{advanced}
 use Rattle.edit_version.proofs.Orders.{full_total}
 use Rattle.url.specs.Parts.{serialize}
-use Rattle.edit_decision.specs.Decision.{decision}
+use Rattle.edit_upgrade.specs.Decision.{decision}
 use Rattle.edit_upgrade.specs.Inputs.{Setting}
 use Rattle.edit_upgrade.specs.Records.{Seen}
 use Rattle.edit_upgrade.specs.Rows.{AreVersionsFor, Basis, IsDecided, IsRowOver, Line, case_for, dashes, elsewhere, is_elsewhere, line_for, told_there}
 use Rattle.edit_upgrade.specs.Upgraded.{IsRow, basis_of}
-use Rattle.edit_decision.specs.declared.options.Options.{Options}
+use Rattle.edit_upgrade.specs.declared.decision.options.Options.{Options}
 use Rattle.edit_upgrade.proofs.WrittenEntries.{renew, renewed}
 
 -- a list after another has a greatest version or none that is kept

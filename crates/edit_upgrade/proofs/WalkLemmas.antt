@@ -21,7 +21,7 @@ use Rattle.edit_upgrade.specs.Records.{Seen, at_registry}
 use Rattle.edit_upgrade.specs.Rows.{AreDecided, AreVersionsFor, Basis, IsRowBy, IsRowOver, Line, Needs, elsewhere, is_elsewhere, told_there}
 use Rattle.edit_upgrade.specs.Upgraded.{IsNeededFor, IsNeededIn}
 use Rattle.edit_upgrade.specs.declared.upgrade.Look.{Look}
-use Rattle.edit_decision.specs.declared.options.Options.{Options}
+use Rattle.edit_upgrade.specs.declared.decision.options.Options.{Options}
 use Rattle.edit_upgrade.proofs.FixedPoint.{not-both, one-named}
 use Rattle.edit_upgrade.proofs.LookUpLemmas.{answered, leaves-wider, refused-with}
 

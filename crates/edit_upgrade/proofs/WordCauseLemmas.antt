@@ -9,7 +9,7 @@ use Rattle.edit_record.specs.EntryUpdates.{each_once}
 use Rattle.edit_version.specs.CrateWords.{IsRefusedWord, word_name}
 use Rattle.edit_upgrade.specs.WordCauses.{IsRefusedFor, StopsAtWord}
 use Rattle.edit_upgrade.specs.Words.{IsWord}
-use Rattle.edit_decision.specs.declared.options.Options.{Options}
+use Rattle.edit_upgrade.specs.declared.decision.options.Options.{Options}
 use Rattle.edit_upgrade.proofs.Steps.{names-split}
 
 -- reading stopped at one of these words

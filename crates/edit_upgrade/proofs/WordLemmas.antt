@@ -21,7 +21,7 @@ use Rattle.edit_version.specs.CrateWords.{IsReadOrAbsent, unfit, word_name, word
 use Rattle.edit_upgrade.specs.Picks.{AddsWord, AreWordsRead, has_name, kept_requirement}
 use Rattle.edit_upgrade.specs.Words.{IsWord, WordsSelect, is_named, is_word_of, requirement_for, requirement_in, words_of}
 use Rattle.edit_upgrade.specs.declared.picks.Words.{Words}
-use Rattle.edit_decision.specs.declared.options.Options.{Options}
+use Rattle.edit_upgrade.specs.declared.decision.options.Options.{Options}
 
 -- ---- tests
 

@@ -9,9 +9,9 @@ use Rattle.edit_tree.proofs.SamePlace.{same_place_is, same_place_self}
 use Rattle.edit_version.specs.Requirement.{cut}
 use Rattle.edit_record.specs.EntryRecords.{EntryRecord, Origin, from_git, from_path, from_registry, from_workspace}
 use Rattle.edit_manifest.specs.Tables.{Tree}
-use Rattle.edit_entries.specs.Entries.{Entry, entries}
-use Rattle.edit_entries.proofs.EntriesAfter.{entries-after, entry_after, said_after}
-use Rattle.edit_entries.proofs.RecordVersions.{versioned}
+use Rattle.edit_manifest.specs.Entries.{Entry, entries}
+use Rattle.edit_manifest.proofs.EntriesAfter.{entries-after, entry_after, said_after}
+use Rattle.edit_manifest.proofs.RecordVersions.{versioned}
 use Rattle.edit_upgrade.specs.Records.{Seen, Source, seen, seen_at, seen_by, source_of, with_row}
 use Rattle.edit_upgrade.specs.Rows.{Line, with_write, write_on, writes}
 use Rattle.edit_upgrade.proofs.SeenFacts.{AreApart, IsWrite, on-cases, writes-literals, writes-strings}

@@ -25,7 +25,7 @@ use Rattle.edit_upgrade.specs.Records.{seen}
 use Rattle.edit_upgrade.specs.Rows.{AreDecided, Line}
 use Rattle.edit_upgrade.specs.Upgraded.{HasWarnings, IsNeeded}
 use Rattle.edit_upgrade.specs.declared.draft.Draft.{Draft}
-use Rattle.edit_decision.specs.declared.options.Options.{Options}
+use Rattle.edit_upgrade.specs.declared.decision.options.Options.{Options}
 
 -- of these rows, those of an input
 abbrev pub lines_on : ℕ → List Line → List Line

@@ -1,7 +1,7 @@
 -- The entries that were found, as the program has them.
 use Rattle.std.specs.Prelude.{option_map, string_bytes}
 use Rattle.edit_document.specs.Items.{place_seen}
-use Rattle.edit_entries.specs.EntryViews.{literal_by}
+use Rattle.edit_manifest.specs.EntryViews.{literal_by}
 use Rattle.edit_upgrade.specs.Records as entry
 use Rattle.edit_upgrade.specs.Records.{Seen, at_folder, at_registry, at_repository}
 use Rattle.edit_upgrade.specs.declared.seen.Entry.{Entry}

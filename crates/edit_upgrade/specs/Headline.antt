@@ -5,7 +5,7 @@ use Rattle.std.specs.Ordering.{is_ge}
 use Rattle.semver.specs.Parse.{Parts, req_of, version_parts}
 use Rattle.edit_version.specs.Laws.{Admits, precedence}
 use Rattle.edit_sources.specs.declared.config.Config.{Config}
-use Rattle.edit_decision.specs.Floors.{HasFloor}
+use Rattle.edit_upgrade.specs.Floors.{HasFloor}
 use Rattle.edit_upgrade.specs.Inputs.{Setting, outputs_at, path_of}
 use Rattle.edit_upgrade.specs.Lines.{line_of}
 use Rattle.edit_upgrade.specs.Outputs.{HasOutputs}
@@ -15,7 +15,7 @@ use Rattle.edit_upgrade.specs.Words.{WordsSelect}
 use Rattle.edit_report.specs.declared.row.Change.TheVariants as change
 use Rattle.edit_metadata.specs.declared.input.Input.{Input}
 use Rattle.edit_report.specs.declared.output.Output.{Output}
-use Rattle.edit_decision.specs.declared.options.Options.{Options}
+use Rattle.edit_upgrade.specs.declared.decision.options.Options.{Options}
 use Rattle.edit_upgrade.specs.declared.upgrade.UpgradePlan.{UpgradePlan}
 
 -- a requirement that `semver` reads is told

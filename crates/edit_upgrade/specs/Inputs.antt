@@ -10,7 +10,7 @@ use Rattle.edit_upgrade.specs.Lists.{Told, warning_view}
 use Rattle.edit_upgrade.specs.Rows.{Line}
 use Rattle.edit_metadata.specs.declared.input.Input.{Input}
 use Rattle.edit_upgrade.specs.declared.upgrade.Look.{Look}
-use Rattle.edit_decision.specs.declared.options.Options.{Options}
+use Rattle.edit_upgrade.specs.declared.decision.options.Options.{Options}
 use Rattle.edit_report.specs.declared.output.Output.{Output}
 use Rattle.edit_upgrade.specs.declared.upgrade.UpgradePlan.{UpgradePlan}
 

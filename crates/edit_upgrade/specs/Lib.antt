@@ -21,3 +21,14 @@ pub mod WordCauses
 pub mod Caches
 pub mod Plans
 pub mod Missing
+pub mod Floors
+pub mod Decision
+pub mod Offers
+pub mod Decided
+pub mod Asked
+pub mod Groups
+pub mod Names
+pub mod PinViews
+pub mod Pins
+pub mod UpdateCalls
+pub mod Views

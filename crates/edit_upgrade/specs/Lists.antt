@@ -6,8 +6,8 @@ use Rattle.std.specs.Str.{bytes_eq}
 use Rattle.std.specs.declared.alloc.Global.{Global}
 use Rattle.semver.specs.Parse.{req_of}
 use Rattle.edit_record.specs.EntryRecords.{EntryRecord}
-use Rattle.edit_entries.specs.Entries.{Entry}
-use Rattle.edit_decision.specs.Decision.{when}
+use Rattle.edit_manifest.specs.Entries.{Entry}
+use Rattle.edit_upgrade.specs.Decision.{when}
 use Rattle.edit_upgrade.specs.Lines.{line_of}
 use Rattle.edit_upgrade.specs.Records.{Source, source_of, version_of}
 use Rattle.edit_upgrade.specs.Rows.{Line}

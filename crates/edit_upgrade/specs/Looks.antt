@@ -13,7 +13,7 @@ use Rattle.url.specs.Parts as url
 use Rattle.url.specs.Parts.{serialize}
 use Rattle.edit_upgrade.specs.Rows.{Basis}
 use Rattle.edit_upgrade.specs.declared.upgrade.Look.{Look}
-use Rattle.edit_decision.specs.declared.options.Options.{Options}
+use Rattle.edit_upgrade.specs.declared.decision.options.Options.{Options}
 
 -- an answer: the entries of a name, or none where there is no such name
 abbrev pub Answer : Type 0

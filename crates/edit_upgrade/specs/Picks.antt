@@ -9,7 +9,7 @@ use Rattle.edit_version.specs.CrateWords.{word_name, word_requirement}
 use Rattle.edit_upgrade.specs.Words.{IsWord, excluded_of, is_named, requirement_in, words_of}
 use Rattle.edit_upgrade.specs.declared.picks.Picks.{Picks}
 use Rattle.edit_upgrade.specs.declared.picks.Words.{Words}
-use Rattle.edit_decision.specs.declared.options.Options.{Options}
+use Rattle.edit_upgrade.specs.declared.decision.options.Options.{Options}
 
 -- a word of this name was read (own)
 abbrev pub has_name : Words → List ℕ → Bool

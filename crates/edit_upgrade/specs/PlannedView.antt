@@ -15,7 +15,7 @@ use Rattle.edit_upgrade.specs.Looks.{Kept, kept_basis}
 use Rattle.edit_upgrade.specs.PairSets.{holds_pair}
 use Rattle.edit_upgrade.specs.Records.{Seen, seen}
 use Rattle.edit_upgrade.specs.Rows.{AreDecided, Line}
-use Rattle.edit_decision.specs.declared.options.Options.{Options}
+use Rattle.edit_upgrade.specs.declared.decision.options.Options.{Options}
 use Rattle.edit_upgrade.specs.declared.walk.Books.{Books}
 use Rattle.edit_upgrade.specs.declared.planned.Planned.{Planned}
 

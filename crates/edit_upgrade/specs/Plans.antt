@@ -11,7 +11,7 @@ use Rattle.edit_upgrade.specs.Lists.{Tells}
 use Rattle.edit_upgrade.specs.Looks.{AreLooks}
 use Rattle.edit_upgrade.specs.Missing.{TellsMissing}
 use Rattle.edit_upgrade.specs.Upgraded.{HasItsOutputs, HasItsRows, HasItsWarnings, IsNeeded}
-use Rattle.edit_decision.specs.declared.options.Options.{Options}
+use Rattle.edit_upgrade.specs.declared.decision.options.Options.{Options}
 use Rattle.edit_upgrade.specs.declared.upgrade.UpgradePlan.{UpgradePlan}
 
 -- the looks of a plan: each one that the inputs need and no other, from this cache to that (own)

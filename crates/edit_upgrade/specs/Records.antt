@@ -5,7 +5,7 @@ use Rattle.std.specs.List.{filter_map}
 use Rattle.edit_tree.specs.Assertions.{Place}
 use Rattle.edit_record.specs.EntryRecords.{EntryRecord, Origin, from_git, from_path, from_registry, from_workspace, origin_version}
 use Rattle.edit_manifest.specs.Tables.{Tree}
-use Rattle.edit_entries.specs.Entries.{Entry, entries}
+use Rattle.edit_manifest.specs.Entries.{Entry, entries}
 
 -- where the crate of an entry comes from
 pub data Source : Type 0 where

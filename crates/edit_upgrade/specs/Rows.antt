@@ -9,11 +9,11 @@ use Rattle.edit_version.specs.Requirement.{plain_text}
 use Rattle.edit_version.specs.Selection.{IsCompatible, IsLatest}
 use Rattle.edit_sources.specs.Configured.{HasAddress}
 use Rattle.edit_sources.specs.declared.config.Config.{Config}
-use Rattle.edit_decision.specs.Decision.{Case, Choice, decision, newer, or_else, when}
+use Rattle.edit_upgrade.specs.Decision.{Case, Choice, decision, newer, or_else, when}
 use Rattle.edit_upgrade.specs.Records.{Seen, Source, at_folder, at_registry, at_repository}
 use Rattle.edit_upgrade.specs.Words.{is_excluded, requirement_for}
 use Rattle.edit_report.specs.declared.row.Change.{Change}
-use Rattle.edit_decision.specs.declared.options.Options.{Options}
+use Rattle.edit_upgrade.specs.declared.decision.options.Options.{Options}
 use Rattle.edit_report.specs.declared.row.Reason.{Reason}
 use Rattle.edit_report.specs.declared.row.Reason.TheVariants as reason
 

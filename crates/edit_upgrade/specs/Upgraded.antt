@@ -5,7 +5,7 @@ use Rattle.std.specs.List.{AllZip}
 use Rattle.edit_syntax.specs.Grammar.{Text}
 use Rattle.edit_tree.specs.Supported.{IsManifest}
 use Rattle.edit_tree.specs.Tree.{view_at}
-use Rattle.edit_entries.specs.Entries.{entries}
+use Rattle.edit_manifest.specs.Entries.{entries}
 use Rattle.edit_sources.specs.declared.config.Config.{Config}
 use Rattle.url.specs.Parts as url
 use Rattle.url.specs.Parts.{serialize}

@@ -4,7 +4,7 @@ use Rattle.edit_base.specs.Errors.{IsMemory}
 use Rattle.edit_base.specs.declared.errors.Error.{Error}
 use Rattle.edit_version.specs.CrateWords.{IsRefusedWord}
 use Rattle.edit_upgrade.specs.Words.{IsWord, words_of}
-use Rattle.edit_decision.specs.declared.options.Options.{Options}
+use Rattle.edit_upgrade.specs.declared.decision.options.Options.{Options}
 
 -- the first of these words that is refused: it names no crate, has a requirement that is not read, or memory
 -- ran out for it

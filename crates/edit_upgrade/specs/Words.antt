@@ -4,7 +4,7 @@ use Rattle.std.specs.Prelude.{◌≡◌, ◌==◌, ◌&&◌, ◌||◌, ℕ, List
 use Rattle.std.specs.List.{list_any}
 use Rattle.std.specs.Str.{bytes_eq}
 use Rattle.edit_version.specs.CrateWords.{IsReadOrAbsent, unfit, word_name, word_requirement}
-use Rattle.edit_decision.specs.declared.options.Options.{Options}
+use Rattle.edit_upgrade.specs.declared.decision.options.Options.{Options}
 
 -- the package words, as `serde` and `serde@1.0`
 abbrev pub words_of : Options → List (List ℕ)

@@ -6,8 +6,8 @@ ghost use Rattle.std.specs.Str.{bytes_eq};
 ghost use Rattle.edit_upgrade.specs.Picks.{has_name, kept_requirement};
 ghost use Rattle.edit_upgrade.specs.Words.{excluded_of, is_excluded, is_named, requirement_for, words_of};
 
+use crate::decision::options::Options;
 use crate::picks::{Picks, has_name, kept_requirement};
-use edit_decision::options::Options;
 
 /// Options, with their words and excluded names as they were read.
 #[derive(Clone, Copy)]

@@ -3,6 +3,7 @@
 
 mod addresses;
 mod asked;
+pub mod decision;
 mod draft;
 mod lists;
 mod looks;
@@ -13,10 +14,11 @@ mod plan;
 mod planned;
 mod rows;
 mod seen;
+pub mod update;
 pub mod upgrade;
 mod walk;
 mod writes;
 
-pub use edit_decision::Options;
+pub use decision::Options;
 pub use plan::{plan_documents, plan_upgrade};
 pub use upgrade::{Look, UpgradePlan, Warning};

@@ -5,14 +5,14 @@ ghost use Rattle.std.specs.List.{list_any};
 ghost use Rattle.std.specs.Str.{bytes_eq};
 ghost use Rattle.edit_base.specs.Errors.{IsMemory};
 ghost use Rattle.edit_base.specs.declared.errors.Error.TheVariants as error;
-ghost use Rattle.edit_entries.specs.EntryViews.{entry_view};
+ghost use Rattle.edit_manifest.specs.EntryViews.{entry_view};
 ghost use Rattle.edit_upgrade.specs.Missing.{names_in};
 ghost use Rattle.edit_upgrade.specs.Words.{is_named, words_of};
 
 use crate::asked::{Asked, is_named};
 use crate::names::{Names, add_name};
 use edit_base::CargoResult;
-use edit_entries::{Entry, Said};
+use edit_manifest::entries::{Entry, Said};
 use std::alloc::Global;
 
 /// Adds the name of an entry, where words select it.

@@ -9,9 +9,9 @@ ghost use Rattle.edit_version.specs.CrateWords.{IsRefusedWord};
 ghost use Rattle.edit_upgrade.specs.Picks.{AddsWord, ArePicks, AreWordsRead, has_name, kept_requirement};
 ghost use Rattle.edit_upgrade.specs.WordCauses.{IsOptionCause, StopsAtWord};
 
+use crate::decision::options::Options;
 use crate::names::{Names, add_name};
 use edit_base::CargoResult;
-use edit_decision::options::Options;
 use edit_version::CrateSpec;
 use std::alloc::Global;
 use std::collections::{BTreeMap, BTreeSet};

@@ -20,13 +20,13 @@ ghost use Rattle.edit_upgrade.specs.WordCauses.{IsRefusedFor};
 ghost use Rattle.edit_upgrade.specs.Upgraded.{HasItsOutputs, HasItsRows, HasItsWarnings, IsNeeded, IsNeededBy};
 
 use crate::asked::Asked;
+use crate::decision::options::Options;
 use crate::draft::{Draft, add_input, finished};
 use crate::missing::unknown;
 use crate::picks::picks_of;
 use crate::upgrade::UpgradePlan;
 use edit_base::CargoResult;
 use edit_cache::IndexCache;
-use edit_decision::options::Options;
 use edit_document::Document;
 use edit_manifest::Manifest;
 use edit_metadata::Input;

@@ -25,7 +25,7 @@ use crate::walk::{Books, walk};
 use edit_base::CargoResult;
 use edit_cache::cache::IndexCache;
 use edit_document::Document;
-use edit_entries::entries;
+use edit_manifest::entries::entries;
 use edit_metadata::Input;
 use edit_report::Row;
 use edit_sources::Config;

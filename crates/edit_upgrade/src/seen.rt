@@ -4,14 +4,14 @@ ghost use Rattle.std.specs.List.{filter_map};
 ghost use Rattle.edit_base.specs.Errors.{IsMemory};
 ghost use Rattle.edit_document.specs.Items.{place_seen};
 ghost use Rattle.edit_record.specs.RecordViews.{record_view};
-ghost use Rattle.edit_entries.specs.EntryViews.{entry_view, literal_by};
-ghost use Rattle.edit_entries.specs.Entries.{Entry as Found};
+ghost use Rattle.edit_manifest.specs.EntryViews.{entry_view, literal_by};
+ghost use Rattle.edit_manifest.specs.Entries.{Entry as Found};
 ghost use Rattle.edit_upgrade.specs.Found.{seen_of};
 ghost use Rattle.edit_upgrade.specs.Records.{seen_at, seen_by, with_row};
 
 use edit_base::CargoResult;
 use edit_document::Place;
-use edit_entries::{Said, literal_place};
+use edit_manifest::entries::{Said, literal_place};
 use edit_record::Dependency;
 use std::alloc::Global;
 
@@ -70,10 +70,10 @@ fn with_record(place: Place, bare: bool, dependency: Dependency) -> Option<Entry
 }
 
 /// The entry, where it gets a row.
-fn with_row(found: edit_entries::Entry) -> Option<Entry>
+fn with_row(found: edit_manifest::entries::Entry) -> Option<Entry>
     ensures { option_map seen_of result ≡ with_row (entry_view found) }
 {
-    let edit_entries::Entry {
+    let edit_manifest::entries::Entry {
         place,
         bare,
         said,
@@ -86,7 +86,10 @@ fn with_row(found: edit_entries::Entry) -> Option<Entry>
 }
 
 /// The entries that get a row, in order.
-pub(crate) fn with_rows(alloc: Global, found: Vec<edit_entries::Entry>) -> CargoResult<Vec<Entry>>
+pub(crate) fn with_rows(
+    alloc: Global,
+    found: Vec<edit_manifest::entries::Entry>,
+) -> CargoResult<Vec<Entry>>
     ensures ok { IfOk result
         (λ es. map seen_of es.items ≡ filter_map with_row (map entry_view found.items)) }
     ensures refused { IfErr result IsMemory }

@@ -1,6 +1,6 @@
 //! What is planned for the entries of manifests.
 
-pub use edit_decision::options::Options;
+pub use crate::decision::options::Options;
 use edit_report::{Output, Row};
 use edit_sources::index::IndexKrate;
 use url::Url;

@@ -1,6 +1,6 @@
 //! Diffs of texts that no edit makes of one another. The others are in `tools/checks/rows/daily.py`.
 use super::super::stop::{must, same};
-use edit_diff::diff_text;
+use edit_shown::diff::diff_text;
 use std::alloc::Global;
 use std::process::Abort;
 use std::str;

@@ -2,11 +2,11 @@
 ghost use Rattle.std.specs.Prelude.{◌≡◌};
 
 use super::super::stop::{kept, must, push, same, text as text_of};
-use edit_decision::options::Options;
 use edit_document::Document;
-use edit_looks::{looks_text, needed_looks};
 use edit_metadata::Input;
+use edit_program::looks::{looks_text, needed_looks};
 use edit_sources::Config;
+use edit_upgrade::decision::options::Options;
 use std::alloc::Global;
 use std::process::Abort;
 use std::slice::from_ref;

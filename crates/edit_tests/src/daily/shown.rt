@@ -3,9 +3,9 @@
 use super::super::stop::{kept, must, push, same, text as text_of};
 use super::looks::{input_of, plain};
 use edit_document::Step;
-use edit_messages::{Summary, summary_message};
 use edit_metadata::Input;
 use edit_report::{Change, Output, Reason, Row};
+use edit_shown::json::{Summary, summary_message};
 use edit_shown::{print_diffs, print_messages};
 use edit_upgrade::{Options, UpgradePlan, Warning};
 use std::alloc::Global;

@@ -2,7 +2,7 @@
 //! program reads each word before.
 use super::super::stop::{kept, must, push, rows_hold, text, told};
 use edit_metadata::Workspace;
-use edit_update::update_calls;
+use edit_upgrade::update::update_calls;
 use edit_upgrade::{Options, UpgradePlan};
 use std::alloc::Global;
 use std::process::Abort;

@@ -1,8 +1,8 @@
 //! Rows of what an upgrade rests on. What is refused of it is in `tools/checks/rows/sources.py`.
 use super::workspaces::rust_shown;
 use edit_sources::Config;
+use edit_steps::upgrade_read::{Asked, IndexSource, RustChoice, Sources, read_sources};
 use edit_store::{MemoryStore, Store};
-use edit_upgrade_read::{Asked, IndexSource, RustChoice, Sources, read_sources};
 use edit_version::RustVersion;
 use std::alloc::Global;
 use std::test::Fail;

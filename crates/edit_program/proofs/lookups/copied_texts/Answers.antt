@@ -1,6 +1,6 @@
 use Rattle.std.proofs.Common.{◌≡◌, Bor, List, [], ap, arith, map, string_bytes, subst, ℕ}
 use Rattle.std.proofs.lemmas.List.{take_all}
-use Rattle.edit_upgrade_told.proofs.CopyLemmas.{one_more}
+use Rattle.edit_program.proofs.CopyLemmas.{one_more}
 use Rattle.edit_program.proofs.lookups.copied_texts.Goals as goal
 
 pub texts-init : goal.texts-init

@@ -2,8 +2,8 @@ use Rattle.std.proofs.Common.{◌≡◌, ◌∷◌, ◌++◌, ◌∙◌, [], Lis
 use Rattle.std.specs.Prelude.{Option, option_map}
 use Rattle.std.specs.List.{cons_option}
 use Rattle.std.proofs.lemmas.List.{map-append}
-use Rattle.edit_entries.specs.EntryViews.{entry_view}
-use Rattle.edit_entries.specs.Entries.{Entry}
+use Rattle.edit_manifest.specs.EntryViews.{entry_view}
+use Rattle.edit_manifest.specs.Entries.{Entry}
 use Rattle.edit_upgrade.specs.Lists.{AreWarnings, warning_view}
 use Rattle.edit_upgrade.specs.declared.upgrade.Warning.{Warning}
 use Rattle.edit_upgrade.proofs.ListLemmas.{warned-more, warned-none}

@@ -1,5 +1,5 @@
 use Rattle.std.proofs.Common.{map, take}
-use Rattle.edit_entries.specs.EntryViews.{entry_view}
+use Rattle.edit_manifest.specs.EntryViews.{entry_view}
 use Rattle.edit_upgrade.specs.Lists.{AreWarnings, warning_view}
 use Rattle.edit_upgrade.proofs.lists.warnings_on.Given as goal
 

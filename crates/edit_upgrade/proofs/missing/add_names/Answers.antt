@@ -4,8 +4,8 @@ use Rattle.std.specs.BTreeSet.{contains_text}
 use Rattle.std.specs.List.{list_any}
 use Rattle.std.specs.Str.{bytes_eq}
 use Rattle.std.proofs.lemmas.List.{take_all}
-use Rattle.edit_entries.specs.EntryViews.{entry_view}
-use Rattle.edit_entries.specs.declared.found.Entry.{Entry}
+use Rattle.edit_manifest.specs.EntryViews.{entry_view}
+use Rattle.edit_manifest.specs.declared.entries.found.Entry.{Entry}
 use Rattle.edit_upgrade.specs.Missing.{names_in}
 use Rattle.edit_upgrade.specs.Words.{is_named, words_of}
 use Rattle.edit_upgrade.proofs.MissingLemmas.{names-kept, names-none}

@@ -3,7 +3,7 @@ use Rattle.std.specs.Prelude.{◌&&◌, ◌||◌}
 use Rattle.std.specs.BTreeSet.{contains_text}
 use Rattle.std.specs.List.{list_any}
 use Rattle.std.specs.Str.{bytes_eq}
-use Rattle.edit_entries.specs.EntryViews.{entry_view}
+use Rattle.edit_manifest.specs.EntryViews.{entry_view}
 use Rattle.edit_upgrade.specs.Missing.{names_in}
 use Rattle.edit_upgrade.specs.Words.{is_named, words_of}
 use Rattle.edit_upgrade.proofs.missing.add_names.Given as goal

@@ -1,7 +1,7 @@
 use Rattle.std.proofs.Common.{◌∙◌, List, ap, length, map, subst, sym}
 use Rattle.std.specs.BTreeSet.{contains_text}
 use Rattle.std.specs.List.{filter_map}
-use Rattle.edit_entries.specs.EntryViews.{entry_view}
+use Rattle.edit_manifest.specs.EntryViews.{entry_view}
 use Rattle.edit_upgrade.specs.Found.{seen_of}
 use Rattle.edit_upgrade.specs.Lists.{warning_view}
 use Rattle.edit_upgrade.specs.PlannedView.{AreSeen}

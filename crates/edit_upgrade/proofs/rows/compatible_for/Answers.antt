@@ -6,7 +6,7 @@ use Rattle.edit_version.specs.RustVersions.{numbers_of}
 use Rattle.edit_version.specs.Selection.{is_admitted}
 use Rattle.edit_upgrade.specs.Looks.{versions_in}
 use Rattle.edit_upgrade.specs.Rankings.{IsRankingOf}
-use Rattle.edit_decision.proofs.Readable.{requirement-ok}
+use Rattle.edit_upgrade.proofs.Readable.{requirement-ok}
 use Rattle.edit_upgrade.proofs.RankedLemmas.{compatible-ranked, none-admitted, none-ranked}
 use Rattle.edit_upgrade.proofs.rows.compatible_for.Goals as goal
 

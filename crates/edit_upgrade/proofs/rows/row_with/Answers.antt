@@ -3,7 +3,7 @@ use Rattle.std.specs.Prelude.{option_copied, option_map}
 use Rattle.edit_version.specs.RustVersions.{numbers_of}
 use Rattle.edit_version.specs.Selection.{IsCompatible, IsLatest}
 use Rattle.semver.specs.Identifiers.{parts_of}
-use Rattle.edit_decision.specs.Decision.{decision}
+use Rattle.edit_upgrade.specs.Decision.{decision}
 use Rattle.edit_upgrade.specs.Found.{seen_of}
 use Rattle.edit_upgrade.specs.Lines.{line_of}
 use Rattle.edit_upgrade.specs.Looks.{versions_in}

@@ -1,7 +1,7 @@
 use Rattle.std.proofs.Common.{◌∙◌, ap, refl, sym}
 use Rattle.std.specs.Prelude.{option_and_then}
-use Rattle.edit_entries.specs.EntryViews.{entry_view, said_view}
-use Rattle.edit_entries.specs.declared.found.Said.{Said}
+use Rattle.edit_manifest.specs.EntryViews.{entry_view, said_view}
+use Rattle.edit_manifest.specs.declared.entries.found.Said.{Said}
 use Rattle.edit_upgrade.specs.Records.{seen_by}
 use Rattle.edit_upgrade.proofs.seen.with_row.Goals as goal
 

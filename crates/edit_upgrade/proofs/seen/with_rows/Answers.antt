@@ -1,6 +1,6 @@
 use Rattle.std.proofs.Common.{ap, map, sym, ◌∙◌}
 use Rattle.std.specs.Prelude.{option_map}
-use Rattle.edit_entries.specs.EntryViews.{entry_view}
+use Rattle.edit_manifest.specs.EntryViews.{entry_view}
 use Rattle.edit_upgrade.specs.Found.{seen_of}
 use Rattle.edit_upgrade.specs.Records.{with_row}
 use Rattle.edit_upgrade.proofs.Steps.{kept-none, kept-some}

@@ -1,4 +1,0 @@
-pub mod Floors
-pub mod Decision
-pub mod Offers
-pub mod Decided

@@ -1,9 +1,0 @@
--- The versions that may be taken, as the program has them with their texts.
-use Rattle.std.specs.Prelude.{Option, option_map}
-use Rattle.semver.specs.Identifiers.{parts_of}
-use Rattle.semver.specs.Parse.{Parts}
-use Rattle.edit_decision.specs.declared.offers.Offer.{Offer}
-
--- the version that is offered, where one is (own)
-abbrev pub offered : Option Offer → Option Parts
-offered o = option_map (λ f. parts_of f.version.now) o

@@ -1,4 +1,0 @@
-pub mod DiffLemmas
-pub mod LineLaws
-pub mod LineLemmas
-pub mod MarkLemmas

@@ -1,9 +1,0 @@
-use Rattle.std.proofs.Common.{◌≡◌, ◌++◌, map}
-use Rattle.std.specs.List.{flat_map, range_with_len}
-use Rattle.edit_diff.specs.Hunks.{text_at}
-use Rattle.edit_diff.proofs.hunks.push_parts.Given as goal
-
--- what stands of the lines so far
-abbrev pub invariant-loop-i : goal.invariant-loop-i
-invariant-loop-i l = l.text.items ≡ l.initial.text.items
-    ++ flat_map (text_at l.marks (map (λ x. x.now) l.lines)) (range_with_len 0 l.i)

@@ -1,8 +1,0 @@
-mod Texts
-pub mod RecordVersions
-pub mod EntryPlaces
-mod Elements
-pub mod MembersApart
-pub mod EntriesApart
-pub mod TablesAfter
-pub mod EntriesAfter

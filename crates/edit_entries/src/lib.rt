@@ -1,8 +1,0 @@
-//! The entries of a manifest's dependency tables, and what each says.
-#![tactic(auto)]
-
-mod found;
-mod places;
-
-pub use found::{Entry, Said, entries};
-pub use places::literal_place;

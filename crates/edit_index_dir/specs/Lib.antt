@@ -1,2 +1,0 @@
-pub mod DirIndex
-pub mod Folders

@@ -1,3 +1,0 @@
-pub mod LookLines
-pub mod Needed
-pub mod NoIndex

@@ -1,0 +1,30 @@
+-- Entries, as the program has them.
+use Rattle.std.specs.Prelude.{Bool, true, false, Option, Some, None, string_bytes}
+use Rattle.edit_tree.specs.Assertions.{Place}
+use Rattle.edit_document.specs.Items.{place_seen}
+use Rattle.edit_record.specs.EntryRecords.{EntryRecord}
+use Rattle.edit_record.specs.RecordViews.{record_view}
+use Rattle.edit_manifest.specs.Entries as named
+use Rattle.edit_manifest.specs.Entries.{version_place}
+use Rattle.edit_manifest.specs.declared.entries.found.Entry.{Entry}
+use Rattle.edit_manifest.specs.declared.entries.found.Said.{Said}
+use Rattle.edit_manifest.specs.declared.entries.found.Said.TheVariants.{Read, Unsupported}
+
+-- where the version literal of an entry stands: itself where it is a string (own)
+abbrev pub literal_by : Bool → Place → Place
+literal_by true place = place
+literal_by false place = version_place place
+
+-- what an entry says, by its texts (own)
+abbrev pub said_view : Said → Option EntryRecord
+said_view (Read d) = Some (record_view d)
+said_view (Unsupported error) = None
+
+-- an entry, by its texts (own)
+abbrev pub entry_view : Entry → named.Entry
+entry_view e = record {
+  name = string_bytes e.key;
+  place = place_seen e.place.items;
+  literal = literal_by e.bare (place_seen e.place.items);
+  said = said_view e.said;
+}

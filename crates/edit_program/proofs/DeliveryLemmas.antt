@@ -1,0 +1,143 @@
+-- A delivery, from its steps.
+use Rattle.std.proofs.Common.{◌≡◌, ◌∙◌, ◌+◌, ◌≤◌, ℕ, suc, Bor, List, [], ◌∷◌, ◌++◌, Option, Some, Bool, true, false, ap, append-nil, arith, inl, inr, length, map, option_map, subst, sym, ⊎_elim}
+use Rattle.std.proofs.Math.Nat.{eq-or-lt_of_le}
+use Rattle.std.specs.Prelude.{◌≢◌, ◌⊎◌, ◌||◌, ◌==◌, ℤ, pos, int_le, if◌then◌else◌, not, slice_get, string_bytes}
+use Rattle.std.specs.Io.KnownBytes.{Appends}
+use Rattle.std.specs.List.{flat_map}
+use Rattle.std.specs.Option.{option_map_or}
+use Rattle.std.proofs.KnownBytes.{Appends-trans}
+use Rattle.std.proofs.lemmas.Bool.{and_right}
+use Rattle.std.proofs.lemmas.Grind.{flat_map-append}
+use Rattle.edit_base.specs.Errors.{IsMemory}
+use Rattle.edit_base.specs.declared.errors.DeviceCall.{DeviceCall}
+use Rattle.edit_base.specs.declared.errors.Error.{Error}
+use Rattle.edit_base.specs.declared.errors.Error.TheVariants.{Output as Unwritten}
+use Rattle.edit_metadata.specs.Metadata.{WorkspaceSaid}
+use Rattle.edit_metadata.specs.declared.input.Input.{Input}
+use Rattle.edit_report.specs.Applied.{AreWritten, HaveDistinctPaths, path_of}
+use Rattle.edit_report.specs.declared.output.Output.{Output}
+use Rattle.edit_steps.proofs.DistinctPaths.{none_differ}
+use Rattle.edit_store.specs.Store.{RefusesCall, StoreView, raised}
+use Rattle.edit_upgrade.specs.UpdateCalls.{Call}
+use Rattle.edit_upgrade.specs.Inputs.{below}
+use Rattle.edit_upgrade.specs.declared.decision.options.Options.{Options}
+use Rattle.edit_upgrade.specs.declared.upgrade.UpgradePlan.{UpgradePlan}
+use Rattle.edit_upgrade.specs.declared.upgrade.Warning.{Warning}
+use Rattle.edit_program.specs.CallsFile.{calls_files, due_path, file_of}
+use Rattle.edit_program.specs.TellingCauses.{AreTold, HasBadWord, IsDeliveryCause}
+use Rattle.edit_program.specs.Delivered.{AreBothWritten, IsBehind, IsDelivered, IsToldTo, written}
+use Rattle.edit_program.specs.Delivery.{Delivery, calls_of, delivery_of}
+use Rattle.edit_program.specs.Said.{check, check_at, warning, warning_on, warnings_at}
+use Rattle.edit_program.specs.Shown.{diffs_if, messages_as}
+use Rattle.edit_program.specs.Tables.{tables}
+use Rattle.edit_program.specs.declared.upgrade_told.telling.Telling.{Telling}
+use Rattle.edit_program.proofs.PartLemmas.{made_of_part}
+
+-- one number more
+below_more : (f : ℕ → List ℕ) (i : ℕ) → flat_map f (below (i + 1)) ≡ flat_map f (below i) ++ f i
+below_more f i =
+    let next : i + 1 ≡ suc i = omega arith in
+    ap (λ n. flat_map f (below n)) next
+    ∙ flat_map-append f (below i) (i ∷ [])
+    ∙ ap (λ text. flat_map f (below i) ++ text) (append-nil (f i))
+
+-- and so a stream grows by what belongs to it
+pub text_more : (f : ℕ → List ℕ) (i : ℕ) (a b c : Option (List ℕ)) → Appends a b (flat_map f (below i))
+    → Appends b c (f i) → Appends a c (flat_map f (below (i + 1)))
+text_more f i a b c before one = subst (Appends a c) (sym (below_more f i)) (Appends-trans a b c _ _ before one)
+
+-- what is said of the input that stands at a number
+pub check_is : (verbosity : ℤ) (warnings : List Warning) (inputs : List Input) (i : ℕ) (input : Input)
+    → slice_get inputs i ≡ Some input
+    → check_at verbosity warnings inputs i ≡ check verbosity warnings i (string_bytes input.name)
+check_is verbosity warnings inputs i input is =
+    ap (λ o. option_map_or (λ (x : Input). check verbosity warnings i (string_bytes x.name)) o []) is
+
+-- what is said of the warnings on an input is what is said of it by all warnings
+pub said_of_own : (verbosity : ℤ) (i : ℕ) (warnings : List Warning)
+    → flat_map (warning_on verbosity i) (warnings_at i warnings) ≡ flat_map (warning_on verbosity i) warnings
+said_of_own verbosity i warnings =
+    made_of_part (λ w. w.input == i) (warning_on verbosity i) warnings
+    (λ w other. ap (λ heard. if heard then warning (string_bytes w.text) else [])
+    (and_right (not w.verbose || int_le (pos 1) verbosity) (w.input == i) other))
+
+-- the calls are not known
+pub calls_cause : (p : UpgradePlan) (o : Options) (old new : StoreView) (e : Error)
+    → IsMemory e ⊎ HasBadWord p o e → IsDeliveryCause p o old new e
+calls_cause p o old new e (inl memory) = inl (inl memory)
+calls_cause p o old new e (inr word) = inr (inr (inr word))
+
+-- what is printed was not taken, or memory ran out for it
+pub stream_cause : (p : UpgradePlan) (o : Options) (old new : StoreView) (e : Error)
+    → IsMemory e ⊎ (e ≡ Unwritten) → IsDeliveryCause p o old new e
+stream_cause p o old new e (inl memory) = inl (inl memory)
+stream_cause p o old new e (inr unwritten) = inr (inl unwritten)
+
+-- what is said last was not said
+pub end_cause : (p : UpgradePlan) (o : Options) (old new : StoreView) (e : Error)
+    → IsMemory e ⊎ ((e ≡ Unwritten)
+    ⊎ ((map string_bytes p.missing.items ≢ []) × AreTold (map string_bytes p.missing.items) e))
+    → IsDeliveryCause p o old new e
+end_cause p o old new e (inl memory) = inl (inl memory)
+end_cause p o old new e (inr (inl unwritten)) = inr (inl unwritten)
+end_cause p o old new e (inr (inr told)) = inr (inr (inl (inr told)))
+
+-- what is to be written goes to paths of its own
+pub written_differ : (o : Options) (outputs : List Output) → HaveDistinctPaths outputs
+    → HaveDistinctPaths (written o outputs)
+written_differ o outputs differ = go (o.dry_run || o.locked)
+  where
+    go : (held : Bool) → HaveDistinctPaths (if held then [] else outputs)
+    go true = none_differ (λ a b. path_of a ≢ path_of b)
+    go false = differ
+
+-- what is left of the last of some outputs, behind the first
+pub behind_first : (Leaves : List Output → StoreView → StoreView → Type 0) (first last : List Output)
+    (old mid new : StoreView) → mid.tells ≡ old.tells → AreWritten first old mid → Leaves last mid new
+    → IsBehind Leaves first last old new
+behind_first Leaves first last old mid new tells before behind = record {
+  mid = mid;
+  tells = tells;
+  before = before;
+  behind = behind;
+}
+
+raised_later : (a b c : ℕ) → a ≤ b → raised b c → raised a c
+raised_later a b c le (inl lt) = inl (omega arith)
+raised_later a b c le (inr ends) = ⊎_elim (λ same. inr (same ∙ ends.0, ends.1)) (λ lt. inl (omega arith))
+    (eq-or-lt_of_le le)
+
+-- a refusal of the device is one from an earlier count on
+pub refused_later : (of : DeviceCall) (old mid new : StoreView) (e : Error) → old.faults ≤ mid.faults
+    → RefusesCall of mid new e → RefusesCall of old new e
+refused_later of old mid new e later (inl memory) = inl memory
+refused_later of old mid new e later (inr failed) =
+    inr (failed.0, raised_later old.faults mid.faults new.faults later failed.1)
+
+-- what was printed and is not held back, and what is left of the files
+pub told_to : (Leaves : List Output → List Output → StoreView → StoreView → Type 0) (Shows : List ℕ → Type 0)
+    (p : UpgradePlan) (inputs : List Input) (w : Option WorkspaceSaid) (o : Options) (t : Telling)
+    (old new : StoreView) (calls : List Call) (outputs made file : List Output)
+    → calls ≡ calls_of p o w
+    → Shows (tables t.presentation.format o.verbosity p.rows.items (length inputs)
+    ++ (messages_as t.presentation.format p inputs o calls
+    ++ diffs_if t.presentation.diff t.current.now inputs p.outputs.items))
+    → (o.locked ≡ true → p.outputs.items ≡ []) → outputs ≡ written o p.outputs.items → file ≡ made
+    → map file_of made ≡ calls_files (due_path o (option_map (λ path. path.now) t.update_calls)) calls
+    → Leaves outputs file old new → IsToldTo Leaves Shows (delivery_of p inputs w o t) old new
+told_to Leaves Shows p inputs w o t old new calls outputs made file of shows unlocked is same are leaves = record {
+  shows = subst (λ cs. Shows (tables t.presentation.format o.verbosity p.rows.items (length inputs)
+      ++ (messages_as t.presentation.format p inputs o cs
+      ++ diffs_if t.presentation.diff t.current.now inputs p.outputs.items))) of shows;
+  unlocked = unlocked;
+  calls = file;
+  are = ap (map file_of) same ∙ are
+      ∙ ap (calls_files (due_path o (option_map (λ (path : Bor (List ℕ)). path.now) t.update_calls))) of;
+  leaves = subst (λ xs. Leaves xs file old new) is leaves;
+}
+
+-- and where no name is missing, the plan was delivered
+pub delivered : (Shows : List ℕ → Type 0) (d : Delivery) (old new : StoreView)
+    → IsToldTo AreBothWritten Shows d old new → map string_bytes d.plan.missing.items ≡ []
+    → IsDelivered Shows d old new
+delivered Shows d old new told complete = record { told = told; complete = complete }

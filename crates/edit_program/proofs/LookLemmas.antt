@@ -1,0 +1,76 @@
+-- The looks that an upgrade needs, and why they are not told.
+use Rattle.std.proofs.Common.{◌≡◌, ◌∙◌, ℕ, List, [], Option, Some, None, Ok, true, ap, get_or, inl, inr, sym, true≢false}
+use Rattle.std.specs.Prelude.{◌⊎◌, not, string_bytes}
+use Rattle.std.specs.Global.{Vec}
+use Rattle.std.proofs.lemmas.List.Folds.{list_any_none}
+use Rattle.edit_base.specs.Errors.{IsMemory, number_of}
+use Rattle.edit_base.specs.declared.errors.Error.{Error}
+use Rattle.edit_upgrade.specs.declared.decision.options.Options.{Options}
+use Rattle.edit_program.specs.LookLines.{HasBadLook}
+use Rattle.edit_program.specs.Needed.{AreNeeded}
+use Rattle.edit_program.specs.NoIndex.{NoneGives, no_view}
+use Rattle.edit_metadata.specs.declared.input.Input.{Input}
+use Rattle.edit_sources.specs.Index.{answer_of}
+use Rattle.edit_sources.specs.Names.{is_crate_name}
+use Rattle.edit_sources.specs.declared.config.Config.{Config}
+use Rattle.edit_upgrade.specs.Looks.{Answer}
+use Rattle.edit_upgrade.specs.Upgraded.{IsNeeded}
+use Rattle.edit_upgrade.specs.declared.upgrade.Look.{Look}
+use Rattle.edit_upgrade.specs.declared.upgrade.UpgradePlan.{UpgradePlan}
+use Rattle.edit_store.specs.Store.{StoreView}
+use Rattle.edit_steps.specs.Causes.{IsReadCause}
+use Rattle.edit_steps.specs.Sources.{AreRead}
+use Rattle.edit_steps.specs.declared.upgrade_read.sources.Sources.{Sources}
+use Rattle.edit_program.specs.UpgradeCauses.{IsLooksCause}
+use Rattle.edit_program.specs.Planned.{IsPlanCause, IsPlanned, asking_for_looks, nothing_kept}
+use Rattle.edit_program.specs.declared.upgrade_run.words.UpgradeWords.{UpgradeWords}
+
+-- the looks of a plan over an index that has no name are those that are needed
+pub looks_needed : (o : Options) (inputs : List Input) (configs : List (Vec Config)) (plan : UpgradePlan)
+    → IsPlanned o inputs configs no_view plan → AreNeeded (IsNeeded inputs configs) plan.looks.items
+looks_needed o inputs configs plan planned = record {
+  complete = planned.is.looks.complete;
+  needed = planned.is.looks.needed;
+  once = planned.is.looks.once;
+}
+
+-- what such an index gives for a name is for one that an index may have
+named_at : (look : Look) (answer : Answer)
+    → (nothing_kept [] [] ≡ Some answer) ⊎ NoneGives look.registry (string_bytes look.name) (Ok answer)
+    → is_crate_name (string_bytes look.name) ≡ true
+named_at look answer (inl kept) = cc
+named_at look None (inr given) = given
+named_at look (Some entries) (inr given) = absurd given
+
+-- so the lines of these looks are not refused for a name
+pub lines_refused : (o : Options) (inputs : List Input) (configs : List (Vec Config)) (plan : UpgradePlan)
+    (e : Error) → IsPlanned o inputs configs no_view plan
+    → IsMemory e ⊎ HasBadLook plan.looks.items (number_of e) → IsMemory e
+lines_refused o inputs configs plan e planned (inl memory) = memory
+lines_refused o inputs configs plan e planned (inr bad) =
+    absurd (true≢false (sym bad.1
+    ∙ list_any_none (λ (look : Look). not (is_crate_name (string_bytes look.name))) plan.looks.items
+    (λ k d within. ap not (named_at (get_or plan.looks.items k d) (answer_of (get_or plan.looks.items k d).answer)
+    (planned.is.looks.given k d within)))))
+
+-- ---- causes
+
+-- what the words name is not read
+pub unread_cause : (words : UpgradeWords) (current : List ℕ) (home : Option (List ℕ)) (old new : StoreView)
+    (e : Error) → IsReadCause current home (asking_for_looks words) old new e
+    → IsLooksCause words current home old new e
+unread_cause words current home old new e (inl failed) = inl failed
+unread_cause words current home old new e (inr wrong) = inr (inr (λ t. inl (wrong t)))
+
+-- there is no plan for it
+pub unplanned_cause : (words : UpgradeWords) (current : List ℕ) (home : Option (List ℕ)) (old new : StoreView)
+    (s : Sources) (e : Error)
+    → (old.tells ≡ true → AreRead old.file_at current home (asking_for_looks words) s)
+    → IsMemory e ⊎ IsPlanCause words.options s.target.inputs.items s.configs.items no_view e
+    → IsLooksCause words current home old new e
+unplanned_cause words current home old new s e read (inl memory) = inl (inl (inl memory))
+unplanned_cause words current home old new s e read (inr wrong) = inr (inr (λ t. inr (record {
+  sources = s;
+  read = read t;
+  cause = wrong;
+})))

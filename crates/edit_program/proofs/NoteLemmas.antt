@@ -1,0 +1,58 @@
+-- Notes, from their parts.
+use Rattle.std.proofs.Common.{◌≡◌, ◌∙◌, ◌<◌, ◌+◌, ℕ, ℤ, false, Bor, Option, List, [], ◌∷◌, ◌++◌, ap, get_or, length, map, refl, subst, sym, take}
+use Rattle.std.specs.Prelude.{◌==◌, codes}
+use Rattle.std.specs.Io.KnownBytes.{Appends}
+use Rattle.std.specs.List.{flat_map}
+use Rattle.std.proofs.KnownBytes.{Appends-trans}
+use Rattle.std.proofs.lemmas.Bool.{true≢false}
+use Rattle.std.proofs.lemmas.List.{flat_map_more, get_or-map, length-map, take_more}
+use Rattle.edit_upgrade.specs.declared.decision.options.Options.{Options}
+use Rattle.edit_report.specs.declared.row.Row.{Row}
+use Rattle.edit_upgrade.specs.declared.upgrade.UpgradePlan.{UpgradePlan}
+use Rattle.edit_program.specs.Said.{hidden, hidden_note, hidden_text, note, notes, reason_line, warning, when}
+
+-- the line of one reason more
+pub line_more : (rows : List Row) (texts : List (List ℕ)) (items : List (Bor (List ℕ))) (i : ℕ)
+    (d : Bor (List ℕ)) (head old new : List ℕ) → map (λ x. x.now) items ≡ texts → i < length items
+    → old ≡ head ++ flat_map (reason_line rows) (take i texts)
+    → new ≡ old ++ reason_line rows (get_or items i d).now
+    → new ≡ head ++ flat_map (reason_line rows) (take (i + 1) texts)
+line_more rows texts items i d head old new are within before added =
+    let now = λ (x : Bor (List ℕ)). x.now in
+    let low : i < length texts = subst (λ n. i < n) (sym (length-map items now) ∙ ap length are) within in
+    let one : (get_or items i d).now ≡ get_or texts i d.now =
+    sym (get_or-map now items i d d.now within) ∙ ap (λ xs. get_or xs i d.now) are in
+    added ∙ ap (λ xs. xs ++ reason_line rows (get_or items i d).now) before
+    ∙ ap (λ t. (head ++ flat_map (reason_line rows) (take i texts)) ++ reason_line rows t) one
+    ∙ flat_map_more (reason_line rows) head (take i texts) (get_or texts i d.now)
+    ∙ sym (ap (λ xs. head ++ flat_map (reason_line rows) xs) (take_more texts i d.now low))
+
+-- the note on rows of which there are some
+some_hidden : (v : ℤ) (items : List (Bor Row)) → (length items == 0) ≡ false
+    → note (hidden_text v (map (λ r. r.now) items)) ≡ hidden_note v (map (λ r. r.now) items)
+some_hidden v [] none = absurd (true≢false none)
+some_hidden v (r ∷ items) some = refl
+
+-- the note on the rows that are not shown
+pub hidden_said : (v w : ℤ) (all : List Row) (items slice : List (Bor Row)) (text message : List ℕ) → w ≡ v
+    → map (λ r. r.now) items ≡ hidden w all → (length items == 0) ≡ false → slice ≡ items
+    → text ≡ hidden_text w (map (λ r. r.now) slice) → message ≡ text
+    → note message ≡ hidden_note v (hidden v all)
+hidden_said v w all items slice text message known are some is said shown =
+    ap note (shown ∙ said)
+    ∙ ap (λ (xs : List (Bor Row)). note (hidden_text w (map (λ r. r.now) xs))) is
+    ∙ some_hidden w items some
+    ∙ ap (hidden_note w) are
+    ∙ ap (λ n. hidden_note n (hidden n all)) known
+
+-- all notes on a plan
+pub notes_said : (p : UpgradePlan) (o : Options) (a b c d e : Option (List ℕ))
+    → Appends a b (when p.pinned_present
+    (note (codes "Re-run with `--pinned` to upgrade pinned version requirements")))
+    → Appends b c (when p.incompatible_present
+    (note (codes "Re-run with `--incompatible` to upgrade incompatible version requirements")))
+    → Appends c d (hidden_note o.verbosity (hidden o.verbosity p.rows.items))
+    → Appends d e (when o.dry_run (warning (codes "aborting upgrade due to dry run")))
+    → Appends a e (notes p o)
+notes_said p o a b c d e first second third fourth =
+    Appends-trans a b e _ _ first (Appends-trans b c e _ _ second (Appends-trans c d e _ _ third fourth))

@@ -1,0 +1,109 @@
+-- A plan over a cache that kept nothing before.
+use Rattle.std.proofs.Common.{◌≡◌, ℕ, List, None, ap, inl, inr, option_map, subst}
+use Rattle.std.proofs.Math.Path.{fun_ext}
+use Rattle.std.specs.Global.{Vec}
+use Rattle.std.specs.Prelude.{◌⊎◌}
+use Rattle.edit_base.specs.Errors.{IsMemory}
+use Rattle.edit_base.specs.declared.errors.Error.{Error}
+use Rattle.edit_metadata.specs.declared.input.Input.{Input}
+use Rattle.edit_sources.specs.Index.{IndexView, answer_of}
+use Rattle.edit_cache.specs.IndexCache.{index_of, kept_at}
+use Rattle.edit_cache.specs.declared.cache.IndexCache.{IndexCache}
+use Rattle.edit_sources.specs.declared.config.Config.{Config}
+use Rattle.edit_upgrade.specs.Caches.{CacheView, StopsDocuments, StopsInputs, cache_view}
+use Rattle.edit_upgrade.specs.Causes.{IsCause}
+use Rattle.edit_upgrade.specs.Looks.{Kept, kept_by}
+use Rattle.edit_upgrade.specs.Plans.{IsPlan}
+use Rattle.edit_upgrade.specs.WordCauses.{IsRefusedFor}
+use Rattle.edit_upgrade.specs.declared.decision.options.Options.{Options}
+use Rattle.edit_upgrade.specs.declared.upgrade.UpgradePlan.{UpgradePlan}
+use Rattle.edit_program.specs.Planned.{IsPlanCause, IsPlanStopped, IsPlanned, nothing_kept, over}
+
+-- nothing is kept in a new cache
+nothing : {I : Type 0} (cache : IndexCache I) → ((address name : List ℕ) → kept_at cache address name ≡ None)
+    → kept_by cache ≡ nothing_kept
+nothing cache empty =
+    fun_ext (λ address. fun_ext (λ name. ap (option_map answer_of) (empty address name)))
+
+-- of the cache behind a plan only the answers that are kept count
+answers_count : (o : Options) (inputs : List Input) (configs : List (Vec Config)) (old now : CacheView)
+    (view : IndexView) (p : UpgradePlan) → IsPlan o inputs configs old now p
+    → IsPlan o inputs configs old (over view now.kept) p
+answers_count o inputs configs old now view p h = record {
+  rows = h.rows;
+  rows_in_order = h.rows_in_order;
+  outputs = h.outputs;
+  outputs_in_order = h.outputs_in_order;
+  warnings = h.warnings;
+  warnings_in_order = h.warnings_in_order;
+  narrowing = h.narrowing;
+  reach = h.reach;
+  latest = h.latest;
+  never_lower = h.never_lower;
+  fixed_point = h.fixed_point;
+  needs = h.needs;
+  missing = h.missing;
+  looks = h.looks;
+  lists = h.lists;
+}
+
+-- a plan over a new cache
+pub planned : {I : Type 0} (view : I → IndexView) (index : I) (o : Options) (inputs : List Input)
+    (configs : List (Vec Config)) (old new : IndexCache I) (p : UpgradePlan) → index_of old ≡ index
+    → ((address name : List ℕ) → kept_at old address name ≡ None)
+    → IsPlan o inputs configs (cache_view view old) (cache_view view new) p
+    → IsPlanned o inputs configs (view index) p
+planned {I} view index o inputs configs old new p is empty h =
+    let now : CacheView = over (view index) (kept_by new) in
+    record {
+      kept = kept_by new;
+      is = subst (λ (i : I). IsPlan o inputs configs (over (view i) nothing_kept) now p) is
+          (subst (λ (k : Kept). IsPlan o inputs configs (over (view (index_of old)) k) now p)
+          (nothing old empty)
+          (answers_count o inputs configs (cache_view view old) (cache_view view new) (view index) p h));
+    }
+
+-- an input that stops a plan over a new cache
+input_stops : {I : Type 0} (view : I → IndexView) (index : I) (inputs : List Input)
+    (configs : List (Vec Config)) (old new : IndexCache I) (e : Error) → index_of old ≡ index
+    → ((address name : List ℕ) → kept_at old address name ≡ None)
+    → StopsInputs inputs configs (cache_view view old) (cache_view view new) e
+    → IsPlanStopped inputs configs (view index) e
+input_stops {I} view index inputs configs old new e is empty h = record {
+  kept = kept_by new;
+  faults = (view (index_of new)).faults;
+  cause = subst (λ (i : I). IsCause inputs configs (view i).gives nothing_kept (kept_by new) (view i).faults
+      (view (index_of new)).faults e) is
+      (subst (λ (k : Kept). IsCause inputs configs (view (index_of old)).gives k (kept_by new)
+      (view (index_of old)).faults (view (index_of new)).faults e) (nothing old empty) h);
+}
+
+-- a plan of bytes that is refused
+pub bytes_refused : {I : Type 0} (view : I → IndexView) (index : I) (o : Options) (inputs : List Input)
+    (configs : List (Vec Config)) (old new : IndexCache I) (e : Error) → index_of old ≡ index
+    → ((address name : List ℕ) → kept_at old address name ≡ None)
+    → IsRefusedFor o (StopsInputs inputs configs (cache_view view old) (cache_view view new)) e
+    → IsMemory e ⊎ IsPlanCause o inputs configs (view index) e
+bytes_refused view index o inputs configs old new e is empty (inl word) = inr (inl word)
+bytes_refused view index o inputs configs old new e is empty (inr (words, cause)) =
+    inr (inr (words, input_stops view index inputs configs old new e is empty cause))
+
+-- and one of documents
+pub documents_refused : {I : Type 0} (view : I → IndexView) (index : I) (o : Options) (inputs : List Input)
+    (configs : List (Vec Config)) (old new : IndexCache I) (e : Error) → index_of old ≡ index
+    → ((address name : List ℕ) → kept_at old address name ≡ None)
+    → IsRefusedFor o (StopsDocuments inputs configs (cache_view view old) (cache_view view new)) e
+    → IsMemory e ⊎ IsPlanCause o inputs configs (view index) e
+documents_refused view index o inputs configs old new e is empty (inl word) = inr (inl word)
+documents_refused view index o inputs configs old new e is empty (inr (words, inl memory)) = inl memory
+documents_refused view index o inputs configs old new e is empty (inr (words, inr first)) =
+    let stops : StopsInputs inputs configs (cache_view view old) (cache_view view new) e = record {
+      i = first.i;
+      input = first.input;
+      own = first.own;
+      at = first.at;
+      configured = first.configured;
+      passed = first.passed;
+      stops = inr first.stops;
+    } in
+    inr (inr (words, input_stops view index inputs configs old new e is empty stops))

@@ -1,0 +1,18 @@
+-- What is printed, one part after the other.
+use Rattle.std.proofs.Common.{ℕ, List, Option}
+use Rattle.std.specs.Prelude.{codes}
+use Rattle.std.specs.Io.KnownBytes.{Appends}
+use Rattle.std.proofs.KnownBytes.{Appends-trans}
+use Rattle.edit_set_version.specs.PlanLines.{Told}
+use Rattle.edit_program.specs.Printed.{printed, statuses_in, warning_if}
+use Rattle.edit_program.specs.declared.set_version_run.words.SetVersionWords.{SetVersionWords}
+
+-- all that standard error has
+pub printed_all : (words : SetVersionWords) (lines : List Told) (a b c d : Option (List ℕ))
+    → Appends a b (warning_if words.all
+    (codes "The flag `--all` has been deprecated in favor of `--workspace`"))
+    → Appends b c (statuses_in words.presentation.format lines)
+    → Appends c d (warning_if words.dry_run (codes "aborting set-version due to dry run"))
+    → Appends a d (printed words lines)
+printed_all words lines a b c d first second third =
+    Appends-trans a b d _ _ first (Appends-trans b c d _ _ second third)

@@ -1,0 +1,69 @@
+-- A run of `set-version`, from its steps.
+use Rattle.std.proofs.Common.{◌≡◌, ◌≢◌, ℕ, List, [], Bool, true, false, length, inl, inr}
+use Rattle.std.specs.Prelude.{◌==◌, ◌⊎◌, not, if◌then◌else◌}
+use Rattle.edit_base.specs.Errors.{IsMemory}
+use Rattle.edit_base.specs.declared.errors.Error.{Error}
+use Rattle.edit_base.specs.declared.errors.Error.TheVariants.{Output as Unwritten}
+use Rattle.edit_metadata.specs.Metadata.{WorkspaceSaid}
+use Rattle.edit_metadata.specs.declared.input.Input.{Input}
+use Rattle.edit_report.specs.Applied.{HaveDistinctPaths, path_of}
+use Rattle.edit_report.specs.declared.output.Output.{Output}
+use Rattle.edit_set_version.specs.Bumps.{target_of}
+use Rattle.edit_set_version.specs.PlanRefused.{IsCauseOf}
+use Rattle.edit_set_version.specs.Planned.{OutputsInOrder, outputs_at, told_lines}
+use Rattle.edit_set_version.specs.Selections.{asked_of}
+use Rattle.edit_set_version.specs.declared.plan.SetVersionPlan.{SetVersionPlan}
+use Rattle.edit_steps.specs.Workspaces.{HaveOwnPaths}
+use Rattle.edit_steps.proofs.DistinctPaths.{none_differ, outputs_differ}
+use Rattle.edit_store.specs.Store.{StoreView}
+use Rattle.edit_program.specs.SetVersionCauses.{IsSetVersionCause}
+use Rattle.edit_program.specs.Plans.{IsVersionPlan}
+use Rattle.edit_program.specs.Printed.{printed, shown}
+use Rattle.edit_program.specs.SetVersions.{IsPlannedTo, IsRead, written}
+use Rattle.edit_program.specs.declared.set_version_run.words.SetVersionWords.{SetVersionWords}
+
+-- what is to be written goes to paths of its own
+pub written_differ : (words : SetVersionWords) (is : List Input) (outputs : List Output) → HaveOwnPaths is
+    → OutputsInOrder is outputs → HaveDistinctPaths (written words outputs)
+written_differ words is outputs own in_order = go words.dry_run
+  where
+    go : (dry : Bool) → HaveDistinctPaths (if dry then [] else outputs)
+    go true = none_differ (λ a b. path_of a ≢ path_of b)
+    go false = outputs_differ (λ path. not (length (outputs_at path outputs) == 0)) is outputs own in_order
+
+-- what was read, planned and printed, and what is left of the files
+pub planned_to : (Leaves : List Output → StoreView → StoreView → Type 0) (Shows Tells : List ℕ → Type 0)
+    (words : SetVersionWords) (current : List ℕ) (old new : StoreView) (w : WorkspaceSaid) (is : List Input)
+    (plan : SetVersionPlan) → (old.tells ≡ true → IsRead words current old.file_at w is)
+    → IsVersionPlan (target_of words.target) (asked_of words.selection) w is plan
+    → Shows (shown words current is plan) → Tells (printed words (told_lines plan))
+    → Leaves plan.outputs.items old new → old.tells ≡ true
+    → IsPlannedTo Leaves Shows Tells words current old new
+planned_to Leaves Shows Tells words current old new w is plan read planned shows tells leaves t = record {
+  workspace = w;
+  inputs = is;
+  plan = plan;
+  read = read t;
+  planned = planned;
+  shows = shows;
+  tells = tells;
+  leaves = leaves;
+}
+
+-- what is printed was not taken, or memory ran out for it
+pub stream_cause : (words : SetVersionWords) (current : List ℕ) (old new : StoreView) (e : Error)
+    → IsMemory e ⊎ (e ≡ Unwritten) → IsSetVersionCause words current old new e
+stream_cause words current old new e (inl memory) = inl (inl (inl memory))
+stream_cause words current old new e (inr unwritten) = inr (inl unwritten)
+
+-- a plan that is not made
+pub plan_cause : (words : SetVersionWords) (current : List ℕ) (old new : StoreView) (w : WorkspaceSaid)
+    (is : List Input) (e : Error) → (old.tells ≡ true → IsRead words current old.file_at w is)
+    → IsCauseOf (target_of words.target) (asked_of words.selection) w is e
+    → IsSetVersionCause words current old new e
+plan_cause words current old new w is e read cause = inr (inr (λ t. inr (record {
+  workspace = w;
+  inputs = is;
+  read = read t;
+  cause = cause;
+})))

@@ -1,0 +1,80 @@
+use Rattle.std.proofs.Common.{inr, subst, sym}
+use Rattle.std.specs.Io.KnownBytes.{Appends}
+use Rattle.edit_metadata.specs.Workspaces.{workspace_said}
+use Rattle.edit_report.specs.Applied.{AreWritten, HasStopped, HaveDistinctPaths}
+use Rattle.edit_set_version.specs.Planned.{told_lines}
+use Rattle.edit_steps.proofs.Refusals.{on_refusal, refusal_has, refusal_made}
+use Rattle.edit_steps.proofs.Written.{stopped_after, written_after}
+use Rattle.edit_program.specs.Printed.{shown}
+use Rattle.edit_program.specs.SetVersions.{AreDelivered, HasStoppedAt}
+use Rattle.edit_program.proofs.PrintedLemmas.{printed_all}
+use Rattle.edit_program.proofs.SetVersionLemmas.{plan_cause, planned_to, stream_cause, written_differ}
+use Rattle.edit_program.proofs.set_version_run.command.set_version.Goals as goal
+
+pub returns-in_err-plan-clause-why : goal.returns-in_err-plan-clause-why
+returns-in_err-plan-clause-why g c =
+    refusal_has c.from_residual-in_err-plan.result c.in_err-plan.field-0.0 _
+    c.from_residual-in_err-plan.ensures.1
+    (plan_cause c.args.words.now c.args.current.now (g.S.Store.view c.args.files.now)
+    (g.S.Store.view c.read_workspace.new.files)
+    (workspace_said c.in_ok-read.read.workspace) c.in_ok-read.read.inputs.items c.in_err-plan.field-0.0.error
+    c.in_ok-read.ensures.workspace c.in_err-plan.ensures.refused)
+
+pub write_outputs-requires : goal.write_outputs-requires
+write_outputs-requires g c =
+    subst HaveDistinctPaths (sym c.written.ensures)
+    (written_differ c.args.words.now c.in_ok-read.read.inputs.items c.in_ok-plan.plan.outputs.items
+    c.in_ok-read.ensures.paths c.in_ok-plan.ensures.planned.in_order)
+
+pub returns-in_err-print_plan-clause-why : goal.returns-in_err-print_plan-clause-why
+returns-in_err-print_plan-clause-why g c =
+    refusal_made c.from_residual-in_err-print_plan.result c.in_err-print_plan.field-0.0 _
+    c.from_residual-in_err-print_plan.ensures.1
+    (stream_cause c.args.words.now c.args.current.now (g.S.Store.view c.args.files.now)
+    (g.S.Store.view c.read_workspace.new.files) c.in_err-print_plan.field-0.0
+    c.in_err-print_plan.ensures.refused)
+
+pub returns-clause-done : goal.returns-clause-done
+returns-clause-done g c =
+    let old = g.S.Store.view c.args.files.now in
+    let new = g.S.Store.view c.write_outputs.new.files in
+    let plan = c.in_ok-plan.plan in
+    let words = c.args.words.now in
+    planned_to (AreDelivered words c.has_some.result)
+    (Appends (g.O.Write.contents c.args.out.now) (g.O.Write.contents c.print_plan.new.out))
+    (Appends (g.E.Write.contents c.args.err.now) (g.E.Write.contents c.warn_if-2.new.err))
+    words c.args.current.now old new
+    (workspace_said c.in_ok-read.read.workspace) c.in_ok-read.read.inputs.items plan
+    c.in_ok-read.ensures.workspace c.in_ok-plan.ensures.planned
+    (subst (λ is. Appends (g.O.Write.contents c.args.out.now) (g.O.Write.contents c.print_plan.new.out)
+    (shown words c.args.current.now is plan)) c.as_slice.ensures.value c.in_ok-print_plan.ensures.shown)
+    (printed_all words (told_lines plan) _ (g.E.Write.contents c.warn_if.new.err)
+    (g.E.Write.contents c.print_plan.new.err) _ c.in_ok-warn_if.ensures.text
+    c.in_ok-print_plan.ensures.told c.in_ok-warn_if-2.ensures.text) (
+      subst (λ os. AreWritten os old new) c.written.ensures
+          (written_after _ old (g.S.Store.view c.read_workspace.new.files) new c.in_ok-read.ensures.reads
+          c.in_ok-write_outputs.ensures.written),
+      c.has_some.ensures,
+    )
+
+pub returns-in_err-write_outputs-clause-refused : goal.returns-in_err-write_outputs-clause-refused
+returns-in_err-write_outputs-clause-refused g c =
+    let old = g.S.Store.view c.args.files.now in
+    let new = g.S.Store.view c.write_outputs.new.files in
+    let plan = c.in_ok-plan.plan in
+    let words = c.args.words.now in
+    on_refusal c.from_residual-in_err-write_outputs.result _
+    (λ t. inr (planned_to (HasStoppedAt words)
+    (Appends (g.O.Write.contents c.args.out.now) (g.O.Write.contents c.print_plan.new.out))
+    (Appends (g.E.Write.contents c.args.err.now) (g.E.Write.contents c.warn_if-2.new.err))
+    words c.args.current.now old new
+    (workspace_said c.in_ok-read.read.workspace) c.in_ok-read.read.inputs.items plan
+    c.in_ok-read.ensures.workspace c.in_ok-plan.ensures.planned
+    (subst (λ is. Appends (g.O.Write.contents c.args.out.now) (g.O.Write.contents c.print_plan.new.out)
+    (shown words c.args.current.now is plan)) c.as_slice.ensures.value c.in_ok-print_plan.ensures.shown)
+    (printed_all words (told_lines plan) _ (g.E.Write.contents c.warn_if.new.err)
+    (g.E.Write.contents c.print_plan.new.err) _ c.in_ok-warn_if.ensures.text
+    c.in_ok-print_plan.ensures.told c.in_ok-warn_if-2.ensures.text)
+    (subst (λ os. HasStopped os old new) c.written.ensures
+    (stopped_after _ old (g.S.Store.view c.read_workspace.new.files) new c.in_ok-read.ensures.reads
+    c.in_err-write_outputs.ensures.stopped)) t))

@@ -1,0 +1,38 @@
+use Rattle.std.proofs.Common.{subst, sym}
+use Rattle.edit_metadata.specs.Inputs.{AreInputs}
+use Rattle.edit_metadata.specs.Workspaces.{workspace_said}
+use Rattle.edit_set_version.specs.Bumps.{target_of}
+use Rattle.edit_set_version.specs.PlanRefused.{IsCauseOf}
+use Rattle.edit_set_version.specs.Selections.{asked_of}
+use Rattle.edit_program.specs.Plans.{IsVersionPlan}
+use Rattle.edit_program.specs.SetVersions.{no_rust}
+use Rattle.edit_program.proofs.set_version_run.plan.plan_for.Goals as goal
+
+pub plan_set_version-requires-clause-inputs : goal.plan_set_version-requires-clause-inputs
+plan_set_version-requires-clause-inputs c = (
+  no_rust,
+  subst (λ is. AreInputs no_rust (workspace_said c.args.read.now.workspace) is)
+      (sym c.as_slice.ensures.value) c.requires.inputs,
+)
+
+pub returns-in-Ok-clause-planned : goal.returns-in-Ok-clause-planned
+returns-in-Ok-clause-planned c =
+    let t = target_of c.args.words.now.target in
+    let a = asked_of c.args.words.now.selection in
+    let w = workspace_said c.args.read.now.workspace in
+    let there : IsVersionPlan t a w c.as_slice.result.now c.in-Ok.plan = record {
+      outputs = c.in-Ok.ensures.outputs;
+      in_order = c.in-Ok.ensures.outputs_in_order;
+      told = c.in-Ok.ensures.lines;
+      follow = λ readable. c.in-Ok.ensures.follow readable c.requires.readable;
+      clear = c.in-Ok.ensures.clear;
+    } in
+    subst (λ is. IsVersionPlan t a w is c.in-Ok.plan) c.as_slice.ensures.value there
+
+pub returns-in-Err-clause-refused : goal.returns-in-Err-clause-refused
+returns-in-Err-clause-refused c =
+    let t = target_of c.args.words.now.target in
+    let a = asked_of c.args.words.now.selection in
+    let w = workspace_said c.args.read.now.workspace in
+    subst (λ is. IsCauseOf t a w is c.at_input.result.error) c.as_slice.ensures.value
+    (subst (λ e. IsCauseOf t a w c.as_slice.result.now e) (sym c.at_input.ensures) c.in-Err.ensures.refused)

@@ -1,0 +1,28 @@
+use Rattle.std.proofs.Common.{◌≡◌, inl, subst}
+use Rattle.std.proofs.lemmas.Result.{IfErr-weaker, IfOk-weaker}
+use Rattle.std.specs.List.{flat_map}
+use Rattle.std.specs.Prelude.{◌⊎◌, IfErr, IfOk, string_bytes}
+use Rattle.edit_base.specs.Errors.{IsMemory, number_of}
+use Rattle.edit_program.specs.LookLines.{HasBadLook, look_line}
+use Rattle.edit_program.proofs.LookLemmas.{lines_refused, looks_needed}
+use Rattle.edit_program.proofs.upgrade_run.looking.lines_for.Goals as goal
+
+pub returns-clause-lines : goal.returns-clause-lines
+returns-clause-lines c =
+    IfOk-weaker c.looks_text.result _ _
+    (λ text is. record {
+      looks = c.in_ok-plan.plan.looks.items;
+      needed = looks_needed c.args.options.now c.args.target.now.inputs.items c.args.configs.now
+          c.in_ok-plan.plan c.in_ok-plan.ensures.planned;
+      is = is;
+    })
+    (subst (λ looks. IfOk c.looks_text.result (λ s. string_bytes s ≡ flat_map look_line looks))
+    c.deref.ensures.value c.looks_text.ensures.text)
+
+pub returns-clause-refused : goal.returns-clause-refused
+returns-clause-refused c =
+    IfErr-weaker c.looks_text.result _ _
+    (λ e h. inl (lines_refused c.args.options.now c.args.target.now.inputs.items c.args.configs.now
+    c.in_ok-plan.plan e c.in_ok-plan.ensures.planned h))
+    (subst (λ looks. IfErr c.looks_text.result (λ e. IsMemory e ⊎ HasBadLook looks (number_of e)))
+    c.deref.ensures.value c.looks_text.ensures.refused)

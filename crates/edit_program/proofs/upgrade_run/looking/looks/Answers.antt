@@ -1,0 +1,63 @@
+use Rattle.std.proofs.Common.{subst, sym}
+use Rattle.std.specs.Io.KnownBytes.{Appends}
+use Rattle.std.specs.Prelude.{◌⊎◌, string_bytes}
+use Rattle.edit_base.specs.Errors.{IsMemory}
+use Rattle.edit_program.specs.NoIndex.{no_view}
+use Rattle.edit_sources.specs.Configured.{given}
+use Rattle.edit_steps.proofs.Refusals.{refusal_has}
+use Rattle.edit_upgrade.specs.Upgraded.{IsNeeded}
+use Rattle.edit_steps.specs.Causes.{IsReadCause}
+use Rattle.edit_steps.specs.Sources.{AreRead}
+use Rattle.edit_program.specs.UpgradeCauses.{IsLooksCause}
+use Rattle.edit_program.specs.Looking.{AreLinesOf}
+use Rattle.edit_program.specs.Planned.{IsPlanCause}
+use Rattle.edit_program.proofs.LookLemmas.{unplanned_cause, unread_cause}
+use Rattle.edit_program.proofs.upgrade_run.looking.looks.Goals as goal
+
+pub returns-in_err-sources-clause-why : goal.returns-in_err-sources-clause-why
+returns-in_err-sources-clause-why g c =
+    let words = c.args.words.now in
+    let current = c.args.current.now in
+    let home = given c.args.cargo_home in
+    let old = g.S.Store.view c.args.files.now in
+    let new = g.S.Store.view c.read_sources.new.files in
+    let e = c.in_err-sources.field-0.0 in
+    refusal_has c.from_residual.result e (λ error. IsLooksCause words current home old new error)
+    c.from_residual.ensures.1
+    (unread_cause words current home old new e.error
+    (subst (λ a. IsReadCause current home a old new e.error) c.asked_for_looks.ensures
+    c.in_err-sources.ensures.refused))
+
+pub returns-in-Err-clause-why : goal.returns-in-Err-clause-why
+returns-in-Err-clause-why g c =
+    let words = c.args.words.now in
+    let current = c.args.current.now in
+    let home = given c.args.cargo_home in
+    let old = g.S.Store.view c.args.files.now in
+    let new = g.S.Store.view c.read_sources.new.files in
+    let s = c.in_ok-sources.sources in
+    subst (λ e. IsLooksCause words current home old new e) (sym c.at_input.ensures)
+    (unplanned_cause words current home old new s c.in-Err.error
+    (λ t. subst (λ a. AreRead old.file_at current home a s) c.asked_for_looks.ensures
+    (c.in_ok-sources.ensures.read t))
+    (subst (λ cs. IsMemory c.in-Err.error
+    ⊎ IsPlanCause words.options s.target.inputs.items cs no_view c.in-Err.error)
+    c.deref.ensures.value c.in-Err.ensures.refused))
+
+pub returns-clause-done : goal.returns-clause-done
+returns-clause-done g c = λ t.
+    let current = c.args.current.now in
+    let home = given c.args.cargo_home in
+    let old = g.S.Store.view c.args.files.now in
+    let s = c.in_ok-sources.sources in
+    record {
+      sources = s;
+      text = string_bytes c.in-Ok.lines;
+      read = subst (λ a. AreRead old.file_at current home a s) c.asked_for_looks.ensures
+          (c.in_ok-sources.ensures.read t);
+      lines = subst (λ cs. AreLinesOf (IsNeeded s.target.inputs.items cs) (string_bytes c.in-Ok.lines))
+          c.deref.ensures.value c.in-Ok.ensures.lines;
+      shows = subst (Appends (g.O.Write.contents c.args.out.now)
+          (g.O.Write.contents c.shell_write_stdout.new.out)) c.as_str.ensures.value
+          c.in_ok-shell_write_stdout.ensures.bytes;
+    }

@@ -1,0 +1,38 @@
+-- What is delivered: a plan for inputs, and how it is told.
+use Rattle.std.specs.Prelude.{ℕ, List, [], Option, option_map}
+use Rattle.std.specs.Option.{option_map_or}
+use Rattle.edit_upgrade.specs.declared.decision.options.Options.{Options}
+use Rattle.edit_metadata.specs.Metadata.{WorkspaceSaid}
+use Rattle.edit_metadata.specs.declared.input.Input.{Input}
+use Rattle.edit_shown.specs.declared.presentation.Presentation.{Presentation}
+use Rattle.edit_upgrade.specs.Asked.{asked_by}
+use Rattle.edit_upgrade.specs.UpdateCalls.{Call, update_calls}
+use Rattle.edit_upgrade.specs.declared.upgrade.UpgradePlan.{UpgradePlan}
+use Rattle.edit_program.specs.declared.upgrade_told.telling.Telling.{Telling}
+
+-- the calls of `cargo update`, where there is a workspace
+abbrev pub calls_of : UpgradePlan → Options → Option WorkspaceSaid → List Call
+calls_of plan options workspace = option_map_or (update_calls (asked_by plan options)) workspace []
+
+-- a plan for inputs by its options, and how it is told: in which folder, in what form, the calls that follow,
+-- and the path of the file that they go to
+pub record Delivery : Type 0 where
+  pub plan : UpgradePlan
+  pub inputs : List Input
+  pub options : Options
+  pub current : List ℕ
+  pub presentation : Presentation
+  pub calls : List Call
+  pub calls_path : Option (List ℕ)
+
+-- the same, of a plan that is told so
+abbrev pub delivery_of : UpgradePlan → List Input → Option WorkspaceSaid → Options → Telling → Delivery
+delivery_of plan inputs workspace options telling = record {
+  plan = plan;
+  inputs = inputs;
+  options = options;
+  current = telling.current.now;
+  presentation = telling.presentation;
+  calls = calls_of plan options workspace;
+  calls_path = option_map (λ path. path.now) telling.update_calls;
+}

@@ -1,0 +1,76 @@
+-- What an upgrade asks for, and its plan over what was read.
+use Rattle.std.specs.Prelude.{ℕ, List, None, string_bytes}
+use Rattle.std.specs.Global.{Vec}
+use Rattle.edit_base.specs.declared.errors.Error.{Error}
+use Rattle.edit_sources.specs.DirIndex.{dir_view}
+use Rattle.edit_metadata.specs.declared.input.Input.{Input}
+use Rattle.edit_sources.specs.Configured.{given}
+use Rattle.edit_sources.specs.FileIndex.{file_view}
+use Rattle.edit_sources.specs.Index.{IndexView}
+use Rattle.edit_sources.specs.LocalIndex.{local_view}
+use Rattle.edit_sources.specs.declared.config.Config.{Config}
+use Rattle.edit_store.specs.Store.{StoreView}
+use Rattle.edit_upgrade.specs.Caches.{CacheView}
+use Rattle.edit_upgrade.specs.Causes.{IsCause}
+use Rattle.edit_upgrade.specs.Looks.{Kept}
+use Rattle.edit_upgrade.specs.Plans.{IsPlan}
+use Rattle.edit_upgrade.specs.WordCauses.{IsRefusedFor}
+use Rattle.edit_upgrade.specs.declared.decision.options.Options.{Options}
+use Rattle.edit_upgrade.specs.declared.upgrade.UpgradePlan.{UpgradePlan}
+use Rattle.edit_steps.specs.Asking.{Asking, asked_rust}
+use Rattle.edit_steps.specs.declared.upgrade_read.index.IndexSource.{IndexSource}
+use Rattle.edit_steps.specs.declared.upgrade_read.index.IndexSource.TheVariants as source
+use Rattle.edit_program.specs.declared.upgrade_run.words.UpgradeWords.{UpgradeWords}
+
+-- what the words ask to read
+abbrev pub asking : UpgradeWords → Asking
+asking words = record {
+  manifest = given words.manifest_path;
+  metadata = given words.metadata_json;
+  index = given words.index_file;
+  index_dir = given words.index_dir;
+  rust = asked_rust words.rust;
+}
+
+-- the same without an index
+abbrev pub asking_for_looks : UpgradeWords → Asking
+asking_for_looks words = record {
+  manifest = given words.manifest_path;
+  metadata = given words.metadata_json;
+  index = None;
+  index_dir = None;
+  rust = asked_rust words.rust;
+}
+
+-- the index of an upgrade: the lines of the file that was read, the folder that is named, or the one in
+-- files; the last two stand in the same files
+abbrev pub index_view : IndexSource → StoreView → IndexView
+index_view source.Files local = local_view local
+index_view (source.Lines index) local = file_view index
+index_view (source.Folder folder) local = dir_view (string_bytes folder) local
+
+-- no answer is kept
+abbrev pub nothing_kept : Kept
+nothing_kept address name = None
+
+-- an index and the answers that are kept over it
+abbrev pub over : IndexView → Kept → CacheView
+over view kept = record { gives = view.gives; faults = view.faults; kept = kept }
+
+-- the plan for inputs with their configurations over an index, of which no answer was kept before
+pub record IsPlanned (o : Options) (inputs : List Input) (configs : List (Vec Config)) (view : IndexView)
+    (plan : UpgradePlan) : Type 0 where
+  pub kept : Kept
+  pub is : IsPlan o inputs configs (over view nothing_kept) (over view kept) plan
+
+-- a plan is stopped by the first input that is no manifest, or that has an entry whose registry has no
+-- address or whose look is refused
+pub record IsPlanStopped (inputs : List Input) (configs : List (Vec Config)) (view : IndexView) (e : Error)
+    : Type 0 where
+  pub kept : Kept
+  pub faults : ℕ
+  pub cause : IsCause inputs configs view.gives nothing_kept kept view.faults faults e
+
+-- why there is no plan: for the options, or for an input
+abbrev pub IsPlanCause : Options → List Input → List (Vec Config) → IndexView → Error → Type 0
+IsPlanCause o inputs configs view e = IsRefusedFor o (IsPlanStopped inputs configs view) e

@@ -1,0 +1,49 @@
+-- What `set-version` prints (own, after cargo-edit).
+use Rattle.std.specs.Prelude.{List, [], ◌++◌, ℕ, Bool, true, false, codes, if◌then◌else◌}
+use Rattle.std.specs.List.{flat_map}
+use Rattle.edit_metadata.specs.declared.input.Input.{Input}
+use Rattle.edit_report.specs.Messages.{message_text}
+use Rattle.edit_report.specs.declared.output.Output.{Output}
+use Rattle.edit_set_version.specs.PlanLines.{Told}
+use Rattle.edit_set_version.specs.Planned.{told_lines}
+use Rattle.edit_set_version.specs.declared.plan.SetVersionPlan.{SetVersionPlan}
+use Rattle.edit_shown.specs.Diffs.{diffs}
+use Rattle.edit_shown.specs.Messages.{changes}
+use Rattle.edit_shown.specs.declared.presentation.MessageFormat.{MessageFormat}
+use Rattle.edit_shown.specs.declared.presentation.MessageFormat.TheVariants.{Human, Json}
+use Rattle.edit_program.specs.declared.set_version_run.words.SetVersionWords.{SetVersionWords}
+
+-- a warning, where it is due
+abbrev pub warning_if : Bool → List ℕ → List ℕ
+warning_if due message = if due then message_text false (codes "warning") message else []
+
+-- the lines of a plan, each behind its status
+abbrev pub statuses : List Told → List ℕ
+statuses lines = flat_map (λ line. message_text true line.0 line.1) lines
+
+-- those lines, but where standard output has them as messages
+abbrev pub statuses_in : MessageFormat → List Told → List ℕ
+statuses_in Human lines = statuses lines
+statuses_in Json lines = []
+
+-- on standard error: the warning for `--all`, the lines, and the warning at a dry run
+abbrev pub printed : SetVersionWords → List Told → List ℕ
+printed words lines =
+    warning_if words.all (codes "The flag `--all` has been deprecated in favor of `--workspace`")
+    ++ (statuses_in words.presentation.format lines
+    ++ warning_if words.dry_run (codes "aborting set-version due to dry run"))
+
+-- the lines as messages
+abbrev pub messages_in : MessageFormat → List Told → List ℕ
+messages_in Human lines = []
+messages_in Json lines = changes lines
+
+-- the changes of the manifests, where they are asked for
+abbrev pub diffs_if : Bool → List ℕ → List Input → List Output → List ℕ
+diffs_if asked current inputs outputs = if asked then diffs current inputs outputs else []
+
+-- on standard output: the lines as messages and the changes of the manifests, each where it is asked for
+abbrev pub shown : SetVersionWords → List ℕ → List Input → SetVersionPlan → List ℕ
+shown words current inputs plan =
+    messages_in words.presentation.format (told_lines plan)
+    ++ diffs_if words.presentation.diff current inputs plan.outputs.items

@@ -1,0 +1,148 @@
+-- What an upgrade prints on standard error (own, after cargo-edit).
+use Rattle.std.specs.Prelude.{ℕ, ℤ, pos, int_le, nat_le, List, [], ◌∷◌, ◌++◌, Bool, true, false, not, ◌&&◌, ◌||◌, ◌==◌, if◌then◌else◌, codes, filter, length, slice_get, string_bytes}
+use Rattle.std.specs.BTreeSet.{insert_key}
+use Rattle.std.specs.Cmp.Lexicographic.{slice_cmp}
+use Rattle.std.specs.Fmt.{decimal}
+use Rattle.std.specs.List.{flat_map, fold, join_by}
+use Rattle.std.specs.List.Sorted.{IsNonDecreasingBy}
+use Rattle.std.specs.Option.{option_map_or}
+use Rattle.std.specs.Ordering.{nat_cmp}
+use Rattle.std.specs.Str.{bytes_eq}
+use Rattle.edit_metadata.specs.declared.input.Input.{Input}
+use Rattle.edit_report.specs.Messages.{message_text}
+use Rattle.edit_report.specs.Shown.{is_shown}
+use Rattle.edit_report.specs.Table.{name_text, reason_text}
+use Rattle.edit_report.specs.declared.row.Row.{Row}
+use Rattle.edit_upgrade.specs.UpdateCalls.{Call}
+use Rattle.edit_upgrade.specs.Inputs.{below}
+use Rattle.edit_upgrade.specs.declared.decision.options.Options.{Options}
+use Rattle.edit_upgrade.specs.declared.upgrade.UpgradePlan.{UpgradePlan}
+use Rattle.edit_upgrade.specs.declared.upgrade.Warning.{Warning}
+use Rattle.edit_program.specs.Delivery.{Delivery}
+
+-- a warning
+abbrev pub warning : List ℕ → List ℕ
+warning message = message_text false (codes "warning") message
+
+-- a note
+abbrev pub note : List ℕ → List ℕ
+note message = message_text false (codes "note") message
+
+-- a report of this verbosity has the warning for this input: one for verbose only at verbosity 1 and up
+abbrev pub is_heard : ℤ → ℕ → Warning → Bool
+is_heard verbosity i w = (not w.verbose || int_le (pos 1) verbosity) && w.input == i
+
+-- the warning, where a report of this verbosity has it for this input
+abbrev pub warning_on : ℤ → ℕ → Warning → List ℕ
+warning_on verbosity i w = if is_heard verbosity i w then warning (string_bytes w.text) else []
+
+-- the warnings on an input
+abbrev pub warnings_at : ℕ → List Warning → List Warning
+warnings_at i warnings = filter (λ w. w.input == i) warnings
+
+-- the warnings stand in the order of their inputs
+abbrev pub AreWarningsInOrder : List Warning → Type 0
+AreWarningsInOrder warnings = IsNonDecreasingBy (λ w. w.input) warnings
+
+-- whose dependencies are looked at, and the warnings on them
+abbrev pub check : ℤ → List Warning → ℕ → List ℕ → List ℕ
+check verbosity warnings i name =
+    message_text true (codes "Checking") (name ++ codes "'s dependencies")
+    ++ flat_map (warning_on verbosity i) warnings
+
+-- the same of the input with this number
+abbrev pub check_at : ℤ → List Warning → List Input → ℕ → List ℕ
+check_at verbosity warnings inputs i =
+    option_map_or (λ input. check verbosity warnings i (string_bytes input.name)) (slice_get inputs i) []
+
+-- the same of so many inputs, one behind another
+abbrev pub checks : ℤ → List Warning → List Input → ℕ → List ℕ
+checks verbosity warnings inputs n = flat_map (check_at verbosity warnings inputs) (below n)
+
+-- a call, as a status with its words
+abbrev pub run : Call → List ℕ
+run call = message_text true (codes "Run") (join_by (λ word. word) (codes " ") call)
+
+-- the calls
+abbrev pub runs : List Call → List ℕ
+runs calls = flat_map run calls
+
+-- a message, where it is due
+abbrev pub when : Bool → List ℕ → List ℕ
+when due message = if due then message else []
+
+-- the reasons' texts, in byte order
+abbrev pub reasons : List (List ℕ)
+reasons = codes "compatible" ∷ codes "excluded" ∷ codes "git" ∷ codes "incompatible" ∷ codes "latest"
+    ∷ codes "local" ∷ codes "pinned" ∷ []
+
+-- a text of a reason as notes have it: the latest version's is empty in tables
+abbrev pub or_latest : List ℕ → List ℕ
+or_latest [] = codes "latest"
+or_latest (c ∷ cs) = c ∷ cs
+
+-- the text of a row's reason as notes have it
+abbrev pub reason_said : Row → List ℕ
+reason_said row = or_latest (reason_text row.reason)
+
+-- these names with one more: in byte order, each once
+abbrev pub with_name : List (List ℕ) → List ℕ → List (List ℕ)
+with_name names name = insert_key (slice_cmp nat_cmp) names name
+
+-- these names with that of a row, where this is its reason
+abbrev pub add_name : List ℕ → List (List ℕ) → Row → List (List ℕ)
+add_name reason names row =
+    if bytes_eq (reason_said row) reason then with_name names (name_text (string_bytes row.name) row.rename)
+    else names
+
+-- the names of the rows of a reason, as tables have them: in byte order, each once
+abbrev pub names_of : List ℕ → List Row → List (List ℕ)
+names_of reason rows = fold (add_name reason) [] rows
+
+-- names as a line has them: at most three of them, else how many there are
+abbrev pub names_text : List (List ℕ) → List ℕ
+names_text names = if nat_le (length names) 3 then join_by (λ name. name) (codes ", ") names
+    else decimal (length names) ++ codes " packages"
+
+-- the line of a reason with these names, where there are some
+abbrev pub names_line : List ℕ → List (List ℕ) → List ℕ
+names_line reason [] = []
+names_line reason (name ∷ names) = codes "\n  " ++ (reason ++ (codes ": " ++ names_text (name ∷ names)))
+
+-- the line of a reason
+abbrev pub reason_line : List Row → List ℕ → List ℕ
+reason_line rows reason = names_line reason (names_of reason rows)
+
+-- the words before those lines
+abbrev pub rerun : ℤ → List ℕ
+rerun verbosity = if int_le (pos 1) verbosity
+    then codes "Re-run with `--verbose --verbose` to show more dependencies"
+    else codes "Re-run with `--verbose` to show more dependencies"
+
+-- how to see rows that are not shown: the words, and a line for each reason
+abbrev pub hidden_text : ℤ → List Row → List ℕ
+hidden_text verbosity rows = rerun verbosity ++ flat_map (reason_line rows) reasons
+
+-- the rows that a report of this verbosity does not show
+abbrev pub hidden : ℤ → List Row → List Row
+hidden verbosity rows = filter (λ row. not (is_shown verbosity row)) rows
+
+-- the note on rows that are not shown, where there are some
+abbrev pub hidden_note : ℤ → List Row → List ℕ
+hidden_note verbosity [] = []
+hidden_note verbosity (row ∷ rows) = note (hidden_text verbosity (row ∷ rows))
+
+-- the notes on a plan, and at a dry run that nothing was written
+abbrev pub notes : UpgradePlan → Options → List ℕ
+notes plan options =
+    when plan.pinned_present (note (codes "Re-run with `--pinned` to upgrade pinned version requirements"))
+    ++ (when plan.incompatible_present
+    (note (codes "Re-run with `--incompatible` to upgrade incompatible version requirements"))
+    ++ (hidden_note options.verbosity (hidden options.verbosity plan.rows.items)
+    ++ when options.dry_run (warning (codes "aborting upgrade due to dry run"))))
+
+-- all that is said of a plan: of each input, the calls, the notes
+abbrev pub said : Delivery → List ℕ
+said d =
+    checks d.options.verbosity d.plan.warnings.items d.inputs (length d.inputs)
+    ++ (runs d.calls ++ notes d.plan d.options)

@@ -1,0 +1,36 @@
+-- Why `set-version` is refused.
+use Rattle.std.specs.Prelude.{◌≡◌, ◌⊎◌, ℕ, List, true}
+use Rattle.edit_base.specs.declared.errors.DeviceCall.TheVariants as call
+use Rattle.edit_base.specs.declared.errors.Error.{Error}
+use Rattle.edit_base.specs.declared.errors.Error.TheVariants.{Output as Unwritten}
+use Rattle.edit_metadata.specs.Metadata.{WorkspaceSaid}
+use Rattle.edit_metadata.specs.declared.input.Input.{Input}
+use Rattle.edit_set_version.specs.Bumps.{target_of}
+use Rattle.edit_set_version.specs.PlanRefused.{IsCauseOf}
+use Rattle.edit_set_version.specs.Selections.{asked_of}
+use Rattle.edit_steps.specs.Workspaces.{HasNoWorkspace}
+use Rattle.edit_store.specs.Store.{Files, RefusesCall, StoreView}
+use Rattle.edit_program.specs.SetVersions.{IsRead}
+use Rattle.edit_program.specs.declared.set_version_run.words.SetVersionWords.{SetVersionWords}
+
+-- the workspace was read, and there is no plan for it
+pub record HasNoPlan (words : SetVersionWords) (current : List ℕ) (files : Files) (e : Error) : Type 0 where
+  pub workspace : WorkspaceSaid
+  pub inputs : List Input
+  pub read : IsRead words current files workspace inputs
+  pub cause : IsCauseOf (target_of words.target) (asked_of words.selection) workspace inputs e
+
+-- what is wrong with the files: the workspace is not read, or there is no plan for it
+abbrev pub IsWrong : SetVersionWords → List ℕ → Files → Error → Type 0
+IsWrong words current files e =
+    HasNoWorkspace files current words.metadata_json.now e ⊎ HasNoPlan words current files e
+
+-- memory ran out, or the device failed in a read or a write and the count of faults rose
+abbrev pub IsFailure : StoreView → StoreView → Error → Type 0
+IsFailure old new e = RefusesCall call.Read old new e ⊎ RefusesCall call.Write old new e
+
+-- why `set-version` is refused: memory or the device failed, the stream did not take what is printed, or
+-- something is wrong with the files
+abbrev pub IsSetVersionCause : SetVersionWords → List ℕ → StoreView → StoreView → Error → Type 0
+IsSetVersionCause words current old new e =
+    IsFailure old new e ⊎ ((e ≡ Unwritten) ⊎ (old.tells ≡ true → IsWrong words current old.file_at e))

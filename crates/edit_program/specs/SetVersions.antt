@@ -1,0 +1,65 @@
+-- What a run of `set-version` reads, plans, prints and writes (own, after cargo-edit).
+use Rattle.std.specs.Prelude.{◌≡◌, ◌==◌, ℕ, List, [], Bool, None, true, length, not, if◌then◌else◌}
+use Rattle.edit_metadata.specs.Inputs.{RustAsked}
+use Rattle.edit_metadata.specs.Metadata.{WorkspaceSaid}
+use Rattle.edit_metadata.specs.declared.input.Input.{Input}
+use Rattle.edit_report.specs.Applied.{AreWritten, HasStopped}
+use Rattle.edit_report.specs.declared.output.Output.{Output}
+use Rattle.edit_set_version.specs.Bumps.{target_of}
+use Rattle.edit_set_version.specs.Planned.{told_lines}
+use Rattle.edit_set_version.specs.Selections.{asked_of}
+use Rattle.edit_set_version.specs.declared.plan.SetVersionPlan.{SetVersionPlan}
+use Rattle.edit_steps.specs.Workspaces.{IsWorkspaceRead}
+use Rattle.edit_store.specs.Store.{Files, StoreView}
+use Rattle.edit_program.specs.Plans.{IsVersionPlan}
+use Rattle.edit_program.specs.Printed.{printed, shown}
+use Rattle.edit_program.specs.declared.set_version_run.words.SetVersionWords.{SetVersionWords}
+
+-- Rust versions are not asked for
+abbrev pub no_rust : RustAsked
+no_rust = record { given = None; ignored = true }
+
+-- the workspace that the words name was read, with its manifests
+abbrev pub IsRead : SetVersionWords → List ℕ → Files → WorkspaceSaid → List Input → Type 0
+IsRead words current files w is = IsWorkspaceRead files current words.metadata_json.now no_rust w is
+
+-- the outputs that are to be written: none at a dry run
+abbrev pub written : SetVersionWords → List Output → List Output
+written words outputs = if words.dry_run then [] else outputs
+
+-- whether a plan has an output
+abbrev pub has_some : List Output → Bool
+has_some outputs = not (length outputs == 0)
+
+-- the workspace was read and a plan made, standard output and standard error have what is printed of it, and
+-- this holds of its outputs
+pub record IsPlannedTo (Leaves : List Output → StoreView → StoreView → Type 0) (Shows Tells : List ℕ → Type 0)
+    (words : SetVersionWords) (current : List ℕ) (old new : StoreView) : Type 0 where
+  pub workspace : WorkspaceSaid
+  pub inputs : List Input
+  pub plan : SetVersionPlan
+  pub read : IsRead words current old.file_at workspace inputs
+  pub planned : IsVersionPlan (target_of words.target) (asked_of words.selection) workspace inputs plan
+  pub shows : Shows (shown words current inputs plan)
+  pub tells : Tells (printed words (told_lines plan))
+  pub leaves : Leaves plan.outputs.items old new
+
+-- outputs are written, none at a dry run, and this says whether there are some
+abbrev pub AreDelivered : SetVersionWords → Bool → List Output → StoreView → StoreView → Type 0
+AreDelivered words due outputs old new = AreWritten (written words outputs) old new × (due ≡ has_some outputs)
+
+-- the writing stopped at an output
+abbrev pub HasStoppedAt : SetVersionWords → List Output → StoreView → StoreView → Type 0
+HasStoppedAt words outputs old new = HasStopped (written words outputs) old new
+
+-- each output of the plan stands in its file, and no other file changed; `due` where the plan has an output
+abbrev pub AreVersionsSet : (List ℕ → Type 0) → (List ℕ → Type 0) → SetVersionWords → List ℕ → Bool
+    → StoreView → StoreView → Type 0
+AreVersionsSet Shows Tells words current due old new =
+    IsPlannedTo (AreDelivered words due) Shows Tells words current old new
+
+-- the writing stopped at an output: the files of those before it are whole, and those behind it untouched
+abbrev pub IsCutShort : (List ℕ → Type 0) → (List ℕ → Type 0) → SetVersionWords → List ℕ
+    → StoreView → StoreView → Type 0
+IsCutShort Shows Tells words current old new =
+    IsPlannedTo (HasStoppedAt words) Shows Tells words current old new

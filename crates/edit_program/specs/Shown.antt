@@ -1,0 +1,29 @@
+-- What standard output has of a plan (own).
+use Rattle.std.specs.Prelude.{ℕ, List, [], ◌++◌, Bool, if◌then◌else◌, length}
+use Rattle.edit_upgrade.specs.declared.decision.options.Options.{Options}
+use Rattle.edit_metadata.specs.declared.input.Input.{Input}
+use Rattle.edit_report.specs.declared.output.Output.{Output}
+use Rattle.edit_shown.specs.Diffs.{diffs}
+use Rattle.edit_shown.specs.Messages.{messages}
+use Rattle.edit_shown.specs.declared.presentation.MessageFormat.{MessageFormat}
+use Rattle.edit_shown.specs.declared.presentation.MessageFormat.TheVariants.{Human, Json}
+use Rattle.edit_upgrade.specs.UpdateCalls.{Call}
+use Rattle.edit_upgrade.specs.declared.upgrade.UpgradePlan.{UpgradePlan}
+use Rattle.edit_program.specs.Delivery.{Delivery}
+use Rattle.edit_program.specs.Tables.{tables}
+
+-- a plan as JSON, where it is to be shown so
+abbrev pub messages_as : MessageFormat → UpgradePlan → List Input → Options → List Call → List ℕ
+messages_as Human plan inputs options calls = []
+messages_as Json plan inputs options calls = messages plan inputs options calls
+
+-- the changes of manifests, where they are to be shown
+abbrev pub diffs_if : Bool → List ℕ → List Input → List Output → List ℕ
+diffs_if due current inputs outputs = if due then diffs current inputs outputs else []
+
+-- the tables, or a plan as JSON; behind them the changes of manifests
+abbrev pub shown : Delivery → List ℕ
+shown d =
+    tables d.presentation.format d.options.verbosity d.plan.rows.items (length d.inputs)
+    ++ (messages_as d.presentation.format d.plan d.inputs d.options d.calls
+    ++ diffs_if d.presentation.diff d.current d.inputs d.plan.outputs.items)

@@ -1,0 +1,78 @@
+-- What an upgrade reads, plans and writes.
+use Rattle.std.specs.Prelude.{◌≡◌, ℕ, List, Bool, not, ◌==◌, Option, Some, None, length, option_map, ⊤}
+use Rattle.edit_metadata.specs.Workspaces.{workspace_said}
+use Rattle.edit_sources.specs.Configured.{given}
+use Rattle.edit_steps.specs.Absolute.{IsAbsoluteOf}
+use Rattle.edit_store.specs.Store.{Files, StoreView}
+use Rattle.edit_upgrade.specs.declared.upgrade.UpgradePlan.{UpgradePlan}
+use Rattle.edit_steps.specs.Sources.{AreRead}
+use Rattle.edit_steps.specs.declared.upgrade_read.sources.Sources.{Sources}
+use Rattle.edit_steps.specs.declared.upgrade_read.target.Target.{Target}
+use Rattle.edit_program.specs.Planned.{IsPlanned, asking, index_view}
+use Rattle.edit_program.specs.declared.upgrade_run.words.UpgradeWords.{UpgradeWords}
+use Rattle.edit_program.specs.Delivered.{IsCutShort, IsDelivered}
+use Rattle.edit_program.specs.Delivery.{Delivery, calls_of}
+use Rattle.edit_program.specs.Said.{said}
+
+-- what the words name was read
+abbrev pub IsRead : UpgradeWords → List ℕ → Option (List ℕ) → Files → Sources → Type 0
+IsRead words current home files s = AreRead files current home (asking words) s
+
+-- the plan for what was read, over its index
+abbrev pub IsPlannedFor : UpgradeWords → Sources → StoreView → UpgradePlan → Type 0
+IsPlannedFor words s local plan =
+    IsPlanned words.options s.target.inputs.items s.configs.items (index_view s.index local) plan
+
+-- the absolute path of a file that is named; none where none is
+abbrev pub IsPathOf : List ℕ → Option (List ℕ) → Option (List ℕ) → Type 0
+IsPathOf current None None = ⊤
+IsPathOf current (Some named) (Some path) = IsAbsoluteOf current named path
+IsPathOf current _ _ = ⊥
+
+-- a plan for these manifests, as the words ask to tell it, with this path for the file of the calls
+abbrev pub delivery_by : UpgradeWords → List ℕ → UpgradePlan → Target → Option (List ℕ) → Delivery
+delivery_by words current plan target path = record {
+  plan = plan;
+  inputs = target.inputs.items;
+  options = words.options;
+  current = current;
+  presentation = words.presentation;
+  calls = calls_of plan words.options (option_map workspace_said target.workspace);
+  calls_path = path;
+}
+
+-- what the words name was read and planned, and this holds of the plan as it is to be told
+pub record IsPlannedTo (Ends : Delivery → Type 0) (words : UpgradeWords) (current : List ℕ)
+    (home : Option (List ℕ)) (local : StoreView) (files : Files) : Type 0 where
+  pub sources : Sources
+  pub plan : UpgradePlan
+  pub path : Option (List ℕ)
+  pub read : IsRead words current home files sources
+  pub planned : IsPlannedFor words sources local plan
+  pub at : IsPathOf current (given words.update_calls) path
+  pub ends : Ends (delivery_by words current plan sources.target path)
+
+-- the plan changes a manifest
+abbrev pub has_outputs : UpgradePlan → Bool
+has_outputs plan = not (length plan.outputs.items == 0)
+
+-- a plan was delivered, what is said of it was told, and it is answered whether it changes a manifest
+pub record IsAnsweredWith (due : Bool) (Shows Says : List ℕ → Type 0) (old new : StoreView) (d : Delivery)
+    : Type 0 where
+  pub is : due ≡ has_outputs d.plan
+  pub delivered : IsDelivered Shows d old new
+  pub says : Says (said d)
+
+-- the manifests that the words name were upgraded: each output of the plan that is to be written stands in
+-- its file, and behind them the calls in theirs, and no other file changed; the plan is shown, and what is
+-- said of it; the answer is whether it changes a manifest
+abbrev pub IsUpgraded : Bool → (List ℕ → Type 0) → (List ℕ → Type 0) → UpgradeWords → List ℕ
+    → Option (List ℕ) → StoreView → StoreView → StoreView → Type 0
+IsUpgraded due Shows Says words current home local old new =
+    IsPlannedTo (IsAnsweredWith due Shows Says old new) words current home local old.file_at
+
+-- an upgrade that was refused at a write, or behind one
+abbrev pub IsBroken : (List ℕ → Type 0) → UpgradeWords → List ℕ → Option (List ℕ) → StoreView → StoreView
+    → StoreView → Type 0
+IsBroken Shows words current home local old new =
+    IsPlannedTo (λ d. IsCutShort Shows d old new) words current home local old.file_at

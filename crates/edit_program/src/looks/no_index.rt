@@ -1,0 +1,34 @@
+//! An index that has no name.
+ghost use Rattle.edit_program.specs.NoIndex.{no_view};
+
+use edit_base::{CargoResult, Error};
+use edit_sources::index::{Index, IndexKrate};
+use edit_sources::index_dir::is_crate_name;
+use std::alloc::Global;
+use url::Url;
+
+/// An index that has no name: of each that an index may have it says that there is no such crate.
+#[derive(Debug, Drop)]
+pub struct NoIndex {}
+
+impl Index for NoIndex {
+    ghost view = { λ _. no_view };
+
+    fn look(
+        &mut self,
+        alloc: Global,
+        _registry: &Url,
+        name: &str,
+    ) -> CargoResult<Option<IndexKrate>> {
+        if !is_crate_name(name) {
+            return Err(Error::BadCrateName {
+                name: String::from_str(alloc, name)?,
+            });
+        }
+        Ok(None)
+    }
+
+    fn faults(&self) -> u64 {
+        0
+    }
+}

@@ -1,0 +1,53 @@
+//! Looks as lines.
+ghost use Rattle.std.specs.Prelude.{◌≡◌, ◌⊎◌, ◌++◌, IfErr, IfOk, OnOk, string_bytes};
+ghost use Rattle.std.specs.List.{flat_map};
+ghost use Rattle.edit_base.specs.Errors.{IsMemory, number_of};
+ghost use Rattle.edit_sources.specs.Folders.{HasBadName};
+ghost use Rattle.edit_program.specs.LookLines.{HasBadLook, line_text, look_line};
+
+use edit_base::CargoResult;
+use edit_sources::index_dir::layout_path;
+use edit_upgrade::Look;
+use std::alloc::{AllocError, Global};
+
+/// Adds a line: three texts, parted by tabs.
+fn push_line(text: &mut String, address: &str, name: &str, path: &str) -> Result<(), AllocError>
+    ensures { OnOk result (string_bytes text.new
+        ≡ string_bytes text.old ++ line_text address.now name.now path.now) }
+{
+    text.push_str(address)?;
+    text.push('\t')?;
+    text.push_str(name)?;
+    text.push('\t')?;
+    text.push_str(path)?;
+    text.push('\n')
+}
+
+/// Adds the line of a look.
+fn push_look(alloc: Global, text: &mut String, look: &Look) -> CargoResult<()>
+    ensures ok { OnOk result (string_bytes text.new ≡ string_bytes text.old ++ look_line look.now) }
+    ensures refused { IfErr result
+        (λ e. IsMemory e ⊎ HasBadName (string_bytes look.now.name) (number_of e)) }
+{
+    let path = layout_path(alloc, look.name.as_str())?;
+    push_line(
+        text,
+        look.registry.as_str(),
+        look.name.as_str(),
+        path.as_str(),
+    )?;
+    Ok(())
+}
+
+/// A line for each look: the address, the name, and the path of the name's file in an index's layout, parted
+/// by tabs. Refused with 29 for a name that no index may have.
+pub fn looks_text(alloc: Global, looks: &[Look]) -> CargoResult<String>
+    ensures text { IfOk result (λ s. string_bytes s ≡ flat_map look_line looks.now) }
+    ensures refused { IfErr result (λ e. IsMemory e ⊎ HasBadLook looks.now (number_of e)) }
+{
+    let mut text = String::new(alloc);
+    for look in looks {
+        push_look(alloc, &mut text, look)?;
+    }
+    Ok(text)
+}

@@ -1,0 +1,60 @@
+//! The command `set-version`: reads, plans, prints, then writes.
+ghost use Rattle.std.specs.Prelude.{◌≡◌, ◌⊎◌, IfErr, IfOk, OnErr, true};
+ghost use Rattle.std.specs.Io.KnownBytes.{Appends};
+ghost use Rattle.edit_store.specs.Store.{SameFiles};
+ghost use Rattle.edit_program.specs.SetVersionCauses.{IsSetVersionCause};
+ghost use Rattle.edit_program.specs.SetVersions.{AreVersionsSet, IsCutShort};
+
+use crate::set_version_run::plan::{has_some, plan_for, written};
+use crate::set_version_run::printed::{print_plan, warn_if};
+use crate::set_version_run::words::SetVersionWords;
+use edit_steps::{RunResult, read_workspace, write_outputs};
+use edit_store::Store;
+use std::alloc::Global;
+use std::io;
+
+const ALL: &str = "The flag `--all` has been deprecated in favor of `--workspace`";
+
+const DRY_RUN: &str = "aborting set-version due to dry run";
+
+/// Sets the versions that the words ask for in the workspace whose metadata they name. The plan is printed
+/// before a file is written; at a dry run none is. Answers whether the plan has an output: one that was
+/// written, or at a dry run would be.
+pub fn set_version<S: Store, O: io::Write, E: io::Write>(
+    alloc: Global,
+    words: &SetVersionWords<'_>,
+    current: &str,
+    files: &mut S,
+    out: &mut O,
+    err: &mut E,
+) -> RunResult<bool>
+    ensures done { IfOk result (λ due. (S.view files.old).tells ≡ true
+        → AreVersionsSet (Appends (O.contents out.old) (O.contents out.new))
+        (Appends (E.contents err.old) (E.contents err.new)) words.now current.now due
+        (S.view files.old) (S.view files.new)) }
+    // a refusal before the first write leaves each file as it was
+    ensures refused { OnErr result ((S.view files.old).tells ≡ true
+        → SameFiles (S.view files.old).file_at (S.view files.new).file_at
+        ⊎ IsCutShort (Appends (O.contents out.old) (O.contents out.new))
+        (Appends (E.contents err.old) (E.contents err.new)) words.now current.now
+        (S.view files.old) (S.view files.new)) }
+    // and each refusal has its cause
+    ensures why { IfErr result (λ r. IsSetVersionCause words.now current.now
+        (S.view files.old) (S.view files.new) r.error) }
+{
+    let read = read_workspace(alloc, words.metadata_json, current, None, true, files)?;
+    warn_if(words.all, ALL, err)?;
+    let plan = plan_for(alloc, words, &read)?;
+    print_plan(
+        alloc,
+        words,
+        current,
+        read.inputs.as_slice(),
+        &plan,
+        out,
+        err,
+    )?;
+    warn_if(words.dry_run, DRY_RUN, err)?;
+    write_outputs(alloc, written(words, &plan), files)?;
+    Ok(has_some(&plan))
+}

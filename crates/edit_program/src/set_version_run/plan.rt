@@ -1,0 +1,88 @@
+//! The plan for the workspace that was read.
+ghost use Rattle.std.specs.Prelude.{◌≡◌, All, IfErr, IfOk};
+ghost use Rattle.edit_metadata.specs.Inputs.{AreInputs};
+ghost use Rattle.edit_metadata.specs.Workspaces.{HasOwnFolders, workspace_said};
+ghost use Rattle.edit_set_version.specs.Bumps.{target_of};
+ghost use Rattle.edit_set_version.specs.PlanRefused.{IsCauseOf};
+ghost use Rattle.edit_set_version.specs.Selections.{asked_of};
+ghost use Rattle.edit_version.specs.Laws.{IsReadable};
+ghost use Rattle.semver.specs.Identifiers.{parts_of};
+ghost use Rattle.edit_program.specs.Plans.{IsVersionPlan};
+ghost use Rattle.edit_program.specs.SetVersions.{has_some, no_rust, written};
+
+use crate::set_version_run::words::SetVersionWords;
+use edit_base::Error;
+use edit_manifest::Manifest;
+use edit_metadata::Input;
+use edit_report::Output;
+use edit_set_version::{SetVersionPlan, plan_set_version};
+use edit_steps::{ReadWorkspace, Refusal, RunResult, at_byte};
+use std::alloc::Global;
+
+/// Whether an input is no manifest, for this refusal.
+fn is_refused(alloc: Global, input: &Input, error: &Error) -> bool {
+    match Manifest::read_bytes(alloc, &input.bytes) {
+        Ok(_) => false,
+        Err(own) => own.number() == error.number(),
+    }
+}
+
+/// A refusal of a plan, with its place where an input is no manifest: it is that of the first such input.
+fn at_input(alloc: Global, error: Error, inputs: &[Input]) -> Refusal
+    ensures { result.error ≡ error }
+{
+    if !matches!(&error, Error::NotToml { .. } | Error::NotUtf8) {
+        return Refusal::from(error);
+    }
+    for input in inputs {
+        if is_refused(alloc, input, &error) {
+            return at_byte(alloc, error, input.path.as_str(), &input.bytes);
+        }
+    }
+    Refusal::from(error)
+}
+
+/// The plan that the words ask for, over the workspace that was read.
+pub(crate) fn plan_for(
+    alloc: Global,
+    words: &SetVersionWords<'_>,
+    read: &ReadWorkspace,
+) -> RunResult<SetVersionPlan>
+    requires inputs { AreInputs no_rust (workspace_said read.now.workspace) read.now.inputs.items }
+    requires folders { HasOwnFolders (workspace_said read.now.workspace) }
+    requires readable { All (λ p. IsReadable (parts_of p.version)) read.now.workspace.packages.items }
+    ensures planned { IfOk result (IsVersionPlan (target_of words.now.target)
+        (asked_of words.now.selection) (workspace_said read.now.workspace) read.now.inputs.items) }
+    ensures refused { IfErr result (λ r. IsCauseOf (target_of words.now.target)
+        (asked_of words.now.selection) (workspace_said read.now.workspace) read.now.inputs.items r.error) }
+{
+    let ReadWorkspace { workspace, inputs } = read;
+    match plan_set_version(
+        alloc,
+        &words.target,
+        &words.selection,
+        workspace,
+        inputs.as_slice(),
+    ) {
+        Ok(plan) => Ok(plan),
+        Err(error) => Err(at_input(alloc, error, inputs.as_slice())),
+    }
+}
+
+/// The outputs that are to be written.
+pub(crate) fn written<'a>(words: &SetVersionWords<'_>, plan: &'a SetVersionPlan) -> &'a [Output]
+    ensures { result.now ≡ written words.now plan.entry.now.outputs.items }
+{
+    if words.dry_run {
+        &[]
+    } else {
+        plan.outputs.as_slice()
+    }
+}
+
+/// Whether a plan has an output: one that is written, or at a dry run would be.
+pub(crate) fn has_some(plan: &SetVersionPlan) -> bool
+    ensures { result ≡ has_some plan.now.outputs.items }
+{
+    !plan.outputs.is_empty()
+}

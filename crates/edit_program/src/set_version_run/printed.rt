@@ -1,0 +1,103 @@
+//! What `set-version` prints.
+ghost use Rattle.std.specs.Prelude.{◌≡◌, ◌⊎◌, IfErr, OnOk, map};
+ghost use Rattle.std.specs.Io.KnownBytes.{Appends};
+ghost use Rattle.edit_base.specs.Errors.{IsMemory};
+ghost use Rattle.edit_base.specs.declared.errors.Error.TheVariants.{Output};
+ghost use Rattle.edit_set_version.specs.Planned.{told_lines};
+ghost use Rattle.edit_set_version.specs.ToldLines.{line_told};
+ghost use Rattle.edit_program.specs.Printed.{diffs_if, messages_in, shown, statuses, statuses_in, warning_if};
+
+use crate::set_version_run::words::SetVersionWords;
+use edit_base::CargoResult;
+use edit_metadata::Input;
+use edit_report::{shell_status, shell_warn};
+use edit_set_version::SetVersionPlan;
+use edit_shown::{MessageFormat, print_changes, print_diffs};
+use std::alloc::Global;
+use std::io;
+
+/// Prints a warning, where it is due.
+pub(crate) fn warn_if<E: io::Write>(due: bool, message: &str, err: &mut E) -> CargoResult<()>
+    ensures text { OnOk result (Appends (E.contents err.old) (E.contents err.new)
+        (warning_if due message.now)) }
+    ensures refused { IfErr result (λ e. e ≡ Output) }
+{
+    if due {
+        shell_warn(err, message)
+    } else {
+        Ok(())
+    }
+}
+
+/// Prints the lines of a plan as statuses.
+fn print_lines<E: io::Write>(lines: &[(String, String)], err: &mut E) -> CargoResult<()>
+    ensures text { OnOk result (Appends (E.contents err.old) (E.contents err.new)
+        (statuses (map line_told lines.now))) }
+    ensures refused { IfErr result (λ e. e ≡ Output) }
+{
+    for line in lines {
+        shell_status(err, line.0.as_str(), line.1.as_str())?;
+    }
+    Ok(())
+}
+
+/// Prints the lines of a plan: as statuses, or as messages on standard output.
+fn print_lines_in<O: io::Write, E: io::Write>(
+    alloc: Global,
+    format: MessageFormat,
+    lines: &[(String, String)],
+    out: &mut O,
+    err: &mut E,
+) -> CargoResult<()>
+    ensures shown { OnOk result (Appends (O.contents out.old) (O.contents out.new)
+        (messages_in format (map line_told lines.now))) }
+    ensures told { OnOk result (Appends (E.contents err.old) (E.contents err.new)
+        (statuses_in format (map line_told lines.now))) }
+    ensures refused { IfErr result (λ e. IsMemory e ⊎ (e ≡ Output)) }
+{
+    match format {
+        MessageFormat::Human => print_lines(lines, err),
+        MessageFormat::Json => print_changes(alloc, lines, out),
+    }
+}
+
+/// Prints the changes of the manifests, where they are asked for.
+fn print_diffs_if<O: io::Write>(
+    alloc: Global,
+    asked: bool,
+    current: &str,
+    inputs: &[Input],
+    plan: &SetVersionPlan,
+    out: &mut O,
+) -> CargoResult<()>
+    ensures text { OnOk result (Appends (O.contents out.old) (O.contents out.new)
+        (diffs_if asked current.now inputs.now plan.now.outputs.items)) }
+    ensures refused { IfErr result (λ e. IsMemory e ⊎ (e ≡ Output)) }
+{
+    if asked {
+        print_diffs(alloc, current, inputs, plan.outputs.as_slice(), out)
+    } else {
+        Ok(())
+    }
+}
+
+/// Prints a plan for inputs as the words ask for it: its lines, and the changes of the manifests.
+pub(crate) fn print_plan<O: io::Write, E: io::Write>(
+    alloc: Global,
+    words: &SetVersionWords<'_>,
+    current: &str,
+    inputs: &[Input],
+    plan: &SetVersionPlan,
+    out: &mut O,
+    err: &mut E,
+) -> CargoResult<()>
+    ensures shown { OnOk result (Appends (O.contents out.old) (O.contents out.new)
+        (shown words.now current.now inputs.now plan.now)) }
+    ensures told { OnOk result (Appends (E.contents err.old) (E.contents err.new)
+        (statuses_in words.now.presentation.format (told_lines plan.now))) }
+    ensures refused { IfErr result (λ e. IsMemory e ⊎ (e ≡ Output)) }
+{
+    let format = words.presentation.format;
+    print_lines_in(alloc, format, plan.lines.as_slice(), out, err)?;
+    print_diffs_if(alloc, words.presentation.diff, current, inputs, plan, out)
+}

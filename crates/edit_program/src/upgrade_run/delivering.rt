@@ -1,0 +1,81 @@
+//! A plan delivered as the words ask.
+ghost use Rattle.std.specs.Prelude.{◌≡◌, ◌≤◌, ◌⊎◌, IfErr, IfOk, OnErr, option_map, string_bytes};
+ghost use Rattle.std.specs.Io.KnownBytes.{Appends};
+ghost use Rattle.edit_base.specs.Errors.{IsMemory};
+ghost use Rattle.edit_report.specs.Applied.{HaveDistinctPaths};
+ghost use Rattle.edit_sources.specs.Configured.{given};
+ghost use Rattle.edit_store.specs.Store.{SameFiles};
+ghost use Rattle.edit_program.specs.Upgrading.{IsAnsweredWith, IsPathOf, delivery_by};
+ghost use Rattle.edit_program.specs.TellingCauses.{IsDeliveryCause};
+ghost use Rattle.edit_program.specs.Delivered.{IsCutShort};
+ghost use Rattle.edit_program.specs.Said.{AreWarningsInOrder};
+ghost use Rattle.edit_program.specs.Tables.{AreInOrder};
+
+use crate::upgrade_run::words::UpgradeWords;
+use crate::upgrade_told::{Telling, deliver};
+use edit_base::CargoResult;
+use edit_steps::upgrade_read::Target;
+use edit_steps::{RunResult, absolute};
+use edit_store::Store;
+use edit_upgrade::UpgradePlan;
+use std::alloc::Global;
+use std::io;
+
+/// The absolute normal path of a file that is named; none where none is.
+pub(crate) fn path_of(
+    alloc: Global,
+    current: &str,
+    named: Option<&str>,
+) -> CargoResult<Option<String>>
+    ensures path { IfOk result
+        (λ path. IsPathOf current.now (given named.entry) (option_map string_bytes path)) }
+    ensures refused { IfErr result IsMemory }
+{
+    let Some(named) = named else {
+        return Ok(None);
+    };
+    let path = absolute(alloc, current, named)?;
+    Ok(Some(path))
+}
+
+/// Delivers a plan for manifests as the words ask, with this path for the file of the calls; answers whether
+/// the plan changes a manifest.
+pub(crate) fn deliver_plan<S: Store, O: io::Write, E: io::Write>(
+    alloc: Global,
+    words: &UpgradeWords<'_>,
+    current: &str,
+    target: &Target,
+    plan: &UpgradePlan,
+    path: Option<&str>,
+    files: &mut S,
+    out: &mut O,
+    err: &mut E,
+) -> RunResult<bool>
+    requires outputs { HaveDistinctPaths plan.now.outputs.items }
+    requires rows { AreInOrder plan.now.rows.items }
+    requires warnings { AreWarningsInOrder plan.now.warnings.items }
+    ensures tells { (S.view files.new).tells ≡ (S.view files.old).tells }
+    ensures later { (S.view files.old).faults ≤ (S.view files.new).faults }
+    ensures done { IfOk result (λ due. IsAnsweredWith due (Appends (O.contents out.old) (O.contents out.new))
+        (Appends (E.contents err.old) (E.contents err.new)) (S.view files.old) (S.view files.new)
+        (delivery_by words.now current.now plan.now target.now (given path.entry))) }
+    ensures stopped { OnErr result (SameFiles (S.view files.old).file_at (S.view files.new).file_at
+        ⊎ IsCutShort (Appends (O.contents out.old) (O.contents out.new))
+        (delivery_by words.now current.now plan.now target.now (given path.entry))
+        (S.view files.old) (S.view files.new)) }
+    ensures cause { IfErr result (λ r. IsDeliveryCause plan.now words.now.options
+        (S.view files.old) (S.view files.new) r.error) }
+{
+    let telling = Telling {
+        current,
+        presentation: words.presentation,
+        update_calls: path,
+    };
+    let inputs = target.inputs.as_slice();
+    let workspace = target.workspace.as_ref();
+    let options = &words.options;
+    deliver(
+        alloc, plan, inputs, workspace, options, &telling, files, out, err,
+    )?;
+    Ok(!plan.outputs.is_empty())
+}

@@ -1,0 +1,78 @@
+//! The looks that an upgrade needs, told without an index.
+ghost use Rattle.std.specs.Prelude.{◌≡◌, ◌⊎◌, IfErr, IfOk, OnOk, length, string_bytes, true};
+ghost use Rattle.std.specs.Io.KnownBytes.{Appends};
+ghost use Rattle.edit_base.specs.Errors.{IsMemory};
+ghost use Rattle.edit_program.specs.NoIndex.{no_view};
+ghost use Rattle.edit_sources.specs.Configured.{given};
+ghost use Rattle.edit_steps.specs.Workspaces.{HaveOwnPaths};
+ghost use Rattle.edit_store.specs.Store.{OnlyReads};
+ghost use Rattle.edit_upgrade.specs.Upgraded.{IsNeeded};
+ghost use Rattle.edit_steps.specs.Sources.{AreDocuments};
+ghost use Rattle.edit_program.specs.UpgradeCauses.{IsLooksCause};
+ghost use Rattle.edit_program.specs.Looking.{AreLinesOf, AreLooksShown};
+ghost use Rattle.edit_program.specs.Planned.{IsPlanCause};
+
+use crate::looks::{NoIndex, looks_text};
+use crate::upgrade_run::plan::plan_over;
+use crate::upgrade_run::words::UpgradeWords;
+use edit_base::CargoResult;
+use edit_report::shell_write_stdout;
+use edit_sources::Config;
+use edit_steps::upgrade_read::{Sources, Target, read_sources};
+use edit_steps::{RunResult, at_input};
+use edit_store::Store;
+use edit_upgrade::Options;
+use std::alloc::Global;
+use std::io;
+
+/// The lines of the looks that a plan for manifests needs, over an index that has no name.
+fn lines_for(
+    alloc: Global,
+    options: &Options,
+    target: &Target,
+    configs: &[Vec<Config>],
+) -> CargoResult<String>
+    requires paths { HaveOwnPaths target.now.inputs.items }
+    requires each { length configs.now ≡ length target.now.inputs.items }
+    requires documents { AreDocuments target.now.documents.items target.now.inputs.items }
+    ensures lines { IfOk result (λ text. AreLinesOf (IsNeeded target.now.inputs.items configs.now)
+        (string_bytes text)) }
+    ensures refused { IfErr result (λ e. IsMemory e
+        ⊎ IsPlanCause options.now target.now.inputs.items configs.now no_view e) }
+{
+    let plan = plan_over(alloc, options, target, configs, NoIndex {})?;
+    looks_text(alloc, &plan.looks)
+}
+
+/// Prints a line for each look that an upgrade by these words needs: the address, the name, and the name's
+/// path in an index's layout, parted by tabs. No index is read, the one that the words name is not looked at,
+/// and nothing is written.
+pub fn looks<S: Store, O: io::Write>(
+    alloc: Global,
+    words: &UpgradeWords<'_>,
+    current: &str,
+    cargo_home: Option<&str>,
+    files: &mut S,
+    out: &mut O,
+) -> RunResult<()>
+    ensures reads { OnlyReads (S.view files.old) (S.view files.new) }
+    ensures done { OnOk result ((S.view files.old).tells ≡ true
+        → AreLooksShown (Appends (O.contents out.old) (O.contents out.new)) words.now current.now
+        (given cargo_home.entry) (S.view files.old).file_at) }
+    // and each refusal has its cause
+    ensures why { IfErr result (λ r. IsLooksCause words.now current.now (given cargo_home.entry)
+        (S.view files.old) (S.view files.new) r.error) }
+{
+    let sources = read_sources(alloc, &words.asked_for_looks(), current, cargo_home, files)?;
+    let Sources {
+        target,
+        configs,
+        ..
+    } = sources;
+    let lines = match lines_for(alloc, &words.options, &target, &configs) {
+        Ok(lines) => lines,
+        Err(error) => return Err(at_input(alloc, error, &target.inputs)),
+    };
+    shell_write_stdout(out, lines.as_str())?;
+    Ok(())
+}

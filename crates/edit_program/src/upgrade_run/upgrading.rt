@@ -1,0 +1,59 @@
+//! The command `upgrade`: reads, plans, then writes.
+ghost use Rattle.std.specs.Prelude.{◌≡◌, ◌⊎◌, IfErr, IfOk, OnErr, true};
+ghost use Rattle.std.specs.Io.KnownBytes.{Appends};
+ghost use Rattle.edit_sources.specs.Configured.{given};
+ghost use Rattle.edit_store.specs.Store.{SameFiles};
+ghost use Rattle.edit_program.specs.UpgradeCauses.{IsUpgradeCause};
+ghost use Rattle.edit_program.specs.Upgrading.{IsBroken, IsUpgraded};
+
+use crate::upgrade_run::delivering::{deliver_plan, path_of};
+use crate::upgrade_run::plan::plan_for;
+use crate::upgrade_run::words::UpgradeWords;
+use edit_steps::upgrade_read::{Sources, read_sources};
+use edit_steps::{RunResult, at_input};
+use edit_store::Store;
+use std::alloc::Global;
+use std::io;
+
+/// Raises the requirements of the manifests that the words name, over the index that they name, else over
+/// that in files; answers whether the plan changes a manifest. No file changes before the plan is made and
+/// printed.
+pub fn upgrade<S: Store, T: Store + Drop, O: io::Write, E: io::Write>(
+    alloc: Global,
+    words: &UpgradeWords<'_>,
+    current: &str,
+    cargo_home: Option<&str>,
+    files: &mut S,
+    index_files: T,
+    out: &mut O,
+    err: &mut E,
+) -> RunResult<bool>
+    ensures tells { (S.view files.new).tells ≡ (S.view files.old).tells }
+    ensures done { IfOk result (λ due. (S.view files.old).tells ≡ true
+        → IsUpgraded due (Appends (O.contents out.old) (O.contents out.new))
+        (Appends (E.contents err.old) (E.contents err.new)) words.now current.now
+        (given cargo_home.entry) (T.view index_files) (S.view files.old) (S.view files.new)) }
+    // a refusal before the first write leaves each file as it was
+    ensures refused { OnErr result ((S.view files.old).tells ≡ true
+        → SameFiles (S.view files.old).file_at (S.view files.new).file_at
+        ⊎ IsBroken (Appends (O.contents out.old) (O.contents out.new)) words.now current.now
+        (given cargo_home.entry) (T.view index_files) (S.view files.old) (S.view files.new)) }
+    // and each refusal has its cause
+    ensures why { IfErr result (λ r. IsUpgradeCause words.now current.now (given cargo_home.entry)
+        (T.view index_files) (S.view files.old) (S.view files.new) r.error) }
+{
+    let named = path_of(alloc, current, words.update_calls)?;
+    let sources = read_sources(alloc, &words.asked(), current, cargo_home, files)?;
+    let Sources {
+        target,
+        configs,
+        index,
+    } = sources;
+    let options = &words.options;
+    let plan = match plan_for(alloc, options, &target, &configs, index, index_files) {
+        Ok(plan) => plan,
+        Err(error) => return Err(at_input(alloc, error, &target.inputs)),
+    };
+    let path = named.as_deref();
+    deliver_plan(alloc, words, current, &target, &plan, path, files, out, err)
+}

@@ -1,0 +1,17 @@
+//! What an upgrade prints and writes once it is planned, over any files and any writers.
+
+mod calls;
+mod calls_file;
+mod carried;
+mod delivery;
+mod held;
+mod hidden;
+mod notes;
+mod reports;
+mod rows;
+mod shown;
+mod telling;
+mod warnings;
+
+pub use delivery::deliver;
+pub use telling::Telling;

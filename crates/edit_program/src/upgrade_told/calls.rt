@@ -1,0 +1,73 @@
+//! The calls of `cargo update` that follow, as they are told.
+ghost use Rattle.std.specs.Prelude.{◌≡◌, ◌⊎◌, IfErr, IfOk, OnOk, codes, map, option_map, string_bytes, true};
+ghost use Rattle.std.specs.Io.KnownBytes.{Appends};
+ghost use Rattle.std.specs.List.{join_by};
+ghost use Rattle.edit_base.specs.Errors.{IsMemory};
+ghost use Rattle.edit_base.specs.declared.errors.Error.TheVariants.{Output};
+ghost use Rattle.edit_metadata.specs.Workspaces.{workspace_said};
+ghost use Rattle.edit_upgrade.specs.Asked.{asked_by, is_due};
+ghost use Rattle.edit_upgrade.specs.Pins.{IsFirstRefused};
+ghost use Rattle.edit_upgrade.specs.Views.{calls_seen, words_seen};
+ghost use Rattle.edit_program.specs.Delivery.{calls_of};
+ghost use Rattle.edit_program.specs.Said.{run, runs};
+
+use edit_base::CargoResult;
+use edit_metadata::Workspace;
+use edit_report::shell_status;
+use edit_upgrade::update::update_calls;
+use edit_upgrade::{Options, UpgradePlan};
+use std::alloc::Global;
+use std::io;
+
+/// The calls that follow a plan: none where no workspace is known.
+pub(crate) fn calls_of(
+    alloc: Global,
+    plan: &UpgradePlan,
+    options: &Options,
+    workspace: Option<&Workspace>,
+) -> CargoResult<Vec<Vec<String>>>
+    ensures calls { IfOk result (λ v. calls_seen v.items
+        ≡ calls_of plan.now options.now (option_map (λ w. workspace_said w.now) workspace.entry)) }
+    ensures refused { IfErr result (λ e. IsMemory e ⊎ ((is_due (asked_by plan.now options.now) ≡ true)
+        × IsFirstRefused (map string_bytes options.now.package.items) e)) }
+{
+    match workspace {
+        Some(workspace) => update_calls(alloc, plan, workspace, options),
+        None => Ok(Vec::new(alloc)),
+    }
+}
+
+/// Words, one behind another.
+fn joined_words(alloc: Global, words: &[String]) -> CargoResult<String>
+    ensures text { IfOk result (λ s. string_bytes s
+        ≡ join_by (λ word. word) (codes " ") (words_seen words.now)) }
+    ensures refused { IfErr result IsMemory }
+{
+    Ok(words.join(alloc, " ")?)
+}
+
+/// Prints a call.
+fn print_call<E: io::Write>(alloc: Global, call: &[String], err: &mut E) -> CargoResult<()>
+    ensures text { OnOk result (Appends (E.contents err.old) (E.contents err.new)
+        (run (words_seen call.now))) }
+    ensures refused { IfErr result (λ e. IsMemory e ⊎ (e ≡ Output)) }
+{
+    let words = joined_words(alloc, call)?;
+    shell_status(err, "Run", words.as_str())
+}
+
+/// Prints calls, each as a status with its words.
+pub(crate) fn print_calls<E: io::Write>(
+    alloc: Global,
+    calls: &[Vec<String>],
+    err: &mut E,
+) -> CargoResult<()>
+    ensures text { OnOk result (Appends (E.contents err.old) (E.contents err.new)
+        (runs (calls_seen calls.now))) }
+    ensures refused { IfErr result (λ e. IsMemory e ⊎ (e ≡ Output)) }
+{
+    for call in calls {
+        print_call(alloc, call.as_slice(), err)?;
+    }
+    Ok(())
+}

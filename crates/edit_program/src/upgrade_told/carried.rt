@@ -1,0 +1,69 @@
+//! A plan carried out: its outputs written, the calls that follow told, and what is said last.
+ghost use Rattle.std.specs.Prelude.{◌≡◌, ◌≢◌, ◌≤◌, ◌⊎◌, [], IfErr, OnErr, OnOk, map, string_bytes};
+ghost use Rattle.std.specs.Io.KnownBytes.{Appends};
+ghost use Rattle.edit_base.specs.Errors.{IsMemory};
+ghost use Rattle.edit_base.specs.declared.errors.DeviceCall.TheVariants as call;
+ghost use Rattle.edit_base.specs.declared.errors.Error.TheVariants.{Output as Unwritten};
+ghost use Rattle.edit_report.specs.Applied.{HaveDistinctPaths};
+ghost use Rattle.edit_store.specs.Store.{RefusesCall};
+ghost use Rattle.edit_upgrade.specs.Views.{calls_seen};
+ghost use Rattle.edit_program.specs.TellingCauses.{AreTold};
+ghost use Rattle.edit_program.specs.Delivered.{AreBothWritten, HaveStopped};
+ghost use Rattle.edit_program.specs.Said.{notes, runs};
+
+use crate::upgrade_told::calls::print_calls;
+use crate::upgrade_told::held::check_names;
+use crate::upgrade_told::notes::print_notes;
+use edit_report::Output;
+use edit_steps::{RunResult, write_outputs};
+use edit_store::Store;
+use edit_upgrade::{Options, UpgradePlan};
+use std::alloc::Global;
+use std::io;
+
+/// Writes outputs, tells the calls of `cargo update`, and writes the file of the calls.
+pub(crate) fn carry_out<S: Store, E: io::Write>(
+    alloc: Global,
+    outputs: &[Output],
+    calls: &[Vec<String>],
+    file: &[Output],
+    files: &mut S,
+    err: &mut E,
+) -> RunResult<()>
+    requires outputs { HaveDistinctPaths outputs.now }
+    requires file { HaveDistinctPaths file.now }
+    ensures tells { (S.view files.new).tells ≡ (S.view files.old).tells }
+    ensures later { (S.view files.old).faults ≤ (S.view files.new).faults }
+    ensures written { OnOk result
+        (AreBothWritten outputs.now file.now (S.view files.old) (S.view files.new)) }
+    ensures text { OnOk result (Appends (E.contents err.old) (E.contents err.new)
+        (runs (calls_seen calls.now))) }
+    ensures stopped { OnErr result
+        (HaveStopped outputs.now file.now (S.view files.old) (S.view files.new)) }
+    ensures refused { IfErr result
+        (λ r. RefusesCall call.Write (S.view files.old) (S.view files.new) r.error
+        ⊎ (r.error ≡ Unwritten)) }
+{
+    write_outputs(alloc, outputs, files)?;
+    print_calls(alloc, calls, err)?;
+    write_outputs(alloc, file, files)
+}
+
+/// Refuses a plan whose words name what no entry has, else prints the notes on it.
+pub(crate) fn conclude<E: io::Write>(
+    alloc: Global,
+    plan: &UpgradePlan,
+    options: &Options,
+    err: &mut E,
+) -> RunResult<()>
+    ensures complete { OnOk result (map string_bytes plan.now.missing.items ≡ []) }
+    ensures text { OnOk result (Appends (E.contents err.old) (E.contents err.new)
+        (notes plan.now options.now)) }
+    ensures refused { IfErr result (λ r. IsMemory r.error ⊎ ((r.error ≡ Unwritten)
+        ⊎ ((map string_bytes plan.now.missing.items ≢ [])
+        × AreTold (map string_bytes plan.now.missing.items) r.error))) }
+{
+    check_names(alloc, plan)?;
+    print_notes(alloc, plan, options, err)?;
+    Ok(())
+}

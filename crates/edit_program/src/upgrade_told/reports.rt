@@ -1,0 +1,161 @@
+//! What is printed of each input: whose dependencies are looked at, the warnings, the table for people.
+ghost use Rattle.std.specs.Prelude.{◌≡◌, ◌++◌, ◌⊎◌, IfErr, OnOk, codes, length, true};
+ghost use Rattle.std.specs.Io.KnownBytes.{Appends};
+ghost use Rattle.std.specs.List.{flat_map};
+ghost use Rattle.edit_base.specs.Errors.{IsMemory};
+ghost use Rattle.edit_base.specs.declared.errors.Error.TheVariants.{Output};
+ghost use Rattle.edit_report.specs.Messages.{message_text};
+ghost use Rattle.edit_report.specs.Table.{report_text};
+ghost use Rattle.edit_program.specs.Said.{AreWarningsInOrder, check, checks, is_heard, warning_on};
+ghost use Rattle.edit_program.specs.Tables.{AreInOrder, rows_at, table, tables};
+
+use crate::upgrade_told::rows::rows_at;
+use crate::upgrade_told::warnings::warnings_at;
+use edit_base::CargoResult;
+use edit_metadata::Input;
+use edit_report::{Row, shell_status, shell_warn, shell_write_stdout, table_text};
+use edit_shown::MessageFormat;
+use edit_upgrade::{UpgradePlan, Warning};
+use std::alloc::Global;
+use std::io;
+
+/// Prints whose dependencies are looked at.
+fn print_status<E: io::Write>(alloc: Global, name: &str, err: &mut E) -> CargoResult<()>
+    ensures text { OnOk result (Appends (E.contents err.old) (E.contents err.new)
+        (message_text true (codes "Checking") (name.now ++ codes "'s dependencies"))) }
+    ensures refused { IfErr result (λ e. IsMemory e ⊎ (e ≡ Output)) }
+{
+    let message = format!(in alloc; "{name}'s dependencies")?;
+    shell_status(err, "Checking", message.as_str())
+}
+
+/// Whether a report of this verbosity has the warning for this input.
+fn is_heard(warning: &Warning, input: usize, verbosity: i8) -> bool
+    ensures { result ≡ is_heard verbosity input warning.now }
+{
+    let heard = !warning.verbose || verbosity >= 1;
+    heard && warning.input == input
+}
+
+/// Prints a warning, where a report of this verbosity has it for this input.
+fn print_warning<E: io::Write>(
+    warning: &Warning,
+    input: usize,
+    verbosity: i8,
+    err: &mut E,
+) -> CargoResult<()>
+    ensures text { OnOk result (Appends (E.contents err.old) (E.contents err.new)
+        (warning_on verbosity input warning.now)) }
+    ensures refused { IfErr result (λ e. e ≡ Output) }
+{
+    if is_heard(warning, input, verbosity) {
+        shell_warn(err, warning.text.as_str())
+    } else {
+        Ok(())
+    }
+}
+
+/// Prints the warnings that a report of this verbosity has for this input.
+fn print_warnings<E: io::Write>(
+    warnings: &[Warning],
+    input: usize,
+    verbosity: i8,
+    err: &mut E,
+) -> CargoResult<()>
+    ensures text { OnOk result (Appends (E.contents err.old) (E.contents err.new)
+        (flat_map (warning_on verbosity input) warnings.now)) }
+    ensures refused { IfErr result (λ e. e ≡ Output) }
+{
+    for warning in warnings {
+        print_warning(warning, input, verbosity, err)?;
+    }
+    Ok(())
+}
+
+/// Prints the rows of an input as a table.
+fn print_rows<O: io::Write>(
+    alloc: Global,
+    rows: &[Row],
+    input: usize,
+    verbosity: i8,
+    out: &mut O,
+) -> CargoResult<()>
+    requires { AreInOrder rows.now }
+    ensures table { OnOk result (Appends (O.contents out.old) (O.contents out.new)
+        (report_text verbosity (rows_at input rows.now))) }
+    ensures refused { IfErr result (λ e. IsMemory e ⊎ (e ≡ Output)) }
+{
+    let table = table_text(alloc, rows_at(rows, input), verbosity)?;
+    shell_write_stdout(out, table.as_str())
+}
+
+/// Prints the table of the rows of an input; none where the plan is shown as JSON.
+fn print_table<O: io::Write>(
+    alloc: Global,
+    format: MessageFormat,
+    rows: &[Row],
+    input: usize,
+    verbosity: i8,
+    out: &mut O,
+) -> CargoResult<()>
+    requires { AreInOrder rows.now }
+    ensures table { OnOk result (Appends (O.contents out.old) (O.contents out.new)
+        (table format verbosity rows.now input)) }
+    ensures refused { IfErr result (λ e. IsMemory e ⊎ (e ≡ Output)) }
+{
+    match format {
+        MessageFormat::Human => print_rows(alloc, rows, input, verbosity, out),
+        MessageFormat::Json => Ok(()),
+    }
+}
+
+/// Prints what is said before an input, and its warnings.
+fn print_check<E: io::Write>(
+    alloc: Global,
+    name: &str,
+    warnings: &[Warning],
+    input: usize,
+    verbosity: i8,
+    err: &mut E,
+) -> CargoResult<()>
+    requires { AreWarningsInOrder warnings.now }
+    ensures text { OnOk result (Appends (E.contents err.old) (E.contents err.new)
+        (check verbosity warnings.now input name.now)) }
+    ensures refused { IfErr result (λ e. IsMemory e ⊎ (e ≡ Output)) }
+{
+    print_status(alloc, name, err)?;
+    print_warnings(warnings_at(warnings, input), input, verbosity, err)
+}
+
+/// Prints what is said of each input, one behind another, before a file is written.
+pub(crate) fn print_reports<O: io::Write, E: io::Write>(
+    alloc: Global,
+    plan: &UpgradePlan,
+    inputs: &[Input],
+    verbosity: i8,
+    format: MessageFormat,
+    out: &mut O,
+    err: &mut E,
+) -> CargoResult<()>
+    requires rows { AreInOrder plan.now.rows.items }
+    requires warnings { AreWarningsInOrder plan.now.warnings.items }
+    ensures tables { OnOk result (Appends (O.contents out.old) (O.contents out.new)
+        (tables format verbosity plan.now.rows.items (length inputs.now))) }
+    ensures checks { OnOk result (Appends (E.contents err.old) (E.contents err.new)
+        (checks verbosity plan.now.warnings.items inputs.now (length inputs.now))) }
+    ensures refused { IfErr result (λ e. IsMemory e ⊎ (e ≡ Output)) }
+{
+    let UpgradePlan { rows, warnings, .. } = plan;
+    'inputs: for (i, input) in inputs.iter().enumerate() {
+        print_check(
+            alloc,
+            input.name.as_str(),
+            warnings.as_slice(),
+            i,
+            verbosity,
+            err,
+        )?;
+        print_table(alloc, format, rows.as_slice(), i, verbosity, out)?;
+    }
+    Ok(())
+}

@@ -1,0 +1,95 @@
+//! What is printed of a plan before a file is written.
+ghost use Rattle.std.specs.Prelude.{◌≡◌, ◌++◌, ◌⊎◌, IfErr, OnOk, length};
+ghost use Rattle.std.specs.Io.KnownBytes.{Appends};
+ghost use Rattle.edit_base.specs.Errors.{IsMemory};
+ghost use Rattle.edit_base.specs.declared.errors.Error.TheVariants.{Output as Unwritten};
+ghost use Rattle.edit_upgrade.specs.Views.{calls_seen};
+ghost use Rattle.edit_program.specs.Said.{AreWarningsInOrder, checks};
+ghost use Rattle.edit_program.specs.Shown.{diffs_if, messages_as};
+ghost use Rattle.edit_program.specs.Tables.{AreInOrder, tables};
+
+use crate::upgrade_told::reports::print_reports;
+use crate::upgrade_told::telling::Telling;
+use edit_base::CargoResult;
+use edit_metadata::Input;
+use edit_report::Output;
+use edit_shown::{MessageFormat, print_diffs, print_messages};
+use edit_upgrade::{Options, UpgradePlan};
+use std::alloc::Global;
+use std::io;
+
+/// Prints a plan as JSON, where it is to be shown so.
+fn print_as<O: io::Write>(
+    alloc: Global,
+    format: MessageFormat,
+    plan: &UpgradePlan,
+    inputs: &[Input],
+    options: &Options,
+    calls: &[Vec<String>],
+    out: &mut O,
+) -> CargoResult<()>
+    ensures text { OnOk result (Appends (O.contents out.old) (O.contents out.new)
+        (messages_as format plan.now inputs.now options.now (calls_seen calls.now))) }
+    ensures refused { IfErr result (λ e. IsMemory e ⊎ (e ≡ Unwritten)) }
+{
+    match format {
+        MessageFormat::Human => Ok(()),
+        MessageFormat::Json => print_messages(alloc, plan, inputs, options, calls, out),
+    }
+}
+
+/// Prints the changes of manifests, where they are to be shown.
+fn print_diffs_if<O: io::Write>(
+    alloc: Global,
+    due: bool,
+    current: &str,
+    inputs: &[Input],
+    outputs: &[Output],
+    out: &mut O,
+) -> CargoResult<()>
+    ensures text { OnOk result (Appends (O.contents out.old) (O.contents out.new)
+        (diffs_if due current.now inputs.now outputs.now)) }
+    ensures refused { IfErr result (λ e. IsMemory e ⊎ (e ≡ Unwritten)) }
+{
+    if due {
+        print_diffs(alloc, current, inputs, outputs, out)
+    } else {
+        Ok(())
+    }
+}
+
+/// Prints a plan: of each input its table and what is said of it, the plan as JSON, the changes of manifests.
+pub(crate) fn print_plan<O: io::Write, E: io::Write>(
+    alloc: Global,
+    plan: &UpgradePlan,
+    inputs: &[Input],
+    options: &Options,
+    telling: &Telling<'_>,
+    calls: &[Vec<String>],
+    out: &mut O,
+    err: &mut E,
+) -> CargoResult<()>
+    requires rows { AreInOrder plan.now.rows.items }
+    requires warnings { AreWarningsInOrder plan.now.warnings.items }
+    ensures shows { OnOk result (Appends (O.contents out.old) (O.contents out.new)
+        (tables telling.now.presentation.format options.now.verbosity plan.now.rows.items (length inputs.now)
+        ++ (messages_as telling.now.presentation.format plan.now inputs.now options.now (calls_seen calls.now)
+        ++ diffs_if telling.now.presentation.diff telling.now.current.now inputs.now
+        plan.now.outputs.items))) }
+    ensures checks { OnOk result (Appends (E.contents err.old) (E.contents err.new)
+        (checks options.now.verbosity plan.now.warnings.items inputs.now (length inputs.now))) }
+    ensures refused { IfErr result (λ e. IsMemory e ⊎ (e ≡ Unwritten)) }
+{
+    let presentation = telling.presentation;
+    let (format, diff) = (presentation.format, presentation.diff);
+    print_reports(alloc, plan, inputs, options.verbosity, format, out, err)?;
+    print_as(alloc, format, plan, inputs, options, calls, out)?;
+    print_diffs_if(
+        alloc,
+        diff,
+        telling.current,
+        inputs,
+        plan.outputs.as_slice(),
+        out,
+    )
+}

@@ -1,2 +1,0 @@
-pub mod PrintedLemmas
-pub mod RunLemmas

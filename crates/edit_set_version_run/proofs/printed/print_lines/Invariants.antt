@@ -1,9 +1,0 @@
-use Rattle.std.proofs.Common.{map, take}
-use Rattle.std.specs.Io.KnownBytes.{Appends}
-use Rattle.edit_set_version.specs.ToldLines.{line_told}
-use Rattle.edit_set_version_run.specs.Printed.{statuses}
-use Rattle.edit_set_version_run.proofs.printed.print_lines.Given as goal
-
-abbrev pub invariant-loop-line : goal.invariant-loop-line
-invariant-loop-line g l = Appends (g.E.Write.contents l.initial.err) (g.E.Write.contents l.err)
-    (statuses (map line_told (take l.line-index l.lines)))

@@ -1,4 +1,0 @@
-pub mod Causes
-pub mod Plans
-pub mod Printed
-pub mod SetVersions

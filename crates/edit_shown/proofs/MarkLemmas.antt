@@ -1,0 +1,67 @@
+-- Lists that are made number by number.
+use Rattle.std.proofs.Common.{◌≡◌, ℕ, ◌+◌, ◌<◌, ◌≤◌, suc, List, [], ◌∷◌, ◌++◌, map, true, false, length, drop, refl, ap, sym, ◌∙◌, arith}
+use Rattle.std.specs.List.{flat_map, range_with_len}
+use Rattle.std.proofs.Math.ListN.{drop_of_length-le}
+use Rattle.std.proofs.lemmas.Grind.{flat_map-append}
+use Rattle.std.proofs.lemmas.List.{append-nil, drop_more, map-append}
+use Rattle.std.proofs.lemmas.List.FromFn.{get_or-map-range_with_len, length-map-range_with_len, map-range_with_len_more}
+use Rattle.edit_shown.specs.Shown.{is_shown, leading, shown_lines}
+use Rattle.edit_shown.specs.declared.diff.marks.Mark.{Mark}
+
+id-map : (xs : List ℕ) → map (λ x. x) xs ≡ xs
+id-map [] = refl
+id-map (x ∷ xs) = ap (λ l. x ∷ l) (id-map xs)
+
+-- one number more
+numbers_more : (n : ℕ) → range_with_len 0 (n + 1) ≡ range_with_len 0 n ++ n ∷ []
+numbers_more n = sym (id-map _) ∙ map-range_with_len_more (λ x. x) 0 n n (omega arith)
+    ∙ ap (λ l. l ++ n ∷ []) (id-map _)
+
+-- the pieces of one number more
+pub pieces_more : {A : Type 0} (f : ℕ → List A) (n : ℕ)
+    → flat_map f (range_with_len 0 (n + 1)) ≡ flat_map f (range_with_len 0 n) ++ f n
+pieces_more f n = ap (flat_map f) (numbers_more n)
+    ∙ flat_map-append f (range_with_len 0 n) (n ∷ [])
+    ∙ ap (λ l. flat_map f (range_with_len 0 n) ++ l) (append-nil (f n))
+
+-- the same of what is taken of each element of the pieces
+pub taken_more : {A B : Type 0} (g : A → B) (f : ℕ → List A) (n : ℕ)
+    → map g (flat_map f (range_with_len 0 (n + 1)))
+    ≡ map g (flat_map f (range_with_len 0 n)) ++ map g (f n)
+taken_more g f n = ap (map g) (pieces_more f n) ∙ map-append g (flat_map f (range_with_len 0 n)) (f n)
+
+-- the lines that are shown, from one on
+shown_from : (marks : List Mark) (j : ℕ) → j < length marks
+    → drop j (shown_lines marks) ≡ is_shown marks j ∷ drop (j + 1) (shown_lines marks)
+shown_from marks j within =
+    let long = length-map-range_with_len (is_shown marks) 0 (length marks) in
+    drop_more (shown_lines marks) j false (omega (arith, long, within))
+    ∙ ap (λ b. b ∷ drop (j + 1) (shown_lines marks))
+    (get_or-map-range_with_len (is_shown marks) 0 (length marks) j j false within (omega arith))
+
+-- one line more that is shown
+pub shown_more : (marks : List Mark) (j : ℕ) → j < length marks → is_shown marks j ≡ true
+    → leading (drop j (shown_lines marks)) ≡ suc (leading (drop (j + 1) (shown_lines marks)))
+shown_more marks j within is = ap leading (shown_from marks j within)
+    ∙ ap (λ b. leading (b ∷ drop (j + 1) (shown_lines marks))) is
+
+-- a line that is not shown
+pub shown_end : (marks : List Mark) (j : ℕ) → j < length marks → is_shown marks j ≡ false
+    → leading (drop j (shown_lines marks)) ≡ 0
+shown_end marks j within is = ap leading (shown_from marks j within)
+    ∙ ap (λ b. leading (b ∷ drop (j + 1) (shown_lines marks))) is
+
+-- behind the last line
+pub shown_none : (marks : List Mark) (j : ℕ) → length marks ≤ j → leading (drop j (shown_lines marks)) ≡ 0
+shown_none marks j past =
+    let long = length-map-range_with_len (is_shown marks) 0 (length marks) in
+    ap leading (drop_of_length-le (shown_lines marks) (omega (arith, long, past)))
+
+-- one number more, as the program adds its piece
+pub one_more : {A B : Type 0} (g : A → B) (f : ℕ → List A) (n : ℕ) (piece : List A) (old new : List B)
+    → new ≡ old ++ map g piece → old ≡ map g (flat_map f (range_with_len 0 n)) → piece ≡ f n
+    → new ≡ map g (flat_map f (range_with_len 0 (n + 1)))
+one_more g f n piece old new added before is =
+    added ∙ ap (λ xs. xs ++ map g piece) before
+    ∙ ap (λ m. map g (flat_map f (range_with_len 0 n)) ++ map g m) is
+    ∙ sym (taken_more g f n)

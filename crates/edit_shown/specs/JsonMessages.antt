@@ -1,0 +1,100 @@
+-- The messages of `upgrade` and `set-version`: JSON objects, one a line (own; the word `reason` is that of
+-- the messages of cargo: Cargo reference, "External tools", JSON messages).
+use Rattle.std.specs.Prelude.{ℕ, List, [], ◌∷◌, ◌++◌, Bool, Option, Some, None, option_map, codes, string_bytes}
+use Rattle.std.specs.List.{fold}
+use Rattle.serde_json.specs.Data.{Data, Members, boolean, no_members, object, put, string}
+use Rattle.serde_json.specs.Written.{compact_text}
+use Rattle.edit_report.specs.declared.row.Change.{Change}
+use Rattle.edit_report.specs.declared.row.Change.TheVariants as change
+use Rattle.edit_report.specs.declared.row.Reason.{Reason}
+use Rattle.edit_report.specs.declared.row.Reason.TheVariants as reason
+use Rattle.edit_report.specs.declared.row.Row.{Row}
+use Rattle.edit_shown.specs.Fields.{list_data, step_data, text_data, text_or_null}
+use Rattle.edit_shown.specs.declared.json.messages.Summary.{Summary}
+
+-- members by their keys (own)
+abbrev pub MessageMembers : Type 0
+MessageMembers = List (List ℕ × Data)
+
+-- one member more (own)
+abbrev pub with_member : Members → List ℕ × Data → Members
+with_member members m = put m.0 m.1 members
+
+-- the object of some members, which stand in the byte order of their keys (own)
+abbrev pub message_data : MessageMembers → Data
+message_data members = object (fold with_member no_members members)
+
+-- the text of a message: its object without spaces, and a line end (own)
+abbrev pub message_text : MessageMembers → List ℕ
+message_text members = compact_text (message_data members) ++ 10 ∷ []
+
+-- the word of a reason (own)
+abbrev pub why_word : Option Reason → Option (List ℕ)
+why_word None = None
+why_word (Some reason.Latest) = Some (codes "latest")
+why_word (Some reason.Compatible) = Some (codes "compatible")
+why_word (Some reason.Incompatible) = Some (codes "incompatible")
+why_word (Some reason.Pinned) = Some (codes "pinned")
+why_word (Some reason.GitSource) = Some (codes "git")
+why_word (Some reason.PathSource) = Some (codes "local")
+why_word (Some reason.Excluded) = Some (codes "excluded")
+
+-- the word of a change (own)
+abbrev pub change_word : Option Change → Option (List ℕ)
+change_word None = None
+change_word (Some change.Explicit) = Some (codes "explicit")
+change_word (Some change.Latest) = Some (codes "latest")
+change_word (Some change.Compatible) = Some (codes "compatible")
+
+-- a row of a manifest's report (own)
+abbrev pub row_members : List ℕ → Row → MessageMembers
+row_members manifest row =
+    (codes "reason", string (codes "upgrade-row"))
+    ∷ (codes "manifest_path", string manifest)
+    ∷ (codes "name", string (string_bytes row.name))
+    ∷ (codes "rename", text_or_null (option_map string_bytes row.rename))
+    ∷ (codes "place", list_data step_data row.place.items)
+    ∷ (codes "old", text_or_null (option_map string_bytes row.old))
+    ∷ (codes "compatible", text_or_null (option_map string_bytes row.compatible))
+    ∷ (codes "latest", text_or_null (option_map string_bytes row.latest))
+    ∷ (codes "new", text_or_null (option_map string_bytes row.new))
+    ∷ (codes "why", text_or_null (why_word row.reason))
+    ∷ (codes "change", text_or_null (change_word row.change))
+    ∷ []
+
+-- a warning on a manifest (own)
+abbrev pub warning_members : List ℕ → List ℕ → MessageMembers
+warning_members manifest warning =
+    (codes "reason", string (codes "upgrade-warning"))
+    ∷ (codes "manifest_path", string manifest)
+    ∷ (codes "message", string warning)
+    ∷ []
+
+-- a manifest that changes (own)
+abbrev pub file_members : List ℕ → Bool → MessageMembers
+file_members manifest written =
+    (codes "reason", string (codes "upgrade-file"))
+    ∷ (codes "manifest_path", string manifest)
+    ∷ (codes "written", boolean written)
+    ∷ []
+
+-- what an upgrade says last (own)
+abbrev pub summary_members : Summary → MessageMembers
+summary_members summary =
+    (codes "reason", string (codes "upgrade-summary"))
+    ∷ (codes "dry_run", boolean summary.dry_run)
+    ∷ (codes "modified", list_data text_data summary.modified.now)
+    ∷ (codes "git_crates", list_data text_data summary.git_crates.now)
+    ∷ (codes "missing", list_data text_data summary.missing.now)
+    ∷ (codes "pinned_present", boolean summary.pinned_present)
+    ∷ (codes "incompatible_present", boolean summary.incompatible_present)
+    ∷ (codes "update_calls", list_data (λ l. list_data text_data l.items) summary.update_calls.now)
+    ∷ []
+
+-- a line of `set-version`: what is done, and to what (own)
+abbrev pub change_members : List ℕ → List ℕ → MessageMembers
+change_members action message =
+    (codes "reason", string (codes "set-version-change"))
+    ∷ (codes "action", string action)
+    ∷ (codes "message", string message)
+    ∷ []

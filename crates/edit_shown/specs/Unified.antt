@@ -1,0 +1,20 @@
+-- The change of a file as a unified diff (POSIX, "diff", Diff -u or -U Output Format).
+use Rattle.std.specs.Prelude.{ℕ, List, [], ◌++◌, codes, if◌then◌else◌}
+use Rattle.std.specs.Str.{bytes_eq}
+use Rattle.edit_shown.specs.Hunks.{parts_text}
+use Rattle.edit_shown.specs.Lines.{lines_of}
+use Rattle.edit_shown.specs.Marks.{MarkedLine, lines_in, marked, marks_in}
+
+-- the two lines that name a file (own)
+abbrev pub names_text : List ℕ → List ℕ
+names_text path = codes "--- a/" ++ (path ++ (codes "\n+++ b/" ++ (path ++ codes "\n")))
+
+-- the parts of a diff of lines that are compared (own)
+abbrev pub parts_of : List MarkedLine → List ℕ
+parts_of lines = parts_text (marks_in lines) (lines_in lines)
+
+-- the change of a file; nothing where nothing changes (own)
+abbrev pub diff_text : List ℕ → List ℕ → List ℕ → List ℕ
+diff_text path old new =
+    if bytes_eq old new then []
+    else names_text path ++ parts_of (marked (lines_of old) (lines_of new))

@@ -1,0 +1,92 @@
+//! The lines of two texts, compared one by one.
+ghost use Rattle.std.specs.Prelude.{◌≡◌, [], ◌∷◌, ◌++◌, IfOk, OnOk, map, option_copied, option_map, slice_get};
+ghost use Rattle.edit_shown.specs.Marks.{lines_in, marked, marked_at, marks_in};
+
+use std::alloc::{AllocError, Global};
+
+/// What becomes of a line.
+#[derive(Clone, Copy, Debug, PartialEq, Eq)]
+pub enum Mark {
+    Kept,
+    Removed,
+    Added,
+}
+
+/// Lines and what becomes of each.
+#[derive(Drop)]
+pub(crate) struct MarkedLines<'a> {
+    pub(crate) marks: Vec<Mark>,
+    pub(crate) lines: Vec<&'a [u8]>,
+}
+
+impl<'a> MarkedLines<'a> {
+    /// Adds a line.
+    fn push(&mut self, mark: Mark, line: &'a [u8]) -> Result<(), AllocError>
+        ensures marks { OnOk result (self.new.marks.items ≡ self.old.marks.items ++ mark ∷ []) }
+        ensures lines { OnOk result (map (λ l. l.now) self.new.lines.items
+            ≡ map (λ l. l.now) self.old.lines.items ++ line.now ∷ []) }
+    {
+        self.marks.push(mark)?;
+        self.lines.push(line)?;
+        Ok(())
+    }
+
+    /// Adds the lines that stand at one number of two texts.
+    fn push_at(&mut self, old: Option<&'a [u8]>, new: Option<&'a [u8]>) -> Result<(), AllocError>
+        ensures marks { OnOk result (self.new.marks.items ≡ self.old.marks.items
+            ++ marks_in (marked_at (option_map (λ l. l.now) old.entry)
+            (option_map (λ l. l.now) new.entry))) }
+        ensures lines { OnOk result (map (λ l. l.now) self.new.lines.items
+            ≡ map (λ l. l.now) self.old.lines.items
+            ++ lines_in (marked_at (option_map (λ l. l.now) old.entry)
+            (option_map (λ l. l.now) new.entry))) }
+    {
+        match (old, new) {
+            (Some(old), Some(new)) => {
+                if old == new {
+                    return self.push(Mark::Kept, old);
+                }
+                self.push(Mark::Removed, old)?;
+                self.push(Mark::Added, new)
+            }
+            (Some(old), None) => self.push(Mark::Removed, old),
+            (None, Some(new)) => self.push(Mark::Added, new),
+            (None, None) => Ok(()),
+        }
+    }
+}
+
+/// The line at a number, where the list has it.
+fn entry_at<'a, 'b>(lines: &'b [&'a [u8]], i: usize) -> Option<&'b &'a [u8]>
+    ensures { option_copied result ≡ slice_get lines.now i }
+{
+    lines.get(i)
+}
+
+/// The line at a number.
+fn line_at<'a>(lines: &[&'a [u8]], i: usize) -> Option<&'a [u8]>
+    ensures { option_map (λ l. l.now) result ≡ slice_get (map (λ l. l.now) lines.now) i }
+{
+    entry_at(lines, i).copied()
+}
+
+/// The lines of two texts, each against the one at its number.
+pub(crate) fn marked<'a>(
+    alloc: Global,
+    olds: &[&'a [u8]],
+    news: &[&'a [u8]],
+) -> Result<MarkedLines<'a>, AllocError>
+    ensures marks { IfOk result (λ m. m.marks.items
+        ≡ marks_in (marked (map (λ l. l.now) olds.now) (map (λ l. l.now) news.now))) }
+    ensures lines { IfOk result (λ m. map (λ l. l.now) m.lines.items
+        ≡ lines_in (marked (map (λ l. l.now) olds.now) (map (λ l. l.now) news.now))) }
+{
+    let mut marked = MarkedLines {
+        marks: Vec::new(alloc),
+        lines: Vec::new(alloc),
+    };
+    for i in 0..olds.len().max(news.len()) {
+        marked.push_at(line_at(olds, i), line_at(news, i))?;
+    }
+    Ok(marked)
+}

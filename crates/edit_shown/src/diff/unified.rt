@@ -1,0 +1,72 @@
+//! The change of a file as a unified diff.
+ghost use Rattle.std.specs.Prelude.{◌≡◌, ◌⊎◌, ◌++◌, IfErr, IfOk, OnOk};
+ghost use Rattle.std.specs.Io.KnownBytes.{Appends};
+ghost use Rattle.edit_base.specs.Errors.{IsMemory};
+ghost use Rattle.edit_base.specs.declared.errors.Error.TheVariants.{Output};
+ghost use Rattle.edit_shown.specs.Lines.{lines_of};
+ghost use Rattle.edit_shown.specs.Marks.{marked};
+ghost use Rattle.edit_shown.specs.Unified as spec;
+
+use crate::diff::hunks::push_parts;
+use crate::diff::lines::lines_of;
+use crate::diff::marks::marked;
+use edit_base::{CargoResult, Error};
+use std::alloc::{AllocError, Global};
+use std::io;
+
+/// Adds the two lines that name a file.
+fn push_names(text: &mut Vec<u8>, path: &str) -> Result<(), AllocError>
+    ensures ok { OnOk result (text.new.items ≡ text.old.items ++ spec.names_text path.now) }
+{
+    text.extend_from_slice(b"--- a/")?;
+    text.extend_from_slice(path.as_bytes())?;
+    text.extend_from_slice(b"\n+++ b/")?;
+    text.extend_from_slice(path.as_bytes())?;
+    text.push(b'\n')?;
+    Ok(())
+}
+
+/// Adds the parts of the diff of two texts.
+fn push_changes(alloc: Global, text: &mut Vec<u8>, old: &[u8], new: &[u8]) -> Result<(), AllocError>
+    ensures ok { OnOk result (text.new.items ≡ text.old.items
+        ++ spec.parts_of (marked (lines_of old.now) (lines_of new.now))) }
+{
+    let olds = lines_of(alloc, old)?;
+    let news = lines_of(alloc, new)?;
+    let marked = marked(alloc, &olds, &news)?;
+    push_parts(alloc, text, &marked.marks, &marked.lines)
+}
+
+/// The change of a file as a unified diff, with three lines around each change; nothing where nothing
+/// changes. `path` is the file's name in it, behind `a/` and `b/`.
+pub fn diff_text(alloc: Global, path: &str, old: &[u8], new: &[u8]) -> CargoResult<Vec<u8>>
+    ensures text { IfOk result (λ v. v.items ≡ spec.diff_text path.now old.now new.now) }
+    ensures refused { IfErr result IsMemory }
+{
+    let mut text = Vec::new(alloc);
+    if old == new {
+        return Ok(text);
+    }
+    push_names(&mut text, path)?;
+    push_changes(alloc, &mut text, old, new)?;
+    Ok(text)
+}
+
+/// Writes the change of a file as a unified diff.
+pub fn write_diff<W: io::Write>(
+    alloc: Global,
+    out: &mut W,
+    path: &str,
+    old: &[u8],
+    new: &[u8],
+) -> CargoResult<()>
+    ensures bytes { OnOk result (Appends (W.contents out.old) (W.contents out.new)
+        (spec.diff_text path.now old.now new.now)) }
+    ensures refused { IfErr result (λ e. IsMemory e ⊎ (e ≡ Output)) }
+{
+    let text = diff_text(alloc, path, old, new)?;
+    match out.write_all(&text) {
+        Ok(()) => Ok(()),
+        Err(_) => Err(Error::Output),
+    }
+}

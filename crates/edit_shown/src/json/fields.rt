@@ -1,0 +1,93 @@
+//! The members of a message.
+ghost use Rattle.std.specs.Prelude.{◌≡◌, IfOk, option_map};
+ghost use Rattle.serde_json.specs.View.{view};
+ghost use Rattle.edit_shown.specs.Fields.{field_data, list_data, step_data, text_data, text_or_null};
+
+use edit_document::Step;
+use serde_json::{Value, push};
+use std::alloc::{AllocError, Global};
+
+/// What a member has.
+#[derive(Clone, Copy)]
+pub(crate) enum Field<'a> {
+    Text(&'a str),
+    Maybe(Option<&'a str>),
+    Truth(bool),
+    Texts(&'a [String]),
+    Lists(&'a [Vec<String>]),
+    Place(&'a [Step]),
+}
+
+/// A member of a message.
+#[derive(Clone, Copy)]
+pub(crate) struct Member<'a> {
+    pub(crate) key: &'a str,
+    pub(crate) field: Field<'a>,
+}
+
+/// A list of texts.
+fn texts_value(alloc: Global, texts: &[String]) -> Result<Value, AllocError>
+    ensures { IfOk result (λ v. view v ≡ list_data text_data texts.now) }
+{
+    let mut list = Vec::new(alloc);
+    for text in texts {
+        push(&mut list, Value::try_from_str(alloc, text.as_str())?)?;
+    }
+    Ok(Value::Array(list))
+}
+
+/// A list of lists of texts.
+fn lists_value(alloc: Global, lists: &[Vec<String>]) -> Result<Value, AllocError>
+    ensures { IfOk result (λ v. view v ≡ list_data (λ l. list_data text_data l.items) lists.now) }
+{
+    let mut list = Vec::new(alloc);
+    for texts in lists {
+        push(&mut list, texts_value(alloc, texts.as_slice())?)?;
+    }
+    Ok(Value::Array(list))
+}
+
+/// A step of a place: a key as a text, an index as a number.
+fn step_value(alloc: Global, step: &Step) -> Result<Value, AllocError>
+    ensures { IfOk result (λ v. view v ≡ step_data step.now) }
+{
+    match step {
+        Step::Key(key) => Value::try_from_str(alloc, key.as_str()),
+        Step::Index(index) => Ok(Value::from(*index)),
+    }
+}
+
+/// The steps of a place.
+fn place_value(alloc: Global, steps: &[Step]) -> Result<Value, AllocError>
+    ensures { IfOk result (λ v. view v ≡ list_data step_data steps.now) }
+{
+    let mut list = Vec::new(alloc);
+    for step in steps {
+        push(&mut list, step_value(alloc, step)?)?;
+    }
+    Ok(Value::Array(list))
+}
+
+/// A text, or null for none.
+fn text_or_null(alloc: Global, text: Option<&str>) -> Result<Value, AllocError>
+    ensures { IfOk result (λ v. view v ≡ text_or_null (option_map (λ t. t.now) text.entry)) }
+{
+    match text {
+        Some(text) => Value::try_from_str(alloc, text),
+        None => Ok(Value::Null),
+    }
+}
+
+/// What a member has, as JSON.
+pub(crate) fn value_of(alloc: Global, field: Field<'_>) -> Result<Value, AllocError>
+    ensures { IfOk result (λ v. view v ≡ field_data field.entry) }
+{
+    match field {
+        Field::Text(text) => Value::try_from_str(alloc, text),
+        Field::Maybe(text) => text_or_null(alloc, text),
+        Field::Truth(truth) => Ok(Value::Bool(truth)),
+        Field::Texts(texts) => texts_value(alloc, texts),
+        Field::Lists(lists) => lists_value(alloc, lists),
+        Field::Place(steps) => place_value(alloc, steps),
+    }
+}

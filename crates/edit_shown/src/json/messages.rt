@@ -1,0 +1,191 @@
+//! The messages of `upgrade` and `set-version`.
+ghost use Rattle.std.specs.Prelude.{◌≡◌, IfErr, IfOk, string_bytes};
+ghost use Rattle.edit_base.specs.Errors.{IsMemory};
+ghost use Rattle.edit_shown.specs.JsonMessages.{change_members, file_members, message_text, row_members, summary_members, warning_members};
+
+use crate::json::fields::{Field, Member};
+use crate::json::words::{change_word, maybe, why_word};
+use crate::json::written::message;
+use edit_base::CargoResult;
+use edit_report::Row;
+use std::alloc::Global;
+
+/// The message of a row of a manifest's report.
+pub fn row_message<'a>(alloc: Global, manifest: &'a str, row: &'a Row) -> CargoResult<String>
+    ensures text { IfOk result (λ s. string_bytes s ≡ message_text (row_members manifest.now row.now)) }
+    ensures refused { IfErr result IsMemory }
+{
+    let members = [
+        Member {
+            key: "reason",
+            field: Field::Text("upgrade-row"),
+        },
+        Member {
+            key: "manifest_path",
+            field: Field::Text(manifest),
+        },
+        Member {
+            key: "name",
+            field: Field::Text(row.name.as_str()),
+        },
+        Member {
+            key: "rename",
+            field: Field::Maybe(maybe(&row.rename)),
+        },
+        Member {
+            key: "place",
+            field: Field::Place(row.place.as_slice()),
+        },
+        Member {
+            key: "old",
+            field: Field::Maybe(maybe(&row.old)),
+        },
+        Member {
+            key: "compatible",
+            field: Field::Maybe(maybe(&row.compatible)),
+        },
+        Member {
+            key: "latest",
+            field: Field::Maybe(maybe(&row.latest)),
+        },
+        Member {
+            key: "new",
+            field: Field::Maybe(maybe(&row.new)),
+        },
+        Member {
+            key: "why",
+            field: Field::Maybe(why_word(row.reason)),
+        },
+        Member {
+            key: "change",
+            field: Field::Maybe(change_word(row.change)),
+        },
+    ];
+    message(alloc, &members)
+}
+
+/// The message of a warning on a manifest.
+pub fn warning_message<'a>(
+    alloc: Global,
+    manifest: &'a str,
+    warning: &'a str,
+) -> CargoResult<String>
+    ensures text { IfOk result (λ s. string_bytes s
+        ≡ message_text (warning_members manifest.now warning.now)) }
+    ensures refused { IfErr result IsMemory }
+{
+    let members = [
+        Member {
+            key: "reason",
+            field: Field::Text("upgrade-warning"),
+        },
+        Member {
+            key: "manifest_path",
+            field: Field::Text(manifest),
+        },
+        Member {
+            key: "message",
+            field: Field::Text(warning),
+        },
+    ];
+    message(alloc, &members)
+}
+
+/// The message of a manifest that changes: whether it is written, which at a dry run it is not.
+pub fn file_message(alloc: Global, manifest: &str, written: bool) -> CargoResult<String>
+    ensures text { IfOk result (λ s. string_bytes s ≡ message_text (file_members manifest.now written)) }
+    ensures refused { IfErr result IsMemory }
+{
+    let members = [
+        Member {
+            key: "reason",
+            field: Field::Text("upgrade-file"),
+        },
+        Member {
+            key: "manifest_path",
+            field: Field::Text(manifest),
+        },
+        Member {
+            key: "written",
+            field: Field::Truth(written),
+        },
+    ];
+    message(alloc, &members)
+}
+
+/// What an upgrade says last.
+#[derive(Clone, Copy)]
+pub struct Summary<'a> {
+    pub dry_run: bool,
+    pub modified: &'a [String],
+    pub git_crates: &'a [String],
+    pub missing: &'a [String],
+    pub pinned_present: bool,
+    pub incompatible_present: bool,
+    /// The calls of `cargo update` that are due, each as its words.
+    pub update_calls: &'a [Vec<String>],
+}
+
+/// The last message of an upgrade.
+pub fn summary_message(alloc: Global, summary: Summary<'_>) -> CargoResult<String>
+    ensures text { IfOk result (λ s. string_bytes s ≡ message_text (summary_members summary.entry)) }
+    ensures refused { IfErr result IsMemory }
+{
+    let members = [
+        Member {
+            key: "reason",
+            field: Field::Text("upgrade-summary"),
+        },
+        Member {
+            key: "dry_run",
+            field: Field::Truth(summary.dry_run),
+        },
+        Member {
+            key: "modified",
+            field: Field::Texts(summary.modified),
+        },
+        Member {
+            key: "git_crates",
+            field: Field::Texts(summary.git_crates),
+        },
+        Member {
+            key: "missing",
+            field: Field::Texts(summary.missing),
+        },
+        Member {
+            key: "pinned_present",
+            field: Field::Truth(summary.pinned_present),
+        },
+        Member {
+            key: "incompatible_present",
+            field: Field::Truth(summary.incompatible_present),
+        },
+        Member {
+            key: "update_calls",
+            field: Field::Lists(summary.update_calls),
+        },
+    ];
+    message(alloc, &members)
+}
+
+/// The message of a line of `set-version`: what is done, and to what.
+pub fn change_message<'a>(alloc: Global, action: &'a str, change: &'a str) -> CargoResult<String>
+    ensures text { IfOk result (λ s. string_bytes s ≡ message_text (change_members action.now change.now)) }
+    ensures refused { IfErr result IsMemory }
+{
+    let members = [
+        Member {
+            key: "reason",
+            field: Field::Text("set-version-change"),
+        },
+        Member {
+            key: "action",
+            field: Field::Text(action),
+        },
+        Member {
+            key: "message",
+            field: Field::Text(change),
+        },
+    ];
+    message(alloc, &members)
+}

@@ -1,0 +1,43 @@
+//! The words of a message.
+ghost use Rattle.std.specs.Prelude.{◌≡◌, option_map, string_bytes};
+ghost use Rattle.edit_shown.specs.JsonMessages as spec;
+
+use edit_report::{Change, Reason};
+
+/// A text that need not be there.
+pub(crate) fn maybe(text: &Option<String>) -> Option<&str>
+    ensures { option_map (λ t. t.now) result ≡ option_map string_bytes text.now }
+{
+    match text {
+        Some(text) => Some(text.as_str()),
+        None => None,
+    }
+}
+
+/// Why an entry did not get the newest requirement, or that it has it.
+pub(crate) fn why_word(reason: Option<Reason>) -> Option<&'static str>
+    ensures { option_map (λ t. t.now) result ≡ spec.why_word reason }
+{
+    match reason {
+        None => None,
+        Some(Reason::Latest) => Some("latest"),
+        Some(Reason::Compatible) => Some("compatible"),
+        Some(Reason::Incompatible) => Some("incompatible"),
+        Some(Reason::Pinned) => Some("pinned"),
+        Some(Reason::GitSource) => Some("git"),
+        Some(Reason::PathSource) => Some("local"),
+        Some(Reason::Excluded) => Some("excluded"),
+    }
+}
+
+/// What the new requirement was taken from.
+pub(crate) fn change_word(change: Option<Change>) -> Option<&'static str>
+    ensures { option_map (λ t. t.now) result ≡ spec.change_word change }
+{
+    match change {
+        None => None,
+        Some(Change::Explicit) => Some("explicit"),
+        Some(Change::Latest) => Some("latest"),
+        Some(Change::Compatible) => Some("compatible"),
+    }
+}

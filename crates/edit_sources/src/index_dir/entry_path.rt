@@ -1,0 +1,52 @@
+//! Where the file of a name stands below a folder of registries.
+ghost use Rattle.std.specs.Prelude.{◌≡◌, ◌∷◌, ◌++◌, ◌⊎◌, true, IfErr, IfOk, OnOk, string_bytes};
+ghost use Rattle.edit_base.specs.Errors.{IsMemory, number_of};
+ghost use Rattle.edit_sources.specs.Folders.{HasBadName, entry_path};
+ghost use Rattle.edit_sources.specs.LocalIndex.{below, ends_with_slash};
+ghost use Rattle.edit_sources.specs.Names.{is_crate_name};
+
+use crate::index_dir::folder::registry_folder;
+use crate::index_dir::layout::layout_path;
+use edit_base::errors::CargoResult;
+use std::alloc::{AllocError, Global};
+use url::Url;
+
+/// The path of the file of a name in the folder of a registry, below a folder.
+pub(crate) fn entry_path(
+    alloc: Global,
+    folder: &str,
+    registry: &Url,
+    name: &str,
+) -> CargoResult<String>
+    ensures path { IfOk result (λ p. string_bytes p ≡ entry_path folder.now registry.now name.now) }
+    ensures named { OnOk result (is_crate_name name.now ≡ true) }
+    ensures refused { IfErr result (λ e. IsMemory e ⊎ HasBadName name.now (number_of e)) }
+{
+    let layout = layout_path(alloc, name)?;
+    let registry = registry_folder(alloc, registry)?;
+    Ok(joined(alloc, folder, registry.as_str(), layout.as_str())?)
+}
+
+/// A folder, one below it, and what stands below that.
+fn joined(alloc: Global, folder: &str, inner: &str, rest: &str) -> Result<String, AllocError>
+    ensures { IfOk result (λ p. string_bytes p ≡ below folder.now (inner.now ++ 47 ∷ rest.now)) }
+{
+    let mut path = String::from_str(alloc, folder)?;
+    if !ends_with_slash(folder.as_bytes()) {
+        path.push_str("/")?;
+    }
+    path.push_str(inner)?;
+    path.push_str("/")?;
+    path.push_str(rest)?;
+    Ok(path)
+}
+
+/// Whether a text ends with `/`. As in `edit_sources`, which has it for itself alone.
+fn ends_with_slash(folder: &[u8]) -> bool
+    ensures { result ≡ ends_with_slash folder.now }
+{
+    match folder {
+        [.., last] => *last == b'/',
+        [] => false,
+    }
+}

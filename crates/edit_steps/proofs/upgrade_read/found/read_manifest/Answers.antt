@@ -1,0 +1,11 @@
+use Rattle.std.proofs.Common.{inr, string_bytes}
+use Rattle.edit_sources.specs.Configured.{given}
+use Rattle.edit_steps.proofs.FoundLemmas.{folder_there}
+use Rattle.edit_steps.proofs.upgrade_read.found.read_manifest.Goals as goal
+
+pub returns-in-Ok-None-clause-refused : goal.returns-in-Ok-None-clause-refused
+returns-in-Ok-None-clause-refused g c =
+    let none = rw c.in-Ok-None.field-0-is at c.in-Ok-None.ensures.bytes in
+    inr (folder_there (g.S.Store.view c.args.files.now) (g.S.Store.view c.manifest_path.new.files)
+    c.args.current.now (given c.args.named) (string_bytes c.in_ok-path.path) c.as_str.result.now _
+    c.in_ok-path.ensures.store c.at_path.ensures c.as_str.ensures.value c.in_ok-path.ensures.found none)

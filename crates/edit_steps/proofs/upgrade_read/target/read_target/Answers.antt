@@ -1,0 +1,26 @@
+use Rattle.std.proofs.Common.{option_map}
+use Rattle.edit_steps.proofs.Refusals.{refusal_has}
+use Rattle.edit_version.specs.RustVersions.{numbers_of}
+use Rattle.edit_steps.proofs.TargetLemmas.{found_read, members_read, workspace_cause}
+use Rattle.edit_steps.proofs.upgrade_read.target.read_target.Goals as goal
+
+pub returns-in_default-clause-read : goal.returns-in_default-clause-read
+returns-in_default-clause-read g c =
+    λ t. found_read (g.S.Store.view c.args.files.now).file_at c.args.current.now c.args.asked.now
+    c.in_ok-manifest.manifest.input c.in_ok-alone.field-0 c.in_default.is c.in_ok-alone.ensures.workspace
+    c.in_ok-alone.ensures.inputs (c.in_ok-manifest.ensures.read t)
+
+pub returns-in_err-read-clause-refused : goal.returns-in_err-read-clause-refused
+returns-in_err-read-clause-refused g c =
+    refusal_has c.from_residual-in_err-read.result c.in_err-read.field-0.0 _
+    c.from_residual-in_err-read.ensures.1
+    (workspace_cause (g.S.Store.view c.args.files.now) (g.S.Store.view c.read_workspace.new.files)
+    c.args.current.now c.args.asked.now c.in-Some.named c.in_err-read.field-0.0.error c.in-Some.is
+    c.in_err-read.ensures.refused)
+
+pub returns-clause-read : goal.returns-clause-read
+returns-clause-read g c =
+    λ t. members_read (g.S.Store.view c.args.files.now).file_at c.args.current.now c.args.asked.now
+    c.in-Some.named c.in_ok-read.read.workspace c.in_ok-read.read.inputs.items
+    (option_map numbers_of c.given-given.result) c.is_ignored-ignored.result c.in-Some.is
+    c.given-given.ensures c.is_ignored-ignored.ensures (c.in_ok-read.ensures.workspace t)

@@ -1,0 +1,32 @@
+-- What an upgrade is asked to rest on, as contracts see it.
+use Rattle.std.specs.Prelude.{ℕ, List, Option, Some, None, false, true}
+use Rattle.edit_metadata.specs.Inputs.{RustAsked}
+use Rattle.edit_sources.specs.Configured.{given}
+use Rattle.edit_version.specs.RustVersions.{numbers_of}
+use Rattle.edit_steps.specs.declared.upgrade_read.asked.Asked.{Asked}
+use Rattle.edit_steps.specs.declared.upgrade_read.asked.RustChoice.{RustChoice}
+use Rattle.edit_steps.specs.declared.upgrade_read.asked.RustChoice.TheVariants.{Given, Ignored, Own}
+
+-- what is asked of Rust versions
+abbrev pub asked_rust : RustChoice → RustAsked
+asked_rust Own = record { given = None; ignored = false }
+asked_rust Ignored = record { given = None; ignored = true }
+asked_rust (Given version) = record { given = Some (numbers_of version); ignored = false }
+
+-- what is named, as it is written, and what is asked of Rust versions
+pub record Asking : Type 0 where
+  pub manifest : Option (List ℕ)
+  pub metadata : Option (List ℕ)
+  pub index : Option (List ℕ)
+  pub index_dir : Option (List ℕ)
+  pub rust : RustAsked
+
+-- what is asked for
+abbrev pub asking_of : Asked → Asking
+asking_of asked = record {
+  manifest = given asked.manifest_path;
+  metadata = given asked.metadata_json;
+  index = given asked.index_file;
+  index_dir = given asked.index_dir;
+  rust = asked_rust asked.rust;
+}

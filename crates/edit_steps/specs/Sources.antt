@@ -1,0 +1,80 @@
+-- What an upgrade rests on, as it was read.
+use Rattle.std.specs.Prelude.{◌≡◌, ◌⊎◌, ℕ, List, [], ◌∷◌, Option, Some, None, ⊤, length, map, string_bytes}
+use Rattle.std.specs.Global.{Vec}
+use Rattle.std.specs.List.{AllZip}
+use Rattle.edit_metadata.specs.Workspaces.{workspace_said}
+use Rattle.edit_metadata.specs.declared.input.Input.{Input}
+use Rattle.edit_metadata.specs.declared.workspace.Workspace.{Workspace}
+use Rattle.edit_sources.specs.ConfigurationFiles.{AreConfigs}
+use Rattle.edit_sources.specs.FileIndex.{HoldsLines}
+use Rattle.edit_sources.specs.declared.config.Config.{Config}
+use Rattle.edit_sources.specs.declared.file_index.FileIndex.{FileIndex}
+use Rattle.edit_steps.specs.Absolute.{IsAbsoluteOf}
+use Rattle.edit_steps.specs.Workspaces.{HaveOwnPaths, IsWorkspaceRead}
+use Rattle.edit_store.specs.Store.{Files}
+use Rattle.edit_tree.specs.Shown.{Shown}
+use Rattle.edit_steps.specs.Asking.{Asking}
+use Rattle.edit_steps.specs.Own.{IsManifestRead}
+use Rattle.edit_steps.specs.declared.upgrade_read.index.IndexSource.{IndexSource}
+use Rattle.edit_steps.specs.declared.upgrade_read.index.IndexSource.TheVariants as source
+use Rattle.edit_steps.specs.declared.upgrade_read.sources.Sources.{Sources}
+use Rattle.edit_steps.specs.declared.upgrade_read.target.Target.{Target}
+
+-- the manifests to plan for were read: the one that is found, or those of the workspace whose metadata are
+-- named
+pub data AreInputsRead (files : Files) (current : List ℕ) (asking : Asking)
+    : Option Workspace → List Input → Type 0 where
+  found : (input : Input) → asking.metadata ≡ None
+      → IsManifestRead files current asking.manifest asking.rust input
+      → AreInputsRead files current asking None (input ∷ [])
+  members : (named : List ℕ) (w : Workspace) (inputs : List Input) → asking.metadata ≡ Some named
+      → IsWorkspaceRead files current named asking.rust (workspace_said w) inputs
+      → AreInputsRead files current asking (Some w) inputs
+
+-- the same, of a target
+abbrev pub IsTargetRead : Files → List ℕ → Asking → Target → Type 0
+IsTargetRead files current asking target =
+    AreInputsRead files current asking target.workspace target.inputs.items
+
+-- no documents, or those that the bytes of the inputs are
+abbrev pub AreDocuments : List Shown → List Input → Type 0
+AreDocuments documents inputs =
+    (documents ≡ []) ⊎ (map (λ d. d.bytes) documents ≡ map (λ input. input.bytes.items) inputs)
+
+-- each input has the configurations of its manifest
+abbrev pub AreConfigured : Files → Option (List ℕ) → List Input → List (Vec Config) → Type 0
+AreConfigured files home inputs configs =
+    AllZip (λ input own. AreConfigs files (string_bytes input.path) home own.items) inputs configs
+
+-- the index in the file that is named was read
+pub record IsIndexAt (files : Files) (current named : List ℕ) (index : FileIndex) : Type 0 where
+  pub path : List ℕ
+  pub bytes : List ℕ
+  pub at : IsAbsoluteOf current named path
+  pub is : files path ≡ Some bytes
+  pub holds : HoldsLines index bytes
+
+-- the index that is named, by its file and by its folder: the file was read where one is named, else the
+-- folder has this path where one is, else it is the index in files
+abbrev pub IsIndexOf : Files → List ℕ → Option (List ℕ) → Option (List ℕ) → IndexSource → Type 0
+IsIndexOf files current (Some named) dir (source.Lines index) = IsIndexAt files current named index
+IsIndexOf files current None (Some dir) (source.Folder path) = IsAbsoluteOf current dir (string_bytes path)
+IsIndexOf files current None None source.Files = ⊤
+IsIndexOf files current _ _ _ = ⊥
+
+-- the same, of what is asked for
+abbrev pub IsIndexRead : Files → List ℕ → Asking → IndexSource → Type 0
+IsIndexRead files current asking index = IsIndexOf files current asking.index asking.index_dir index
+
+-- all that an upgrade rests on was read: its manifests, the configurations of each, and the index
+pub record AreRead (files : Files) (current : List ℕ) (home : Option (List ℕ)) (asking : Asking)
+    (s : Sources) : Type 0 where
+  pub target : IsTargetRead files current asking s.target
+  pub configured : AreConfigured files home s.target.inputs.items s.configs.items
+  pub indexed : IsIndexRead files current asking s.index
+
+-- a plan may be made: each input has a path of its own, and a list of configurations
+pub record MayBePlanned (s : Sources) : Type 0 where
+  pub paths : HaveOwnPaths s.target.inputs.items
+  pub each : length s.configs.items ≡ length s.target.inputs.items
+  pub documents : AreDocuments s.target.documents.items s.target.inputs.items

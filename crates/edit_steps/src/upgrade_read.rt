@@ -1,0 +1,15 @@
+//! What an upgrade rests on, as it is read: manifests, their configurations and the index.
+
+mod asked;
+mod configs;
+mod found;
+mod index;
+mod locate;
+mod own;
+mod sources;
+mod target;
+
+pub use asked::{Asked, RustChoice};
+pub use index::IndexSource;
+pub use sources::{Sources, read_sources};
+pub use target::Target;

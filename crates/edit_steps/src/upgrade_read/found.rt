@@ -1,0 +1,80 @@
+//! The manifest that is found, where no metadata are named.
+ghost use Rattle.std.specs.Prelude.{◌≡◌, ◌⊎◌, IfErr, IfOk, true};
+ghost use Rattle.edit_manifest.specs.Loaded.{IsBadManifest};
+ghost use Rattle.edit_sources.specs.Configured.{given};
+ghost use Rattle.edit_store.specs.Store.{OnlyReads};
+ghost use Rattle.edit_steps.specs.Asking.{asked_rust};
+ghost use Rattle.edit_steps.specs.Causes.{IsFailure, IsManifestCause};
+ghost use Rattle.edit_steps.specs.Own.{IsManifestRead, SaysOfItself};
+
+use crate::upgrade_read::asked::RustChoice;
+use crate::upgrade_read::locate::manifest_path;
+use crate::upgrade_read::own::{own_name, rust_version_for};
+use crate::{RunResult, at_byte, at_path};
+use edit_base::Error;
+use edit_document::Document;
+use edit_manifest::Manifest;
+use edit_metadata::Input;
+use edit_store::Store;
+use std::alloc::Global;
+
+/// A manifest that was read: what is to be planned, and the document that its bytes are.
+#[derive(Drop)]
+pub(crate) struct ReadManifest {
+    pub(crate) input: Input,
+    pub(crate) document: Document,
+}
+
+/// The manifest to plan for, by its own name. Its bytes are read once.
+fn manifest_of(
+    alloc: Global,
+    rust: RustChoice,
+    path: String,
+    bytes: Vec<u8>,
+) -> RunResult<ReadManifest>
+    ensures path { IfOk result (λ m. m.input.path ≡ path) }
+    ensures bytes { IfOk result (λ m. m.input.bytes ≡ bytes) }
+    ensures document { IfOk result (λ m. m.document.bytes ≡ bytes.items) }
+    ensures says { IfOk result (λ m. SaysOfItself (asked_rust rust) m.input) }
+    ensures refused { IfErr result (λ r. IsBadManifest bytes.items r.error) }
+{
+    let Manifest { document } = match Manifest::read_bytes(alloc, &bytes) {
+        Ok(manifest) => manifest,
+        Err(error) => return Err(at_byte(alloc, error, path.as_str(), &bytes)),
+    };
+    let name = own_name(alloc, &document)?;
+    let rust_version = rust_version_for(alloc, rust, &document)?;
+    let input = Input {
+        name,
+        path,
+        bytes,
+        rust_version,
+    };
+    Ok(ReadManifest { input, document })
+}
+
+/// Reads the manifest that is named, or the nearest one where none is.
+pub(crate) fn read_manifest<S: Store>(
+    alloc: Global,
+    named: Option<&str>,
+    current: &str,
+    rust: RustChoice,
+    files: &mut S,
+) -> RunResult<ReadManifest>
+    ensures store { OnlyReads (S.view files.old) (S.view files.new) }
+    ensures read { IfOk result (λ m. (S.view files.old).tells ≡ true
+        → IsManifestRead (S.view files.old).file_at current.now (given named.entry) (asked_rust rust)
+        m.input) }
+    ensures document { IfOk result (λ m. m.document.bytes ≡ m.input.bytes.items) }
+    ensures refused { IfErr result (λ r. IsFailure (S.view files.old) (S.view files.new) r.error
+        ⊎ ((S.view files.old).tells ≡ true
+        → IsManifestCause (S.view files.old).file_at current.now (given named.entry) r.error)) }
+{
+    let path = manifest_path(alloc, named, current, files)?;
+    let bytes = match files.read(alloc, path.as_str()) {
+        Ok(Some(bytes)) => bytes,
+        Ok(None) => return Err(at_path(alloc, Error::NoManifest, path.as_str())),
+        Err(error) => return Err(at_path(alloc, error, path.as_str())),
+    };
+    manifest_of(alloc, rust, path, bytes)
+}

@@ -1,0 +1,77 @@
+//! The index that is planned over.
+ghost use Rattle.std.specs.Prelude.{◌≡◌, ◌⊎◌, IfErr, IfOk, true};
+ghost use Rattle.edit_base.specs.declared.errors.DeviceCall.TheVariants as call;
+ghost use Rattle.edit_sources.specs.Configured.{given};
+ghost use Rattle.edit_store.specs.Store.{OnlyReads, RefusesCall};
+ghost use Rattle.edit_steps.specs.Causes.{HasNoIndex, IsIndexCause};
+ghost use Rattle.edit_steps.specs.Sources.{IsIndexAt, IsIndexOf};
+
+use crate::{RunResult, absolute, at_path};
+use edit_base::Error;
+use edit_sources::FileIndex;
+use edit_store::Store;
+use std::alloc::Global;
+
+/// The index that an upgrade is planned over.
+#[derive(Drop)]
+pub enum IndexSource {
+    /// The one in files.
+    Files,
+    /// The lines of the file that is named.
+    Lines(FileIndex),
+    /// The folder with this absolute path, which has a folder for each registry.
+    Folder(String),
+}
+
+/// Reads the index in the file that is named.
+fn read_file<S: Store>(
+    alloc: Global,
+    named: &str,
+    current: &str,
+    files: &mut S,
+) -> RunResult<FileIndex>
+    ensures store { OnlyReads (S.view files.old) (S.view files.new) }
+    ensures read { IfOk result (λ i. (S.view files.old).tells ≡ true
+        → IsIndexAt (S.view files.old).file_at current.now named.now i) }
+    ensures refused { IfErr result (λ r. RefusesCall call.Read (S.view files.old) (S.view files.new) r.error
+        ⊎ ((S.view files.old).tells ≡ true
+        → IsIndexCause (S.view files.old).file_at current.now named.now r.error)) }
+{
+    let path = absolute(alloc, current, named)?;
+    let lines = match files.read(alloc, path.as_str()) {
+        Ok(Some(lines)) => lines,
+        Ok(None) => return Err(at_path(alloc, Error::NoPath, path.as_str())),
+        Err(error) => return Err(at_path(alloc, error, path.as_str())),
+    };
+    match FileIndex::read(alloc, &lines) {
+        Ok(index) => Ok(index),
+        Err(error) => Err(at_path(alloc, error, path.as_str())),
+    }
+}
+
+/// The index to plan over: the lines of the file that is named, else the folder that is named, by its
+/// absolute normal path, else the one in files. Of a folder nothing is read.
+pub(crate) fn read_index<S: Store>(
+    alloc: Global,
+    file: Option<&str>,
+    dir: Option<&str>,
+    current: &str,
+    files: &mut S,
+) -> RunResult<IndexSource>
+    ensures store { OnlyReads (S.view files.old) (S.view files.new) }
+    ensures read { IfOk result (λ i. (S.view files.old).tells ≡ true
+        → IsIndexOf (S.view files.old).file_at current.now (given file.entry) (given dir.entry) i) }
+    ensures refused { IfErr result (λ r. RefusesCall call.Read (S.view files.old) (S.view files.new) r.error
+        ⊎ ((S.view files.old).tells ≡ true
+        → HasNoIndex (S.view files.old).file_at current.now (given file.entry) r.error)) }
+{
+    if let Some(named) = file {
+        let index = read_file(alloc, named, current, files)?;
+        return Ok(IndexSource::Lines(index));
+    }
+    let Some(named) = dir else {
+        return Ok(IndexSource::Files);
+    };
+    let path = absolute(alloc, current, named)?;
+    Ok(IndexSource::Folder(path))
+}

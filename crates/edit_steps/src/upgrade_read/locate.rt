@@ -1,0 +1,43 @@
+//! Where the manifest stands.
+ghost use Rattle.std.specs.Prelude.{◌≡◌, ◌⊎◌, IfErr, IfOk, string_bytes, true};
+ghost use Rattle.edit_base.specs.declared.errors.DeviceCall.TheVariants as call;
+ghost use Rattle.edit_store.specs.Store.{OnlyReads, RefusesCall};
+ghost use Rattle.edit_manifest.specs.Located.{HasNoManifest, IsManifestPath};
+ghost use Rattle.edit_sources.specs.Configured.{given};
+
+use crate::{Refusal, RunResult, absolute, at_path};
+use edit_base::Error;
+use edit_manifest::find;
+use edit_store::Store;
+use std::alloc::Global;
+
+/// A refusal of what stands at a path that is named, without its place where memory is short.
+fn at_named(alloc: Global, error: Error, current: &str, named: &str) -> Refusal
+    ensures { result.error ≡ error }
+{
+    match absolute(alloc, current, named) {
+        Ok(path) => at_path(alloc, error, path.as_str()),
+        Err(_) => Refusal::from(error),
+    }
+}
+
+/// The path of the manifest: the file named, or the nearest `Cargo.toml` from the folder named upwards; from
+/// the current folder where none is named.
+pub(crate) fn manifest_path<S: Store>(
+    alloc: Global,
+    named: Option<&str>,
+    current: &str,
+    files: &mut S,
+) -> RunResult<String>
+    ensures store { OnlyReads (S.view files.old) (S.view files.new) }
+    ensures found { IfOk result (λ p. (S.view files.old).tells ≡ true
+        → IsManifestPath (S.view files.old).file_at current.now (given named.entry) (string_bytes p)) }
+    ensures refused { IfErr result (λ r. RefusesCall call.Kind (S.view files.old) (S.view files.new) r.error
+        ⊎ ((S.view files.old).tells ≡ true
+        → HasNoManifest (S.view files.old).file_at current.now r.error (given named.entry))) }
+{
+    match find(alloc, files, named, current) {
+        Ok(path) => Ok(path),
+        Err(error) => Err(at_named(alloc, error, current, named.unwrap_or(current))),
+    }
+}

@@ -1,0 +1,54 @@
+//! What an upgrade rests on, as it was read.
+ghost use Rattle.std.specs.Prelude.{◌≡◌, ◌⊎◌, IfErr, IfOk, true};
+ghost use Rattle.edit_sources.specs.Configured.{given};
+ghost use Rattle.edit_store.specs.Store.{OnlyReads};
+ghost use Rattle.edit_steps.specs.Asking.{asking_of};
+ghost use Rattle.edit_steps.specs.Causes.{IsReadCause};
+ghost use Rattle.edit_steps.specs.Sources.{AreRead, MayBePlanned};
+
+use crate::RunResult;
+use crate::upgrade_read::asked::Asked;
+use crate::upgrade_read::configs::read_all;
+use crate::upgrade_read::index::{IndexSource, read_index};
+use crate::upgrade_read::target::{Target, read_target};
+use edit_sources::Config;
+use edit_store::Store;
+use std::alloc::Global;
+
+/// What an upgrade rests on, as it was read.
+#[derive(Drop)]
+pub struct Sources {
+    pub target: Target,
+    /// The configurations of each input.
+    pub configs: Vec<Vec<Config>>,
+    /// The index to plan over.
+    pub index: IndexSource,
+}
+
+/// Reads what an upgrade rests on, in this order: the metadata that are named with their manifests, else the
+/// manifest that is found; the configurations of each; the file of an index that is named. Nothing is read of
+/// an index in a folder, and no file changes.
+pub fn read_sources<S: Store>(
+    alloc: Global,
+    asked: &Asked<'_>,
+    current: &str,
+    cargo_home: Option<&str>,
+    files: &mut S,
+) -> RunResult<Sources>
+    ensures store { OnlyReads (S.view files.old) (S.view files.new) }
+    ensures read { IfOk result (λ s. (S.view files.old).tells ≡ true
+        → AreRead (S.view files.old).file_at current.now (given cargo_home.entry) (asking_of asked.now) s) }
+    // and what a plan asks for, over any store
+    ensures planned { IfOk result MayBePlanned }
+    ensures refused { IfErr result (λ r. IsReadCause current.now (given cargo_home.entry)
+        (asking_of asked.now) (S.view files.old) (S.view files.new) r.error) }
+{
+    let target = read_target(alloc, asked, current, files)?;
+    let configs = read_all(alloc, &target.inputs, cargo_home, files)?;
+    let index = read_index(alloc, asked.index_file, asked.index_dir, current, files)?;
+    Ok(Sources {
+        target,
+        configs,
+        index,
+    })
+}

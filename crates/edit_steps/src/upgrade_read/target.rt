@@ -1,0 +1,74 @@
+//! The manifests that are planned for.
+ghost use Rattle.std.specs.Prelude.{◌≡◌, ◌⊎◌, ◌∷◌, [], None, IfErr, IfOk, true};
+ghost use Rattle.edit_steps.specs.Workspaces.{HaveOwnPaths};
+ghost use Rattle.edit_store.specs.Store.{OnlyReads};
+ghost use Rattle.edit_steps.specs.Asking.{asking_of};
+ghost use Rattle.edit_steps.specs.Causes.{HasNoTarget, IsFailure};
+ghost use Rattle.edit_steps.specs.Sources.{AreDocuments, IsTargetRead};
+
+use crate::upgrade_read::asked::Asked;
+use crate::upgrade_read::found::{ReadManifest, read_manifest};
+use crate::{ReadWorkspace, RunResult, read_workspace};
+use edit_document::Document;
+use edit_metadata::{Input, Workspace};
+use edit_store::Store;
+use std::alloc::{AllocError, Global};
+
+/// The manifests that are planned for.
+#[derive(Drop)]
+pub struct Target {
+    /// What the metadata say, where they are named.
+    pub workspace: Option<Workspace>,
+    pub inputs: Vec<Input>,
+    /// The documents that the inputs' bytes are. None are read where metadata are named: what such a manifest
+    /// holds is told later than what is wrong with a configuration or the index.
+    pub documents: Vec<Document>,
+}
+
+/// The manifest that was found, as the only one.
+fn alone(alloc: Global, manifest: ReadManifest) -> Result<Target, AllocError>
+    requires document { manifest.document.bytes ≡ manifest.input.bytes.items }
+    ensures workspace { IfOk result (λ t. t.workspace ≡ None) }
+    ensures inputs { IfOk result (λ t. t.inputs.items ≡ manifest.input ∷ []) }
+    ensures documents { IfOk result (λ t. AreDocuments t.documents.items t.inputs.items) }
+{
+    let ReadManifest { input, document } = manifest;
+    let inputs = vec![in alloc; input]?;
+    let documents = vec![in alloc; document]?;
+    Ok(Target {
+        workspace: None,
+        inputs,
+        documents,
+    })
+}
+
+/// Reads the workspace whose metadata are named, else the manifest that is found.
+pub(crate) fn read_target<S: Store>(
+    alloc: Global,
+    asked: &Asked<'_>,
+    current: &str,
+    files: &mut S,
+) -> RunResult<Target>
+    ensures store { OnlyReads (S.view files.old) (S.view files.new) }
+    ensures read { IfOk result (λ t. (S.view files.old).tells ≡ true
+        → IsTargetRead (S.view files.old).file_at current.now (asking_of asked.now) t) }
+    ensures paths { IfOk result (λ t. HaveOwnPaths t.inputs.items) }
+    ensures documents { IfOk result (λ t. AreDocuments t.documents.items t.inputs.items) }
+    ensures refused { IfErr result (λ r. IsFailure (S.view files.old) (S.view files.new) r.error
+        ⊎ ((S.view files.old).tells ≡ true
+        → HasNoTarget (S.view files.old).file_at current.now (asking_of asked.now) r.error)) }
+{
+    let rust = asked.rust;
+    let Some(named) = asked.metadata_json else {
+        let manifest = read_manifest(alloc, asked.manifest_path, current, rust, files)?;
+        return Ok(alone(alloc, manifest)?);
+    };
+    let (given, ignored) = (rust.given(), rust.is_ignored());
+    let read = read_workspace(alloc, named, current, given, ignored, files)?;
+    let ReadWorkspace { workspace, inputs } = read;
+    Ok(Target {
+        workspace: Some(workspace),
+        inputs,
+        documents: Vec::new(alloc),
+    })
+}

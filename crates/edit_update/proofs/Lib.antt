@@ -1,4 +1,0 @@
-pub mod Entries
-pub mod Kept
-mod PinFacts
-mod UpdateFacts

@@ -1,9 +1,0 @@
-use Rattle.std.proofs.Common.{◌≡◌, map, string_bytes, take}
-use Rattle.edit_metadata.specs.Workspaces.{packages_said}
-use Rattle.edit_update.specs.Groups.{nows}
-use Rattle.edit_update.specs.UpdateCalls.{from_git}
-use Rattle.edit_update.proofs.chosen.from_git.Given as goal
-
-abbrev pub invariant-packages : goal.invariant-packages
-invariant-packages l = packages_said (nows l.found.items)
-    ≡ from_git (map string_bytes l.fn.names) (packages_said (take l.package-index l.packages))

@@ -1,0 +1,6 @@
+use Rattle.std.proofs.Common.{map, string_bytes, take}
+use Rattle.edit_upgrade.specs.Names.{HasNames}
+use Rattle.edit_upgrade.proofs.update.chosen.names_of.Given as goal
+
+abbrev pub invariant-names : goal.invariant-names
+invariant-names l = HasNames l.set (map string_bytes (take l.name-index l.names))

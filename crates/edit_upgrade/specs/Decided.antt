@@ -1,0 +1,68 @@
+-- The decision's values, as the program has them.
+use Rattle.std.specs.Prelude.{List, ℕ, Bool, true, false, not, ◌&&◌, if◌then◌else◌, is_some, Option, string_bytes, Some, None}
+use Rattle.edit_upgrade.specs.Decision.{Case, Choice, Outcome, first_reason, first_row, kept, given, left_out, or_else, row_change, row_text, same_text, to_compatible, to_latest, unless, unread, when}
+use Rattle.edit_upgrade.specs.declared.decision.options.Options.{Options}
+use Rattle.edit_report.specs.declared.row.Reason.{Reason}
+use Rattle.edit_report.specs.declared.row.Reason.TheVariants as reason
+use Rattle.edit_upgrade.specs.Offers.{offered}
+use Rattle.edit_upgrade.specs.declared.decision.decide.Decided.{Decided}
+use Rattle.edit_upgrade.specs.declared.decision.offers.Offer.{Offer}
+
+-- what the decision rests on, as the program has it (own)
+abbrev pub case_view : Bool → Bool → Bool → Option (List ℕ) → List ℕ → Option Offer → Option Offer → Case
+case_view excluded renamed never_lower selected old compatible latest = record {
+  excluded = excluded;
+  renamed = renamed;
+  never_lower = never_lower;
+  selected = selected;
+  old = old;
+  compatible = offered compatible;
+  latest = offered latest;
+}
+
+-- what is decided, by its text (own)
+abbrev pub choice_view : Decided → Choice
+choice_view d = record { new = string_bytes d.new; change = d.change; reason = d.reason }
+
+-- `held_back`, from the text that could be written for the latest version (own)
+abbrev pub held_by : Bool → Bool → Option (List ℕ) → Option Reason
+held_by jumps pinned far =
+    when (is_some far && not jumps) (Some (if pinned then reason.Pinned else reason.Incompatible))
+
+-- `row_reason`, from the texts that could be written (own)
+abbrev pub reason_by : Bool → Bool → Option (List ℕ) → Option (List ℕ) → Outcome → Option Reason
+reason_by jumps pinned far near left_out = Some reason.Excluded
+reason_by jumps pinned far near (given text) = None
+reason_by jumps pinned far near unread = None
+reason_by jumps pinned far near (to_latest text) = None
+reason_by jumps pinned far near (to_compatible text) = held_by jumps pinned far
+reason_by jumps pinned far near kept =
+    or_else (held_by jumps pinned far) (when (is_some near) (Some reason.Compatible))
+
+-- whether an entry may get the latest version: pinned entries follow one option, the others another
+abbrev pub jumps_by : Options → Bool → Bool
+jumps_by o pinned = if pinned then o.pinned else o.incompatible
+
+-- the choice of a text, from the texts that could be written (own)
+abbrev pub choice_by : Options → Bool → Bool → List ℕ → Option (List ℕ) → Option (List ℕ) → Outcome → Choice
+choice_by o pinned aside old far near row = record {
+  new = row_text old row;
+  change = row_change old row;
+  reason = first_reason row aside (reason_by (jumps_by o pinned) pinned far near row)
+      (same_text (row_text old row) old);
+}
+
+-- the decision for a readable text, where no given text is taken (own)
+abbrev pub raised_choice : Options → Bool → Bool → List ℕ → Option (List ℕ) → Option (List ℕ) → Choice
+raised_choice o pinned aside old far near =
+    choice_by o pinned aside old far near
+    (first_row false None true (when (jumps_by o pinned) far) (when o.compatible near))
+
+-- the decision, from the texts that could be written
+abbrev pub decision_by : Options → Bool → Bool → Bool → Option (List ℕ) → List ℕ → Option (List ℕ)
+    → Option (List ℕ) → Choice
+decision_by o excluded pinned readable selected old far near =
+    let aside = is_some selected && pinned && not o.pinned in
+    choice_by o pinned aside old far near
+    (first_row excluded (unless aside selected) readable (when (jumps_by o pinned) far)
+    (when o.compatible near))

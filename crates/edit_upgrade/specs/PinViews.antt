@@ -1,0 +1,20 @@
+-- The requirements of words that the code keeps, as contracts see them.
+use Rattle.std.specs.Prelude.{ℕ, List, Option, String, map, option_map, string_bytes}
+use Rattle.std.specs.BTreeMap.{BTreeMap}
+use Rattle.std.specs.declared.alloc.Global.{Global}
+use Rattle.semver.specs.Identifiers.{parts_of}
+use Rattle.edit_version.specs.Requirement.{comparators_of}
+use Rattle.edit_upgrade.specs.Pins as spec
+use Rattle.edit_upgrade.specs.declared.update.pins.Pin.{Pin}
+
+-- a requirement with its precise version
+abbrev pub pin_seen : Pin → spec.Pin
+pin_seen pin = record { comparators = comparators_of pin.req; version = parts_of pin.version }
+
+-- a name, with its pin, where it has one
+abbrev pub entry_seen : String Global × Option Pin → List ℕ × Option spec.Pin
+entry_seen e = (string_bytes e.0, option_map pin_seen e.1)
+
+-- the names in their order, each with its pin
+abbrev pub pins_seen : BTreeMap (String Global) (Option Pin) → List (List ℕ × Option spec.Pin)
+pins_seen pins = map entry_seen pins.entries

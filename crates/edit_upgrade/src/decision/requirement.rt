@@ -1,0 +1,60 @@
+//! What the text of a requirement says.
+ghost use Rattle.std.specs.List.{list_any};
+ghost use Rattle.std.specs.Prelude.{◌≡◌, ◌||◌, IfErr, IfOk, is_ok};
+ghost use Rattle.edit_base.specs.Errors.{IsMemory};
+ghost use Rattle.edit_version.specs.ReadRequirement.{text_in};
+ghost use Rattle.semver.specs.Parse.{req_of};
+ghost use Rattle.edit_upgrade.specs.Decision.{has_pin_read, is_pin};
+
+use edit_base::CargoResult;
+use edit_version::Requirement;
+use semver::{Comparator, Op};
+use std::alloc::Global;
+
+/// `=`, `<`, `<=` and wildcards.
+fn is_pin(op: Op) -> bool
+    ensures { result ≡ is_pin op }
+{
+    matches!(op, Op::Exact | Op::Less | Op::LessEq | Op::Wildcard)
+}
+
+/// Whether one of them pins its entry.
+fn has_pin(comparators: &[Comparator]) -> bool
+    ensures { result ≡ list_any (λ c. is_pin c.op) comparators.now }
+{
+    comparators.iter().any(|c| is_pin(c.op))
+}
+
+/// What a requirement's text says of its entry.
+#[derive(Clone, Copy)]
+pub struct Pin {
+    pub readable: bool,
+    pub pinned: bool,
+}
+
+/// Whether a text is a requirement, and whether it or another name pins the entry.
+pub fn pin_of(renamed: bool, old: &Requirement<'_>) -> Pin
+    ensures readable { result.readable ≡ is_ok (req_of (text_in old.now)) }
+    ensures pinned { result.pinned ≡ (renamed || has_pin_read (req_of (text_in old.now))) }
+{
+    match old.version_req() {
+        Some(req) => Pin {
+            readable: true,
+            pinned: renamed | has_pin(&req.comparators),
+        },
+        None => Pin {
+            readable: false,
+            pinned: renamed,
+        },
+    }
+}
+
+/// The same of a text that was not read yet.
+pub fn read_pin(alloc: Global, renamed: bool, text: &str) -> CargoResult<Pin>
+    ensures readable { IfOk result (λ p. p.readable ≡ is_ok (req_of text.now)) }
+    ensures pinned { IfOk result (λ p. p.pinned ≡ (renamed || has_pin_read (req_of text.now))) }
+    ensures refused { IfErr result IsMemory }
+{
+    let read = Requirement::read(alloc, text)?;
+    Ok(pin_of(renamed, &read))
+}

@@ -1,0 +1,102 @@
+//! The words of calls.
+ghost use Rattle.std.specs.Prelude.{◌≡◌, ◌∷◌, ◌++◌, [], codes, IfOk, OnOk, string_bytes};
+ghost use Rattle.edit_metadata.specs.Workspaces.{package_said};
+ghost use Rattle.edit_upgrade.specs.PinViews.{pin_seen};
+ghost use Rattle.edit_upgrade.specs.UpdateCalls.{package_words, precise_call};
+ghost use Rattle.edit_upgrade.specs.Views.{words_seen};
+ghost use Rattle.semver.specs.Identifiers.{parts_of, parts_text};
+
+use crate::update::pins::Pin;
+use edit_metadata::Package;
+use semver::Version;
+use std::alloc::{AllocError, Global};
+
+/// The words of a call.
+pub(crate) type Call = Vec<String>;
+
+/// Adds a word.
+fn add(alloc: Global, words: &mut Call, word: &str) -> Result<(), AllocError>
+    ensures { OnOk result (words_seen words.new.items ≡ words_seen words.old.items ++ word.now ∷ []) }
+{
+    let word = String::from_str(alloc, word)?;
+    words.push(word)?;
+    Ok(())
+}
+
+/// The words that each call for a manifest begins with.
+pub(crate) fn begun(alloc: Global, manifest: &str) -> Result<Call, AllocError>
+    ensures { IfOk result (λ v. words_seen v.items ≡ codes "cargo" ∷ codes "update"
+        ∷ codes "--manifest-path" ∷ manifest.now ∷ []) }
+{
+    let mut words = Vec::new(alloc);
+    add(alloc, &mut words, "cargo")?;
+    add(alloc, &mut words, "update")?;
+    add(alloc, &mut words, "--manifest-path")?;
+    add(alloc, &mut words, manifest)?;
+    Ok(words)
+}
+
+/// Adds the word that each call ends with.
+pub(crate) fn end(alloc: Global, words: &mut Call) -> Result<(), AllocError>
+    ensures { OnOk result (words_seen words.new.items
+        ≡ words_seen words.old.items ++ codes "--offline" ∷ []) }
+{
+    add(alloc, words, "--offline")
+}
+
+/// Adds the word that asks for what packages depend on as well.
+pub(crate) fn add_aggressive(alloc: Global, words: &mut Call) -> Result<(), AllocError>
+    ensures { OnOk result (words_seen words.new.items
+        ≡ words_seen words.old.items ++ codes "--aggressive" ∷ []) }
+{
+    add(alloc, words, "--aggressive")
+}
+
+/// The name and version of a package, as one word.
+fn package_word(alloc: Global, krate: &Package) -> Result<String, AllocError>
+    ensures { IfOk result (λ s. string_bytes s ≡ (package_said krate.now).name
+        ++ (codes "@" ++ parts_text (package_said krate.now).version)) }
+{
+    format!(in alloc; "{}@{}", krate.name, krate.version)
+}
+
+/// Adds the words that name a package.
+pub(crate) fn add_package(
+    alloc: Global,
+    words: &mut Call,
+    krate: &Package,
+) -> Result<(), AllocError>
+    ensures { OnOk result (words_seen words.new.items
+        ≡ words_seen words.old.items ++ package_words (package_said krate.now)) }
+{
+    add(alloc, words, "--package")?;
+    let word = package_word(alloc, krate)?;
+    words.push(word)?;
+    Ok(())
+}
+
+/// The text of a version.
+fn version_text(alloc: Global, version: &Version) -> Result<String, AllocError>
+    ensures { IfOk result (λ s. string_bytes s ≡ parts_text (parts_of version.now)) }
+{
+    format!(in alloc; "{version}")
+}
+
+/// The call that locks a package to a version.
+pub(crate) fn precise_call(
+    alloc: Global,
+    manifest: &str,
+    pin: &Pin,
+    krate: &Package,
+) -> Result<Call, AllocError>
+    ensures { IfOk result (λ v. words_seen v.items
+        ≡ precise_call manifest.now (pin_seen pin.now) (package_said krate.now)) }
+{
+    let mut words = begun(alloc, manifest)?;
+    add(alloc, &mut words, "--precise")?;
+    let version = version_text(alloc, &pin.version)?;
+    words.push(version)?;
+    add_package(alloc, &mut words, krate)?;
+    end(alloc, &mut words)?;
+    Ok(words)
+}

@@ -1,0 +1,84 @@
+//! Calls for the packages of selected names, with a precise version.
+ghost use Rattle.std.specs.Prelude.{◌≡◌, ◌++◌, IfOk, OnOk, option_copied, option_map};
+ghost use Rattle.edit_metadata.specs.Workspaces.{packages_said};
+ghost use Rattle.edit_upgrade.specs.Groups.{group, nows};
+ghost use Rattle.edit_upgrade.specs.PinViews.{entry_seen, pin_seen, pins_seen};
+ghost use Rattle.edit_upgrade.specs.UpdateCalls.{admitted_calls, entry_calls, precise_calls};
+ghost use Rattle.edit_upgrade.specs.Views.{calls_seen};
+
+use crate::update::call::{Call, precise_call};
+use crate::update::groups::{Groups, grouped};
+use crate::update::pins::{Pin, Pins};
+use edit_metadata::Package;
+use edit_version::admits;
+use std::alloc::{AllocError, Global};
+
+/// Adds a call for each of these packages that a requirement admits.
+fn add_admitted(
+    alloc: Global,
+    manifest: &str,
+    pin: &Pin,
+    packages: &[&Package],
+    calls: &mut Vec<Call>,
+) -> Result<(), AllocError>
+    ensures { OnOk result (calls_seen calls.new.items ≡ calls_seen calls.old.items
+        ++ admitted_calls manifest.now (pin_seen pin.now) (packages_said (nows packages.now))) }
+{
+    'packages: for package in packages {
+        if admits(&pin.req, &package.version) {
+            let call = precise_call(alloc, manifest, pin, package)?;
+            calls.push(call)?;
+        }
+    }
+    Ok(())
+}
+
+/// Adds the calls for a name, where it has a precise version.
+fn add_entry(
+    alloc: Global,
+    manifest: &str,
+    groups: &Groups,
+    name: &str,
+    pin: Option<&Pin>,
+    calls: &mut Vec<Call>,
+) -> Result<(), AllocError>
+    ensures { OnOk result (calls_seen calls.new.items ≡ calls_seen calls.old.items
+        ++ entry_calls manifest.now (packages_said (group groups.now name.now))
+        (option_map pin_seen (option_copied pin.entry))) }
+{
+    let Some(pin) = pin else {
+        return Ok(());
+    };
+    match groups.get(name) {
+        Some(packages) => add_admitted(alloc, manifest, pin, packages, calls),
+        None => Ok(()),
+    }
+}
+
+/// The calls for the names that words select, in byte order.
+pub(crate) fn precise_calls(
+    alloc: Global,
+    manifest: &str,
+    packages: &[Package],
+    pins: &Pins,
+) -> Result<Vec<Call>, AllocError>
+    ensures { IfOk result (λ v. calls_seen v.items
+        ≡ precise_calls manifest.now (packages_said packages.now) (pins_seen pins.now)) }
+{
+    let mut calls = Vec::new(alloc);
+    if pins.is_empty() {
+        return Ok(calls);
+    }
+    let groups = grouped(alloc, packages)?;
+    'pins: for (name, pin) in pins {
+        add_entry(
+            alloc,
+            manifest,
+            &groups,
+            name.as_str(),
+            pin.as_ref(),
+            &mut calls,
+        )?;
+    }
+    Ok(calls)
+}

@@ -1,0 +1,176 @@
+//! The calls of `cargo update` that follow an upgrade.
+ghost use Rattle.std.specs.Prelude.{◌≡◌, ◌⊎◌, ◌++◌, All, IfErr, IfOk, OnOk, map, string_bytes, true};
+ghost use Rattle.edit_base.specs.Errors.{IsMemory};
+ghost use Rattle.edit_metadata.specs.Workspaces.{packages_said, workspace_said};
+ghost use Rattle.edit_upgrade.specs.Asked.{asked_by, asks_repositories, is_due, is_recursive};
+ghost use Rattle.edit_upgrade.specs.Groups.{nows};
+ghost use Rattle.edit_upgrade.specs.PinViews.{pins_seen};
+ghost use Rattle.edit_upgrade.specs.Pins.{IsFirstRefused, IsRead, pins_of};
+ghost use Rattle.edit_upgrade.specs.UpdateCalls.{aggressive_calls, calls_for, git_calls, packages_words, recursive_calls, unpinned, update_calls};
+ghost use Rattle.edit_upgrade.specs.Views.{calls_seen, words_seen};
+
+use crate::update::call::{Call, add_aggressive, add_package, begun, end};
+use crate::update::chosen::{from_git, unpinned};
+use crate::update::pins::{Pins, read_pins};
+use crate::update::precise::precise_calls;
+use crate::{Options, UpgradePlan};
+use edit_base::CargoResult;
+use edit_base::paths::join;
+use edit_metadata::{Package, Workspace};
+use std::alloc::{AllocError, Global};
+
+/// Whether calls are due.
+fn is_due(plan: &UpgradePlan, options: &Options) -> bool
+    ensures { result ≡ is_due (asked_by plan.now options.now) }
+{
+    !plan.modified.is_empty() && !options.dry_run && !options.locked
+}
+
+/// Whether repositories are asked anew.
+fn asks_repositories(plan: &UpgradePlan, options: &Options) -> bool
+    ensures { result ≡ asks_repositories (asked_by plan.now options.now) }
+{
+    options.compatible && !plan.git_crates.is_empty()
+}
+
+/// Whether dependencies of the modified packages are updated as well.
+fn is_recursive(plan: &UpgradePlan, options: &Options) -> bool
+    ensures { result ≡ is_recursive (asked_by plan.now options.now) }
+{
+    match options.recursive {
+        Some(said) => said,
+        None => options.compatible,
+    }
+}
+
+/// Adds the words that name these packages.
+fn add_packages(alloc: Global, words: &mut Call, packages: &[&Package]) -> Result<(), AllocError>
+    ensures { OnOk result (words_seen words.new.items
+        ≡ words_seen words.old.items ++ packages_words (packages_said (nows packages.now))) }
+{
+    'packages: for package in packages {
+        add_package(alloc, words, package)?;
+    }
+    Ok(())
+}
+
+/// Adds the call for packages that come from a repository, where these are asked anew.
+fn add_git_call(
+    alloc: Global,
+    manifest: &str,
+    plan: &UpgradePlan,
+    options: &Options,
+    packages: &[Package],
+    calls: &mut Vec<Call>,
+) -> Result<(), AllocError>
+    ensures { OnOk result (calls_seen calls.new.items ≡ calls_seen calls.old.items
+        ++ git_calls manifest.now (asked_by plan.now options.now) (packages_said packages.now)) }
+{
+    if !asks_repositories(plan, options) {
+        return Ok(());
+    }
+    let found = from_git(alloc, &plan.git_crates, packages)?;
+    let mut words = begun(alloc, manifest)?;
+    add_packages(alloc, &mut words, &found)?;
+    end(alloc, &mut words)?;
+    calls.push(words)?;
+    Ok(())
+}
+
+/// Adds one call for packages with what they depend on, where there are any.
+fn add_aggressive_call(
+    alloc: Global,
+    manifest: &str,
+    packages: &[&Package],
+    calls: &mut Vec<Call>,
+) -> Result<(), AllocError>
+    ensures { OnOk result (calls_seen calls.new.items ≡ calls_seen calls.old.items
+        ++ aggressive_calls manifest.now (packages_said (nows packages.now))) }
+{
+    if packages.is_empty() {
+        return Ok(());
+    }
+    let mut words = begun(alloc, manifest)?;
+    add_aggressive(alloc, &mut words)?;
+    add_packages(alloc, &mut words, packages)?;
+    end(alloc, &mut words)?;
+    calls.push(words)?;
+    Ok(())
+}
+
+/// Adds the call for modified names without a precise version, where dependencies are updated as well.
+fn add_recursive_call(
+    alloc: Global,
+    manifest: &str,
+    plan: &UpgradePlan,
+    options: &Options,
+    pins: &Pins,
+    packages: &[Package],
+    calls: &mut Vec<Call>,
+) -> Result<(), AllocError>
+    requires { pins_seen pins.now ≡ pins_of (map string_bytes options.now.package.items) }
+    ensures { OnOk result (calls_seen calls.new.items ≡ calls_seen calls.old.items
+        ++ recursive_calls manifest.now (asked_by plan.now options.now) (packages_said packages.now)) }
+{
+    if !is_recursive(plan, options) {
+        return Ok(());
+    }
+    let left = unpinned(alloc, pins, &plan.modified, packages)?;
+    add_aggressive_call(alloc, manifest, &left, calls)
+}
+
+/// The calls for a manifest, over the pins of the options' words.
+fn calls_for(
+    alloc: Global,
+    manifest: &str,
+    plan: &UpgradePlan,
+    options: &Options,
+    pins: &Pins,
+    packages: &[Package],
+) -> Result<Vec<Call>, AllocError>
+    requires { pins_seen pins.now ≡ pins_of (map string_bytes options.now.package.items) }
+    ensures { IfOk result (λ v. calls_seen v.items
+        ≡ calls_for manifest.now (asked_by plan.now options.now) (packages_said packages.now)) }
+{
+    let mut calls = precise_calls(alloc, manifest, packages, pins)?;
+    add_git_call(alloc, manifest, plan, options, packages, &mut calls)?;
+    add_recursive_call(alloc, manifest, plan, options, pins, packages, &mut calls)?;
+    Ok(calls)
+}
+
+/// The calls of `cargo update` that follow an upgrade, each as the list of its words, in the order in which
+/// they are to be made.
+///
+/// None where nothing is modified, at a dry run, and where the lock file may not change. Then no word is
+/// read either; else it is refused as `CrateSpec::resolve` refuses it, with 20 or 14.
+pub fn update_calls(
+    alloc: Global,
+    plan: &UpgradePlan,
+    workspace: &Workspace,
+    options: &Options,
+) -> CargoResult<Vec<Vec<String>>>
+    ensures calls { IfOk result (λ v. calls_seen v.items
+        ≡ update_calls (asked_by plan.now options.now) (workspace_said workspace.now)) }
+    // where calls are due, each word is read
+    ensures words { IfOk result (λ v. is_due (asked_by plan.now options.now) ≡ true
+        → All IsRead (map string_bytes options.now.package.items)) }
+    // memory ran out, or calls are due and a word is refused
+    ensures refused { IfErr result (λ e. IsMemory e
+        ⊎ ((is_due (asked_by plan.now options.now) ≡ true)
+        × IsFirstRefused (map string_bytes options.now.package.items) e)) }
+{
+    if !is_due(plan, options) {
+        return Ok(Vec::new(alloc));
+    }
+    let pins = read_pins(alloc, &options.package)?;
+    let manifest = join(alloc, workspace.root.as_str(), "Cargo.toml")?;
+    let calls = calls_for(
+        alloc,
+        manifest.as_str(),
+        plan,
+        options,
+        &pins,
+        &workspace.packages,
+    )?;
+    Ok(calls)
+}

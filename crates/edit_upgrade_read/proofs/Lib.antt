@@ -1,3 +1,0 @@
-pub mod FoundLemmas
-pub mod ReadLemmas
-pub mod TargetLemmas

@@ -1,4 +1,0 @@
-pub mod Asking
-pub mod Causes
-pub mod Own
-pub mod Sources

@@ -1,5 +1,0 @@
-pub mod PlanClauses
-pub mod PlanLemmas
-pub mod OrderLemmas
-pub mod LookLemmas
-pub mod UpgradeLemmas

@@ -1,4 +1,0 @@
-pub mod Causes
-pub mod Looking
-pub mod Planned
-pub mod Upgrading

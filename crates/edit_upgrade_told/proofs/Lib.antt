@@ -1,6 +1,0 @@
-pub mod CopyLemmas
-mod DeliveryLemmas
-pub mod DryRuns
-mod NameLemmas
-mod NoteLemmas
-mod PartLemmas

@@ -1,7 +1,0 @@
-use Rattle.std.proofs.Common.{◌∙◌}
-use Rattle.std.specs.Prelude.{codes}
-use Rattle.edit_upgrade_told.proofs.NameLemmas.{joined_names}
-use Rattle.edit_upgrade_told.proofs.calls.joined_words.Goals as goal
-
-pub returns-clause-text : goal.returns-clause-text
-returns-clause-text c = c.in_ok-join.ensures.ok ∙ joined_names (codes " ") c.args.words.now
