@@ -4,6 +4,7 @@ ghost use Rattle.edit_steps.specs.Workspaces.{HaveOwnPaths};
 ghost use Rattle.edit_steps.specs.Sources.{MayBePlanned};
 
 use crate::plans::show_outputs;
+use crate::said::say;
 use edit_base::CargoResult;
 use edit_cache::IndexCache;
 use edit_metadata::Input;
@@ -13,20 +14,18 @@ use edit_steps::upgrade_read::{Asked, IndexSource, RustChoice, Sources, read_sou
 use edit_store::HostStore;
 use edit_upgrade::{Options, plan_upgrade};
 use std::alloc::Global;
-use std::io::Write;
 use url::Url;
 
 /// The name that a cache has an answer for before the call.
 const HELD: &str = "held";
 
 /// Tells how many entries the cache still has for that name.
-fn tell_held(rt: &HostRuntime, cache: &IndexCache<FileIndex>, registry: &Url) -> CargoResult<()> {
+fn tell_held(rt: &HostRuntime, cache: &IndexCache<FileIndex>, registry: &Url) {
     let count = match cache.shown(registry, HELD) {
         Some(krate) => krate.versions.len(),
         None => 0,
     };
-    write!(rt.stdout(), "behind a refusal 46, {count} held, then ")?;
-    Ok(())
+    say(rt, format_args!("behind a refusal 46, {count} held, then "));
 }
 
 /// Prints the three first versions of a ranking.
@@ -41,7 +40,7 @@ fn ranking(
     };
     for n in 0..3 {
         if let Some(version) = ranked.version(n) {
-            write!(rt.stdout(), "{version} ")?;
+            say(rt, format_args!("{version} "));
         }
     }
     Ok(())
@@ -75,7 +74,8 @@ fn upgrade(
 {
     let options = usual(rt.alloc());
     let plan = plan_upgrade(rt.alloc(), &options, inputs, configs, cache)?;
-    show_outputs(rt, &plan.outputs)
+    show_outputs(rt, &plan.outputs);
+    Ok(())
 }
 
 /// Plans an upgrade, or ranks a name where there is one.
@@ -112,7 +112,7 @@ fn twice(
     cache.fetch(rt.alloc(), registry, HELD)?;
     match once(rt, cache, inputs, configs, registry, name) {
         Err(error) if error.number() == 46 => {
-            tell_held(rt, cache, registry)?;
+            tell_held(rt, cache, registry);
             once(rt, cache, inputs, configs, registry, name)
         }
         answer => answer,

@@ -41,6 +41,7 @@ mod cached;
 mod calls;
 mod plans;
 mod readers;
+mod said;
 mod shown;
 mod views;
 mod words;
@@ -50,6 +51,7 @@ use edit_document::{CargoResult, Error};
 use edit_manifest::Manifest;
 use edit_store::{HostStore, Store};
 use readers::planned_call;
+use said::say;
 use shown::show_words;
 use std::env;
 use std::io::Write;
@@ -58,25 +60,24 @@ use views::show_views;
 use words::Words;
 
 /// Prints a refusal and the text that stands then. Tells whether memory ran out.
-fn refused(rt: &HostRuntime, manifest: &Manifest, error: &Error) -> CargoResult<bool> {
+fn refused(rt: &HostRuntime, manifest: &Manifest, error: &Error) -> bool {
     let number = error.number();
-    write!(
-        rt.stdout(),
-        "refused {number} {error}\n{}",
-        manifest.document
-    )?;
-    Ok(number == 46)
+    say(
+        rt,
+        format_args!("refused {number} {error}\n{}", manifest.document),
+    );
+    number == 46
 }
 
 /// Makes the edit, and prints what it answers and the text that stands then. Tells whether memory ran out.
-fn edited(rt: &HostRuntime, manifest: &mut Manifest, words: &[String]) -> CargoResult<bool> {
+fn edited(rt: &HostRuntime, manifest: &mut Manifest, words: &[String]) -> bool {
     let said = match edit(rt.alloc(), manifest, &mut Words::new(words)) {
         Ok(true) => "done",
         Ok(false) => "no such place",
         Err(error) => return refused(rt, manifest, &error),
     };
-    write!(rt.stdout(), "{said}\n{}", manifest.document)?;
-    Ok(false)
+    say(rt, format_args!("{said}\n{}", manifest.document));
+    false
 }
 
 /// The manifest of a file.
@@ -89,12 +90,11 @@ fn manifest_of(rt: &HostRuntime, path: &str) -> CargoResult<Manifest> {
 }
 
 /// Makes the edit of the words, and again where memory ran out.
-fn answer_on(rt: &HostRuntime, manifest: &mut Manifest, words: &[String]) -> CargoResult<()> {
-    if edited(rt, manifest, words)? {
-        show_views(rt, &manifest.document)?;
-        edited(rt, manifest, words)?;
+fn answer_on(rt: &HostRuntime, manifest: &mut Manifest, words: &[String]) {
+    if edited(rt, manifest, words) {
+        show_views(rt, &manifest.document);
+        edited(rt, manifest, words);
     }
-    Ok(())
 }
 
 /// The same on the manifest of a file.
@@ -104,7 +104,10 @@ fn answer_to(rt: &HostRuntime, path: &str, words: &[String]) -> CargoResult<()> 
         [call, words @ ..] if call.as_str() == "show" => {
             show_words(rt, &manifest.document, words)
         }
-        _ => answer_on(rt, &mut manifest, words),
+        _ => {
+            answer_on(rt, &mut manifest, words);
+            Ok(())
+        }
     }
 }
 
@@ -112,7 +115,8 @@ fn answer_to(rt: &HostRuntime, path: &str, words: &[String]) -> CargoResult<()> 
 fn answer(rt: &HostRuntime) -> CargoResult<()> {
     let words: Vec<String> = env::args(rt)?.skip(1).collect(rt.alloc())?;
     if let Some(call) = planned_call(&words) {
-        return call.show(rt);
+        call.show(rt);
+        return Ok(());
     }
     match words.as_slice() {
         [path, words @ ..] => answer_to(rt, path.as_str(), words),

@@ -6,6 +6,7 @@ ghost use Rattle.edit_set_version.specs.Planned.{OutputsInOrder};
 ghost use Rattle.edit_set_version.specs.Projects.{AreInputsOf};
 ghost use Rattle.edit_steps.specs.Workspaces.{HaveOwnPaths};
 
+use crate::said::say;
 use edit_base::CargoResult;
 use edit_report::{Output, apply};
 use edit_set_version::{BumpLevel, Selection, SetVersionPlan, TargetVersion, plan_set_version};
@@ -15,19 +16,17 @@ use std::alloc::Global;
 use std::io::Write;
 
 /// Prints a text and a line end.
-pub(crate) fn show(rt: &HostRuntime, text: &[u8]) -> CargoResult<()> {
-    rt.stdout().write_all(text)?;
-    rt.stdout().write_all(b"\n")?;
-    Ok(())
+pub(crate) fn show(rt: &HostRuntime, text: &[u8]) {
+    let _ = rt.stdout().write_all(text);
+    say(rt, "\n");
 }
 
 /// Prints the texts of outputs, each behind its path.
-pub(crate) fn show_outputs(rt: &HostRuntime, outputs: &[Output]) -> CargoResult<()> {
+pub(crate) fn show_outputs(rt: &HostRuntime, outputs: &[Output]) {
     for output in outputs {
-        show(rt, output.path.as_bytes())?;
-        show(rt, &output.bytes)?;
+        show(rt, output.path.as_bytes());
+        show(rt, &output.bytes);
     }
-    Ok(())
 }
 
 /// Writes outputs.
@@ -62,10 +61,10 @@ fn planned(rt: &HostRuntime, read: &ReadWorkspace, writes: bool) -> CargoResult<
 {
     let plan = plan_for(rt.alloc(), read)?;
     if writes {
-        write_outputs(rt, &plan.outputs)
-    } else {
-        show_outputs(rt, &plan.outputs)
+        return write_outputs(rt, &plan.outputs);
     }
+    show_outputs(rt, &plan.outputs);
+    Ok(())
 }
 
 /// Reads the workspace of a folder.

@@ -2,10 +2,10 @@
 
 use crate::cached::over_cache;
 use crate::plans::{set_versions, show};
+use crate::said::say;
 use edit_base::{CargoResult, Error};
 use edit_store::{HostStore, Store};
 use edit_version::CrateSpec;
-use std::io::Write;
 use std::str;
 
 /// The bytes of a file.
@@ -21,7 +21,8 @@ fn bytes_of(rt: &HostRuntime, path: &str) -> CargoResult<Vec<u8>> {
 /// Prints the name in a word.
 fn show_name(rt: &HostRuntime, word: &str) -> CargoResult<()> {
     let spec = CrateSpec::resolve(rt.alloc(), word)?;
-    show(rt, spec.name.as_bytes())
+    show(rt, spec.name.as_bytes());
+    Ok(())
 }
 
 /// Prints the name in the word that a file holds.
@@ -50,12 +51,11 @@ impl<'a> Call<'a> {
     }
 
     /// Makes the call, and prints whether it was refused.
-    pub(crate) fn show(self, rt: &HostRuntime) -> CargoResult<()> {
+    pub(crate) fn show(self, rt: &HostRuntime) {
         match self.make(rt) {
-            Ok(()) => writeln!(rt.stdout(), "done")?,
-            Err(error) => writeln!(rt.stdout(), "refused {} {error}", error.number())?,
+            Ok(()) => say(rt, "done\n"),
+            Err(error) => say(rt, format_args!("refused {} {error}\n", error.number())),
         }
-        Ok(())
     }
 }
 

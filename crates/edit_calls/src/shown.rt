@@ -1,7 +1,7 @@
 //! What stands at a place of a document, or of a new entry.
+use crate::said::say;
 use crate::words::Words;
 use edit_document::{CargoResult, Document, Item, Step};
-use std::io::Write;
 
 /// The word for a truth.
 fn word(truth: bool) -> &'static str {
@@ -26,7 +26,7 @@ fn walked<'a>(root: Item<'a>, place: &[Step]) -> Option<Item<'a>> {
 }
 
 /// Prints the type of an item, how many members or elements it has, and which views.
-fn show_kind(rt: &HostRuntime, item: Item<'_>) -> CargoResult<()> {
+fn show_kind(rt: &HostRuntime, item: Item<'_>) {
     let array = item.as_array().map_or("-", |array| array.type_name());
     let truth = item.as_bool().map_or("-", word);
     let name = item.type_name();
@@ -34,55 +34,54 @@ fn show_kind(rt: &HostRuntime, item: Item<'_>) -> CargoResult<()> {
     let text = word(item.is_str());
     let table = word(item.is_table_like());
     let inline = word(item.is_inline_table());
-    writeln!(
-        rt.stdout(),
-        "type {name}\nlen {count}\ntruth {truth}\narray {array}\nis_str {text}\n\
-        is_table_like {table}\nis_inline_table {inline}"
-    )?;
-    Ok(())
+    say(
+        rt,
+        format_args!("type {name}\nlen {count}\ntruth {truth}\narray {array}\n"),
+    );
+    say(
+        rt,
+        format_args!("is_str {text}\nis_table_like {table}\nis_inline_table {inline}\n"),
+    );
 }
 
 /// Prints the keys of an item.
-fn show_keys(rt: &HostRuntime, item: Item<'_>) -> CargoResult<()> {
+fn show_keys(rt: &HostRuntime, item: Item<'_>) {
     for key in item.keys() {
-        writeln!(rt.stdout(), "key {key}")?;
+        say(rt, format_args!("key {key}\n"));
     }
-    Ok(())
 }
 
 /// Prints what an item shows, its string last.
-fn show_item(rt: &HostRuntime, item: Item<'_>) -> CargoResult<()> {
-    show_kind(rt, item)?;
-    show_keys(rt, item)?;
+fn show_item(rt: &HostRuntime, item: Item<'_>) {
+    show_kind(rt, item);
+    show_keys(rt, item);
     if let Some(text) = item.as_str() {
-        write!(rt.stdout(), "string {text}")?;
+        say(rt, format_args!("string {text}"));
     }
-    Ok(())
 }
 
 /// Prints what stands at a place below an item; nothing where nothing stands.
-fn show_below(rt: &HostRuntime, root: Item<'_>, place: &[Step]) -> CargoResult<()> {
-    match walked(root, place) {
-        Some(item) => show_item(rt, item),
-        None => Ok(()),
+fn show_below(rt: &HostRuntime, root: Item<'_>, place: &[Step]) {
+    if let Some(item) = walked(root, place) {
+        show_item(rt, item);
     }
 }
 
 /// Prints what a document tells of a place as a whole, and then what stands there.
-fn show_place(rt: &HostRuntime, document: &Document, place: &[Step]) -> CargoResult<()> {
+fn show_place(rt: &HostRuntime, document: &Document, place: &[Step]) {
     let item = document.item(place).map_or("-", |item| item.type_name());
     let one = word(document.one_statement(place));
-    writeln!(rt.stdout(), "item {item}\none_statement {one}")?;
-    match document.item(&[]) {
-        Some(root) => show_below(rt, root, place),
-        None => Ok(()),
+    say(rt, format_args!("item {item}\none_statement {one}\n"));
+    if let Some(root) = document.item(&[]) {
+        show_below(rt, root, place);
     }
 }
 
 /// Prints what stands at a place of the entry that the words name.
 fn show_entry(rt: &HostRuntime, place: &[Step], words: &mut Words<'_>) -> CargoResult<()> {
     let item = words.take_item(rt.alloc())?;
-    show_below(rt, item.view(), place)
+    show_below(rt, item.view(), place);
+    Ok(())
 }
 
 /// Prints what stands at the place of the words, in the document or in the entry behind the place.
@@ -94,7 +93,10 @@ pub(crate) fn show_words(
     let mut taken = Words::new(words);
     let place = taken.take_place(rt.alloc())?;
     match words.last() {
-        Some(last) if last.as_str() == "=" => show_place(rt, document, &place),
+        Some(last) if last.as_str() == "=" => {
+            show_place(rt, document, &place);
+            Ok(())
+        }
         _ => show_entry(rt, &place, &mut taken),
     }
 }

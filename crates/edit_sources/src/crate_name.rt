@@ -4,7 +4,7 @@ ghost use Rattle.std.specs.List.{list_all};
 ghost use Rattle.edit_sources.specs.Names.{is_name_byte, is_crate_name};
 
 /// Whether an index may have a name: 1 to 64 of `A-Z a-z 0-9 - _`.
-pub(crate) fn is_crate_name(name: &str) -> bool
+pub fn is_crate_name(name: &str) -> bool
     ensures { result ≡ is_crate_name name.now }
 {
     if name.is_empty() || name.len() > 64 {

@@ -7,6 +7,7 @@ ghost use Rattle.edit_sources.specs.LocalIndex.{HasNoFolder, HasNoIndexPath, IsF
 ghost use Rattle.edit_sources.specs.Names.{folders, is_crate_name, layout};
 
 use crate::crate_name::is_crate_name;
+use crate::index_dir::layout::push_folders;
 use edit_base::errors::{CargoResult, Error};
 use percent_encoding::percent_decode;
 use std::alloc::{AllocError, Global};
@@ -93,36 +94,4 @@ fn ends_with_slash(folder: &[u8]) -> bool
         [.., last] => *last == b'/',
         [] => false,
     }
-}
-
-/// Adds the folders of a small name.
-fn push_folders(path: &mut String, name: &[u8]) -> Result<(), AllocError>
-    requires { All (λ b. b < 128) name.now }
-    ensures { OnOk result (string_bytes path.new ≡ string_bytes path.old ++ folders name.now) }
-{
-    match name {
-        [] => Ok(()),
-        [_] => path.push_str("1/"),
-        [_, _] => path.push_str("2/"),
-        [a, _, _] => {
-            path.push_str("3/")?;
-            path.push(char::from(*a))?;
-            path.push_str("/")
-        }
-        [a, b, c, d, ..] => {
-            push_pair(path, *a, *b)?;
-            push_pair(path, *c, *d)
-        }
-    }
-}
-
-/// Adds a folder of two letters.
-fn push_pair(path: &mut String, a: u8, b: u8) -> Result<(), AllocError>
-    requires first { a < 128 }
-    requires second { b < 128 }
-    ensures { OnOk result (string_bytes path.new ≡ string_bytes path.old ++ a ∷ b ∷ 47 ∷ []) }
-{
-    path.push(char::from(a))?;
-    path.push(char::from(b))?;
-    path.push_str("/")
 }

@@ -2,7 +2,7 @@
 #![tactic(auto)]
 
 pub mod config;
-mod crate_name;
+pub mod crate_name;
 pub mod file_index;
 pub mod index;
 pub mod index_dir;
@@ -12,6 +12,7 @@ pub mod local_index;
 pub mod registry;
 
 pub use config::{Config, ConfigCache, ConfigSource};
+pub use crate_name::is_crate_name;
 pub use file_index::FileIndex;
 pub use index::{Index, IndexKrate};
 pub use local_index::LocalIndex;

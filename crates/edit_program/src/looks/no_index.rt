@@ -3,7 +3,7 @@ ghost use Rattle.edit_program.specs.NoIndex.{no_view};
 
 use edit_base::{CargoResult, Error};
 use edit_sources::index::{Index, IndexKrate};
-use edit_sources::index_dir::is_crate_name;
+use edit_sources::is_crate_name;
 use std::alloc::Global;
 use url::Url;
 

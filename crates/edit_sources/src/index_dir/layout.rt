@@ -4,7 +4,7 @@ ghost use Rattle.edit_base.specs.Errors.{IsMemory, number_of};
 ghost use Rattle.edit_sources.specs.Folders.{HasBadName};
 ghost use Rattle.edit_sources.specs.Names.{folders, is_crate_name, layout};
 
-use crate::index_dir::crate_name::is_crate_name;
+use crate::crate_name::is_crate_name;
 use edit_base::errors::{CargoResult, Error};
 use std::alloc::{AllocError, Global};
 
@@ -35,8 +35,8 @@ fn laid_out(alloc: Global, name: &str) -> Result<String, AllocError>
     Ok(path)
 }
 
-/// Adds the folders of a small name. As in `edit_sources`, which has it for itself alone.
-fn push_folders(path: &mut String, name: &[u8]) -> Result<(), AllocError>
+/// Adds the folders of a small name.
+pub(crate) fn push_folders(path: &mut String, name: &[u8]) -> Result<(), AllocError>
     requires { All (λ b. b < 128) name.now }
     ensures { OnOk result (string_bytes path.new ≡ string_bytes path.old ++ folders name.now) }
 {
