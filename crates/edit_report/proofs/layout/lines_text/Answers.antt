@@ -15,4 +15,5 @@ returns c =
     ∙ lines_from lines c.columns.result.now
     ∙ ap (λ cs. lines_text cs (map cells_of lines)) c.columns.ensures in
     record {
-    ok = subst (λ (t : List ℕ). IfOk c.wide_text.result (λ s. string_bytes s ≡ t)) e c.wide_text.ensures.ok }
+      ok = subst (λ (t : List ℕ). IfOk c.wide_text.result (λ s. string_bytes s ≡ t)) e c.wide_text.ensures.ok;
+    }
