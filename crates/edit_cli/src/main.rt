@@ -22,22 +22,36 @@ fn main(rt: HostRuntime) -> ExitCode {
 
 /// Runs the program's words, and answers the status.
 fn start(rt: &HostRuntime) -> CargoResult<u8> {
-    let alloc = rt.alloc();
     let words = env::args(rt).map_err(machine_error)?;
-    let words: Vec<String> = words.skip(1).collect(alloc)?;
-    let texts: Vec<&str> = words.iter().map(|word| word.as_str()).collect(alloc)?;
+    let words: Vec<String> = words.skip(1).collect(rt.alloc())?;
+    start_with(rt, &words)
+}
+
+/// Runs these words in the current folder.
+fn start_with(rt: &HostRuntime, words: &[String]) -> CargoResult<u8> {
+    let texts: Vec<&str> = words.iter().map(|word| word.as_str()).collect(rt.alloc())?;
     let current = env::current_dir(rt).map_err(machine_error)?;
-    let Some(current) = current.as_path().to_str() else {
-        return Err(Error::NotUtf8);
-    };
+    match current.as_path().to_str() {
+        Some(current) => start_in(rt, &texts, current),
+        None => Err(Error::NotUtf8),
+    }
+}
+
+/// Runs these words in a folder.
+fn start_in(rt: &HostRuntime, words: &[&str], current: &str) -> CargoResult<u8> {
     let home = cargo_home(rt)?;
+    run_at(rt, words, current, home.as_deref())
+}
+
+/// Runs these words in a folder, with a home of cargo or none.
+fn run_at(rt: &HostRuntime, words: &[&str], current: &str, home: Option<&str>) -> CargoResult<u8> {
     let mut files = HostStore::new(rt.clone()?);
     let index_files = HostStore::new(rt.clone()?);
     Ok(run(
-        alloc,
-        texts.as_slice(),
+        rt.alloc(),
+        words,
         current,
-        home.as_deref(),
+        home,
         &mut files,
         index_files,
         &mut rt.stdout(),
