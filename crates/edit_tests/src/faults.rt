@@ -1,12 +1,12 @@
 //! Runs over the examples in which each call of the files fails in turn, or whose streams take only so many
 //! bytes.
 use super::stop::{kept, must};
+use crate::rows::field;
 use edit_program::run;
 use edit_store::{FaultStore, MemoryStore, Store};
 use std::alloc::Global;
 use std::process::Abort;
 use std::str;
-use test_rows::field;
 
 mod examples;
 

@@ -1,6 +1,7 @@
-//! Tests of the program and of what it stands on, by public calls alone: plans, reports and what an upgrade
-//! prints and writes, the forms of daily use, and the program where files, an index or its streams fail.
-//! What the built program can show stands in tools/checks/rows.
+//! Tests of what the program and its libraries answer, by public calls alone: documents, manifests, paths and
+//! the texts of refusals; versions, records, sources and workspaces; plans, reports and what an upgrade prints
+//! and writes; the program where files, an index or its streams fail. What the built program can show stands in
+//! tools/checks/rows.
 //!
 //! They stand in a crate of their own, since a crate with tests is proved once more with them, and in one,
 //! since each crate of tests pays for what it loads and for the types that its tests drop.
@@ -9,14 +10,34 @@
 #[cfg(test)]
 mod daily;
 #[cfg(test)]
+mod edits;
+#[cfg(test)]
 mod faults;
+#[cfg(test)]
+mod manifests;
+#[cfg(test)]
+mod new_items;
+#[cfg(test)]
+mod paths;
+#[cfg(test)]
+mod pieces;
 #[cfg(test)]
 mod plans;
 #[cfg(test)]
 mod program;
 #[cfg(test)]
+mod records;
+#[cfg(test)]
+mod refusals;
+#[cfg(test)]
 mod reports;
+#[cfg(test)]
+mod rows;
+#[cfg(test)]
+mod sources;
 #[cfg(test)]
 mod stop;
 #[cfg(test)]
 mod versions;
+#[cfg(test)]
+mod workspaces;

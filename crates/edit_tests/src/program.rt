@@ -1,12 +1,12 @@
 //! The program where a call of the files fails, or where standard output has no room. Its other rows stand in
 //! tools/checks/rows.
 use super::stop::{kept, must, same};
+use crate::rows::field;
 use edit_program::run;
 use edit_store::{FaultStore, MemoryStore, Store};
 use std::alloc::Global;
 use std::process::Abort;
 use std::str;
-use test_rows::field;
 
 const MANIFEST: &str = "[dependencies]\nserde = { version = '1.0', optional = true } # keep\n";
 

@@ -1,11 +1,11 @@
 //! Where a test ends at once: at a call that fails though it must not, and at a row that does not hold.
 ghost use Rattle.std.specs.Prelude.{◌≡◌, ◌++◌, ◌∷◌, [], Ok, string_bytes};
 
+use crate::rows::{Ends, cut, word};
 use edit_base::{CargoResult, Error};
 use std::alloc::{AllocError, Global};
 use std::process::Abort;
 use std::test::Fail;
-use test_rows::Ends;
 
 /// What a call answers, where it must succeed; a test ends here where it does not.
 pub(crate) fn must<T: Drop>(rt: &impl Abort, answer: CargoResult<T>) -> T
@@ -45,17 +45,22 @@ pub(crate) fn text(rt: &impl Abort, alloc: Global, text: &str) -> String
 
 /// A refusal's number and text.
 pub(crate) fn told(rt: &impl Abort, alloc: Global, error: Error) -> String {
-    shown(rt, test_rows::told(alloc, error))
+    shown(rt, crate::rows::told(alloc, error))
+}
+
+/// The word `done` where a call succeeded, or what its refusal says.
+pub(crate) fn said(rt: &impl Abort, alloc: Global, answer: CargoResult<()>) -> String {
+    shown(rt, word(alloc, answer, "done"))
+}
+
+/// A text that a call made, or what its refusal says.
+pub(crate) fn made(rt: &impl Abort, alloc: Global, answer: CargoResult<String>) -> String {
+    shown(rt, crate::rows::made(alloc, answer))
 }
 
 /// Ends a test where a row does not give what it wants.
 pub(crate) fn same(rt: &impl Abort, row: &str, seen: &str, want: &str) {
     assert!(rt; seen == want, "{row}: {seen:?} in place of {want:?}");
-}
-
-/// The text before the first end of a field, and the text behind it: twice the whole text where it has none.
-fn cut(text: &str, end: char) -> (&str, &str) {
-    text.split_once(end).unwrap_or((text, text))
 }
 
 /// Ends a test where a row of a table does not give what it wants: a row is what is wanted, the call, and the

@@ -1,11 +1,11 @@
 //! Rows of messages to a writer, and of the statuses that programs end with.
 use super::super::stop::{kept, must, rows_hold};
+use crate::rows::{LINES, field};
 use edit_base::{CargoResult, CliError, Error};
 use edit_report::{shell_print, shell_write_stderr, shell_write_stdout};
 use std::alloc::Global;
 use std::process::Abort;
 use std::{io, str};
-use test_rows::{LINES, field};
 
 /// Writes a message by a call's name.
 fn write_by(out: &mut Vec<u8>, call: &str, first: &str, message: &str) -> CargoResult<()> {

@@ -1,12 +1,12 @@
 //! Rows of calls that follow an upgrade: words that are refused, and that are not read at a dry run. The
 //! program reads each word before.
 use super::super::stop::{kept, must, push, rows_hold, text, told};
+use crate::rows::LINES;
 use edit_metadata::Workspace;
 use edit_upgrade::update::update_calls;
 use edit_upgrade::{Options, UpgradePlan};
 use std::alloc::Global;
 use std::process::Abort;
-use test_rows::LINES;
 
 /// The metadata of a workspace at `/w` with a package.
 const METADATA: &str = "\

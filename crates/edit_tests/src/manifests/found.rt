@@ -1,0 +1,114 @@
+//! Rows of manifests that are found, read and written.
+use super::super::stop::{kept, made, must, same, told};
+use crate::rows::field;
+use edit_base::CargoResult;
+use edit_manifest::{LocalManifest, find};
+use edit_store::{FaultStore, MemoryStore, Store};
+use semver::Version;
+use std::alloc::Global;
+use std::process::Abort;
+
+/// Paths of files, each with its text; the last one has none.
+const FILES: &str = "\
+/w/Cargo.toml|[package]
+/w/a/src/lib.rs|x
+/w/b/Cargo.toml/x|a folder
+/w/c/own.toml|version = 1
+/w/d/Cargo.toml|no manifest
+/v/Cargo.toml|package.version = '1.0.0' # v
+/x/y/z|x
+/w/e/Cargo.toml|";
+
+/// A store of these files, of which a call fails.
+fn store_of(rt: &impl Abort, alloc: Global, at: u64) -> FaultStore {
+    let mut store = MemoryStore::new(alloc);
+    'rows: for row in FILES.lines() {
+        let bytes = match field(row, 1) {
+            "" => b"a\xff".as_slice(),
+            text => text.as_bytes(),
+        };
+        must(rt, store.write(alloc, field(row, 0), bytes));
+    }
+    FaultStore::new(store, at, 0)
+}
+
+/// The manifest that is found, with another version of its package, read again once it is written.
+fn written(
+    alloc: Global,
+    store: &mut FaultStore,
+    named: Option<&str>,
+    current: &str,
+) -> CargoResult<LocalManifest> {
+    let mut local = LocalManifest::find(alloc, store, named, current)?;
+    local.set_package_version(alloc, &Version::new(0, 2, 0))?;
+    local.write(alloc, store)?;
+    LocalManifest::try_new(alloc, store, local.path.as_str())
+}
+
+/// The text of a manifest, behind its path where it is loaded; or what the refusal says.
+fn shown(rt: &impl Abort, alloc: Global, call: &str, local: CargoResult<LocalManifest>) -> String {
+    match local {
+        Ok(local) if call == "load" => {
+            kept(rt, format!(in alloc; "{} {}", local.path, local.manifest))
+        }
+        Ok(local) => kept(rt, format!(in alloc; "{}", local.manifest)),
+        Err(error) => told(rt, alloc, error),
+    }
+}
+
+/// What becomes of a row.
+fn answer(rt: &impl Abort, alloc: Global, store: &mut FaultStore, row: &str) -> String {
+    let (call, path, current) = (field(row, 1), field(row, 2), field(row, 3));
+    let named = (path != "-").then_some(path);
+    if call == "find" {
+        return made(rt, alloc, find(alloc, store, named, current));
+    }
+    let local = match call {
+        "open" => LocalManifest::try_new(alloc, store, path),
+        "write" => written(alloc, store, named, current),
+        _ => LocalManifest::find(alloc, store, named, current),
+    };
+    shown(rt, alloc, call, local)
+}
+
+/// What is wanted; whether a manifest is found, loaded, written or opened; the path that is specified, `-`
+/// for none; the current folder.
+const ROWS: &str = "\
+/w/Cargo.toml [package]|load|-|/w/a
+/w/c/own.toml version = 1|load|c/own.toml|/w
+7 Unable to find Cargo.toml for /x|load|-|/x
+5 Failed to read manifest contents|load|b|/w
+1 Unable to parse Cargo.toml|load|d|/w
+[package]|open|/w/Cargo.toml|
+4 can only edit absolute paths, got w/Cargo.toml|open|w/Cargo.toml|
+5 Failed to read manifest contents|open|/w/nothing|
+5 Failed to read manifest contents|open|/w|
+1 Unable to parse Cargo.toml|open|/w/d/Cargo.toml|
+2 Failed to read manifest contents|open|/w/e/Cargo.toml|
+package.version = \"0.2.0\" # v|write|-|/v";
+
+/// The same, where the first call fails.
+const FAULTS: &str = "\
+3 Failed to look at a path|find|-|/w/a
+3 Failed to look at a path|find|a|/w
+3 Failed to look at a path|load|-|/w/a
+3 Failed to read a file|open|/w/Cargo.toml|";
+
+/// The same, where the third call fails.
+const WRITE_FAULTS: &str = "3 Failed to write updated Cargo.toml|write|-|/v";
+
+/// Ends the test where a row of a table does not give what it wants over files of which a call fails.
+fn hold(rt: &impl Abort, alloc: Global, table: &str, at: u64) {
+    'rows: for row in table.lines() {
+        let mut store = store_of(rt, alloc, at);
+        let seen = answer(rt, alloc, &mut store, row);
+        same(rt, row, seen.as_str(), field(row, 0));
+    }
+}
+
+#[test]
+fn finds_reads_and_writes_manifests(rt: HostRuntime) {
+    'tables: for (table, at) in [(ROWS, 99), (FAULTS, 0), (WRITE_FAULTS, 2)] {
+        hold(&rt, rt.alloc(), table, at);
+    }
+}

@@ -1,0 +1,60 @@
+//! Kinds of dependencies and their tables.
+use super::super::stop::{kept, must, rows_hold, text};
+use crate::rows::LINES;
+use edit_manifest::{DepKind, DepTable};
+use std::alloc::Global;
+use std::process::Abort;
+
+/// The kind that a word names.
+fn kind_of(word: &str) -> DepKind {
+    match word {
+        "development" => DepKind::Development,
+        "build" => DepKind::Build,
+        _ => DepKind::Normal,
+    }
+}
+
+/// The table of a kind and a target.
+fn table_of(rt: &impl Abort, alloc: Global, kind: &str, target: &str) -> DepTable {
+    let table = DepTable::new().set_kind(kind_of(kind));
+    if target.is_empty() {
+        return table;
+    }
+    must(rt, table.set_target(alloc, target))
+}
+
+/// The name of a table, and its target.
+fn shown(rt: &impl Abort, alloc: Global, table: &DepTable) -> String {
+    let target = table
+        .target
+        .as_ref()
+        .map_or("all", |target| target.as_str());
+    kept(rt, format!(in alloc; "{} {target}", table.kind_table()))
+}
+
+/// The name of a table of a kind, and the target of its copy.
+fn answer(rt: &impl Abort, alloc: Global, kind: &str, target: &str) -> String {
+    let table = table_of(rt, alloc, kind, target);
+    let copy = must(rt, table.try_clone(alloc));
+    if copy != table {
+        return text(rt, alloc, "another copy");
+    }
+    shown(rt, alloc, &copy)
+}
+
+/// The name of a kind's table, and the target; the kind and the target.
+const KINDS: &str = "\
+dependencies all|normal|
+dev-dependencies all|development|
+build-dependencies all|build|
+dev-dependencies cfg(unix)|development|cfg(unix)";
+
+#[test]
+fn makes_tables_of_kinds(rt: HostRuntime) {
+    rows_hold(&rt, rt.alloc(), KINDS, LINES, |alloc, kind, target| {
+        answer(&rt, alloc, kind, target)
+    });
+    assert!(rt; DepTable::default() == DepTable::new());
+    assert!(rt; DepTable::from(DepKind::Build) == DepTable::new().set_kind(DepKind::Build));
+    assert!(rt; DepKind::Normal < DepKind::Development);
+}

@@ -1,0 +1,83 @@
+//! Rows of dependency tables, by calls that no program makes.
+use super::super::stop::{kept, must, push, rows_hold, same, text};
+use crate::rows::TILDES;
+use edit_document::{Step, copied_place};
+use edit_manifest::Manifest;
+use std::alloc::Global;
+use std::process::Abort;
+
+/// A step as a text.
+fn step_shown(rt: &impl Abort, alloc: Global, step: &Step) -> String {
+    match step {
+        Step::Key(name) => text(rt, alloc, name.as_str()),
+        Step::Index(index) => kept(rt, format!(in alloc; "#{index}")),
+    }
+}
+
+/// The steps of a place, with a slash between them.
+fn shown(rt: &impl Abort, alloc: Global, place: &[Step]) -> String {
+    let mut seen = Vec::new(alloc);
+    'steps: for step in place {
+        push(rt, &mut seen, step_shown(rt, alloc, step));
+    }
+    kept(rt, seen.join(alloc, "/"))
+}
+
+/// The dependency table that the members of a workspace share.
+fn shared(rt: &impl Abort, alloc: Global, manifest: &Manifest) -> String {
+    match must(rt, manifest.get_workspace_dependency_table_mut(alloc)) {
+        Some(place) => shown(rt, alloc, &place),
+        None => text(rt, alloc, "none"),
+    }
+}
+
+/// The dependency tables of a manifest, each with a semicolon behind it.
+fn tables(rt: &impl Abort, alloc: Global, manifest: &Manifest) -> String {
+    let mut seen = String::new(alloc);
+    'places: for place in &must(rt, manifest.get_dependency_tables_mut(alloc)) {
+        kept(rt, seen.push_str(shown(rt, alloc, place).as_str()));
+        kept(rt, seen.push(';'));
+    }
+    seen
+}
+
+/// The dependency tables of a manifest, or the one that the members of its workspace share.
+fn answer(rt: &impl Abort, alloc: Global, call: &str, source: &str) -> String {
+    let manifest = must(rt, Manifest::read(alloc, source));
+    match call {
+        "shared" => shared(rt, alloc, &manifest),
+        _ => tables(rt, alloc, &manifest),
+    }
+}
+
+/// The tables in the order of a walk, member by member, and the call and the text; a row ends at `~` (Cargo
+/// reference, "Specifying Dependencies", "Platform specific dependencies", "Inheriting a dependency from a
+/// workspace").
+const TABLES: &str = "\
+target/x/build-dependencies;target/x/dependencies;target/y/dependencies;dependencies;|all|\
+[target.x.build-dependencies]\n[dependencies]\n[target.y.dependencies]\n[target.x.dependencies]\n~\
+workspace/dependencies|shared|[workspace.dependencies]\na = \"1\"\n~\
+workspace/dependencies|shared|workspace = { dependencies = { a = \"1\" } }\n~\
+none|shared|[workspace]\nmembers = []\n[dependencies]\n~\
+none|shared|workspace.dependencies = 1\n~\
+none|shared|workspace = 1\n~\
+none|shared|[[workspace]]\n[workspace.dependencies]\n";
+
+#[test]
+fn tells_the_dependency_tables(rt: HostRuntime) {
+    rows_hold(&rt, rt.alloc(), TABLES, TILDES, |alloc, call, source| {
+        answer(&rt, alloc, call, source)
+    });
+}
+
+#[test]
+fn copies_a_place(rt: HostRuntime) {
+    let steps = [Step::Key(text(&rt, rt.alloc(), "bin")), Step::Index(2)];
+    let copy = must(&rt, copied_place(rt.alloc(), &steps));
+    same(
+        &rt,
+        "a place",
+        shown(&rt, rt.alloc(), &copy).as_str(),
+        "bin/#2",
+    );
+}

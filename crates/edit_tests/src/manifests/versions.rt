@@ -1,0 +1,127 @@
+//! Rows of versions that a manifest names, by calls that no program makes.
+use super::super::stop::{must, push, rows_hold, said, text, told};
+use crate::rows::TILDES;
+use edit_document::{Document, Place, Step};
+use edit_manifest::{Manifest, get_dep_version, set_dep_version};
+use semver::Version;
+use std::alloc::Global;
+use std::process::Abort;
+
+/// The place of names with a slash between them.
+fn place_of(rt: &impl Abort, alloc: Global, names: &str) -> Place {
+    let mut place = Vec::new(alloc);
+    'names: for name in names.split('/') {
+        push(rt, &mut place, Step::Key(text(rt, alloc, name)));
+    }
+    place
+}
+
+/// The requirement of the entry at a place.
+fn requirement(rt: &impl Abort, alloc: Global, document: &Document, place: &[Step]) -> String {
+    match document.item(place).map(|item| get_dep_version(item)) {
+        Some(Ok(requirement)) => text(rt, alloc, requirement),
+        Some(Err(error)) => told(rt, alloc, error),
+        None => text(rt, alloc, "no entry"),
+    }
+}
+
+/// Sets the requirement of the entry at a place; `done` where it stands there then.
+fn require(rt: &impl Abort, alloc: Global, document: &mut Document, words: &str) -> String {
+    let (names, new) = words.split_once(' ').unwrap_or((words, ""));
+    let place = place_of(rt, alloc, names);
+    let word = said(rt, alloc, set_dep_version(alloc, document, &place, new));
+    if word.as_str() == "done" && requirement(rt, alloc, document, &place).as_str() != new {
+        return text(rt, alloc, "another one");
+    }
+    word
+}
+
+/// The version of a text.
+fn version_of(rt: &impl Abort, alloc: Global, words: &str) -> Version {
+    Version::parse(alloc, words).expect(rt, "a version")
+}
+
+/// Sets a version, of the package or of the workspace, or a requirement; what is said of it.
+fn set(rt: &impl Abort, alloc: Global, manifest: &mut Manifest, word: &str, rest: &str) -> String {
+    if word == "require" {
+        return require(rt, alloc, &mut manifest.document, rest);
+    }
+    let version = version_of(rt, alloc, rest);
+    match word {
+        "package" => said(rt, alloc, manifest.set_package_version(alloc, &version)),
+        _ => said(rt, alloc, manifest.set_workspace_version(alloc, &version)),
+    }
+}
+
+/// The text of a manifest after a change; or what the refusal says, where the text is as it was then.
+fn changed(
+    rt: &impl Abort,
+    alloc: Global,
+    manifest: &mut Manifest,
+    (word, rest): (&str, &str),
+    source: &str,
+) -> String {
+    let word = set(rt, alloc, manifest, word, rest);
+    if word.as_str() == "done" {
+        return text(rt, alloc, manifest.document.as_str());
+    }
+    if manifest.document.as_str() != source {
+        return text(rt, alloc, "refused and changed");
+    }
+    word
+}
+
+/// What is answered about a copy of a manifest: a requirement, or its text after a change.
+fn answer(rt: &impl Abort, alloc: Global, call: &str, source: &str) -> String {
+    let manifest = must(rt, Manifest::read(alloc, source));
+    let mut copy = must(rt, manifest.try_clone(alloc));
+    let (word, rest) = call.split_once(' ').unwrap_or((call, ""));
+    if word == "requirement" {
+        return requirement(rt, alloc, &copy.document, &place_of(rt, alloc, rest));
+    }
+    changed(rt, alloc, &mut copy, (word, rest), source)
+}
+
+/// What is answered, the call and the text; a row ends at `~` (Cargo reference, "The Manifest Format", The
+/// version field; "Workspaces", The package table).
+const VERSIONS: &str = "\
+[package]\nversion = \"0.2.0\" # v\n|package 0.2.0|[package]\nversion = '0.1.0' # v\n~\
+13 No version literal to set|package 0.2.0|[package]\nversion.workspace = true\n~\
+package.version = \"1.0.0-rc.1+b\"\n|package 1.0.0-rc.1+b|package.version = 'x'\n~\
+13 No version literal to set|package 1.0.0|[package]\nname = \"a\"\n~\
+13 No version literal to set|package 1.0.0|~\
+13 No version literal to set|workspace 1.0.0|[package]\nversion = \"0.1.0\"\n~\
+[workspace.package]\r\nversion = \"1.0.0\"\r\n|workspace 1.0.0|\
+[workspace.package]\r\nversion = \"\"\"0.1.0\"\"\"\r\n";
+
+/// The same of requirements of entries (Cargo reference, "Specifying Dependencies").
+const REQUIREMENTS: &str = "\
+1|requirement a|a = \"1\"~\
+=1.2|requirement dependencies/a|[dependencies]\na = { version = '=1.2', optional = true }\n~\
+2|requirement dependencies/a|[dependencies.a]\nversion = \"2\"\n~\
+2|requirement a|a.version = \"2\"\n~\
+10 Missing version field|requirement a|a = { path = \"../a\" }\n~\
+10 Missing version field|requirement a|[a]\n~\
+11 Expect version to be a string|requirement a|a = { version = 1 }\n~\
+11 Expect version to be a string|requirement a|a.version.workspace = true\n~\
+12 Invalid dependency type|requirement a|a = 1\n~\
+12 Invalid dependency type|requirement a|a = [\"1\"]\n~\
+12 Invalid dependency type|requirement a|[[a]]\nversion = \"1\"\n~\
+a = \"2\" # keep\n|require a 2|a = '1' # keep\n~\
+[d]\na = { version = \"2\", optional = true }\n|require d/a 2|[d]\na = { version = '1', optional = true }\n~\
+a = { version = \"2\" }\n|require a 2|a = { version = [ 1, 2 ] }\n~\
+[a]\nversion = \"2\"\n[a.b]\n|require a 2|[a]\nversion = 1\n[a.b]\n~\
+10 Missing version field|require a 2|a = { path = \"../a\" }\n~\
+12 Invalid dependency type|require a 2|a = true\n~\
+12 Invalid dependency type|require b 2|a = \"1\"\n~\
+13 No version literal to set|require a 2|a.version.workspace = true\n~\
+13 No version literal to set|require a 2|[a.version]\nworkspace = true\n";
+
+#[test]
+fn tells_and_sets_versions(rt: HostRuntime) {
+    'tables: for table in [VERSIONS, REQUIREMENTS] {
+        rows_hold(&rt, rt.alloc(), table, TILDES, |alloc, call, source| {
+            answer(&rt, alloc, call, source)
+        });
+    }
+}

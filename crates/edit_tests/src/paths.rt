@@ -1,0 +1,50 @@
+//! Rows of paths.
+use super::stop::{made, rows_hold, text};
+use crate::rows::LINES;
+use edit_base::paths::{folder, join, normal, relative};
+use std::alloc::Global;
+use std::process::Abort;
+
+/// A path, the call, and its arguments with a space between them: paths below a folder, absolute ones, a
+/// folder that ends in a slash, no folder, nothing below one; parts that drop out; folders; ways from one
+/// folder to another.
+const PATHS: &str = "\
+/w/a/Cargo.toml|join|/w a/Cargo.toml
+/b|join|/w /b
+/w/a|join|/w/ a
+a|join| a
+/w/|join|/w \n\
+/|normal|/
+/a/b/c|normal|/a/./b//c/
+/b|normal|/a/../b
+/a|normal|/../a
+/|normal|/a/..
+/a|folder|/a/b
+/|folder|/a
+/|folder|a
+/|folder|
+a/b|folder|a/b/
+../bar|relative|/bar /foo
+sibling/crate|relative|/sibling/crate /
+|relative|/a/b /a/b
+../..|relative|/a /a/b/c
+../b|relative|/a/../b /a
+c|relative|/a//b/./c /a/b/";
+
+/// The path that a call gives.
+fn path(rt: &impl Abort, alloc: Global, call: &str, argument: &str) -> String {
+    let (first, second) = argument.split_once(' ').unwrap_or((argument, ""));
+    match call {
+        "join" => made(rt, alloc, join(alloc, first, second)),
+        "normal" => made(rt, alloc, normal(alloc, first)),
+        "relative" => made(rt, alloc, relative(alloc, first, second)),
+        _ => text(rt, alloc, folder(first)),
+    }
+}
+
+#[test]
+fn paths_are_made(rt: HostRuntime) {
+    rows_hold(&rt, rt.alloc(), PATHS, LINES, |alloc, call, argument| {
+        path(&rt, alloc, call, argument)
+    });
+}

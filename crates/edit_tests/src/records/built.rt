@@ -1,0 +1,108 @@
+//! Rows of what each call of a record gives, of their texts and their order.
+use super::entry_rows::record_told;
+use super::parts::compared;
+use super::written_rows::record_of;
+use crate::rows::{LINES, rows_hold, text};
+use edit_record::{Dependency, Source};
+use std::alloc::Global;
+use std::test::Fail;
+
+/// What a copy of a record says that these parts gave, and which of the four its source is; the crate's
+/// name, and the parts.
+const BUILT: &str = "\
+x@1.0 x 1.0 - - - -, registry|x|registry=1.0+a
+a@1.0.0 a 1.0.0 - - - -, registry|a|registry=1.0.0+a
+x@/w/x x 2 - - - -, path|x|path version=2+b
+a@/w/x a 0.1 - - - -, path|a|path version=0.1
+a@https://example.org/a a - - - - -, git|a|git=https://example.org/a
+x@u?branch=main x 0.1 - - - -, git|x|branch=main
+x@u?tag=v1 x 0.1 - - - -, git|x|tag=v1
+x@u?rev=abc x 0.1 - - - -, git|x|rev=abc
+x@workspace x - - - - -, workspace|x|workspace
+x x - - - - -, none|x|bare
+serde serde - - - - -, none|serde|bare
+d d - - - - -, none|x|rename=d
+x x - r - - -, none|x|registry name=r
+x x - - b,a - -, none|x|features=b a
+x x - - a,b,b,c - -, none|x|features=a b;more features=b c
+x x - - b,c - -, none|x|more features=b c
+x x - - - - true, none|x|optional=true
+x x - - - - false, none|x|optional=false
+x x - - - false -, none|x|default features=false
+x x - - - true -, none|x|default features=true
+x x - - - - -, none|x|inherited features=a
+x x - - - - -, none|x|available features=a";
+
+/// How the records of two calls compare: by fields in their written order, where none is before some.
+const COMPARED: &str = "\
+equal, one hash|registry=1|registry=1+a
+less, two hashes|registry=1|registry=2
+less, two hashes|registry=9|path version=1
+less, two hashes|path version=1|path version=2
+less, two hashes|path version=9|branch=b
+less, two hashes|tag=t|branch=b
+less, two hashes|rev=r|tag=t
+less, two hashes|branch=b|workspace
+less, two hashes|bare|registry=1
+less, two hashes|optional=false|optional=true
+less, two hashes|bare|optional=false
+greater, two hashes|optional=true|features=a
+less, two hashes|features=a|features=b
+less, two hashes|default features=-|features=a
+less, two hashes|inherited features=a|default features=-
+less, two hashes|available features=a|rename=d
+equal, one hash|available features=a|available features=a
+less, two hashes|bare|available features=a";
+
+/// Which of the four a source is.
+fn kind(source: &Source) -> &'static str {
+    let registry = source.as_registry().map_or("", |_| "registry");
+    let path = source.as_path().map_or(registry, |_| "path");
+    let git = source.as_git().map_or(path, |_| "git");
+    source.as_workspace().map_or(git, |_| "workspace")
+}
+
+/// What the copy of a record says.
+fn copy_told(alloc: Global, record: &Dependency, copy: &Dependency) -> Result<String, Fail> {
+    if copy != record {
+        return text(alloc, "another copy");
+    }
+    let mut told = record_told(alloc, copy)?;
+    told.push_str(", ")?;
+    told.push_str(copy.source().map_or("none", kind))?;
+    Ok(told)
+}
+
+/// What a copy of a record says.
+fn copied(alloc: Global, record: &Dependency) -> Result<String, Fail> {
+    let copy = record.try_clone(alloc)?;
+    copy_told(alloc, record, &copy)
+}
+
+/// What a copy of the record of a row says.
+fn built(alloc: Global, name: &str, parts: &str) -> Result<String, Fail> {
+    let record = record_of(alloc, name, parts)?;
+    copied(alloc, &record)
+}
+
+#[test]
+fn built_records(rt: HostRuntime) -> Result<(), Fail> {
+    rows_hold(rt.alloc(), BUILT, LINES, built)
+}
+
+/// How a record compares to that of other parts.
+fn compared_to(alloc: Global, one: &Dependency, parts: &str) -> Result<String, Fail> {
+    let other = record_of(alloc, "x", parts)?;
+    compared(alloc, one, &other)
+}
+
+/// How the records of these parts compare.
+fn compared_parts(alloc: Global, one: &str, other: &str) -> Result<String, Fail> {
+    let one = record_of(alloc, "x", one)?;
+    compared_to(alloc, &one, other)
+}
+
+#[test]
+fn compared_records(rt: HostRuntime) -> Result<(), Fail> {
+    rows_hold(rt.alloc(), COMPARED, LINES, compared_parts)
+}

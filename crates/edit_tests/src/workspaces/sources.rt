@@ -1,0 +1,121 @@
+//! Rows of what an upgrade rests on. What is refused of it is in `tools/checks/rows/sources.py`.
+use super::workspaces::rust_shown;
+use crate::rows::{TILDES, rows_hold, told, unfolded};
+use edit_sources::Config;
+use edit_steps::upgrade_read::{Asked, IndexSource, RustChoice, Sources, read_sources};
+use edit_store::{MemoryStore, Store};
+use edit_version::RustVersion;
+use std::alloc::Global;
+use std::test::Fail;
+
+/// The files: the path of each and what it holds, `'` being a quote and `@` a line's end.
+const FILES: &str = "\
+/w/Cargo.toml [workspace]@\
+~/w/a/Cargo.toml [package]@name = 'a'@rust-version = '1.70'@\
+~/w/b/Cargo.toml [package]@rust-version = '1.71'@\
+~/w/c/Cargo.toml = no manifest@\
+~/w/.cargo/config.toml [source]@\
+~/w/b/.cargo/config [source]@\
+~/h/config.toml [source]@\
+~/w/index {'name':'x','vers':'1.0.0','deps':[],'cksum':'','features':{},'yanked':false}@\
+~/w/bad_index {}@\
+~/w/all.json {'workspace_root':'/w','workspace_members':['/w/a','/w/b','/w/c'],'packages':[\
+{'name':'of/w/a','id':'/w/a','version':'1.0.0','manifest_path':'/w/a/Cargo.toml','rust_version':'1.72'},\
+{'name':'of/w/b','id':'/w/b','version':'1.0.0','manifest_path':'/w/b/Cargo.toml','rust_version':'1.72'},\
+{'name':'of/w/c','id':'/w/c','version':'1.0.0','manifest_path':'/w/c/Cargo.toml','rust_version':'1.72'}]}";
+
+/// Puts the files of a table into a store.
+fn put_files(alloc: Global, store: &mut MemoryStore) -> Result<(), Fail> {
+    for row in FILES.split('~') {
+        let (path, held) = row.split_once(' ').unwrap_or((row, ""));
+        let lines = unfolded(alloc, held)?;
+        let parts: Vec<&str> = lines.split('\'').collect(alloc)?;
+        let bytes = parts.join(alloc, "\"")?;
+        store.write(alloc, path, bytes.as_bytes())?;
+    }
+    Ok(())
+}
+
+/// The inputs that were read: the name, the path and the Rust version of each, and how many configurations
+/// it has.
+fn inputs_shown(alloc: Global, sources: &Sources) -> Result<String, Fail> {
+    let mut all = String::new(alloc);
+    for (i, input) in sources.target.inputs.iter().enumerate() {
+        let configs = sources
+            .configs
+            .get(i)
+            .map(|own: &Vec<Config>| own.len())
+            .unwrap_or(99);
+        let rust = rust_shown(alloc, input.rust_version)?;
+        write!(all, "{} {} {rust} {configs}; ", input.name, input.path)?;
+    }
+    Ok(all)
+}
+
+/// What was read: the inputs, which index, and how many documents.
+fn shown(alloc: Global, sources: &Sources) -> Result<String, Fail> {
+    let inputs = inputs_shown(alloc, sources)?;
+    let index = match &sources.index {
+        IndexSource::Files => "files",
+        IndexSource::Lines(_) => "a file",
+        IndexSource::Folder(path) => path.as_str(),
+    };
+    let documents = sources.target.documents.len();
+    Ok(format!(in alloc; "{inputs}{index}, {documents}")?)
+}
+
+/// A word of some, from 0; none where it is `-`, and where there is none.
+fn nth(words: &str, n: usize) -> Option<&str> {
+    match words.split(' ').nth(n) {
+        Some("-") => None,
+        word => word,
+    }
+}
+
+/// The choice that a word makes: none the manifests' own, `!` no version.
+fn choice(alloc: Global, word: Option<&str>) -> Result<RustChoice, Fail> {
+    match word {
+        None => Ok(RustChoice::Own),
+        Some("!") => Ok(RustChoice::Ignored),
+        Some(word) => Ok(RustChoice::Given(RustVersion::from_str(alloc, word)?)),
+    }
+}
+
+/// What is read in `/w/a/src`, with the home `/h`: the words name a manifest and metadata; and an index, the
+/// choice of a Rust version and a folder of registries.
+fn read(alloc: Global, target: &str, more: &str) -> Result<String, Fail> {
+    let mut store = MemoryStore::new(alloc);
+    put_files(alloc, &mut store)?;
+    let asked = Asked {
+        manifest_path: nth(target, 0),
+        metadata_json: nth(target, 1),
+        index_file: nth(more, 0),
+        index_dir: nth(more, 2),
+        rust: choice(alloc, nth(more, 1))?,
+    };
+    match read_sources(alloc, &asked, "/w/a/src", Some("/h"), &mut store) {
+        Ok(sources) => shown(alloc, &sources),
+        Err(refusal) => told(alloc, refusal.error),
+    }
+}
+
+/// What is read; the manifest and the metadata that are named; the index, the Rust version and the folder.
+const READ: &str = "\
+a /w/a/Cargo.toml 1.70.0 2; files, 1|- -|- -\
+~virtual workspace /w/Cargo.toml - 2; a file, 1|/w -|../../index -\
+~virtual workspace /w/b/Cargo.toml 1.71.0 3; files, 1|../../b/Cargo.toml -|- -\
+~a /w/a/Cargo.toml - 2; files, 1|- -|- !\
+~virtual workspace /w/b/Cargo.toml 1.2.3 3; files, 1|/w/b -|- 1.2.3\
+~virtual workspace /w/Cargo.toml 1.72.0 2; of/w/a /w/a/Cargo.toml 1.72.0 2; of/w/b /w/b/Cargo.toml 1.72.0 3; \
+of/w/c /w/c/Cargo.toml 1.72.0 2; a file, 0|/nowhere ../../all.json|/w/index -\
+~virtual workspace /w/Cargo.toml - 2; of/w/a /w/a/Cargo.toml - 2; of/w/b /w/b/Cargo.toml - 3; \
+of/w/c /w/c/Cargo.toml - 2; files, 0|- /w/all.json|- !\
+~a /w/a/Cargo.toml 1.70.0 2; /w/a/registries, 1|- -|- - ../registries\
+~a /w/a/Cargo.toml 1.70.0 2; /r, 1|- -|- - /r/\
+~virtual workspace /w/Cargo.toml - 2; a file, 1|/w -|../../index - /r\
+~30 Invalid index line 1|- -|/w/bad_index - /r";
+
+#[test]
+fn reads_sources(rt: HostRuntime) -> Result<(), Fail> {
+    rows_hold(rt.alloc(), READ, TILDES, read)
+}
