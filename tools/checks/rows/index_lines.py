@@ -22,7 +22,7 @@ TWO = (b'{"name":"a","vers":"1.0.0"}\r\n \t\n{"name":"b","vers":"2.0.0"}\n'
        b'{"name":"a","vers":"1.1.0","yanked":true,"rust_version":null}\n')
 
 # A name, an address, the name that is looked for, and what is wanted. (The entries of `a`, in their order
-# and with the yanked one, are in crates/source_tests.)
+# and with the yanked one, are in crates/edit_tests.)
 IN_ONE_FILE = """\
 another address|https://x/y|b|b 2.0.0.
 by capital letters|file:///x|A|none
@@ -37,7 +37,7 @@ FILES = """\
 /idx/1/x|
 /idx/2/xy|{"name":"xy","vers":"0.1.0"}"""
 
-# The same, over these files. (A file without a line is in crates/source_tests.)
+# The same, over these files. (A file without a line is in crates/edit_tests.)
 IN_FILES = """\
 three letters|file:///my%20idx|abc|abc 1.0.0.
 capital letters|file:///my%20idx|Serde|serde 1.2.3.
