@@ -2,7 +2,7 @@
 ghost use Rattle.edit_tree.specs.NewItems.{IsEntry};
 ghost use Rattle.edit_document.specs.NewItemViews.{item_seen};
 
-use super::stop::{kept, must, push, said, text};
+use crate::stop::{kept, must, push, said, text};
 use edit_document::{Document, NewItem, NewValue, Step};
 use std::alloc::Global;
 use std::process::Abort;
@@ -117,7 +117,7 @@ fn set(
     if !document.is_value(place) || place.len() > 79 {
         return not_there(rt, alloc);
     }
-    said(rt, alloc, document.set_literal(alloc, place, words))
+    said(rt, alloc, document.set_literal(alloc, place, words), "done")
 }
 
 /// Sets a value where one stands; what is said of it.
@@ -132,7 +132,7 @@ fn set_value(
         return not_there(rt, alloc);
     }
     let value = value_of(rt, alloc, words);
-    said(rt, alloc, document.set_value(alloc, place, &value))
+    said(rt, alloc, document.set_value(alloc, place, &value), "done")
 }
 
 /// Inserts a member of a name and a value where something without one of this name stands: what is said.
@@ -151,7 +151,12 @@ fn insert(
         return not_there(rt, alloc);
     }
     let value = value_of(rt, alloc, value);
-    said(rt, alloc, document.insert(alloc, place, key, &value))
+    said(
+        rt,
+        alloc,
+        document.insert(alloc, place, key, &value),
+        "done",
+    )
 }
 
 /// Replaces the entry at a place that one statement names, and of at most 70 steps; what is said of it.
@@ -166,7 +171,12 @@ fn replace(
         return not_there(rt, alloc);
     }
     let entry = entry_of(rt, alloc, words);
-    said(rt, alloc, document.replace_entry(alloc, place, &entry))
+    said(
+        rt,
+        alloc,
+        document.replace_entry(alloc, place, &entry),
+        "done",
+    )
 }
 
 /// Removes the item at a place; what is said of it.
@@ -174,7 +184,7 @@ fn remove(rt: &impl Abort, alloc: Global, document: &mut Document, place: &[Step
     if place.is_empty() || document.item(place).is_none() {
         return not_there(rt, alloc);
     }
-    said(rt, alloc, document.remove(alloc, place))
+    said(rt, alloc, document.remove(alloc, place), "done")
 }
 
 /// Puts a copy in the place of a document.

@@ -1,7 +1,7 @@
 //! Runs over the examples in which each call of the files fails in turn, or whose streams take only so many
 //! bytes.
-use super::stop::{kept, must};
 use crate::rows::field;
+use crate::stop::{kept, must};
 use edit_program::run;
 use edit_store::{FaultStore, MemoryStore, Store};
 use std::alloc::Global;

@@ -1,7 +1,7 @@
 //! Rows of new entries: how one is written, and the entry; a row ends at `~`.
 use super::edits::entry_of;
-use super::stop::{made, rows_hold};
-use crate::rows::TILDES;
+use crate::rows::{TILDES, rows_hold};
+use crate::stop::made;
 use std::alloc::Global;
 use std::process::Abort;
 

@@ -1,6 +1,6 @@
 //! Rows of paths.
-use super::stop::{made, rows_hold, text};
-use crate::rows::LINES;
+use crate::rows::{LINES, rows_hold};
+use crate::stop::{made, text};
 use edit_base::paths::{folder, join, normal, relative};
 use std::alloc::Global;
 use std::process::Abort;

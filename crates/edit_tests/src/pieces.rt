@@ -1,8 +1,7 @@
 //! Rows of pieces: the pieces that a text is kept in, or the text, what was done, with `&` between edits, and
 //! the text before it; a row ends at `~`.
 use super::edits::{edited, pieced};
-use super::stop::rows_hold;
-use crate::rows::TILDES;
+use crate::rows::{TILDES, rows_hold};
 
 /// A text that was read is one piece, none where it is empty. A string that was set is a piece of its own,
 /// also in a copy.

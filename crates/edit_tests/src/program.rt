@@ -1,7 +1,7 @@
 //! The program where a call of the files fails, or where standard output has no room. Its other rows stand in
 //! tools/checks/rows.
-use super::stop::{kept, must, same};
 use crate::rows::field;
+use crate::stop::{kept, must, same};
 use edit_program::run;
 use edit_store::{FaultStore, MemoryStore, Store};
 use std::alloc::Global;

@@ -2,8 +2,8 @@
 //! between `@`; a row ends at `~`.
 mod made;
 
-use super::stop::{rows_hold, told};
-use crate::rows::TILDES;
+use crate::rows::{TILDES, rows_hold};
+use crate::stop::told;
 use made::refusal;
 use std::alloc::Global;
 use std::process::Abort;

@@ -1,5 +1,6 @@
 //! Tests of sources.
 mod addresses;
+mod calls;
 mod kept;
 mod looks;
 mod steps;

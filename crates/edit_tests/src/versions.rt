@@ -1,5 +1,5 @@
 //! Copies of targets of new versions, which no program makes.
-use super::stop::{kept, must, same};
+use crate::stop::{kept, must, same};
 use edit_set_version::TargetVersion;
 use semver::Version;
 use std::alloc::Global;

@@ -1,5 +1,5 @@
 //! Diffs of texts that no edit makes of one another. The others are in `tools/checks/rows/daily.py`.
-use super::super::stop::{must, same};
+use crate::stop::{must, same};
 use edit_shown::diff::diff_text;
 use std::alloc::Global;
 use std::process::Abort;

@@ -1,5 +1,5 @@
 //! What a look in a folder of registries finds. Which registry it is in is in `tools/checks/rows/looks.py`.
-use super::super::stop::{kept, must, same, text};
+use crate::stop::{kept, must, same, text};
 use edit_sources::index_dir::DirIndex;
 use edit_sources::{Index, IndexKrate};
 use edit_store::{MemoryStore, Store};

@@ -1,7 +1,7 @@
 //! The looks that a plan needs. What the program tells of them is in `tools/checks/rows/looks.py`.
 ghost use Rattle.std.specs.Prelude.{◌≡◌};
 
-use super::super::stop::{kept, must, push, same, text as text_of};
+use crate::stop::{kept, must, push, same, text as text_of};
 use edit_document::Document;
 use edit_metadata::Input;
 use edit_program::looks::{looks_text, needed_looks};

@@ -1,7 +1,7 @@
 //! Plans in other forms than their tables, against texts that were written by hand. Those that the program
 //! can show are in `tools/checks/rows/daily.py`.
-use super::super::stop::{kept, must, push, same, text as text_of};
 use super::looks::{input_of, plain};
+use crate::stop::{kept, must, push, same, text as text_of};
 use edit_document::Step;
 use edit_metadata::Input;
 use edit_report::{Change, Output, Reason, Row};

@@ -1,6 +1,6 @@
 //! Rows of manifests that are found, read and written.
-use super::super::stop::{kept, made, must, same, told};
 use crate::rows::field;
+use crate::stop::{kept, made, must, same, told};
 use edit_base::CargoResult;
 use edit_manifest::{LocalManifest, find};
 use edit_store::{FaultStore, MemoryStore, Store};

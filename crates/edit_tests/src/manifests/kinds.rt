@@ -1,6 +1,6 @@
 //! Kinds of dependencies and their tables.
-use super::super::stop::{kept, must, rows_hold, text};
-use crate::rows::LINES;
+use crate::rows::{LINES, rows_hold};
+use crate::stop::{kept, must, text};
 use edit_manifest::{DepKind, DepTable};
 use std::alloc::Global;
 use std::process::Abort;

@@ -1,6 +1,6 @@
 //! Rows of dependency tables, by calls that no program makes.
-use super::super::stop::{kept, must, push, rows_hold, same, text};
-use crate::rows::TILDES;
+use crate::rows::{TILDES, rows_hold};
+use crate::stop::{kept, must, push, same, text};
 use edit_document::{Step, copied_place};
 use edit_manifest::Manifest;
 use std::alloc::Global;

@@ -1,6 +1,6 @@
 //! Rows of versions that a manifest names, by calls that no program makes.
-use super::super::stop::{must, push, rows_hold, said, text, told};
-use crate::rows::TILDES;
+use crate::rows::{TILDES, rows_hold};
+use crate::stop::{must, push, said, text, told};
 use edit_document::{Document, Place, Step};
 use edit_manifest::{Manifest, get_dep_version, set_dep_version};
 use semver::Version;
@@ -29,7 +29,12 @@ fn requirement(rt: &impl Abort, alloc: Global, document: &Document, place: &[Ste
 fn require(rt: &impl Abort, alloc: Global, document: &mut Document, words: &str) -> String {
     let (names, new) = words.split_once(' ').unwrap_or((words, ""));
     let place = place_of(rt, alloc, names);
-    let word = said(rt, alloc, set_dep_version(alloc, document, &place, new));
+    let word = said(
+        rt,
+        alloc,
+        set_dep_version(alloc, document, &place, new),
+        "done",
+    );
     if word.as_str() == "done" && requirement(rt, alloc, document, &place).as_str() != new {
         return text(rt, alloc, "another one");
     }
@@ -48,8 +53,18 @@ fn set(rt: &impl Abort, alloc: Global, manifest: &mut Manifest, word: &str, rest
     }
     let version = version_of(rt, alloc, rest);
     match word {
-        "package" => said(rt, alloc, manifest.set_package_version(alloc, &version)),
-        _ => said(rt, alloc, manifest.set_workspace_version(alloc, &version)),
+        "package" => said(
+            rt,
+            alloc,
+            manifest.set_package_version(alloc, &version),
+            "done",
+        ),
+        _ => said(
+            rt,
+            alloc,
+            manifest.set_workspace_version(alloc, &version),
+            "done",
+        ),
     }
 }
 

@@ -1,7 +1,7 @@
 //! A plan of two manifests of distinct folders.
 ghost use Rattle.std.specs.Prelude.{◌≡◌, string_bytes};
 
-use super::super::stop::{kept, must, same, text};
+use crate::stop::{kept, must, same, text};
 use cargo_edit::{Input, Options, UpgradePlan, plan_upgrade};
 use edit_cache::IndexCache;
 use edit_sources::FileIndex;

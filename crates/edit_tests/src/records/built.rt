@@ -2,10 +2,11 @@
 use super::entry_rows::record_told;
 use super::parts::compared;
 use super::written_rows::record_of;
-use crate::rows::{LINES, rows_hold, text};
+use crate::rows::{LINES, rows_hold};
+use crate::stop::{kept, must, text};
 use edit_record::{Dependency, Source};
 use std::alloc::Global;
-use std::test::Fail;
+use std::process::Abort;
 
 /// What a copy of a record says that these parts gave, and which of the four its source is; the crate's
 /// name, and the parts.
@@ -63,46 +64,57 @@ fn kind(source: &Source) -> &'static str {
 }
 
 /// What the copy of a record says.
-fn copy_told(alloc: Global, record: &Dependency, copy: &Dependency) -> Result<String, Fail> {
+fn copy_told(rt: &impl Abort, alloc: Global, record: &Dependency, copy: &Dependency) -> String {
     if copy != record {
-        return text(alloc, "another copy");
+        return text(rt, alloc, "another copy");
     }
-    let mut told = record_told(alloc, copy)?;
-    told.push_str(", ")?;
-    told.push_str(copy.source().map_or("none", kind))?;
-    Ok(told)
+    let told = record_told(rt, alloc, copy);
+    let kind = copy.source().map_or("none", kind);
+    kept(rt, format!(in alloc; "{told}, {kind}"))
 }
 
 /// What a copy of a record says.
-fn copied(alloc: Global, record: &Dependency) -> Result<String, Fail> {
-    let copy = record.try_clone(alloc)?;
-    copy_told(alloc, record, &copy)
+fn copied(rt: &impl Abort, alloc: Global, record: &Dependency) -> String {
+    let copy = must(rt, record.try_clone(alloc));
+    copy_told(rt, alloc, record, &copy)
 }
 
 /// What a copy of the record of a row says.
-fn built(alloc: Global, name: &str, parts: &str) -> Result<String, Fail> {
-    let record = record_of(alloc, name, parts)?;
-    copied(alloc, &record)
+fn built(rt: &impl Abort, alloc: Global, name: &str, parts: &str) -> String {
+    let record = record_of(rt, alloc, name, parts);
+    copied(rt, alloc, &record)
 }
 
 #[test]
-fn built_records(rt: HostRuntime) -> Result<(), Fail> {
-    rows_hold(rt.alloc(), BUILT, LINES, built)
+fn built_records(rt: HostRuntime) {
+    rows_hold(
+        &rt,
+        rt.alloc(),
+        BUILT,
+        LINES,
+        |alloc, name, parts| built(&rt, alloc, name, parts),
+    );
 }
 
 /// How a record compares to that of other parts.
-fn compared_to(alloc: Global, one: &Dependency, parts: &str) -> Result<String, Fail> {
-    let other = record_of(alloc, "x", parts)?;
-    compared(alloc, one, &other)
+fn compared_to(rt: &impl Abort, alloc: Global, one: &Dependency, parts: &str) -> String {
+    let other = record_of(rt, alloc, "x", parts);
+    compared(rt, alloc, one, &other)
 }
 
 /// How the records of these parts compare.
-fn compared_parts(alloc: Global, one: &str, other: &str) -> Result<String, Fail> {
-    let one = record_of(alloc, "x", one)?;
-    compared_to(alloc, &one, other)
+fn compared_parts(rt: &impl Abort, alloc: Global, one: &str, other: &str) -> String {
+    let one = record_of(rt, alloc, "x", one);
+    compared_to(rt, alloc, &one, other)
 }
 
 #[test]
-fn compared_records(rt: HostRuntime) -> Result<(), Fail> {
-    rows_hold(rt.alloc(), COMPARED, LINES, compared_parts)
+fn compared_records(rt: HostRuntime) {
+    rows_hold(
+        &rt,
+        rt.alloc(),
+        COMPARED,
+        LINES,
+        |alloc, one, other| compared_parts(&rt, alloc, one, other),
+    );
 }

@@ -1,13 +1,14 @@
 //! Rows of calls of an index's entry and of Rust versions that no program makes.
 use super::parts::{chosen, compared, shown};
-use crate::rows::{LINES, rows_hold, text};
+use crate::rows::{LINES, rows_hold};
+use crate::stop::{kept, must, push, text};
 use edit_record::{
     IndexVersion, RustVersion, dependency_on, find_compatible_version, find_latest_version,
     read_candidate,
 };
 use semver::{Version, VersionReq};
-use std::alloc::{AllocError, Global};
-use std::test::Fail;
+use std::alloc::Global;
+use std::process::Abort;
 
 /// What a call gives of an entry that asks for Rust 1.70, and the call.
 const FOUND: &str = "\
@@ -17,56 +18,79 @@ x 1.0.0 -|depends
 false|suits 1.0.0";
 
 /// That entry.
-fn entry(alloc: Global) -> Result<IndexVersion, AllocError> {
-    Ok(IndexVersion {
-        name: String::from_str(alloc, "x")?,
-        version: String::from_str(alloc, "1.0.0")?,
+fn entry(rt: &impl Abort, alloc: Global) -> IndexVersion {
+    IndexVersion {
+        name: text(rt, alloc, "x"),
+        version: text(rt, alloc, "1.0.0"),
         yanked: false,
-        rust_version: Some(String::from_str(alloc, "1.70")?),
-    })
+        rust_version: Some(text(rt, alloc, "1.70")),
+    }
 }
 
 /// The version among entries that a requirement chooses.
-fn compatible(alloc: Global, entries: &[IndexVersion]) -> Result<String, Fail> {
-    let req = VersionReq::parse(alloc, "1")?;
-    chosen(alloc, find_compatible_version(alloc, entries, &req, None))
+fn compatible(rt: &impl Abort, alloc: Global, entries: &[IndexVersion]) -> String {
+    let req = VersionReq::parse(alloc, "1")
+        .ok()
+        .expect(rt, "a requirement");
+    let found = find_compatible_version(alloc, entries, &req, None);
+    chosen(rt, alloc, found)
 }
 
 /// The version that is chosen where an entry is the only one.
-fn only(alloc: Global, call: &str, told: IndexVersion) -> Result<String, Fail> {
+fn only(rt: &impl Abort, alloc: Global, call: &str, told: IndexVersion) -> String {
     let mut entries = Vec::new(alloc);
-    entries.push(told)?;
+    push(rt, &mut entries, told);
     match call {
-        "latest" => chosen(
-            alloc,
-            find_latest_version(alloc, entries.as_slice(), false, None),
-        ),
-        _ => compatible(alloc, entries.as_slice()),
+        "latest" => {
+            let found = find_latest_version(alloc, entries.as_slice(), false, None);
+            chosen(rt, alloc, found)
+        }
+        _ => compatible(rt, alloc, entries.as_slice()),
     }
 }
 
 /// Whether an entry suits Rust 1.0.0.
-fn suits(alloc: Global, told: &IndexVersion) -> Result<String, Fail> {
-    let Some(candidate) = read_candidate(alloc, told)? else {
-        return text(alloc, "unread");
-    };
-    let suits = candidate.is_for(Some(RustVersion::MIN));
-    Ok(format!(in alloc; "{suits}")?)
+fn suits(rt: &impl Abort, alloc: Global, told: &IndexVersion) -> String {
+    match must(rt, read_candidate(alloc, told)) {
+        Some(candidate) => {
+            let suits = candidate.is_for(Some(RustVersion::MIN));
+            kept(rt, format!(in alloc; "{suits}"))
+        }
+        None => text(rt, alloc, "unread"),
+    }
+}
+
+/// The dependency on an entry.
+fn depends(rt: &impl Abort, alloc: Global, told: &IndexVersion) -> String {
+    let dependency = must(rt, dependency_on(alloc, told));
+    shown(rt, alloc, &dependency)
+}
+
+/// The copy of an entry.
+fn copied(rt: &impl Abort, alloc: Global) -> IndexVersion {
+    let entry = entry(rt, alloc);
+    must(rt, entry.try_clone(alloc))
 }
 
 /// What a call gives of the copy of an entry.
-fn found(alloc: Global, call: &str, _row: &str) -> Result<String, Fail> {
-    let copy = entry(alloc)?.try_clone(alloc)?;
+fn found(rt: &impl Abort, alloc: Global, call: &str) -> String {
+    let copy = copied(rt, alloc);
     match call {
-        "depends" => shown(alloc, &dependency_on(alloc, &copy)?),
-        "suits 1.0.0" => suits(alloc, &copy),
-        _ => only(alloc, call, copy),
+        "depends" => depends(rt, alloc, &copy),
+        "suits 1.0.0" => suits(rt, alloc, &copy),
+        _ => only(rt, alloc, call, copy),
     }
 }
 
 #[test]
-fn entries_are_found(rt: HostRuntime) -> Result<(), Fail> {
-    rows_hold(rt.alloc(), FOUND, LINES, found)
+fn entries_are_found(rt: HostRuntime) {
+    rows_hold(
+        &rt,
+        rt.alloc(),
+        FOUND,
+        LINES,
+        |alloc, call, _row| found(&rt, alloc, call),
+    );
 }
 
 /// The Rust version of a version; the least and the greatest; how two compare, and whether they have one
@@ -84,37 +108,46 @@ greater, two hashes|compare|1.0.10 1.0.9
 less, two hashes|compare|1.2.3 3.2.1";
 
 /// The numbers of a Rust version.
-fn numbers(alloc: Global, version: RustVersion) -> Result<String, Fail> {
+fn numbers(rt: &impl Abort, alloc: Global, version: RustVersion) -> String {
     let RustVersion {
         major,
         minor,
         patch,
     } = version;
-    Ok(format!(in alloc; "{major}.{minor}.{patch}")?)
+    kept(rt, format!(in alloc; "{major}.{minor}.{patch}"))
 }
 
 /// How the Rust versions of two texts compare.
-fn compared_texts(alloc: Global, texts: &str) -> Result<String, Fail> {
+fn compared_texts(rt: &impl Abort, alloc: Global, texts: &str) -> String {
     let (one, other) = texts.split_once(' ').unwrap_or((texts, ""));
-    let one = RustVersion::from_str(alloc, one)?;
-    let other = RustVersion::from_str(alloc, other)?;
-    compared(alloc, &one, &other)
+    let one = must(rt, RustVersion::from_str(alloc, one));
+    let other = must(rt, RustVersion::from_str(alloc, other));
+    compared(rt, alloc, &one, &other)
+}
+
+/// The Rust version of the version of a text.
+fn from_version(rt: &impl Abort, alloc: Global, text: &str) -> String {
+    let version = Version::parse(alloc, text).ok().expect(rt, "a version");
+    numbers(rt, alloc, RustVersion::from(&version))
 }
 
 /// What a row asks of Rust versions.
-fn rust(alloc: Global, call: &str, text: &str) -> Result<String, Fail> {
+fn rust(rt: &impl Abort, alloc: Global, call: &str, text: &str) -> String {
     match call {
-        "from" => {
-            let version = Version::parse(alloc, text)?;
-            numbers(alloc, RustVersion::from(&version))
-        }
-        "least" => numbers(alloc, RustVersion::MIN),
-        "greatest" => numbers(alloc, RustVersion::MAX),
-        _ => compared_texts(alloc, text),
+        "from" => from_version(rt, alloc, text),
+        "least" => numbers(rt, alloc, RustVersion::MIN),
+        "greatest" => numbers(rt, alloc, RustVersion::MAX),
+        _ => compared_texts(rt, alloc, text),
     }
 }
 
 #[test]
-fn rust_versions(rt: HostRuntime) -> Result<(), Fail> {
-    rows_hold(rt.alloc(), RUST_VERSIONS, LINES, rust)
+fn rust_versions(rt: HostRuntime) {
+    rows_hold(
+        &rt,
+        rt.alloc(),
+        RUST_VERSIONS,
+        LINES,
+        |alloc, call, text| rust(&rt, alloc, call, text),
+    );
 }

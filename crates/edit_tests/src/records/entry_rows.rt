@@ -1,9 +1,10 @@
 //! Rows of entries of a dependency table, each with its record.
 use super::parts::record_at;
-use crate::rows::{LINES, rows_hold, unfolded};
+use crate::rows::{LINES, rows_hold};
+use crate::stop::{kept, text, unfolded};
 use edit_record::Dependency;
-use std::alloc::{AllocError, Global};
-use std::test::Fail;
+use std::alloc::Global;
+use std::process::Abort;
 
 /// What an entry says, its key, and what stands below `[dependencies]`, with `@` for a line's end. A record
 /// is told by its text, its key, its requirement, its registry, its features, its default features and
@@ -63,39 +64,44 @@ fn truth(value: Option<bool>) -> &'static str {
 }
 
 /// Features with commas between them, `-` where the entry has none.
-fn features(alloc: Global, texts: Option<&Vec<String>>) -> Result<String, AllocError> {
-    let Some(texts) = texts else {
-        return String::from_str(alloc, "-");
-    };
-    let texts = texts
-        .iter()
-        .map(|text| text.as_str())
-        .collect::<Vec<&str>>(alloc)?;
-    texts.as_slice().join(alloc, ",")
+fn features(rt: &impl Abort, alloc: Global, texts: Option<&Vec<String>>) -> String {
+    match texts {
+        Some(texts) => kept(rt, texts.as_slice().join(alloc, ",")),
+        None => text(rt, alloc, "-"),
+    }
 }
 
 /// What a record says.
-pub(crate) fn record_told(alloc: Global, record: &Dependency) -> Result<String, Fail> {
+pub(crate) fn record_told(rt: &impl Abort, alloc: Global, record: &Dependency) -> String {
     let key = record.toml_key();
     let version = record.version().unwrap_or("-");
     let registry = record.registry().unwrap_or("-");
-    let features = features(alloc, record.features.as_ref())?;
+    let features = features(rt, alloc, record.features.as_ref());
     let default_features = truth(record.default_features());
     let optional = truth(record.optional());
-    Ok(format!(in alloc;
-        "{record} {key} {version} {registry} {features} {default_features} {optional}"
-    )?)
+    kept(
+        rt,
+        format!(in alloc;
+            "{record} {key} {version} {registry} {features} {default_features} {optional}"
+        ),
+    )
 }
 
 /// What the entry of a row says.
-fn entry(alloc: Global, key: &str, entries: &str) -> Result<String, Fail> {
-    let entries = unfolded(alloc, entries)?;
-    let manifest = format!(in alloc; "[dependencies]\n{entries}")?;
-    let record = record_at(alloc, "/foo", key, manifest.as_str())?;
-    record_told(alloc, &record)
+fn entry(rt: &impl Abort, alloc: Global, key: &str, entries: &str) -> String {
+    let entries = unfolded(rt, alloc, entries);
+    let manifest = kept(rt, format!(in alloc; "[dependencies]\n{entries}"));
+    let record = record_at(rt, alloc, "/foo", key, manifest.as_str());
+    record_told(rt, alloc, &record)
 }
 
 #[test]
-fn entries(rt: HostRuntime) -> Result<(), Fail> {
-    rows_hold(rt.alloc(), ENTRIES, LINES, entry)
+fn entries(rt: HostRuntime) {
+    rows_hold(
+        &rt,
+        rt.alloc(),
+        ENTRIES,
+        LINES,
+        |alloc, key, entries| entry(&rt, alloc, key, entries),
+    );
 }

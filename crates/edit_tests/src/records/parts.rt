@@ -1,12 +1,12 @@
 //! What the tests of records make and tell.
-use crate::rows::{text, told};
-use edit_base::{CargoResult, Error};
+use crate::stop::{kept, must, text, told};
+use edit_base::CargoResult;
 use edit_document::{Document, Item};
 use edit_record::Dependency;
 use std::alloc::Global;
 use std::cmp::Ordering;
 use std::hash::{BuildHasher, BuildHasherDefault, FoldHasher, Hash};
-use std::test::Fail;
+use std::process::Abort;
 
 /// The entry of a key among a document's dependencies.
 fn entry_at<'a>(document: &'a Document, key: &str) -> Option<Item<'a>> {
@@ -15,35 +15,37 @@ fn entry_at<'a>(document: &'a Document, key: &str) -> Option<Item<'a>> {
 
 /// The record of the entry of a key of a manifest in a folder.
 pub(crate) fn record_at(
+    rt: &impl Abort,
     alloc: Global,
     root: &str,
     key: &str,
     manifest: &str,
-) -> CargoResult<Dependency> {
-    let document = Document::read(alloc, manifest)?;
+) -> Dependency {
+    let document = must(rt, Document::read(alloc, manifest));
     match entry_at(&document, key) {
-        Some(item) => Dependency::from_toml(alloc, root, key, item),
-        None => Err(Error::MissingVersion),
+        Some(item) => must(rt, Dependency::from_toml(alloc, root, key, item)),
+        None => panic!(rt; "no entry"),
     }
 }
 
 /// The name of a dependency, its version and its new name; `-` for none.
-pub(crate) fn shown(alloc: Global, dependency: &Dependency) -> Result<String, Fail> {
+pub(crate) fn shown(rt: &impl Abort, alloc: Global, dependency: &Dependency) -> String {
     let name = dependency.name.as_str();
     let version = dependency.version().unwrap_or("-");
     let rename = dependency.rename.as_ref().map_or("-", |text| text.as_str());
-    Ok(format!(in alloc; "{name} {version} {rename}")?)
+    kept(rt, format!(in alloc; "{name} {version} {rename}"))
 }
 
 /// The dependency that is chosen, `-` for none, or the refusal.
 pub(crate) fn chosen(
+    rt: &impl Abort,
     alloc: Global,
     chosen: CargoResult<Option<Dependency>>,
-) -> Result<String, Fail> {
+) -> String {
     match chosen {
-        Ok(Some(dependency)) => shown(alloc, &dependency),
-        Ok(None) => text(alloc, "-"),
-        Err(error) => told(alloc, error),
+        Ok(Some(dependency)) => shown(rt, alloc, &dependency),
+        Ok(None) => text(rt, alloc, "-"),
+        Err(error) => told(rt, alloc, error),
     }
 }
 
@@ -53,7 +55,12 @@ fn hashed<T: Hash>(value: &T) -> u64 {
 }
 
 /// How one value compares to another, where equality and order agree, and whether they have one hash.
-pub(crate) fn compared<T: Ord + Hash>(alloc: Global, one: &T, other: &T) -> Result<String, Fail> {
+pub(crate) fn compared<T: Ord + Hash>(
+    rt: &impl Abort,
+    alloc: Global,
+    one: &T,
+    other: &T,
+) -> String {
     let order = match one.cmp(other) {
         Ordering::Less if one != other => "less",
         Ordering::Equal if one == other => "equal",
@@ -65,5 +72,5 @@ pub(crate) fn compared<T: Ord + Hash>(alloc: Global, one: &T, other: &T) -> Resu
     } else {
         "two hashes"
     };
-    Ok(format!(in alloc; "{order}, {hashes}")?)
+    kept(rt, format!(in alloc; "{order}, {hashes}"))
 }

@@ -1,12 +1,13 @@
 //! Rows of entries that come to say what a record says: the manifest that is left, the manifest, and the
 //! record, its parts between semicolons. Lines end with `@`; a manifest without a header is one of entries.
 use super::written_rows::record;
-use crate::rows::{LINES, rows_hold, unfolded, word};
+use crate::rows::{LINES, rows_hold};
+use crate::stop::{kept, must, push, said, text, unfolded};
 use edit_base::CargoResult;
 use edit_document::{Document, Place, Step};
 use edit_record::Dependency;
-use std::alloc::{AllocError, Global};
-use std::test::Fail;
+use std::alloc::Global;
+use std::process::Abort;
 
 /// Strings, and tables of one member that one pair names: another entry stands there. Inline tables.
 /// Features: those of the entry and then those of the record, each once. Tables with a header of their
@@ -107,16 +108,16 @@ x = [], 49 Edit would change more than its place|x = []|registry=2
 const HEADER: &str = "[dependencies]\n";
 
 /// The place of the dependency of a row: of `serde` where its manifest begins with that key, else of `x`.
-fn place_of(alloc: Global, lines: &str) -> Result<Place, AllocError> {
+fn place_of(rt: &impl Abort, alloc: Global, lines: &str) -> Place {
     let key = if lines.starts_with("serde") {
         "serde"
     } else {
         "x"
     };
     let mut place = Vec::new(alloc);
-    place.push(Step::Key(String::from_str(alloc, "dependencies")?))?;
-    place.push(Step::Key(String::from_str(alloc, key)?))?;
-    Ok(place)
+    push(rt, &mut place, Step::Key(text(rt, alloc, "dependencies")));
+    push(rt, &mut place, Step::Key(text(rt, alloc, key)));
+    place
 }
 
 /// Updates the entry at a place, where one stands there.
@@ -133,39 +134,45 @@ fn update(
 }
 
 /// What is left of a manifest, and why it was refused where it was.
-fn left(alloc: Global, document: &Document, refusal: &str) -> Result<String, Fail> {
+fn left(rt: &impl Abort, alloc: Global, document: &Document, refusal: &str) -> String {
     let text = document.as_str();
     let text = text.strip_prefix(HEADER).unwrap_or(text);
-    let mut left = text.replace(alloc, '\n', "@")?;
-    if !refusal.is_empty() {
-        left.push_str(", ")?;
-        left.push_str(refusal)?;
-    }
-    Ok(left)
+    let left = kept(rt, text.replace(alloc, '\n', "@"));
+    let comma = if refusal.is_empty() { "" } else { ", " };
+    kept(rt, format!(in alloc; "{left}{comma}{refusal}"))
 }
 
 /// The manifest of a row: below a header where it has none.
-fn manifest(alloc: Global, lines: &str) -> Result<String, Fail> {
+fn manifest(rt: &impl Abort, alloc: Global, lines: &str) -> String {
     let is_whole = lines.starts_with('[') || lines.starts_with("dependencies");
     let header = if is_whole { "" } else { HEADER };
-    let lines = unfolded(alloc, lines)?;
-    Ok(format!(in alloc; "{header}{lines}")?)
+    let lines = unfolded(rt, alloc, lines);
+    kept(rt, format!(in alloc; "{header}{lines}"))
 }
 
 /// What the manifest of a row is after an update of its dependency with a record.
-fn left_by(alloc: Global, lines: &str, record: &Dependency) -> Result<String, Fail> {
-    let place = place_of(alloc, lines)?;
-    let mut document = Document::read(alloc, manifest(alloc, lines)?.as_str())?;
+fn left_by(rt: &impl Abort, alloc: Global, lines: &str, record: &Dependency) -> String {
+    let manifest = manifest(rt, alloc, lines);
+    let mut document = must(rt, Document::read(alloc, manifest.as_str()));
+    let place = place_of(rt, alloc, lines);
     let answer = update(alloc, &mut document, record, &place);
-    left(alloc, &document, word(alloc, answer, "")?.as_str())
+    let refusal = said(rt, alloc, answer, "");
+    left(rt, alloc, &document, refusal.as_str())
 }
 
 /// The same with the record of the row.
-fn updated(alloc: Global, lines: &str, parts: &str) -> Result<String, Fail> {
-    left_by(alloc, lines, &record(alloc, parts)?)
+fn updated(rt: &impl Abort, alloc: Global, lines: &str, parts: &str) -> String {
+    let record = record(rt, alloc, parts);
+    left_by(rt, alloc, lines, &record)
 }
 
 #[test]
-fn entries_are_updated(rt: HostRuntime) -> Result<(), Fail> {
-    rows_hold(rt.alloc(), UPDATED, LINES, updated)
+fn entries_are_updated(rt: HostRuntime) {
+    rows_hold(
+        &rt,
+        rt.alloc(),
+        UPDATED,
+        LINES,
+        |alloc, lines, parts| updated(&rt, alloc, lines, parts),
+    );
 }

@@ -1,9 +1,10 @@
 //! Rows of calls of versions and of words that no program makes.
-use crate::rows::{LINES, rows_hold, text};
+use crate::rows::{LINES, rows_hold};
+use crate::stop::{kept, must, text};
 use edit_version::{CrateSpec, VersionExt, cut};
 use semver::Version;
 use std::alloc::Global;
-use std::test::Fail;
+use std::process::Abort;
 
 /// What a call gives, the call, and a version or a word.
 const CALLS: &str = "\
@@ -13,38 +14,49 @@ false|pre-release|1.1.2+meta-valid
 1.1.2|cut|1.1.2+meta-valid
 serde 1.0|word|serde@1.0";
 
+/// The version of a text.
+fn version(rt: &impl Abort, alloc: Global, text: &str) -> Version {
+    Version::parse(alloc, text).ok().expect(rt, "a version")
+}
+
 /// The next patch version.
-fn patched(alloc: Global, text: &str) -> Result<String, Fail> {
-    let mut version = Version::parse(alloc, text)?;
-    version.increment_patch()?;
-    Ok(format!(in alloc; "{version}")?)
+fn patched(rt: &impl Abort, alloc: Global, text: &str) -> String {
+    let mut version = version(rt, alloc, text);
+    must(rt, version.increment_patch());
+    kept(rt, format!(in alloc; "{version}"))
 }
 
 /// Whether a version has a pre-release.
-fn has_prerelease(alloc: Global, text: &str) -> Result<String, Fail> {
-    let has = Version::parse(alloc, text)?.is_prerelease();
-    Ok(format!(in alloc; "{has}")?)
+fn has_prerelease(rt: &impl Abort, alloc: Global, text: &str) -> String {
+    let has = version(rt, alloc, text).is_prerelease();
+    kept(rt, format!(in alloc; "{has}"))
 }
 
 /// The name and the requirement of a word.
-fn named(alloc: Global, word: &str) -> Result<String, Fail> {
-    let spec = CrateSpec::from_str(alloc, word)?;
+fn named(rt: &impl Abort, alloc: Global, word: &str) -> String {
+    let spec = must(rt, CrateSpec::from_str(alloc, word));
     let name = spec.name.as_str();
     let req = spec.version_req.as_ref().map_or("-", |text| text.as_str());
-    Ok(format!(in alloc; "{name} {req}")?)
+    kept(rt, format!(in alloc; "{name} {req}"))
 }
 
 /// What a call gives.
-fn given(alloc: Global, call: &str, argument: &str) -> Result<String, Fail> {
+fn given(rt: &impl Abort, alloc: Global, call: &str, argument: &str) -> String {
     match call {
-        "patch" => patched(alloc, argument),
-        "pre-release" => has_prerelease(alloc, argument),
-        "cut" => text(alloc, cut(argument)),
-        _ => named(alloc, argument),
+        "patch" => patched(rt, alloc, argument),
+        "pre-release" => has_prerelease(rt, alloc, argument),
+        "cut" => text(rt, alloc, cut(argument)),
+        _ => named(rt, alloc, argument),
     }
 }
 
 #[test]
-fn calls_of_versions(rt: HostRuntime) -> Result<(), Fail> {
-    rows_hold(rt.alloc(), CALLS, LINES, given)
+fn calls_of_versions(rt: HostRuntime) {
+    rows_hold(
+        &rt,
+        rt.alloc(),
+        CALLS,
+        LINES,
+        |alloc, call, argument| given(&rt, alloc, call, argument),
+    );
 }

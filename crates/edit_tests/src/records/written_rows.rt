@@ -1,13 +1,13 @@
 //! Rows of records and their new entries: what is written, the folder of the manifest, and what the record
 //! says, its parts between semicolons.
 use super::parts::record_at;
-use crate::rows::{LINES, made, rows_hold, text};
-use edit_base::CargoResult;
+use crate::rows::{LINES, rows_hold};
+use crate::stop::{kept, made, must, push, text};
 use edit_document::NewItem;
 use edit_record::{Dependency, GitSource, PathSource, RegistrySource, Source, WorkspaceSource};
-use std::alloc::{AllocError, Global};
+use std::alloc::Global;
 use std::collections::BTreeMap;
-use std::test::Fail;
+use std::process::Abort;
 
 /// Each source alone and with each part that an entry can have; where another entry is written of what is
 /// read, that one comes second.
@@ -44,168 +44,196 @@ features = [\"a\"], optional = true }|/|\
 registry=1;registry name=n;rename=d;default features=true;features=a;optional=true";
 
 /// The words of a text; the empty text has none.
-fn words(alloc: Global, text: &str) -> Result<Vec<String>, AllocError> {
-    let mut words = Vec::new(alloc);
-    'words: for word in text.split_terminator(' ') {
-        words.push(String::from_str(alloc, word)?)?;
+fn words(rt: &impl Abort, alloc: Global, words: &str) -> Vec<String> {
+    let mut all = Vec::new(alloc);
+    'words: for word in words.split_terminator(' ') {
+        push(rt, &mut all, text(rt, alloc, word));
     }
-    Ok(words)
+    all
 }
 
 /// A repository with a branch, a tag and a revision in turn, of which the last stays; a bare one has no
 /// version.
-fn repository(alloc: Global, part: &str, text: &str) -> CargoResult<GitSource> {
-    let git = GitSource::new(alloc, "u")?;
+fn repository(rt: &impl Abort, alloc: Global, part: &str, text: &str) -> GitSource {
+    let git = must(rt, GitSource::new(alloc, "u"));
     match part {
-        "bare tag" => git.set_tag(alloc, text),
-        "bare rev" => git.set_rev(alloc, text),
-        _ => versioned(alloc, git.set_version(alloc, "0.1+c")?, part, text),
+        "bare tag" => must(rt, git.set_tag(alloc, text)),
+        "bare rev" => must(rt, git.set_rev(alloc, text)),
+        _ => versioned(
+            rt,
+            alloc,
+            must(rt, git.set_version(alloc, "0.1+c")),
+            part,
+            text,
+        ),
     }
 }
 
 /// The same of a repository that has a version.
-fn versioned(alloc: Global, git: GitSource, part: &str, text: &str) -> CargoResult<GitSource> {
+fn versioned(rt: &impl Abort, alloc: Global, git: GitSource, part: &str, text: &str) -> GitSource {
     match part {
-        "branch" => git
-            .set_tag(alloc, "t")?
-            .set_rev(alloc, "r")?
-            .set_branch(alloc, text),
-        "tag" => git
-            .set_rev(alloc, "r")?
-            .set_branch(alloc, "b")?
-            .set_tag(alloc, text),
-        _ => git
-            .set_branch(alloc, "b")?
-            .set_tag(alloc, "t")?
-            .set_rev(alloc, text),
+        "branch" => {
+            let git = must(rt, git.set_tag(alloc, "t"));
+            let git = must(rt, git.set_rev(alloc, "r"));
+            must(rt, git.set_branch(alloc, text))
+        }
+        "tag" => {
+            let git = must(rt, git.set_rev(alloc, "r"));
+            let git = must(rt, git.set_branch(alloc, "b"));
+            must(rt, git.set_tag(alloc, text))
+        }
+        _ => {
+            let git = must(rt, git.set_branch(alloc, "b"));
+            let git = must(rt, git.set_tag(alloc, "t"));
+            must(rt, git.set_rev(alloc, text))
+        }
     }
 }
 
 /// The source that a part names.
-fn source(alloc: Global, part: &str, text: &str) -> CargoResult<Source> {
+fn source(rt: &impl Abort, alloc: Global, part: &str, text: &str) -> Source {
     match part {
-        "registry" => Ok(Source::from(RegistrySource::new(alloc, text)?)),
-        "git" => Ok(Source::from(GitSource::new(alloc, text)?)),
-        "workspace" => Ok(Source::from(WorkspaceSource::new())),
-        "path" | "versioned path" | "path version" => path(alloc, part, text),
-        _ => Ok(Source::from(repository(alloc, part, text)?)),
+        "registry" => Source::from(must(rt, RegistrySource::new(alloc, text))),
+        "git" => Source::from(must(rt, GitSource::new(alloc, text))),
+        "workspace" => Source::from(WorkspaceSource::new()),
+        "path" | "versioned path" | "path version" => path(rt, alloc, part, text),
+        _ => Source::from(repository(rt, alloc, part, text)),
     }
 }
 
 /// A folder, with a version or without.
-fn path(alloc: Global, part: &str, text: &str) -> CargoResult<Source> {
-    let source = PathSource::new(alloc, if part == "path version" { "/w/x" } else { text })?;
+fn path(rt: &impl Abort, alloc: Global, part: &str, text: &str) -> Source {
+    let folder = if part == "path version" { "/w/x" } else { text };
+    let source = must(rt, PathSource::new(alloc, folder));
     match part {
-        "path" => Ok(Source::from(source)),
-        "path version" => Ok(Source::from(source.set_version(alloc, text)?)),
-        _ => Ok(Source::from(source.set_version(alloc, "3")?)),
+        "path" => Source::from(source),
+        "path version" => Source::from(must(rt, source.set_version(alloc, text))),
+        _ => Source::from(must(rt, source.set_version(alloc, "3"))),
     }
 }
 
 /// The features that a crate has: one, which has two others.
-fn features_of(alloc: Global, name: &str) -> CargoResult<BTreeMap<String, Vec<String>>> {
+fn features_of(rt: &impl Abort, alloc: Global, name: &str) -> BTreeMap<String, Vec<String>> {
     let mut features = BTreeMap::new(alloc);
-    let others = words(alloc, "b c")?;
-    features.insert(String::from_str(alloc, name)?, others)?;
-    Ok(features)
+    let others = words(rt, alloc, "b c");
+    let name = text(rt, alloc, name);
+    features.insert(name, others).ok().expect(rt, "memory");
+    features
 }
 
 /// The record with features.
 fn with_features(
+    rt: &impl Abort,
     alloc: Global,
     record: Dependency,
     part: &str,
     words: Vec<String>,
-) -> CargoResult<Dependency> {
+) -> Dependency {
     match part {
-        "features" => Ok(record.set_features(words)),
-        "inherited features" => Ok(record.set_inherited_features(words)),
-        _ => record.extend_features(alloc, words),
+        "features" => record.set_features(words),
+        "inherited features" => record.set_inherited_features(words),
+        _ => must(rt, record.extend_features(alloc, words)),
     }
 }
 
 /// The record with one part more.
-fn with_part(alloc: Global, record: Dependency, part: &str, text: &str) -> CargoResult<Dependency> {
+fn with_part(
+    rt: &impl Abort,
+    alloc: Global,
+    record: Dependency,
+    part: &str,
+    text: &str,
+) -> Dependency {
     match part {
-        "bare" => Ok(record),
-        "rename" => record.set_rename(alloc, text),
-        "registry name" => record.set_registry(alloc, text),
-        "default features" => Ok(record.set_default_features(text == "true")),
-        "optional" => Ok(record.set_optional(text == "true")),
-        _ => with_values(alloc, record, part, text),
+        "bare" => record,
+        "rename" => must(rt, record.set_rename(alloc, text)),
+        "registry name" => must(rt, record.set_registry(alloc, text)),
+        "default features" => record.set_default_features(text == "true"),
+        "optional" => record.set_optional(text == "true"),
+        _ => with_values(rt, alloc, record, part, text),
     }
 }
 
 /// The same of a part that has several words, or is a source.
 fn with_values(
+    rt: &impl Abort,
     alloc: Global,
     record: Dependency,
     part: &str,
     text: &str,
-) -> CargoResult<Dependency> {
+) -> Dependency {
     match part {
         "features" | "more features" | "inherited features" => {
-            with_features(alloc, record, part, words(alloc, text)?)
+            with_features(rt, alloc, record, part, words(rt, alloc, text))
         }
-        "available features" => Ok(record.set_available_features(features_of(alloc, text)?)),
-        _ => Ok(record.set_source(source(alloc, part, text)?)),
+        "available features" => record.set_available_features(features_of(rt, alloc, text)),
+        _ => record.set_source(source(rt, alloc, part, text)),
     }
 }
 
 /// The record of the crate of a name that has these parts.
-pub(crate) fn record_of(alloc: Global, name: &str, parts: &str) -> CargoResult<Dependency> {
-    let mut record = Dependency::new(alloc, name)?;
+pub(crate) fn record_of(rt: &impl Abort, alloc: Global, name: &str, parts: &str) -> Dependency {
+    let mut record = must(rt, Dependency::new(alloc, name));
     'parts: for part in parts.split(';') {
         let (part, text) = part.split_once('=').unwrap_or((part, ""));
-        record = with_part(alloc, record, part, text)?;
+        record = with_part(rt, alloc, record, part, text);
     }
-    Ok(record)
+    record
 }
 
 /// The record of the crate `dep` that has these parts.
-pub(crate) fn record(alloc: Global, parts: &str) -> CargoResult<Dependency> {
-    record_of(alloc, "dep", parts)
+pub(crate) fn record(rt: &impl Abort, alloc: Global, parts: &str) -> Dependency {
+    record_of(rt, alloc, "dep", parts)
 }
 
 /// How an entry is written: as a value, or by a dotted key.
-fn told(alloc: Global, item: &NewItem) -> Result<String, Fail> {
+fn told(rt: &impl Abort, alloc: Global, item: &NewItem) -> String {
     match item {
-        NewItem::Inline { dotted: true, .. } => text(alloc, ".workspace = true"),
-        _ => made(alloc, item.text(alloc)),
+        NewItem::Inline { dotted: true, .. } => text(rt, alloc, ".workspace = true"),
+        _ => made(rt, alloc, item.text(alloc)),
     }
 }
 
 /// The entry of a record.
-fn entry(alloc: Global, root: &str, record: &Dependency) -> Result<String, Fail> {
-    let item = record.to_toml(alloc, root)?;
-    told(alloc, &item)
+fn entry(rt: &impl Abort, alloc: Global, root: &str, record: &Dependency) -> String {
+    let item = must(rt, record.to_toml(alloc, root));
+    told(rt, alloc, &item)
 }
 
 /// The entry of what is read of an entry.
-fn again(alloc: Global, root: &str, key: &str, first: &str) -> Result<String, Fail> {
+fn again(rt: &impl Abort, alloc: Global, root: &str, key: &str, first: &str) -> String {
     let equals = if first.starts_with('.') { "" } else { " = " };
-    let manifest = format!(in alloc; "[dependencies]\n{key}{equals}{first}")?;
-    let record = record_at(alloc, root, key, manifest.as_str())?;
-    entry(alloc, root, &record)
+    let manifest = kept(
+        rt,
+        format!(in alloc; "[dependencies]\n{key}{equals}{first}"),
+    );
+    let record = record_at(rt, alloc, root, key, manifest.as_str());
+    entry(rt, alloc, root, &record)
 }
 
 /// An entry, and where it is another one the entry of what is read of it.
-fn both(alloc: Global, root: &str, key: &str, first: &str) -> Result<String, Fail> {
-    let again = again(alloc, root, key, first)?;
+fn both(rt: &impl Abort, alloc: Global, root: &str, key: &str, first: &str) -> String {
+    let again = again(rt, alloc, root, key, first);
     if again.as_str() == first {
-        return Ok(again);
+        return again;
     }
-    Ok(format!(in alloc; "{first}, then {again}")?)
+    kept(rt, format!(in alloc; "{first}, then {again}"))
 }
 
 /// The entry of a row, and where it is another one the entry of what is read of it.
-fn written(alloc: Global, root: &str, parts: &str) -> Result<String, Fail> {
-    let record = record(alloc, parts)?;
-    let first = entry(alloc, root, &record)?;
-    both(alloc, root, record.toml_key(), first.as_str())
+fn written(rt: &impl Abort, alloc: Global, root: &str, parts: &str) -> String {
+    let record = record(rt, alloc, parts);
+    let first = entry(rt, alloc, root, &record);
+    both(rt, alloc, root, record.toml_key(), first.as_str())
 }
 
 #[test]
-fn entries_are_written(rt: HostRuntime) -> Result<(), Fail> {
-    rows_hold(rt.alloc(), WRITTEN, LINES, written)
+fn entries_are_written(rt: HostRuntime) {
+    rows_hold(
+        &rt,
+        rt.alloc(),
+        WRITTEN,
+        LINES,
+        |alloc, root, parts| written(&rt, alloc, root, parts),
+    );
 }

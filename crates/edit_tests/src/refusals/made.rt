@@ -1,6 +1,6 @@
 //! The refusal of a number, with what a row says that it carries.
 use super::super::edits::listed;
-use super::super::stop::text as text_of;
+use crate::stop::text as text_of;
 use clap::Command;
 use edit_base::{DeviceCall, Error, MergedCommand, MissingKind, MissingNames};
 use std::alloc::{AllocError, Global};

@@ -1,6 +1,6 @@
 //! Rows of messages to a writer, and of the statuses that programs end with.
-use super::super::stop::{kept, must, rows_hold};
-use crate::rows::{LINES, field};
+use crate::rows::{LINES, field, rows_hold};
+use crate::stop::{kept, must};
 use edit_base::{CargoResult, CliError, Error};
 use edit_report::{shell_print, shell_write_stderr, shell_write_stdout};
 use std::alloc::Global;

@@ -1,7 +1,7 @@
 //! Outputs written to files in memory, one write of which may fail.
 ghost use Rattle.std.specs.Prelude.{◌≡◌, string_bytes};
 
-use super::super::stop::{kept, must, same, text, told};
+use crate::stop::{kept, must, same, text, told};
 use edit_base::CargoResult;
 use edit_report::{Output, apply};
 use edit_store::{FaultStore, MemoryStore, Store};

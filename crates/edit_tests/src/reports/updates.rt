@@ -1,7 +1,7 @@
 //! Rows of calls that follow an upgrade: words that are refused, and that are not read at a dry run. The
 //! program reads each word before.
-use super::super::stop::{kept, must, push, rows_hold, text, told};
-use crate::rows::LINES;
+use crate::rows::{LINES, rows_hold};
+use crate::stop::{kept, must, push, text, told};
 use edit_metadata::Workspace;
 use edit_upgrade::update::update_calls;
 use edit_upgrade::{Options, UpgradePlan};

@@ -1,11 +1,12 @@
 //! Addresses under configuration files.
 use super::looks::files_of;
-use crate::rows::{field, same, told};
+use crate::rows::field;
+use crate::stop::{kept, must, same, text, told};
 use edit_sources::config::{Config, ConfigCache, read_configs};
 use edit_sources::registry::{registry_url, resolve};
-use edit_store::FaultStore;
+use edit_store::{FaultStore, MemoryStore};
 use std::alloc::Global;
-use std::test::Fail;
+use std::process::Abort;
 
 /// The configurations of a workspace of two members, each a path and its lines.
 const WORKSPACE: &str = "\
@@ -20,77 +21,96 @@ const MEMBERS: &str = "\
 /w/.cargo/config.toml /home/config file:///w|a member without|/w/b/Cargo.toml
 /w/a/.cargo/config /w/.cargo/config.toml /home/config file:///a|the first again|/w/a/Cargo.toml";
 
+/// The address that configurations give a registry, or why they give none.
+fn address(rt: &impl Abort, alloc: Global, configs: &[Config]) -> String {
+    match resolve(alloc, configs, Some("r")) {
+        Ok(url) => text(rt, alloc, url.as_str()),
+        Err(error) => told(rt, alloc, error),
+    }
+}
+
 /// The paths of configurations, and the address that they give a registry.
-fn shown(alloc: Global, configs: &[Config]) -> Result<String, Fail> {
+fn shown(rt: &impl Abort, alloc: Global, configs: &[Config]) -> String {
     let mut seen = String::new(alloc);
     for config in configs {
-        seen.push_str(config.path.as_str())?;
-        seen.push(' ')?;
+        kept(rt, write!(seen, "{} ", config.path));
     }
-    match resolve(alloc, configs, Some("r")) {
-        Ok(url) => seen.push_str(url.as_str())?,
-        Err(error) => return told(alloc, error),
-    }
-    Ok(seen)
+    let address = address(rt, alloc, configs);
+    kept(rt, seen.push_str(address.as_str()));
+    seen
+}
+
+/// What counts for the other manifest, and the address.
+fn counted(rt: &impl Abort, alloc: Global, store: &mut MemoryStore) -> String {
+    let configs = must(
+        rt,
+        read_configs(alloc, store, "/w/b/Cargo.toml", Some("/home")),
+    );
+    shown(rt, alloc, &configs)
 }
 
 /// The calls for one manifest alone: what counts for it, and the address.
 #[test]
-fn without_a_cache(rt: HostRuntime) -> Result<(), Fail> {
-    let mut store = files_of(rt.alloc(), WORKSPACE)?;
-    let configs = read_configs(rt.alloc(), &mut store, "/w/b/Cargo.toml", Some("/home"))?;
-    let seen = shown(rt.alloc(), &configs)?;
+fn without_a_cache(rt: HostRuntime) {
+    let mut store = files_of(&rt, rt.alloc(), WORKSPACE);
+    let seen = counted(&rt, rt.alloc(), &mut store);
     same(
+        &rt,
         "a member without",
         seen.as_str(),
         "/w/.cargo/config.toml /home/config file:///w",
-    )?;
-    let url = registry_url(
-        rt.alloc(),
-        &mut store,
-        "/w/a/Cargo.toml",
-        Some("/home"),
-        Some("r"),
-    )?;
-    same("a member's own", url.as_str(), "file:///a")
+    );
+    a_member_alone(&rt, rt.alloc(), &mut store);
+}
+
+/// Whether the call for the address alone gives a member its own one.
+fn a_member_alone(rt: &impl Abort, alloc: Global, store: &mut MemoryStore) {
+    let url = registry_url(alloc, store, "/w/a/Cargo.toml", Some("/home"), Some("r"));
+    let url = must(rt, url);
+    same(rt, "a member's own", url.as_str(), "file:///a");
 }
 
 /// What counts for a manifest, and the address, by a cache.
-fn kept(
+fn by_cache(
+    rt: &impl Abort,
     alloc: Global,
     cache: &mut ConfigCache,
     store: &mut FaultStore,
     path: &str,
-) -> Result<String, Fail> {
+) -> String {
     match cache.read_configs(alloc, store, path, Some("/home")) {
-        Ok(configs) => shown(alloc, &configs),
-        Err(error) => told(alloc, error),
+        Ok(configs) => shown(rt, alloc, &configs),
+        Err(error) => told(rt, alloc, error),
     }
 }
 
 /// Whether one cache gives each manifest in turn what counts for it.
-fn kept_rows(alloc: Global, cache: &mut ConfigCache, store: &mut FaultStore) -> Result<(), Fail> {
+fn kept_rows(rt: &impl Abort, alloc: Global, cache: &mut ConfigCache, store: &mut FaultStore) {
     'rows: for row in MEMBERS.lines() {
-        let seen = kept(alloc, cache, store, field(row, 2))?;
-        same(row, seen.as_str(), field(row, 0))?;
+        let seen = by_cache(rt, alloc, cache, store, field(row, 2));
+        same(rt, row, seen.as_str(), field(row, 0));
     }
-    Ok(())
 }
 
 /// The first manifest takes six reads, since two of its four places have no `config`, the second one two
 /// of the place that is its own, and the third one none: the ninth, which would fail, is never made.
 #[test]
-fn configurations_by_one_cache(rt: HostRuntime) -> Result<(), Fail> {
-    let mut store = FaultStore::new(files_of(rt.alloc(), WORKSPACE)?, 8, 0);
+fn configurations_by_one_cache(rt: HostRuntime) {
+    let mut store = FaultStore::new(files_of(&rt, rt.alloc(), WORKSPACE), 8, 0);
     let mut cache = ConfigCache::new(rt.alloc());
-    kept_rows(rt.alloc(), &mut cache, &mut store)
+    kept_rows(&rt, rt.alloc(), &mut cache, &mut store);
 }
 
 #[test]
-fn a_refusal_is_not_kept(rt: HostRuntime) -> Result<(), Fail> {
-    let mut store = FaultStore::new(files_of(rt.alloc(), WORKSPACE)?, 1, 0);
+fn a_refusal_is_not_kept(rt: HostRuntime) {
+    let mut store = FaultStore::new(files_of(&rt, rt.alloc(), WORKSPACE), 1, 0);
     let mut cache = ConfigCache::new(rt.alloc());
-    let seen = kept(rt.alloc(), &mut cache, &mut store, "/w/a/Cargo.toml")?;
-    same("the second read", seen.as_str(), "3 Failed to read a file")?;
-    kept_rows(rt.alloc(), &mut cache, &mut store)
+    let seen = by_cache(&rt, rt.alloc(), &mut cache, &mut store, "/w/a/Cargo.toml");
+    same(
+        &rt,
+        "the second read",
+        seen.as_str(),
+        "3 Failed to read a file",
+    );
+    kept_rows(&rt, rt.alloc(), &mut cache, &mut store);
 }

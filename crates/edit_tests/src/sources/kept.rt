@@ -1,156 +1,12 @@
 //! Answers and rankings that are kept.
-use super::looks::{entries, files_of};
-use crate::records::parts::chosen;
-use crate::rows::{field, same, text, told, word};
-use edit_cache::{IndexCache, Ranked};
-use edit_sources::{FileIndex, Index, IndexKrate, LocalIndex};
+use super::calls::calls;
+use super::looks::files_of;
+use crate::stop::must;
+use edit_cache::IndexCache;
+use edit_sources::{FileIndex, Index, LocalIndex};
 use edit_store::FaultStore;
-use semver::VersionReq;
 use std::alloc::Global;
-use std::test::Fail;
-use url::Url;
-
-/// The entries that are kept.
-fn answer(alloc: Global, krate: Option<&IndexKrate>) -> Result<String, Fail> {
-    match krate {
-        Some(krate) => entries(alloc, krate),
-        None => text(alloc, "none"),
-    }
-}
-
-/// The versions of a ranking, the first four.
-fn ranking(alloc: Global, ranked: Option<&Ranked>) -> Result<String, Fail> {
-    let Some(ranked) = ranked else {
-        return text(alloc, "none");
-    };
-    let mut seen = String::new(alloc);
-    'versions: for n in 0..4usize {
-        if let Some(version) = ranked.version(n) {
-            write!(seen, "{version};")?;
-        }
-    }
-    Ok(seen)
-}
-
-/// The greatest version of a ranking that a requirement admits.
-fn compatible(alloc: Global, ranked: &Ranked, req: &str) -> Result<String, Fail> {
-    match VersionReq::parse(alloc, req) {
-        Ok(req) => chosen(alloc, ranked.compatible(alloc, &req, None)),
-        Err(_) => text(alloc, "no requirement"),
-    }
-}
-
-/// What a ranking leads to for a requirement, or to its latest version for none.
-fn choice(alloc: Global, ranked: Option<&Ranked>, req: &str) -> Result<String, Fail> {
-    let Some(ranked) = ranked else {
-        return text(alloc, "no ranking");
-    };
-    if req.is_empty() {
-        chosen(alloc, ranked.latest(alloc, false, None))
-    } else {
-        compatible(alloc, ranked, req)
-    }
-}
-
-/// What the index is asked for, and what is kept of it.
-fn asked<I: Index>(
-    alloc: Global,
-    cache: &mut IndexCache<I>,
-    registry: &Url,
-    name: &str,
-) -> Result<String, Fail> {
-    match cache.krate(alloc, registry, name) {
-        Ok(krate) => answer(alloc, krate),
-        Err(error) => told(alloc, error),
-    }
-}
-
-/// Whether the index has a name.
-fn has<I: Index>(
-    alloc: Global,
-    cache: &mut IndexCache<I>,
-    registry: &Url,
-    name: &str,
-) -> Result<String, Fail> {
-    match cache.has_krate(alloc, registry, name) {
-        Ok(has) => Ok(format!(in alloc; "{has}")?),
-        Err(error) => told(alloc, error),
-    }
-}
-
-/// Whether the index has a version.
-fn has_version<I: Index>(
-    alloc: Global,
-    cache: &mut IndexCache<I>,
-    registry: &Url,
-    name: &str,
-    version: &str,
-) -> Result<String, Fail> {
-    match cache.has_krate_version(alloc, registry, name, version) {
-        Ok(has) => Ok(format!(in alloc; "{has:?}")?),
-        Err(error) => told(alloc, error),
-    }
-}
-
-/// The ranking of what the index answers.
-fn ranked<I: Index>(
-    alloc: Global,
-    cache: &mut IndexCache<I>,
-    registry: &Url,
-    name: &str,
-) -> Result<String, Fail> {
-    match cache.ranked(alloc, registry, name) {
-        Ok(ranked) => ranking(alloc, ranked),
-        Err(error) => told(alloc, error),
-    }
-}
-
-/// A call that gives nothing.
-fn done<I: Index>(
-    alloc: Global,
-    cache: &mut IndexCache<I>,
-    registry: &Url,
-    row: &str,
-) -> Result<String, Fail> {
-    let name = field(row, 2);
-    let done = match field(row, 1) {
-        "fetch" => cache.fetch(alloc, registry, name),
-        "rank" => cache.rank(alloc, registry, name),
-        _ => cache.update_krate(registry, name),
-    };
-    word(alloc, done, "done")
-}
-
-/// What a call gives. Its row has a name, the call, the name that is looked for, and a version or a
-/// requirement.
-fn call<I: Index>(
-    alloc: Global,
-    cache: &mut IndexCache<I>,
-    registry: &Url,
-    row: &str,
-) -> Result<String, Fail> {
-    let name = field(row, 2);
-    match field(row, 1) {
-        "krate" => asked(alloc, cache, registry, name),
-        "shown" => answer(alloc, cache.shown(registry, name)),
-        "has" => has(alloc, cache, registry, name),
-        "has version" => has_version(alloc, cache, registry, name, field(row, 3)),
-        "ranked" => ranked(alloc, cache, registry, name),
-        "shown ranking" => ranking(alloc, cache.shown_ranking(registry, name)),
-        "choice" => choice(alloc, cache.shown_ranking(registry, name), field(row, 3)),
-        _ => done(alloc, cache, registry, row),
-    }
-}
-
-/// Makes the calls of a table in turn. Behind what its call needs, a row has what is wanted.
-fn calls<I: Index>(alloc: Global, cache: &mut IndexCache<I>, rows: &str) -> Result<(), Fail> {
-    let registry = Url::parse(alloc, "file:///idx").map_err(|_| "no address")?;
-    'rows: for row in rows.lines() {
-        let seen = call(alloc, cache, &registry, row)?;
-        same(row, seen.as_str(), field(row, 4))?;
-    }
-    Ok(())
-}
+use std::process::Abort;
 
 /// The lines of two crates.
 const TWO: &[u8] =
@@ -161,9 +17,10 @@ const TWO: &[u8] =
 const OVER_TWO: &str = "both lines, in order|krate|a||a 1.0.0.a 1.1.0!";
 
 #[test]
-fn a_look_in_one_file(rt: HostRuntime) -> Result<(), Fail> {
-    let mut cache = IndexCache::new(rt.alloc(), FileIndex::read(rt.alloc(), TWO)?);
-    calls(rt.alloc(), &mut cache, OVER_TWO)
+fn a_look_in_one_file(rt: HostRuntime) {
+    let index = must(&rt, FileIndex::read(rt.alloc(), TWO));
+    let mut cache = IndexCache::new(rt.alloc(), index);
+    calls(&rt, rt.alloc(), &mut cache, OVER_TWO);
 }
 
 /// A path, and lines of which the last is cut short.
@@ -182,8 +39,8 @@ nothing is kept|shown|a||none
 the next look|krate|a||a 1.0.0.";
 
 /// An index in files, one call of whose store fails.
-fn failing(alloc: Global, files: &str, at: u64) -> Result<LocalIndex<FaultStore>, Fail> {
-    Ok(LocalIndex::new(FaultStore::new(files_of(alloc, files)?, at, 0)))
+fn failing(rt: &impl Abort, alloc: Global, files: &str, at: u64) -> LocalIndex<FaultStore> {
+    LocalIndex::new(FaultStore::new(files_of(rt, alloc, files), at, 0))
 }
 
 /// Puts another index below a cache, and tells how often the one before it failed.
@@ -191,25 +48,33 @@ fn replace<I: Index + Drop>(cache: &mut IndexCache<I>, index: I) -> u64 {
     cache.replace_index(index).faults()
 }
 
-/// Makes calls over one index after the other, each with its files and the call of its store that fails. A
-/// fault is counted where that is the first one.
-fn kept(alloc: Global, indexes: &[(&str, u64, &str)]) -> Result<(), Fail> {
-    let mut cache = IndexCache::new(alloc, failing(alloc, "", 9)?);
-    'indexes: for (files, at, rows) in indexes {
-        replace(&mut cache, failing(alloc, files, *at)?);
-        calls(alloc, &mut cache, rows)?;
-        let failed = replace(&mut cache, failing(alloc, "", 9)?);
-        if (failed == 0) == (*at == 0) {
-            return Err(Fail::new("another count of faults"));
-        }
+/// Makes calls over an index with these files, a call of whose store fails. A fault is counted where that is
+/// the first one.
+fn over(
+    rt: &impl Abort,
+    alloc: Global,
+    cache: &mut IndexCache<LocalIndex<FaultStore>>,
+    index: &(&str, u64, &str),
+) {
+    let (files, at, rows) = *index;
+    replace(cache, failing(rt, alloc, files, at));
+    calls(rt, alloc, cache, rows);
+    let failed = replace(cache, failing(rt, alloc, "", 9));
+    assert!(rt; (failed == 0) != (at == 0), "another count of faults");
+}
+
+/// Makes calls over one index after the other, each with its files and the call of its store that fails.
+fn over_each(rt: &impl Abort, alloc: Global, indexes: &[(&str, u64, &str)]) {
+    let mut cache = IndexCache::new(alloc, failing(rt, alloc, "", 9));
+    'indexes: for index in indexes {
+        over(rt, alloc, &mut cache, index);
     }
-    Ok(())
 }
 
 #[test]
-fn no_refusal_is_kept(rt: HostRuntime) -> Result<(), Fail> {
+fn no_refusal_is_kept(rt: HostRuntime) {
     let indexes = [(BROKEN, 9, OVER_BROKEN), (REPAIRED, 0, OVER_REPAIRED)];
-    kept(rt.alloc(), &indexes)
+    over_each(&rt, rt.alloc(), &indexes);
 }
 
 /// Paths with lines: of one the last is cut short, those of another are read, and one has none.
@@ -239,9 +104,9 @@ the next look|ranked|a||1.0.0;
 the other answer|shown|b||b 2.0.0.";
 
 #[test]
-fn a_refused_ranking_is_not_kept(rt: HostRuntime) -> Result<(), Fail> {
+fn a_refused_ranking_is_not_kept(rt: HostRuntime) {
     let first = (HALF_BROKEN, 9, OVER_HALF_BROKEN);
-    kept(rt.alloc(), &[first, (REPAIRED, 0, AFTER_HALF_BROKEN)])
+    over_each(&rt, rt.alloc(), &[first, (REPAIRED, 0, AFTER_HALF_BROKEN)]);
 }
 
 /// A path, and a line.
@@ -261,8 +126,8 @@ forgotten|forget|b||done
 asked once more|has|b||false";
 
 #[test]
-fn an_answer_stays(rt: HostRuntime) -> Result<(), Fail> {
-    kept(rt.alloc(), &[(ONE, 9, OVER_ONE), ("", 9, OVER_NONE)])
+fn an_answer_stays(rt: HostRuntime) {
+    over_each(&rt, rt.alloc(), &[(ONE, 9, OVER_ONE), ("", 9, OVER_NONE)]);
 }
 
 /// A path, and lines with equal versions, one that is no version, and a yanked one.
@@ -293,6 +158,10 @@ the next ranking|ranked|a||2.0.0;
 no such name|ranked|b||none";
 
 #[test]
-fn ranked_once(rt: HostRuntime) -> Result<(), Fail> {
-    kept(rt.alloc(), &[(FIVE, 9, OVER_FIVE), (NEXT, 9, OVER_NEXT)])
+fn ranked_once(rt: HostRuntime) {
+    over_each(
+        &rt,
+        rt.alloc(),
+        &[(FIVE, 9, OVER_FIVE), (NEXT, 9, OVER_NEXT)],
+    );
 }

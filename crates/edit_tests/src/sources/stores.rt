@@ -1,7 +1,7 @@
 //! Stores in memory, a call that fails, and a device of the machine.
 use super::steps::steps;
+use crate::stop::kept;
 use edit_store::{FaultStore, HostStore, MemoryStore};
-use std::test::Fail;
 
 /// A name, a call, a path, the text that is written, and what is wanted.
 const MEMORY: &str = "\
@@ -20,9 +20,9 @@ a folder has no text|read|/w||none
 no fault|faults|||0";
 
 #[test]
-fn folders_in_memory(rt: HostRuntime) -> Result<(), Fail> {
+fn folders_in_memory(rt: HostRuntime) {
     let mut store = MemoryStore::new(rt.alloc());
-    steps(rt.alloc(), &mut store, MEMORY)
+    steps(&rt, rt.alloc(), &mut store, MEMORY);
 }
 
 /// What stands before the calls are counted.
@@ -50,13 +50,13 @@ its kind|kind|/b||file
 no other fault|faults|||1";
 
 #[test]
-fn one_call_fails(rt: HostRuntime) -> Result<(), Fail> {
+fn one_call_fails(rt: HostRuntime) {
     let mut inner = MemoryStore::new(rt.alloc());
-    steps(rt.alloc(), &mut inner, BEFORE)?;
+    steps(&rt, rt.alloc(), &mut inner, BEFORE);
     let mut store = FaultStore::new(inner, 1, 4);
-    steps(rt.alloc(), &mut store, FAILS)?;
-    steps(rt.alloc(), &mut store.inner, BELOW)?;
-    steps(rt.alloc(), &mut store, AFTER)
+    steps(&rt, rt.alloc(), &mut store, FAILS);
+    steps(&rt, rt.alloc(), &mut store.inner, BELOW);
+    steps(&rt, rt.alloc(), &mut store, AFTER);
 }
 
 /// Each call, where it is the first one and fails.
@@ -65,12 +65,11 @@ a kind|kind|/||3 Failed to look at a path
 a read|read|/||3 Failed to read a file";
 
 #[test]
-fn the_first_call_fails(rt: HostRuntime) -> Result<(), Fail> {
+fn the_first_call_fails(rt: HostRuntime) {
     'rows: for row in FIRST.lines() {
         let mut store = FaultStore::new(MemoryStore::new(rt.alloc()), 0, 9);
-        steps(rt.alloc(), &mut store, row)?;
+        steps(&rt, rt.alloc(), &mut store, row);
     }
-    Ok(())
 }
 
 /// A device, which is no file, among the files of the machine.
@@ -84,7 +83,7 @@ nor once more|write|/dev/null|six|3 Failed to write updated Cargo.toml
 a second fault|faults|||2";
 
 #[test]
-fn a_device_is_no_file(rt: HostRuntime) -> Result<(), Fail> {
-    let mut store = HostStore::new(rt.clone()?);
-    steps(rt.alloc(), &mut store, DEVICE)
+fn a_device_is_no_file(rt: HostRuntime) {
+    let mut store = HostStore::new(kept(&rt, rt.clone()));
+    steps(&rt, rt.alloc(), &mut store, DEVICE);
 }

@@ -1,10 +1,11 @@
 //! Rows of the manifests of a workspace where the device fails. The others are in
 //! `tools/checks/rows/metadata.py`.
-use crate::rows::{TILDES, rows_hold, word};
+use crate::rows::{TILDES, rows_hold};
+use crate::stop::{kept, must, said};
 use edit_metadata::{Workspace, workspace_inputs};
 use edit_store::{FaultStore, MemoryStore, Store};
 use std::alloc::Global;
-use std::test::Fail;
+use std::process::Abort;
 
 /// A workspace with a member.
 const METADATA: &str = "\
@@ -13,18 +14,28 @@ const METADATA: &str = "\
 {\"name\":\"-\",\"id\":\"/w/a/Cargo.toml\",\"version\":\"1.0.0\",\"manifest_path\":\"/w/a/Cargo.toml\",\
 \"rust_version\":\"-\"}]}";
 
-/// The inputs where one call of the device fails.
-fn failing(alloc: Global, at: &str, _members: &str) -> Result<String, Fail> {
-    let at = if at == "0" { 0 } else { 1 };
-    let workspace = Workspace::read(alloc, METADATA.as_bytes())?;
+/// The store of its manifests, one call of which fails.
+fn failing_store(rt: &impl Abort, alloc: Global, at: u64) -> FaultStore {
     let mut files = MemoryStore::new(alloc);
-    files.write(alloc, "/w/Cargo.toml", b"#13")?;
-    files.write(alloc, "/w/a/Cargo.toml", b"#15")?;
-    let mut store = FaultStore::new(files, at, 0);
-    let inputs = workspace_inputs(alloc, &mut store, &workspace, None, false);
+    must(rt, files.write(alloc, "/w/Cargo.toml", b"#13"));
+    must(rt, files.write(alloc, "/w/a/Cargo.toml", b"#15"));
+    FaultStore::new(files, at, 0)
+}
+
+/// What becomes of the inputs that are read of a store.
+fn inputs(rt: &impl Abort, alloc: Global, store: &mut FaultStore) -> String {
+    let workspace = must(rt, Workspace::read(alloc, METADATA.as_bytes()));
+    let inputs = workspace_inputs(alloc, store, &workspace, None, false);
+    said(rt, alloc, inputs, "inputs")
+}
+
+/// The inputs where one call of the device fails.
+fn failing(rt: &impl Abort, alloc: Global, at: &str) -> String {
+    let at = if at == "0" { 0 } else { 1 };
+    let mut store = failing_store(rt, alloc, at);
+    let answer = inputs(rt, alloc, &mut store);
     let counted = store.faults();
-    let answer = word(alloc, inputs, "inputs")?;
-    Ok(format!(in alloc; "{answer}, {counted}")?)
+    kept(rt, format!(in alloc; "{answer}, {counted}"))
 }
 
 /// What is refused, and how many faults there were; the call that fails; the members.
@@ -33,6 +44,12 @@ const FAILING: &str = "\
 ~3 Failed to read a file, 1|1|/w/a/Cargo.toml";
 
 #[test]
-fn refuses_where_the_device_fails(rt: HostRuntime) -> Result<(), Fail> {
-    rows_hold(rt.alloc(), FAILING, TILDES, failing)
+fn refuses_where_the_device_fails(rt: HostRuntime) {
+    rows_hold(
+        &rt,
+        rt.alloc(),
+        FAILING,
+        TILDES,
+        |alloc, at, _members| failing(&rt, alloc, at),
+    );
 }

@@ -1,26 +1,27 @@
 //! Rows of where a refusal arose that is not that of the first input. The others are in
 //! `tools/checks/rows/metadata.py`.
-use crate::rows::{TILDES, rows_hold, text};
+use crate::rows::{TILDES, rows_hold};
+use crate::stop::{kept, push, text};
 use edit_base::Error;
 use edit_metadata::Input;
 use edit_steps::{Refusal, at_input};
 use std::alloc::Global;
-use std::test::Fail;
+use std::process::Abort;
 
 /// An input by its path and what its file holds, `!` being a byte that no character begins with.
-fn input_of(alloc: Global, row: &str) -> Result<Input, Fail> {
+fn input_of(rt: &impl Abort, alloc: Global, row: &str) -> Input {
     let (path, held) = row.split_once(' ').unwrap_or((row, ""));
     let bytes = if held == "!" {
         b"\xff".as_slice()
     } else {
         held.as_bytes()
     };
-    Ok(Input {
+    Input {
         name: String::new(alloc),
-        path: text(alloc, path)?,
-        bytes: bytes.to_vec(alloc)?,
+        path: text(rt, alloc, path),
+        bytes: kept(rt, bytes.to_vec(alloc)),
         rust_version: None,
-    })
+    }
 }
 
 /// A refusal by a word; any other word is that of a text that is no manifest, at the byte behind as many.
@@ -32,16 +33,22 @@ fn refusal_of(word: &str) -> Error {
     }
 }
 
-/// The place of a refusal of a plan over inputs, `-` being none.
-fn place_of(alloc: Global, word: &str, inputs: &str) -> Result<String, Fail> {
+/// The inputs of a row.
+fn inputs_of(rt: &impl Abort, alloc: Global, rows: &str) -> Vec<Input> {
     let mut all = Vec::new(alloc);
-    for row in inputs.split(';') {
-        all.push(input_of(alloc, row)?)?;
+    'inputs: for row in rows.split(';') {
+        push(rt, &mut all, input_of(rt, alloc, row));
     }
+    all
+}
+
+/// The place of a refusal of a plan over inputs, `-` being none.
+fn place_of(rt: &impl Abort, alloc: Global, word: &str, inputs: &str) -> String {
+    let all = inputs_of(rt, alloc, inputs);
     let Refusal { error: _, place } = at_input(alloc, refusal_of(word), &all);
     match place {
-        Some(place) => Ok(place),
-        None => text(alloc, "-"),
+        Some(place) => place,
+        None => text(rt, alloc, "-"),
     }
 }
 
@@ -53,6 +60,12 @@ const PLACES: &str = "\
 ~-|utf8|/a/Cargo.toml =";
 
 #[test]
-fn places_refusals(rt: HostRuntime) -> Result<(), Fail> {
-    rows_hold(rt.alloc(), PLACES, TILDES, place_of)
+fn places_refusals(rt: HostRuntime) {
+    rows_hold(
+        &rt,
+        rt.alloc(),
+        PLACES,
+        TILDES,
+        |alloc, word, inputs| place_of(&rt, alloc, word, inputs),
+    );
 }

@@ -1,12 +1,13 @@
 //! Rows of what an upgrade rests on. What is refused of it is in `tools/checks/rows/sources.py`.
-use super::workspaces::rust_shown;
-use crate::rows::{TILDES, rows_hold, told, unfolded};
+use super::workspaces::{quoted, rust_shown};
+use crate::rows::{TILDES, rows_hold};
+use crate::stop::{kept, must, told, unfolded};
 use edit_sources::Config;
 use edit_steps::upgrade_read::{Asked, IndexSource, RustChoice, Sources, read_sources};
 use edit_store::{MemoryStore, Store};
 use edit_version::RustVersion;
 use std::alloc::Global;
-use std::test::Fail;
+use std::process::Abort;
 
 /// The files: the path of each and what it holds, `'` being a quote and `@` a line's end.
 const FILES: &str = "\
@@ -24,44 +25,50 @@ const FILES: &str = "\
 {'name':'of/w/b','id':'/w/b','version':'1.0.0','manifest_path':'/w/b/Cargo.toml','rust_version':'1.72'},\
 {'name':'of/w/c','id':'/w/c','version':'1.0.0','manifest_path':'/w/c/Cargo.toml','rust_version':'1.72'}]}";
 
-/// Puts the files of a table into a store.
-fn put_files(alloc: Global, store: &mut MemoryStore) -> Result<(), Fail> {
-    for row in FILES.split('~') {
-        let (path, held) = row.split_once(' ').unwrap_or((row, ""));
-        let lines = unfolded(alloc, held)?;
-        let parts: Vec<&str> = lines.split('\'').collect(alloc)?;
-        let bytes = parts.join(alloc, "\"")?;
-        store.write(alloc, path, bytes.as_bytes())?;
+/// Puts the file of a row into a store: its path and what it holds.
+fn put_file(rt: &impl Abort, alloc: Global, store: &mut MemoryStore, row: &str) {
+    let (path, held) = row.split_once(' ').unwrap_or((row, ""));
+    let lines = unfolded(rt, alloc, held);
+    let bytes = quoted(rt, alloc, lines.as_str());
+    must(rt, store.write(alloc, path, bytes.as_bytes()));
+}
+
+/// Puts the files of the table into a store.
+fn put_files(rt: &impl Abort, alloc: Global, store: &mut MemoryStore) {
+    'rows: for row in FILES.split('~') {
+        put_file(rt, alloc, store, row);
     }
-    Ok(())
 }
 
 /// The inputs that were read: the name, the path and the Rust version of each, and how many configurations
 /// it has.
-fn inputs_shown(alloc: Global, sources: &Sources) -> Result<String, Fail> {
+fn inputs_shown(rt: &impl Abort, alloc: Global, sources: &Sources) -> String {
     let mut all = String::new(alloc);
-    for (i, input) in sources.target.inputs.iter().enumerate() {
+    'inputs: for (i, input) in sources.target.inputs.iter().enumerate() {
         let configs = sources
             .configs
             .get(i)
             .map(|own: &Vec<Config>| own.len())
             .unwrap_or(99);
-        let rust = rust_shown(alloc, input.rust_version)?;
-        write!(all, "{} {} {rust} {configs}; ", input.name, input.path)?;
+        let rust = rust_shown(rt, alloc, input.rust_version);
+        kept(
+            rt,
+            write!(all, "{} {} {rust} {configs}; ", input.name, input.path),
+        );
     }
-    Ok(all)
+    all
 }
 
 /// What was read: the inputs, which index, and how many documents.
-fn shown(alloc: Global, sources: &Sources) -> Result<String, Fail> {
-    let inputs = inputs_shown(alloc, sources)?;
+fn shown(rt: &impl Abort, alloc: Global, sources: &Sources) -> String {
+    let inputs = inputs_shown(rt, alloc, sources);
     let index = match &sources.index {
         IndexSource::Files => "files",
         IndexSource::Lines(_) => "a file",
         IndexSource::Folder(path) => path.as_str(),
     };
     let documents = sources.target.documents.len();
-    Ok(format!(in alloc; "{inputs}{index}, {documents}")?)
+    kept(rt, format!(in alloc; "{inputs}{index}, {documents}"))
 }
 
 /// A word of some, from 0; none where it is `-`, and where there is none.
@@ -73,29 +80,34 @@ fn nth(words: &str, n: usize) -> Option<&str> {
 }
 
 /// The choice that a word makes: none the manifests' own, `!` no version.
-fn choice(alloc: Global, word: Option<&str>) -> Result<RustChoice, Fail> {
+fn choice(rt: &impl Abort, alloc: Global, word: Option<&str>) -> RustChoice {
     match word {
-        None => Ok(RustChoice::Own),
-        Some("!") => Ok(RustChoice::Ignored),
-        Some(word) => Ok(RustChoice::Given(RustVersion::from_str(alloc, word)?)),
+        None => RustChoice::Own,
+        Some("!") => RustChoice::Ignored,
+        Some(word) => RustChoice::Given(must(rt, RustVersion::from_str(alloc, word))),
     }
 }
 
-/// What is read in `/w/a/src`, with the home `/h`: the words name a manifest and metadata; and an index, the
-/// choice of a Rust version and a folder of registries.
-fn read(alloc: Global, target: &str, more: &str) -> Result<String, Fail> {
-    let mut store = MemoryStore::new(alloc);
-    put_files(alloc, &mut store)?;
-    let asked = Asked {
+/// What is asked for: the words name a manifest and metadata; and an index, the choice of a Rust version and
+/// a folder of registries.
+fn asked<'a>(rt: &impl Abort, alloc: Global, target: &'a str, more: &'a str) -> Asked<'a> {
+    Asked {
         manifest_path: nth(target, 0),
         metadata_json: nth(target, 1),
         index_file: nth(more, 0),
         index_dir: nth(more, 2),
-        rust: choice(alloc, nth(more, 1))?,
-    };
+        rust: choice(rt, alloc, nth(more, 1)),
+    }
+}
+
+/// What is read in `/w/a/src`, with the home `/h`, of what is asked for.
+fn read(rt: &impl Abort, alloc: Global, target: &str, more: &str) -> String {
+    let mut store = MemoryStore::new(alloc);
+    put_files(rt, alloc, &mut store);
+    let asked = asked(rt, alloc, target, more);
     match read_sources(alloc, &asked, "/w/a/src", Some("/h"), &mut store) {
-        Ok(sources) => shown(alloc, &sources),
-        Err(refusal) => told(alloc, refusal.error),
+        Ok(sources) => shown(rt, alloc, &sources),
+        Err(refusal) => told(rt, alloc, refusal.error),
     }
 }
 
@@ -116,6 +128,12 @@ of/w/c /w/c/Cargo.toml - 2; files, 0|- /w/all.json|- !\
 ~30 Invalid index line 1|- -|/w/bad_index - /r";
 
 #[test]
-fn reads_sources(rt: HostRuntime) -> Result<(), Fail> {
-    rows_hold(rt.alloc(), READ, TILDES, read)
+fn reads_sources(rt: HostRuntime) {
+    rows_hold(
+        &rt,
+        rt.alloc(),
+        READ,
+        TILDES,
+        |alloc, target, more| read(&rt, alloc, target, more),
+    );
 }

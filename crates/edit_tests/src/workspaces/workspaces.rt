@@ -1,9 +1,10 @@
 //! Rows of workspaces that metadata tell of. What is none is in `tools/checks/rows/metadata.py`.
-use crate::rows::{TILDES, rows_hold, text, told};
+use crate::rows::{TILDES, rows_hold};
+use crate::stop::{kept, must, text, told};
 use edit_metadata::{Package, Workspace, manifest_from_pkgid};
 use edit_version::RustVersion;
 use std::alloc::Global;
-use std::test::Fail;
+use std::process::Abort;
 
 /// Metadata of two members, with `'` for a quotation mark.
 const METADATA: &str = "{'workspace_root':'/w','workspace_members':['A','B'],'packages':[\
@@ -11,55 +12,73 @@ const METADATA: &str = "{'workspace_root':'/w','workspace_members':['A','B'],'pa
 'rust_version':'1.70'},\
 {'name':'b','id':'B','manifest_path':'/w/b/Cargo.toml','version':'1.2.3-rc.1+x'}],'target':'/t'}";
 
+/// A text with quotation marks in place of apostrophes.
+pub(crate) fn quoted(rt: &impl Abort, alloc: Global, text: &str) -> String {
+    kept(rt, text.replace(alloc, '\'', "\""))
+}
+
 /// The metadata with the first of one text replaced by another, and quotation marks in place of apostrophes.
-fn changed(alloc: Global, old: &str, new: &str) -> Result<String, Fail> {
+fn changed(rt: &impl Abort, alloc: Global, old: &str, new: &str) -> String {
     let (before, after) = METADATA.split_once(old).unwrap_or((METADATA, ""));
-    let text = format!(in alloc; "{before}{new}{after}")?;
-    let parts: Vec<&str> = text.as_str().split('\'').collect(alloc)?;
-    Ok(parts.join(alloc, "\"")?)
+    let text = kept(rt, format!(in alloc; "{before}{new}{after}"));
+    quoted(rt, alloc, text.as_str())
 }
 
 /// What a Rust version shows, `-` being none.
-pub(crate) fn rust_shown(alloc: Global, version: Option<RustVersion>) -> Result<String, Fail> {
+pub(crate) fn rust_shown(rt: &impl Abort, alloc: Global, version: Option<RustVersion>) -> String {
     match version {
         Some(version) => {
             let (major, minor, patch) = (version.major, version.minor, version.patch);
-            Ok(format!(in alloc; "{major}.{minor}.{patch}")?)
+            kept(rt, format!(in alloc; "{major}.{minor}.{patch}"))
         }
-        None => Ok(String::from_str(alloc, "-")?),
+        None => text(rt, alloc, "-"),
     }
+}
+
+/// The source and the Rust version of a package, and whether it is a member.
+fn rest_shown(rt: &impl Abort, alloc: Global, package: &Package) -> String {
+    let source = package.source.as_ref().map_or("-", |text| text.as_str());
+    let rust = rust_shown(rt, alloc, package.rust_version);
+    let member = if package.member { "member" } else { "-" };
+    kept(rt, format!(in alloc; "{source} {rust} {member}"))
 }
 
 /// What a package shows.
-fn shown(alloc: Global, package: &Package) -> Result<String, Fail> {
-    let source = match &package.source {
-        Some(source) => source.as_str(),
-        None => "-",
-    };
-    let rust = rust_shown(alloc, package.rust_version)?;
-    let member = if package.member { "member" } else { "-" };
-    let name = &package.name;
-    let id = &package.id;
-    let path = &package.manifest_path;
-    let version = &package.version;
-    Ok(format!(in alloc; "; {name} {id} {path} {version} {source} {rust} {member}")?)
+fn shown(rt: &impl Abort, alloc: Global, package: &Package) -> String {
+    let rest = rest_shown(rt, alloc, package);
+    let Package {
+        name,
+        id,
+        version,
+        manifest_path: path,
+        ..
+    } = package;
+    kept(
+        rt,
+        format!(in alloc; "; {name} {id} {path} {version} {rest}"),
+    )
 }
 
 /// What a workspace shows.
-fn told_of(alloc: Global, workspace: &Workspace) -> Result<String, Fail> {
-    let mut all = String::from_str(alloc, workspace.root.as_str())?;
-    for package in &workspace.packages {
-        let one = shown(alloc, package)?;
-        all.push_str(one.as_str())?;
+fn told_of(rt: &impl Abort, alloc: Global, workspace: &Workspace) -> String {
+    let mut all = text(rt, alloc, workspace.root.as_str());
+    'packages: for package in &workspace.packages {
+        let one = shown(rt, alloc, package);
+        kept(rt, all.push_str(one.as_str()));
     }
-    Ok(all)
+    all
+}
+
+/// The workspace of the metadata with one text replaced by another.
+fn workspace(rt: &impl Abort, alloc: Global, old: &str, new: &str) -> Workspace {
+    let json = changed(rt, alloc, old, new);
+    must(rt, Workspace::read(alloc, json.as_bytes()))
 }
 
 /// What is read of the metadata with one text replaced by another.
-fn read(alloc: Global, old: &str, new: &str) -> Result<String, Fail> {
-    let json = changed(alloc, old, new)?;
-    let workspace = Workspace::read(alloc, json.as_bytes())?;
-    told_of(alloc, &workspace)
+fn read(rt: &impl Abort, alloc: Global, old: &str, new: &str) -> String {
+    let workspace = workspace(rt, alloc, old, new);
+    told_of(rt, alloc, &workspace)
 }
 
 /// What is read; a text of the metadata; what stands in its place.
@@ -81,17 +100,22 @@ const READ: &str = "\
 'rust_version':'1.70'},{'name':'b','id':'B','manifest_path':'/w/a/";
 
 #[test]
-fn reads_workspaces(rt: HostRuntime) -> Result<(), Fail> {
-    rows_hold(rt.alloc(), READ, TILDES, read)
+fn reads_workspaces(rt: HostRuntime) {
+    rows_hold(
+        &rt,
+        rt.alloc(),
+        READ,
+        TILDES,
+        |alloc, old, new| read(&rt, alloc, old, new),
+    );
 }
 
 /// The path of the member of a name.
-fn named(alloc: Global, name: &str, members: &str) -> Result<String, Fail> {
-    let json = changed(alloc, "['A','B']", members)?;
-    let workspace = Workspace::read(alloc, json.as_bytes())?;
+fn named(rt: &impl Abort, alloc: Global, name: &str, members: &str) -> String {
+    let workspace = workspace(rt, alloc, "['A','B']", members);
     match manifest_from_pkgid(&workspace, name) {
-        Ok(package) => text(alloc, package.manifest_path.as_str()),
-        Err(error) => told(alloc, error),
+        Ok(package) => text(rt, alloc, package.manifest_path.as_str()),
+        Err(error) => told(rt, alloc, error),
     }
 }
 
@@ -104,6 +128,12 @@ workspace. Try adding `--workspace`.|a|['B']\
 workspace. Try adding `--workspace`.|c|['A','B']";
 
 #[test]
-fn finds_members_by_name(rt: HostRuntime) -> Result<(), Fail> {
-    rows_hold(rt.alloc(), NAMED, TILDES, named)
+fn finds_members_by_name(rt: HostRuntime) {
+    rows_hold(
+        &rt,
+        rt.alloc(),
+        NAMED,
+        TILDES,
+        |alloc, name, members| named(&rt, alloc, name, members),
+    );
 }

@@ -1,0 +1,170 @@
+//! Calls of an index and of what is kept of its answers, told as texts.
+use super::looks::entries;
+use crate::records::parts::chosen;
+use crate::rows::field;
+use crate::stop::{kept, said, same, text, told};
+use edit_cache::{IndexCache, Ranked};
+use edit_sources::{Index, IndexKrate};
+use semver::VersionReq;
+use std::alloc::Global;
+use std::process::Abort;
+use url::Url;
+
+/// The entries that are kept.
+fn answer(rt: &impl Abort, alloc: Global, krate: Option<&IndexKrate>) -> String {
+    match krate {
+        Some(krate) => entries(rt, alloc, krate),
+        None => text(rt, alloc, "none"),
+    }
+}
+
+/// The versions of a ranking, the first four.
+fn ranking(rt: &impl Abort, alloc: Global, ranked: Option<&Ranked>) -> String {
+    let Some(ranked) = ranked else {
+        return text(rt, alloc, "none");
+    };
+    let mut seen = String::new(alloc);
+    'versions: for n in 0..4usize {
+        if let Some(version) = ranked.version(n) {
+            kept(rt, write!(seen, "{version};"));
+        }
+    }
+    seen
+}
+
+/// The greatest version of a ranking that a requirement admits.
+fn compatible(rt: &impl Abort, alloc: Global, ranked: &Ranked, req: &str) -> String {
+    match VersionReq::parse(alloc, req) {
+        Ok(req) => chosen(rt, alloc, ranked.compatible(alloc, &req, None)),
+        Err(_) => text(rt, alloc, "no requirement"),
+    }
+}
+
+/// What a ranking leads to for a requirement, or to its latest version for none.
+fn choice(rt: &impl Abort, alloc: Global, ranked: Option<&Ranked>, req: &str) -> String {
+    let Some(ranked) = ranked else {
+        return text(rt, alloc, "no ranking");
+    };
+    if req.is_empty() {
+        chosen(rt, alloc, ranked.latest(alloc, false, None))
+    } else {
+        compatible(rt, alloc, ranked, req)
+    }
+}
+
+/// What the index is asked for, and what is kept of it.
+fn asked<I: Index>(
+    rt: &impl Abort,
+    alloc: Global,
+    cache: &mut IndexCache<I>,
+    registry: &Url,
+    name: &str,
+) -> String {
+    match cache.krate(alloc, registry, name) {
+        Ok(krate) => answer(rt, alloc, krate),
+        Err(error) => told(rt, alloc, error),
+    }
+}
+
+/// Whether the index has a name.
+fn has<I: Index>(
+    rt: &impl Abort,
+    alloc: Global,
+    cache: &mut IndexCache<I>,
+    registry: &Url,
+    name: &str,
+) -> String {
+    match cache.has_krate(alloc, registry, name) {
+        Ok(has) => kept(rt, format!(in alloc; "{has}")),
+        Err(error) => told(rt, alloc, error),
+    }
+}
+
+/// Whether the index has a version.
+fn has_version<I: Index>(
+    rt: &impl Abort,
+    alloc: Global,
+    cache: &mut IndexCache<I>,
+    registry: &Url,
+    name: &str,
+    version: &str,
+) -> String {
+    match cache.has_krate_version(alloc, registry, name, version) {
+        Ok(has) => kept(rt, format!(in alloc; "{has:?}")),
+        Err(error) => told(rt, alloc, error),
+    }
+}
+
+/// The ranking of what the index answers.
+fn ranked<I: Index>(
+    rt: &impl Abort,
+    alloc: Global,
+    cache: &mut IndexCache<I>,
+    registry: &Url,
+    name: &str,
+) -> String {
+    match cache.ranked(alloc, registry, name) {
+        Ok(ranked) => ranking(rt, alloc, ranked),
+        Err(error) => told(rt, alloc, error),
+    }
+}
+
+/// A call that gives nothing.
+fn done<I: Index>(
+    rt: &impl Abort,
+    alloc: Global,
+    cache: &mut IndexCache<I>,
+    registry: &Url,
+    row: &str,
+) -> String {
+    let name = field(row, 2);
+    let done = match field(row, 1) {
+        "fetch" => cache.fetch(alloc, registry, name),
+        "rank" => cache.rank(alloc, registry, name),
+        _ => cache.update_krate(registry, name),
+    };
+    said(rt, alloc, done, "done")
+}
+
+/// What a call gives. Its row has a name, the call, the name that is looked for, and a version or a
+/// requirement.
+fn call<I: Index>(
+    rt: &impl Abort,
+    alloc: Global,
+    cache: &mut IndexCache<I>,
+    registry: &Url,
+    row: &str,
+) -> String {
+    let name = field(row, 2);
+    match field(row, 1) {
+        "krate" => asked(rt, alloc, cache, registry, name),
+        "shown" => answer(rt, alloc, cache.shown(registry, name)),
+        "has" => has(rt, alloc, cache, registry, name),
+        "has version" => has_version(rt, alloc, cache, registry, name, field(row, 3)),
+        "ranked" => ranked(rt, alloc, cache, registry, name),
+        "shown ranking" => ranking(rt, alloc, cache.shown_ranking(registry, name)),
+        "choice" => choice(
+            rt,
+            alloc,
+            cache.shown_ranking(registry, name),
+            field(row, 3),
+        ),
+        _ => done(rt, alloc, cache, registry, row),
+    }
+}
+
+/// Makes the calls of a table in turn. Behind what its call needs, a row has what is wanted.
+pub(crate) fn calls<I: Index>(
+    rt: &impl Abort,
+    alloc: Global,
+    cache: &mut IndexCache<I>,
+    rows: &str,
+) {
+    let registry = Url::parse(alloc, "file:///idx")
+        .ok()
+        .expect(rt, "an address");
+    'rows: for row in rows.lines() {
+        let seen = call(rt, alloc, cache, &registry, row);
+        same(rt, row, seen.as_str(), field(row, 4));
+    }
+}
