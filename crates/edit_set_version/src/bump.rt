@@ -1,10 +1,9 @@
 //! How a version is raised by a level, and replaced by another.
 
-ghost use Rattle.std.specs.Prelude.{◌≡◌, IfErr, IfOk, IfSome, MatchResult, OnOk, option_copied};
+ghost use Rattle.std.specs.Prelude.{◌≡◌, IfErr, IfOk, IfSome, OnOk, option_copied};
 ghost use Rattle.std.specs.declared.cmp.Ordering.TheVariants.{Greater};
 ghost use Rattle.semver.specs.Identifiers.{build_text, parts_of, pre_text};
 ghost use Rattle.edit_base.specs.Errors.{IsMemory};
-ghost use Rattle.edit_base.specs.declared.errors.Error.TheVariants as error;
 ghost use Rattle.edit_version.specs.Changed.{IsChanged};
 ghost use Rattle.edit_version.specs.Increments.{To};
 ghost use Rattle.edit_version.specs.Laws.{IsReadable};
@@ -17,7 +16,7 @@ use crate::set_version::BumpLevel;
 use edit_base::errors::{CargoResult, Error};
 use edit_version::VersionExt;
 use semver::{BuildMetadata, Prerelease, Version};
-use std::alloc::Global;
+use std::alloc::{AllocError, Global};
 use std::cmp::Ordering;
 
 /// Empties the pre-release.
@@ -74,10 +73,10 @@ fn order(version: &Version, other: &Version) -> Ordering
 }
 
 /// The same version on memory of its own.
-fn copy(version: &Version) -> CargoResult<Version>
-    ensures { MatchResult result (λ v. parts_of v ≡ parts_of version.now) (λ e. e ≡ error.Memory) }
+fn copy(version: &Version) -> Result<Version, AllocError>
+    ensures { IfOk result (λ v. parts_of v ≡ parts_of version.now) }
 {
-    Ok(version.clone()?)
+    version.clone()
 }
 
 /// Sets the build metadata, where some is given.
@@ -130,9 +129,8 @@ pub(crate) fn raised(
 }
 
 /// The refusal of a lower version.
-fn downgrade(alloc: Global, current: &Version, requested: &Version) -> CargoResult<Error>
-    ensures told { IfOk result (λ e. IsUnbumped (lower (parts_of requested.now)) (parts_of current.now) e) }
-    ensures refused { IfErr result (λ e. e ≡ error.Memory) }
+fn downgrade(alloc: Global, current: &Version, requested: &Version) -> Result<Error, AllocError>
+    ensures { IfOk result (λ e. IsUnbumped (lower (parts_of requested.now)) (parts_of current.now) e) }
 {
     Ok(Error::Downgrade {
         current: format!(in alloc; "{current}")?,
@@ -141,11 +139,10 @@ fn downgrade(alloc: Global, current: &Version, requested: &Version) -> CargoResu
 }
 
 /// The build metadata of a version, on memory of its own.
-fn copy_build(version: &Version) -> CargoResult<BuildMetadata>
-    ensures { MatchResult result (λ b. build_text b ≡ build_text version.now.build)
-        (λ e. e ≡ error.Memory) }
+fn copy_build(version: &Version) -> Result<BuildMetadata, AllocError>
+    ensures { IfOk result (λ b. build_text b ≡ build_text version.now.build) }
 {
-    Ok(version.build.clone()?)
+    version.build.clone()
 }
 
 /// Gives a version the build metadata that is given, else that of the current one.

@@ -13,7 +13,7 @@ use crate::crates::Crate;
 use crate::names::{Names, name_set};
 use crate::plan::Selection;
 use edit_base::{CargoResult, Error};
-use std::alloc::Global;
+use std::alloc::{AllocError, Global};
 
 /// What is asked for.
 #[derive(Drop)]
@@ -35,9 +35,8 @@ pub(crate) enum Part {
 }
 
 /// What a selection asks for.
-fn wanted_by(alloc: Global, selection: &Selection) -> CargoResult<Wanted>
+fn wanted_by(alloc: Global, selection: &Selection) -> Result<Wanted, AllocError>
     ensures ok { IfOk result (IsWanted (asked_of selection.now)) }
-    ensures refused { IfErr result IsMemory }
 {
     let all = selection.workspace || selection.packages.is_empty();
     let names = if all {
@@ -70,10 +69,9 @@ fn is_in(part: Part, wanted: &Wanted, found: Crate<'_>) -> bool
 }
 
 /// Adds a crate, where it is to be kept.
-fn push_where<'a>(keep: bool, found: Crate<'a>, list: &mut Vec<Crate<'a>>) -> CargoResult<()>
+fn push_where<'a>(keep: bool, found: Crate<'a>, list: &mut Vec<Crate<'a>>) -> Result<(), AllocError>
     ensures ok { OnOk result (members_of list.new.items
         ≡ members_of list.old.items ++ (if keep then member_of found.entry ∷ [] else [])) }
-    ensures refused { IfErr result IsMemory }
 {
     if !keep {
         return Ok(());
@@ -88,10 +86,9 @@ fn crates_in<'a>(
     part: Part,
     wanted: &Wanted,
     crates: &[Crate<'a>],
-) -> CargoResult<Vec<Crate<'a>>>
+) -> Result<Vec<Crate<'a>>, AllocError>
     ensures ok { IfOk result (λ cs. members_of cs.items
         ≡ filter (is_in part wanted.now) (members_of crates.now)) }
-    ensures refused { IfErr result IsMemory }
 {
     let mut list = Vec::new(alloc);
     'crates: for found in crates {
@@ -102,15 +99,14 @@ fn crates_in<'a>(
 }
 
 /// The names of crates in a row.
-fn listed(alloc: Global, crates: &[Crate<'_>]) -> CargoResult<String>
+fn listed(alloc: Global, crates: &[Crate<'_>]) -> Result<String, AllocError>
     ensures ok { IfOk result (λ s. string_bytes s ≡ listed (members_of crates.now)) }
-    ensures refused { IfErr result IsMemory }
 {
     let mut names = Vec::new(alloc);
     'crates: for found in crates {
         names.push(found.told.name.as_str())?;
     }
-    Ok(names.as_slice().join(alloc, ", ")?)
+    names.as_slice().join(alloc, ", ")
 }
 
 /// Those of these crates that are excluded.
@@ -118,10 +114,9 @@ fn held_back<'a>(
     alloc: Global,
     selection: &Selection,
     crates: &[Crate<'a>],
-) -> CargoResult<Vec<Crate<'a>>>
+) -> Result<Vec<Crate<'a>>, AllocError>
     ensures ok { IfOk result (λ cs. members_of cs.items
         ≡ filter (λ m. is_among (asked_of selection.now).exclude m.name) (members_of crates.now)) }
-    ensures refused { IfErr result IsMemory }
 {
     let excluded = name_set(alloc, &selection.exclude)?;
     let mut list = Vec::new(alloc);
@@ -178,10 +173,9 @@ fn added<'a>(
     wanted: &Wanted,
     crates: &[Crate<'a>],
     inheriting: &[Crate<'a>],
-) -> CargoResult<Vec<Crate<'a>>>
+) -> Result<Vec<Crate<'a>>, AllocError>
     ensures ok { IfOk result (λ cs. members_of cs.items ≡ (if length inheriting.now == 0 then []
         else filter (is_in Others wanted.now) (members_of crates.now))) }
-    ensures refused { IfErr result IsMemory }
 {
     if is_none(inheriting) {
         return Ok(Vec::new(alloc));

@@ -1,17 +1,15 @@
 //! The crates of a workspace with their manifests, and their next versions.
-ghost use Rattle.std.specs.Prelude.{◌≡◌, ◌≤◌, ◌-◌, ◌++◌, ◌∷◌, [], if◌then◌else◌, IfErr, IfOk, OnOk, drop, length, map};
+ghost use Rattle.std.specs.Prelude.{◌≡◌, ◌≤◌, ◌-◌, ◌++◌, ◌∷◌, [], if◌then◌else◌, IfOk, OnOk, drop, length, map};
 ghost use Rattle.std.specs.List.{AllZip};
-ghost use Rattle.edit_base.specs.Errors.{IsMemory};
 ghost use Rattle.edit_metadata.specs.Metadata.{members};
 ghost use Rattle.edit_metadata.specs.Workspaces.{package_said, packages_said, workspace_said};
 ghost use Rattle.edit_set_version.specs.Crates.{IsReadOf, members_of};
 ghost use Rattle.edit_set_version.specs.Projects.{AreInputsOf, IsMemberOf};
 
-use edit_base::CargoResult;
 use edit_manifest::Manifest;
 use edit_metadata::{Input, Package, Workspace};
 use semver::Version;
-use std::alloc::Global;
+use std::alloc::{AllocError, Global};
 
 /// A crate of a workspace: what metadata tell of it, its input, and its manifest.
 #[derive(Clone, Copy)]
@@ -29,11 +27,10 @@ pub(crate) struct Bump<'a> {
 }
 
 /// Adds a package, where it is a member.
-fn push_member<'a>(found: &'a Package, members: &mut Vec<&'a Package>) -> CargoResult<()>
+fn push_member<'a>(found: &'a Package, members: &mut Vec<&'a Package>) -> Result<(), AllocError>
     ensures ok { OnOk result (map (λ p. package_said p.now) members.new.items
         ≡ map (λ p. package_said p.now) members.old.items
         ++ (if found.entry.now.member then package_said found.entry.now ∷ [] else [])) }
-    ensures refused { IfErr result IsMemory }
 {
     if !found.member {
         return Ok(());
@@ -46,10 +43,9 @@ fn push_member<'a>(found: &'a Package, members: &mut Vec<&'a Package>) -> CargoR
 pub(crate) fn members_in<'a>(
     alloc: Global,
     packages: &'a [Package],
-) -> CargoResult<Vec<&'a Package>>
+) -> Result<Vec<&'a Package>, AllocError>
     ensures ok { IfOk result (λ v. map (λ p. package_said p.now) v.items
         ≡ members (packages_said packages.entry.now)) }
-    ensures refused { IfErr result IsMemory }
 {
     let mut list = Vec::new(alloc);
     'packages: for found in packages {
@@ -64,13 +60,12 @@ pub(crate) fn crates_with<'a>(
     members: &[&'a Package],
     inputs: &'a [Input],
     manifests: &'a [Manifest],
-) -> CargoResult<Vec<Crate<'a>>>
+) -> Result<Vec<Crate<'a>>, AllocError>
     requires inputs { length inputs.now ≡ length members.now }
     requires manifests { length manifests.now ≡ length members.now }
     ensures told { IfOk result (λ cs. map (λ c. c.told.now) cs.items ≡ map (λ p. p.now) members.entry.now) }
     ensures inputs { IfOk result (λ cs. map (λ c. c.input.now) cs.items ≡ inputs.entry.now) }
     ensures manifests { IfOk result (λ cs. map (λ c. c.manifest.now) cs.items ≡ manifests.entry.now) }
-    ensures refused { IfErr result IsMemory }
 {
     let mut crates = Vec::with_capacity(alloc, members.len())?;
     'members: for i in 0..members.len() {
@@ -90,7 +85,7 @@ fn crates_last<'a>(
     members: &[&'a Package],
     inputs: &'a [Input],
     manifests: &'a [Manifest],
-) -> CargoResult<Vec<Crate<'a>>>
+) -> Result<Vec<Crate<'a>>, AllocError>
     requires inputs { length members.now ≤ length inputs.now }
     requires manifests { length manifests.now ≡ length inputs.now }
     ensures told { IfOk result (λ cs. map (λ c. c.told.now) cs.items ≡ map (λ p. p.now) members.entry.now) }
@@ -98,7 +93,6 @@ fn crates_last<'a>(
         ≡ drop (length inputs.entry.now - length members.entry.now) inputs.entry.now) }
     ensures manifests { IfOk result (λ cs. map (λ c. c.manifest.now) cs.items
         ≡ drop (length inputs.entry.now - length members.entry.now) manifests.entry.now) }
-    ensures refused { IfErr result IsMemory }
 {
     let skip = inputs.len() - members.len();
     crates_with(alloc, members, &inputs[skip..], &manifests[skip..])
@@ -110,12 +104,11 @@ pub(crate) fn crates_of<'a>(
     workspace: &'a Workspace,
     inputs: &'a [Input],
     manifests: &'a [Manifest],
-) -> CargoResult<Vec<Crate<'a>>>
+) -> Result<Vec<Crate<'a>>, AllocError>
     requires inputs { AreInputsOf (workspace_said workspace.now) inputs.now }
     requires manifests { AllZip IsReadOf inputs.now manifests.now }
     ensures ok { IfOk result (λ cs. AllZip (IsMemberOf inputs.entry.now)
         (members (workspace_said workspace.entry.now).packages) (members_of cs.items)) }
-    ensures refused { IfErr result IsMemory }
 {
     let members = members_in(alloc, &workspace.packages)?;
     let crates = crates_last(alloc, &members, inputs, manifests)?;

@@ -1,15 +1,13 @@
 //! What a plan tells, line by line.
-ghost use Rattle.std.specs.Prelude.{◌≡◌, [], IfErr, IfOk, codes};
+ghost use Rattle.std.specs.Prelude.{◌≡◌, [], IfOk, codes};
 ghost use Rattle.semver.specs.Identifiers.{parts_of};
-ghost use Rattle.edit_base.specs.Errors.{IsMemory};
 ghost use Rattle.edit_set_version.specs.Crates.{bump_seen};
 ghost use Rattle.edit_set_version.specs.PlanLines.{note_of, updating, upgrading};
 ghost use Rattle.edit_set_version.specs.ToldLines.{line_told, note_if};
 
 use crate::crates::Bump;
-use edit_base::CargoResult;
 use semver::Version;
-use std::alloc::Global;
+use std::alloc::{AllocError, Global};
 
 /// An action and a text.
 pub(crate) type Line = (String, String);
@@ -21,10 +19,9 @@ fn upgrading(
     old: &Version,
     new: &Version,
     note: &str,
-) -> CargoResult<Line>
+) -> Result<Line, AllocError>
     ensures ok { IfOk result (λ l. line_told l
         ≡ upgrading name.now (parts_of old.now) (parts_of new.now) note.now) }
-    ensures refused { IfErr result IsMemory }
 {
     let action = String::from_str(alloc, "Upgrading")?;
     let text = format!(in alloc; "{name} from {old} to {new}{note}")?;
@@ -32,9 +29,8 @@ fn upgrading(
 }
 
 /// The line of a requirement that becomes another.
-pub(crate) fn updating(alloc: Global, name: &str, old: &str, new: &str) -> CargoResult<Line>
+pub(crate) fn updating(alloc: Global, name: &str, old: &str, new: &str) -> Result<Line, AllocError>
     ensures ok { IfOk result (λ l. line_told l ≡ updating name.now old.now new.now) }
-    ensures refused { IfErr result IsMemory }
 {
     let action = String::from_str(alloc, "Updating")?;
     let text = format!(in alloc; "{name}'s dependency from {old} to {new}")?;
@@ -53,10 +49,9 @@ fn note_of(inherited: bool) -> &'static str
 }
 
 /// The line of a bump.
-pub(crate) fn bump_line(alloc: Global, bump: &Bump<'_>) -> CargoResult<Line>
+pub(crate) fn bump_line(alloc: Global, bump: &Bump<'_>) -> Result<Line, AllocError>
     ensures ok { IfOk result (λ l. line_told l ≡ upgrading (bump_seen bump.now).member.name
         (bump_seen bump.now).member.version (bump_seen bump.now).next (note_of (bump_seen bump.now).member)) }
-    ensures refused { IfErr result IsMemory }
 {
     let name = bump.member.told.name.as_str();
     let note = note_of(bump.member.manifest.version_is_inherited());
@@ -64,10 +59,13 @@ pub(crate) fn bump_line(alloc: Global, bump: &Bump<'_>) -> CargoResult<Line>
 }
 
 /// The line of the version of the workspace.
-pub(crate) fn workspace_line(alloc: Global, old: &Version, new: &Version) -> CargoResult<Line>
+pub(crate) fn workspace_line(
+    alloc: Global,
+    old: &Version,
+    new: &Version,
+) -> Result<Line, AllocError>
     ensures ok { IfOk result (λ l. line_told l
         ≡ upgrading (codes "workspace version") (parts_of old.now) (parts_of new.now) []) }
-    ensures refused { IfErr result IsMemory }
 {
     upgrading(alloc, "workspace version", old, new, "")
 }

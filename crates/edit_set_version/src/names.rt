@@ -2,7 +2,6 @@
 ghost use Rattle.std.specs.Prelude.{◌≡◌, ◌++◌, ◌||◌, ℕ, List, [], ◌∷◌, false, true, if◌then◌else◌, IfErr, IfOk, OnOk, map, string_bytes};
 ghost use Rattle.std.specs.BTreeSet.{contains_text};
 ghost use Rattle.std.specs.Str.{bytes_eq};
-ghost use Rattle.edit_base.specs.Errors.{IsMemory};
 ghost use Rattle.edit_metadata.specs.Metadata.{members};
 ghost use Rattle.edit_metadata.specs.Workspaces.{package_said, packages_said, workspace_said};
 ghost use Rattle.edit_set_version.specs.Chosen.{is_among, missing};
@@ -12,18 +11,17 @@ ghost use Rattle.edit_set_version.specs.Selections.{asked_of};
 use crate::plan::Selection;
 use edit_base::{CargoResult, Error, MissingKind, MissingNames};
 use edit_metadata::{Package, Workspace};
-use std::alloc::Global;
+use std::alloc::{AllocError, Global};
 use std::collections::BTreeSet;
 
 /// Names in byte order, each once.
 pub(crate) type Names = BTreeSet<String>;
 
 /// Adds a name, and says whether it is new.
-fn add_name(alloc: Global, names: &mut Names, name: &str) -> CargoResult<bool>
+fn add_name(alloc: Global, names: &mut Names, name: &str) -> Result<bool, AllocError>
     ensures new { IfOk result (λ b. b ≡ (if contains_text names.old name.now then false else true)) }
     ensures ok { OnOk result ((q : List ℕ) → contains_text names.new q
         ≡ (if bytes_eq name.now q then true else contains_text names.old q)) }
-    ensures refused { IfErr result IsMemory }
 {
     let name = String::from_str(alloc, name)?;
     let added = names.insert(name)?;
@@ -31,10 +29,9 @@ fn add_name(alloc: Global, names: &mut Names, name: &str) -> CargoResult<bool>
 }
 
 /// Adds the name of a package, where it is a member.
-fn add_member(alloc: Global, names: &mut Names, found: &Package) -> CargoResult<()>
+fn add_member(alloc: Global, names: &mut Names, found: &Package) -> Result<(), AllocError>
     ensures ok { OnOk result ((q : List ℕ) → contains_text names.new q
         ≡ (contains_text names.old q || is_among (names_of (package_said found.now ∷ [])) q)) }
-    ensures refused { IfErr result IsMemory }
 {
     if !found.member {
         return Ok(());
@@ -44,10 +41,9 @@ fn add_member(alloc: Global, names: &mut Names, found: &Package) -> CargoResult<
 }
 
 /// The names of the members among packages.
-fn member_names(alloc: Global, packages: &[Package]) -> CargoResult<Names>
+fn member_names(alloc: Global, packages: &[Package]) -> Result<Names, AllocError>
     ensures ok { IfOk result (λ s. (q : List ℕ)
         → contains_text s q ≡ is_among (names_of (packages_said packages.now)) q) }
-    ensures refused { IfErr result IsMemory }
 {
     let mut names = BTreeSet::new(alloc);
     'packages: for package in packages {
@@ -57,10 +53,9 @@ fn member_names(alloc: Global, packages: &[Package]) -> CargoResult<Names>
 }
 
 /// The names of a list, each once.
-pub(crate) fn name_set(alloc: Global, names: &[String]) -> CargoResult<Names>
+pub(crate) fn name_set(alloc: Global, names: &[String]) -> Result<Names, AllocError>
     ensures ok { IfOk result (λ s. (q : List ℕ)
         → contains_text s q ≡ is_among (map string_bytes names.now) q) }
-    ensures refused { IfErr result IsMemory }
 {
     let mut set = BTreeSet::new(alloc);
     'names: for name in names {
@@ -75,12 +70,11 @@ fn push_missing(
     known: &mut Names,
     missing: &mut Vec<String>,
     name: &str,
-) -> CargoResult<()>
+) -> Result<(), AllocError>
     ensures known { OnOk result ((q : List ℕ) → contains_text known.new q
         ≡ (if bytes_eq name.now q then true else contains_text known.old q)) }
     ensures missing { OnOk result (map string_bytes missing.new.items ≡ map string_bytes missing.old.items
         ++ (if contains_text known.old name.now then [] else name.now ∷ [])) }
-    ensures refused { IfErr result IsMemory }
 {
     let new = add_name(alloc, known, name)?;
     if !new {
@@ -92,11 +86,14 @@ fn push_missing(
 }
 
 /// The names that are asked for and not known, each once.
-fn missing_names(alloc: Global, known: &mut Names, names: &[String]) -> CargoResult<Vec<String>>
+fn missing_names(
+    alloc: Global,
+    known: &mut Names,
+    names: &[String],
+) -> Result<Vec<String>, AllocError>
     ensures ok { IfOk result (λ v. (there : List (List ℕ))
         → ((q : List ℕ) → contains_text known.old q ≡ is_among there q)
         → map string_bytes v.items ≡ absent there (map string_bytes names.now)) }
-    ensures refused { IfErr result IsMemory }
 {
     let mut missing = Vec::new(alloc);
     'names: for name in names {

@@ -13,7 +13,7 @@ ghost use Rattle.edit_set_version.specs.SetVersioned.{Bump, followings};
 use edit_base::CargoResult;
 use edit_document::{Document, Item, Place, Step, member_place};
 use edit_manifest::dependency_tables;
-use std::alloc::Global;
+use std::alloc::{AllocError, Global};
 
 /// An entry that has a text requirement and a path.
 #[derive(Drop)]
@@ -53,10 +53,9 @@ fn entry_with(
     place: Place,
     text: Option<&str>,
     path: Option<&str>,
-) -> CargoResult<Option<PathEntry>>
+) -> Result<Option<PathEntry>, AllocError>
     ensures ok { IfOk result (λ o. option_map pointed_view o ≡ pointed_with (place_seen place.items)
         (option_map (λ s. s.now) text.entry) (option_map (λ s. s.now) path.entry)) }
-    ensures refused { IfErr result IsMemory }
 {
     let Some(text) = text else {
         return Ok(None);
@@ -85,7 +84,7 @@ fn entry_named(
         return Ok(None);
     };
     let place = member_place(alloc, place, name)?;
-    entry_with(alloc, place, requirement(item), text_at(item, "path"))
+    Ok(entry_with(alloc, place, requirement(item), text_at(item, "path"))?)
 }
 
 /// Adds the entry of this name of the table at a place, where it has both texts.

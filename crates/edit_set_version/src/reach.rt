@@ -14,8 +14,7 @@ pub(crate) fn folder_of(alloc: Global, file: &str) -> CargoResult<String>
     ensures refused { IfErr result IsMemory }
 {
     let way = format!(in alloc; "{file}/..")?;
-    let text = normal(alloc, way.as_str())?;
-    Ok(text)
+    normal(alloc, way.as_str())
 }
 
 /// The folder that a path leads to which stands in the file at an absolute path, in normal form: the path
@@ -25,10 +24,8 @@ pub(crate) fn reached(alloc: Global, file: &str, path: &str) -> CargoResult<Stri
     ensures refused { IfErr result IsMemory }
 {
     if path.starts_with('/') {
-        let text = normal(alloc, path)?;
-        return Ok(text);
+        return normal(alloc, path);
     }
     let way = format!(in alloc; "{file}/../{path}")?;
-    let text = normal(alloc, way.as_str())?;
-    Ok(text)
+    normal(alloc, way.as_str())
 }

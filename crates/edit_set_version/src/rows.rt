@@ -16,13 +16,12 @@ use crate::project::ProjectRead;
 use crate::walk::lists_of;
 use edit_base::CargoResult;
 use semver::Version;
-use std::alloc::Global;
+use std::alloc::{AllocError, Global};
 
 /// Adds lines at the end.
-fn push_all(list: Vec<Line>, lines: &mut Vec<Line>) -> CargoResult<()>
+fn push_all(list: Vec<Line>, lines: &mut Vec<Line>) -> Result<(), AllocError>
     ensures ok { OnOk result (map line_told lines.new.items
         ≡ map line_told lines.old.items ++ map line_told list.items) }
-    ensures refused { IfErr result IsMemory }
 {
     'list: for line in list {
         lines.push(line)?;
@@ -31,10 +30,13 @@ fn push_all(list: Vec<Line>, lines: &mut Vec<Line>) -> CargoResult<()>
 }
 
 /// Lines in a row: the one that is given, and then those of the lists.
-fn in_a_row(alloc: Global, first: Option<Line>, lists: Vec<Vec<Line>>) -> CargoResult<Vec<Line>>
+fn in_a_row(
+    alloc: Global,
+    first: Option<Line>,
+    lists: Vec<Vec<Line>>,
+) -> Result<Vec<Line>, AllocError>
     ensures ok { IfOk result (λ v. map line_told v.items ≡ map line_told (option_to_list first)
         ++ flat_map (λ l. l) (lists_told lists.items)) }
-    ensures refused { IfErr result IsMemory }
 {
     let mut lines = Vec::new(alloc);
     if let Some(line) = first {
@@ -51,10 +53,9 @@ fn shared_line(
     alloc: Global,
     old: Option<&Version>,
     new: Option<&Version>,
-) -> CargoResult<Option<Line>>
+) -> Result<Option<Line>, AllocError>
     ensures ok { IfOk result (λ o. map line_told (option_to_list o) ≡ shared_lines
         (option_map (λ v. parts_of v.now) old.entry) (option_map (λ v. parts_of v.now) new.entry)) }
-    ensures refused { IfErr result IsMemory }
 {
     let Some(old) = old else {
         return Ok(None);

@@ -1,6 +1,5 @@
 //! The lines of each bump, filled while the manifests are walked.
-ghost use Rattle.std.specs.Prelude.{◌≡◌, ◌∷◌, [], All, IfErr, IfOk, OnOk, map};
-ghost use Rattle.edit_base.specs.Errors.{IsMemory};
+ghost use Rattle.std.specs.Prelude.{◌≡◌, ◌∷◌, [], All, IfOk, OnOk, map};
 ghost use Rattle.edit_set_version.specs.Crates.{bumps_seen};
 ghost use Rattle.edit_set_version.specs.Followers.{HasRisen, follower_seen};
 ghost use Rattle.edit_set_version.specs.ToldLines.{bump_told, line_told, lists_told, with_line, with_updates};
@@ -8,14 +7,12 @@ ghost use Rattle.edit_set_version.specs.ToldLines.{bump_told, line_told, lists_t
 use crate::crates::Bump;
 use crate::follow::Follower;
 use crate::lines::{Line, bump_line, updating};
-use edit_base::CargoResult;
-use std::alloc::Global;
+use std::alloc::{AllocError, Global};
 
 /// A list of lines for each bump, in the order of the bumps: each begins with the line of its bump.
-pub(crate) fn bump_lists(alloc: Global, bumps: &[Bump<'_>]) -> CargoResult<Vec<Vec<Line>>>
+pub(crate) fn bump_lists(alloc: Global, bumps: &[Bump<'_>]) -> Result<Vec<Vec<Line>>, AllocError>
     ensures ok { IfOk result (λ ls. lists_told ls.items
         ≡ map (λ b. bump_told b ∷ []) (bumps_seen bumps.now)) }
-    ensures refused { IfErr result IsMemory }
 {
     let mut lists = Vec::with_capacity(alloc, bumps.len())?;
     'bumps: for bump in bumps {
@@ -28,10 +25,9 @@ pub(crate) fn bump_lists(alloc: Global, bumps: &[Bump<'_>]) -> CargoResult<Vec<V
 }
 
 /// Adds a line to the list with a number.
-fn push_line(lists: &mut Vec<Vec<Line>>, number: usize, line: Line) -> CargoResult<()>
+fn push_line(lists: &mut Vec<Vec<Line>>, number: usize, line: Line) -> Result<(), AllocError>
     ensures ok { OnOk result (lists_told lists.new.items
         ≡ with_line number (line_told line) (lists_told lists.old.items)) }
-    ensures refused { IfErr result IsMemory }
 {
     if number >= lists.len() {
         return Ok(());
@@ -46,10 +42,9 @@ fn push_update(
     name: &str,
     follower: &Follower<'_>,
     lists: &mut Vec<Vec<Line>>,
-) -> CargoResult<()>
+) -> Result<(), AllocError>
     ensures ok { OnOk result (HasRisen follower.now → lists_told lists.new.items
         ≡ with_updates name.now (follower_seen follower.now ∷ []) 0 (lists_told lists.old.items)) }
-    ensures refused { IfErr result IsMemory }
 {
     match &follower.risen {
         Some(new) => {
@@ -67,10 +62,9 @@ pub(crate) fn push_updates(
     name: &str,
     followers: &[Follower<'_>],
     lists: &mut Vec<Vec<Line>>,
-) -> CargoResult<()>
+) -> Result<(), AllocError>
     ensures ok { OnOk result (All HasRisen followers.now → lists_told lists.new.items
         ≡ with_updates name.now (map follower_seen followers.now) 0 (lists_told lists.old.items)) }
-    ensures refused { IfErr result IsMemory }
 {
     'followers: for follower in followers {
         push_update(alloc, name, follower, lists)?;

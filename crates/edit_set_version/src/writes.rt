@@ -1,18 +1,20 @@
 //! What a plan writes into a manifest.
-ghost use Rattle.std.specs.Prelude.{◌≡◌, ◌++◌, ◌∷◌, [], All, IfErr, IfOk, OnOk, map, option_to_list};
+ghost use Rattle.std.specs.Prelude.{◌≡◌, ◌++◌, ◌∷◌, [], All, IfErr, IfOk, OnOk, codes, map, option_to_list};
 ghost use Rattle.std.specs.List.{filter_map};
 ghost use Rattle.semver.specs.Identifiers.{parts_of, parts_text};
 ghost use Rattle.edit_base.specs.Errors.{IsMemory};
+ghost use Rattle.edit_document.specs.Items.{place_seen};
 ghost use Rattle.edit_document.specs.Ranges.{edits_seen};
 ghost use Rattle.edit_manifest.specs.Versions.{package_version, shared_version};
+ghost use Rattle.edit_tree.specs.Assertions.{at, key};
 ghost use Rattle.edit_set_version.specs.Followers.{HasRisen, following_of};
 ghost use Rattle.edit_set_version.specs.SetVersioned.{requirement_edit};
 
 use crate::follow::Follower;
 use edit_base::CargoResult;
-use edit_document::{Place, member_place};
+use edit_document::{Place, Step, member_place};
 use semver::Version;
-use std::alloc::Global;
+use std::alloc::{AllocError, Global};
 
 /// A place, and the text that is written there.
 pub(crate) type Edit = (Place, String);
@@ -25,8 +27,8 @@ fn requirement_edit(alloc: Global, follower: &Follower<'_>) -> CargoResult<Optio
 {
     match &follower.risen {
         Some(text) => {
-            let place = member_place(alloc, &follower.place, "version")?;
             let text = String::from_str(alloc, text.as_str())?;
+            let place = member_place(alloc, &follower.place, "version")?;
             Ok(Some((place, text)))
         }
         None => Ok(None),
@@ -69,27 +71,41 @@ pub(crate) fn push_requirements(
     Ok(())
 }
 
-/// What a bumped crate that does not inherit its version writes.
-pub(crate) fn own_edit(alloc: Global, next: &Version) -> CargoResult<Edit>
-    ensures ok { IfOk result (λ e. edits_seen (e ∷ [])
-        ≡ (package_version, parts_text (parts_of next.now)) ∷ []) }
-    ensures refused { IfErr result IsMemory }
+/// The place of a member of what stands at a place that is given up.
+fn keyed(alloc: Global, place: Place, name: &str) -> Result<Place, AllocError>
+    ensures { IfOk result (λ p. place_seen p.items ≡ at (place_seen place.items) (key name.now)) }
 {
-    let table = member_place(alloc, &[], "package")?;
-    let place = member_place(alloc, &table, "version")?;
+    let mut place = place;
+    let name = String::from_str(alloc, name)?;
+    place.push(Step::Key(name))?;
+    Ok(place)
+}
+
+/// What a version writes into the table at a place.
+fn version_edit(alloc: Global, table: Place, next: &Version) -> Result<Edit, AllocError>
+    ensures { IfOk result (λ e. edits_seen (e ∷ [])
+        ≡ (at (place_seen table.items) (key (codes "version")), parts_text (parts_of next.now)) ∷ []) }
+{
+    let place = keyed(alloc, table, "version")?;
     let text = format!(in alloc; "{next}")?;
     Ok((place, text))
 }
 
-/// What the next version of the workspace writes.
-pub(crate) fn shared_edit(alloc: Global, next: &Version) -> CargoResult<Edit>
-    ensures ok { IfOk result (λ e. edits_seen (e ∷ [])
-        ≡ (shared_version, parts_text (parts_of next.now)) ∷ []) }
-    ensures refused { IfErr result IsMemory }
+/// What a bumped crate that does not inherit its version writes.
+pub(crate) fn own_edit(alloc: Global, next: &Version) -> Result<Edit, AllocError>
+    ensures { IfOk result (λ e. edits_seen (e ∷ [])
+        ≡ (package_version, parts_text (parts_of next.now)) ∷ []) }
 {
-    let workspace = member_place(alloc, &[], "workspace")?;
-    let table = member_place(alloc, &workspace, "package")?;
-    let place = member_place(alloc, &table, "version")?;
-    let text = format!(in alloc; "{next}")?;
-    Ok((place, text))
+    let table = keyed(alloc, Vec::new(alloc), "package")?;
+    version_edit(alloc, table, next)
+}
+
+/// What the next version of the workspace writes.
+pub(crate) fn shared_edit(alloc: Global, next: &Version) -> Result<Edit, AllocError>
+    ensures { IfOk result (λ e. edits_seen (e ∷ [])
+        ≡ (shared_version, parts_text (parts_of next.now)) ∷ []) }
+{
+    let workspace = keyed(alloc, Vec::new(alloc), "workspace")?;
+    let table = keyed(alloc, workspace, "package")?;
+    version_edit(alloc, table, next)
 }

@@ -23,20 +23,21 @@ pub crates_last-requires-clause-manifests : goal.crates_last-requires-clause-man
 crates_last-requires-clause-manifests c =
     AllZip-long IsReadOf c.args.inputs.now c.args.manifests.now c.requires.manifests
 
-pub returns-clause-ok : goal.returns-clause-ok
-returns-clause-ok c =
-    let w = workspace_said c.args.workspace.now in
-    let is = c.args.inputs.now in
-    let last = last_inputs w is c.requires.inputs in
-    let many = counted w is last in
-    let long : length c.deref-2.result.now ≡ length (members w.packages)
-    = ap length c.deref-2.ensures.value
-    ∙ sym (length-map c.in_ok-members.members.items (λ p. package_said p.now))
-    ∙ ap length c.in_ok-members.ensures.ok
-    ∙ ap (λ ps. length (members (packages_said ps))) c.deref.ensures.value in
-    members_last w is c.args.manifests.now c.in_ok-crates.crates.items
-    (length is - length c.deref-2.result.now) last c.requires.manifests (omega (arith, many, long))
-    (said_of c.in_ok-crates.crates.items c.deref-2.result.now c.in_ok-crates.ensures.told
-    ∙ ap (map (λ p. package_said p.now)) c.deref-2.ensures.value ∙ c.in_ok-members.ensures.ok
-    ∙ ap (λ ps. members (packages_said ps)) c.deref.ensures.value)
-    c.in_ok-crates.ensures.inputs c.in_ok-crates.ensures.manifests
+pub returns : goal.returns
+returns c = record {
+  ok = let w = workspace_said c.args.workspace.now in
+      let is = c.args.inputs.now in
+      let last = last_inputs w is c.requires.inputs in
+      let many = counted w is last in
+      let long : length c.deref-2.result.now ≡ length (members w.packages)
+      = ap length c.deref-2.ensures.value
+      ∙ sym (length-map c.in_ok-members.members.items (λ p. package_said p.now))
+      ∙ ap length c.in_ok-members.ensures.ok
+      ∙ ap (λ ps. length (members (packages_said ps))) c.deref.ensures.value in
+      members_last w is c.args.manifests.now c.in_ok-crates.crates.items
+      (length is - length c.deref-2.result.now) last c.requires.manifests (omega (arith, many, long))
+      (said_of c.in_ok-crates.crates.items c.deref-2.result.now c.in_ok-crates.ensures.told
+      ∙ ap (map (λ p. package_said p.now)) c.deref-2.ensures.value ∙ c.in_ok-members.ensures.ok
+      ∙ ap (λ ps. members (packages_said ps)) c.deref.ensures.value)
+      c.in_ok-crates.ensures.inputs c.in_ok-crates.ensures.manifests;
+}

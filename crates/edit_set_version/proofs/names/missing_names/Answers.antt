@@ -37,8 +37,10 @@ names-preserved c = λ there are.
           ∙ ap (absent there) (sym more),
     )
 
-pub returns-clause-ok : goal.returns-clause-ok
-returns-clause-ok c = λ there are.
-    let all : take c.names.name-index c.args.names.now ≡ c.args.names.now
-    = search (rules, take-length c.args.names.now) in
-    (c.names.invariant there are).1 ∙ ap (λ xs. absent there (map string_bytes xs)) all
+pub returns : goal.returns
+returns c = record {
+  ok = λ there are.
+      let all : take c.names.name-index c.args.names.now ≡ c.args.names.now
+      = search (rules, take-length c.args.names.now) in
+      (c.names.invariant there are).1 ∙ ap (λ xs. absent there (map string_bytes xs)) all;
+}

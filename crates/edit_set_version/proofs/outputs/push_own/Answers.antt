@@ -26,6 +26,6 @@ returns-clause-ok c =
     ∙ ap (λ o. option_to_list (option_map (λ b. bump_seen b.now) o)) c.in-Some.is in
     ap edits_seen c.in_ok-push.ensures.items
     ∙ map-append _ c.args.edits.now.items (c.in_ok-edit.edit ∷ [])
-    ∙ ap (λ (ys : Edits). was ++ ys) (c.in_ok-edit.ensures.ok
+    ∙ ap (λ (ys : Edits). was ++ ys) (c.in_ok-edit.ensures
     ∙ sym (own_edits c.args.path.now (bumps_seen c.args.writing.now.bumps.now)
     ∙ ap (map (λ (b : Bump). (package_version, parts_text b.next))) one))

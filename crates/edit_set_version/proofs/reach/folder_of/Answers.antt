@@ -1,5 +1,6 @@
 use Rattle.std.proofs.Common.{◌≡◌, ◌++◌, ◌∙◌, ap, rules, string_bytes}
 use Rattle.std.specs.Prelude.{codes}
+use Rattle.std.proofs.lemmas.Result.{IfOk-weaker}
 use Rattle.edit_set_version.specs.FolderTexts.{folder_text}
 use Rattle.edit_set_version.specs.Folders.{names_of}
 use Rattle.edit_set_version.proofs.ReachedFolders.{normal_text, way_up}
@@ -9,5 +10,6 @@ pub returns-clause-ok : goal.returns-clause-ok
 returns-clause-ok c =
     let file = c.args.file.now in
     let way : c.as_str.result.now ≡ file ++ codes "/.." = search rules in
-    normal_text c.as_str.result.now (string_bytes c.in_ok-text.text) c.in_ok-text.ensures.text
-    ∙ ap (λ w. folder_text (names_of w)) way ∙ ap folder_text (way_up file)
+    IfOk-weaker c.normal.result _ _ (λ s normal. normal_text c.as_str.result.now (string_bytes s) normal
+    ∙ ap (λ w. folder_text (names_of w)) way ∙ ap folder_text (way_up file))
+    c.normal.ensures.text

@@ -1,6 +1,7 @@
 use Rattle.std.proofs.Common.{◌≡◌, ◌++◌, ◌∙◌, ap, rules, string_bytes, cond, sym, true, false}
 use Rattle.std.specs.Prelude.{codes, nat_eq}
 use Rattle.std.specs.List.{starts_with}
+use Rattle.std.proofs.lemmas.Result.{IfOk-weaker}
 use Rattle.edit_base.specs.Paths.{parts_of}
 use Rattle.edit_set_version.specs.FolderTexts.{folder_text}
 use Rattle.edit_set_version.specs.Folders.{along, folder_of, names_of, reached}
@@ -15,8 +16,9 @@ returns-clause-ok c =
     let relative : starts_with nat_eq path (codes "/") ≡ false = search rules in
     let there : reached file path ≡ along (folder_of file) (parts_of path) =
     ap (λ b. cond b (names_of path) (along (folder_of file) (parts_of path))) relative in
-    normal_text c.as_str.result.now (string_bytes c.in_ok-text-2.text) c.in_ok-text-2.ensures.text
-    ∙ ap (λ w. folder_text (names_of w)) way ∙ ap folder_text (way_on file path ∙ sym there)
+    IfOk-weaker c.normal-2.result _ _ (λ s normal. normal_text c.as_str.result.now (string_bytes s) normal
+    ∙ ap (λ w. folder_text (names_of w)) way ∙ ap folder_text (way_on file path ∙ sym there))
+    c.normal-2.ensures.text
 
 pub returns-then-starts_with-clause-ok : goal.returns-then-starts_with-clause-ok
 returns-then-starts_with-clause-ok c =
@@ -25,5 +27,6 @@ returns-then-starts_with-clause-ok c =
     let absolute : starts_with nat_eq path (codes "/") ≡ true = search rules in
     let there : reached file path ≡ names_of path =
     ap (λ b. cond b (names_of path) (along (folder_of file) (parts_of path))) absolute in
-    normal_text path (string_bytes c.in_ok-text.text) c.in_ok-text.ensures.text
-    ∙ ap folder_text (sym there)
+    IfOk-weaker c.normal.result _ _ (λ s normal. normal_text path (string_bytes s) normal
+    ∙ ap folder_text (sym there))
+    c.normal.ensures.text

@@ -3,13 +3,15 @@ use Rattle.edit_set_version.specs.ToldLines.{line_told}
 use Rattle.edit_set_version.proofs.LineLists.{line_past, line_put}
 use Rattle.edit_set_version.proofs.told.push_line.Goals as goal
 
-pub returns-then-number-len-clause-ok : goal.returns-then-number-len-clause-ok
-returns-then-number-len-clause-ok c =
-    line_past c.args.lists.now.items c.args.number (line_told c.args.line)
-    (omega (arith, c.if-number-len.true, c.len.ensures))
+pub returns-then-number-len : goal.returns-then-number-len
+returns-then-number-len c = record {
+  ok = line_past c.args.lists.now.items c.args.number (line_told c.args.line)
+      (omega (arith, c.if-number-len.true, c.len.ensures));
+}
 
-pub returns-clause-ok : goal.returns-clause-ok
-returns-clause-ok c =
-    line_put c.args.lists.now.items c.args.number c.index_mut.result.now c.push.new.self c.args.line
-    (omega (arith, c.if-number-len.false, c.len.ensures)) c.index_mut.ensures.value
-    c.in_ok-push.ensures.items
+pub returns : goal.returns
+returns c = record {
+  ok = line_put c.args.lists.now.items c.args.number c.index_mut.result.now c.push.new.self c.args.line
+      (omega (arith, c.if-number-len.false, c.len.ensures)) c.index_mut.ensures.value
+      c.in_ok-push.ensures.items;
+}

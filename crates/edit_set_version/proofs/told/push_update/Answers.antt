@@ -5,26 +5,30 @@ use Rattle.edit_set_version.specs.ToldLines.{lists_told, update_told, with_line}
 use Rattle.edit_set_version.proofs.LineLists.{rise_told, stays_untold}
 use Rattle.edit_set_version.proofs.told.push_update.Goals as goal
 
-pub returns-in_ok-push_line-in-Some-clause-ok : goal.returns-in_ok-push_line-in-Some-clause-ok
-returns-in_ok-push_line-in-Some-clause-ok c = λ has.
-    let name = c.args.name.now in
-    let f = c.args.follower.now in
-    let n = f.bump.number in
-    let was = lists_told c.args.lists.now.items in
-    let line = updating name (string_bytes f.text) (string_bytes c.in-Some.new) in
-    let is : update_told name (following_of f) ≡ Some line
-    = ap (option_map (updating name (string_bytes f.text)))
-    (sym has.new ∙ ap (option_map string_bytes) c.in-Some.is) in
-    c.in_ok-push_line-in-Some.ensures.ok
-    ∙ ap (λ t. with_line n t was) (c.in_ok-line-in-Some.ensures.ok
-    ∙ ap₂ (updating name) c.as_str.ensures.value c.as_str-in-Some.ensures.value)
-    ∙ sym (rise_told name n n 0 (following_of f) line was (omega arith) is)
+pub returns-in_ok-push_line-in-Some : goal.returns-in_ok-push_line-in-Some
+returns-in_ok-push_line-in-Some c = record {
+  ok = λ has.
+      let name = c.args.name.now in
+      let f = c.args.follower.now in
+      let n = f.bump.number in
+      let was = lists_told c.args.lists.now.items in
+      let line = updating name (string_bytes f.text) (string_bytes c.in-Some.new) in
+      let is : update_told name (following_of f) ≡ Some line
+      = ap (option_map (updating name (string_bytes f.text)))
+      (sym has.new ∙ ap (option_map string_bytes) c.in-Some.is) in
+      c.in_ok-push_line-in-Some.ensures.ok
+      ∙ ap (λ t. with_line n t was) (c.in_ok-line-in-Some.ensures.ok
+      ∙ ap₂ (updating name) c.as_str.ensures.value c.as_str-in-Some.ensures.value)
+      ∙ sym (rise_told name n n 0 (following_of f) line was (omega arith) is);
+}
 
-pub returns-in-None-clause-ok : goal.returns-in-None-clause-ok
-returns-in-None-clause-ok c = λ has.
-    let name = c.args.name.now in
-    let f = c.args.follower.now in
-    let none : update_told name (following_of f) ≡ None
-    = ap (option_map (updating name (string_bytes f.text)))
-    (sym has.new ∙ ap (option_map string_bytes) c.in-None.is) in
-    sym (stays_untold name f.bump.number (following_of f) 0 (lists_told c.args.lists.now.items) none)
+pub returns-in-None : goal.returns-in-None
+returns-in-None c = record {
+  ok = λ has.
+      let name = c.args.name.now in
+      let f = c.args.follower.now in
+      let none : update_told name (following_of f) ≡ None
+      = ap (option_map (updating name (string_bytes f.text)))
+      (sym has.new ∙ ap (option_map string_bytes) c.in-None.is) in
+      sym (stays_untold name f.bump.number (following_of f) 0 (lists_told c.args.lists.now.items) none);
+}

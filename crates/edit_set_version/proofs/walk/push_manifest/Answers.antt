@@ -27,5 +27,5 @@ returns-in_err-push_updates-clause-refused c =
         tree = tree_of c.args.manifest.now.document;
       };
       among = (zero, omega arith, refl);
-      unfollowed = memory c.in_err-push_updates.ensures.refused;
+      unfollowed = memory refl;
     })
