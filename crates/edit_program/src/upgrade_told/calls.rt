@@ -16,7 +16,7 @@ use edit_metadata::Workspace;
 use edit_report::shell_status;
 use edit_upgrade::update::update_calls;
 use edit_upgrade::{Options, UpgradePlan};
-use std::alloc::Global;
+use std::alloc::{AllocError, Global};
 use std::io;
 
 /// The calls that follow a plan: none where no workspace is known.
@@ -38,12 +38,11 @@ pub(crate) fn calls_of(
 }
 
 /// Words, one behind another.
-fn joined_words(alloc: Global, words: &[String]) -> CargoResult<String>
-    ensures text { IfOk result (λ s. string_bytes s
+fn joined_words(alloc: Global, words: &[String]) -> Result<String, AllocError>
+    ensures { IfOk result (λ s. string_bytes s
         ≡ join_by (λ word. word) (codes " ") (words_seen words.now)) }
-    ensures refused { IfErr result IsMemory }
 {
-    Ok(words.join(alloc, " ")?)
+    words.join(alloc, " ")
 }
 
 /// Prints a call.

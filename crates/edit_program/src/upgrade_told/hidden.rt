@@ -1,5 +1,5 @@
 //! How to see the rows that a report does not show.
-ghost use Rattle.std.specs.Prelude.{◌≡◌, ◌++◌, [], IfErr, IfOk, OnOk, fold, map, string_bytes};
+ghost use Rattle.std.specs.Prelude.{◌≡◌, ◌++◌, [], IfErr, IfOk, OnOk, codes, fold, map, string_bytes};
 ghost use Rattle.edit_base.specs.Errors.{IsMemory};
 ghost use Rattle.edit_program.specs.Said.{add_name, hidden, hidden_text, names_of, names_text, or_latest, reason_line, reason_said, rerun, with_name};
 
@@ -82,6 +82,18 @@ fn names_text(alloc: Global, names: &[String]) -> Result<String, AllocError>
     format!(in alloc; "{number} packages")
 }
 
+/// Adds the line of a reason with the names of its rows.
+fn push_line(text: &mut String, reason: &str, names: &str) -> Result<(), AllocError>
+    ensures { OnOk result (string_bytes text.new
+        ≡ string_bytes text.old ++ (codes "\n  " ++ (reason.now ++ (codes ": " ++ names.now)))) }
+{
+    text.push_str("\n  ")?;
+    text.push_str(reason)?;
+    text.push_str(": ")?;
+    text.push_str(names)?;
+    Ok(())
+}
+
 /// Adds the line of a reason, where there are rows of it.
 fn add_line(alloc: Global, text: &mut String, rows: &[&Row], reason: &str) -> CargoResult<()>
     ensures ok { OnOk result (string_bytes text.new
@@ -93,10 +105,7 @@ fn add_line(alloc: Global, text: &mut String, rows: &[&Row], reason: &str) -> Ca
         return Ok(());
     }
     let names = names_text(alloc, names.as_slice())?;
-    text.push_str("\n  ")?;
-    text.push_str(reason)?;
-    text.push_str(": ")?;
-    text.push_str(names.as_str())?;
+    push_line(text, reason, names.as_str())?;
     Ok(())
 }
 
