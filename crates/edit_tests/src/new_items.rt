@@ -21,13 +21,11 @@ false|false~\
 { a-B_1 = \"\", \"é\" = \"\\u0000\", \"\\\"\" = \"'\" }|{a-B_1=;é=\0;\"='";
 
 /// How a new entry is written.
-fn written(rt: &impl Abort, alloc: Global, words: &str) -> String {
+fn written(rt: &impl Abort, alloc: Global, words: &str, _row: &str) -> String {
     made(rt, alloc, entry_of(rt, alloc, words).text(alloc))
 }
 
 #[test]
 fn writes_entries(rt: HostRuntime) {
-    rows_hold(&rt, rt.alloc(), WRITTEN, TILDES, |alloc, words, _row| {
-        written(&rt, alloc, words)
-    });
+    rows_hold(&rt, rt.alloc(), WRITTEN, TILDES, written);
 }

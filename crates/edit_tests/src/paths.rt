@@ -44,7 +44,5 @@ fn path(rt: &impl Abort, alloc: Global, call: &str, argument: &str) -> String {
 
 #[test]
 fn paths_are_made(rt: HostRuntime) {
-    rows_hold(&rt, rt.alloc(), PATHS, LINES, |alloc, call, argument| {
-        path(&rt, alloc, call, argument)
-    });
+    rows_hold(&rt, rt.alloc(), PATHS, LINES, path);
 }

@@ -39,14 +39,10 @@ x = \"\\u0000\\u0007\\u000B\\u001B\\u001F\\u007F\" # c|entry x \0\u{7}\u{b}\u{1b
 
 #[test]
 fn pieces(rt: HostRuntime) {
-    rows_hold(&rt, rt.alloc(), ROWS, TILDES, |alloc, calls, before| {
-        pieced(&rt, alloc, calls, before)
-    });
+    rows_hold(&rt, rt.alloc(), ROWS, TILDES, pieced);
 }
 
 #[test]
 fn pieces_behind_edits(rt: HostRuntime) {
-    rows_hold(&rt, rt.alloc(), EDITS, TILDES, |alloc, calls, before| {
-        edited(&rt, alloc, calls, before)
-    });
+    rows_hold(&rt, rt.alloc(), EDITS, TILDES, edited);
 }

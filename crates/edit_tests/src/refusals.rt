@@ -81,7 +81,5 @@ fn text(rt: &impl Abort, alloc: Global, number: &str, parts: &str) -> String {
 
 #[test]
 fn refusals(rt: HostRuntime) {
-    rows_hold(&rt, rt.alloc(), REFUSALS, TILDES, |alloc, number, parts| {
-        text(&rt, alloc, number, parts)
-    });
+    rows_hold(&rt, rt.alloc(), REFUSALS, TILDES, text);
 }

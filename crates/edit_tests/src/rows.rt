@@ -34,7 +34,7 @@ pub(crate) fn field(row: &str, n: usize) -> &str {
 
 /// Ends a test where a row of a table does not give what it wants: a row is what is wanted, the call, and the
 /// argument, which is the rest of the row.
-pub(crate) fn rows_hold<R: Abort, F: Fn(Global, &str, &str) -> String + Drop>(
+pub(crate) fn rows_hold<R: Abort, F: Fn(&R, Global, &str, &str) -> String + Drop>(
     rt: &R,
     alloc: Global,
     table: &str,
@@ -46,7 +46,7 @@ pub(crate) fn rows_hold<R: Abort, F: Fn(Global, &str, &str) -> String + Drop>(
     'rows: for row in table.split(ends.row) {
         let (want, rest) = cut(row, ends.field);
         let (call, argument) = cut(rest, ends.field);
-        let seen = answer(alloc, call, argument);
+        let seen = answer(rt, alloc, call, argument);
         same(rt, row, seen.as_str(), want);
     }
 }

@@ -51,9 +51,7 @@ dev-dependencies cfg(unix)|development|cfg(unix)";
 
 #[test]
 fn makes_tables_of_kinds(rt: HostRuntime) {
-    rows_hold(&rt, rt.alloc(), KINDS, LINES, |alloc, kind, target| {
-        answer(&rt, alloc, kind, target)
-    });
+    rows_hold(&rt, rt.alloc(), KINDS, LINES, answer);
     assert!(rt; DepTable::default() == DepTable::new());
     assert!(rt; DepTable::from(DepKind::Build) == DepTable::new().set_kind(DepKind::Build));
     assert!(rt; DepKind::Normal < DepKind::Development);

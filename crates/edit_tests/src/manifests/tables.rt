@@ -65,9 +65,7 @@ none|shared|[[workspace]]\n[workspace.dependencies]\n";
 
 #[test]
 fn tells_the_dependency_tables(rt: HostRuntime) {
-    rows_hold(&rt, rt.alloc(), TABLES, TILDES, |alloc, call, source| {
-        answer(&rt, alloc, call, source)
-    });
+    rows_hold(&rt, rt.alloc(), TABLES, TILDES, answer);
 }
 
 #[test]

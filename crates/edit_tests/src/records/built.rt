@@ -57,64 +57,55 @@ less, two hashes|bare|available features=a";
 
 /// Which of the four a source is.
 fn kind(source: &Source) -> &'static str {
-    let registry = source.as_registry().map_or("", |_| "registry");
-    let path = source.as_path().map_or(registry, |_| "path");
-    let git = source.as_git().map_or(path, |_| "git");
-    source.as_workspace().map_or(git, |_| "workspace")
+    if source.as_workspace().is_some() {
+        "workspace"
+    } else if source.as_git().is_some() {
+        "git"
+    } else if source.as_path().is_some() {
+        "path"
+    } else if source.as_registry().is_some() {
+        "registry"
+    } else {
+        ""
+    }
+}
+
+/// What a record says, and which of the four its source is.
+fn record_shown(rt: &impl Abort, alloc: Global, record: &Dependency) -> String {
+    let told = record_told(rt, alloc, record);
+    let kind = record.source().map_or("none", kind);
+    kept(rt, format!(in alloc; "{told}, {kind}"))
 }
 
 /// What the copy of a record says.
 fn copy_told(rt: &impl Abort, alloc: Global, record: &Dependency, copy: &Dependency) -> String {
-    if copy != record {
-        return text(rt, alloc, "another copy");
+    if copy == record {
+        record_shown(rt, alloc, copy)
+    } else {
+        text(rt, alloc, "another copy")
     }
-    let told = record_told(rt, alloc, copy);
-    let kind = copy.source().map_or("none", kind);
-    kept(rt, format!(in alloc; "{told}, {kind}"))
-}
-
-/// What a copy of a record says.
-fn copied(rt: &impl Abort, alloc: Global, record: &Dependency) -> String {
-    let copy = must(rt, record.try_clone(alloc));
-    copy_told(rt, alloc, record, &copy)
 }
 
 /// What a copy of the record of a row says.
 fn built(rt: &impl Abort, alloc: Global, name: &str, parts: &str) -> String {
     let record = record_of(rt, alloc, name, parts);
-    copied(rt, alloc, &record)
+    let copy = must(rt, record.try_clone(alloc));
+    copy_told(rt, alloc, &record, &copy)
 }
 
 #[test]
 fn built_records(rt: HostRuntime) {
-    rows_hold(
-        &rt,
-        rt.alloc(),
-        BUILT,
-        LINES,
-        |alloc, name, parts| built(&rt, alloc, name, parts),
-    );
-}
-
-/// How a record compares to that of other parts.
-fn compared_to(rt: &impl Abort, alloc: Global, one: &Dependency, parts: &str) -> String {
-    let other = record_of(rt, alloc, "x", parts);
-    compared(rt, alloc, one, &other)
+    rows_hold(&rt, rt.alloc(), BUILT, LINES, built);
 }
 
 /// How the records of these parts compare.
 fn compared_parts(rt: &impl Abort, alloc: Global, one: &str, other: &str) -> String {
     let one = record_of(rt, alloc, "x", one);
-    compared_to(rt, alloc, &one, other)
+    let other = record_of(rt, alloc, "x", other);
+    compared(rt, alloc, &one, &other)
 }
 
 #[test]
 fn compared_records(rt: HostRuntime) {
-    rows_hold(
-        &rt,
-        rt.alloc(),
-        COMPARED,
-        LINES,
-        |alloc, one, other| compared_parts(&rt, alloc, one, other),
-    );
+    rows_hold(&rt, rt.alloc(), COMPARED, LINES, compared_parts);
 }

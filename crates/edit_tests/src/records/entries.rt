@@ -73,7 +73,7 @@ fn copied(rt: &impl Abort, alloc: Global) -> IndexVersion {
 }
 
 /// What a call gives of the copy of an entry.
-fn found(rt: &impl Abort, alloc: Global, call: &str) -> String {
+fn found(rt: &impl Abort, alloc: Global, call: &str, _row: &str) -> String {
     let copy = copied(rt, alloc);
     match call {
         "depends" => depends(rt, alloc, &copy),
@@ -84,13 +84,7 @@ fn found(rt: &impl Abort, alloc: Global, call: &str) -> String {
 
 #[test]
 fn entries_are_found(rt: HostRuntime) {
-    rows_hold(
-        &rt,
-        rt.alloc(),
-        FOUND,
-        LINES,
-        |alloc, call, _row| found(&rt, alloc, call),
-    );
+    rows_hold(&rt, rt.alloc(), FOUND, LINES, found);
 }
 
 /// The Rust version of a version; the least and the greatest; how two compare, and whether they have one
@@ -143,11 +137,5 @@ fn rust(rt: &impl Abort, alloc: Global, call: &str, text: &str) -> String {
 
 #[test]
 fn rust_versions(rt: HostRuntime) {
-    rows_hold(
-        &rt,
-        rt.alloc(),
-        RUST_VERSIONS,
-        LINES,
-        |alloc, call, text| rust(&rt, alloc, call, text),
-    );
+    rows_hold(&rt, rt.alloc(), RUST_VERSIONS, LINES, rust);
 }

@@ -71,19 +71,26 @@ fn features(rt: &impl Abort, alloc: Global, texts: Option<&Vec<String>>) -> Stri
     }
 }
 
-/// What a record says.
-pub(crate) fn record_told(rt: &impl Abort, alloc: Global, record: &Dependency) -> String {
-    let key = record.toml_key();
-    let version = record.version().unwrap_or("-");
-    let registry = record.registry().unwrap_or("-");
+/// The features of a record, its default features, and whether it is optional.
+fn rest_told(rt: &impl Abort, alloc: Global, record: &Dependency) -> String {
     let features = features(rt, alloc, record.features.as_ref());
     let default_features = truth(record.default_features());
     let optional = truth(record.optional());
     kept(
         rt,
-        format!(in alloc;
-            "{record} {key} {version} {registry} {features} {default_features} {optional}"
-        ),
+        format!(in alloc; "{features} {default_features} {optional}"),
+    )
+}
+
+/// What a record says.
+pub(crate) fn record_told(rt: &impl Abort, alloc: Global, record: &Dependency) -> String {
+    let rest = rest_told(rt, alloc, record);
+    let key = record.toml_key();
+    let version = record.version().unwrap_or("-");
+    let registry = record.registry().unwrap_or("-");
+    kept(
+        rt,
+        format!(in alloc; "{record} {key} {version} {registry} {rest}"),
     )
 }
 
@@ -97,11 +104,5 @@ fn entry(rt: &impl Abort, alloc: Global, key: &str, entries: &str) -> String {
 
 #[test]
 fn entries(rt: HostRuntime) {
-    rows_hold(
-        &rt,
-        rt.alloc(),
-        ENTRIES,
-        LINES,
-        |alloc, key, entries| entry(&rt, alloc, key, entries),
-    );
+    rows_hold(&rt, rt.alloc(), ENTRIES, LINES, entry);
 }

@@ -54,23 +54,33 @@ fn hashed<T: Hash>(value: &T) -> u64 {
     BuildHasherDefault::<FoldHasher>::default().hash_one(value)
 }
 
-/// How one value compares to another, where equality and order agree, and whether they have one hash.
+/// How one value compares to another, where equality and order agree.
+fn order<T: Ord>(one: &T, other: &T) -> &'static str {
+    match one.cmp(other) {
+        Ordering::Less if one != other => "less",
+        Ordering::Equal if one == other => "equal",
+        Ordering::Greater if one != other => "greater",
+        _ => "neither",
+    }
+}
+
+/// Whether two values have one hash.
+fn hashes<T: Hash>(one: &T, other: &T) -> &'static str {
+    if hashed(one) == hashed(other) {
+        "one hash"
+    } else {
+        "two hashes"
+    }
+}
+
+/// How one value compares to another, and whether they have one hash.
 pub(crate) fn compared<T: Ord + Hash>(
     rt: &impl Abort,
     alloc: Global,
     one: &T,
     other: &T,
 ) -> String {
-    let order = match one.cmp(other) {
-        Ordering::Less if one != other => "less",
-        Ordering::Equal if one == other => "equal",
-        Ordering::Greater if one != other => "greater",
-        _ => "neither",
-    };
-    let hashes = if hashed(one) == hashed(other) {
-        "one hash"
-    } else {
-        "two hashes"
-    };
+    let order = order(one, other);
+    let hashes = hashes(one, other);
     kept(rt, format!(in alloc; "{order}, {hashes}"))
 }

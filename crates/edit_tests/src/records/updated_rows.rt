@@ -168,11 +168,5 @@ fn updated(rt: &impl Abort, alloc: Global, lines: &str, parts: &str) -> String {
 
 #[test]
 fn entries_are_updated(rt: HostRuntime) {
-    rows_hold(
-        &rt,
-        rt.alloc(),
-        UPDATED,
-        LINES,
-        |alloc, lines, parts| updated(&rt, alloc, lines, parts),
-    );
+    rows_hold(&rt, rt.alloc(), UPDATED, LINES, updated);
 }

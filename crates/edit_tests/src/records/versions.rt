@@ -52,11 +52,5 @@ fn given(rt: &impl Abort, alloc: Global, call: &str, argument: &str) -> String {
 
 #[test]
 fn calls_of_versions(rt: HostRuntime) {
-    rows_hold(
-        &rt,
-        rt.alloc(),
-        CALLS,
-        LINES,
-        |alloc, call, argument| given(&rt, alloc, call, argument),
-    );
+    rows_hold(&rt, rt.alloc(), CALLS, LINES, given);
 }

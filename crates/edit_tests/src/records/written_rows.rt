@@ -229,11 +229,5 @@ fn written(rt: &impl Abort, alloc: Global, root: &str, parts: &str) -> String {
 
 #[test]
 fn entries_are_written(rt: HostRuntime) {
-    rows_hold(
-        &rt,
-        rt.alloc(),
-        WRITTEN,
-        LINES,
-        |alloc, root, parts| written(&rt, alloc, root, parts),
-    );
+    rows_hold(&rt, rt.alloc(), WRITTEN, LINES, written);
 }

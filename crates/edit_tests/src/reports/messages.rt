@@ -39,9 +39,7 @@ a fragment|stdout||a fragment";
 
 #[test]
 fn writes_messages(rt: HostRuntime) {
-    rows_hold(&rt, rt.alloc(), MESSAGES, LINES, |alloc, call, words| {
-        written(&rt, alloc, call, words)
-    });
+    rows_hold(&rt, rt.alloc(), MESSAGES, LINES, written);
 }
 
 /// The end that a call's name makes.
@@ -55,7 +53,7 @@ fn end_by(call: &str) -> CliError {
 }
 
 /// The status of the end that a call's name makes, and whether it tells an error.
-fn status(rt: &impl Abort, alloc: Global, call: &str) -> String {
+fn status(rt: &impl Abort, alloc: Global, call: &str, _words: &str) -> String {
     let end = end_by(call);
     let told = if end.error.is_some() {
         "told"
@@ -74,7 +72,5 @@ const ENDS: &str = "\
 
 #[test]
 fn ends_with_a_status(rt: HostRuntime) {
-    rows_hold(&rt, rt.alloc(), ENDS, LINES, |alloc, call, _words| {
-        status(&rt, alloc, call)
-    });
+    rows_hold(&rt, rt.alloc(), ENDS, LINES, status);
 }

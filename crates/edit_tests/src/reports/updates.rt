@@ -70,7 +70,5 @@ const CALLS: &str = "\
 
 #[test]
 fn calls_that_follow(rt: HostRuntime) {
-    rows_hold(&rt, rt.alloc(), CALLS, LINES, |alloc, flags, word| {
-        calls(&rt, alloc, flags, word)
-    });
+    rows_hold(&rt, rt.alloc(), CALLS, LINES, calls);
 }

@@ -30,7 +30,7 @@ fn inputs(rt: &impl Abort, alloc: Global, store: &mut FaultStore) -> String {
 }
 
 /// The inputs where one call of the device fails.
-fn failing(rt: &impl Abort, alloc: Global, at: &str) -> String {
+fn failing(rt: &impl Abort, alloc: Global, at: &str, _members: &str) -> String {
     let at = if at == "0" { 0 } else { 1 };
     let mut store = failing_store(rt, alloc, at);
     let answer = inputs(rt, alloc, &mut store);
@@ -45,11 +45,5 @@ const FAILING: &str = "\
 
 #[test]
 fn refuses_where_the_device_fails(rt: HostRuntime) {
-    rows_hold(
-        &rt,
-        rt.alloc(),
-        FAILING,
-        TILDES,
-        |alloc, at, _members| failing(&rt, alloc, at),
-    );
+    rows_hold(&rt, rt.alloc(), FAILING, TILDES, failing);
 }

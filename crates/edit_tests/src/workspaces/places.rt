@@ -42,14 +42,20 @@ fn inputs_of(rt: &impl Abort, alloc: Global, rows: &str) -> Vec<Input> {
     all
 }
 
-/// The place of a refusal of a plan over inputs, `-` being none.
-fn place_of(rt: &impl Abort, alloc: Global, word: &str, inputs: &str) -> String {
-    let all = inputs_of(rt, alloc, inputs);
-    let Refusal { error: _, place } = at_input(alloc, refusal_of(word), &all);
+/// The place of a refusal, `-` being none.
+fn shown(rt: &impl Abort, alloc: Global, refusal: Refusal) -> String {
+    let Refusal { error: _, place } = refusal;
     match place {
         Some(place) => place,
         None => text(rt, alloc, "-"),
     }
+}
+
+/// The place of a refusal of a plan over inputs.
+fn place_of(rt: &impl Abort, alloc: Global, word: &str, inputs: &str) -> String {
+    let all = inputs_of(rt, alloc, inputs);
+    let refusal = at_input(alloc, refusal_of(word), &all);
+    shown(rt, alloc, refusal)
 }
 
 /// The place; the refusal; the inputs.
@@ -61,11 +67,5 @@ const PLACES: &str = "\
 
 #[test]
 fn places_refusals(rt: HostRuntime) {
-    rows_hold(
-        &rt,
-        rt.alloc(),
-        PLACES,
-        TILDES,
-        |alloc, word, inputs| place_of(&rt, alloc, word, inputs),
-    );
+    rows_hold(&rt, rt.alloc(), PLACES, TILDES, place_of);
 }

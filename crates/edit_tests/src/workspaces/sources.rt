@@ -45,11 +45,10 @@ fn put_files(rt: &impl Abort, alloc: Global, store: &mut MemoryStore) {
 fn inputs_shown(rt: &impl Abort, alloc: Global, sources: &Sources) -> String {
     let mut all = String::new(alloc);
     'inputs: for (i, input) in sources.target.inputs.iter().enumerate() {
-        let configs = sources
-            .configs
-            .get(i)
-            .map(|own: &Vec<Config>| own.len())
-            .unwrap_or(99);
+        let configs = match sources.configs.get(i) {
+            Some(own) => own.len(),
+            None => 99,
+        };
         let rust = rust_shown(rt, alloc, input.rust_version);
         kept(
             rt,
@@ -101,14 +100,19 @@ fn asked<'a>(rt: &impl Abort, alloc: Global, target: &'a str, more: &'a str) -> 
 }
 
 /// What is read in `/w/a/src`, with the home `/h`, of what is asked for.
+fn answered(rt: &impl Abort, alloc: Global, asked: &Asked, store: &mut MemoryStore) -> String {
+    match read_sources(alloc, asked, "/w/a/src", Some("/h"), store) {
+        Ok(sources) => shown(rt, alloc, &sources),
+        Err(refusal) => told(rt, alloc, refusal.error),
+    }
+}
+
+/// What is read of the files of the table for what a row asks for.
 fn read(rt: &impl Abort, alloc: Global, target: &str, more: &str) -> String {
     let mut store = MemoryStore::new(alloc);
     put_files(rt, alloc, &mut store);
     let asked = asked(rt, alloc, target, more);
-    match read_sources(alloc, &asked, "/w/a/src", Some("/h"), &mut store) {
-        Ok(sources) => shown(rt, alloc, &sources),
-        Err(refusal) => told(rt, alloc, refusal.error),
-    }
+    answered(rt, alloc, &asked, &mut store)
 }
 
 /// What is read; the manifest and the metadata that are named; the index, the Rust version and the folder.
@@ -129,11 +133,5 @@ of/w/c /w/c/Cargo.toml - 2; files, 0|- /w/all.json|- !\
 
 #[test]
 fn reads_sources(rt: HostRuntime) {
-    rows_hold(
-        &rt,
-        rt.alloc(),
-        READ,
-        TILDES,
-        |alloc, target, more| read(&rt, alloc, target, more),
-    );
+    rows_hold(&rt, rt.alloc(), READ, TILDES, read);
 }

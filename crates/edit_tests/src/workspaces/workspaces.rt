@@ -37,7 +37,10 @@ pub(crate) fn rust_shown(rt: &impl Abort, alloc: Global, version: Option<RustVer
 
 /// The source and the Rust version of a package, and whether it is a member.
 fn rest_shown(rt: &impl Abort, alloc: Global, package: &Package) -> String {
-    let source = package.source.as_ref().map_or("-", |text| text.as_str());
+    let source = match &package.source {
+        Some(source) => source.as_str(),
+        None => "-",
+    };
     let rust = rust_shown(rt, alloc, package.rust_version);
     let member = if package.member { "member" } else { "-" };
     kept(rt, format!(in alloc; "{source} {rust} {member}"))
@@ -101,13 +104,7 @@ const READ: &str = "\
 
 #[test]
 fn reads_workspaces(rt: HostRuntime) {
-    rows_hold(
-        &rt,
-        rt.alloc(),
-        READ,
-        TILDES,
-        |alloc, old, new| read(&rt, alloc, old, new),
-    );
+    rows_hold(&rt, rt.alloc(), READ, TILDES, read);
 }
 
 /// The path of the member of a name.
@@ -129,11 +126,5 @@ workspace. Try adding `--workspace`.|c|['A','B']";
 
 #[test]
 fn finds_members_by_name(rt: HostRuntime) {
-    rows_hold(
-        &rt,
-        rt.alloc(),
-        NAMED,
-        TILDES,
-        |alloc, name, members| named(&rt, alloc, name, members),
-    );
+    rows_hold(&rt, rt.alloc(), NAMED, TILDES, named);
 }
