@@ -8,7 +8,7 @@ ghost use Rattle.edit_upgrade.specs.Addresses.{AreAddresses, is_named, url_at};
 use edit_base::CargoResult;
 use edit_sources::Config;
 use edit_sources::registry::Definitions;
-use std::alloc::Global;
+use std::alloc::{AllocError, Global};
 use std::collections::BTreeMap;
 use url::Url;
 
@@ -45,11 +45,10 @@ impl<'a> Addresses<'a> {
     }
 
     /// Keeps the address of a registry.
-    fn keep(&mut self, alloc: Global, registry: Option<&str>, url: Url) -> CargoResult<()>
+    fn keep(&mut self, alloc: Global, registry: Option<&str>, url: Url) -> Result<(), AllocError>
         ensures kept { OnOk result ((named : Option (List ℕ)) → url_at self.new named
             ≡ (if is_named (given registry.entry) named then Some url else url_at self.old named)) }
         ensures definitions { self.new.definitions ≡ self.old.definitions }
-        ensures refused { IfErr result IsMemory }
     {
         match registry {
             Some(name) => {
@@ -76,6 +75,7 @@ impl<'a> Addresses<'a> {
             return Ok(());
         }
         let url = self.definitions.resolve(alloc, registry)?;
-        self.keep(alloc, registry, url)
+        self.keep(alloc, registry, url)?;
+        Ok(())
     }
 }

@@ -30,7 +30,7 @@ use edit_document::Document;
 use edit_metadata::Input;
 use edit_report::{Output, Row};
 use edit_sources::{Config, Index};
-use std::alloc::Global;
+use std::alloc::{AllocError, Global};
 
 /// What is planned of inputs so far.
 #[derive(Drop)]
@@ -68,9 +68,8 @@ impl Draft {
 }
 
 /// Adds items behind those of a list.
-fn push_all<T: Drop>(list: &mut Vec<T>, own: Vec<T>) -> CargoResult<()>
+fn push_all<T: Drop>(list: &mut Vec<T>, own: Vec<T>) -> Result<(), AllocError>
     ensures ok { OnOk result (list.new.items ≡ list.old.items ++ own.items) }
-    ensures refused { IfErr result IsMemory }
 {
     'own: for item in own {
         list.push(item)?;
@@ -79,10 +78,9 @@ fn push_all<T: Drop>(list: &mut Vec<T>, own: Vec<T>) -> CargoResult<()>
 }
 
 /// The output at a path, where there is a new text.
-fn outputs_of(alloc: Global, path: &str, text: Option<String>) -> CargoResult<Vec<Output>>
+fn outputs_of(alloc: Global, path: &str, text: Option<String>) -> Result<Vec<Output>, AllocError>
     ensures ok { IfOk result (λ v. MatchOption text (v.items ≡ [])
         (λ s. IsOnlyOutput path.now (string_bytes s) v.items)) }
-    ensures refused { IfErr result IsMemory }
 {
     let mut outputs = Vec::new(alloc);
     match text {

@@ -47,10 +47,9 @@ pub(crate) fn has_incompatible(rows: &[Row]) -> bool
 }
 
 /// The set of the names of the rows with a change.
-fn changed_set(alloc: Global, rows: &[Row]) -> CargoResult<Names>
+fn changed_set(alloc: Global, rows: &[Row]) -> Result<Names, AllocError>
     ensures names { IfOk result (λ s. (name : List ℕ) → contains_text s name
         ≡ list_any (bytes_eq name) (changed_names (map line_of rows.now))) }
-    ensures refused { IfErr result IsMemory }
 {
     let mut names = BTreeSet::new(alloc);
     'rows: for row in rows {
@@ -62,9 +61,8 @@ fn changed_set(alloc: Global, rows: &[Row]) -> CargoResult<Names>
 }
 
 /// The names of the rows with a change, in byte order, each once.
-pub(crate) fn modified_names(alloc: Global, rows: &[Row]) -> CargoResult<Vec<String>>
+pub(crate) fn modified_names(alloc: Global, rows: &[Row]) -> Result<Vec<String>, AllocError>
     ensures ok { IfOk result (λ v. AreNames (changed_names (map line_of rows.now)) v.items) }
-    ensures refused { IfErr result IsMemory }
 {
     let set = changed_set(alloc, rows)?;
     let names = set.into_iter().collect(alloc)?;
@@ -78,10 +76,9 @@ fn is_git(reason: Option<Reason>) -> bool
 }
 
 /// The set of the names of the rows of repositories that have no requirement.
-fn git_set(alloc: Global, rows: &[Row]) -> CargoResult<Names>
+fn git_set(alloc: Global, rows: &[Row]) -> Result<Names, AllocError>
     ensures names { IfOk result (λ s. (name : List ℕ) → contains_text s name
         ≡ list_any (bytes_eq name) (git_names (map line_of rows.now))) }
-    ensures refused { IfErr result IsMemory }
 {
     let mut names = BTreeSet::new(alloc);
     'rows: for row in rows {
@@ -93,9 +90,8 @@ fn git_set(alloc: Global, rows: &[Row]) -> CargoResult<Names>
 }
 
 /// The names of the rows of repositories that have no requirement, in byte order, each once.
-pub(crate) fn git_crates(alloc: Global, rows: &[Row]) -> CargoResult<Vec<String>>
+pub(crate) fn git_crates(alloc: Global, rows: &[Row]) -> Result<Vec<String>, AllocError>
     ensures ok { IfOk result (λ v. AreNames (git_names (map line_of rows.now)) v.items) }
-    ensures refused { IfErr result IsMemory }
 {
     let set = git_set(alloc, rows)?;
     let names = set.into_iter().collect(alloc)?;

@@ -14,7 +14,7 @@ use crate::upgrade::Look;
 use edit_base::CargoResult;
 use edit_cache::cache::IndexCache;
 use edit_sources::index::{Index, IndexKrate};
-use std::alloc::Global;
+use std::alloc::{AllocError, Global};
 use std::collections::BTreeMap;
 use url::Url;
 
@@ -106,11 +106,10 @@ fn one_look<I: Index>(
 }
 
 /// Adds a pair of address and name, and says whether it was among them.
-fn add_pair(alloc: Global, pairs: &mut Pairs, address: &str, name: &str) -> CargoResult<bool>
+fn add_pair(alloc: Global, pairs: &mut Pairs, address: &str, name: &str) -> Result<bool, AllocError>
     ensures had { IfOk result (λ b. b ≡ holds_pair pairs.old address.now name.now) }
     ensures ok { OnOk result ((a n : List ℕ) → holds_pair pairs.new a n
         ≡ (if bytes_eq address.now a && bytes_eq name.now n then true else holds_pair pairs.old a n)) }
-    ensures refused { IfErr result IsMemory }
 {
     if let Some(names) = pairs.get_mut(address) {
         let had = add_name(alloc, names, name)?;

@@ -3,7 +3,6 @@ ghost use Rattle.std.specs.Prelude.{◌≡◌, ◌≢◌, ◌&&◌, ◌||◌, �
 ghost use Rattle.std.specs.BTreeSet.{contains_text};
 ghost use Rattle.std.specs.List.{list_any};
 ghost use Rattle.std.specs.Str.{bytes_eq};
-ghost use Rattle.edit_base.specs.Errors.{IsMemory};
 ghost use Rattle.edit_base.specs.declared.errors.Error.TheVariants as error;
 ghost use Rattle.edit_manifest.specs.EntryViews.{entry_view};
 ghost use Rattle.edit_upgrade.specs.Missing.{names_in};
@@ -13,14 +12,18 @@ use crate::asked::{Asked, is_named};
 use crate::names::{Names, add_name};
 use edit_base::CargoResult;
 use edit_manifest::entries::{Entry, Said};
-use std::alloc::Global;
+use std::alloc::{AllocError, Global};
 
 /// Adds the name of an entry, where words select it.
-fn add_entry(alloc: Global, asked: Asked<'_>, entry: &Entry, known: &mut Names) -> CargoResult<()>
+fn add_entry(
+    alloc: Global,
+    asked: Asked<'_>,
+    entry: &Entry,
+    known: &mut Names,
+) -> Result<(), AllocError>
     ensures ok { OnOk result ((name : List ℕ) → contains_text known.new name
         ≡ (contains_text known.old name || (is_named (words_of asked.entry.options.now) name
         && list_any (bytes_eq name) (names_in (entry_view entry.now ∷ []))))) }
-    ensures refused { IfErr result IsMemory }
 {
     let Said::Read(dependency) = &entry.said else {
         return Ok(());
@@ -38,11 +41,10 @@ pub(crate) fn add_names(
     asked: Asked<'_>,
     found: &[Entry],
     known: &mut Names,
-) -> CargoResult<()>
+) -> Result<(), AllocError>
     ensures ok { OnOk result ((name : List ℕ) → contains_text known.new name
         ≡ (contains_text known.old name || (is_named (words_of asked.entry.options.now) name
         && list_any (bytes_eq name) (names_in (map entry_view found.now))))) }
-    ensures refused { IfErr result IsMemory }
 {
     'found: for entry in found {
         add_entry(alloc, asked, entry, known)?;
@@ -56,10 +58,9 @@ fn push_unknown(
     known: &Names,
     missing: &mut Vec<String>,
     name: &str,
-) -> CargoResult<()>
+) -> Result<(), AllocError>
     ensures ok { OnOk result (map string_bytes missing.new.items ≡ map string_bytes missing.old.items
         ++ (if contains_text known.now name.now then [] else name.now ∷ [])) }
-    ensures refused { IfErr result (λ e. e ≡ error.Memory) }
 {
     if known.contains(name) {
         return Ok(());

@@ -4,7 +4,6 @@ ghost use Rattle.std.specs.BTreeSet.{contains_text};
 ghost use Rattle.std.specs.List.{list_any};
 ghost use Rattle.std.specs.Str.{bytes_eq};
 ghost use Rattle.edit_base.specs.Errors.{IsMemory};
-ghost use Rattle.edit_base.specs.declared.errors.Error.TheVariants as error;
 ghost use Rattle.edit_version.specs.CrateWords.{IsRefusedWord};
 ghost use Rattle.edit_upgrade.specs.Picks.{AddsWord, ArePicks, AreWordsRead, has_name, kept_requirement};
 ghost use Rattle.edit_upgrade.specs.WordCauses.{IsOptionCause, StopsAtWord};
@@ -13,7 +12,7 @@ use crate::decision::options::Options;
 use crate::names::{Names, add_name};
 use edit_base::CargoResult;
 use edit_version::CrateSpec;
-use std::alloc::Global;
+use std::alloc::{AllocError, Global};
 use std::collections::{BTreeMap, BTreeSet};
 
 /// Package words that were read.
@@ -50,12 +49,11 @@ pub(crate) fn kept_requirement<'a>(words: &'a Words, name: &str) -> Option<&'a s
 }
 
 /// Keeps a name, where it is new.
-fn add_first(alloc: Global, words: &mut Words, name: &str) -> CargoResult<()>
+fn add_first(alloc: Global, words: &mut Words, name: &str) -> Result<(), AllocError>
     ensures names { OnOk result (map string_bytes words.new.names.items
         ≡ map string_bytes words.old.names.items
         ++ (if has_name words.old name.now then [] else name.now ∷ [])) }
     ensures requirements { words.new.requirements ≡ words.old.requirements }
-    ensures refused { IfErr result (λ e. e ≡ error.Memory) }
 {
     if has_name(words, name) {
         return Ok(());

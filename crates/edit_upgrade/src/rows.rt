@@ -29,7 +29,7 @@ use edit_sources::Config;
 use edit_sources::index::Index;
 use edit_version::{RustVersion, allows_prerelease};
 use semver::Version;
-use std::alloc::Global;
+use std::alloc::{AllocError, Global};
 use url::Url;
 
 /// What the rows of an input are decided by.
@@ -90,11 +90,10 @@ fn latest_text(
     alloc: Global,
     compatible: Option<&Offer<'_>>,
     latest: Option<Offer<'_>>,
-) -> CargoResult<Option<String>>
+) -> Result<Option<String>, AllocError>
     ensures ok { IfOk result (λ o. option_map string_bytes o ≡ option_map plain_text (or_else
         (newer (offered latest.entry) (offered (option_copied compatible.entry)))
         (offered (option_copied compatible.entry)))) }
-    ensures refused { IfErr result IsMemory }
 {
     match (latest, compatible) {
         (Some(latest), _) => Ok(Some(latest.text)),
@@ -104,10 +103,9 @@ fn latest_text(
 }
 
 /// The other name of an entry, on memory of its own.
-fn copied_rename(alloc: Global, rename: Option<&String>) -> CargoResult<Option<String>>
+fn copied_rename(alloc: Global, rename: Option<&String>) -> Result<Option<String>, AllocError>
     ensures ok { IfOk result
         (λ o. option_map string_bytes o ≡ option_map string_bytes (option_copied rename.entry)) }
-    ensures refused { IfErr result IsMemory }
 {
     match rename {
         Some(name) => Ok(Some(String::from_str(alloc, name.as_str())?)),

@@ -26,10 +26,12 @@ found-preserved c = λ name.
     (names-more entry_view c.args.found.now i c.entry-item.result c.found-test.true c.entry-item.is)
     (c.found.invariant name) (c.in_ok-add_entry.ensures.ok name)
 
-pub returns-clause-ok : goal.returns-clause-ok
-returns-clause-ok c = λ name.
-    subst (λ (es : List Entry). contains_text c.found.known name
-    ≡ (contains_text c.args.known.now name || (is_named (words_of c.args.asked.options.now) name
-    && list_any (bytes_eq name) (names_in (map entry_view es)))))
-    (take_all c.found.entry-index c.args.found.now (omega (arith, c.found-test.false)))
-    (c.found.invariant name)
+pub returns : goal.returns
+returns c = record {
+  ok = λ name.
+      subst (λ (es : List Entry). contains_text c.found.known name
+      ≡ (contains_text c.args.known.now name || (is_named (words_of c.args.asked.options.now) name
+      && list_any (bytes_eq name) (names_in (map entry_view es)))))
+      (take_all c.found.entry-index c.args.found.now (omega (arith, c.found-test.false)))
+      (c.found.invariant name);
+}

@@ -1,5 +1,3 @@
-use Rattle.edit_upgrade.proofs.PlannedLemmas.{refusal-has}
-use Rattle.edit_upgrade.proofs.WordCauseLemmas.{memory-refuses}
 use Rattle.edit_upgrade.proofs.WordLemmas.{word_added}
 use Rattle.edit_upgrade.proofs.picks.add_word.Goals as goal
 
@@ -10,9 +8,3 @@ returns-clause-ok c =
     c.in_ok-name.field-0.name c.in_ok-name.field-0.version_req c.as_str.result.now
     named.crate_name named.fit named.requirement named.readable c.as_str.ensures.value
     c.in_ok-add_first.ensures.names c.in_ok-add_first.ensures.requirements c.in_ok-insert.ensures.updates
-
-pub returns-in_err-add_first-clause-refused : goal.returns-in_err-add_first-clause-refused
-returns-in_err-add_first-clause-refused c =
-    refusal-has c.from_residual-in_err-add_first.result c.in_err-add_first.field-0.0 _
-    c.from_residual-in_err-add_first.ensures.1
-    (memory-refuses c.args.word.now c.in_err-add_first.field-0.0 c.in_err-add_first.ensures.refused)
