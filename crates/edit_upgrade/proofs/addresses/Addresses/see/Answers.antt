@@ -1,5 +1,4 @@
-use Rattle.std.proofs.Common.{◌≡◌, ℕ, List, Option, Some, refl}
-use Rattle.std.specs.Prelude.{if◌then◌else◌}
+use Rattle.std.proofs.Common.{refl}
 use Rattle.edit_sources.specs.Configured.{given}
 use Rattle.edit_upgrade.proofs.AddressLemmas.{one_resolved}
 use Rattle.edit_upgrade.proofs.addresses.Addresses.see.Goals as goal
