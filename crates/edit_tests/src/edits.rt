@@ -3,7 +3,7 @@ ghost use Rattle.edit_tree.specs.NewItems.{IsEntry};
 ghost use Rattle.edit_document.specs.NewItemViews.{item_seen};
 
 use crate::stop::{kept, must, push, said, text};
-use edit_document::{Document, NewItem, NewValue, Step};
+use edit_document::{CargoResult, Document, NewItem, NewValue, Step};
 use std::alloc::Global;
 use std::process::Abort;
 
@@ -60,11 +60,8 @@ fn members_of(rt: &impl Abort, alloc: Global, words: &str) -> Vec<(String, NewVa
     let mut members = Vec::new(alloc);
     'members: for member in words.split_terminator(';') {
         let (name, value) = member.split_once('=').unwrap_or((member, ""));
-        push(
-            rt,
-            &mut members,
-            (text(rt, alloc, name), value_of(rt, alloc, value)),
-        );
+        let member = (text(rt, alloc, name), value_of(rt, alloc, value));
+        push(rt, &mut members, member);
     }
     members
 }
@@ -106,6 +103,11 @@ fn not_there(rt: &impl Abort, alloc: Global) -> String {
     text(rt, alloc, "not there")
 }
 
+/// The word `done`, or what the refusal of an edit says.
+fn answered(rt: &impl Abort, alloc: Global, answer: CargoResult<()>) -> String {
+    said(rt, alloc, answer, "done")
+}
+
 /// Sets a string where a value stands; what is said of it.
 fn set(
     rt: &impl Abort,
@@ -117,7 +119,7 @@ fn set(
     if !document.is_value(place) || place.len() > 79 {
         return not_there(rt, alloc);
     }
-    said(rt, alloc, document.set_literal(alloc, place, words), "done")
+    answered(rt, alloc, document.set_literal(alloc, place, words))
 }
 
 /// Sets a value where one stands; what is said of it.
@@ -132,7 +134,7 @@ fn set_value(
         return not_there(rt, alloc);
     }
     let value = value_of(rt, alloc, words);
-    said(rt, alloc, document.set_value(alloc, place, &value), "done")
+    answered(rt, alloc, document.set_value(alloc, place, &value))
 }
 
 /// Inserts a member of a name and a value where something without one of this name stands: what is said.
@@ -151,12 +153,7 @@ fn insert(
         return not_there(rt, alloc);
     }
     let value = value_of(rt, alloc, value);
-    said(
-        rt,
-        alloc,
-        document.insert(alloc, place, key, &value),
-        "done",
-    )
+    answered(rt, alloc, document.insert(alloc, place, key, &value))
 }
 
 /// Replaces the entry at a place that one statement names, and of at most 70 steps; what is said of it.
@@ -171,12 +168,7 @@ fn replace(
         return not_there(rt, alloc);
     }
     let entry = entry_of(rt, alloc, words);
-    said(
-        rt,
-        alloc,
-        document.replace_entry(alloc, place, &entry),
-        "done",
-    )
+    answered(rt, alloc, document.replace_entry(alloc, place, &entry))
 }
 
 /// Removes the item at a place; what is said of it.
@@ -184,7 +176,7 @@ fn remove(rt: &impl Abort, alloc: Global, document: &mut Document, place: &[Step
     if place.is_empty() || document.item(place).is_none() {
         return not_there(rt, alloc);
     }
-    said(rt, alloc, document.remove(alloc, place), "done")
+    answered(rt, alloc, document.remove(alloc, place))
 }
 
 /// Puts a copy in the place of a document.
