@@ -3,11 +3,9 @@
 
 mod arguments;
 mod filled;
-mod merged;
 mod reports;
 mod rules;
 mod set_version_line;
 
 pub use arguments::command;
 pub use filled::filled_words;
-pub use merged::merged_of;
