@@ -1,158 +1,125 @@
 //! The command line: which words there are.
-ghost use Rattle.std.specs.Prelude.{◌≡◌, IfOk, false, true};
+ghost use Rattle.std.specs.Prelude.{◌≡◌, ◌++◌, IfOk, map, true};
 ghost use Rattle.clap.specs.Words.{app_of, is_simple, is_simple_and_free};
-ghost use Rattle.clap.specs.declared.builder.command.Command.TheViews.{out-Command as fields_of};
-ghost use Rattle.edit_words.specs.CommandLine.{choices, edit_app, outlets, places, rust_choices, selections, switches, upgrade_app, with_rules};
+ghost use Rattle.edit_words.specs.CommandLine.{choices, edit_app, outlets, places, rust_choices, selections, switches, upgrade_app};
+ghost use Rattle.edit_words.specs.Tables.{IsLocal, word_rule};
 
-use crate::reports::with_reports;
-use crate::rules::{choice, counted, flag, list, path};
+use crate::reports::reports;
+use crate::rules::{Form, Word, plain, with_words};
 use crate::set_version_line::set_version_command;
 use clap::Command;
-use clap::builder::ValueParser;
 use std::alloc::{AllocError, Global};
 
-/// Adds the options that name files.
-fn with_places<'a>(alloc: Global, command: Command<'a>) -> Result<Command<'a>, AllocError>
-    ensures app { IfOk result (λ c. app_of c ≡ with_rules (app_of command.entry) places) }
-    ensures local { IfOk result (λ c. (fields_of command.entry).has_globals ≡ false
-        → (fields_of c).has_globals ≡ false) }
+/// The options that name files and the folder of an index.
+fn files<'a>() -> [Word<'a>; 5]
+    ensures { map word_rule result ≡ places ++ outlets }
 {
-    command
-        .arg(path(
-            alloc,
+    [
+        plain(
             "manifest-path",
-            "PATH",
+            Form::Path("PATH"),
             "The manifest, or a folder with one",
-        ))?
-        .arg(path(
-            alloc,
+        ),
+        plain(
             "metadata-json",
-            "FILE",
+            Form::Path("FILE"),
             "What `cargo metadata` says of the workspace",
-        ))?
-        .arg(path(
-            alloc,
+        ),
+        plain(
             "index-file",
-            "FILE",
+            Form::Path("FILE"),
             "Index lines, as a registry's index has them",
-        ))
-}
-
-/// Adds the options that name the folder of an index, and the file of the calls that follow.
-fn with_outlets<'a>(alloc: Global, command: Command<'a>) -> Result<Command<'a>, AllocError>
-    ensures app { IfOk result (λ c. app_of c ≡ with_rules (app_of command.entry) outlets) }
-    ensures local { IfOk result (λ c. (fields_of command.entry).has_globals ≡ false
-        → (fields_of c).has_globals ≡ false) }
-{
-    command
-        .arg(path(
-            alloc,
+        ),
+        plain(
             "index-dir",
-            "DIR",
+            Form::Path("DIR"),
             "A folder with a folder of index files for each registry",
-        ))?
-        .arg(path(
-            alloc,
+        ),
+        plain(
             "update-calls",
-            "FILE",
+            Form::Path("FILE"),
             "Writes the calls of `cargo update` that follow to this file",
-        ))
+        ),
+    ]
 }
 
-/// Adds the options that say which versions of Rust count.
-fn with_rust_choices<'a>(alloc: Global, command: Command<'a>) -> Result<Command<'a>, AllocError>
-    ensures app { IfOk result (λ c. app_of c ≡ with_rules (app_of command.entry) rust_choices) }
-    ensures local { IfOk result (λ c. (fields_of command.entry).has_globals ≡ false
-        → (fields_of c).has_globals ≡ false) }
+/// What says which versions of Rust count, and the flags.
+fn switches<'a>() -> [Word<'a>; 7]
+    ensures { map word_rule result ≡ rust_choices ++ switches }
 {
-    command
-        .arg(choice(alloc, "rust-version", "VER", "Override `rust-version`"))?
-        .arg(flag(
-            alloc,
+    [
+        plain(
+            "rust-version",
+            Form::Choice("VER"),
+            "Override `rust-version`",
+        ),
+        plain(
             "ignore-rust-version",
+            Form::Flag,
             "Ignore `rust-version` specification in packages",
-        ))
-}
-
-/// Adds the flags.
-fn with_switches<'a>(alloc: Global, command: Command<'a>) -> Result<Command<'a>, AllocError>
-    ensures app { IfOk result (λ c. app_of c ≡ with_rules (app_of command.entry) switches) }
-    ensures local { IfOk result (λ c. (fields_of command.entry).has_globals ≡ false
-        → (fields_of c).has_globals ≡ false) }
-{
-    command
-        .arg(flag(
-            alloc,
+        ),
+        plain(
             "dry-run",
+            Form::Flag,
             "Prints what would change, and changes nothing",
         )
-        .short('n'))?
-        .arg(flag(alloc, "locked", "Refuses to change the manifest"))?
-        .arg(counted(alloc, "verbose", 'v', "Reports more"))?
-        .arg(counted(alloc, "quiet", 'q', "Reports less"))?
-        .arg(flag(alloc, "never-lower", "Lowers no requirement"))
+        .short('n'),
+        plain("locked", Form::Flag, "Refuses to change the manifest"),
+        plain("verbose", Form::Counted, "Reports more").short('v'),
+        plain("quiet", Form::Counted, "Reports less").short('q'),
+        plain("never-lower", Form::Flag, "Lowers no requirement"),
+    ]
 }
 
-/// Adds the options that say what may be upgraded.
-fn with_choices<'a>(alloc: Global, command: Command<'a>) -> Result<Command<'a>, AllocError>
-    ensures app { IfOk result (λ c. app_of c ≡ with_rules (app_of command.entry) choices) }
-    ensures local { IfOk result (λ c. (fields_of command.entry).has_globals ≡ false
-        → (fields_of c).has_globals ≡ false) }
+/// The options that say what may be upgraded.
+fn choices<'a>() -> [Word<'a>; 4]
+    ensures { map word_rule result ≡ choices }
 {
-    command
-        .arg(choice(
-            alloc,
+    [
+        plain(
             "compatible",
-            "allow|ignore",
+            Form::Choice("allow|ignore"),
             "Upgrades to the latest compatible version",
         )
-        .default_value("allow"))?
-        .arg(
-            choice(
-                alloc,
-                "incompatible",
-                "allow|ignore",
-                "Upgrades to the latest incompatible version",
-            )
-            .short('i')
-            .default_value("ignore"),
-        )?
-        .arg(choice(
-            alloc,
+        .default_value("allow"),
+        plain(
+            "incompatible",
+            Form::Choice("allow|ignore"),
+            "Upgrades to the latest incompatible version",
+        )
+        .short('i')
+        .default_value("ignore"),
+        plain(
             "pinned",
-            "allow|ignore",
+            Form::Choice("allow|ignore"),
             "Upgrades pinned requirements to the latest version",
         )
-        .default_value("ignore"))?
-        .arg(choice(
-            alloc,
+        .default_value("ignore"),
+        plain(
             "recursive",
-            "true|false",
+            Form::Truth("true|false"),
             "Updates locked dependencies recursively",
-        )
-        .value_parser(ValueParser::Bool))
+        ),
+    ]
 }
 
-/// Adds the options that say which entries may be upgraded.
-fn with_selections<'a>(alloc: Global, command: Command<'a>) -> Result<Command<'a>, AllocError>
-    ensures app { IfOk result (λ c. app_of c ≡ with_rules (app_of command.entry) selections) }
-    ensures local { IfOk result (λ c. (fields_of command.entry).has_globals ≡ false
-        → (fields_of c).has_globals ≡ false) }
+/// The options that say which entries may be upgraded.
+fn selections<'a>() -> [Word<'a>; 2]
+    ensures { map word_rule result ≡ selections }
 {
-    command
-        .arg(list(
-            alloc,
+    [
+        plain(
             "package",
-            "PKGID[@<VERSION>]",
+            Form::List("PKGID[@<VERSION>]"),
             "Crate to be upgraded",
         )
-        .short('p'))?
-        .arg(list(
-            alloc,
+        .short('p'),
+        plain(
             "exclude",
-            "PKGID",
+            Form::List("PKGID"),
             "Crates to exclude and not upgrade",
-        ))
+        ),
+    ]
 }
 
 /// A subcommand with the words of `upgrade`.
@@ -161,17 +128,14 @@ fn upgrade_command<'a>(
     name: &'a str,
     about: &'a str,
 ) -> Result<Command<'a>, AllocError>
-    ensures app { IfOk result (λ c. app_of c ≡ upgrade_app name.entry.now) }
-    ensures local { IfOk result (λ c. (fields_of c).has_globals ≡ false) }
+    ensures { IfOk result (IsLocal (upgrade_app name.entry.now)) }
 {
-    let command = Command::new(alloc, name).about(about);
-    let command = with_places(alloc, command)?;
-    let command = with_outlets(alloc, command)?;
-    let command = with_rust_choices(alloc, command)?;
-    let command = with_switches(alloc, command)?;
-    let command = with_reports(alloc, command)?;
-    let command = with_choices(alloc, command)?;
-    with_selections(alloc, command)
+    let command = Ok(Command::new(alloc, name).about(about));
+    let command = with_words(alloc, command, &files());
+    let command = with_words(alloc, command, &switches());
+    let command = with_words(alloc, command, &reports());
+    let command = with_words(alloc, command, &choices());
+    with_words(alloc, command, &selections())
 }
 
 /// The program's command line, made anew for each parse, which takes it over. Its help and its version are

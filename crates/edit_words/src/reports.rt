@@ -1,34 +1,30 @@
-//! What says how a plan is printed, and whether it is only checked.
-ghost use Rattle.std.specs.Prelude.{◌≡◌, IfOk, false};
-ghost use Rattle.clap.specs.Words.{app_of};
-ghost use Rattle.clap.specs.declared.builder.command.Command.TheViews.{out-Command as fields_of};
-ghost use Rattle.edit_words.specs.Rules.{reports, with_rules};
+//! Words that say how a plan is printed, and whether it is only checked.
+ghost use Rattle.std.specs.Prelude.{◌≡◌, map};
+ghost use Rattle.edit_words.specs.Rules.{reports};
+ghost use Rattle.edit_words.specs.Tables.{word_rule};
 
-use crate::rules::{choice, flag};
-use clap::Command;
-use std::alloc::{AllocError, Global};
+use crate::rules::{Form, Word, plain};
 
-/// Adds what says how a plan is printed, and whether it is only checked.
-pub(crate) fn with_reports<'a>(
-    alloc: Global,
-    command: Command<'a>,
-) -> Result<Command<'a>, AllocError>
-    ensures app { IfOk result (λ c. app_of c ≡ with_rules (app_of command.entry) reports) }
-    ensures local { IfOk result (λ c. (fields_of command.entry).has_globals ≡ false
-        → (fields_of c).has_globals ≡ false) }
+/// What says how a plan is printed, and whether it is only checked.
+pub(crate) fn reports<'a>() -> [Word<'a>; 3]
+    ensures { map word_rule result ≡ reports }
 {
-    command
-        .arg(flag(
-            alloc,
+    [
+        plain(
             "check",
+            Form::Flag,
             "Like `--dry-run`, with status 1 where something would change",
-        ))?
-        .arg(choice(
-            alloc,
+        ),
+        plain(
             "message-format",
-            "human|json",
+            Form::Choice("human|json"),
             "How the report is printed",
         )
-        .default_value("human"))?
-        .arg(flag(alloc, "diff", "Prints the changes of manifests as diffs"))
+        .default_value("human"),
+        plain(
+            "diff",
+            Form::Flag,
+            "Prints the changes of manifests as diffs",
+        ),
+    ]
 }

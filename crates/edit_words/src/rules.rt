@@ -1,78 +1,148 @@
-//! Options and flags, of which command lines are made.
-ghost use Rattle.std.specs.Prelude.{◌≡◌, false};
-ghost use Rattle.clap.specs.Words.{rule_of};
-ghost use Rattle.edit_words.specs.Rules.{choice_rule, count_rule, flag_rule, list_rule, option_rule, path_rule};
+//! Words of command lines: options, flags and what stands alone, as data, and the arguments that they become.
+ghost use Rattle.std.specs.Prelude.{◌≡◌, ◌∷◌, [], IfOk, Some, false, map};
+ghost use Rattle.clap.specs.Words.{App, rule_of};
+ghost use Rattle.clap.specs.declared.builder.action.ArgAction.TheVariants.{Set};
+ghost use Rattle.clap.specs.declared.builder.value_parser.ValueParser.TheVariants.{NonEmptyString};
+ghost use Rattle.edit_words.specs.Rules.{with_rules};
+ghost use Rattle.edit_words.specs.Tables.{IsLocal, form_rule, word_rule};
 
 use clap::builder::ValueParser;
-use clap::{Arg, ArgAction};
-use std::alloc::Global;
+use clap::{Arg, ArgAction, Command};
+use std::alloc::{AllocError, Global};
 
-/// An option that may be given, with a value that is not empty.
-pub(crate) fn path<'a>(alloc: Global, id: &'a str, value: &'a str, about: &'a str) -> Arg<'a>
-    ensures rule { rule_of result ≡ path_rule id.entry.now }
-    ensures local { result.global ≡ false }
-{
-    Arg::new(alloc, id)
-        .long(id)
-        .value_name(value)
-        .help(about)
-        .action(ArgAction::Set)
-        .value_parser(ValueParser::NonEmptyString)
+/// What a word is, and what help calls its value.
+#[derive(Clone, Copy)]
+pub(crate) enum Form<'a> {
+    /// A value that stands alone.
+    Alone(&'a str),
+    /// An option that may be given, with a value that is not empty.
+    Path(&'a str),
+    /// An option that must be given, with a value that is not empty.
+    Needed(&'a str),
+    /// An option that may be given, with a value.
+    Choice(&'a str),
+    /// An option that may be given, with `true` or `false`.
+    Truth(&'a str),
+    /// An option that may be given any number of times, each time with a value.
+    List(&'a str),
+    /// A flag.
+    Flag,
+    /// A flag of which the uses are counted.
+    Counted,
 }
 
-/// An option that must be given, with a value that is not empty.
-pub(crate) fn option<'a>(alloc: Global, id: &'a str, value: &'a str, about: &'a str) -> Arg<'a>
-    ensures rule { rule_of result ≡ option_rule id.entry.now }
-    ensures local { result.global ≡ false }
-{
-    path(alloc, id, value, about).required(true)
+/// A word of a command line.
+#[derive(Clone, Copy)]
+pub(crate) struct Word<'a> {
+    pub(crate) id: &'a str,
+    pub(crate) form: Form<'a>,
+    pub(crate) about: &'a str,
+    pub(crate) letter: Option<char>,
+    /// The value of an option that is not given.
+    pub(crate) default: Option<&'a str>,
 }
 
-/// An option that may be given, with a value.
-pub(crate) fn choice<'a>(alloc: Global, id: &'a str, value: &'a str, about: &'a str) -> Arg<'a>
-    ensures rule { rule_of result ≡ choice_rule id.entry.now }
-    ensures local { result.global ≡ false }
+/// A word with neither a letter nor a default.
+pub(crate) fn plain<'a>(id: &'a str, form: Form<'a>, about: &'a str) -> Word<'a>
+    ensures { word_rule result ≡ form_rule form.entry id.entry.now }
 {
-    Arg::new(alloc, id)
-        .long(id)
-        .value_name(value)
-        .help(about)
-        .action(ArgAction::Set)
-        .value_parser(ValueParser::String)
+    Word {
+        id,
+        form,
+        about,
+        letter: None,
+        default: None,
+    }
 }
 
-/// An option that may be given any number of times, each time with a value.
-pub(crate) fn list<'a>(alloc: Global, id: &'a str, value: &'a str, about: &'a str) -> Arg<'a>
-    ensures rule { rule_of result ≡ list_rule id.entry.now }
-    ensures local { result.global ≡ false }
-{
-    Arg::new(alloc, id)
-        .long(id)
-        .value_name(value)
-        .help(about)
-        .action(ArgAction::Append)
-        .value_parser(ValueParser::String)
+impl<'a> Word<'a> {
+    /// With a letter.
+    pub(crate) fn short(mut self, letter: char) -> Word<'a>
+        ensures { word_rule result ≡ record (word_rule self.entry) { short = Some letter } }
+    {
+        self.letter = Some(letter);
+        self
+    }
+
+    /// With a value where it is not given.
+    pub(crate) fn default_value(mut self, value: &'a str) -> Word<'a>
+        ensures { word_rule result ≡ record (word_rule self.entry) { defaults = value.entry.now ∷ [] } }
+    {
+        self.default = Some(value);
+        self
+    }
 }
 
-/// A flag.
-pub(crate) fn flag<'a>(alloc: Global, id: &'a str, about: &'a str) -> Arg<'a>
-    ensures rule { rule_of result ≡ flag_rule id.entry.now }
-    ensures local { result.global ≡ false }
+/// An argument with a value.
+fn taking<'a>(arg: Arg<'a>, value: &'a str, action: ArgAction, parser: ValueParser<'a>) -> Arg<'a>
+    ensures rule { rule_of result ≡ record (rule_of arg.entry) {
+      action = Some action;
+      value_names = 1;
+      parser = Some parser.entry;
+    } }
+    ensures local { result.global ≡ arg.entry.global }
 {
-    Arg::new(alloc, id)
-        .long(id)
-        .help(about)
-        .action(ArgAction::SetTrue)
+    arg.value_name(value).action(action).value_parser(parser)
 }
 
-/// A flag with a letter, of which the uses are counted.
-pub(crate) fn counted<'a>(alloc: Global, id: &'a str, letter: char, about: &'a str) -> Arg<'a>
-    ensures rule { rule_of result ≡ count_rule id.entry.now letter }
+/// An argument with a value that is not empty.
+fn path<'a>(arg: Arg<'a>, value: &'a str) -> Arg<'a>
+    ensures rule { rule_of result ≡ record (rule_of arg.entry) {
+      action = Some Set;
+      value_names = 1;
+      parser = Some NonEmptyString;
+    } }
+    ensures local { result.global ≡ arg.entry.global }
+{
+    taking(arg, value, ArgAction::Set, ValueParser::NonEmptyString)
+}
+
+/// The argument that a word becomes, without its letter and its default.
+fn formed<'a>(alloc: Global, word: Word<'a>) -> Arg<'a>
+    ensures rule { rule_of result ≡ form_rule word.entry.form word.entry.id.now }
     ensures local { result.global ≡ false }
 {
-    Arg::new(alloc, id)
-        .short(letter)
-        .long(id)
-        .help(about)
-        .action(ArgAction::Count)
+    let id = word.id;
+    let arg = Arg::new(alloc, id).help(word.about);
+    match word.form {
+        Form::Alone(value) => taking(arg, value, ArgAction::Set, ValueParser::String),
+        Form::Path(value) => path(arg.long(id), value),
+        Form::Needed(value) => path(arg.long(id), value).required(true),
+        Form::Choice(value) => taking(arg.long(id), value, ArgAction::Set, ValueParser::String),
+        Form::Truth(value) => taking(arg.long(id), value, ArgAction::Set, ValueParser::Bool),
+        Form::List(value) => taking(arg.long(id), value, ArgAction::Append, ValueParser::String),
+        Form::Flag => arg.long(id).action(ArgAction::SetTrue),
+        Form::Counted => arg.long(id).action(ArgAction::Count),
+    }
+}
+
+/// The argument that a word becomes.
+fn made<'a>(alloc: Global, word: Word<'a>) -> Arg<'a>
+    ensures rule { rule_of result ≡ word_rule word.entry }
+    ensures local { result.global ≡ false }
+{
+    let arg = formed(alloc, word);
+    match (word.letter, word.default) {
+        (None, None) => arg,
+        (Some(letter), None) => arg.short(letter),
+        (None, Some(value)) => arg.default_value(value),
+        (Some(letter), Some(value)) => arg.short(letter).default_value(value),
+    }
+}
+
+/// Adds words, in their order. The command may have failed already: so a caller that adds more than once has no exit
+/// between, at which what it holds would be dropped.
+pub(crate) fn with_words<'a>(
+    alloc: Global,
+    command: Result<Command<'a>, AllocError>,
+    words: &[Word<'a>],
+) -> Result<Command<'a>, AllocError>
+    ensures { (app : App) → IfOk command.entry (IsLocal app)
+        → IfOk result (IsLocal (with_rules app (map word_rule words.now))) }
+{
+    let mut command = command?;
+    for word in words {
+        command = command.arg(made(alloc, *word))?;
+    }
+    Ok(command)
 }

@@ -11,15 +11,15 @@ returns-clause-app c =
     let top : App = record { top = top_shape; subs = [] } in
     let top_is : app_of c.subcommand_required.result ≡ top = search rules in
     let one : app_of c.in_ok-subcommand.field-0 ≡ with_subcommand top (upgrade_app (codes "upgrade")).top
-    = c.in_ok-subcommand.ensures.shape c.in_ok-upgrade_command.ensures.local
-    ∙ ap₂ with_subcommand top_is (ap (λ (a : App). a.top) c.in_ok-upgrade_command.ensures.app) in
+    = c.in_ok-subcommand.ensures.shape c.in_ok-upgrade_command.ensures.1
+    ∙ ap₂ with_subcommand top_is (ap (λ (a : App). a.top) c.in_ok-upgrade_command.ensures.0) in
     let two : app_of c.in_ok-subcommand-2.field-0
     ≡ with_subcommand (with_subcommand top (upgrade_app (codes "upgrade")).top)
     (upgrade_app (codes "looks")).top =
-    c.in_ok-subcommand-2.ensures.shape c.in_ok-upgrade_command-2.ensures.local
-    ∙ ap₂ with_subcommand one (ap (λ (a : App). a.top) c.in_ok-upgrade_command-2.ensures.app) in
-    IfOk-weaker c.subcommand-3.result _ _ (λ r h. h.shape c.in_ok-set_version_command.ensures.local
-    ∙ ap₂ with_subcommand two (ap (λ (a : App). a.top) c.in_ok-set_version_command.ensures.app))
+    c.in_ok-subcommand-2.ensures.shape c.in_ok-upgrade_command-2.ensures.1
+    ∙ ap₂ with_subcommand one (ap (λ (a : App). a.top) c.in_ok-upgrade_command-2.ensures.0) in
+    IfOk-weaker c.subcommand-3.result _ _ (λ r h. h.shape c.in_ok-set_version_command.ensures.1
+    ∙ ap₂ with_subcommand two (ap (λ (a : App). a.top) c.in_ok-set_version_command.ensures.0))
     c.subcommand-3.ensures
 
 pub returns-clause-simple : goal.returns-clause-simple

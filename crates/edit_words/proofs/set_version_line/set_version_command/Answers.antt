@@ -1,23 +1,15 @@
-use Rattle.std.proofs.Common.{◌≡◌, ◌∙◌, ap, codes, rules}
-use Rattle.std.proofs.lemmas.Result.{IfOk-weaker}
-use Rattle.clap.specs.Words.{App, app_of, new_app}
-use Rattle.edit_words.specs.Rules.{reports, selections, with_rules}
-use Rattle.edit_words.specs.SetVersionLine.{ignored, members, sources, targets}
+use Rattle.std.proofs.Common.{◌≡◌, Ok, codes, false, rules}
+use Rattle.clap.specs.Words.{app_of, new_app}
+use Rattle.clap.specs.declared.builder.command.Command.TheViews.{out-Command}
+use Rattle.edit_words.proofs.WordLemmas.{words_added}
 use Rattle.edit_words.proofs.set_version_line.set_version_command.Goals as goal
 
-pub returns-clause-app : goal.returns-clause-app
-returns-clause-app c =
-    let start : app_of c.about-command.result ≡ new_app (codes "set-version") = search rules in
-    let one = c.in_ok-command.ensures.app ∙ ap (λ (a : App). with_rules a targets) start in
-    let two = c.in_ok-command-2.ensures.app ∙ ap (λ (a : App). with_rules a sources) one in
-    let three = c.in_ok-command-3.ensures.app ∙ ap (λ (a : App). with_rules a selections) two in
-    let four = c.in_ok-command-4.ensures.app ∙ ap (λ (a : App). with_rules a members) three in
-    let five = c.in_ok-command-5.ensures.app ∙ ap (λ (a : App). with_rules a reports) four in
-    IfOk-weaker c.with_ignored.result _ _ (λ r h. h ∙ ap (λ (a : App). with_rules a ignored) five)
-    c.with_ignored.ensures.app
-
-pub returns-clause-local : goal.returns-clause-local
-returns-clause-local c = IfOk-weaker c.with_ignored.result _ _
-    (λ r h. h (c.in_ok-command-5.ensures.local
-    (c.in_ok-command-4.ensures.local (c.in_ok-command-3.ensures.local (c.in_ok-command-2.ensures.local
-    (c.in_ok-command.ensures.local (search rules))))))) c.with_ignored.ensures.local
+pub returns : goal.returns
+returns c =
+    let start : app_of c.about.result ≡ new_app (codes "set-version") = search rules in
+    let local : (out-Command c.about.result).has_globals ≡ false = search rules in
+    words_added _ _ _ _ _ c.with_words.ensures c.ignored.ensures
+    (words_added _ _ _ _ _ c.with_words-command-3.ensures c.reports.ensures
+    (words_added _ _ _ _ _ c.with_words-command-2.ensures c.members.ensures
+    (words_added (Ok c.about.result) _ _ _ (new_app (codes "set-version")) c.with_words-command.ensures c.targets.ensures
+    (start, local))))
