@@ -1,5 +1,7 @@
--- Commands that get words and subcommands.
-use Rattle.std.proofs.Common.{◌≡◌, ◌∙◌, ◌<◌, ◌≤◌, ◌+◌, ◌||◌, ◌∷◌, IfOk, List, None, Some, [], false, add-one, ap, ap₂, drop, drop_of_length-le, length, map, refl, subst, sym, ℕ}
+-- The rules of words, and commands that get words.
+use Rattle.std.proofs.Common.{◌≡◌, ◌∙◌, ◌<◌, ◌≤◌, ◌+◌, ◌||◌, ◌∷◌}
+use Rattle.std.proofs.Common.{IfOk, List, None, Some, [], add-one, ap, ap₂, drop, drop_of_length-le, false}
+use Rattle.std.proofs.Common.{length, map, refl, subst, sym, ℕ}
 use Rattle.std.proofs.Math.Seq.{drop-cons}
 use Rattle.std.specs.List.{slice_index_or}
 use Rattle.std.specs.Prelude.{Result}
@@ -48,7 +50,8 @@ pub next_word : (old new : Command) (arg : Arg) (words : List Word) (i : ℕ) (d
     × ((out-Command new).has_globals ≡ false)
 next_word old new arg words i d all adds rule local lt is =
     let rest = map word_rule (drop (i + 1) words) in
-    let cut : drop i words ≡ slice_index_or words i d ∷ drop (i + 1) words = rw (add-one, drop-cons words i d) refl in (
+    let cut : drop i words ≡ slice_index_or words i d ∷ drop (i + 1) words =
+    rw (add-one, drop-cons words i d) refl in (
       ap (λ (a : App). with_rules a rest) (adds.shape local ∙ ap (with_rule (app_of old)) rule)
           ∙ (ap (λ ws. with_rules (app_of old) (map word_rule ws)) (sym cut) ∙ is.0),
       adds.globals ∙ ap₂ (λ x y. x || y) is.1 local,
@@ -56,13 +59,18 @@ next_word old new arg words i d all adds rule local lt is =
 
 -- behind the last word
 pub no_word : (command : Command) (words : List Word) (i : ℕ) (all : App) → length words ≤ i
-    → (with_rules (app_of command) (map word_rule (drop i words)) ≡ all) × ((out-Command command).has_globals ≡ false)
+    → (with_rules (app_of command) (map word_rule (drop i words)) ≡ all)
+    × ((out-Command command).has_globals ≡ false)
     → (app_of command ≡ all) × ((out-Command command).has_globals ≡ false)
-no_word command words i all le is =
-    (ap (λ ws. with_rules (app_of command) (map word_rule ws)) (sym (drop_of_length-le words le)) ∙ is.0, is.1)
+no_word command words i all le is = (
+  ap (λ ws. with_rules (app_of command) (map word_rule ws)) (sym (drop_of_length-le words le))
+      ∙ is.0,
+  is.1,
+)
 
 -- a command gets words of which the rules are known
-pub words_added : {E : Type 0} (old new : Result Command E) (words : List Word) (rules : List Rule) (app : App)
+pub words_added : {E : Type 0} (old new : Result Command E) (words : List Word) (rules : List Rule)
+    (app : App)
     → ((a : App) → IfOk old (IsLocal a) → IfOk new (IsLocal (with_rules a (map word_rule words))))
     → map word_rule words ≡ rules → IfOk old (IsLocal app) → IfOk new (IsLocal (with_rules app rules))
 words_added old new words rules app adds e is =

@@ -130,8 +130,8 @@ fn made<'a>(alloc: Global, word: Word<'a>) -> Arg<'a>
     }
 }
 
-/// Adds words, in their order. The command may have failed already: so a caller that adds more than once has no exit
-/// between, at which what it holds would be dropped.
+/// Adds words, in their order. The command may have failed already: so a caller that adds more than once
+/// has no exit between, at which what it holds would be dropped.
 pub(crate) fn with_words<'a>(
     alloc: Global,
     command: Result<Command<'a>, AllocError>,

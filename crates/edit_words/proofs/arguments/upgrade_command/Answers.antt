@@ -12,5 +12,6 @@ returns c =
     (words_added _ _ _ _ _ c.with_words-command-4.ensures c.choices.ensures
     (words_added _ _ _ _ _ c.with_words-command-3.ensures c.reports.ensures
     (words_added _ _ _ _ _ c.with_words-command-2.ensures c.switches.ensures
-    (words_added (Ok c.about.result) _ _ _ (new_app c.args.name.now) c.with_words-command.ensures c.files.ensures
+    (words_added (Ok c.about.result) _ _ _ (new_app c.args.name.now)
+    c.with_words-command.ensures c.files.ensures
     (start, local)))))

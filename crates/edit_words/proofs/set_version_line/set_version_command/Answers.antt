@@ -11,5 +11,6 @@ returns c =
     words_added _ _ _ _ _ c.with_words.ensures c.ignored.ensures
     (words_added _ _ _ _ _ c.with_words-command-3.ensures c.reports.ensures
     (words_added _ _ _ _ _ c.with_words-command-2.ensures c.members.ensures
-    (words_added (Ok c.about.result) _ _ _ (new_app (codes "set-version")) c.with_words-command.ensures c.targets.ensures
+    (words_added (Ok c.about.result) _ _ _ (new_app (codes "set-version"))
+    c.with_words-command.ensures c.targets.ensures
     (start, local))))
