@@ -1,5 +1,6 @@
 pub mod Asked
 pub mod Commands
+pub mod Merged
 pub mod Presented
 pub mod Runs
 pub mod UpgradeAsked

@@ -10,7 +10,7 @@ use Rattle.edit_base.specs.declared.errors.Error.TheVariants.{Merged, Output}
 use Rattle.edit_base.specs.declared.errors.details.MergedCommand.{MergedCommand}
 use Rattle.edit_store.specs.Store.{SameFiles, StoreView}
 use Rattle.edit_words.specs.CommandLine.{edit_app}
-use Rattle.edit_words.specs.Merged.{merged_of}
+use Rattle.edit_program.specs.Merged.{merged_of}
 use Rattle.edit_program.specs.Commands.{IsAtFault, IsBrokenBy, IsCauseBy, IsDoneBy}
 
 -- the command line takes the words, and these are the matches of the subcommand that they name

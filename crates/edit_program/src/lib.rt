@@ -6,6 +6,7 @@ mod commands;
 mod faults;
 pub mod looks;
 mod lookups;
+mod merged;
 mod presented;
 mod program;
 pub mod set_version_run;

@@ -4,15 +4,16 @@ ghost use Rattle.std.specs.Io.KnownBytes.{Appends};
 ghost use Rattle.edit_sources.specs.Configured.{given};
 ghost use Rattle.edit_base.specs.declared.errors.details.MergedCommand.{MergedCommand};
 ghost use Rattle.edit_words.specs.Filled.{filled};
-ghost use Rattle.edit_words.specs.Merged.{merged_of};
+ghost use Rattle.edit_program.specs.Merged.{merged_of};
 ghost use Rattle.edit_program.specs.Runs.{AreAtFault, HasFound, IsDone, IsEnded, IsRefused, IsRunCause};
 
 use crate::commands::subcommand_asked;
 use crate::faults::{refuse, shown};
+use crate::merged::merged_of;
 use edit_base::Error;
 use edit_steps::{Refusal, RunResult};
 use edit_store::Store;
-use edit_words::{command, filled_words, merged_of};
+use edit_words::{command, filled_words};
 use std::alloc::Global;
 use std::io;
 
