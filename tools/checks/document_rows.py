@@ -1,7 +1,8 @@
 """How rows of documents and of edits are run by edit_calls, and what it prints is told in their words.
 
 A table is one text: a row ends at `~`, and is what is wanted, the call, and the text of a manifest, with
-bars between. A call is a verb and a place, whose steps stand between slashes: a key, or `#` and an index."""
+bars between. A call is a verb and a place, whose steps stand between slashes: a key, or `#` and an index; or
+the verb `copy` alone, which puts a copy in the document's place."""
 
 from edits import steps, words_of
 
@@ -50,11 +51,13 @@ def entry(words):
 def edit(call):
     """The words of an edit for edit_calls: a verb, a place, and what is written there."""
     verb, _, rest = call.partition(" ")
+    if verb == "copy":
+        return ["copy", "="]
     if verb == "remove":
         return ["remove", *place(rest)]
     at, _, words = rest.partition(" ")
     if verb == "set":
-        return ["set_literal", *place(at), words]
+        return ["set_string", *place(at), *words_of(words)]
     if verb == "value":
         return ["set_value", *place(at), *words_of(value(words))]
     if verb == "insert":

@@ -44,7 +44,8 @@ def words_of(value):
     if isinstance(value, bool):
         return ["truth", "true" if value else "false"]
     if isinstance(value, str):
-        return ["text", value]
+        # (no word holds a byte 0)
+        return ["zeros", value.replace("\0", "\u2400")] if "\0" in value else ["text", value]
     if isinstance(value, list):
         return ["list", str(len(value)), *value]
     if value["dotted"]:

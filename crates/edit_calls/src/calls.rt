@@ -3,7 +3,7 @@ ghost use Rattle.edit_tree.specs.NewItems.{IsEntry};
 ghost use Rattle.edit_document.specs.NewItemViews.{item_seen};
 
 use crate::words::Words;
-use edit_document::{CargoResult, Document, Error, NewItem, Step};
+use edit_document::{CargoResult, Document, Error, NewItem, NewValue, Step};
 use edit_manifest::Manifest;
 use edit_record::{Dependency, RegistrySource, Source};
 use std::alloc::Global;
@@ -19,7 +19,7 @@ fn made(answer: CargoResult<()>) -> CargoResult<bool> {
     }
 }
 
-/// Inserts a member.
+/// Inserts a member; where no table stands the call refuses it.
 fn insert(
     alloc: Global,
     document: &mut Document,
@@ -31,7 +31,7 @@ fn insert(
     let Some(item) = document.item(place) else {
         return Ok(false);
     };
-    if !item.is_table_like() || item.get(key).is_some() || place.len() > 70 {
+    if item.get(key).is_some() || place.len() > 70 {
         return Ok(false);
     }
     made(document.insert(alloc, place, key, &value))
@@ -70,6 +70,25 @@ fn set_literal(
         return Ok(false);
     }
     made(document.set_literal(alloc, place, text))
+}
+
+/// Sets a string that the words hold as a value.
+fn set_string(
+    alloc: Global,
+    document: &mut Document,
+    place: &[Step],
+    words: &mut Words<'_>,
+) -> CargoResult<bool> {
+    match words.take_value(alloc)? {
+        NewValue::Str(text) => set_literal(alloc, document, place, text.as_str()),
+        _ => Ok(false),
+    }
+}
+
+/// Puts a copy in the place of a document.
+fn copy(alloc: Global, document: &mut Document) -> CargoResult<bool> {
+    *document = document.try_clone(alloc)?;
+    Ok(true)
 }
 
 /// Replaces an entry by a new one.
@@ -204,6 +223,8 @@ fn edit_at(
         "remove" => remove(alloc, document, place),
         "set_value" => set_value(alloc, document, place, words),
         "set_literal" => set_literal(alloc, document, place, words.take()),
+        "set_string" => set_string(alloc, document, place, words),
+        "copy" => copy(alloc, document),
         "replace_entry" => replace_entry(alloc, document, place, words),
         "rewrite" => rewrite(alloc, document, place),
         "update" => update(alloc, document, place, words),
@@ -212,11 +233,7 @@ fn edit_at(
 }
 
 /// Makes the edit that the words name.
-pub(crate) fn edit(
-    alloc: Global,
-    manifest: &mut Manifest,
-    words: &mut Words<'_>,
-) -> CargoResult<bool> {
+fn edit(alloc: Global, manifest: &mut Manifest, words: &mut Words<'_>) -> CargoResult<bool> {
     let call = words.take();
     let place = words.take_place(alloc)?;
     match call {
@@ -224,4 +241,16 @@ pub(crate) fn edit(
         "remove_from_table" => remove_from_table(alloc, manifest, words),
         _ => edit_at(alloc, &mut manifest.document, &place, call, words),
     }
+}
+
+/// Makes the edits of the words, with `&` between two of them, up to the first that is not made.
+pub(crate) fn edits(alloc: Global, manifest: &mut Manifest, words: &[String]) -> CargoResult<bool> {
+    let mut taken = Words::new(words);
+    for _ in words {
+        let is_made = edit(alloc, manifest, &mut taken)?;
+        if !is_made || taken.take() != "&" {
+            return Ok(is_made);
+        }
+    }
+    Ok(false)
 }

@@ -1,27 +1,36 @@
-//! The program `edit_calls`: makes the edit of a manifest that its words name, or one call of a plan, of a
-//! ranking or of a reader, and prints what it leaves or answers. It is for the checks of the gate, and is not
-//! installed.
+//! The program `edit_calls`: makes the edits of a manifest that its words name, or one call of a plan, of a
+//! ranking or of a reader, and prints what it leaves or answers. It is for the checks of the gate, and is
+//! not installed.
 //!
 //!     edit_calls FILE insert STEP.. = KEY VALUE
 //!     edit_calls FILE remove STEP.. =
 //!     edit_calls FILE set_value STEP.. = VALUE
 //!     edit_calls FILE set_literal STEP.. = TEXT
+//!     edit_calls FILE set_string STEP.. = VALUE
+//!     edit_calls FILE copy =
 //!     edit_calls FILE replace_entry STEP.. = ENTRY
 //!     edit_calls FILE rewrite STEP.. =
 //!     edit_calls FILE update STEP.. = VERSION N FEATURE ..
 //!     edit_calls FILE gc_dep = KEY
 //!     edit_calls FILE remove_from_table = N NAME .. KEY
+//!     edit_calls FILE EDIT & EDIT ..
+//!     edit_calls FILE pieces EDIT & EDIT ..
 //!     edit_calls FILE show STEP.. =
 //!     edit_calls FILE show STEP.. = ENTRY
+//!     edit_calls FILE written ENTRY
 //!
-//! A step is `.NAME` or `#INDEX`. VALUE is `text TEXT`, `truth true`, `truth false` or `list N TEXT ..`;
-//! ENTRY is a VALUE, `table N NAME VALUE ..` or `dotted`. `rewrite` reads an entry's record and replaces the
-//! entry by it; `update` gives the record another version and more features, makes it optional, and updates
-//! the entry with it. It prints `done`, `no such place`, or `refused`, a number and a text, and below it the
-//! text of the document. Where memory ran out it then prints the kinds of what the document shows, makes the
-//! edit once more, and prints the answer to that. `show` prints what stands at a place of the document, or of
-//! a new entry: its type, how many members or elements, its truth, which views it has, its keys, and last its
-//! string; of the document also whether one statement alone names the place.
+//! A step is `.NAME` or `#INDEX`. VALUE is `text TEXT`, `zeros TEXT` (with `␀` for each byte 0, which no
+//! word holds), `truth true`, `truth false` or `list N TEXT ..`; ENTRY is a VALUE, `table N NAME VALUE ..`
+//! or `dotted`. `set_string` is `set_literal` of a VALUE; `copy` puts a copy in the place of the document;
+//! `rewrite` reads an entry's record and replaces the entry by it; `update` gives the record another version
+//! and more features, makes it optional, and updates the entry with it. Edits with a word `&` between them
+//! are made one behind the other, up to the first that is not made. It prints `done`, `no such place`, or
+//! `refused`, a number and a text, and below it the text of the document. Where memory ran out it then
+//! prints the kinds of what the document shows, makes the edits once more, and prints the answer to that.
+//! `pieces` also prints how many pieces the document keeps its text in, the text, and each piece, each
+//! behind a byte 0. `show` prints what stands at a place of the document, or of a new entry: its type, how
+//! many members or elements, its truth, which views it has, its keys, and last its string; of the document
+//! also whether one statement alone names the place. `written` prints how a new entry is written.
 //!
 //!     edit_calls upgrade FOLDER
 //!     edit_calls ranked FOLDER NAME
@@ -46,18 +55,17 @@ mod shown;
 mod views;
 mod words;
 
-use calls::edit;
+use calls::edits;
 use edit_document::{CargoResult, Error};
 use edit_manifest::Manifest;
 use edit_store::{HostStore, Store};
 use readers::planned_call;
 use said::say;
-use shown::show_words;
+use shown::{show_words, show_written};
 use std::env;
 use std::io::Write;
 use std::process::ExitCode;
-use views::show_views;
-use words::Words;
+use views::{show_pieces, show_views};
 
 /// Prints a refusal and the text that stands then. Tells whether memory ran out.
 fn refused(rt: &HostRuntime, manifest: &Manifest, error: &Error) -> bool {
@@ -69,9 +77,9 @@ fn refused(rt: &HostRuntime, manifest: &Manifest, error: &Error) -> bool {
     number == 46
 }
 
-/// Makes the edit, and prints what it answers and the text that stands then. Tells whether memory ran out.
+/// Makes the edits, and prints what is answered and the text that stands then. Tells whether memory ran out.
 fn edited(rt: &HostRuntime, manifest: &mut Manifest, words: &[String]) -> bool {
-    let said = match edit(rt.alloc(), manifest, &mut Words::new(words)) {
+    let said = match edits(rt.alloc(), manifest, words) {
         Ok(true) => "done",
         Ok(false) => "no such place",
         Err(error) => return refused(rt, manifest, &error),
@@ -89,7 +97,7 @@ fn manifest_of(rt: &HostRuntime, path: &str) -> CargoResult<Manifest> {
     }
 }
 
-/// Makes the edit of the words, and again where memory ran out.
+/// Makes the edits of the words, and again where memory ran out.
 fn answer_on(rt: &HostRuntime, manifest: &mut Manifest, words: &[String]) {
     if edited(rt, manifest, words) {
         show_views(rt, &manifest.document);
@@ -103,6 +111,11 @@ fn answer_to(rt: &HostRuntime, path: &str, words: &[String]) -> CargoResult<()> 
     match words {
         [call, words @ ..] if call.as_str() == "show" => {
             show_words(rt, &manifest.document, words)
+        }
+        [call, words @ ..] if call.as_str() == "written" => show_written(rt, words),
+        [call, words @ ..] if call.as_str() == "pieces" => {
+            answer_on(rt, &mut manifest, words);
+            show_pieces(rt, &manifest.document)
         }
         _ => {
             answer_on(rt, &mut manifest, words);

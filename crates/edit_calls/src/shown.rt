@@ -84,6 +84,13 @@ fn show_entry(rt: &HostRuntime, place: &[Step], words: &mut Words<'_>) -> CargoR
     Ok(())
 }
 
+/// Prints how the entry of the words is written.
+pub(crate) fn show_written(rt: &HostRuntime, words: &[String]) -> CargoResult<()> {
+    let item = Words::new(words).take_item(rt.alloc())?;
+    say(rt, item.text(rt.alloc())?);
+    Ok(())
+}
+
 /// Prints what stands at the place of the words, in the document or in the entry behind the place.
 pub(crate) fn show_words(
     rt: &HostRuntime,

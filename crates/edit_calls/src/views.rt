@@ -1,6 +1,6 @@
 //! What a document shows.
 use crate::said::say;
-use edit_document::{Document, Item};
+use edit_document::{CargoResult, Document, Item};
 
 /// Prints the name and the kind of each member of a table.
 fn show_members(rt: &HostRuntime, table: Item<'_>) {
@@ -22,4 +22,18 @@ pub(crate) fn show_views(rt: &HostRuntime, document: &Document) {
             show_members(rt, item);
         }
     }
+}
+
+/// Prints how many pieces a document keeps its text in, the text, and each piece, also one behind the last
+/// if there is one: each behind a byte 0, which no document holds.
+pub(crate) fn show_pieces(rt: &HostRuntime, document: &Document) -> CargoResult<()> {
+    let text = document.text(rt.alloc())?;
+    let count = document.pieces();
+    say(rt, format_args!("\0{count}\0{text}"));
+    for number in 0..=count {
+        if let Some(piece) = document.piece(number) {
+            say(rt, format_args!("\0{piece}"));
+        }
+    }
+    Ok(())
 }

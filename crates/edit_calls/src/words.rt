@@ -60,11 +60,12 @@ impl<'a> Words<'a> {
         Ok(texts)
     }
 
-    /// A value of a kind: `text` and a text, `truth` and `true` or `false`, `list`, a number and so many
-    /// texts.
+    /// A value of a kind: `text` and a text, `zeros` and a text with `␀` for each byte 0, which no word
+    /// holds, `truth` and `true` or `false`, `list`, a number and so many texts.
     fn take_value_of(&mut self, alloc: Global, kind: &str) -> Result<NewValue, AllocError> {
         match kind {
             "truth" => Ok(NewValue::Bool(self.take() == "true")),
+            "zeros" => Ok(NewValue::Str(self.take().replace(alloc, "␀", "\0")?)),
             "list" => Ok(NewValue::Strings(self.take_texts(alloc)?)),
             _ => Ok(NewValue::Str(String::from_str(alloc, self.take())?)),
         }

@@ -1,7 +1,7 @@
 """Rows of edits: members inserted, items removed, entries replaced, strings and values set (TOML 1.0.0,
 "Keys", "Table", "Inline Table"). A row is what the text is afterwards, the edit, its place and what is
-written there, and the text before. Rows with a byte 0 or with a place where no table stands, which
-edit_calls cannot make, and the pieces of a text stand in `edit_tests::pieces`."""
+written there, and the text before. Rows with a byte 0, with a place where no table stands, and of edits one
+behind the other with the pieces of a text stand in pieces.py."""
 
 from document_rows import left, rows_of
 
