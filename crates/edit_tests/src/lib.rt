@@ -1,7 +1,7 @@
-//! Tests of what the program and its libraries answer, by public calls alone: documents, manifests, paths
-//! and the texts of refusals; versions, records, sources and workspaces; plans, reports and what an upgrade
-//! prints and writes; the program where files, an index or its streams fail. What the built program can show
-//! stands in tools/checks/rows.
+//! Tests of what the program and its libraries answer, by public calls alone: manifests, paths and the texts
+//! of refusals; versions, records, sources and workspaces; plans, reports and what an upgrade prints and
+//! writes; the program where files, an index or its streams fail. What built programs can show stands in
+//! tools/checks/rows.
 //!
 //! They stand in a crate of their own, since a crate with tests is proved once more with them, and in one,
 //! since each crate of tests pays for what it loads and for the types that its tests drop.
@@ -10,17 +10,11 @@
 #[cfg(test)]
 mod daily;
 #[cfg(test)]
-mod edits;
-#[cfg(test)]
 mod faults;
 #[cfg(test)]
 mod manifests;
 #[cfg(test)]
-mod new_items;
-#[cfg(test)]
 mod paths;
-#[cfg(test)]
-mod pieces;
 #[cfg(test)]
 mod plans;
 #[cfg(test)]

@@ -1,6 +1,5 @@
 //! The refusal of a number, with what a row says that it carries.
-use super::super::edits::listed;
-use crate::stop::text as text_of;
+use crate::stop::{push, text as text_of};
 use clap::Command;
 use edit_base::{DeviceCall, Error, MergedCommand, MissingKind, MissingNames};
 use std::alloc::{AllocError, Global};
@@ -159,10 +158,19 @@ fn of_parts(
     )
 }
 
+/// The names that a refusal carries.
+fn names_of(rt: &impl Abort, alloc: Global, parts: &str) -> Vec<String> {
+    let mut names = Vec::new(alloc);
+    'parts: for name in parts.split('@') {
+        push(rt, &mut names, text_of(rt, alloc, name));
+    }
+    names
+}
+
 /// A refusal that carries one text, or several.
 fn told_of(rt: &impl Abort, alloc: Global, number: u32, parts: &str) -> Option<Error> {
     if number == 39 || number == 43 {
-        return missing(number, listed(rt, alloc, parts, '@'));
+        return missing(number, names_of(rt, alloc, parts));
     }
     match parts.split_once('@') {
         Some((first, second)) => of_parts(rt, alloc, number, first, second),
