@@ -1,6 +1,5 @@
 //! What an assertion makes of the nodes: a new node, or an old one whose place is taken again.
-ghost use Rattle.std.specs.Prelude.{◌≡◌, ℕ, List, IfOk, IfErr, None, map, nat_le};
-ghost use Rattle.edit_base.specs.Errors.{IsMemory};
+ghost use Rattle.std.specs.Prelude.{◌≡◌, ℕ, List, IfOk, None, map, nat_le};
 ghost use Rattle.edit_tree.specs.Nodes.{Spot, Holds, bytes_of, shape_of};
 ghost use Rattle.edit_tree.specs.Taking as taking;
 ghost use Rattle.edit_tree.specs.declared.nodes.Taken.TheVariants.{Super};
@@ -8,9 +7,8 @@ ghost use Rattle.edit_tree.specs.Walk.{child, last_table, target_of, taken_again
 ghost use Rattle.edit_tree.specs.WalkState.{Adds, Puts};
 
 use crate::nodes::{Content, Members, Node, Taken, Words, copied, words_in};
-use edit_base::errors::CargoResult;
 use edit_syntax::Span;
-use std::alloc::Global;
+use std::alloc::{AllocError, Global};
 
 /// Whether a place that is taken so may be taken again.
 fn joins(before: Taken, after: Taken) -> bool
@@ -128,12 +126,11 @@ fn add(
     content: Content,
     taken: Taken,
     span: Option<Span>,
-) -> CargoResult<Option<usize>>
+) -> Result<Option<usize>, AllocError>
     ensures added { (spots : List Spot) → Holds text.now nodes.old.items spots
         → child spots number (bytes_of text.now name) ≡ None
         → IfOk result (Puts text.now nodes.new.items
         (added spots number (bytes_of text.now name) (shape_of text.now content) taken span)) }
-    ensures refused { IfErr result IsMemory }
 {
     let count = nodes.len();
     if number >= count {
@@ -164,11 +161,10 @@ pub(crate) fn add_element(
     content: Content,
     taken: Taken,
     span: Option<Span>,
-) -> CargoResult<Option<usize>>
+) -> Result<Option<usize>, AllocError>
     ensures added { (text : List ℕ) (spots : List Spot) → Holds text nodes.old.items spots
         → IfOk result (Puts text nodes.new.items
         (element_added spots number (shape_of text content) taken span)) }
-    ensures refused { IfErr result IsMemory }
 {
     let count = nodes.len();
     if number >= count {
@@ -202,11 +198,10 @@ pub(crate) fn assert_member(
     content: Content,
     taken: Taken,
     span: Option<Span>,
-) -> CargoResult<Option<usize>>
+) -> Result<Option<usize>, AllocError>
     ensures made { (spots : List Spot) → Holds text.now nodes.old.items spots
         → IfOk result (Puts text.now nodes.new.items
         (asserted spots number (bytes_of text.now name) (shape_of text.now content) taken span)) }
-    ensures refused { IfErr result IsMemory }
 {
     let Some(member) = find(text, nodes, number, words_in(text, &name)) else {
         return add(alloc, text, nodes, number, name, content, taken, span);
@@ -228,11 +223,10 @@ pub(crate) fn reach(
     fronts: &[Words],
     is_inline: bool,
     taken: Taken,
-) -> CargoResult<Option<usize>>
+) -> Result<Option<usize>, AllocError>
     ensures made { (spots : List Spot) → Holds text.now nodes.old.items spots
         → IfOk result (Puts text.now nodes.new.items
         (reached spots number (map (bytes_of text.now) fronts.now) (front_shape is_inline) taken)) }
-    ensures refused { IfErr result IsMemory }
 {
     let mut table = number;
     'fronts: for front in fronts {

@@ -8,14 +8,13 @@ use crate::assertions::add_element;
 use crate::nodes::{Content, Taken};
 use crate::walk::Walk;
 use edit_base::errors::CargoResult;
-use std::alloc::Global;
+use std::alloc::{AllocError, Global};
 
 impl Walk {
     /// This table and no other is open.
-    fn turn_to(&mut self, number: usize) -> CargoResult<()>
+    fn turn_to(&mut self, number: usize) -> Result<(), AllocError>
         ensures turned { IfOk result (λ _. (text : List ℕ) (st : State) → Walks text self.old st
             → Walks text self.new (record st { tables = number ∷ [] })) }
-        ensures refused { IfErr result IsMemory }
     {
         self.tables.clear();
         self.tables.push(number)?;

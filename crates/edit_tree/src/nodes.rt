@@ -1,15 +1,13 @@
 //! The table of nodes of a document.
-ghost use Rattle.std.specs.Prelude.{◌≡◌, ℕ, List, [], ◌∷◌, ◌++◌, None, Some, IfOk, IfErr, IsTrue, if◌then◌else◌, length, option_map, slice_get, string_bytes, take};
+ghost use Rattle.std.specs.Prelude.{◌≡◌, ℕ, List, [], ◌∷◌, ◌++◌, None, Some, IfOk, IsTrue, if◌then◌else◌, length, option_map, slice_get, string_bytes, take};
 ghost use Rattle.std.specs.BTreeMap.{get_by_text};
 ghost use Rattle.std.specs.Str.{bytes_eq};
-ghost use Rattle.edit_base.specs.Errors.{IsMemory};
 ghost use Rattle.edit_tree.specs.Nodes.{bytes_of, number_of, entries_in, entries_of, names_in, number_in, IsIndexed};
 ghost use Rattle.edit_syntax.specs.Spans.{bytes_at};
 
 use crate::cut::between;
-use edit_base::errors::CargoResult;
 use edit_syntax::Span;
-use std::alloc::Global;
+use std::alloc::{AllocError, Global};
 use std::collections::BTreeMap;
 
 /// What a string or a name says, after escapes.
@@ -81,10 +79,9 @@ impl Lookup {
     }
 
     /// Takes the table out, or makes one where there is none.
-    fn take_table(&mut self, alloc: Global) -> CargoResult<Box<BTreeMap<String, usize>>>
+    fn take_table(&mut self, alloc: Global) -> Result<Box<BTreeMap<String, usize>>, AllocError>
         ensures same { IfOk result (λ table. (name : List ℕ) → get_by_text table.value name
             ≡ number_of self.old name) }
-        ensures refused { IfErr result IsMemory }
     {
         match self.table.take() {
             Some(table) => Ok(table),
@@ -93,10 +90,9 @@ impl Lookup {
     }
 
     /// Adds a name.
-    fn insert(&mut self, alloc: Global, name: String, number: usize) -> CargoResult<()>
+    fn insert(&mut self, alloc: Global, name: String, number: usize) -> Result<(), AllocError>
         ensures added { IfOk result (λ _. (other : List ℕ) → number_of self.new other
             ≡ (if bytes_eq (string_bytes name) other then Some number else number_of self.old other)) }
-        ensures refused { IfErr result IsMemory }
     {
         let mut table = self.take_table(alloc)?;
         table.insert(name, number)?;
@@ -136,9 +132,8 @@ fn number_among(text: &str, members: &[Member], name: &str) -> Option<usize>
 }
 
 /// Adds a member: the first takes no more room than it needs, since many tables have one alone.
-fn push_exact(list: &mut Vec<Member>, member: Member) -> CargoResult<()>
+fn push_exact(list: &mut Vec<Member>, member: Member) -> Result<(), AllocError>
     ensures items { IfOk result (λ _. list.new.items ≡ list.old.items ++ member ∷ []) }
-    ensures refused { IfErr result IsMemory }
 {
     if list.is_empty() {
         list.reserve_exact(1)?;
@@ -203,13 +198,12 @@ impl Members {
         text: &str,
         name: Words,
         number: usize,
-    ) -> CargoResult<()>
+    ) -> Result<(), AllocError>
         ensures added { IfOk result (λ _. entries_of text.now self.new ≡ entries_of text.now self.old
             ++ (bytes_of text.now name, number) ∷ []) }
         ensures indexed { IsIndexed text.now self.old
             → number_in (entries_of text.now self.old) (bytes_of text.now name) ≡ None → IfOk result
             (λ _. IsIndexed text.now self.new) }
-        ensures refused { IfErr result IsMemory }
     {
         if self.list.len() >= FEW {
             let copy = String::from_str(alloc, words_in(text, &name))?;
@@ -284,9 +278,8 @@ pub fn words_in<'a>(text: &'a str, words: &'a Words) -> &'a str
 }
 
 /// The same words once more.
-pub(crate) fn copied(alloc: Global, words: &Words) -> CargoResult<Words>
+pub(crate) fn copied(alloc: Global, words: &Words) -> Result<Words, AllocError>
     ensures same { (text : List ℕ) → IfOk result (λ copy. bytes_of text copy ≡ bytes_of text words.now) }
-    ensures refused { IfErr result IsMemory }
 {
     match words {
         Words::Kept(span) => Ok(Words::Kept(*span)),

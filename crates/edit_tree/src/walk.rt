@@ -13,7 +13,7 @@ use crate::words::{worded, words_of};
 use edit_base::errors::{CargoResult, Error};
 use edit_syntax::Span;
 use edit_syntax::read::{Mark, MarkKind};
-use std::alloc::Global;
+use std::alloc::{AllocError, Global};
 
 /// The nodes so far; the numbers of the header and of the arrays and inline tables that are open, the
 /// innermost last; and the parts of the key that waits for its value: the last one, and those before it.
@@ -27,9 +27,8 @@ pub(crate) struct Walk {
 
 impl Walk {
     /// The root alone, with room for so many nodes.
-    fn new(alloc: Global, count: usize) -> CargoResult<Walk>
+    fn new(alloc: Global, count: usize) -> Result<Walk, AllocError>
         ensures root { IfOk result (λ w. (text : List ℕ) → Walks text w start) }
-        ensures refused { IfErr result IsMemory }
     {
         let mut nodes = Vec::with_capacity(alloc, count)?;
         nodes.push(Node {
@@ -64,10 +63,9 @@ impl Walk {
     }
 
     /// A part of a key waits, behind those before it.
-    fn await_name(&mut self, name: Words) -> CargoResult<()>
+    fn await_name(&mut self, name: Words) -> Result<(), AllocError>
         ensures goes { IfOk result (λ _. (text : List ℕ) (st : State) → Walks text self.old st
             → Walks text self.new (awaiting st (bytes_of text name))) }
-        ensures refused { IfErr result IsMemory }
     {
         if let Some(front) = self.name.take() {
             self.fronts.push(front)?;
@@ -96,11 +94,10 @@ impl Walk {
         content: Content,
         taken: Taken,
         span: Option<Span>,
-    ) -> CargoResult<Option<usize>>
+    ) -> Result<Option<usize>, AllocError>
         ensures goes { (st : State) → Walks text.now self.old st
             → IfOk result (Settles text.now self.new (settled st number front
             (shape_of text.now content) taken span)) }
-        ensures refused { IfErr result IsMemory }
     {
         let Some(name) = self.name.take() else {
             return Ok(None);
@@ -138,10 +135,9 @@ impl Walk {
         text: &str,
         content: Content,
         span: Option<Span>,
-    ) -> CargoResult<Option<usize>>
+    ) -> Result<Option<usize>, AllocError>
         ensures goes { (st : State) → Walks text.now self.old st
             → IfOk result (Settles text.now self.new (entered_at st (shape_of text.now content) span)) }
-        ensures refused { IfErr result IsMemory }
     {
         let Some(number) = self.tables.last().copied() else {
             return Ok(None);

@@ -4,55 +4,61 @@ use Rattle.edit_tree.proofs.SpotNodes.{kept_at, child_found}
 use Rattle.edit_tree.proofs.SpotTargets.{added_past, deepest, not_deepest, add_stopped, add_done}
 use Rattle.edit_tree.proofs.assertions.add.Goals as goal
 
-pub returns-then-number-count-clause-added : goal.returns-then-number-count-clause-added
-returns-then-number-count-clause-added c spots holds none =
-    let text = c.args.text.now in
-    let past : length c.args.nodes.now.items ≤ c.args.number = let k = c.args.nodes.now.ok.0 in
-    let n : c.len-count.result ≡ c.args.nodes.now.len = c.len-count.ensures in omega arith in
-    added_past c.args.nodes.now.items spots c.args.number (bytes_of text c.args.name)
-    (shape_of text c.args.content) c.args.taken c.args.span holds past
+pub returns-then-number-count : goal.returns-then-number-count
+returns-then-number-count c = record {
+  added = λ spots holds none.
+      let text = c.args.text.now in
+      let past : length c.args.nodes.now.items ≤ c.args.number = let k = c.args.nodes.now.ok.0 in
+      let n : c.len-count.result ≡ c.args.nodes.now.len = c.len-count.ensures in omega arith in
+      added_past c.args.nodes.now.items spots c.args.number (bytes_of text c.args.name)
+      (shape_of text c.args.content) c.args.taken c.args.span holds past;
+}
 
-pub returns-then-is_deepest-clause-added : goal.returns-then-is_deepest-clause-added
-returns-then-is_deepest-clause-added c spots holds none =
-    let text = c.args.text.now in
-    let inside : c.args.number < length c.args.nodes.now.items = let k = c.args.nodes.now.ok.0 in
-    let n : c.len-count.result ≡ c.args.nodes.now.len = c.len-count.ensures in omega arith in
-    add_stopped c.args.nodes.now.items spots c.args.number c.index_mut-node.result.now
-    (bytes_of text c.args.name) (shape_of text c.args.content) c.args.taken c.args.span holds inside
-    c.index_mut-node.ensures.value
-    (deepest c.index_mut-node.result.now.steps (sym c.is_deepest.ensures ∙ c.if-is_deepest.true))
+pub returns-then-is_deepest : goal.returns-then-is_deepest
+returns-then-is_deepest c = record {
+  added = λ spots holds none.
+      let text = c.args.text.now in
+      let inside : c.args.number < length c.args.nodes.now.items = let k = c.args.nodes.now.ok.0 in
+      let n : c.len-count.result ≡ c.args.nodes.now.len = c.len-count.ensures in omega arith in
+      add_stopped c.args.nodes.now.items spots c.args.number c.index_mut-node.result.now
+      (bytes_of text c.args.name) (shape_of text c.args.content) c.args.taken c.args.span holds inside
+      c.index_mut-node.ensures.value
+      (deepest c.index_mut-node.result.now.steps (sym c.is_deepest.ensures ∙ c.if-is_deepest.true));
+}
 
-pub returns-clause-added : goal.returns-clause-added
-returns-clause-added c spots holds none =
-    let text = c.args.text.now in
-    let inside : c.args.number < length c.args.nodes.now.items = let k = c.args.nodes.now.ok.0 in
-    let n : c.len-count.result ≡ c.args.nodes.now.len = c.len-count.ensures in
-    let l = c.if-number-count.false in omega arith in
-    let kept = kept_at c.args.nodes.now.items spots c.args.number c.index_mut-node.result.now holds inside
-    c.index_mut-node.ensures.value in
-    let absent = sym (child_found c.args.nodes.now.items spots c.args.number c.index_mut-node.result.now
-    (bytes_of text c.args.name) holds inside c.index_mut-node.ensures.value) ∙ none in
-    add_done c.args.nodes.now.items c.push.new.self.items spots c.args.number c.len-count.result
-    c.index_mut-node.result.now (record c.index_mut-node.result.now { members = c.insert.new.self }) _
-    (bytes_of text c.args.name) c.args.content c.args.taken c.args.span holds
-    c.if-number-count.false (c.len-count.ensures ∙ c.args.nodes.now.ok.0) c.index_mut-node.ensures.value
-    (not_deepest c.index_mut-node.result.now.steps (sym c.is_deepest.ensures ∙ c.if-is_deepest.false))
-    (record {
-      content = refl;
-      taken = refl;
-      steps = refl;
-      span = refl;
-      elements = refl;
-      entries = (c.in_ok-insert.ensures {u = tt}).added;
-      indexed = (c.in_ok-insert.ensures {u = tt}).indexed kept.keeps.indexed absent;
-    })
-    (record {
-      content_is = refl;
-      taken_is = refl;
-      steps_are = refl;
-      span_is = refl;
-      empty = c.none.ensures.empty text;
-      indexed = c.none.ensures.indexed text;
-      none = c.new.ensures.items;
-    })
-    (c.in_ok-push.ensures {u = tt}).items
+pub returns : goal.returns
+returns c = record {
+  added = λ spots holds none.
+      let text = c.args.text.now in
+      let inside : c.args.number < length c.args.nodes.now.items = let k = c.args.nodes.now.ok.0 in
+      let n : c.len-count.result ≡ c.args.nodes.now.len = c.len-count.ensures in
+      let l = c.if-number-count.false in omega arith in
+      let kept = kept_at c.args.nodes.now.items spots c.args.number c.index_mut-node.result.now holds inside
+      c.index_mut-node.ensures.value in
+      let absent = sym (child_found c.args.nodes.now.items spots c.args.number c.index_mut-node.result.now
+      (bytes_of text c.args.name) holds inside c.index_mut-node.ensures.value) ∙ none in
+      add_done c.args.nodes.now.items c.push.new.self.items spots c.args.number c.len-count.result
+      c.index_mut-node.result.now (record c.index_mut-node.result.now { members = c.insert.new.self }) _
+      (bytes_of text c.args.name) c.args.content c.args.taken c.args.span holds
+      c.if-number-count.false (c.len-count.ensures ∙ c.args.nodes.now.ok.0) c.index_mut-node.ensures.value
+      (not_deepest c.index_mut-node.result.now.steps (sym c.is_deepest.ensures ∙ c.if-is_deepest.false))
+      (record {
+        content = refl;
+        taken = refl;
+        steps = refl;
+        span = refl;
+        elements = refl;
+        entries = (c.in_ok-insert.ensures {u = tt}).added;
+        indexed = (c.in_ok-insert.ensures {u = tt}).indexed kept.keeps.indexed absent;
+      })
+      (record {
+        content_is = refl;
+        taken_is = refl;
+        steps_are = refl;
+        span_is = refl;
+        empty = c.none.ensures.empty text;
+        indexed = c.none.ensures.indexed text;
+        none = c.new.ensures.items;
+      })
+      (c.in_ok-push.ensures {u = tt}).items;
+}

@@ -3,43 +3,49 @@ use Rattle.edit_tree.specs.Nodes.{shape_of}
 use Rattle.edit_tree.proofs.SpotTargets.{element_past, deepest, not_deepest, element_stopped, element_done}
 use Rattle.edit_tree.proofs.assertions.add_element.Goals as goal
 
-pub returns-then-number-count-clause-added : goal.returns-then-number-count-clause-added
-returns-then-number-count-clause-added c text spots holds =
-    let past : length c.args.nodes.now.items ≤ c.args.number = let k = c.args.nodes.now.ok.0 in
-    let n : c.len-count.result ≡ c.args.nodes.now.len = c.len-count.ensures in omega arith in
-    element_past c.args.nodes.now.items spots c.args.number
-    (shape_of text c.args.content) c.args.taken c.args.span holds past
+pub returns-then-number-count : goal.returns-then-number-count
+returns-then-number-count c = record {
+  added = λ text spots holds.
+      let past : length c.args.nodes.now.items ≤ c.args.number = let k = c.args.nodes.now.ok.0 in
+      let n : c.len-count.result ≡ c.args.nodes.now.len = c.len-count.ensures in omega arith in
+      element_past c.args.nodes.now.items spots c.args.number
+      (shape_of text c.args.content) c.args.taken c.args.span holds past;
+}
 
-pub returns-then-is_deepest-clause-added : goal.returns-then-is_deepest-clause-added
-returns-then-is_deepest-clause-added c text spots holds =
-    let inside : c.args.number < length c.args.nodes.now.items = let k = c.args.nodes.now.ok.0 in
-    let n : c.len-count.result ≡ c.args.nodes.now.len = c.len-count.ensures in omega arith in
-    element_stopped c.args.nodes.now.items spots c.args.number c.index_mut-node.result.now
-    (shape_of text c.args.content) c.args.taken c.args.span holds inside c.index_mut-node.ensures.value
-    (deepest c.index_mut-node.result.now.steps (sym c.is_deepest.ensures ∙ c.if-is_deepest.true))
+pub returns-then-is_deepest : goal.returns-then-is_deepest
+returns-then-is_deepest c = record {
+  added = λ text spots holds.
+      let inside : c.args.number < length c.args.nodes.now.items = let k = c.args.nodes.now.ok.0 in
+      let n : c.len-count.result ≡ c.args.nodes.now.len = c.len-count.ensures in omega arith in
+      element_stopped c.args.nodes.now.items spots c.args.number c.index_mut-node.result.now
+      (shape_of text c.args.content) c.args.taken c.args.span holds inside c.index_mut-node.ensures.value
+      (deepest c.index_mut-node.result.now.steps (sym c.is_deepest.ensures ∙ c.if-is_deepest.true));
+}
 
-pub returns-clause-added : goal.returns-clause-added
-returns-clause-added c text spots holds =
-    element_done c.args.nodes.now.items c.push-2.new.self.items spots c.args.number c.len-count.result
-    c.index_mut-node.result.now (record c.index_mut-node.result.now { elements = c.push.new.self }) _
-    c.args.content c.args.taken c.args.span holds
-    c.if-number-count.false (c.len-count.ensures ∙ c.args.nodes.now.ok.0) c.index_mut-node.ensures.value
-    (not_deepest c.index_mut-node.result.now.steps (sym c.is_deepest.ensures ∙ c.if-is_deepest.false))
-    (record {
-      content = refl;
-      taken = refl;
-      steps = refl;
-      span = refl;
-      members = refl;
-      elements = (c.in_ok-push.ensures {u = tt}).items;
-    })
-    (record {
-      content_is = refl;
-      taken_is = refl;
-      steps_are = refl;
-      span_is = refl;
-      empty = c.none.ensures.empty text;
-      indexed = c.none.ensures.indexed text;
-      none = c.new.ensures.items;
-    })
-    (c.in_ok-push-2.ensures {u = tt}).items
+pub returns : goal.returns
+returns c = record {
+  added = λ text spots holds.
+      element_done c.args.nodes.now.items c.push-2.new.self.items spots c.args.number c.len-count.result
+      c.index_mut-node.result.now (record c.index_mut-node.result.now { elements = c.push.new.self }) _
+      c.args.content c.args.taken c.args.span holds
+      c.if-number-count.false (c.len-count.ensures ∙ c.args.nodes.now.ok.0) c.index_mut-node.ensures.value
+      (not_deepest c.index_mut-node.result.now.steps (sym c.is_deepest.ensures ∙ c.if-is_deepest.false))
+      (record {
+        content = refl;
+        taken = refl;
+        steps = refl;
+        span = refl;
+        members = refl;
+        elements = (c.in_ok-push.ensures {u = tt}).items;
+      })
+      (record {
+        content_is = refl;
+        taken_is = refl;
+        steps_are = refl;
+        span_is = refl;
+        empty = c.none.ensures.empty text;
+        indexed = c.none.ensures.indexed text;
+        none = c.new.ensures.items;
+      })
+      (c.in_ok-push-2.ensures {u = tt}).items;
+}

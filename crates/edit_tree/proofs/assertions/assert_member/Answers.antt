@@ -7,54 +7,60 @@ use Rattle.edit_tree.specs.WalkState.{Adds, Puts}
 use Rattle.edit_tree.proofs.KeyFronts.{asserted_new, asserted_again, asserted_refused}
 use Rattle.edit_tree.proofs.assertions.assert_member.Goals as goal
 
-pub returns-in_default-clause-made : goal.returns-in_default-clause-made
-returns-in_default-clause-made c spots holds =
-    let text = c.args.text.now in
-    let seen : Holds text c.deref.result.now spots = subst (λ (ns : List Node). Holds text ns spots)
-    (sym c.deref.ensures.value) holds in
-    let none : child spots c.args.number (bytes_of text c.args.name) ≡ None =
-    ap (child spots c.args.number) (sym c.words_in.ensures) ∙ sym (c.find.ensures spots seen) ∙
-    c.in_default.is in
-    subst (λ (o : Option (List Spot × ℕ)). IfOk c.add.result (Puts text c.add.new.nodes.items o))
-    (sym (asserted_new spots c.args.number (bytes_of text c.args.name)
-    (shape_of text c.args.content) c.args.taken c.args.span none))
-    (c.add.ensures.added spots holds none)
+pub returns-in_default : goal.returns-in_default
+returns-in_default c = record {
+  made = λ spots holds.
+      let text = c.args.text.now in
+      let seen : Holds text c.deref.result.now spots = subst (λ (ns : List Node). Holds text ns spots)
+      (sym c.deref.ensures.value) holds in
+      let none : child spots c.args.number (bytes_of text c.args.name) ≡ None =
+      ap (child spots c.args.number) (sym c.words_in.ensures) ∙ sym (c.find.ensures spots seen) ∙
+      c.in_default.is in
+      subst (λ (o : Option (List Spot × ℕ)). IfOk c.add.result (Puts text c.add.new.nodes.items o))
+      (sym (asserted_new spots c.args.number (bytes_of text c.args.name)
+      (shape_of text c.args.content) c.args.taken c.args.span none))
+      (c.add.ensures.added spots holds none);
+}
 
-pub returns-then-not-take_again-clause-made : goal.returns-then-not-take_again-clause-made
-returns-then-not-take_again-clause-made c spots holds =
-    let text = c.args.text.now in
-    let seen : Holds text c.deref.result.now spots = subst (λ (ns : List Node). Holds text ns spots)
-    (sym c.deref.ensures.value) holds in
-    let seen2 : Holds text c.deref-2.result.now spots = subst (λ (ns : List Node). Holds text ns spots)
-    (sym c.deref-2.ensures.value) holds in
-    let some : child spots c.args.number (bytes_of text c.args.name) ≡ Some c.in-Some.member =
-    ap (child spots c.args.number) (sym c.words_in.ensures) ∙ sym (c.find.ensures spots seen) ∙
-    c.in-Some.is in
-    let adds : Adds text c.take_again.new.nodes.items
-    (taken_again spots c.target-place.result c.args.taken) false =
-    subst (λ (b : Bool). Adds text c.take_again.new.nodes.items
-    (taken_again spots c.target-place.result c.args.taken) b) c.if-not-take_again.true
-    (c.take_again.ensures text spots holds) in
-    asserted_refused spots c.args.number c.in-Some.member c.target-place.result (bytes_of text c.args.name)
-    (shape_of text c.args.content) c.args.taken c.args.span some
-    (c.target-place.ensures text spots seen2) adds
+pub returns-then-not-take_again : goal.returns-then-not-take_again
+returns-then-not-take_again c = record {
+  made = λ spots holds.
+      let text = c.args.text.now in
+      let seen : Holds text c.deref.result.now spots = subst (λ (ns : List Node). Holds text ns spots)
+      (sym c.deref.ensures.value) holds in
+      let seen2 : Holds text c.deref-2.result.now spots = subst (λ (ns : List Node). Holds text ns spots)
+      (sym c.deref-2.ensures.value) holds in
+      let some : child spots c.args.number (bytes_of text c.args.name) ≡ Some c.in-Some.member =
+      ap (child spots c.args.number) (sym c.words_in.ensures) ∙ sym (c.find.ensures spots seen) ∙
+      c.in-Some.is in
+      let adds : Adds text c.take_again.new.nodes.items
+      (taken_again spots c.target-place.result c.args.taken) false =
+      subst (λ (b : Bool). Adds text c.take_again.new.nodes.items
+      (taken_again spots c.target-place.result c.args.taken) b) c.if-not-take_again.true
+      (c.take_again.ensures text spots holds) in
+      asserted_refused spots c.args.number c.in-Some.member c.target-place.result (bytes_of text c.args.name)
+      (shape_of text c.args.content) c.args.taken c.args.span some
+      (c.target-place.ensures text spots seen2) adds;
+}
 
-pub returns-clause-made : goal.returns-clause-made
-returns-clause-made c spots holds =
-    let text = c.args.text.now in
-    let seen : Holds text c.deref.result.now spots = subst (λ (ns : List Node). Holds text ns spots)
-    (sym c.deref.ensures.value) holds in
-    let seen2 : Holds text c.deref-2.result.now spots = subst (λ (ns : List Node). Holds text ns spots)
-    (sym c.deref-2.ensures.value) holds in
-    let some : child spots c.args.number (bytes_of text c.args.name) ≡ Some c.in-Some.member =
-    ap (child spots c.args.number) (sym c.words_in.ensures) ∙ sym (c.find.ensures spots seen) ∙
-    c.in-Some.is in
-    let adds : Adds text c.take_again.new.nodes.items
-    (taken_again spots c.target-place.result c.args.taken) true =
-    subst (λ (b : Bool). Adds text c.take_again.new.nodes.items
-    (taken_again spots c.target-place.result c.args.taken) b) c.if-not-take_again.false
-    (c.take_again.ensures text spots holds) in
-    asserted_again text c.take_again.new.nodes.items spots c.args.number c.in-Some.member
-    c.target-place.result (bytes_of text c.args.name)
-    (shape_of text c.args.content) c.args.taken c.args.span some
-    (c.target-place.ensures text spots seen2) adds
+pub returns : goal.returns
+returns c = record {
+  made = λ spots holds.
+      let text = c.args.text.now in
+      let seen : Holds text c.deref.result.now spots = subst (λ (ns : List Node). Holds text ns spots)
+      (sym c.deref.ensures.value) holds in
+      let seen2 : Holds text c.deref-2.result.now spots = subst (λ (ns : List Node). Holds text ns spots)
+      (sym c.deref-2.ensures.value) holds in
+      let some : child spots c.args.number (bytes_of text c.args.name) ≡ Some c.in-Some.member =
+      ap (child spots c.args.number) (sym c.words_in.ensures) ∙ sym (c.find.ensures spots seen) ∙
+      c.in-Some.is in
+      let adds : Adds text c.take_again.new.nodes.items
+      (taken_again spots c.target-place.result c.args.taken) true =
+      subst (λ (b : Bool). Adds text c.take_again.new.nodes.items
+      (taken_again spots c.target-place.result c.args.taken) b) c.if-not-take_again.false
+      (c.take_again.ensures text spots holds) in
+      asserted_again text c.take_again.new.nodes.items spots c.args.number c.in-Some.member
+      c.target-place.result (bytes_of text c.args.name)
+      (shape_of text c.args.content) c.args.taken c.args.span some
+      (c.target-place.ensures text spots seen2) adds;
+}
