@@ -1,6 +1,5 @@
 //! Edits inside a value: the bytes of an array or an inline table without some of its elements or members.
-ghost use Rattle.std.specs.Prelude.{◌≡◌, ℕ, List, Bool, true, false, if◌then◌else◌, ◌==◌, ◌-◌, ◌≤◌, ◌++◌, ◌∷◌, [], MatchResult, IfOk, IfErr, OnOk, take, drop, length, map};
-ghost use Rattle.edit_base.specs.Errors.{IsMemory};
+ghost use Rattle.std.specs.Prelude.{◌≡◌, ℕ, List, Bool, true, false, if◌then◌else◌, ◌==◌, ◌-◌, ◌≤◌, ◌++◌, ◌∷◌, [], IfOk, OnOk, take, drop, length, map};
 ghost use Rattle.edit_syntax.specs.Grammar.{Between, gap, Value, value as value_text, IsValue};
 ghost use Rattle.edit_syntax.specs.Depth.{depth};
 ghost use Rattle.edit_syntax.specs.Marks.{key_marks};
@@ -16,7 +15,6 @@ ghost use Rattle.edit_document.specs.Remainders.{Leaves, Keeps};
 ghost use Rattle.edit_tree.specs.WalkState.{SaysAt};
 
 use crate::place::Step;
-use edit_base::errors::CargoResult;
 use edit_syntax::read::Mark;
 use edit_syntax::read::gaps::past_gap;
 use edit_syntax::read::steps::{past_blanks, past_name, past_value};
@@ -173,23 +171,25 @@ fn closer(is_table: bool) -> u8
 }
 
 /// Whether the part of a key with this mark is the name of a step.
-fn is_step(alloc: Global, text: &str, mark: Mark, step: &Step) -> CargoResult<bool>
+fn is_step(alloc: Global, text: &str, mark: Mark, step: &Step) -> Result<bool, AllocError>
     ensures { (name : List ℕ) → SaysAt text.now mark name
-        → MatchResult result (λ b. b ≡ same_step (step_seen step.now) (name_step name)) IsMemory }
+        → IfOk result (λ b. b ≡ same_step (step_seen step.now) (name_step name)) }
 {
     match step {
         Step::Index(_) => Ok(false),
         Step::Key(key) => {
-            let words = words_of(alloc, text, mark)?;
+            let Some(words) = words_of(alloc, text, mark).ok() else {
+                return Err(AllocError);
+            };
             Ok(words_in(text, &words) == key.as_str())
         }
     }
 }
 
 /// Whether a key whose parts have these marks names the place of the steps or one below it.
-fn is_named(alloc: Global, text: &str, marks: &[Mark], steps: &[Step]) -> CargoResult<bool>
+fn is_named(alloc: Global, text: &str, marks: &[Mark], steps: &[Step]) -> Result<bool, AllocError>
     ensures { (ns : List (List ℕ)) → AreSaid text.now marks.now ns
-        → MatchResult result (λ b. b ≡ is_within (place_seen steps.now) (map name_step ns)) IsMemory }
+        → IfOk result (λ b. b ≡ is_within (place_seen steps.now) (map name_step ns)) }
 {
     let [step, steps @ ..] = steps else {
         return Ok(true);
@@ -222,27 +222,33 @@ pub(crate) fn past_slot<'a>(
     is_table: bool,
     index: usize,
     below: &[Step],
-) -> CargoResult<(bool, &'a [u8])>
+) -> Result<(bool, &'a [u8]), AllocError>
     ensures { (it : Slot) (c : List Between) (rest : List ℕ) → StandsAt text.now s.now is_table it c rest
-        → MatchResult result (λ r. (r.0 ≡ goes (place_seen below.now) index it)
-        × (r.1.now ≡ gap c rest)) IsMemory }
+        → IfOk result (λ r. (r.0 ≡ goes (place_seen below.now) index it)
+        × (r.1.now ≡ gap c rest)) }
 {
     if !is_table {
-        let rest = past_value(alloc, s)?;
+        let Some(rest) = past_value(alloc, s).ok() else {
+            return Err(AllocError);
+        };
         return Ok((is_element(index, below), rest));
     }
     let mut marks = Vec::new(alloc);
-    let value = past_name(&mut marks, s)?;
+    let Some(value) = past_name(&mut marks, s).ok() else {
+        return Err(AllocError);
+    };
     let is_gone = is_named(alloc, text, marks.as_slice(), below)?;
-    let rest = past_value(alloc, value)?;
+    let Some(rest) = past_value(alloc, value).ok() else {
+        return Err(AllocError);
+    };
     Ok((is_gone, rest))
 }
 
 /// The bytes of an array or an inline table without the
 /// element at a place below it, or the members that name one.
-fn slots_left(alloc: Global, text: &str, below: &[Step]) -> CargoResult<Vec<u8>>
+fn slots_left(alloc: Global, text: &str, below: &[Step]) -> Result<Vec<u8>, AllocError>
     ensures { (is_table : Bool) (g : List Between) (ss : Slots) → IsEnclosed is_table g ss text.now
-        → MatchResult result (λ v. v.items ≡ enclosed_left is_table (place_seen below.now) g ss) IsMemory }
+        → IfOk result (λ v. v.items ≡ enclosed_left is_table (place_seen below.now) g ss) }
 {
     let bytes = text.as_bytes();
     let is_table = begins(bytes, b'{');
@@ -251,28 +257,31 @@ fn slots_left(alloc: Global, text: &str, below: &[Step]) -> CargoResult<Vec<u8>>
     let mut left = Remainder::new(alloc, before(bytes, rest))?;
     'slots: for index in 0..bytes.len() {
         if begins(rest, end) {
-            return Ok(left.with(rest)?);
+            return left.with(rest);
         }
         let (is_gone, after) = past_slot(alloc, text, rest, is_table, index, below)?;
         let stop = past_gap(after);
         if !begins(stop, b',') {
-            return Ok(left.end(is_gone, rest, after)?);
+            return left.end(is_gone, rest, after);
         }
         let next = past_gap(behind_one(stop));
         left.take(is_gone, rest, after, stop, next)?;
         rest = next;
     }
-    Ok(left.with(rest)?)
+    left.with(rest)
 }
 
 /// The bytes of the array or the inline table that is written as `text`, where the element or the member at
 /// the place `below` it is removed: with the comma behind it
 /// and the white space there, or else with the comma before it.
-pub(crate) fn value_without(alloc: Global, text: &str, below: &[Step]) -> CargoResult<Vec<u8>>
+pub(crate) fn value_without(
+    alloc: Global,
+    text: &str,
+    below: &[Step],
+) -> Result<Vec<u8>, AllocError>
     ensures { (place : Place) (v : Value) → IsContainer v → IsValue v → depth v ≤ 80
         → text.now ≡ value_text v []
-        → MatchResult result
-        (λ w. w.items ≡ value_left (place ++ place_seen below.now) place v []) IsMemory }
+        → IfOk result (λ w. w.items ≡ value_left (place ++ place_seen below.now) place v []) }
 {
     slots_left(alloc, text, below)
 }

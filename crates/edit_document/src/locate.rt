@@ -1,6 +1,5 @@
 //! How the statements of a text stand to a place.
-ghost use Rattle.std.specs.Prelude.{◌≡◌, [], ◌++◌, true, IfOk, IfErr, map};
-ghost use Rattle.edit_base.specs.Errors.{IsMemory};
+ghost use Rattle.std.specs.Prelude.{◌≡◌, [], ◌++◌, true, IfOk, map};
 ghost use Rattle.edit_syntax.specs.Grammar.{Text};
 ghost use Rattle.edit_tree.specs.Assertions.{of_statement, prefix_after};
 ghost use Rattle.edit_document.specs.Items.{place_seen};
@@ -14,9 +13,8 @@ use crate::place::Step;
 use crate::way::{
     Way, along, count_on, first_from, has_come, heads_element, heads_table, is_at, step_index,
 };
-use edit_base::errors::{CargoResult, Error};
 use edit_syntax::{Mark, first_line, next_line, past_mark};
-use std::alloc::Global;
+use std::alloc::{AllocError, Global};
 
 /// A statement, as it stands to a place. Spots of the text are told by how many bytes follow.
 #[derive(Clone, Copy)]
@@ -36,9 +34,8 @@ pub(crate) struct Entry {
 }
 
 /// An element more stands in the array of tables that a way has come to.
-fn count_more(counts: &mut Vec<usize>, way: Way) -> CargoResult<()>
+fn count_more(counts: &mut Vec<usize>, way: Way) -> Result<(), AllocError>
     ensures counted { IfOk result (λ _. counts.new.items ≡ entries_seen.counted way counts.old.items) }
-    ensures refused { IfErr result IsMemory }
 {
     let Way::On(done) = way else {
         return Ok(());
@@ -47,7 +44,7 @@ fn count_more(counts: &mut Vec<usize>, way: Way) -> CargoResult<()>
         return Ok(());
     }
     let Some(more) = counts[done].checked_add(1) else {
-        return Err(Error::Memory);
+        return Err(AllocError);
     };
     counts[done] = more;
     Ok(())
@@ -100,9 +97,8 @@ struct Standing {
 
 impl Standing {
     /// Before the first statement.
-    fn new(alloc: Global, place: &[Step]) -> CargoResult<Standing>
+    fn new(alloc: Global, place: &[Step]) -> Result<Standing, AllocError>
         ensures none { IfOk result (λ s. StandsTo (place_seen place.now) [] [] s) }
-        ensures refused { IfErr result IsMemory }
     {
         let mut counts = Vec::new(alloc);
         'steps: for _step in 0..place.len() + 1 {
@@ -122,13 +118,12 @@ impl Standing {
         place: &[Step],
         marks: &[Mark],
         spots: Spots,
-    ) -> CargoResult<Entry>
+    ) -> Result<Entry, AllocError>
         ensures taken { (s : Stated) → is_pair s.statement ≡ true → IsTaken text.now marks.now s spots
             → StandsTo (place_seen place.now) s.earlier s.prefix self.now
             → IfOk result (λ e. (e ≡ entries_seen.entry_of (place_seen place.now) s)
             × StandsTo (place_seen place.now) (s.earlier ++ of_statement s.earlier s.prefix s.statement)
             (prefix_after s.earlier s.prefix s.statement) self.now) }
-        ensures refused { IfErr result IsMemory }
     {
         let (named, front) = along(alloc, text, place, marks, self.prefix, &[])?;
         Ok(spots.entry(
@@ -147,14 +142,13 @@ impl Standing {
         place: &[Step],
         marks: &[Mark],
         spots: Spots,
-    ) -> CargoResult<Entry>
+    ) -> Result<Entry, AllocError>
         ensures taken { (s : Stated) → is_table_header s.statement ≡ true
             → IsTaken text.now marks.now s spots
             → StandsTo (place_seen place.now) s.earlier s.prefix self.old
             → IfOk result (λ e. (e ≡ entries_seen.entry_of (place_seen place.now) s)
             × StandsTo (place_seen place.now) (s.earlier ++ of_statement s.earlier s.prefix s.statement)
             (prefix_after s.earlier s.prefix s.statement) self.new) }
-        ensures refused { IfErr result IsMemory }
     {
         let (named, front) = along(alloc, text, place, marks, Way::On(0), &self.counts)?;
         self.prefix = named;
@@ -169,14 +163,13 @@ impl Standing {
         place: &[Step],
         marks: &[Mark],
         spots: Spots,
-    ) -> CargoResult<Entry>
+    ) -> Result<Entry, AllocError>
         ensures taken { (s : Stated) → is_element_header s.statement ≡ true
             → IsTaken text.now marks.now s spots
             → StandsTo (place_seen place.now) s.earlier s.prefix self.old
             → IfOk result (λ e. (e ≡ entries_seen.entry_of (place_seen place.now) s)
             × StandsTo (place_seen place.now) (s.earlier ++ of_statement s.earlier s.prefix s.statement)
             (prefix_after s.earlier s.prefix s.statement) self.new) }
-        ensures refused { IfErr result IsMemory }
     {
         let (named, front) = along(alloc, text, place, marks, Way::On(0), &self.counts)?;
         let element = step_index(named, place, count_on(named, &self.counts));
@@ -193,13 +186,12 @@ impl Standing {
         place: &[Step],
         marks: &[Mark],
         spots: Spots,
-    ) -> CargoResult<Entry>
+    ) -> Result<Entry, AllocError>
         ensures taken { (s : Stated) → IsTaken text.now marks.now s spots
             → StandsTo (place_seen place.now) s.earlier s.prefix self.old
             → IfOk result (λ e. (e ≡ entries_seen.entry_of (place_seen place.now) s)
             × StandsTo (place_seen place.now) (s.earlier ++ of_statement s.earlier s.prefix s.statement)
             (prefix_after s.earlier s.prefix s.statement) self.new) }
-        ensures refused { IfErr result IsMemory }
     {
         if heads_table(marks) {
             return self.take_header(alloc, text, place, marks, spots);
@@ -212,10 +204,9 @@ impl Standing {
 }
 
 /// The statements of a text in their order, as they stand to a place.
-pub(crate) fn entries(alloc: Global, text: &str, place: &[Step]) -> CargoResult<Vec<Entry>>
+pub(crate) fn entries(alloc: Global, text: &str, place: &[Step]) -> Result<Vec<Entry>, AllocError>
     ensures found { (form : Text) → IsManifest text.now form
         → IfOk result (λ v. v.items ≡ map (entries_seen.entry_of (place_seen place.now)) (stated form)) }
-    ensures refused { IfErr result IsMemory }
 {
     let mut found = Vec::new(alloc);
     let mut standing = Standing::new(alloc, place)?;
@@ -223,8 +214,8 @@ pub(crate) fn entries(alloc: Global, text: &str, place: &[Step]) -> CargoResult<
     let mut rest = past_mark(text.as_bytes());
     'lines: for _line in 0..text.len() + 1 {
         marks.clear();
-        let Ok(after) = first_line(&mut marks, rest) else {
-            return Err(Error::Memory);
+        let Some(after) = first_line(&mut marks, rest).ok() else {
+            return Err(AllocError);
         };
         let next = next_line(after);
         let seen = marks.as_slice();
@@ -242,5 +233,5 @@ pub(crate) fn entries(alloc: Global, text: &str, place: &[Step]) -> CargoResult<
         }
         rest = next;
     }
-    Err(Error::Memory)
+    Err(AllocError)
 }
