@@ -43,7 +43,7 @@ fn index_of(rt: &impl Abort, alloc: Global) -> DirIndex<MemoryStore> {
 #[test]
 fn finds_each_version(rt: HostRuntime) {
     let mut index = index_of(&rt, rt.alloc());
-    'names: for name in ["serde", "SERDE"] {
+    'names: for name in "serde SERDE".split(' ') {
         let seen = look(&rt, rt.alloc(), &mut index, name);
         same(&rt, name, seen.as_str(), "serde 0.9.0.serde 1.0.0!");
     }

@@ -1,6 +1,7 @@
 //! Plans in other forms than their tables, against texts that were written by hand. Those that the program
 //! can show are in `tools/checks/rows/daily.py`.
 use super::looks::{input_of, plain};
+use crate::rows::field;
 use crate::stop::{kept, must, push, same, text as text_of};
 use edit_document::Step;
 use edit_metadata::Input;
@@ -13,20 +14,17 @@ use std::process::Abort;
 use std::str;
 
 /// Manifests: the path of each and its text.
-const MANIFESTS: [(&str, &str); 3] = [
-    ("/w/Cargo.toml", "a\n"),
-    ("/w/m/Cargo.toml", "b\n"),
-    ("/v/Cargo.toml", "c\n"),
-];
+const MANIFESTS: &str = "/w/Cargo.toml|a\n~/w/m/Cargo.toml|b\n~/v/Cargo.toml|c\n";
 
 /// What two of them are to be.
-const CHANGED: [(&str, &str); 2] = [("/w/m/Cargo.toml", "new\n"), ("/v/Cargo.toml", "other\n")];
+const CHANGED: &str = "/w/m/Cargo.toml|new\n~/v/Cargo.toml|other\n";
 
 /// The manifests.
 fn inputs_of(rt: &impl Abort, alloc: Global) -> Vec<Input> {
     let mut inputs = Vec::new(alloc);
-    'manifests: for (path, text) in MANIFESTS {
-        push(rt, &mut inputs, input_of(rt, alloc, path, text));
+    'manifests: for row in MANIFESTS.split('~') {
+        let input = input_of(rt, alloc, field(row, 0), field(row, 1));
+        push(rt, &mut inputs, input);
     }
     inputs
 }
@@ -34,10 +32,10 @@ fn inputs_of(rt: &impl Abort, alloc: Global) -> Vec<Input> {
 /// Those that change.
 fn outputs_of(rt: &impl Abort, alloc: Global) -> Vec<Output> {
     let mut outputs = Vec::new(alloc);
-    'manifests: for (path, text) in CHANGED {
+    'manifests: for row in CHANGED.split('~') {
         let output = Output {
-            path: text_of(rt, alloc, path),
-            bytes: kept(rt, Vec::from_slice(alloc, text.as_bytes())),
+            path: text_of(rt, alloc, field(row, 0)),
+            bytes: kept(rt, Vec::from_slice(alloc, field(row, 1).as_bytes())),
         };
         push(rt, &mut outputs, output);
     }
@@ -124,7 +122,7 @@ fn texts(rt: &impl Abort, alloc: Global, words: &[&str]) -> Vec<String> {
 /// Two warnings on the first manifest.
 fn warnings_of(rt: &impl Abort, alloc: Global) -> Vec<Warning> {
     let mut warnings = Vec::new(alloc);
-    'texts: for text in ["no version", "a\tb"] {
+    'texts: for text in "no version|a\tb".split('|') {
         let warning = Warning {
             input: 0,
             verbose: true,

@@ -108,7 +108,7 @@ fn hold(rt: &impl Abort, alloc: Global, table: &str, at: u64) {
 
 #[test]
 fn finds_reads_and_writes_manifests(rt: HostRuntime) {
-    'tables: for (table, at) in [(ROWS, 99), (FAULTS, 0), (WRITE_FAULTS, 2)] {
-        hold(&rt, rt.alloc(), table, at);
-    }
+    hold(&rt, rt.alloc(), ROWS, 99);
+    hold(&rt, rt.alloc(), FAULTS, 0);
+    hold(&rt, rt.alloc(), WRITE_FAULTS, 2);
 }

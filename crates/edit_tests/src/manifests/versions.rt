@@ -134,7 +134,6 @@ a = { version = \"2\" }\n|require a 2|a = { version = [ 1, 2 ] }\n~\
 
 #[test]
 fn tells_and_sets_versions(rt: HostRuntime) {
-    'tables: for table in [VERSIONS, REQUIREMENTS] {
-        rows_hold(&rt, rt.alloc(), table, TILDES, answer);
-    }
+    rows_hold(&rt, rt.alloc(), VERSIONS, TILDES, answer);
+    rows_hold(&rt, rt.alloc(), REQUIREMENTS, TILDES, answer);
 }

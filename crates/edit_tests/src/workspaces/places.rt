@@ -43,10 +43,9 @@ fn inputs_of(rt: &impl Abort, alloc: Global, rows: &str) -> Vec<Input> {
 }
 
 /// The place of a refusal, `-` being none.
-fn shown(rt: &impl Abort, alloc: Global, refusal: Refusal) -> String {
-    let Refusal { error: _, place } = refusal;
-    match place {
-        Some(place) => place,
+fn shown(rt: &impl Abort, alloc: Global, refusal: &Refusal) -> String {
+    match &refusal.place {
+        Some(place) => text(rt, alloc, place.as_str()),
         None => text(rt, alloc, "-"),
     }
 }
@@ -55,7 +54,7 @@ fn shown(rt: &impl Abort, alloc: Global, refusal: Refusal) -> String {
 fn place_of(rt: &impl Abort, alloc: Global, word: &str, inputs: &str) -> String {
     let all = inputs_of(rt, alloc, inputs);
     let refusal = at_input(alloc, refusal_of(word), &all);
-    shown(rt, alloc, refusal)
+    shown(rt, alloc, &refusal)
 }
 
 /// The place; the refusal; the inputs.
