@@ -14,7 +14,7 @@ use crate::manifest::Manifest;
 use crate::ways::item_below;
 use edit_base::errors::{CargoResult, Error};
 use edit_document::{Document, Item, Place, Step, member_place};
-use std::alloc::Global;
+use std::alloc::{AllocError, Global};
 
 /// Whether this is a table or an inline table.
 fn is_table(item: Option<Item>) -> bool
@@ -43,9 +43,8 @@ fn missing_table<'p>(document: &Document, table_path: &'p [String]) -> Option<&'
 }
 
 /// The place of the members of these names, one below the other, from the root.
-fn path_place(alloc: Global, table_path: &[String]) -> CargoResult<Place>
+fn path_place(alloc: Global, table_path: &[String]) -> Result<Place, AllocError>
     ensures ok { IfOk result (λ p. place_seen p.items ≡ keyed (map string_bytes table_path.now)) }
-    ensures refused { IfErr result IsMemory }
 {
     let mut place = Vec::with_capacity(alloc, table_path.len())?;
     'steps: for step in table_path {

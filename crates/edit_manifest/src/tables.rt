@@ -12,13 +12,12 @@ use crate::manifest::Manifest;
 use crate::ways::place_of;
 use edit_base::errors::CargoResult;
 use edit_document::{Document, Place};
-use std::alloc::Global;
+use std::alloc::{AllocError, Global};
 
 /// The place of these names, where a table or an inline table stands there.
-fn table_at(alloc: Global, document: &Document, names: &[&str]) -> CargoResult<Option<Place>>
+fn table_at(alloc: Global, document: &Document, names: &[&str]) -> Result<Option<Place>, AllocError>
     ensures ok { IfOk result (λ o. option_map (λ p. place_seen p.items) o
         ≡ table_at (tree_of document.now) (texts names.now)) }
-    ensures refused { IfErr result IsMemory }
 {
     let place = place_of(alloc, names)?;
     let Some(item) = document.item(&place) else {
@@ -36,10 +35,9 @@ fn push_table(
     document: &Document,
     names: &[&str],
     tables: &mut Vec<Place>,
-) -> CargoResult<()>
+) -> Result<(), AllocError>
     ensures ok { OnOk result (places_seen tables.new.items
         ≡ places_seen tables.old.items ++ tables_at (tree_of document.now) (texts names.now)) }
-    ensures refused { IfErr result IsMemory }
 {
     let table = table_at(alloc, document, names)?;
     match table {
@@ -57,10 +55,9 @@ fn push_target(
     document: &Document,
     target: &str,
     tables: &mut Vec<Place>,
-) -> CargoResult<()>
+) -> Result<(), AllocError>
     ensures ok { OnOk result (places_seen tables.new.items
         ≡ places_seen tables.old.items ++ tables_of_target (tree_of document.now) target.now) }
-    ensures refused { IfErr result IsMemory }
 {
     let place = place_of(alloc, &["target", target])?;
     let Some(item) = document.item(&place) else {
@@ -75,10 +72,13 @@ fn push_target(
 }
 
 /// Adds the tables of all targets, target by target.
-fn push_targets(alloc: Global, document: &Document, tables: &mut Vec<Place>) -> CargoResult<()>
+fn push_targets(
+    alloc: Global,
+    document: &Document,
+    tables: &mut Vec<Place>,
+) -> Result<(), AllocError>
     ensures ok { OnOk result (places_seen tables.new.items
         ≡ places_seen tables.old.items ++ target_tables (tree_of document.now)) }
-    ensures refused { IfErr result IsMemory }
 {
     let place = place_of(alloc, &["target"])?;
     let Some(item) = document.item(&place) else {
@@ -91,10 +91,13 @@ fn push_targets(alloc: Global, document: &Document, tables: &mut Vec<Place>) -> 
 }
 
 /// Adds the table of the dependencies that the members of a workspace share.
-fn push_shared(alloc: Global, document: &Document, tables: &mut Vec<Place>) -> CargoResult<()>
+fn push_shared(
+    alloc: Global,
+    document: &Document,
+    tables: &mut Vec<Place>,
+) -> Result<(), AllocError>
     ensures ok { OnOk result (places_seen tables.new.items
         ≡ places_seen tables.old.items ++ tables_at (tree_of document.now) shared) }
-    ensures refused { IfErr result IsMemory }
 {
     let names = ["workspace", NORMAL];
     push_table(alloc, document, &names, tables)
@@ -106,10 +109,9 @@ fn push_under(
     document: &Document,
     name: &str,
     tables: &mut Vec<Place>,
-) -> CargoResult<()>
+) -> Result<(), AllocError>
     ensures ok { OnOk result (places_seen tables.new.items
         ≡ places_seen tables.old.items ++ tables_under (tree_of document.now) name.now) }
-    ensures refused { IfErr result IsMemory }
 {
     if is_kind(name) {
         return push_table(alloc, document, &[name], tables);
@@ -159,6 +161,6 @@ impl Manifest {
         ensures refused { IfErr result IsMemory }
     {
         let names = ["workspace", NORMAL];
-        table_at(alloc, &self.document, &names)
+        Ok(table_at(alloc, &self.document, &names)?)
     }
 }

@@ -1,6 +1,5 @@
 //! Places of members, one below the other.
-ghost use Rattle.std.specs.Prelude.{◌≡◌, [], ◌∷◌, IfErr, IfOk, option_and_then, option_map};
-ghost use Rattle.edit_base.specs.Errors.{IsMemory};
+ghost use Rattle.std.specs.Prelude.{◌≡◌, [], ◌∷◌, IfOk, option_and_then, option_map};
 ghost use Rattle.edit_base.specs.Paths.{texts};
 ghost use Rattle.edit_tree.specs.Assertions.{Place as PlaceSeen, at, key};
 ghost use Rattle.edit_document.specs.ItemViews.{Finds};
@@ -8,14 +7,12 @@ ghost use Rattle.edit_document.specs.Items.{place_seen, string_in, truth_in};
 ghost use Rattle.edit_tree.specs.Shown.{tree_of};
 ghost use Rattle.edit_manifest.specs.Tables.{keyed};
 
-use edit_base::errors::CargoResult;
 use edit_document::{Document, Item, Place, Step};
-use std::alloc::Global;
+use std::alloc::{AllocError, Global};
 
 /// The place of the members of these names, one below the other, from the root.
-pub(crate) fn place_of(alloc: Global, names: &[&str]) -> CargoResult<Place>
+pub(crate) fn place_of(alloc: Global, names: &[&str]) -> Result<Place, AllocError>
     ensures ok { IfOk result (λ p. place_seen p.items ≡ keyed (texts names.now)) }
-    ensures refused { IfErr result IsMemory }
 {
     let mut place = Vec::with_capacity(alloc, names.len())?;
     'names: for name in names {

@@ -13,10 +13,10 @@ use edit_base::CargoResult;
 use edit_document::Place;
 use edit_manifest::entries::{Said, literal_place};
 use edit_record::Dependency;
-use std::alloc::Global;
+use std::alloc::{AllocError, Global};
 
 /// Where the crate of an entry comes from.
-#[derive(Debug, Drop)]
+#[derive(Drop)]
 pub(crate) enum Source {
     /// A registry, by its name where one is given.
     Registry(Option<String>),
@@ -25,7 +25,7 @@ pub(crate) enum Source {
 }
 
 /// An entry that gets a row.
-#[derive(Debug, Drop)]
+#[derive(Drop)]
 pub(crate) struct Entry {
     pub(crate) name: String,
     pub(crate) rename: Option<String>,
@@ -89,10 +89,9 @@ fn with_row(found: edit_manifest::entries::Entry) -> Option<Entry>
 pub(crate) fn with_rows(
     alloc: Global,
     found: Vec<edit_manifest::entries::Entry>,
-) -> CargoResult<Vec<Entry>>
+) -> Result<Vec<Entry>, AllocError>
     ensures ok { IfOk result
         (λ es. map seen_of es.items ≡ filter_map with_row (map entry_view found.items)) }
-    ensures refused { IfErr result IsMemory }
 {
     let mut entries = Vec::new(alloc);
     'found: for entry in found {

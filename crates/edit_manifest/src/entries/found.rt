@@ -13,7 +13,7 @@ use crate::dependency_tables;
 use edit_base::{CargoResult, Error};
 use edit_document::{Document, Item, Place, Step, member_place};
 use edit_record::Dependency;
-use std::alloc::Global;
+use std::alloc::{AllocError, Global};
 
 /// What an entry says.
 #[derive(Debug, Drop)]
@@ -51,9 +51,8 @@ fn said_of(alloc: Global, root: &str, key: &str, item: Item<'_>) -> CargoResult<
 }
 
 /// What is said where nothing stands.
-fn nothing_said(alloc: Global, key: &str) -> CargoResult<Said>
+fn nothing_said(alloc: Global, key: &str) -> Result<Said, AllocError>
     ensures ok { IfOk result (λ s. said_view s ≡ None) }
-    ensures refused { IfErr result IsMemory }
 {
     Ok(Said::Unsupported(Error::UnknownEntry {
         key: String::from_str(alloc, key)?,
