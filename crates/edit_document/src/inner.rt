@@ -1,6 +1,4 @@
 //! Members of inline tables whose keys go on behind a place.
-//!
-//! What stands in a document was read before: what reads its parts again fails for want of memory alone.
 ghost use Rattle.std.specs.Prelude.{◌≡◌, ℕ, true, List, ◌++◌, ◌∷◌, Some, IfOk, codes, length, option_map, string_bytes};
 ghost use Rattle.edit_syntax.specs.Characters.{right_brace};
 ghost use Rattle.edit_syntax.specs.Grammar.{Between, gap, Members, Text};

@@ -1,6 +1,4 @@
 //! Edits inside a value: the bytes of an array or an inline table without some of its elements or members.
-//!
-//! What stands in a document was read before: what reads its parts again fails for want of memory alone.
 ghost use Rattle.std.specs.Prelude.{◌≡◌, ℕ, List, Bool, true, false, if◌then◌else◌, ◌==◌, ◌-◌, ◌≤◌, ◌++◌, ◌∷◌, [], IfOk, OnOk, take, drop, length, map};
 ghost use Rattle.edit_syntax.specs.Grammar.{Between, gap, Value, value as value_text, IsValue};
 ghost use Rattle.edit_syntax.specs.Depth.{depth};

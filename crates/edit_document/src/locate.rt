@@ -1,6 +1,4 @@
 //! How the statements of a text stand to a place.
-//!
-//! What stands in a document was read before: what reads its parts again fails for want of memory alone.
 ghost use Rattle.std.specs.Prelude.{◌≡◌, [], ◌++◌, true, IfOk, map};
 ghost use Rattle.edit_syntax.specs.Grammar.{Text};
 ghost use Rattle.edit_tree.specs.Assertions.{of_statement, prefix_after};

@@ -1,6 +1,4 @@
 //! The members of an inline table, and the one of them that names a place.
-//!
-//! What stands in a document was read before: what reads its parts again fails for want of memory alone.
 ghost use Rattle.std.specs.Prelude.{◌≡◌, true, ℕ, List, IfOk, length, option_map};
 ghost use Rattle.edit_syntax.specs.Grammar.{Between, gap, Value, value as value_text};
 ghost use Rattle.edit_syntax.specs.Strings.{Key};

@@ -1,6 +1,4 @@
 //! The entry at a place gives way to another one.
-//!
-//! What stands in a document was read before: what reads its parts again fails for want of memory alone.
 ghost use Rattle.std.specs.Prelude.{◌≡◌, ◌&&◌, not, true, ◌⊎◌, ◌++◌, ◌≤◌, length, IfOk, IfErr, string_bytes, ◌+◌};
 ghost use Rattle.std.specs.List.{Contains};
 ghost use Rattle.edit_base.specs.Errors.{IsMemory};

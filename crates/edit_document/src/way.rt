@@ -1,6 +1,4 @@
 //! The way to a place that is looked for.
-//!
-//! What stands in a document was read before: what reads its parts again fails for want of memory alone.
 ghost use Rattle.std.specs.Prelude.{◌≡◌, List, ◌∷◌, IfOk, length};
 ghost use Rattle.edit_tree.specs.Assertions.{Place, key as key_step, index as index_step};
 ghost use Rattle.edit_document.specs.Items.{place_seen};
