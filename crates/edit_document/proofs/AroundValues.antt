@@ -8,6 +8,7 @@ use Rattle.std.proofs.lemmas.Str.{IsCharBoundary-at_seam}
 use Rattle.std.proofs.Math.Seq.{drop-append_seam}
 use Rattle.std.specs.declared.alloc.Global.{Global}
 use Rattle.std.specs.declared.string.String.{String}
+use Rattle.edit_base.specs.declared.errors.Error.{Error}
 use Rattle.edit_syntax.specs.Characters.{left_bracket, left_brace}
 use Rattle.edit_syntax.specs.Grammar.{Value, basic, literal, multi_basic, multi_literal, boolean, integer, float, datetime, array, inline, value, IsValue, lines, byte_order_mark, Text, text}
 use Rattle.edit_syntax.specs.Numbers.{integer_text, float_text, datetime_text}
@@ -258,7 +259,7 @@ steps_below steps n place below e is =
     ∙ sym e
 
 -- what holds of a result for each form
-pub each_form : {E : Type 0} (bytes : List ℕ) (r : Result (String Global) E) (P : Text → String Global → Type 0)
+pub each_form : (bytes : List ℕ) (r : Result (String Global) Error) (P : Text → String Global → Type 0)
     → ((form : Text) → IsManifest bytes form → IfOk r (P form))
     → IfOk r (λ t. (form : Text) → IsManifest bytes form → P form t)
 each_form bytes (Ok t) P h = h

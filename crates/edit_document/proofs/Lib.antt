@@ -60,7 +60,6 @@ pub mod EntryPartViews
 pub mod UnorderedViews
 pub mod UnorderedNodes
 -- Where statements stand
-pub mod GivenUp
 pub mod Ways
 pub mod KeyWays
 pub mod WayCounts

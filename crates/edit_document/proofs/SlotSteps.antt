@@ -1,7 +1,9 @@
 -- An element or a member at the front, as the steps over values and keys ask for it.
 use Rattle.std.proofs.Common.{◌≡◌, ℕ, Bool, true, false, List, [], ◌∷◌, ◌++◌, refl, sym, true≢false, ap, ◌∙◌}
-use Rattle.std.proofs.Common.{◌≤◌, ◌&&◌, length, map, ◌-◌, take, drop, get_or, arith}
+use Rattle.std.proofs.Common.{◌≤◌, ◌&&◌, length, map, ◌-◌, take, drop, get_or, subst, Result, Err, MatchResult, arith}
 use Rattle.std.proofs.Math.Seq.{take-length}
+use Rattle.edit_base.specs.Errors.{IsMemory}
+use Rattle.edit_base.specs.declared.errors.Error.{Error}
 use Rattle.edit_syntax.specs.declared.read.marks.Mark.{Mark}
 use Rattle.edit_document.specs.declared.place.Step.{Step as WrittenStep}
 use Rattle.edit_tree.specs.Assertions.{key as name_step, same_step}
@@ -98,3 +100,10 @@ pub within_turn : (steps : List WrittenStep) (s : WrittenStep) (name : List ℕ)
     (place_seen (take (length steps - 1) (drop 1 steps))) (map name_step others))
 within_turn [] s name others ns le e is = absurd (omega arith)
 within_turn (x ∷ xs) s name others ns le e is = rw (is, e, tail_slice (x ∷ xs)) refl
+
+-- ---- refusals
+
+pub keeps_memory : {A : Type 0} (r : Result A Error) (e e2 : Error) (P : A → Type 0) → r ≡ Err e2 → e2 ≡ e
+    → IsMemory e → MatchResult r P IsMemory
+keeps_memory {A} r e e2 P was same m = subst (λ (x : Result A Error). MatchResult x P IsMemory) (sym was)
+    (subst IsMemory (sym same) m)

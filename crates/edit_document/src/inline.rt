@@ -1,5 +1,6 @@
 //! A member more in an inline table.
-ghost use Rattle.std.specs.Prelude.{◌≡◌, ◌≤◌, ℕ, List, [], ◌++◌, ◌∷◌, MatchOption, IfOk, None, Some, codes, drop, length, string_bytes};
+ghost use Rattle.std.specs.Prelude.{◌≡◌, ◌≤◌, ℕ, List, [], ◌++◌, ◌∷◌, MatchResult, MatchOption, IfOk, IfErr, None, Some, codes, drop, length, string_bytes};
+ghost use Rattle.edit_base.specs.Errors.{IsMemory};
 ghost use Rattle.edit_syntax.specs.Characters.{right_brace};
 ghost use Rattle.edit_syntax.specs.Grammar.{Between, inline, Members, no_members, Text};
 ghost use Rattle.edit_tree.specs.EditBytes.{Splice, put_before, with_splice, behind_last, inline_grown, in_inline, inserted_text};
@@ -14,15 +15,16 @@ use crate::document::Document;
 use crate::inside::{begins, behind_one, past_slot};
 use crate::place::Step;
 use crate::spots::{with_swap, with_text};
+use edit_base::errors::CargoResult;
 use edit_syntax::read::gaps::past_gap;
 use edit_syntax::read::steps::past_blanks;
-use std::alloc::{AllocError, Global};
+use std::alloc::Global;
 
 /// What follows the value of the last member of the inline table at the front of `table`, an end of `text`,
 /// or its closing brace where it has none.
-fn past_last<'a>(alloc: Global, text: &str, table: &'a [u8]) -> Result<&'a [u8], AllocError>
+fn past_last<'a>(alloc: Global, text: &str, table: &'a [u8]) -> CargoResult<&'a [u8]>
     ensures { (g : List Between) (ms : Members) (after : List ℕ) → TableAt text.now table.now g ms after
-        → IfOk result (λ r. r.now ≡ behind_last ms (right_brace ∷ after)) }
+        → MatchResult result (λ r. r.now ≡ behind_last ms (right_brace ∷ after)) IsMemory }
 {
     let mut rest = past_gap(behind_one(table));
     let mut last = rest;
@@ -48,10 +50,11 @@ pub(crate) fn with_lead(
     spot: usize,
     lead: &str,
     member: &str,
-) -> Result<String, AllocError>
+) -> CargoResult<String>
     ensures text { (rest : List ℕ) → IsSpot text.now rest → spot ≡ length rest
         → IfOk result (λ s. string_bytes s
         ≡ with_splice text.now (put_before rest (lead.now ++ member.now))) }
+    ensures refused { IfErr result IsMemory }
 {
     let mut now = String::from_str(alloc, lead)?;
     now.push_str(member)?;
@@ -65,10 +68,11 @@ fn with_alone(
     from: usize,
     to: usize,
     member: &str,
-) -> Result<String, AllocError>
+) -> CargoResult<String>
     ensures text { (s t : List ℕ) → IsSpot text.now s → IsSpot text.now t → from ≡ length s → to ≡ length t
         → IfOk result (λ r. string_bytes r ≡ with_splice text.now
         (record { from = s; to = t; now = codes " " ++ (member.now ++ codes " ") })) }
+    ensures refused { IfErr result IsMemory }
 {
     let mut now = String::from_str(alloc, " ")?;
     now.push_str(member)?;
@@ -78,16 +82,12 @@ fn with_alone(
 
 /// The text with a member in the inline table at the front of `table`, which has none: only white space
 /// between the braces gives way to it.
-fn with_first_member(
-    alloc: Global,
-    text: &str,
-    table: &[u8],
-    member: &str,
-) -> Result<String, AllocError>
+fn with_first_member(alloc: Global, text: &str, table: &[u8], member: &str) -> CargoResult<String>
     ensures text { (g : List Between) (after : List ℕ) (s : Splice)
         → TableAt text.now table.now g no_members after
         → inline_grown member.now (inline g no_members) after ≡ Some s
         → IfOk result (λ t. string_bytes t ≡ with_splice text.now s) }
+    ensures refused { IfErr result IsMemory }
 {
     let inner = behind_one(table);
     let close = past_blanks(inner);
@@ -105,10 +105,10 @@ pub(crate) fn with_member_in(
     text: &str,
     table: &[u8],
     member: &str,
-) -> Result<String, AllocError>
+) -> CargoResult<String>
     ensures { (g : List Between) (ms : Members) (after : List ℕ) (s : Splice)
         → TableAt text.now table.now g ms after → inline_grown member.now (inline g ms) after ≡ Some s
-        → IfOk result (λ t. string_bytes t ≡ with_splice text.now s) }
+        → MatchResult result (λ t. string_bytes t ≡ with_splice text.now s) IsMemory }
 {
     if begins(past_gap(behind_one(table)), b'}') {
         return with_first_member(alloc, text, table, member);
@@ -148,11 +148,12 @@ impl Document {
         alloc: Global,
         place: &[Step],
         pair: &str,
-    ) -> Result<Option<String>, AllocError>
+    ) -> CargoResult<Option<String>>
         ensures text { (form : Text) (name : List ℕ) (v : Meant) → IsManifest self.now.bytes form
             → pair.now ≡ new_pair name v [] → IfOk result (λ o. MatchOption o
             (in_inline (place_seen place.now) pair.now form ≡ None)
             (λ t. string_bytes t ≡ inserted_text (place_seen place.now) name v form)) }
+        ensures refused { IfErr result IsMemory }
     {
         self.has_form();
         let Some(start) = self.table_start(place) else {

@@ -1,5 +1,6 @@
 //! Members of inline tables whose keys go on behind a place.
-ghost use Rattle.std.specs.Prelude.{◌≡◌, ℕ, true, List, ◌++◌, ◌∷◌, Some, IfOk, codes, length, option_map, string_bytes};
+ghost use Rattle.std.specs.Prelude.{◌≡◌, ℕ, true, List, ◌++◌, ◌∷◌, Some, MatchResult, IfOk, IfErr, codes, length, option_map, string_bytes};
+ghost use Rattle.edit_base.specs.Errors.{IsMemory};
 ghost use Rattle.edit_syntax.specs.Characters.{right_brace};
 ghost use Rattle.edit_syntax.specs.Grammar.{Between, gap, Members, Text};
 ghost use Rattle.edit_tree.specs.Assertions.{Place};
@@ -17,10 +18,11 @@ use crate::inline::{from_start, with_lead};
 use crate::inside::{begins, behind_one};
 use crate::place::Step;
 use crate::way::{Way, along};
+use edit_base::errors::CargoResult;
 use edit_syntax::read::gaps::past_gap;
 use edit_syntax::read::steps::{past_name, past_value};
 use edit_tree::cut::between;
-use std::alloc::{AllocError, Global};
+use std::alloc::Global;
 
 /// A member of an inline table whose key goes on behind a place. The spots from its key, behind the part that
 /// names the place, and behind its value are told by how many bytes follow.
@@ -54,20 +56,16 @@ fn inner_at<'a>(
     place: &[Step],
     table: Way,
     s: &'a [u8],
-) -> Result<(Option<Inner>, &'a [u8]), AllocError>
+) -> CargoResult<(Option<Inner>, &'a [u8])>
     ensures { (above : Place) (it : Slot) (c : List Between) (rest : List ℕ)
         → StandsAt text.now s.now true it c rest → table ≡ entries_seen.way (place_seen place.now) above
-        → IfOk result (λ r. (r.0 ≡ inner_seen.inner_in (place_seen place.now) above it (gap c rest))
-        × (r.1.now ≡ gap c rest)) }
+        → MatchResult result (λ r. (r.0 ≡ inner_seen.inner_in (place_seen place.now) above it (gap c rest))
+        × (r.1.now ≡ gap c rest)) IsMemory }
 {
     let mut marks = Vec::new(alloc);
-    let Some(value) = past_name(&mut marks, s).ok() else {
-        return Err(AllocError);
-    };
+    let value = past_name(&mut marks, s)?;
     let (_, front) = along(alloc, text, place, marks.as_slice(), table, &[])?;
-    let Some(rest) = past_value(alloc, value).ok() else {
-        return Err(AllocError);
-    };
+    let rest = past_value(alloc, value)?;
     Ok((inner_from(s, front, rest), rest))
 }
 
@@ -79,11 +77,11 @@ pub(crate) fn last_inner(
     place: &[Step],
     start: Way,
     table: &[u8],
-) -> Result<Option<Inner>, AllocError>
+) -> CargoResult<Option<Inner>>
     ensures { (above : Place) (g : List Between) (ms : Members) (after : List ℕ)
         → TableAt text.now table.now g ms after → start ≡ entries_seen.way (place_seen place.now) above
-        → IfOk result (λ o. o ≡ last_made (inner_seen.inner_of (place_seen place.now))
-        (paired_members above ms (right_brace ∷ after))) }
+        → MatchResult result (λ o. o ≡ last_made (inner_seen.inner_of (place_seen place.now))
+        (paired_members above ms (right_brace ∷ after))) IsMemory }
 {
     let mut rest = past_gap(behind_one(table));
     let mut last = None;
@@ -103,16 +101,12 @@ pub(crate) fn last_inner(
 }
 
 /// The text with a member more behind one whose key goes on behind the place.
-pub(crate) fn with_inner(
-    alloc: Global,
-    text: &str,
-    inner: Inner,
-    pair: &str,
-) -> Result<String, AllocError>
+pub(crate) fn with_inner(alloc: Global, text: &str, inner: Inner, pair: &str) -> CargoResult<String>
     ensures text { (place : Place) (p : Paired) (spot : List ℕ) → inner_seen.HasInner text.now p spot
         → front_to place p ≡ Some spot → inner_seen.inner_of place p ≡ Some inner
         → IfOk result (λ t. string_bytes t
         ≡ with_splice text.now (put_before p.behind (codes ", " ++ dotted_pair p spot pair.now))) }
+    ensures refused { IfErr result IsMemory }
 {
     let mut member = String::from_str(alloc, between(text, inner.from, inner.front))?;
     member.push_str(".")?;
@@ -136,13 +130,10 @@ impl Document {
     }
 
     /// The last pair, of the inline tables of the text, whose key goes on behind a place.
-    pub(crate) fn last_inner(
-        &self,
-        alloc: Global,
-        place: &[Step],
-    ) -> Result<Option<Inner>, AllocError>
+    pub(crate) fn last_inner(&self, alloc: Global, place: &[Step]) -> CargoResult<Option<Inner>>
         ensures found { (form : Text) → IsManifest self.now.bytes form → IfOk result
             (λ o. o ≡ last_made (inner_seen.inner_of (place_seen place.now)) (inner_pairs form)) }
+        ensures refused { IfErr result IsMemory }
     {
         self.has_form();
         let Some((steps, start)) = self.table_above(place) else {

@@ -26,7 +26,7 @@ use crate::spots::{with_line, with_section, with_text};
 use edit_base::errors::CargoResult;
 use edit_syntax::past_mark;
 use edit_tree::cut::between;
-use std::alloc::{AllocError, Global};
+use std::alloc::Global;
 
 /// The last statement of the place's own.
 fn last_own(found: &[Entry]) -> Option<Entry>
@@ -89,11 +89,12 @@ fn name_of(text: &str, entry: Entry) -> &str
 }
 
 /// The text with a dotted pair more, behind one whose key goes on behind the place.
-fn with_dotted(alloc: Global, text: &str, entry: Entry, pair: &str) -> Result<String, AllocError>
+fn with_dotted(alloc: Global, text: &str, entry: Entry, pair: &str) -> CargoResult<String>
     ensures text { (place : Place) (s : Stated) (spot : List ℕ) → HasSpots text.now s
         → entry ≡ entry_of place s → front_of place s ≡ Some spot
         → IfOk result (λ t. string_bytes t
         ≡ with_splice text.now (new_line s.after (key_to s spot · codes "." · pair.now))) }
+    ensures refused { IfErr result IsMemory }
 {
     let mut line = String::from_str(alloc, name_of(text, entry))?;
     line.push_str(".")?;
@@ -102,19 +103,21 @@ fn with_dotted(alloc: Global, text: &str, entry: Entry, pair: &str) -> Result<St
 }
 
 /// The text with a header of the place and a pair, before a header whose key goes on behind the place.
-fn with_header(alloc: Global, text: &str, entry: Entry, pair: &str) -> Result<String, AllocError>
+fn with_header(alloc: Global, text: &str, entry: Entry, pair: &str) -> CargoResult<String>
     ensures text { (place : Place) (s : Stated) (spot : List ℕ) → HasSpots text.now s
         → entry ≡ entry_of place s → front_of place s ≡ Some spot
         → IfOk result (λ t. string_bytes t
         ≡ with_splice text.now (put_before s.line (section_text (key_to s spot) pair.now))) }
+    ensures refused { IfErr result IsMemory }
 {
     with_section(alloc, text, entry.line, name_of(text, entry), pair)
 }
 
 /// The text with a line more at its start.
-fn with_first(alloc: Global, text: &str, pair: &str) -> Result<String, AllocError>
+fn with_first(alloc: Global, text: &str, pair: &str) -> CargoResult<String>
     ensures text { (form : Text) → IsManifest text.now form
         → IfOk result (λ t. string_bytes t ≡ with_splice text.now (at_start pair.now form)) }
+    ensures refused { IfErr result IsMemory }
 {
     let mut line = String::from_str(alloc, pair)?;
     line.push_str("\n")?;
@@ -129,12 +132,13 @@ fn with_pair(
     place: &[Step],
     inner: Option<Inner>,
     pair: &str,
-) -> Result<String, AllocError>
+) -> CargoResult<String>
     ensures text { (form : Text) (name : List ℕ) (v : Meant) → IsManifest text.now form
         → in_inline (place_seen place.now) pair.now form ≡ None
         → inner ≡ last_made (inner_of (place_seen place.now)) (inner_pairs form)
         → pair.now ≡ new_pair name v []
         → IfOk result (λ t. string_bytes t ≡ inserted_text (place_seen place.now) name v form) }
+    ensures refused { IfErr result IsMemory }
 {
     let all = entries(alloc, text, place)?;
     let found = all.as_slice();
@@ -154,8 +158,9 @@ fn with_pair(
 }
 
 /// A name, ` = ` and a literal.
-fn pair_text(alloc: Global, name: &str, value: &NewValue) -> Result<String, AllocError>
+fn pair_text(alloc: Global, name: &str, value: &NewValue) -> CargoResult<String>
     ensures text { IfOk result (λ t. string_bytes t ≡ new_pair name.now (value_seen value.now) []) }
+    ensures refused { IfErr result IsMemory }
 {
     let mut out = String::new(alloc);
     push_member(&mut out, name, value)?;
@@ -170,9 +175,10 @@ impl Document {
         place: &[Step],
         key: &str,
         value: &NewValue,
-    ) -> Result<String, AllocError>
+    ) -> CargoResult<String>
         ensures text { IfOk result (λ t. (form : Text) → IsManifest self.now.bytes form → string_bytes t
             ≡ inserted_text (place_seen place.now) key.now (value_seen value.now) form) }
+        ensures refused { IfErr result IsMemory }
     {
         let written = pair_text(alloc, key, value)?;
         let pair = written.as_str();

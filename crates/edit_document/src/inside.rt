@@ -1,5 +1,6 @@
 //! Edits inside a value: the bytes of an array or an inline table without some of its elements or members.
-ghost use Rattle.std.specs.Prelude.{◌≡◌, ℕ, List, Bool, true, false, if◌then◌else◌, ◌==◌, ◌-◌, ◌≤◌, ◌++◌, ◌∷◌, [], IfOk, OnOk, take, drop, length, map};
+ghost use Rattle.std.specs.Prelude.{◌≡◌, ℕ, List, Bool, true, false, if◌then◌else◌, ◌==◌, ◌-◌, ◌≤◌, ◌++◌, ◌∷◌, [], MatchResult, IfOk, IfErr, OnOk, take, drop, length, map};
+ghost use Rattle.edit_base.specs.Errors.{IsMemory};
 ghost use Rattle.edit_syntax.specs.Grammar.{Between, gap, Value, value as value_text, IsValue};
 ghost use Rattle.edit_syntax.specs.Depth.{depth};
 ghost use Rattle.edit_syntax.specs.Marks.{key_marks};
@@ -15,6 +16,7 @@ ghost use Rattle.edit_document.specs.Remainders.{Leaves, Keeps};
 ghost use Rattle.edit_tree.specs.WalkState.{SaysAt};
 
 use crate::place::Step;
+use edit_base::errors::CargoResult;
 use edit_syntax::read::Mark;
 use edit_syntax::read::gaps::past_gap;
 use edit_syntax::read::steps::{past_blanks, past_name, past_value};
@@ -171,25 +173,23 @@ fn closer(is_table: bool) -> u8
 }
 
 /// Whether the part of a key with this mark is the name of a step.
-fn is_step(alloc: Global, text: &str, mark: Mark, step: &Step) -> Result<bool, AllocError>
+fn is_step(alloc: Global, text: &str, mark: Mark, step: &Step) -> CargoResult<bool>
     ensures { (name : List ℕ) → SaysAt text.now mark name
-        → IfOk result (λ b. b ≡ same_step (step_seen step.now) (name_step name)) }
+        → MatchResult result (λ b. b ≡ same_step (step_seen step.now) (name_step name)) IsMemory }
 {
     match step {
         Step::Index(_) => Ok(false),
         Step::Key(key) => {
-            let Some(words) = words_of(alloc, text, mark).ok() else {
-                return Err(AllocError);
-            };
+            let words = words_of(alloc, text, mark)?;
             Ok(words_in(text, &words) == key.as_str())
         }
     }
 }
 
 /// Whether a key whose parts have these marks names the place of the steps or one below it.
-fn is_named(alloc: Global, text: &str, marks: &[Mark], steps: &[Step]) -> Result<bool, AllocError>
+fn is_named(alloc: Global, text: &str, marks: &[Mark], steps: &[Step]) -> CargoResult<bool>
     ensures { (ns : List (List ℕ)) → AreSaid text.now marks.now ns
-        → IfOk result (λ b. b ≡ is_within (place_seen steps.now) (map name_step ns)) }
+        → MatchResult result (λ b. b ≡ is_within (place_seen steps.now) (map name_step ns)) IsMemory }
 {
     let [step, steps @ ..] = steps else {
         return Ok(true);
@@ -222,33 +222,27 @@ pub(crate) fn past_slot<'a>(
     is_table: bool,
     index: usize,
     below: &[Step],
-) -> Result<(bool, &'a [u8]), AllocError>
+) -> CargoResult<(bool, &'a [u8])>
     ensures { (it : Slot) (c : List Between) (rest : List ℕ) → StandsAt text.now s.now is_table it c rest
-        → IfOk result (λ r. (r.0 ≡ goes (place_seen below.now) index it)
-        × (r.1.now ≡ gap c rest)) }
+        → MatchResult result (λ r. (r.0 ≡ goes (place_seen below.now) index it)
+        × (r.1.now ≡ gap c rest)) IsMemory }
 {
     if !is_table {
-        let Some(rest) = past_value(alloc, s).ok() else {
-            return Err(AllocError);
-        };
+        let rest = past_value(alloc, s)?;
         return Ok((is_element(index, below), rest));
     }
     let mut marks = Vec::new(alloc);
-    let Some(value) = past_name(&mut marks, s).ok() else {
-        return Err(AllocError);
-    };
+    let value = past_name(&mut marks, s)?;
     let is_gone = is_named(alloc, text, marks.as_slice(), below)?;
-    let Some(rest) = past_value(alloc, value).ok() else {
-        return Err(AllocError);
-    };
+    let rest = past_value(alloc, value)?;
     Ok((is_gone, rest))
 }
 
 /// The bytes of an array or an inline table without the
 /// element at a place below it, or the members that name one.
-fn slots_left(alloc: Global, text: &str, below: &[Step]) -> Result<Vec<u8>, AllocError>
+fn slots_left(alloc: Global, text: &str, below: &[Step]) -> CargoResult<Vec<u8>>
     ensures { (is_table : Bool) (g : List Between) (ss : Slots) → IsEnclosed is_table g ss text.now
-        → IfOk result (λ v. v.items ≡ enclosed_left is_table (place_seen below.now) g ss) }
+        → MatchResult result (λ v. v.items ≡ enclosed_left is_table (place_seen below.now) g ss) IsMemory }
 {
     let bytes = text.as_bytes();
     let is_table = begins(bytes, b'{');
@@ -257,31 +251,28 @@ fn slots_left(alloc: Global, text: &str, below: &[Step]) -> Result<Vec<u8>, Allo
     let mut left = Remainder::new(alloc, before(bytes, rest))?;
     'slots: for index in 0..bytes.len() {
         if begins(rest, end) {
-            return left.with(rest);
+            return Ok(left.with(rest)?);
         }
         let (is_gone, after) = past_slot(alloc, text, rest, is_table, index, below)?;
         let stop = past_gap(after);
         if !begins(stop, b',') {
-            return left.end(is_gone, rest, after);
+            return Ok(left.end(is_gone, rest, after)?);
         }
         let next = past_gap(behind_one(stop));
         left.take(is_gone, rest, after, stop, next)?;
         rest = next;
     }
-    left.with(rest)
+    Ok(left.with(rest)?)
 }
 
 /// The bytes of the array or the inline table that is written as `text`, where the element or the member at
 /// the place `below` it is removed: with the comma behind it
 /// and the white space there, or else with the comma before it.
-pub(crate) fn value_without(
-    alloc: Global,
-    text: &str,
-    below: &[Step],
-) -> Result<Vec<u8>, AllocError>
+pub(crate) fn value_without(alloc: Global, text: &str, below: &[Step]) -> CargoResult<Vec<u8>>
     ensures { (place : Place) (v : Value) → IsContainer v → IsValue v → depth v ≤ 80
         → text.now ≡ value_text v []
-        → IfOk result (λ w. w.items ≡ value_left (place ++ place_seen below.now) place v []) }
+        → MatchResult result
+        (λ w. w.items ≡ value_left (place ++ place_seen below.now) place v []) IsMemory }
 {
     slots_left(alloc, text, below)
 }

@@ -1,5 +1,6 @@
 //! How the statements of a text stand to a place.
-ghost use Rattle.std.specs.Prelude.{◌≡◌, [], ◌++◌, true, IfOk, map};
+ghost use Rattle.std.specs.Prelude.{◌≡◌, [], ◌++◌, true, IfOk, IfErr, map};
+ghost use Rattle.edit_base.specs.Errors.{IsMemory};
 ghost use Rattle.edit_syntax.specs.Grammar.{Text};
 ghost use Rattle.edit_tree.specs.Assertions.{of_statement, prefix_after};
 ghost use Rattle.edit_document.specs.Items.{place_seen};
@@ -13,8 +14,9 @@ use crate::place::Step;
 use crate::way::{
     Way, along, count_on, first_from, has_come, heads_element, heads_table, is_at, step_index,
 };
+use edit_base::errors::{CargoResult, Error};
 use edit_syntax::{Mark, first_line, next_line, past_mark};
-use std::alloc::{AllocError, Global};
+use std::alloc::Global;
 
 /// A statement, as it stands to a place. Spots of the text are told by how many bytes follow.
 #[derive(Clone, Copy)]
@@ -34,8 +36,9 @@ pub(crate) struct Entry {
 }
 
 /// An element more stands in the array of tables that a way has come to.
-fn count_more(counts: &mut Vec<usize>, way: Way) -> Result<(), AllocError>
+fn count_more(counts: &mut Vec<usize>, way: Way) -> CargoResult<()>
     ensures counted { IfOk result (λ _. counts.new.items ≡ entries_seen.counted way counts.old.items) }
+    ensures refused { IfErr result IsMemory }
 {
     let Way::On(done) = way else {
         return Ok(());
@@ -44,7 +47,7 @@ fn count_more(counts: &mut Vec<usize>, way: Way) -> Result<(), AllocError>
         return Ok(());
     }
     let Some(more) = counts[done].checked_add(1) else {
-        return Err(AllocError);
+        return Err(Error::Memory);
     };
     counts[done] = more;
     Ok(())
@@ -97,8 +100,9 @@ struct Standing {
 
 impl Standing {
     /// Before the first statement.
-    fn new(alloc: Global, place: &[Step]) -> Result<Standing, AllocError>
+    fn new(alloc: Global, place: &[Step]) -> CargoResult<Standing>
         ensures none { IfOk result (λ s. StandsTo (place_seen place.now) [] [] s) }
+        ensures refused { IfErr result IsMemory }
     {
         let mut counts = Vec::new(alloc);
         'steps: for _step in 0..place.len() + 1 {
@@ -118,12 +122,13 @@ impl Standing {
         place: &[Step],
         marks: &[Mark],
         spots: Spots,
-    ) -> Result<Entry, AllocError>
+    ) -> CargoResult<Entry>
         ensures taken { (s : Stated) → is_pair s.statement ≡ true → IsTaken text.now marks.now s spots
             → StandsTo (place_seen place.now) s.earlier s.prefix self.now
             → IfOk result (λ e. (e ≡ entries_seen.entry_of (place_seen place.now) s)
             × StandsTo (place_seen place.now) (s.earlier ++ of_statement s.earlier s.prefix s.statement)
             (prefix_after s.earlier s.prefix s.statement) self.now) }
+        ensures refused { IfErr result IsMemory }
     {
         let (named, front) = along(alloc, text, place, marks, self.prefix, &[])?;
         Ok(spots.entry(
@@ -142,13 +147,14 @@ impl Standing {
         place: &[Step],
         marks: &[Mark],
         spots: Spots,
-    ) -> Result<Entry, AllocError>
+    ) -> CargoResult<Entry>
         ensures taken { (s : Stated) → is_table_header s.statement ≡ true
             → IsTaken text.now marks.now s spots
             → StandsTo (place_seen place.now) s.earlier s.prefix self.old
             → IfOk result (λ e. (e ≡ entries_seen.entry_of (place_seen place.now) s)
             × StandsTo (place_seen place.now) (s.earlier ++ of_statement s.earlier s.prefix s.statement)
             (prefix_after s.earlier s.prefix s.statement) self.new) }
+        ensures refused { IfErr result IsMemory }
     {
         let (named, front) = along(alloc, text, place, marks, Way::On(0), &self.counts)?;
         self.prefix = named;
@@ -163,13 +169,14 @@ impl Standing {
         place: &[Step],
         marks: &[Mark],
         spots: Spots,
-    ) -> Result<Entry, AllocError>
+    ) -> CargoResult<Entry>
         ensures taken { (s : Stated) → is_element_header s.statement ≡ true
             → IsTaken text.now marks.now s spots
             → StandsTo (place_seen place.now) s.earlier s.prefix self.old
             → IfOk result (λ e. (e ≡ entries_seen.entry_of (place_seen place.now) s)
             × StandsTo (place_seen place.now) (s.earlier ++ of_statement s.earlier s.prefix s.statement)
             (prefix_after s.earlier s.prefix s.statement) self.new) }
+        ensures refused { IfErr result IsMemory }
     {
         let (named, front) = along(alloc, text, place, marks, Way::On(0), &self.counts)?;
         let element = step_index(named, place, count_on(named, &self.counts));
@@ -186,12 +193,13 @@ impl Standing {
         place: &[Step],
         marks: &[Mark],
         spots: Spots,
-    ) -> Result<Entry, AllocError>
+    ) -> CargoResult<Entry>
         ensures taken { (s : Stated) → IsTaken text.now marks.now s spots
             → StandsTo (place_seen place.now) s.earlier s.prefix self.old
             → IfOk result (λ e. (e ≡ entries_seen.entry_of (place_seen place.now) s)
             × StandsTo (place_seen place.now) (s.earlier ++ of_statement s.earlier s.prefix s.statement)
             (prefix_after s.earlier s.prefix s.statement) self.new) }
+        ensures refused { IfErr result IsMemory }
     {
         if heads_table(marks) {
             return self.take_header(alloc, text, place, marks, spots);
@@ -204,9 +212,10 @@ impl Standing {
 }
 
 /// The statements of a text in their order, as they stand to a place.
-pub(crate) fn entries(alloc: Global, text: &str, place: &[Step]) -> Result<Vec<Entry>, AllocError>
+pub(crate) fn entries(alloc: Global, text: &str, place: &[Step]) -> CargoResult<Vec<Entry>>
     ensures found { (form : Text) → IsManifest text.now form
         → IfOk result (λ v. v.items ≡ map (entries_seen.entry_of (place_seen place.now)) (stated form)) }
+    ensures refused { IfErr result IsMemory }
 {
     let mut found = Vec::new(alloc);
     let mut standing = Standing::new(alloc, place)?;
@@ -214,8 +223,8 @@ pub(crate) fn entries(alloc: Global, text: &str, place: &[Step]) -> Result<Vec<E
     let mut rest = past_mark(text.as_bytes());
     'lines: for _line in 0..text.len() + 1 {
         marks.clear();
-        let Some(after) = first_line(&mut marks, rest).ok() else {
-            return Err(AllocError);
+        let Ok(after) = first_line(&mut marks, rest) else {
+            return Err(Error::Memory);
         };
         let next = next_line(after);
         let seen = marks.as_slice();
@@ -233,5 +242,5 @@ pub(crate) fn entries(alloc: Global, text: &str, place: &[Step]) -> Result<Vec<E
         }
         rest = next;
     }
-    Err(AllocError)
+    Err(Error::Memory)
 }

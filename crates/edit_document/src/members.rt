@@ -1,5 +1,6 @@
 //! The members of an inline table, and the one of them that names a place.
-ghost use Rattle.std.specs.Prelude.{◌≡◌, true, ℕ, List, IfOk, length, option_map};
+ghost use Rattle.std.specs.Prelude.{◌≡◌, true, ℕ, List, IfOk, IfErr, length, option_map};
+ghost use Rattle.edit_base.specs.Errors.{IsMemory};
 ghost use Rattle.edit_syntax.specs.Grammar.{Between, gap, Value, value as value_text};
 ghost use Rattle.edit_syntax.specs.Strings.{Key};
 ghost use Rattle.edit_tree.specs.Assertions.{Place};
@@ -15,10 +16,11 @@ ghost use Rattle.edit_tree.specs.Written.{Valued};
 use crate::inside::{begins, behind_one};
 use crate::place::Step;
 use crate::way::{Way, along, is_at, key_end};
+use edit_base::errors::{CargoResult, Error};
 use edit_syntax::Mark;
 use edit_syntax::read::gaps::past_gap;
 use edit_syntax::read::steps::{past_name, past_value};
-use std::alloc::{AllocError, Global};
+use std::alloc::Global;
 
 /// Where the part of a key ends that names the place, by the way along the key.
 fn part_end(named: Way, front: Option<usize>, marks: &[Mark], place: &[Step]) -> Option<usize>
@@ -42,21 +44,22 @@ fn past_member<'a>(
     s: &'a [u8],
     place: &[Step],
     start: Way,
-) -> Result<(Option<usize>, &'a [u8]), AllocError>
+) -> CargoResult<(Option<usize>, &'a [u8])>
     ensures told { (table : Place) (k : Key) (a b : List ℕ) (v : Value) (c : List Between) (rest : List ℕ)
         → StandsAt text.now s.now true (of_pair k a b v) c rest → start ≡ way (place_seen place.now) table
         → IfOk result (λ r.
         (r.0 ≡ option_map length (part_to (place_seen place.now) (paired table k a b v (gap c rest))))
         × (r.1.now ≡ gap c rest)) }
+    ensures refused { IfErr result IsMemory }
 {
     let mut marks = Vec::new(alloc);
-    let Some(value) = past_name(&mut marks, s).ok() else {
-        return Err(AllocError);
+    let Ok(value) = past_name(&mut marks, s) else {
+        return Err(Error::Memory);
     };
     let seen = marks.as_slice();
     let (named, front) = along(alloc, text, place, seen, start, &[])?;
-    let Some(after) = past_value(alloc, value).ok() else {
-        return Err(AllocError);
+    let Ok(after) = past_value(alloc, value) else {
+        return Err(Error::Memory);
     };
     Ok((part_end(named, front, seen, place), after))
 }
@@ -69,10 +72,11 @@ pub(crate) fn table_spots(
     s: &[u8],
     place: &[Step],
     start: Way,
-) -> Result<Option<(usize, usize)>, AllocError>
+) -> CargoResult<Option<(usize, usize)>>
     ensures told { (w : Valued) → StandsIn text.now w → s.now ≡ value_text w.value w.after
         → start ≡ way (place_seen place.now) w.place
         → IfOk result (Tells (place_seen place.now) (paired_value w)) }
+    ensures refused { IfErr result IsMemory }
 {
     if !begins(s, b'{') {
         return Ok(None);

@@ -1,6 +1,7 @@
 //! The text of a document without an item.
-ghost use Rattle.std.specs.Prelude.{◌≡◌, ◌++◌, [], Some, None, IfOk, string_bytes};
+ghost use Rattle.std.specs.Prelude.{◌≡◌, ◌++◌, [], Some, None, IfOk, IfErr, string_bytes};
 ghost use Rattle.std.specs.Bool.{Decides};
+ghost use Rattle.edit_base.specs.Errors.{IsMemory};
 ghost use Rattle.edit_syntax.specs.Grammar.{Text, Value, value, IsValue, lines, byte_order_mark};
 ghost use Rattle.edit_tree.specs.EditBytes.{with_splice};
 ghost use Rattle.edit_document.specs.Items.{place_seen};
@@ -15,16 +16,18 @@ use crate::document::Document;
 use crate::inside::{begins, value_without};
 use crate::locate::entries;
 use crate::place::Step;
+use edit_base::errors::CargoResult;
 use edit_syntax::past_mark;
 use edit_tree::cut::between;
-use std::alloc::{AllocError, Global};
+use std::alloc::Global;
 
 /// The text without the statements that name the place or one below it, and without the blank and comment
 /// lines before each of them.
-fn without_lines(alloc: Global, text: &str, place: &[Step]) -> Result<String, AllocError>
+fn without_lines(alloc: Global, text: &str, place: &[Step]) -> CargoResult<String>
     ensures text { (form : Text) → IsManifest text.now form → IfOk result (λ t. string_bytes t
         ≡ byte_order_mark form.marked
         (lines_left (place_seen place.now) (lines form.lines) (stated form))) }
+    ensures refused { IfErr result IsMemory }
 {
     let all = entries(alloc, text, place)?;
     let found = all.as_slice();
@@ -49,16 +52,11 @@ pub(crate) struct Around {
 }
 
 /// The text with other bytes in the place of what stands from one spot to another.
-fn with_part(
-    alloc: Global,
-    text: &str,
-    from: usize,
-    to: usize,
-    now: &str,
-) -> Result<String, AllocError>
+fn with_part(alloc: Global, text: &str, from: usize, to: usize, now: &str) -> CargoResult<String>
     ensures text { (w : Valued) → StandsBetween text.now w from to
         → IfOk result (λ t. string_bytes t ≡ with_splice text.now
         (record { from = value w.value w.after; to = w.after; now = now.now })) }
+    ensures refused { IfErr result IsMemory }
 {
     let mut out = String::new(alloc);
     out.push_str(between(text, text.len(), from))?;
@@ -82,7 +80,7 @@ fn without_members(
     from: usize,
     to: usize,
     below: &[Step],
-) -> Result<String, AllocError>
+) -> CargoResult<String>
     requires stands { (w : Valued) × StandsBetween text.now w from to }
     ensures text { (w : Valued) → StandsBetween text.now w from to
         → IfOk result (λ t. string_bytes t ≡ with_splice text.now (record {
@@ -90,6 +88,7 @@ fn without_members(
           to = w.after;
           now = value_left (w.place ++ place_seen below.now) w.place w.value [];
         })) }
+    ensures refused { IfErr result IsMemory }
 {
     let old = between(text, from, to);
     if !is_container(old.as_bytes()) {
@@ -121,9 +120,10 @@ impl Document {
     }
 
     /// The document's text without the item at a place. Where nothing stands there, nothing goes.
-    pub(crate) fn without(&self, alloc: Global, place: &[Step]) -> Result<String, AllocError>
+    pub(crate) fn without(&self, alloc: Global, place: &[Step]) -> CargoResult<String>
         ensures text { IfOk result (λ t. (form : Text) → IsManifest self.now.bytes form
             → string_bytes t ≡ removed_text (place_seen place.now) form) }
+        ensures refused { IfErr result IsMemory }
     {
         self.has_form();
         match self.around(place) {

@@ -23,10 +23,10 @@ use crate::members::table_spots;
 use crate::new_item::{NewItem, push_entry};
 use crate::place::Step;
 use crate::way::{Way, key_end};
-use edit_base::errors::CargoResult;
+use edit_base::errors::{CargoResult, Error};
 use edit_syntax::{Mark, first_line};
 use edit_tree::cut::between;
-use std::alloc::{AllocError, Global};
+use std::alloc::Global;
 
 /// Whether it is a pair that names the place or one below it.
 fn is_pair_within(entry: Entry) -> bool
@@ -59,28 +59,26 @@ fn last_to(marks: &[Mark]) -> usize
 }
 
 /// Where a pair is written that names the place: behind the part of its key that does, and behind its value.
-fn pair_spots(alloc: Global, text: &str, entry: Entry) -> Result<(usize, usize), AllocError>
+fn pair_spots(alloc: Global, text: &str, entry: Entry) -> CargoResult<(usize, usize)>
     ensures around { (form : Text) (place : Place) (s : Stated) → IsManifest text.now form
         → is_one_statement form place ≡ true → Contains (stated form) s → entry ≡ entry_of place s
         → within_entry entry ≡ Some entry → IfOk result (IsAround place (line_pairs form)) }
+    ensures refused { IfErr result IsMemory }
 {
     let mut marks = Vec::new(alloc);
-    let Some(_) = first_line(&mut marks, between(text, entry.line, 0).as_bytes()).ok() else {
-        return Err(AllocError);
+    let Ok(_) = first_line(&mut marks, between(text, entry.line, 0).as_bytes()) else {
+        return Err(Error::Memory);
     };
     let seen = marks.as_slice();
     Ok((entry.front.unwrap_or(key_end(seen)), last_to(seen)))
 }
 
 /// The same of the pair that is a statement and names the place, where there is one.
-fn line_spots(
-    alloc: Global,
-    text: &str,
-    place: &[Step],
-) -> Result<Option<(usize, usize)>, AllocError>
+fn line_spots(alloc: Global, text: &str, place: &[Step]) -> CargoResult<Option<(usize, usize)>>
     ensures told { (form : Text) → IsManifest text.now form
         → is_one_statement form (place_seen place.now) ≡ true
         → IfOk result (Tells (place_seen place.now) (line_pairs form)) }
+    ensures refused { IfErr result IsMemory }
 {
     let all = entries(alloc, text, place)?;
     match first_within(all.as_slice()) {
@@ -90,15 +88,10 @@ fn line_spots(
 }
 
 /// The text with other bytes in the place of what stands from one spot to another.
-fn swapped(
-    alloc: Global,
-    text: &str,
-    from: usize,
-    to: usize,
-    now: &str,
-) -> Result<String, AllocError>
+fn swapped(alloc: Global, text: &str, from: usize, to: usize, now: &str) -> CargoResult<String>
     ensures text { (s : Splice) → IsSpot text.now s.from → IsSpot text.now s.to → from ≡ length s.from
         → to ≡ length s.to → now.now ≡ s.now → IfOk result (λ r. string_bytes r ≡ with_splice text.now s) }
+    ensures refused { IfErr result IsMemory }
 {
     let mut out = String::new(alloc);
     out.push_str(between(text, text.len(), from))?;
@@ -115,10 +108,11 @@ impl Document {
         alloc: Global,
         place: &[Step],
         end: usize,
-    ) -> Result<Option<(usize, usize)>, AllocError>
+    ) -> CargoResult<Option<(usize, usize)>>
         requires { end ≤ length place.now }
         ensures told { (form : Text) → IsManifest self.now.bytes form
             → IfOk result (TellsIn form (place_seen place.now) end) }
+        ensures refused { IfErr result IsMemory }
     {
         self.has_form();
         let text = self.as_str();
@@ -132,13 +126,10 @@ impl Document {
     }
 
     /// The same in the inline tables of the whole text.
-    fn inner_spots(
-        &self,
-        alloc: Global,
-        place: &[Step],
-    ) -> Result<Option<(usize, usize)>, AllocError>
+    fn inner_spots(&self, alloc: Global, place: &[Step]) -> CargoResult<Option<(usize, usize)>>
         ensures told { (form : Text) → IsManifest self.now.bytes form
             → IfOk result (Tells (place_seen place.now) (inner_pairs form)) }
+        ensures refused { IfErr result IsMemory }
     {
         'ends: for end in 0..place.len() + 1 {
             let spots = self.spots_in(alloc, place, end)?;
@@ -150,11 +141,12 @@ impl Document {
     }
 
     /// Where the pair is written that names a place, of which there is one.
-    fn entry_spots(&self, alloc: Global, place: &[Step]) -> Result<(usize, usize), AllocError>
+    fn entry_spots(&self, alloc: Global, place: &[Step]) -> CargoResult<(usize, usize)>
         requires one { (form : Text) → IsManifest self.now.bytes form
             → is_one_statement form (place_seen place.now) ≡ true }
         ensures around { (form : Text) → IsManifest self.now.bytes form
             → IfOk result (IsAround (place_seen place.now) (line_pairs form ++ inner_pairs form)) }
+        ensures refused { IfErr result IsMemory }
     {
         self.has_form();
         if let Some(spots) = line_spots(alloc, self.as_str(), place)? {
@@ -167,16 +159,12 @@ impl Document {
     }
 
     /// The document's text with another entry at a place.
-    fn with_entry(
-        &self,
-        alloc: Global,
-        place: &[Step],
-        item: &NewItem,
-    ) -> Result<String, AllocError>
+    fn with_entry(&self, alloc: Global, place: &[Step], item: &NewItem) -> CargoResult<String>
         requires one { (form : Text) → IsManifest self.now.bytes form
             → is_one_statement form (place_seen place.now) ≡ true }
         ensures text { IfOk result (λ t. (form : Text) → IsManifest self.now.bytes form → string_bytes t
             ≡ replaced_text (place_seen place.now) (item_seen item.now) form) }
+        ensures refused { IfErr result IsMemory }
     {
         let (from, to) = self.entry_spots(alloc, place)?;
         let mut now = String::new(alloc);

@@ -1,5 +1,6 @@
 //! The way to a place that is looked for.
-ghost use Rattle.std.specs.Prelude.{◌≡◌, List, ◌∷◌, IfOk, length};
+ghost use Rattle.std.specs.Prelude.{◌≡◌, List, ◌∷◌, IfOk, IfErr, length};
+ghost use Rattle.edit_base.specs.Errors.{IsMemory};
 ghost use Rattle.edit_tree.specs.Assertions.{Place, key as key_step, index as index_step};
 ghost use Rattle.edit_document.specs.Items.{place_seen};
 ghost use Rattle.edit_tree.specs.Statements.{Named};
@@ -8,10 +9,11 @@ ghost use Rattle.edit_document.specs.Entries as entries_seen;
 ghost use Rattle.edit_document.specs.EntrySpots as spots_seen;
 
 use crate::place::Step;
+use edit_base::errors::CargoResult;
 use edit_syntax::{Mark, MarkKind};
 use edit_tree::nodes::words_in;
 use edit_tree::words::words_of;
-use std::alloc::{AllocError, Global};
+use std::alloc::Global;
 
 /// How a place stands to one that is looked for: on the way
 /// to it by so many steps, below it, or off the way.
@@ -143,20 +145,19 @@ pub(crate) fn along(
     marks: &[Mark],
     start: Way,
     counts: &[usize],
-) -> Result<(Way, Option<usize>), AllocError>
+) -> CargoResult<(Way, Option<usize>)>
     ensures goes { (table : Place) (resolve : Place → Place) (n : Named) (ns : List Named)
         → entries_seen.AreParts text.now (n ∷ ns) marks.now
         → entries_seen.Follows (place_seen place.now) counts.now resolve
         → start ≡ entries_seen.way (place_seen place.now) table
         → IfOk result (entries_seen.GoesAlong (place_seen place.now) resolve table (n ∷ ns)) }
+    ensures refused { IfErr result IsMemory }
 {
     if marks.is_empty() {
         return Ok((start, None));
     }
     let mark = marks[0];
-    let Some(words) = words_of(alloc, text, mark).ok() else {
-        return Err(AllocError);
-    };
+    let words = words_of(alloc, text, mark)?;
     let here = step_name(start, place, words_in(text, &words));
     let others = &marks[1..];
     if !begins_part(others) {

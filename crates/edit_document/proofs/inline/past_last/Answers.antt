@@ -1,8 +1,10 @@
 use Rattle.std.proofs.Common.{◌≡◌, ℕ, true, eqb, List, ◌∷◌, drop, sym, subst, ap, ◌∙◌, arith}
+use Rattle.std.proofs.lemmas.Result.{err_from_is_err_and}
 use Rattle.edit_syntax.specs.Characters.{comma, right_brace}
 use Rattle.edit_syntax.specs.Reading.{first, past_gap}
 use Rattle.edit_tree.specs.EditBytes.{behind_last}
 use Rattle.edit_document.proofs.InlineSpots.{past_value, table_past}
+use Rattle.edit_document.proofs.SlotSteps.{keeps_memory}
 use Rattle.edit_document.proofs.SlotTurns.{stop_is}
 use Rattle.edit_document.proofs.MemberTurns.{AtMembers, members_start, members_closed, members_front, members_over}
 use Rattle.edit_document.proofs.inline.past_last.Goals as goal
@@ -21,6 +23,16 @@ returns-then-begins c g ms after h =
     sym (members_closed past_value c.args.text.now after c.members.index c.members.rest.now c.members.last.now
     (behind_last ms (right_brace ∷ after)) (c.members.invariant g ms after h)
     (sym c.begins.ensures ∙ c.if-begins.true))
+
+pub returns-in_err-after : goal.returns-in_err-after
+returns-in_err-after c g ms after h =
+    let p = err_from_is_err_and c.from_residual.result c.from_residual.ensures.1 in
+    let target = behind_last ms (right_brace ∷ after) in
+    let f = members_front past_value c.args.text.now after c.members.index c.members.rest.now
+    c.members.last.now target
+    (c.members.invariant g ms after h) (sym c.begins.ensures ∙ c.if-begins.false) in
+    keeps_memory c.from_residual.result c.in_err-after.field-0.0 p.0 (λ r. r.now ≡ target) p.1 p.2
+    (c.in_err-after.ensures {u = tt} f.it f.gap_behind f.behind f.stands)
 
 pub returns-then-not-begins : goal.returns-then-not-begins
 returns-then-not-begins c g ms after h =

@@ -1,5 +1,6 @@
 use Rattle.std.proofs.Common.{◌≡◌, ℕ, true, eqb, List, ◌∷◌, None, Option, drop, sym, subst, ap, ◌∙◌, ◌+◌, arith}
 use Rattle.std.specs.Option.{option_or}
+use Rattle.std.proofs.lemmas.Result.{err_from_is_err_and}
 use Rattle.edit_syntax.specs.Characters.{comma, right_brace}
 use Rattle.edit_syntax.specs.Reading.{first, past_gap}
 use Rattle.edit_document.specs.declared.inner.Inner.{Inner}
@@ -8,6 +9,7 @@ use Rattle.edit_document.specs.Inner.{inner_of}
 use Rattle.edit_document.specs.Items.{place_seen}
 use Rattle.edit_tree.specs.Statements.{paired_members}
 use Rattle.edit_document.proofs.InnerTurns.{inner_turn, last_folded, or_none}
+use Rattle.edit_document.proofs.SlotSteps.{keeps_memory}
 use Rattle.edit_document.proofs.SlotTurns.{stop_is}
 use Rattle.edit_document.proofs.MemberTurns.{AtMembers, members_start, members_closed, members_front, members_over}
 use Rattle.edit_document.proofs.inner.last_inner.Goals as goal
@@ -31,6 +33,17 @@ returns-then-begins c above g ms after h start =
     c.members.last
     (last_made (inner_of place) (paired_members above ms (right_brace ∷ after)))
     (c.members.invariant above g ms after h start) (sym c.begins.ensures ∙ c.if-begins.true))
+
+pub returns-in_err-here : goal.returns-in_err-here
+returns-in_err-here c above g ms after h start =
+    let p = err_from_is_err_and c.from_residual.result c.from_residual.ensures.1 in
+    let place = place_seen c.args.place.now in
+    let target = last_made (inner_of place) (paired_members above ms (right_brace ∷ after)) in
+    let f = members_front (inner_turn place above) c.args.text.now after c.members.index c.members.rest.now
+    c.members.last
+    target (c.members.invariant above g ms after h start) (sym c.begins.ensures ∙ c.if-begins.false) in
+    keeps_memory c.from_residual.result c.in_err-here.field-0.0 p.0 (λ r. r ≡ target) p.1 p.2
+    (c.in_err-here.ensures {u = tt} above f.it f.gap_behind f.behind f.stands start)
 
 pub returns-then-not-begins : goal.returns-then-not-begins
 returns-then-not-begins c above g ms after h start =

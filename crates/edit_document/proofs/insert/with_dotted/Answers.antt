@@ -6,16 +6,14 @@ use Rattle.edit_tree.specs.EditBytes.{new_line, with_splice}
 use Rattle.edit_document.specs.Spots.{key_to}
 use Rattle.edit_document.proofs.insert.with_dotted.Goals as goal
 
-pub returns : goal.returns
-returns c = record {
-  text = λ place s spot h e f.
-      let pair = c.args.pair.now in
-      let line = c.as_str.ensures.value ∙ (c.in_ok-push_str-2.ensures {u = tt}).bytes
-      ∙ ap (λ (l : List ℕ). l ++ pair) ((c.in_ok-push_str.ensures {u = tt}).bytes
-      ∙ ap (λ (l : List ℕ). l ++ codes ".") ((c.in_ok-line.ensures {u = tt}).ok ∙
-      c.name_of.ensures place s spot h e f))
-      ∙ append_assoc (key_to s spot) (codes ".") pair in
-      IfOk-weaker c.with_line.result _ _
-      (λ t is. is ∙ ap (λ (l : List ℕ). with_splice c.args.text.now (new_line s.after l)) line)
-      (c.with_line.ensures.text s.after h.after (ap (λ (x : Entry). x.after) e));
-}
+pub returns-clause-text : goal.returns-clause-text
+returns-clause-text c place s spot h e f =
+    let pair = c.args.pair.now in
+    let line = c.as_str.ensures.value ∙ (c.in_ok-push_str-2.ensures {u = tt}).bytes
+    ∙ ap (λ (l : List ℕ). l ++ pair) ((c.in_ok-push_str.ensures {u = tt}).bytes
+    ∙ ap (λ (l : List ℕ). l ++ codes ".") ((c.in_ok-line.ensures {u = tt}).ok ∙
+    c.name_of.ensures place s spot h e f))
+    ∙ append_assoc (key_to s spot) (codes ".") pair in
+    IfOk-weaker c.with_line.result _ _
+    (λ t is. is ∙ ap (λ (l : List ℕ). with_splice c.args.text.now (new_line s.after l)) line)
+    (c.with_line.ensures.text s.after h.after (ap (λ (x : Entry). x.after) e))

@@ -2,15 +2,13 @@ use Rattle.std.proofs.Common.{◌≡◌, ℕ, List, string_bytes, sym, ap, ◌�
 use Rattle.edit_document.specs.declared.place.Step.{Step}
 use Rattle.edit_tree.specs.Assertions.{key, same_bytes, same_step}
 use Rattle.edit_document.specs.Items.{step_seen}
-use Rattle.edit_document.proofs.GivenUp.{value_says}
 use Rattle.edit_document.proofs.SlotKeys.{word_is}
 use Rattle.edit_document.proofs.inside.is_step.Goals as goal
 
-pub returns-in-Some : goal.returns-in-Some
-returns-in-Some c name h =
+pub returns-in_ok-words-in-Key : goal.returns-in_ok-words-in-Key
+returns-in_ok-words-in-Key c name h =
     let word = c.words_in.result.now in
-    let said : word ≡ name = c.words_in.ensures ∙ value_says c.words_of.result c.ok.result c.in-Some.words _ _
-    c.ok.ensures.value c.in-Some.is (c.words_of.ensures.says name h) in
+    let said : word ≡ name = c.words_in.ensures ∙ (c.in_ok-words-in-Key.ensures {u = tt}).says name h in
     c.eq.ensures ∙ word_is word c.as_str.result.now
     ∙ ap (λ (x : List ℕ). same_bytes x word) c.as_str.ensures.value
     ∙ ap (λ (x : List ℕ). same_bytes (string_bytes c.in-Key.key) x) said

@@ -1,11 +1,12 @@
 use Rattle.std.proofs.Common.{◌≡◌, ℕ, Bool, eqb, if◌then◌else◌, List, [], ◌++◌, drop, length, sym, subst, ap, ◌∙◌, refl, arith}
-use Rattle.std.proofs.lemmas.Result.{IfOk-weaker}
+use Rattle.std.proofs.lemmas.Result.{err_from_is_err_and}
 use Rattle.edit_syntax.specs.Characters.{comma, left_brace}
 use Rattle.edit_syntax.specs.Reading.{first, past_gap}
 use Rattle.edit_document.specs.Items.{place_seen}
 use Rattle.edit_document.specs.Remainders.{before_end}
 use Rattle.edit_tree.specs.Slots.{closing, goes, enclosed_left}
 use Rattle.edit_tree.specs.SlotTexts.{StandsAt}
+use Rattle.edit_document.proofs.SlotSteps.{keeps_memory}
 use Rattle.edit_document.proofs.SlotTurns.{slots_front, at_with, turned, table_is, stop_is}
 use Rattle.edit_document.proofs.SlotEnds.{enclosed_start, slots_closed, slots_over}
 use Rattle.edit_document.proofs.inside.slots_left.Goals as goal
@@ -34,10 +35,27 @@ returns-then-begins c t g ss h =
     let rest = c.slots.rest.now in
     let ends : c.closer-end.result ≡ closing t = c.closer-end.ensures ∙ ap closing (sym inv.0) in
     let shut = ap (λ (x : ℕ). eqb (first rest) x) (sym ends) ∙ sym c.begins.ensures ∙ c.if-begins.true in
-    IfOk-weaker c.with.result _ _ (λ v e. e ∙
+    c.in_ok-with.ensures {u = tt} ∙
     sym (slots_closed t c.args.text.now
     (place_seen c.args.below.now) c.slots.index rest c.slots.left.firm.items c.slots.left.with_comma.items
-    c.slots.left.without_comma.items _ inv.1 shut)) c.with.ensures
+    c.slots.left.without_comma.items _ inv.1 shut)
+
+pub returns-in_err-is_gone : goal.returns-in_err-is_gone
+returns-in_err-is_gone c t g ss h =
+    let p = err_from_is_err_and c.from_residual-in_err-is_gone.result c.from_residual-in_err-is_gone.ensures.1
+    in
+    let inv = c.slots.invariant t g ss h in
+    let rest = c.slots.rest.now in
+    let ends : c.closer-end.result ≡ closing t = c.closer-end.ensures ∙ ap closing (sym inv.0) in
+    let unshut = ap (λ (x : ℕ). eqb (first rest) x) (sym ends) ∙ sym c.begins.ensures ∙ c.if-begins.false in
+    let f = slots_front t c.args.text.now
+    (place_seen c.args.below.now) c.slots.index rest c.slots.left.firm.items c.slots.left.with_comma.items
+    c.slots.left.without_comma.items _ inv.1 unshut in
+    let stands = subst (λ (b : Bool). StandsAt c.args.text.now rest b f.it f.gap_behind f.behind) inv.0
+    f.stands in
+    keeps_memory c.from_residual-in_err-is_gone.result c.in_err-is_gone.field-0.0 p.0
+    (λ v. v.items ≡ enclosed_left t (place_seen c.args.below.now) g ss) p.1 p.2
+    (c.in_err-is_gone.ensures {u = tt} f.it f.gap_behind f.behind stands)
 
 pub returns-then-not-begins : goal.returns-then-not-begins
 returns-then-not-begins c t g ss h =
@@ -57,12 +75,12 @@ returns-then-not-begins c t g ss h =
     stop_is text rest t f.it f.gap_behind f.behind f.stands in
     let other = ap (λ (x : List ℕ). eqb (first x) comma) (sym stop) ∙ sym c.begins-in-slots.ensures ∙
     c.if-not-begins.true in
-    IfOk-weaker c.end.result _ _ (λ v e. e
+    c.in_ok-end.ensures {u = tt}
     ∙ ap (λ (b : Bool). if b then (firm ++ gaps) ++ c.in_ok-is_gone.after.now else (firm ++ commas) ++ rest)
     r.0
     ∙ ap (λ (x : List ℕ). if goes below c.slots.index f.it then (firm ++ gaps) ++ x else
     (firm ++ commas) ++ rest) r.1
-    ∙ sym (f.last other)) c.end.ensures
+    ∙ sym (f.last other)
 
 pub slots-preserved : goal.slots-preserved
 slots-preserved c t g ss h =

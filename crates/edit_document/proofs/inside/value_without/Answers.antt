@@ -1,5 +1,5 @@
 use Rattle.std.proofs.Common.{false, true, ◌∙◌}
-use Rattle.std.proofs.lemmas.Result.{IfOk-weaker}
+use Rattle.std.proofs.lemmas.Result.{MatchResult-weaker}
 use Rattle.edit_syntax.specs.Grammar.{array, inline, basic, literal, multi_basic, multi_literal, boolean, integer, float, datetime}
 use Rattle.edit_document.specs.Items.{place_seen}
 use Rattle.edit_tree.specs.Slots.{of_elements, of_members}
@@ -8,11 +8,13 @@ use Rattle.edit_document.proofs.inside.value_without.Goals as goal
 
 pub returns : goal.returns
 returns c place (array g es) is valid shallow e =
-    IfOk-weaker c.slots_left.result _ _ (λ w k. k ∙ array_left place (place_seen c.args.below.now) g es)
+    MatchResult-weaker c.slots_left.result
     (c.slots_left.ensures false g (of_elements es) (array_enclosed g es c.args.text.now valid shallow e))
+    (λ w k. k ∙ array_left place (place_seen c.args.below.now) g es) (λ d k. k)
 returns c place (inline g ms) is valid shallow e =
-    IfOk-weaker c.slots_left.result _ _ (λ w k. k ∙ inline_left place (place_seen c.args.below.now) g ms)
+    MatchResult-weaker c.slots_left.result
     (c.slots_left.ensures true g (of_members ms) (inline_enclosed g ms c.args.text.now valid shallow e))
+    (λ w k. k ∙ inline_left place (place_seen c.args.below.now) g ms) (λ d k. k)
 returns c place (basic ps) is valid shallow e = absurd is
 returns c place (literal text) is valid shallow e = absurd is
 returns c place (multi_basic ps) is valid shallow e = absurd is

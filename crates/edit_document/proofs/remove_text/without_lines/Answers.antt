@@ -43,17 +43,15 @@ entries-preserved c form m =
     past_one text gone whole done _ c.entries.from c.if-entry.to e (drop (i + 1) xs) at to
     ((c.in_ok-push_str.ensures {u = tt}).bytes ∙ ap (λ (l : List ℕ). done ++ l) c.between-in-entries.ensures)
 
-pub returns : goal.returns
-returns c = record {
-  text = λ form m.
-      let text = c.args.text.now in
-      let gone = place_seen c.args.place.now in
-      let xs = c.as_slice-found.result.now in
-      let whole = byte_order_mark form.marked (lines_left gone (lines form.lines) (stated form)) in
-      let done = string_bytes c.entries.out in
-      past_last text gone whole done _ c.entries.from
-      (subst (AtStatement text gone whole done c.entries.from)
-      (drop_all c.entries.entry-index xs c.entries-test.false)
-      (c.entries.invariant form m))
-      ((c.in_ok-push_str-2.ensures {u = tt}).bytes ∙ ap (λ (l : List ℕ). done ++ l) c.between-2.ensures);
-}
+pub returns-clause-text : goal.returns-clause-text
+returns-clause-text c form m =
+    let text = c.args.text.now in
+    let gone = place_seen c.args.place.now in
+    let xs = c.as_slice-found.result.now in
+    let whole = byte_order_mark form.marked (lines_left gone (lines form.lines) (stated form)) in
+    let done = string_bytes c.entries.out in
+    past_last text gone whole done _ c.entries.from
+    (subst (AtStatement text gone whole done c.entries.from)
+    (drop_all c.entries.entry-index xs c.entries-test.false)
+    (c.entries.invariant form m))
+    ((c.in_ok-push_str-2.ensures {u = tt}).bytes ∙ ap (λ (l : List ℕ). done ++ l) c.between-2.ensures)

@@ -13,18 +13,16 @@ joined name line =
     (append_assoc (name ++ codes "]\n") line (codes "\n") ∙
     append_assoc name (codes "]\n") (line ++ codes "\n"))
 
-pub returns : goal.returns
-returns c = record {
-  text = λ rest at is.
-      let name = c.args.name.now in
-      let line = c.args.line.now in
-      let now = c.as_str.ensures.value ∙ (c.in_ok-push_str-4.ensures {u = tt}).bytes
-      ∙ ap (λ (l : List ℕ). l ++ codes "\n") ((c.in_ok-push_str-3.ensures {u = tt}).bytes
-      ∙ ap (λ (l : List ℕ). l ++ line) ((c.in_ok-push_str-2.ensures {u = tt}).bytes
-      ∙ ap (λ (l : List ℕ). l ++ codes "]\n") ((c.in_ok-push_str.ensures {u = tt}).bytes
-      ∙ ap (λ (l : List ℕ). l ++ name) (c.in_ok-now.ensures {u = tt}).ok)))
-      ∙ joined name line in
-      IfOk-weaker c.with_text.result _ _
-      (λ s e. e ∙ ap (λ (l : List ℕ). with_splice c.args.text.now (put_before rest l)) now)
-      (c.with_text.ensures.text rest at is);
-}
+pub returns-clause-text : goal.returns-clause-text
+returns-clause-text c rest at is =
+    let name = c.args.name.now in
+    let line = c.args.line.now in
+    let now = c.as_str.ensures.value ∙ (c.in_ok-push_str-4.ensures {u = tt}).bytes
+    ∙ ap (λ (l : List ℕ). l ++ codes "\n") ((c.in_ok-push_str-3.ensures {u = tt}).bytes
+    ∙ ap (λ (l : List ℕ). l ++ line) ((c.in_ok-push_str-2.ensures {u = tt}).bytes
+    ∙ ap (λ (l : List ℕ). l ++ codes "]\n") ((c.in_ok-push_str.ensures {u = tt}).bytes
+    ∙ ap (λ (l : List ℕ). l ++ name) (c.in_ok-now.ensures {u = tt}).ok)))
+    ∙ joined name line in
+    IfOk-weaker c.with_text.result _ _
+    (λ s e. e ∙ ap (λ (l : List ℕ). with_splice c.args.text.now (put_before rest l)) now)
+    (c.with_text.ensures.text rest at is)

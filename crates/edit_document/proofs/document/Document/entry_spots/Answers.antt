@@ -24,10 +24,8 @@ unreachable-requires c =
     (λ r. inner p (among_contained p (inner_pairs f.0) r)) (among_append p (line_pairs f.0)
     (inner_pairs f.0) m))
 
-pub returns : goal.returns
-returns c = record {
-  around = λ form m.
-      let place = place_seen c.args.place.now in
-      around_right place (line_pairs form) (inner_pairs form) c.in-Some-2.spots
-      (subst (Tells place (inner_pairs form)) c.in-Some-2.is ((c.in_ok-spots-2.ensures {u = tt}).told form m));
-}
+pub returns-clause-around : goal.returns-clause-around
+returns-clause-around c form m =
+    let place = place_seen c.args.place.now in
+    around_right place (line_pairs form) (inner_pairs form) c.in-Some-2.spots
+    (subst (Tells place (inner_pairs form)) c.in-Some-2.is ((c.in_ok-spots-2.ensures {u = tt}).told form m))

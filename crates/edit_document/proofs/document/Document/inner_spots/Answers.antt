@@ -4,10 +4,8 @@ use Rattle.edit_document.specs.Items.{step_seen, place_seen}
 use Rattle.edit_document.proofs.InnerPairs.{inner_none}
 use Rattle.edit_document.proofs.document.Document.inner_spots.Goals as goal
 
-pub returns : goal.returns
-returns c = record {
-  told = λ form m.
-      let size = length-map c.args.place.now step_seen in
-      inner_none form (place_seen c.args.place.now) c.ends.end (c.ends.invariant form m)
-      (omega (arith, c.ends-test.false, size));
-}
+pub returns-clause-told : goal.returns-clause-told
+returns-clause-told c form m =
+    let size = length-map c.args.place.now step_seen in
+    inner_none form (place_seen c.args.place.now) c.ends.end (c.ends.invariant form m)
+    (omega (arith, c.ends-test.false, size))

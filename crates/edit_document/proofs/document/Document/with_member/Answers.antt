@@ -9,32 +9,29 @@ use Rattle.edit_tree.specs.Supported.{IsManifest}
 use Rattle.edit_document.proofs.InsertedLines.{each_ok}
 use Rattle.edit_document.proofs.document.Document.with_member.Goals as goal
 
-pub returns-in-Some : goal.returns-in-Some
-returns-in-Some c = record {
-  text = λ form m.
-      let place = place_seen c.args.place.now in
-      let v = value_seen c.args.value.now in
-      let pair = c.as_str-pair.result.now in
-      subst (λ (o : Option (String Global)). MatchOption o (in_inline place pair form ≡ None)
-      (λ t. string_bytes t ≡ inserted_text place c.args.key.now v form)) c.in-Some.is
-      ((c.in_ok-inline.ensures {u = tt}).text form c.args.key.now v m
-      (c.as_str-pair.ensures.value ∙ (c.in_ok-written.ensures {u = tt}).text));
-}
+pub returns-in-Some-clause-text : goal.returns-in-Some-clause-text
+returns-in-Some-clause-text c form m =
+    let place = place_seen c.args.place.now in
+    let v = value_seen c.args.value.now in
+    let pair = c.as_str-pair.result.now in
+    subst (λ (o : Option (String Global)). MatchOption o (in_inline place pair form ≡ None)
+    (λ t. string_bytes t ≡ inserted_text place c.args.key.now v form)) c.in-Some.is
+    ((c.in_ok-inline.ensures {u = tt}).text form c.args.key.now v m
+    (c.as_str-pair.ensures.value ∙ (c.in_ok-written.ensures {u = tt}).text))
 
-pub returns : goal.returns
-returns c = record {
-  text = let place = place_seen c.args.place.now in
-      let v = value_seen c.args.value.now in
-      let bytes = c.args.self.now.bytes in
-      let pair = c.as_str-pair.result.now in
-      let is = c.as_str-pair.ensures.value ∙ (c.in_ok-written.ensures {u = tt}).text in
-      IfOk-weaker c.with_pair.result _ _ (λ t h form m. h (form, m))
-      (each_ok {X = (form : Text) × IsManifest bytes form} c.with_pair.result
-      (λ x t. string_bytes t ≡ inserted_text place c.args.key.now v x.0)
-      (λ x. c.with_pair.ensures.text x.0 c.args.key.now v
-      (subst (λ (b : List ℕ). IsManifest b x.0) (sym c.as_str.ensures) x.1)
-      (subst (λ (o : Option (String Global)). MatchOption o (in_inline place pair x.0 ≡ None)
-      (λ t. string_bytes t ≡ inserted_text place c.args.key.now v x.0)) c.in_default.is
-      ((c.in_ok-inline.ensures {u = tt}).text x.0 c.args.key.now v x.1 is))
-      ((c.in_ok-inner.ensures {u = tt}).found x.0 x.1) is));
-}
+pub returns-clause-text : goal.returns-clause-text
+returns-clause-text c =
+    let place = place_seen c.args.place.now in
+    let v = value_seen c.args.value.now in
+    let bytes = c.args.self.now.bytes in
+    let pair = c.as_str-pair.result.now in
+    let is = c.as_str-pair.ensures.value ∙ (c.in_ok-written.ensures {u = tt}).text in
+    IfOk-weaker c.with_pair.result _ _ (λ t h form m. h (form, m))
+    (each_ok {X = (form : Text) × IsManifest bytes form} c.with_pair.result
+    (λ x t. string_bytes t ≡ inserted_text place c.args.key.now v x.0)
+    (λ x. c.with_pair.ensures.text x.0 c.args.key.now v
+    (subst (λ (b : List ℕ). IsManifest b x.0) (sym c.as_str.ensures) x.1)
+    (subst (λ (o : Option (String Global)). MatchOption o (in_inline place pair x.0 ≡ None)
+    (λ t. string_bytes t ≡ inserted_text place c.args.key.now v x.0)) c.in_default.is
+    ((c.in_ok-inline.ensures {u = tt}).text x.0 c.args.key.now v x.1 is))
+    ((c.in_ok-inner.ensures {u = tt}).found x.0 x.1) is))

@@ -18,32 +18,31 @@ without_members-requires c =
     let stands = stands_between c.as_str.result.now f.0 h.valued c.in-Some.around m c.as_str.utf8 h.found in
     record { stands = (h.valued, stands) }
 
-pub returns-in-Some : goal.returns-in-Some
-returns-in-Some c = record {
-  text = let gone = place_seen c.args.place.now in
-      each_form c.args.self.now.bytes c.without_members.result
-      (λ form t. string_bytes t ≡ removed_text gone form)
-      (λ form manifest.
-      let m = subst (λ (b : List ℕ). IsManifest b form) (sym c.as_str.ensures) manifest in
-      let h = c.in-Some.ensures {u = tt} form manifest in
-      let w = h.valued in
-      let all = m.document.grammar.spelled in
-      let steps = c.in-Some.around.steps in
-      let below = place_seen (take (length c.args.place.now - steps) (drop steps c.args.place.now)) in
-      IfOk-weaker c.without_members.result _ _
-      (λ t e. e
-      ∙ ap (λ (b : List ℕ). with_splice b (record {
-        from = value w.value w.after;
-        to = w.after;
-        now = value_left (w.place ++ below) w.place w.value [];
-      })) all
-      ∙ ap (λ (p : Place). with_splice (text form) (record {
-        from = value w.value w.after;
-        to = w.after;
-        now = value_left p w.place w.value [];
-      }))
-      (steps_below c.args.place.now steps w.place h.below h.parted h.found.steps)
-      ∙ sym (removed_inside form gone w h.innermost_is))
-      (c.without_members.ensures.text w
-      (stands_between c.as_str.result.now form w c.in-Some.around m c.as_str.utf8 h.found)));
-}
+pub returns-in-Some-clause-text : goal.returns-in-Some-clause-text
+returns-in-Some-clause-text c =
+    let gone = place_seen c.args.place.now in
+    each_form c.args.self.now.bytes c.without_members.result
+    (λ form t. string_bytes t ≡ removed_text gone form)
+    (λ form manifest.
+    let m = subst (λ (b : List ℕ). IsManifest b form) (sym c.as_str.ensures) manifest in
+    let h = c.in-Some.ensures {u = tt} form manifest in
+    let w = h.valued in
+    let all = m.document.grammar.spelled in
+    let steps = c.in-Some.around.steps in
+    let below = place_seen (take (length c.args.place.now - steps) (drop steps c.args.place.now)) in
+    IfOk-weaker c.without_members.result _ _
+    (λ t e. e
+    ∙ ap (λ (b : List ℕ). with_splice b (record {
+      from = value w.value w.after;
+      to = w.after;
+      now = value_left (w.place ++ below) w.place w.value [];
+    })) all
+    ∙ ap (λ (p : Place). with_splice (text form) (record {
+      from = value w.value w.after;
+      to = w.after;
+      now = value_left p w.place w.value [];
+    }))
+    (steps_below c.args.place.now steps w.place h.below h.parted h.found.steps)
+    ∙ sym (removed_inside form gone w h.innermost_is))
+    (c.without_members.ensures.text w
+    (stands_between c.as_str.result.now form w c.in-Some.around m c.as_str.utf8 h.found)))
