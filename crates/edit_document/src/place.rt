@@ -5,7 +5,7 @@ ghost use Rattle.edit_tree.specs.Assertions.{at, key};
 ghost use Rattle.edit_document.specs.Items.{place_seen, step_seen};
 
 use edit_base::CargoResult;
-use std::alloc::{AllocError, Global};
+use std::alloc::Global;
 
 /// A step from a table or an array to one of its parts.
 #[derive(Debug, PartialEq, Eq, PartialOrd, Ord, Hash, Drop)]
@@ -18,8 +18,9 @@ pub enum Step {
 pub type Place = Vec<Step>;
 
 /// The same step, on memory of its own.
-fn copied_step(alloc: Global, step: &Step) -> Result<Step, AllocError>
+fn copied_step(alloc: Global, step: &Step) -> CargoResult<Step>
     ensures ok { IfOk result (λ s. step_seen s ≡ step_seen step.now) }
+    ensures refused { IfErr result IsMemory }
 {
     match step {
         Step::Key(name) => {

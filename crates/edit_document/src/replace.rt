@@ -17,7 +17,7 @@ use crate::document::Document;
 use crate::literal::push_literal;
 use crate::place::{Place, Step};
 use edit_base::errors::CargoResult;
-use std::alloc::{AllocError, Global};
+use std::alloc::Global;
 
 /// Another text for the value that is written from `start` to `end`.
 #[derive(Clone, Copy)]
@@ -28,13 +28,10 @@ pub(crate) struct Rewrite<'a> {
 }
 
 /// The text with the literal of each other text in the place of its range, in one pass.
-pub(crate) fn splice(
-    alloc: Global,
-    text: &str,
-    rewrites: &[Rewrite<'_>],
-) -> Result<String, AllocError>
+pub(crate) fn splice(alloc: Global, text: &str, rewrites: &[Rewrite<'_>]) -> CargoResult<String>
     requires { AreInOrder text.now 0 (map range_of rewrites.now) }
     ensures text { IfOk result (λ s. string_bytes s ≡ spliced text.now 0 (map range_of rewrites.now)) }
+    ensures refused { IfErr result IsMemory }
 {
     let mut out = String::with_capacity(alloc, text.len())?;
     let mut at = 0;
@@ -60,7 +57,7 @@ pub(crate) fn splice_unordered(
     ensures refused { IfErr result IsMemory }
 {
     rewrites.sort_unstable_by_key(|rewrite| rewrite.start);
-    Ok(splice(alloc, source, rewrites)?)
+    splice(alloc, source, rewrites)
 }
 
 impl Document {
@@ -93,13 +90,14 @@ impl Document {
         alloc: Global,
         place: &[Step],
         text: &str,
-    ) -> Result<(String, (usize, usize)), AllocError>
+    ) -> CargoResult<(String, (usize, usize))>
         requires is_value { (form : Text) → IsManifest self.now.bytes form
             → is_value_at form (place_seen place.now) ≡ true }
         ensures replaces { IfOk result (λ r.
             Replaces (one_edit (place_seen place.now) text.now) self.now.bytes (string_bytes r.0)) }
         ensures swapped { IfOk result (λ r.
             IsSwapped self.now.bytes (literal_bytes text.now) (string_bytes r.0) r.1) }
+        ensures refused { IfErr result IsMemory }
     {
         self.has_form();
         match self.value_range(place) {

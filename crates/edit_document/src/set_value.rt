@@ -16,7 +16,7 @@ use crate::document::Document;
 use crate::new_item::{NewValue, push_value};
 use crate::place::Step;
 use edit_base::errors::CargoResult;
-use std::alloc::{AllocError, Global};
+use std::alloc::Global;
 
 /// The text with the literal of a value in the place of a range.
 fn with_range(
@@ -25,10 +25,11 @@ fn with_range(
     start: usize,
     end: usize,
     value: &NewValue,
-) -> Result<String, AllocError>
+) -> CargoResult<String>
     requires { AreInOrder text.now 0 ((start, end, []) ∷ []) }
     ensures text { IfOk result (λ s. string_bytes s
         ≡ take start text.now ++ (value_text (new_value (value_seen value.now)) [] ++ drop end text.now)) }
+    ensures refused { IfErr result IsMemory }
 {
     let mut out = String::with_capacity(alloc, text.len())?;
     out.push_str(&text[..start])?;
@@ -39,16 +40,12 @@ fn with_range(
 
 impl Document {
     /// The document's text with the literal of another value in the place of a value.
-    fn with_value(
-        &self,
-        alloc: Global,
-        place: &[Step],
-        value: &NewValue,
-    ) -> Result<String, AllocError>
+    fn with_value(&self, alloc: Global, place: &[Step], value: &NewValue) -> CargoResult<String>
         requires { (form : Text) → IsManifest self.now.bytes form
             → is_value_at form (place_seen place.now) ≡ true }
         ensures bytes { IfOk result (λ s. (form : Text) → IsManifest self.now.bytes form
             → string_bytes s ≡ set_text (place_seen place.now) (value_seen value.now) form) }
+        ensures refused { IfErr result IsMemory }
     {
         self.has_form();
         match self.value_range(place) {

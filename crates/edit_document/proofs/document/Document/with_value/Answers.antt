@@ -17,16 +17,15 @@ with_range-requires c =
     (c.in-Some.start, c.in-Some.end, []) manifest c.as_str.utf8 (c.requires f.0 f.1)
     (c.in-Some.ensures {u = tt} f.0 f.1, refl)).order
 
-pub returns : goal.returns
-returns c = record {
-  bytes = let p = place_seen c.args.place.now in
-      let v = value_seen c.args.value.now in
-      IfOk-weaker c.with_range.result _ _
-      (λ s e form manifest.
-      let set = set_at form p v c.in-Some.start c.in-Some.end c.args.self.now.bytes manifest.document
-      (c.requires form manifest) (c.in-Some.ensures {u = tt} form manifest) in
-      e ∙ ap (λ (b : List ℕ). take c.in-Some.start b ++ (value (new_value v) [] ++ drop c.in-Some.end b))
-      (c.as_str.ensures ∙ manifest.document.grammar.spelled)
-      ∙ set.written ∙ sym set.meant)
-      c.with_range.ensures.text;
-}
+pub returns-clause-bytes : goal.returns-clause-bytes
+returns-clause-bytes c =
+    let p = place_seen c.args.place.now in
+    let v = value_seen c.args.value.now in
+    IfOk-weaker c.with_range.result _ _
+    (λ s e form manifest.
+    let set = set_at form p v c.in-Some.start c.in-Some.end c.args.self.now.bytes manifest.document
+    (c.requires form manifest) (c.in-Some.ensures {u = tt} form manifest) in
+    e ∙ ap (λ (b : List ℕ). take c.in-Some.start b ++ (value (new_value v) [] ++ drop c.in-Some.end b))
+    (c.as_str.ensures ∙ manifest.document.grammar.spelled)
+    ∙ set.written ∙ sym set.meant)
+    c.with_range.ensures.text
