@@ -53,28 +53,6 @@ pub(crate) fn shown<O: io::Write, E: io::Write>(
 pub(crate) fn refuse_words<E: io::Write>(fault: &WordsFault<'_>, err: &mut E) -> u8
     ensures { result ≡ 2 }
 {
-    let _ = match fault {
-        WordsFault::Together(one, other) => writeln!(
-            err,
-            "error: the argument '{one}' cannot be used with '{other}'"
-        ),
-        WordsFault::Value(option, values, value) => writeln!(
-            err,
-            "error: invalid value '{value}' for '--{option} <{values}>'"
-        ),
-        WordsFault::Rust(text, error) => writeln!(
-            err,
-            "error: invalid value '{text}' for '--rust-version <VER>': {error}"
-        ),
-        WordsFault::Level(word, levels) => writeln!(
-            err,
-            "error: invalid value '{word}' for '--bump <LEVEL>': {levels}"
-        ),
-        WordsFault::Version(text, error) => writeln!(
-            err,
-            "error: invalid value '{text}' for '[TARGET]': {error}"
-        ),
-    };
-    let _ = writeln!(err, "\nFor more information, try '--help'.");
+    let _ = writeln!(err, "error: {fault}\n\nFor more information, try '--help'.");
     2
 }

@@ -4,9 +4,10 @@ ghost use Rattle.edit_program.specs.declared.words_fault.WordsError.TheVariants 
 
 use edit_base::Error;
 use std::alloc::AllocError;
+use std::fmt;
 
 /// What is wrong with matched words.
-#[derive(Debug, Drop)]
+#[derive(Drop)]
 pub(crate) enum WordsFault<'a> {
     /// Two arguments that are not taken together.
     Together(&'static str, &'static str),
@@ -20,8 +21,33 @@ pub(crate) enum WordsFault<'a> {
     Version(&'a str, semver::Error),
 }
 
+impl fmt::Display for WordsFault<'_> {
+    fn fmt<W: fmt::Write>(&self, f: &mut fmt::Formatter<W>) -> fmt::Result {
+        match self {
+            WordsFault::Together(one, other) => {
+                write!(f, "the argument '{one}' cannot be used with '{other}'")
+            }
+            WordsFault::Value(option, values, value) => {
+                write!(f, "invalid value '{value}' for '--{option} <{values}>'")
+            }
+            WordsFault::Rust(text, error) => {
+                write!(
+                    f,
+                    "invalid value '{text}' for '--rust-version <VER>': {error}"
+                )
+            }
+            WordsFault::Level(word, levels) => {
+                write!(f, "invalid value '{word}' for '--bump <LEVEL>': {levels}")
+            }
+            WordsFault::Version(text, error) => {
+                write!(f, "invalid value '{text}' for '[TARGET]': {error}")
+            }
+        }
+    }
+}
+
 /// Why matched words are not read.
-#[derive(Debug, Drop)]
+#[derive(Drop)]
 pub(crate) enum WordsError<'a> {
     Memory,
     Fault(WordsFault<'a>),
