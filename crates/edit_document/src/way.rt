@@ -17,7 +17,7 @@ use std::alloc::Global;
 
 /// How a place stands to one that is looked for: on the way
 /// to it by so many steps, below it, or off the way.
-#[derive(Clone, Copy, Debug, PartialEq, Eq)]
+#[derive(Clone, Copy, PartialEq, Eq)]
 pub(crate) enum Way {
     On(usize),
     Below,

@@ -20,7 +20,7 @@ pub const CRATES_IO_INDEX: &str = "sparse+https://index.crates.io/";
 const CRATES_IO_REGISTRY: &str = "crates-io";
 
 /// What the first definition of a key says.
-#[derive(Clone, Copy, Debug)]
+#[derive(Clone, Copy)]
 pub(crate) struct Source<'a> {
     pub(crate) registry: Option<&'a str>,
     pub(crate) replace_with: Option<&'a str>,
