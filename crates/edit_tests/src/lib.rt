@@ -1,24 +1,18 @@
-//! Tests of what the program and its libraries answer, by public calls alone: manifests, paths and the texts
-//! of refusals; versions, records, sources and workspaces; plans, reports and what an upgrade prints and
-//! writes; the program where files, an index or its streams fail. What built programs can show stands in
-//! tools/checks/rows.
+//! Tests of what the libraries below the program answer, by public calls alone: manifests, paths and the texts
+//! of refusals; versions, records, sources and workspaces; plans, reports and what an upgrade prints. What
+//! built programs can show stands in tools/checks/rows, and the program's own tests in `edit_program_tests`.
 //!
-//! They stand in a crate of their own, since a crate with tests is proved once more with them, and in one,
-//! since each crate of tests pays for what it loads and for the types that its tests drop.
+//! They stand in a crate of their own, since a crate with tests is proved once more with them.
 #![tactic(auto)]
 
 #[cfg(test)]
-mod daily;
-#[cfg(test)]
-mod faults;
+mod diffs;
 #[cfg(test)]
 mod manifests;
 #[cfg(test)]
 mod paths;
 #[cfg(test)]
 mod plans;
-#[cfg(test)]
-mod program;
 #[cfg(test)]
 mod records;
 #[cfg(test)]

@@ -120,8 +120,104 @@ def messages(check):
     check.same("messages of files and versions", "version, and new versions", ran.out, VERSION)
 
 
+# A manifest with an entry for each reason of a row, and names with a quote and a tab; and what an index has.
+EACH = """\
+[dependencies]
+raised = "1.0"
+stays = "1.0"
+held = "1.0"
+pinned = "=1.0.0"
+"s\\"e" = { package = "renamed", version = "1.0" }
+"a\\tb" = { package = "stays", version = "one" }
+git = { git = "https://e/x" }
+near = { path = "../near" }
+left = "1.0"
+"""
+VERSIONS = ["raised 1.2.3", "stays 1.0.0", "held 1.0.0", "held 2.0.0", "pinned 1.0.0", "pinned 1.1.0",
+            "renamed 1.4.0", "left 1.5.0"]
+
+# What each entry comes to: its key, what was taken, the compatible version, the latest, the new requirement,
+# the old one, and why; the crate of a renamed one is behind its key.
+PLAIN = """\
+raised|compatible|1.2.3|1.2.3|1.2|1.0|-
+stays|-|1.0.0|1.0.0|1.0|1.0|latest
+held|-|1.0.0|2.0.0|1.0|1.0|incompatible
+pinned|-|1.0.0|1.1.0|=1.0.0|=1.0.0|pinned
+s"e=renamed|compatible|1.4.0|1.4.0|1.4|1.0|-
+a\tb=stays|-|-|1.0.0|one|one|latest
+git|-|-|-|-|-|git
+near|-|-|-|-|-|local
+left|-|1.5.0|1.5.0|1.0|1.0|excluded"""
+
+# The same of these three, where no compatible version is taken, but incompatible ones and one that is asked
+# for.
+ASKED = """\
+raised|-|1.2.3|1.2.3|1.0|1.0|compatible
+held|latest|1.0.0|2.0.0|2.0|1.0|-
+left|explicit|1.5.0|1.5.0|1.1|1.0|-"""
+
+SUMMARY = {"dry_run": False, "git_crates": [], "incompatible_present": False, "missing": [], "modified": [],
+           "pinned_present": False, "reason": "upgrade-summary", "update_calls": []}
+CALL = ["cargo", "update", "--manifest-path", "/w/Cargo.toml", "--aggressive", "--package", "raised@1.0.0",
+        "--offline"]
+
+
+def line_of(members):
+    """A message: the members in the byte order of their keys, without spaces."""
+    return json.dumps(members, separators=(",", ":"), sort_keys=True) + "\n"
+
+
+def row_message(row):
+    """The message of an entry."""
+    key, *fields = row.split("|")
+    key, _, package = key.partition("=")
+    names = ("change", "compatible", "latest", "new", "old", "why")
+    members = {name: None if field == "-" else field for name, field in zip(names, fields, strict=True)}
+    return line_of(members | {
+        "manifest_path": "/w/Cargo.toml", "name": package or key, "place": ["dependencies", key],
+        "reason": "upgrade-row", "rename": key if package else None})
+
+
+def row_messages(check):
+    """Each reason and each change of a row, a warning, and what the summary says; then a dry run of a
+    workspace with a call that follows."""
+    lines = [dict(zip(("name", "vers"), version.split())) for version in VERSIONS]
+    files = {"/w/Cargo.toml": EACH, "/w/index": "".join(map(line_of, lines))}
+    words = ["upgrade", "--index-file", "index", "--message-format", "json"]
+    warning = line_of({"manifest_path": "/w/Cargo.toml", "reason": "upgrade-warning",
+                       "message": "keeping a\tb, unreadable requirement `one`"})
+    want = "".join(map(row_message, PLAIN.splitlines())) + warning + FILE + line_of(SUMMARY | {
+        "git_crates": ["git"], "incompatible_present": True, "modified": ["raised", "renamed"],
+        "pinned_present": True})
+    check.same("messages of rows", "each reason", check.run([*words, "--exclude", "left"], files).out, want)
+    asked = ["-i", "--compatible", "ignore", "-p", "raised", "-p", "held", "-p", "left@1.1", "-p", "none"]
+    seen = check.run([*words, *asked], files).out.splitlines(True)
+    wanted = list(map(row_message, ASKED.splitlines()))
+    own = [line for line in seen if line in wanted]
+    check.same("messages of rows", "what is asked for", own, wanted)
+    check.same("messages of rows", "a summary", seen[-1],
+               line_of(SUMMARY | {"missing": ["none"], "modified": ["held", "left"]}))
+
+
+def calls(check):
+    """A workspace: the calls that follow stand in the summary, also where there is none at a dry run."""
+    package = {"name": "raised", "id": "raised", "version": "1.0.0", "manifest_path": "@ROOT@/r/Cargo.toml"}
+    files = {"/w/Cargo.toml": '[package]\nname = "a"\n[dependencies]\nraised = "1.0"\n',
+             "/w/index": line_of({"name": "raised", "vers": "1.2.3"}),
+             "/w/m.json": json.dumps(ONE | {"packages": [*ONE["packages"], package]})}
+    words = ["upgrade", "--metadata-json", "m.json", "--index-file", "index", "--message-format", "json"]
+    row = row_message("raised|compatible|1.2.3|1.2.3|1.2|1.0|-")
+    summary = SUMMARY | {"modified": ["raised"]}
+    want = row + FILE + line_of(summary | {"update_calls": [CALL]})
+    check.same("messages of rows", "a call", check.run(words, files).out, want)
+    want = row + FILE.replace("true", "false") + line_of(summary | {"dry_run": True})
+    check.same("messages of rows", "a dry run", check.run([*words, "--dry-run"], files).out, want)
+
+
 def rows(check):
     """The tables."""
     diffs(check)
     names(check)
     messages(check)
+    row_messages(check)
+    calls(check)

@@ -88,6 +88,8 @@ FILES = """\
 # What is looked for, an address, the name, and what is wanted: each version that is found, behind its name.
 LOOKS = """\
 the first registry|sparse+https://one.example/|serde|serde 1.2.3.
+each version but yanked ones|file:///idx|serde|serde 0.9.0.
+capital letters|file:///idx|SERDE|SERDE 0.9.0.
 no such file|sparse+https://one.example/|abc|none
 no such registry|sparse+https://two.example/|serde|none
 a line cut short|file:///idx|abc|30 Invalid index line 2

@@ -1,5 +1,5 @@
 """The rows of `upgrade` over one manifest: its options, its registries, and what it refuses. Rows in
-which a call of the files fails stand in `edit_tests::program`."""
+which a call of the files fails stand in `edit_program_tests::program`."""
 
 WORDS = "upgrade --manifest-path Cargo.toml --index-file index.json"
 

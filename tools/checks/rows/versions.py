@@ -1,5 +1,5 @@
 """The rows of `set-version`, of its texts, and of what cargo does by itself. Rows in which a call of the
-files fails stand in `edit_tests::program`."""
+files fails stand in `edit_program_tests::program`."""
 
 WORDS = "set-version --metadata-json metadata.json"
 

@@ -32,19 +32,6 @@ fn store_of(rt: &impl Abort, alloc: Global, at: u64) -> FaultStore {
     FaultStore::new(store, at, 0)
 }
 
-/// The manifest that is found, with another version of its package, read again once it is written.
-fn written(
-    alloc: Global,
-    store: &mut FaultStore,
-    named: Option<&str>,
-    current: &str,
-) -> CargoResult<LocalManifest> {
-    let mut local = LocalManifest::find(alloc, store, named, current)?;
-    local.set_package_version(alloc, &Version::new(0, 2, 0))?;
-    local.write(alloc, store)?;
-    LocalManifest::try_new(alloc, store, local.path.as_str())
-}
-
 /// The text of a manifest, behind its path where it is loaded; or what the refusal says.
 fn shown(rt: &impl Abort, alloc: Global, call: &str, local: CargoResult<LocalManifest>) -> String {
     match local {
@@ -56,19 +43,41 @@ fn shown(rt: &impl Abort, alloc: Global, call: &str, local: CargoResult<LocalMan
     }
 }
 
+/// The text of the manifest that is found, with another version of its package, read again once it is
+/// written; or what the refusal to write it says.
+fn written(
+    rt: &impl Abort,
+    alloc: Global,
+    store: &mut FaultStore,
+    named: Option<&str>,
+    current: &str,
+) -> String {
+    let mut local = must(rt, LocalManifest::find(alloc, store, named, current));
+    must(rt, local.set_package_version(alloc, &Version::new(0, 2, 0)));
+    match local.write(alloc, store) {
+        Ok(()) => {
+            let path = local.path.as_str();
+            shown(rt, alloc, "", LocalManifest::try_new(alloc, store, path))
+        }
+        Err(error) => told(rt, alloc, error),
+    }
+}
+
 /// What becomes of a row.
 fn answer(rt: &impl Abort, alloc: Global, store: &mut FaultStore, row: &str) -> String {
     let (call, path, current) = (field(row, 1), field(row, 2), field(row, 3));
     let named = (path != "-").then_some(path);
-    if call == "find" {
-        return made(rt, alloc, find(alloc, store, named, current));
+    match call {
+        "find" => made(rt, alloc, find(alloc, store, named, current)),
+        "write" => written(rt, alloc, store, named, current),
+        "open" => shown(rt, alloc, call, LocalManifest::try_new(alloc, store, path)),
+        _ => shown(
+            rt,
+            alloc,
+            call,
+            LocalManifest::find(alloc, store, named, current),
+        ),
     }
-    let local = match call {
-        "open" => LocalManifest::try_new(alloc, store, path),
-        "write" => written(alloc, store, named, current),
-        _ => LocalManifest::find(alloc, store, named, current),
-    };
-    shown(rt, alloc, call, local)
 }
 
 /// What is wanted; whether a manifest is found, loaded, written or opened; the path that is specified, `-`

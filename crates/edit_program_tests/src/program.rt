@@ -1,12 +1,9 @@
 //! The program where a call of the files fails, or where standard output has no room. Its other rows stand in
 //! tools/checks/rows.
-use crate::rows::field;
-use crate::stop::{kept, must, same};
-use edit_program::run;
+use crate::rows::{ROOM, faultless, field, kept, must, ran, same};
 use edit_store::{FaultStore, MemoryStore, Store};
 use std::alloc::Global;
 use std::process::Abort;
-use std::str;
 
 const MANIFEST: &str = "[dependencies]\nserde = { version = '1.0', optional = true } # keep\n";
 
@@ -111,38 +108,18 @@ fn stands<S: Store>(alloc: Global, letter: char, files: &mut S) -> bool {
     }
 }
 
-/// The words of a command line.
-fn words_of<'a>(rt: &impl Abort, alloc: Global, words: &'a str) -> Vec<&'a str> {
-    kept(rt, words.split_ascii_whitespace().collect(alloc))
-}
-
-/// A status and what is printed, as a text.
-fn shown(rt: &impl Abort, alloc: Global, status: u8, out: &[u8], err: &[u8]) -> String {
-    let out = str::from_utf8(out).expect(rt, "UTF-8");
-    let err = str::from_utf8(err).expect(rt, "UTF-8");
-    kept(rt, format!(in alloc; "{status} {out}{err}"))
-}
-
-/// What words print over files.
+/// What words print over files, behind the status.
 fn outcome(rt: &impl Abort, alloc: Global, words: &str, files: &mut FaultStore) -> String {
-    let words = words_of(rt, alloc, words);
-    let mut out = Vec::new(alloc);
-    let mut err = Vec::new(alloc);
-    let status = run(
-        alloc,
-        words.as_slice(),
-        "/w",
-        Some("/h"),
-        files,
-        MemoryStore::new(alloc),
-        &mut out,
-        &mut err,
-    );
-    shown(rt, alloc, status, &out, &err)
+    let index = faultless(MemoryStore::new(alloc));
+    let done = ran(rt, alloc, words, files, index, (ROOM, ROOM));
+    kept(
+        rt,
+        format!(in alloc; "{} {}{}", done.status, done.out, done.err),
+    )
 }
 
 /// Runs a row: what is printed, and which of its last files do not stand.
-fn ran(rt: &impl Abort, alloc: Global, row: &str) -> String {
+fn seen_of(rt: &impl Abort, alloc: Global, row: &str) -> String {
     let at = field(row, 2).parse().expect(rt, "a number");
     let mut files = FaultStore::new(stored(rt, alloc, field(row, 1)), at, 4);
     let mut seen = outcome(rt, alloc, field(row, 3), &mut files);
@@ -155,41 +132,31 @@ fn ran(rt: &impl Abort, alloc: Global, row: &str) -> String {
 }
 
 /// Runs the words of an upgrade where standard output takes five bytes.
-fn ran_without_room(rt: &impl Abort, alloc: Global) -> String {
-    let words = words_of(rt, alloc, WORDS);
-    let mut files = stored(rt, alloc, "mi");
-    let index_files = MemoryStore::new(alloc);
-    let mut room = [0u8; 5];
-    let mut out = room.as_mut_slice();
-    let mut err = Vec::new(alloc);
-    let status = run(
-        alloc,
-        words.as_slice(),
-        "/w",
-        None,
-        &mut files,
-        index_files,
-        &mut out,
-        &mut err,
-    );
+fn seen_without_room(rt: &impl Abort, alloc: Global) -> String {
+    let mut files = faultless(stored(rt, alloc, "mi"));
+    let index = faultless(MemoryStore::new(alloc));
+    let done = ran(rt, alloc, WORDS, &mut files, index, (5, ROOM));
     let after = if stands(alloc, 'm', &mut files) {
-        "manifest "
+        "manifest"
     } else {
-        "other "
+        "other"
     };
-    shown(rt, alloc, status, after.as_bytes(), &err)
+    kept(
+        rt,
+        format!(in alloc; "{} {after} {}", done.status, done.err),
+    )
 }
 
 #[test]
 fn calls_that_fail(rt: HostRuntime) {
     for row in ROWS.split('§') {
-        let seen = ran(&rt, rt.alloc(), row);
+        let seen = seen_of(&rt, rt.alloc(), row);
         same(&rt, row, seen.as_str(), field(row, 5));
     }
 }
 
 #[test]
 fn no_room(rt: HostRuntime) {
-    let seen = ran_without_room(&rt, rt.alloc());
+    let seen = seen_without_room(&rt, rt.alloc());
     same(&rt, "no room", seen.as_str(), UNWRITTEN);
 }

@@ -1,12 +1,9 @@
 //! Runs over the examples in which each call of the files fails in turn, or whose streams take only so many
 //! bytes.
-use crate::rows::field;
-use crate::stop::{kept, must};
-use edit_program::run;
+use crate::rows::{Outcome, ROOM, faultless, field, kept, must, ran};
 use edit_store::{FaultStore, MemoryStore, Store};
 use std::alloc::Global;
 use std::process::Abort;
-use std::str;
 
 mod examples;
 
@@ -18,14 +15,6 @@ const FAULTS: [&str; 3] = [
     "Error: Failed to read a file\n",
     "Error: Failed to write updated Cargo.toml\n",
 ];
-
-/// How many bytes the streams of these runs take at most.
-const ROOM: usize = 2048;
-
-/// The words of an example.
-fn words_of(rt: &impl Abort, alloc: Global, example: Example) -> Vec<&'static str> {
-    kept(rt, example.words.split_ascii_whitespace().collect(alloc))
-}
 
 /// The files of a table.
 fn stored(rt: &impl Abort, alloc: Global, table: &str) -> MemoryStore {
@@ -107,33 +96,9 @@ fn tells(status: u8, err: &str, failed: bool) -> bool {
     told == failed && status == u8::from(failed)
 }
 
-/// Runs an example over files and an index: the status, and what is printed on standard error.
-fn outcome(
-    rt: &impl Abort,
-    alloc: Global,
-    example: Example,
-    files: &mut FaultStore,
-    index: FaultStore,
-) -> (u8, Vec<u8>) {
-    let words = words_of(rt, alloc, example);
-    let mut out = Vec::new(alloc);
-    let mut err = Vec::new(alloc);
-    let status = run(
-        alloc,
-        words.as_slice(),
-        "/w",
-        None,
-        files,
-        index,
-        &mut out,
-        &mut err,
-    );
-    (status, err)
-}
-
 /// Runs an example: whether a call failed; ends the test where what the run tells or leaves is not as it is
 /// to be.
-fn ran(
+fn has_failed(
     rt: &impl Abort,
     alloc: Global,
     example: Example,
@@ -141,10 +106,10 @@ fn ran(
     index: FaultStore,
     of_index: bool,
 ) -> bool {
-    let (status, err) = outcome(rt, alloc, example, files, index);
+    let done = ran(rt, alloc, example.words, files, index, (ROOM, ROOM));
+    let (status, err) = (done.status, done.err.as_str());
     // (the index is the run's own afterwards)
     let failed = files.faults() > 0 || of_index && status != 0;
-    let err = str::from_utf8(&err).expect(rt, "UTF-8");
     let stands = stand(rt, alloc, &mut files.inner, example, ways(example, err));
     assert!(rt; stands, "manifests behind {err:?}");
     assert!(rt; tells(status, err, failed), "status {status} and {err:?}");
@@ -160,7 +125,7 @@ fn fails_at(rt: &impl Abort, alloc: Global, example: Example, of_index: bool, at
     };
     let mut files = FaultStore::new(laid_out(rt, alloc, example), at, 4);
     let index = FaultStore::new(stored(rt, alloc, example.index), index_at, 4);
-    ran(rt, alloc, example, &mut files, index, of_index)
+    has_failed(rt, alloc, example, &mut files, index, of_index)
 }
 
 /// Lets each call fail in turn, of which there are at least so many.
@@ -188,31 +153,18 @@ fn each_call_of_the_index_fails(rt: HostRuntime) {
     in_turn(&rt, rt.alloc(), WORKSPACE, true, 5);
 }
 
-/// Runs an example where the streams take so many bytes: the status, and how the manifests stand.
+/// Runs an example where the streams take so many bytes: what it came to, and how the manifests stand.
 fn in_room(
     rt: &impl Abort,
     alloc: Global,
     example: Example,
-    (out, err): (usize, usize),
-) -> (u8, String) {
-    let words = words_of(rt, alloc, example);
-    let mut files = laid_out(rt, alloc, example);
-    let index = stored(rt, alloc, example.index);
-    let mut out_room = [0u8; ROOM];
-    let mut err_room = [0u8; ROOM];
-    let mut out = out_room.get_mut(..out).expect(rt, "room");
-    let mut err = err_room.get_mut(..err).expect(rt, "room");
-    let status = run(
-        alloc,
-        words.as_slice(),
-        "/w",
-        None,
-        &mut files,
-        index,
-        &mut out,
-        &mut err,
-    );
-    (status, letters(rt, alloc, &mut files, example.manifests))
+    room: (usize, usize),
+) -> (Outcome, String) {
+    let mut files = faultless(laid_out(rt, alloc, example));
+    let index = faultless(stored(rt, alloc, example.index));
+    let done = ran(rt, alloc, example.words, &mut files, index, room);
+    let manifests = letters(rt, alloc, &mut files.inner, example.manifests);
+    (done, manifests)
 }
 
 /// Ends the test where a run in which a stream takes so many bytes has not the status, or does not leave
@@ -224,7 +176,8 @@ fn stands_in_room(
     room: (usize, usize),
     (status, ways): (u8, &str),
 ) {
-    let (seen, manifests) = in_room(rt, alloc, example, room);
+    let (done, manifests) = in_room(rt, alloc, example, room);
+    let seen = done.status;
     assert!(rt; seen == status, "status {seen} in place of {status}");
     assert!(rt;
         ways.contains(manifests.as_str()),
@@ -234,22 +187,8 @@ fn stands_in_room(
 
 /// How many bytes an example prints on both streams.
 fn lengths(rt: &impl Abort, alloc: Global, example: Example) -> (usize, usize) {
-    let words = words_of(rt, alloc, example);
-    let mut files = laid_out(rt, alloc, example);
-    let index = stored(rt, alloc, example.index);
-    let mut out = Vec::new(alloc);
-    let mut err = Vec::new(alloc);
-    run(
-        alloc,
-        words.as_slice(),
-        "/w",
-        None,
-        &mut files,
-        index,
-        &mut out,
-        &mut err,
-    );
-    (out.len(), err.len())
+    let (done, _) = in_room(rt, alloc, example, (ROOM, ROOM));
+    (done.out.len(), done.err.len())
 }
 
 #[test]

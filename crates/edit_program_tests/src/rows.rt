@@ -1,0 +1,92 @@
+//! Rows of tables, runs of the program, and where a test ends at once: at a call that fails though it must
+//! not, and at a row that does not hold.
+ghost use Rattle.std.specs.Prelude.{◌≡◌, Ok};
+
+use edit_base::CargoResult;
+use edit_program::run;
+use edit_store::{FaultStore, MemoryStore};
+use std::alloc::{AllocError, Global};
+use std::process::Abort;
+use std::str;
+
+/// How many bytes the streams of a run take at most.
+pub(crate) const ROOM: usize = 2048;
+
+/// What a run came to: its status, and what stands on its two streams.
+#[derive(Drop)]
+pub(crate) struct Outcome {
+    pub(crate) status: u8,
+    pub(crate) out: String,
+    pub(crate) err: String,
+}
+
+/// What a call answers, where it must succeed; a test ends here where it does not.
+pub(crate) fn must<T: Drop>(rt: &impl Abort, answer: CargoResult<T>) -> T
+    ensures { answer ≡ Ok result }
+{
+    answer.expect(rt, "an answer")
+}
+
+/// The same of a call that fails for want of memory alone.
+pub(crate) fn kept<T: Drop>(rt: &impl Abort, answer: Result<T, AllocError>) -> T
+    ensures { answer ≡ Ok result }
+{
+    answer.expect(rt, "memory")
+}
+
+/// A field of a row, from 0; empty where there is none.
+pub(crate) fn field(row: &str, n: usize) -> &str {
+    row.split('|').nth(n).unwrap_or("")
+}
+
+/// Ends a test where a row does not give what it wants.
+pub(crate) fn same(rt: &impl Abort, row: &str, seen: &str, want: &str) {
+    assert!(rt; seen == want, "{row}: {seen:?} in place of {want:?}");
+}
+
+/// These files, of which no call fails.
+pub(crate) fn faultless(files: MemoryStore) -> FaultStore {
+    FaultStore::new(files, u64::MAX, 0)
+}
+
+/// The text in the first bytes of a stream's room.
+fn text_in(rt: &impl Abort, alloc: Global, room: &[u8; ROOM], length: usize) -> String {
+    let bytes = room.get(..length).expect(rt, "room");
+    let text = str::from_utf8(bytes).expect(rt, "UTF-8");
+    kept(rt, String::from_str(alloc, text))
+}
+
+/// Runs words in `/w` over files and an index, with streams that take so many bytes. (All tests run it at
+/// these types, since each further choice of types is compiled anew.)
+pub(crate) fn ran(
+    rt: &impl Abort,
+    alloc: Global,
+    words: &str,
+    files: &mut FaultStore,
+    index: FaultStore,
+    (out_length, err_length): (usize, usize),
+) -> Outcome {
+    let words: Vec<&str> = kept(rt, words.split_ascii_whitespace().collect(alloc));
+    let mut out_room = [0u8; ROOM];
+    let mut err_room = [0u8; ROOM];
+    let mut out = out_room.get_mut(..out_length).expect(rt, "room");
+    let mut err = err_room.get_mut(..err_length).expect(rt, "room");
+    let words = words.as_slice();
+    let status = run(
+        alloc,
+        words,
+        "/w",
+        Some("/h"),
+        files,
+        index,
+        &mut out,
+        &mut err,
+    );
+    let out_length = out_length.saturating_sub(out.len());
+    let err_length = err_length.saturating_sub(err.len());
+    Outcome {
+        status,
+        out: text_in(rt, alloc, &out_room, out_length),
+        err: text_in(rt, alloc, &err_room, err_length),
+    }
+}
