@@ -1,5 +1,6 @@
 pub mod AddressLemmas
 pub mod Steps
+pub mod Chosen
 pub mod Bytes
 pub mod FetchLemmas
 pub mod LookedLemmas
