@@ -111,7 +111,7 @@ added-again : (b a : Bool) → (b ≡ true → a ≡ true) → (if b then true e
 added-again true a h = sym (h refl)
 added-again false a h = refl
 
-none-of : (o : Option Look) → is_some o ≡ false → o ≡ None
+none-of : {A : Type 0} (o : Option A) → is_some o ≡ false → o ≡ None
 none-of None h = refl
 none-of (Some x) h = cc h
 
@@ -226,8 +226,8 @@ so-far-idle P Q first old now next looks more pairs then_pairs wider same a b c 
 
 -- ---- the first look that is refused
 
-find-some : (p : Look → Bool) (xs : List Look) → IsSome (find p xs) → (x : Look) × (find p xs ≡ Some x)
-    × (p x ≡ true) × Contains xs x
+find-some : {A : Type 0} (p : A → Bool) (xs : List A) → IsSome (find p xs)
+    → (x : A) × (find p xs ≡ Some x) × (p x ≡ true) × Contains xs x
 find-some p [] h = cc h
 find-some p (y ∷ ys) h = elim (cases_Bool (p y)) [
   | inl here ↦ (y, rw here refl, here, All-head (Contains (y ∷ ys)) y ys (All-contains_itself (y ∷ ys)))
