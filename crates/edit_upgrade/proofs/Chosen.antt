@@ -1,5 +1,5 @@
 -- One step more of a loop that keeps the items that a test accepts.
-use Rattle.std.proofs.Common.{◌≡◌, ◌∷◌, ◌++◌, ◌<◌, ◌+◌, length, get_or, take, [], List, ℕ, Bool, true, false, cond, map, ap, ◌∙◌, sym, append-nil}
+use Rattle.std.proofs.Common.{◌≡◌, ◌∷◌, ◌++◌, ◌<◌, ◌+◌, length, get_or, take, [], List, ℕ, Bool, true, false, cond, map, ap, ◌∙◌, sym, append-nil, append_assoc}
 use Rattle.std.specs.List.{filter}
 use Rattle.std.proofs.lemmas.List.{map-append}
 use Rattle.std.proofs.lemmas.List.Elements.{filter-append}
@@ -36,3 +36,40 @@ pub chosen-none : {A B D : Type 0} (f : A → B) (g : D → A) (p : B → Bool) 
 chosen-none {A} {B} {D} f g p xs i x old new h is t e n =
     ap (λ (ys : List D). map f (map g ys)) n ∙ e ∙ sym (append-nil (filter p (map f (take i xs))))
     ∙ sym (chosen-more f p xs i x false h is t)
+
+-- what is kept of one item more of a list that is read in two steps
+within-more : {A B C : Type 0} (f : B → C) (g : A → B) (p : C → Bool) (xs : List A) (i : ℕ) (x : A) (b : Bool)
+    → i < length xs → x ≡ get_or xs i x → p (f (g x)) ≡ b
+    → filter p (map f (map g (take (i + 1) xs)))
+    ≡ filter p (map f (map g (take i xs))) ++ cond b (f (g x) ∷ []) []
+within-more {A} {B} {C} f g p xs i x b h is t =
+    let before = map f (map g (take i xs)) in
+    ap (λ (ys : List B). filter p (map f ys)) (names-more g xs i x h is)
+    ∙ ap (filter p) (map-append f (map g (take i xs)) (g x ∷ []))
+    ∙ filter-append p before (f (g x) ∷ [])
+    ∙ ap (λ (z : Bool). filter p before ++ cond z (f (g x) ∷ []) []) t
+
+-- the item is kept, and what is made of it is added to what there was
+pub added-some : {A B C D E : Type 0} (f : B → C) (g : A → B) (p : C → Bool) (h : C → E) (s : D → E)
+    (xs : List A) (i : ℕ) (x : A) (first : List E) (old new : List D) (d : D)
+    → i < length xs → x ≡ get_or xs i x → p (f (g x)) ≡ true
+    → map s old ≡ first ++ map h (filter p (map f (map g (take i xs)))) → new ≡ old ++ d ∷ []
+    → s d ≡ h (f (g x))
+    → map s new ≡ first ++ map h (filter p (map f (map g (take (i + 1) xs))))
+added-some {A} {B} {C} {D} {E} f g p h s xs i x first old new d low is t e n one =
+    let before = filter p (map f (map g (take i xs))) in
+    ap (map s) n ∙ map-append s old (d ∷ []) ∙ ap (λ (ys : List E). ys ++ s d ∷ []) e
+    ∙ ap (λ (y : E). (first ++ map h before) ++ y ∷ []) one
+    ∙ append_assoc first (map h before) (h (f (g x)) ∷ [])
+    ∙ ap (λ (ys : List E). first ++ ys)
+    (sym (ap (map h) (within-more f g p xs i x true low is t) ∙ map-append h before (f (g x) ∷ [])))
+
+-- the item is not kept, and nothing is added
+pub added-none : {A B C D E : Type 0} (f : B → C) (g : A → B) (p : C → Bool) (h : C → E) (s : D → E)
+    (xs : List A) (i : ℕ) (x : A) (first : List E) (old new : List D)
+    → i < length xs → x ≡ get_or xs i x → p (f (g x)) ≡ false
+    → map s old ≡ first ++ map h (filter p (map f (map g (take i xs)))) → new ≡ old
+    → map s new ≡ first ++ map h (filter p (map f (map g (take (i + 1) xs))))
+added-none {A} {B} {C} {D} {E} f g p h s xs i x first old new low is t e n =
+    ap (map s) n ∙ e ∙ ap (λ (ys : List C). first ++ map h ys)
+    (sym (within-more f g p xs i x false low is t ∙ append-nil (filter p (map f (map g (take i xs))))))
