@@ -14,12 +14,13 @@ packages-preserved c =
     let is_chosen : PackageSaid → Bool = λ p. is_among names p.name && is_from_git p in
     let test : is_chosen (package_said c.package-item.result) ≡ c.is_named_from_git.result =
     sym (c.is_named_from_git.ensures
-    ∙ ap (λ (b : Bool). b && is_from_git (package_said c.package-item.result)) (c.in_ok-names.ensures name)) in
+    ∙ ap (λ (b : Bool). b && is_from_git (package_said c.package-item.result))
+    (c.in_ok-names.ensures name)) in
     elim c.if-is_named_from_git.branch [
       | then-is_named_from_git+in_ok-push w ↦
           chosen-some package_said (λ p. p.now) is_chosen c.args.packages.now c.packages.package-index
-          c.package-item.result c.packages.found.items c.if-is_named_from_git.found.items _ c.packages-test.true
-          c.package-item.is (test ∙ w.if-is_named_from_git.true) c.packages.invariant
+          c.package-item.result c.packages.found.items c.if-is_named_from_git.found.items _
+          c.packages-test.true c.package-item.is (test ∙ w.if-is_named_from_git.true) c.packages.invariant
           (ap (λ v. v.items) w.found-is ∙ w.in_ok-push.ensures.items) refl
       | else-is_named_from_git w ↦
           chosen-none package_said (λ p. p.now) is_chosen c.args.packages.now c.packages.package-index

@@ -19,7 +19,8 @@ spread-more {A} {B} {C} {E} f g h xs i x first old new low is n e =
     let before = map f (map g (take i xs)) in
     let more = ap (λ (ys : List B). flat_map h (map f ys)) (names-more g xs i x low is)
     ∙ ap (flat_map h) (map-append f (map g (take i xs)) (g x ∷ []))
-    ∙ flat_map-append h before (f (g x) ∷ []) ∙ ap (λ (ys : List E). flat_map h before ++ ys) (append-nil own) in
+    ∙ flat_map-append h before (f (g x) ∷ [])
+    ∙ ap (λ (ys : List E). flat_map h before ++ ys) (append-nil own) in
     n ∙ ap (λ (ys : List E). ys ++ own) e ∙ append_assoc first (flat_map h before) own
     ∙ ap (λ (ys : List E). first ++ ys) (sym more)
 
