@@ -148,3 +148,32 @@ entries-preserved g c =
           c.entry-item.result c.entries-test.true c.entry-item.is))
           c.entries.invariant.left c.in_ok-row.ensures.left;
     }
+
+pub returns-clause-steps : goal.returns-clause-steps
+returns-clause-steps g c =
+    let whole = take_all c.entries.entry-index c.args.entries.now (omega (arith, c.entries-test.false)) in
+    subst (λ (es : List Entry). AreSteps c.args.job.configs.now
+    (g.I.Index.view (index_of c.args.index.now)).gives (map seen_of es)
+    (kept_by c.args.index.now) (kept_by c.entries.index)
+    c.args.books.now.looks.items c.entries.books.looks.items
+    (holds_pair c.args.books.now.pairs) (holds_pair c.entries.books.pairs)) whole c.entries.invariant.steps
+
+pub returns-clause-rows : goal.returns-clause-rows
+returns-clause-rows g c =
+    let whole = take_all c.entries.entry-index c.args.entries.now (omega (arith, c.entries-test.false)) in
+    subst (λ (es : List Entry). AreDecided
+    (kept_basis c.args.job.number c.args.job.asked.options.now
+    (option_map numbers_of c.args.job.rust_version) c.args.job.configs.now (kept_by c.entries.index))
+    (map seen_of es) (map line_of c.entries.rows.items)) whole c.entries.invariant.rows
+
+pub returns-in_err-addresses-clause-left : goal.returns-in_err-addresses-clause-left
+returns-in_err-addresses-clause-left g c =
+    leaves-same (IsNeededIn c.args.job.configs.now (map seen_of c.args.entries.now))
+    (g.I.Index.view (index_of c.args.index.now)).gives
+    (g.I.Index.view (index_of c.args.index.now)).faults (kept_by c.args.index.now)
+
+pub returns-in_err-rows-clause-left : goal.returns-in_err-rows-clause-left
+returns-in_err-rows-clause-left g c =
+    leaves-same (IsNeededIn c.args.job.configs.now (map seen_of c.args.entries.now))
+    (g.I.Index.view (index_of c.args.index.now)).gives
+    (g.I.Index.view (index_of c.args.index.now)).faults (kept_by c.args.index.now)
