@@ -1,6 +1,11 @@
 use Rattle.std.proofs.Common.{◌≡◌, ◌∙◌, Bor, List, ℕ, Option, Some, None, ap, inl, inr, subst, sym}
-use Rattle.std.specs.Prelude.{IsSome, IsUtf8, is_some, option_copied}
+use Rattle.std.specs.Prelude.{IfSome, IsSome, IsUtf8, is_some, option_copied}
 use Rattle.edit_manifest.specs.Loaded.{IsBadManifest}
+use Rattle.edit_tree.specs.Shown.{Shown}
+use Rattle.edit_cache.specs.IndexCache.{index_of}
+use Rattle.edit_upgrade.specs.Looks.{kept_by}
+use Rattle.edit_upgrade.specs.Upgraded.{IsNeededBy}
+use Rattle.edit_upgrade.proofs.LookUpLemmas.{leaves-same}
 use Rattle.edit_upgrade.proofs.PlannedLemmas.{refusal-has}
 use Rattle.edit_upgrade.proofs.plan.add_read.Goals as goal
 
@@ -51,3 +56,27 @@ returns-in_err-add_input-in-None-clause-read g c =
       | inl memory ↦ inl (inr (inr (memory, utf8)))
       | inr stops ↦ inr stops
     ])
+
+pub returns-in_err-manifest-in-None-clause-left : goal.returns-in_err-manifest-in-None-clause-left
+returns-in_err-manifest-in-None-clause-left g c =
+    leaves-same (IsNeededBy c.args.configs.now c.args.input.now.bytes.items)
+    (g.I.Index.view (index_of c.args.index.now)).gives
+    (g.I.Index.view (index_of c.args.index.now)).faults (kept_by c.args.index.now)
+
+pub add_input-requires-clause-document : goal.add_input-requires-clause-document
+add_input-requires-clause-document g c =
+    subst (λ (o : Option (Bor Shown)). IfSome (option_copied o)
+    (λ d. d.bytes ≡ c.args.input.now.bytes.items)) c.in-Some.is c.requires.document
+
+pub add_input-requires-in-None-clause-document : goal.add_input-requires-in-None-clause-document
+add_input-requires-in-None-clause-document g c =
+    c.in_ok-manifest-in-None.ensures.bytes ∙ c.deref.ensures.value
+
+pub returns-in_ok-add_input-in-Some-clause-utf8 : goal.returns-in_ok-add_input-in-Some-clause-utf8
+returns-in_ok-add_input-in-Some-clause-utf8 g c = λ none.
+    not-none c.args.document c.in-Some.document c.in-Some.is none
+
+pub returns-in_ok-add_input-in-None-clause-utf8 : goal.returns-in_ok-add_input-in-None-clause-utf8
+returns-in_ok-add_input-in-None-clause-utf8 g c = λ none.
+    subst (λ (bytes : List ℕ). IsUtf8 bytes) c.deref.ensures.value
+    c.in_ok-manifest-in-None.ensures.utf8
