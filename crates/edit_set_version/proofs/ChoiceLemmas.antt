@@ -3,7 +3,7 @@ use Rattle.std.proofs.Common.{◌≡◌, ◌∙◌, ◌+◌, ◌<◌, ℕ, zero,
 use Rattle.std.specs.Prelude.{◌&&◌, Contains, Option, if◌then◌else◌, option_to_list}
 use Rattle.std.specs.BTreeSet.{contains_text}
 use Rattle.std.specs.List.{filter, filter_map, flat_map, join_by}
-use Rattle.std.proofs.lemmas.List.{map-append, map_more}
+use Rattle.std.proofs.lemmas.List.{map-append, map_more, take_more}
 use Rattle.std.proofs.lemmas.List.Elements.{filter-append, filter_map-append}
 use Rattle.edit_base.specs.Paths.{texts}
 use Rattle.edit_manifest.specs.Versions.{is_inherited}
@@ -37,6 +37,21 @@ some_more {X} {Y} {Z} g f xs i x within is =
     ap (filter_map g) (map_more f xs i x within ∙ ap (λ (z : X). map f (take i xs) ++ f z ∷ []) (sym is))
     ∙ filter_map-append g (map f (take i xs)) (f x ∷ [])
     ∙ ap (λ (zs : List Z). filter_map g (map f (take i xs)) ++ zs) (alone (g (f x)))
+
+-- a list that has one more is as far as another list, where that has the same at its next place
+pub pushed_more : {X Y Z : Type 0} (f : X → Z) (g : Y → Z) (old new : List X) (x : X) (ys : List Y) (i : ℕ)
+    (y : Y) → new ≡ old ++ x ∷ [] → map f old ≡ map g (take i ys) → i < length ys → y ≡ get_or ys i y
+    → f x ≡ g y → map f new ≡ map g (take (i + 1) ys)
+pushed_more {X} {Y} {Z} f g old new x ys i y pushed far within is same =
+    ap (map f) pushed ∙ map-append f old (x ∷ []) ∙ ap (λ (zs : List Z). zs ++ f x ∷ []) far
+    ∙ ap (λ (z : Z). map g (take i ys) ++ z ∷ []) (same ∙ ap g is) ∙ sym (map_more g ys i y within)
+
+pub pushed_next : {X Y : Type 0} (f : X → Y) (old new : List X) (x : X) (ys : List Y) (i : ℕ)
+    → new ≡ old ++ x ∷ [] → map f old ≡ take i ys → i < length ys → f x ≡ get_or ys i (f x)
+    → map f new ≡ take (i + 1) ys
+pushed_next {X} {Y} f old new x ys i pushed far within is =
+    ap (map f) pushed ∙ map-append f old (x ∷ []) ∙ ap (λ (zs : List Y). zs ++ f x ∷ []) far
+    ∙ ap (λ (z : Y). take i ys ++ z ∷ []) is ∙ sym (take_more ys i (f x) within)
 
 -- the element at a place is among all
 pub among_all : {X Y : Type 0} (f : X → Y) (xs : List X) (i : ℕ) (x : X) → i < length xs

@@ -31,3 +31,4 @@ pub mod OutputLists
 pub mod EditsStand
 pub mod PlanLemmas
 pub mod InputPaths
+pub mod MadeVersions
