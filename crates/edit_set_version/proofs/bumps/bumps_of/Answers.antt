@@ -1,15 +1,19 @@
-use Rattle.std.proofs.Common.{◌≡◌, ◌∙◌, ◌+◌, ◌++◌, ◌∷◌, [], ap, inl, inr, subst, sym, take}
+use Rattle.std.proofs.Common.{◌≡◌, ◌∙◌, ◌+◌, ◌++◌, ◌∷◌, [], List, ap, arith, inl, inr, subst, sym, take}
+use Rattle.std.specs.List.{filter_map}
 use Rattle.std.specs.Prelude.{All, option_to_list}
-use Rattle.std.proofs.lemmas.List.{map_more}
+use Rattle.std.proofs.lemmas.List.{map_more, take_all}
 use Rattle.std.proofs.lemmas.List.Elements.{All-contains, All-push}
 use Rattle.std.proofs.lemmas.Result.{err_from_is_err_and}
 use Rattle.edit_version.specs.Laws.{IsReadable}
 use Rattle.edit_set_version.specs.Bumps.{bump, target_of}
 use Rattle.edit_set_version.specs.Chosen.{Member}
-use Rattle.edit_set_version.specs.Crates.{member_of, members_of}
+use Rattle.edit_set_version.specs.Crates.{bumps_seen, member_of, members_of}
+use Rattle.edit_set_version.specs.Follows.{AreVersions}
 use Rattle.edit_set_version.specs.PlanRefused.{IsBumpable}
 use Rattle.edit_set_version.specs.Selections.{asked_of}
 use Rattle.edit_set_version.specs.SetVersioned.{bump_of}
+use Rattle.edit_set_version.specs.declared.crates.Bump.{Bump as Bumping}
+use Rattle.edit_set_version.specs.declared.crates.Crate.{Crate}
 use Rattle.edit_set_version.proofs.ChoiceLemmas.{among_all, some_more}
 use Rattle.edit_set_version.proofs.bumps.bumps_of.Goals as goal
 
@@ -51,3 +55,28 @@ returns-in_err-push_bump-clause-refused c =
         why,
       )
     ])
+
+pub crates-init : goal.crates-init
+crates-init c = record {
+  seen = ap bumps_seen c.new-bumps.ensures.items;
+  bumpable = λ k d below. absurd (omega (arith, below));
+  versions = λ target each. subst (λ (bs : List Bumping). AreVersions (bumps_seen bs))
+      (sym c.new-bumps.ensures.items) (λ k d below. absurd (omega (arith, below)));
+}
+
+pub returns-clause-ok : goal.returns-clause-ok
+returns-clause-ok c =
+    let t = target_of c.args.target.now in
+    let a = asked_of c.args.selection.now in
+    c.crates.invariant.seen ∙ ap (λ cs. filter_map (bump_of t a) (members_of cs))
+    (take_all c.crates.found-index c.args.crates.now c.crates-test.false)
+
+pub returns-clause-bumpable : goal.returns-clause-bumpable
+returns-clause-bumpable c =
+    let t = target_of c.args.target.now in
+    let a = asked_of c.args.selection.now in
+    subst (λ (cs : List Crate). All (λ (m : Member). IsBumpable (bump t a.metadata m.version)) (members_of cs))
+    (take_all c.crates.found-index c.args.crates.now c.crates-test.false) c.crates.invariant.bumpable
+
+pub returns-clause-versions : goal.returns-clause-versions
+returns-clause-versions c = c.crates.invariant.versions

@@ -1,6 +1,8 @@
 use Rattle.std.proofs.Common.{List, ℕ, [], ◌∷◌, ◌++◌, ◌∙◌, Bool, ap, sym, map, string_bytes}
 use Rattle.std.specs.Prelude.{if◌then◌else◌}
 use Rattle.std.specs.BTreeSet.{contains_text}
+use Rattle.std.specs.List.{filter}
+use Rattle.std.proofs.lemmas.List.{take_all}
 use Rattle.edit_set_version.specs.Chosen.{Member, is_among}
 use Rattle.edit_set_version.specs.Crates.{member_of, members_of}
 use Rattle.edit_set_version.specs.Selections.{asked_of}
@@ -20,3 +22,13 @@ crates-preserved c =
     ∙ ap (λ ms. ms ++ (if test own then own ∷ [] else [])) c.crates.invariant
     ∙ sym (kept_more test member_of c.args.crates.now c.crates.found-index c.found-item.result
     c.crates-test.true c.found-item.is)
+
+pub crates-init : goal.crates-init
+crates-init c = ap members_of c.new-list.ensures.items
+
+pub returns : goal.returns
+returns c = record {
+  ok = let test : Member → Bool = λ m. is_among (asked_of c.args.selection.now).exclude m.name in
+      c.crates.invariant ∙ ap (λ cs. filter test (members_of cs))
+      (take_all c.crates.found-index c.args.crates.now c.crates-test.false);
+}
