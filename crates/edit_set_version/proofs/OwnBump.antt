@@ -176,6 +176,12 @@ own_edits file (b ∷ bs) = elim (cases_Bool (writes_own file b)) [
   | inr other ↦ rw other (own_edits file bs)
 ]
 
+-- the place of one that is written
+pub place_written : (p q : Place) (s t : List ℕ) → ◌≡◌ {A = Edits} ((p, s) ∷ []) ((q, t) ∷ []) → p ≡ q
+place_written p q s t e =
+    let pair : ◌≡◌ {A = Place × List ℕ} (p, s) (q, t) = cc e in
+    ap (λ (z : Place × List ℕ). z.0) pair
+
 -- bumps that stand apart write at most one
 pub own_distinct : (file : List ℕ) (bs : List Bump) → AreApart bs
     → AreDistinct (filter_map (own_edit file) bs)

@@ -1,4 +1,4 @@
-use Rattle.std.proofs.Common.{◌≡◌, ◌∙◌, ◌<◌, ◌≤◌, ap, arith, length, map, refl}
+use Rattle.std.proofs.Common.{◌∙◌, ◌<◌, ◌≤◌, ap, arith, length, map, refl}
 use Rattle.std.proofs.lemmas.List.{take_all}
 use Rattle.edit_set_version.proofs.ChoiceLemmas.{pushed_more, pushed_next}
 use Rattle.edit_set_version.proofs.crates.crates_with.Goals as goal
