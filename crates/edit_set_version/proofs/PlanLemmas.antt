@@ -1,7 +1,7 @@
 -- What a plan promises, by what its steps give.
 use Rattle.std.proofs.Common.{◌≡◌, ◌≢◌, ◌⊎◌, ◌∙◌, ℕ, zero, suc, arith, List, [], ◌∷◌, ◌++◌, Bool, true, false, Bor, Option, Ok, Err, Some, None, not, ap, ap₂, inl, inr, length, map, option_map, refl, slice_index_or, subst, sym}
 use Rattle.std.specs.Prelude.{◌==◌, ◌&&◌, All, Contains, IfErr, IfOk, IfSome, OnOk, if◌then◌else◌, option_and_then, option_copied, option_to_list, Result}
-use Rattle.std.specs.List.{AllZip, filter}
+use Rattle.std.specs.List.{AllZip, filter, flat_map}
 use Rattle.std.proofs.Math.Path.{fun_ext}
 use Rattle.std.proofs.lemmas.List.Elements.{All-append, All-cons, All-contains, All-filter, All-head, All-map, All-nil, All-tail, Contains-append_right}
 use Rattle.semver.specs.Identifiers.{parts_of}
@@ -26,7 +26,7 @@ use Rattle.edit_set_version.specs.Chosen.{Asked, Member, bumps_workspace, chosen
 use Rattle.edit_set_version.specs.Followers.{IsUnfollowed, fixed, memory}
 use Rattle.edit_set_version.specs.Follows.{AllRise, AreVersions, Follow, IsLeftBy}
 use Rattle.edit_set_version.specs.PlanCauses.{currents, requirement}
-use Rattle.edit_set_version.specs.PlanLines.{Named, manifests}
+use Rattle.edit_set_version.specs.PlanLines.{Named, lines_of, manifests, shared_lines}
 use Rattle.edit_set_version.specs.PlanRefused.{HasBadInput, HasBadInputBy, IsCauseOf, IsInputClear, IsInputClearBy}
 use Rattle.edit_set_version.specs.PlanRefused.IsCauseOf.{manifest as of_manifest, memory as of_memory}
 use Rattle.edit_set_version.specs.Planned.{AreOutputs, HasFollowed, HasOutputsBy, HasSetOutputs, bytes_after, changed, outputs_at, unchanged}
@@ -126,6 +126,22 @@ member_current a p m there =
 pub seen_copied : (o : Option (Bor Version)) → shared_seen o ≡ option_map parts_of (option_copied o)
 seen_copied None = refl
 seen_copied (Some v) = refl
+
+-- what is set over one root, version and bumps is set over the same ones
+pub set_for : (is : List Input) (os : List Output) (r s : List ℕ) (m n : Option Parts) (bs cs : List Bump)
+    → r ≡ s → m ≡ n → bs ≡ cs → All (HasOutputsBy r m bs os) is → All (HasOutputsBy s n cs os) is
+set_for is os r s m n bs cs root next same all =
+    subst (λ (xs : List Bump). All (HasOutputsBy s n xs os) is) same
+    (subst (λ (o : Option Parts). All (HasOutputsBy s o bs os) is) next
+    (subst (λ (path : List ℕ). All (HasOutputsBy path m bs os) is) root all))
+
+-- and so are the lines
+pub lines_for : (p : Project) (a b m n : Option Parts) (bs cs : List Bump) → a ≡ b → m ≡ n → bs ≡ cs
+    → shared_lines a m ++ flat_map (lines_of p) bs ≡ shared_lines b n ++ flat_map (lines_of p) cs
+lines_for p a b m n bs cs old next same =
+    ap (λ (o : Option Parts). shared_lines o m ++ flat_map (lines_of p) bs) old
+    ∙ ap (λ (o : Option Parts). shared_lines b o ++ flat_map (lines_of p) bs) next
+    ∙ ap (λ (xs : List Bump). shared_lines b n ++ flat_map (lines_of p) xs) same
 
 -- what holds of a version that may be there
 pub all_shared : (P : Parts → Type 0) (o : Option (Bor Version)) (q : Option Parts) → shared_seen o ≡ q
