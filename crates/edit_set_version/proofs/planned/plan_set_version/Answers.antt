@@ -1,7 +1,8 @@
-use Rattle.std.proofs.Common.{◌⊎◌, ◌∙◌, ap, inl, inr, option_map, subst, sym}
+use Rattle.std.proofs.Common.{◌≡◌, ◌⊎◌, ◌∙◌, ◌++◌, ap, inl, inr, option_map, subst, sym}
+use Rattle.std.specs.List.{AllZip, flat_map}
 use Rattle.std.specs.Prelude.{All}
 use Rattle.std.proofs.lemmas.List.Elements.{All-map}
-use Rattle.std.proofs.lemmas.Result.{err_from_is_err_and}
+use Rattle.std.proofs.lemmas.Result.{IfOk-weaker, err_from_is_err_and}
 use Rattle.semver.specs.Identifiers.{parts_of}
 use Rattle.edit_base.specs.Errors.{IsMemory}
 use Rattle.edit_base.specs.declared.errors.Error.{Error}
@@ -11,20 +12,21 @@ use Rattle.edit_version.specs.Laws.{IsReadable}
 use Rattle.edit_set_version.specs.Apart.{AreApart}
 use Rattle.edit_set_version.specs.Bumps.{target_of}
 use Rattle.edit_set_version.specs.Chosen.{missing}
-use Rattle.edit_set_version.specs.Crates.{bumps_seen, project_seen}
+use Rattle.edit_set_version.specs.Crates.{IsReadOf, bumps_seen, project_seen}
 use Rattle.edit_set_version.specs.Follows.{AreVersions}
-use Rattle.edit_set_version.specs.PlanLines.{manifests}
+use Rattle.edit_set_version.specs.PlanLines.{lines, lines_of, manifests, shared_lines}
 use Rattle.edit_set_version.specs.PlanRefused.{HasBadInputBy, IsCauseOf, IsClear, IsInputClearBy}
-use Rattle.edit_set_version.specs.PlanRefused.IsCauseOf.{memory as of_memory, no_manifest as of_input, project as of_project}
-use Rattle.edit_set_version.specs.Planned.{HasFollowed, HasOutputsBy, HasSetOutputs}
+use Rattle.edit_set_version.specs.PlanRefused.IsCauseOf.{memory as of_memory, no_manifest as of_input, no_package as of_package, project as of_project}
+use Rattle.edit_set_version.specs.Planned.{HasFollowed, HasOutputsBy, HasSetOutputs, told_lines}
 use Rattle.edit_set_version.specs.Projects.{EachInput, HasProject}
 use Rattle.edit_set_version.specs.Selections.{asked_of}
+use Rattle.edit_set_version.specs.SetVersioned.{bumps, workspace_current, workspace_next}
 use Rattle.edit_set_version.specs.ToldLines.{HasUnfollowed}
 use Rattle.edit_set_version.specs.Written.{TellsShared}
 use Rattle.edit_set_version.specs.declared.plan.SetVersionPlan.{SetVersionPlan}
 use Rattle.edit_set_version.proofs.ApartBumps.{bumps_apart}
 use Rattle.edit_set_version.proofs.InputPaths.{inputs_apart}
-use Rattle.edit_set_version.proofs.PlanLemmas.{all_followed, cause_given, clear_given, names_told, outputs_given, readable_chosen, tells_shared, where_err, where_ok}
+use Rattle.edit_set_version.proofs.PlanLemmas.{all_followed, cause_given, clear_given, lines_for, names_told, outputs_given, readable_chosen, tells_shared, where_err, where_ok}
 use Rattle.edit_set_version.proofs.planned.plan_set_version.Goals as goal
 
 pub returns-in_err-manifests-clause-refused : goal.returns-in_err-manifests-clause-refused
@@ -150,3 +152,55 @@ returns-clause-clear c =
         each = clear_given t a is p bs c.in_ok-versions.ensures.bumps clear;
       };
     }) c.plan_with.ensures.outputs c.plan_with.ensures.clear
+
+pub returns-in_err-check_names-clause-refused : goal.returns-in_err-check_names-clause-refused
+returns-in_err-check_names-clause-refused c =
+    let r = err_from_is_err_and c.from_residual.result c.from_residual.ensures.1 in
+    rw (r.1, r.2) (elim c.in_err-check_names.ensures.refused [
+      | inl none ↦ of_memory none
+      | inr why ↦ of_package why
+    ])
+
+pub returns-in_err-project-clause-refused : goal.returns-in_err-project-clause-refused
+returns-in_err-project-clause-refused c =
+    let r = err_from_is_err_and c.from_residual-in_err-project.result
+    c.from_residual-in_err-project.ensures.1 in
+    rw (r.1, r.2) (of_memory c.in_err-project.ensures.refused)
+
+pub project_of-requires-clause-inputs : goal.project_of-requires-clause-inputs
+project_of-requires-clause-inputs c = c.requires.inputs
+
+pub project_of-requires-clause-manifests : goal.project_of-requires-clause-manifests
+project_of-requires-clause-manifests c =
+    subst (AllZip IsReadOf c.args.inputs.now) (sym c.deref.ensures.value) c.in_ok-manifests.ensures.ok
+
+pub plan_with-requires-clause-read : goal.plan_with-requires-clause-read
+plan_with-requires-clause-read c =
+    subst (AllZip IsReadOf c.args.inputs.now) (sym c.deref-2.ensures.value) c.in_ok-manifests.ensures.ok
+
+pub returns-clause-outputs_in_order : goal.returns-clause-outputs_in_order
+returns-clause-outputs_in_order c = c.plan_with.ensures.in_order
+
+pub returns-clause-lines : goal.returns-clause-lines
+returns-clause-lines c =
+    let t = target_of c.args.target.now in
+    let a = asked_of c.args.selection.now in
+    let w = workspace_said c.args.workspace.now in
+    let is = c.args.inputs.now in
+    let p = project_seen c.in_ok-project.project in
+    let versions = c.in_ok-versions.versions in
+    let m = option_map parts_of versions.current in
+    let n = option_map parts_of versions.next in
+    let bs = bumps_seen versions.bumps.items in
+    IfOk-weaker c.plan_with.result
+    (λ (plan : SetVersionPlan). told_lines plan ≡ shared_lines m n ++ flat_map (lines_of p) bs)
+    (λ (plan : SetVersionPlan). HasProject w is (λ p. told_lines plan ≡ lines t a p))
+    (λ plan told. record {
+      project = p;
+      is = c.in_ok-project.ensures.ok;
+      holds = told ∙ lines_for p m (workspace_current a p) n (workspace_next t a p) bs (bumps t a p)
+          c.in_ok-versions.ensures.current c.in_ok-versions.ensures.next c.in_ok-versions.ensures.bumps;
+    }) c.plan_with.ensures.lines
+
+pub returns-clause-changed : goal.returns-clause-changed
+returns-clause-changed c = c.plan_with.ensures.changed
