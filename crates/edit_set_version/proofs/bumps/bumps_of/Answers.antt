@@ -75,7 +75,8 @@ pub returns-clause-bumpable : goal.returns-clause-bumpable
 returns-clause-bumpable c =
     let t = target_of c.args.target.now in
     let a = asked_of c.args.selection.now in
-    subst (λ (cs : List Crate). All (λ (m : Member). IsBumpable (bump t a.metadata m.version)) (members_of cs))
+    let Fits : Member → Type 0 = λ m. IsBumpable (bump t a.metadata m.version) in
+    subst (λ (cs : List Crate). All Fits (members_of cs))
     (take_all c.crates.found-index c.args.crates.now c.crates-test.false) c.crates.invariant.bumpable
 
 pub returns-clause-versions : goal.returns-clause-versions

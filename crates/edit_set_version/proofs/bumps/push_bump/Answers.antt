@@ -45,7 +45,8 @@ pub returns-in-None-clause-ok : goal.returns-in-None-clause-ok
 returns-in-None-clause-ok c =
     let was = bumps_seen c.args.bumps.now.items in
     sym (append-nil was)
-    ∙ ap (λ o. was ++ option_to_list o) (ap (option_map bump_seen) (sym c.in-None.is) ∙ c.in_ok-bump.ensures.ok)
+    ∙ ap (λ o. was ++ option_to_list o)
+    (ap (option_map bump_seen) (sym c.in-None.is) ∙ c.in_ok-bump.ensures.ok)
 
 pub returns-in-None-clause-bumpable : goal.returns-in-None-clause-bumpable
 returns-in-None-clause-bumpable c = c.in_ok-bump.ensures.bumpable

@@ -23,11 +23,13 @@ members-preserved c =
 
 pub returns-clause-told : goal.returns-clause-told
 returns-clause-told c =
-    c.members.invariant.told ∙ ap (map (λ p. p.now)) (take_all c.members.i c.args.members.now c.members-test.false)
+    c.members.invariant.told
+    ∙ ap (map (λ p. p.now)) (take_all c.members.i c.args.members.now c.members-test.false)
 
 pub returns-clause-inputs : goal.returns-clause-inputs
 returns-clause-inputs c =
-    let long : length c.args.inputs.now ≤ c.members.i = omega (arith, c.members-test.false, c.requires.inputs) in
+    let long : length c.args.inputs.now ≤ c.members.i
+    = omega (arith, c.members-test.false, c.requires.inputs) in
     c.members.invariant.inputs ∙ take_all c.members.i c.args.inputs.now long
 
 pub returns-clause-manifests : goal.returns-clause-manifests

@@ -41,7 +41,7 @@ returns-in_err-lines-clause-refused c =
     rw (r.1, r.2) (elim c.in_err-lines.ensures.refused [
       | inl none ↦ inl none
       | inr why ↦ inr (inl (subst (λ (bs : List Bumping). HasUnfollowed (bumps_seen bs) all e)
-        c.deref-2.ensures.value why))
+          c.deref-2.ensures.value why))
     ])
 
 pub outputs_of-requires-clause-apart : goal.outputs_of-requires-clause-apart
@@ -70,7 +70,7 @@ returns-in_err-outputs-clause-refused c =
     rw (r.1, r.2) (elim c.in_err-outputs.ensures.refused [
       | inl none ↦ inl none
       | inr why ↦ inr (inr (subst (λ (bs : List Bumping). HasBadInputBy (bumps_seen bs) c.args.inputs.now e)
-        c.deref-3.ensures.value why))
+          c.deref-3.ensures.value why))
     ])
 
 pub returns-clause-outputs : goal.returns-clause-outputs

@@ -96,7 +96,7 @@ returns-in_err-choice-clause-refused c =
     rw (r.1, r.2) (elim c.in_err-choice.ensures.refused [
       | inl none ↦ inl none
       | inr why ↦ inr (excluded (subst (λ (cs : List Crate). IsHeldBack (held_back a (members_of cs))
-        (inheriting a (members_of cs)) e) c.deref.ensures.value why))
+          (inheriting a (members_of cs)) e) c.deref.ensures.value why))
     ])
 
 pub returns-in_err-current-clause-refused : goal.returns-in_err-current-clause-refused

@@ -21,7 +21,8 @@ bumps-preserved c =
     let list = c.push.new.self in
     let tell : Bump → List Told = λ b. bump_told b ∷ [] in
     let told : map line_told list.items ≡ tell (bump_seen own)
-    = ap (map line_told) (c.in_ok-push.ensures.items ∙ ap (λ ls. ls ++ c.in_ok-line.line ∷ []) c.new-list.ensures.items)
+    = ap (map line_told)
+    (c.in_ok-push.ensures.items ∙ ap (λ ls. ls ++ c.in_ok-line.line ∷ []) c.new-list.ensures.items)
     ∙ ap (λ (l : Told). l ∷ []) c.in_ok-line.ensures.ok in
     ap lists_told c.in_ok-push-2.ensures.items
     ∙ map_push (λ (l : Vec (String Global × String Global)). map line_told l.items) c.bumps.lists.items list
