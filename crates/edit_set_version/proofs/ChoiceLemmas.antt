@@ -1,9 +1,10 @@
 -- Lists of crates, one by one, and the parts that they are chosen from.
-use Rattle.std.proofs.Common.{◌≡◌, ◌∙◌, ◌+◌, ◌<◌, ℕ, zero, suc, arith, List, [], ◌∷◌, ◌++◌, Bool, true, false, Bor, length, map, not, take, get_or, refl, ap, sym}
+use Rattle.std.proofs.Common.{◌≡◌, ◌∙◌, ◌+◌, ◌<◌, ℕ, zero, suc, arith, List, [], ◌∷◌, ◌++◌, Bool, true, false, Bor, append-nil, length, map, not, take, get_or, refl, ap, sym}
 use Rattle.std.specs.Prelude.{◌&&◌, Contains, Option, if◌then◌else◌, option_to_list}
 use Rattle.std.specs.BTreeSet.{contains_text}
 use Rattle.std.specs.List.{filter, filter_map, flat_map, join_by}
 use Rattle.std.proofs.lemmas.List.{map-append, map_more, take_more}
+use Rattle.std.proofs.lemmas.List.Concat.{flat_map-append}
 use Rattle.std.proofs.lemmas.List.Elements.{filter-append, filter_map-append}
 use Rattle.edit_base.specs.Paths.{texts}
 use Rattle.edit_manifest.specs.Versions.{is_inherited}
@@ -37,6 +38,14 @@ some_more {X} {Y} {Z} g f xs i x within is =
     ap (filter_map g) (map_more f xs i x within ∙ ap (λ (z : X). map f (take i xs) ++ f z ∷ []) (sym is))
     ∙ filter_map-append g (map f (take i xs)) (f x ∷ [])
     ∙ ap (λ (zs : List Z). filter_map g (map f (take i xs)) ++ zs) (alone (g (f x)))
+
+-- what each has, with one more
+pub spread_more : {X Y Z : Type 0} (g : Y → List Z) (f : X → Y) (xs : List X) (i : ℕ) (x : X) → i < length xs
+    → x ≡ get_or xs i x → flat_map g (map f (take (i + 1) xs)) ≡ flat_map g (map f (take i xs)) ++ g (f x)
+spread_more {X} {Y} {Z} g f xs i x within is =
+    ap (flat_map g) (map_more f xs i x within ∙ ap (λ (z : X). map f (take i xs) ++ f z ∷ []) (sym is))
+    ∙ flat_map-append g (map f (take i xs)) (f x ∷ [])
+    ∙ ap (λ (zs : List Z). flat_map g (map f (take i xs)) ++ zs) (append-nil (g (f x)))
 
 -- a list that has one more is as far as another list, where that has the same at its next place
 pub pushed_more : {X Y Z : Type 0} (f : X → Z) (g : Y → Z) (old new : List X) (x : X) (ys : List Y) (i : ℕ)

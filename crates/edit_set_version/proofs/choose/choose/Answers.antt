@@ -1,4 +1,4 @@
-use Rattle.std.proofs.Common.{◌≡◌, ◌∙◌, ◌⊎◌, ◌==◌, ◌++◌, ℕ, List, [], Bool, not, length, ap, ap₂, sym, subst}
+use Rattle.std.proofs.Common.{◌≡◌, ◌∙◌, ◌⊎◌, ◌==◌, ◌++◌, ℕ, List, [], Bool, not, length, ap, ap₂, inl, refl, sym, subst}
 use Rattle.std.specs.Prelude.{◌||◌, if◌then◌else◌}
 use Rattle.std.specs.List.{filter}
 use Rattle.std.proofs.lemmas.List.{length-map, map-append}
@@ -93,3 +93,23 @@ returns-clause-excluded c =
     ∙ ap (λ xs. if length (inheriting a ms) == 0 then [] else xs) (others_part a w ms is) in
     ap (filter held) (sym (ap members_of c.deref-2.ensures.value ∙ more))
     ∙ c.in_ok-check_excluded.ensures.none
+
+pub returns-in_err-wanted-clause-refused : goal.returns-in_err-wanted-clause-refused
+returns-in_err-wanted-clause-refused c =
+    let r = err_from_is_err_and c.from_residual.result c.from_residual.ensures.1 in
+    rw (r.1, r.2) (inl refl)
+
+pub returns-in_err-inheriting-clause-refused : goal.returns-in_err-inheriting-clause-refused
+returns-in_err-inheriting-clause-refused c =
+    let r = err_from_is_err_and c.from_residual-in_err-inheriting.result c.from_residual-in_err-inheriting.ensures.1 in
+    rw (r.1, r.2) (inl refl)
+
+pub returns-in_err-others-clause-refused : goal.returns-in_err-others-clause-refused
+returns-in_err-others-clause-refused c =
+    let r = err_from_is_err_and c.from_residual-in_err-others.result c.from_residual-in_err-others.ensures.1 in
+    rw (r.1, r.2) (inl refl)
+
+pub returns-in_err-chosen-clause-refused : goal.returns-in_err-chosen-clause-refused
+returns-in_err-chosen-clause-refused c =
+    let r = err_from_is_err_and c.from_residual-in_err-chosen.result c.from_residual-in_err-chosen.ensures.1 in
+    rw (r.1, r.2) (inl refl)
