@@ -1,4 +1,4 @@
-use Rattle.std.proofs.Common.{◌≡◌, ◌∙◌, ◌+◌, ◌++◌, ◌∷◌, [], ap, inr, subst, sym, take}
+use Rattle.std.proofs.Common.{◌≡◌, ◌∙◌, ◌+◌, ◌++◌, ◌∷◌, [], ap, inl, inr, refl, subst, sym, take}
 use Rattle.std.proofs.lemmas.List.{take_more}
 use Rattle.std.specs.List.{AllZip}
 use Rattle.std.proofs.lemmas.Slice.Zip.{all_zipped_more}
@@ -38,3 +38,13 @@ returns-in_err-manifest-clause-refused c =
       subst (λ bs. IsBadManifest bs c.in_err-manifest.field-0.0) c.deref.ensures.value
           c.in_err-manifest.ensures.refused,
     ))
+
+pub returns-in_err-manifests-clause-refused : goal.returns-in_err-manifests-clause-refused
+returns-in_err-manifests-clause-refused c =
+    let r = err_from_is_err_and c.from_residual.result c.from_residual.ensures.1 in
+    rw (r.1, r.2) (inl refl)
+
+pub returns-in_err-push-clause-refused : goal.returns-in_err-push-clause-refused
+returns-in_err-push-clause-refused c =
+    let r = err_from_is_err_and c.from_residual-in_err-push.result c.from_residual-in_err-push.ensures.1 in
+    rw (r.1, r.2) (inl refl)
