@@ -2,7 +2,7 @@ use Rattle.std.proofs.Common.{◌∙◌, ◌++◌, ◌∷◌, [], ap, sym, subst
 use Rattle.std.specs.Prelude.{All, option_to_list}
 use Rattle.std.proofs.lemmas.Result.{err_from_is_err_and}
 use Rattle.edit_tree.specs.Shown.{tree_of}
-use Rattle.edit_set_version.specs.Followers.{HasRisen, follower_seen, numbered}
+use Rattle.edit_set_version.specs.Followers.{HasRisen, follower_seen, memory, numbered}
 use Rattle.edit_set_version.specs.Pointed.{pointed_view, pointed_views}
 use Rattle.edit_set_version.proofs.FollowerLemmas.{numbered_more, unfollowed}
 use Rattle.edit_set_version.proofs.follow.followers_of.Goals as goal
@@ -40,3 +40,9 @@ entries-init c = record {
   risen = subst (All HasRisen) (sym c.new-followers.ensures.items) (λ k d below. absurd (omega
       (arith, below)));
 }
+
+pub returns-in_err-entries-clause-refused : goal.returns-in_err-entries-clause-refused
+returns-in_err-entries-clause-refused c =
+    let r = err_from_is_err_and c.from_residual.result
+    c.from_residual.ensures.1 in
+    rw (r.1, r.2) (λ bs tells. memory c.in_err-entries.ensures.refused)

@@ -1,9 +1,9 @@
-use Rattle.std.proofs.Common.{◌∙◌, ◌++◌, ◌∷◌, [], ap, ap₂, sym, subst, append-nil, map, option_map}
+use Rattle.std.proofs.Common.{◌∙◌, ◌++◌, ◌∷◌, [], ap, ap₂, sym, subst, append-nil, map, option_map, refl}
 use Rattle.std.specs.Prelude.{All, option_to_list}
 use Rattle.std.proofs.lemmas.List.{map_push}
 use Rattle.std.proofs.lemmas.List.Elements.{All-push}
 use Rattle.std.proofs.lemmas.Result.{err_from_is_err_and}
-use Rattle.edit_set_version.specs.Followers.{HasRisen, follower_seen, stays}
+use Rattle.edit_set_version.specs.Followers.{HasRisen, follower_seen, lacks, stays}
 use Rattle.edit_set_version.specs.Folders.{reached}
 use Rattle.edit_set_version.specs.Numbers.{numbered_seen, told_in}
 use Rattle.edit_set_version.specs.Pointed.{pointed_view}
@@ -59,3 +59,15 @@ returns-in-None-clause-ok c = λ bs tells.
     (option_map numbered_seen b)) c.in-None.is in
     sym (ap (λ o. map follower_seen c.args.followers.now.items ++ option_to_list o) is
     ∙ append-nil (map follower_seen c.args.followers.now.items))
+
+pub returns-in_err-bump-clause-refused : goal.returns-in_err-bump-clause-refused
+returns-in_err-bump-clause-refused c =
+    let r = err_from_is_err_and c.from_residual.result
+    c.from_residual.ensures.1 in
+    rw (r.1, r.2) (λ bs tells. lacks c.in_err-bump.ensures.refused)
+
+pub returns-in_err-push-in-Some-clause-refused : goal.returns-in_err-push-in-Some-clause-refused
+returns-in_err-push-in-Some-clause-refused c =
+    let r = err_from_is_err_and c.from_residual-in_err-push-in-Some.result
+    c.from_residual-in_err-push-in-Some.ensures.1 in
+    rw (r.1, r.2) (λ bs tells. lacks refl)
