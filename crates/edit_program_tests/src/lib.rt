@@ -1,5 +1,5 @@
-//! Tests of the program, by `run` of `edit_program` alone, where its files, an index or its streams fail. What
-//! the built program can show stands in tools/checks/rows.
+//! Tests of the program, by `run` of `edit_program` alone, where its files, an index or its streams fail.
+//! What the built program can show stands in tools/checks/rows.
 //!
 //! They stand apart from those of the libraries, which need not wait until the program is proved.
 #![tactic(auto)]
