@@ -148,7 +148,7 @@ pub fn command<'a>(alloc: Global) -> Result<Command<'a>, AllocError>
     ensures free { IfOk result (λ c. is_simple_and_free (app_of c) ≡ true) }
 {
     Command::new(alloc, "cargo-edit")
-        .version("0.13.14")
+        .version("0.1.0 (behaves as cargo-edit 0.13.14)")
         .about("Edits the dependency requirements and versions of Cargo.toml files")
         .no_binary_name(true)
         .bin_name("cargo-edit")?

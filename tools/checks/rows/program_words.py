@@ -102,7 +102,7 @@ Options:
 
 For more information, try '--help'.
 §upgrade -V|\
-0 cargo-edit-upgrade 0.13.14
+0 cargo-edit-upgrade 0.1.0 (behaves as cargo-edit 0.13.14)
 """
 
 # Each row: what it shows, the files, the words, and the status and that the manifest stays as it was.

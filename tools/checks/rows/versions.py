@@ -175,7 +175,7 @@ Options:
   -h, --help                         Print help
   -V, --version                      Print version
 §set-version -V|\
-0 cargo-edit-set-version 0.13.14
+0 cargo-edit-set-version 0.1.0 (behaves as cargo-edit 0.13.14)
 §set-version 1.0.0|\
 2 error: the following required arguments were not provided:
   --metadata-json <FILE>
