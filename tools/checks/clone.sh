@@ -1,0 +1,124 @@
+#!/usr/bin/env bash
+# clone.sh PROGRAM   what a newcomer does with a clone, with no toolchain on PATH: raises the README's example, upgrades a
+# workspace and sets versions with real cargo over a registry on the loopback interface, installs, and uninstalls.
+# The released program is used; where the sources are newer than it, PROGRAM is, as the next release will have it.
+set -eu -o pipefail
+export LC_ALL=C
+here=$(cd "$(dirname "$0")/../.." && pwd)
+room=$(mktemp -d)
+server=
+trap 'touch "$room/stop"; [ -z "$server" ] || wait "$server"; rm -rf "$room"' EXIT
+step='git clone'
+fails() { echo "clone.sh: $step: $1"; [ ! -f "$room/out" ] || sed 's/^/  /' "$room/out"; exit 1; }
+for tool in cargo rustc curl git python3; do
+  command -v "$tool" > /dev/null || fails "$tool is not on PATH"
+done
+git clone -q "$here" "$room/clone"
+cd "$room/clone"
+if [ ! -f release/SOURCES ] || [ "$(cat release/SOURCES)" != "$(tools/sources)" ]; then
+  mkdir -p release
+  cp "$1" release/cargo-edit
+  tools/sources > release/SOURCES
+fi
+
+# The tools of the system and the cargo of PATH (where it is rustup's, the one that stands behind it), and nothing else.
+cargo_bin=$(rustc --print sysroot)/bin
+[ -x "$cargo_bin/cargo" ] || cargo_bin=$(dirname "$(command -v cargo)")
+mkdir "$room/home" "$room/tmp"
+clean() {
+  env -i "PATH=${extra:+$extra:}$cargo_bin:/usr/bin:/bin" "HOME=$room/home" "CARGO_HOME=$room/home/.cargo" "TMPDIR=$room/tmp" \
+    NO_PROXY=127.0.0.1 no_proxy=127.0.0.1 CARGO_NET_GIT_FETCH_WITH_CLI=true "$@"
+}
+runs() { # status, command..
+  local wanted=$1 status=0
+  shift
+  step=$*
+  clean "$@" > "$room/out" 2>&1 || status=$?
+  [ "$status" = "$wanted" ] || fails "status $status in place of $wanted"
+}
+says() { grep -q -F -- "$1" "$room/out" || fails "does not say: $1"; }
+has() { grep -q -F -- "$2" "$1" || fails "no \`$2\` in $1"; }
+extra=
+
+! clean sh -c 'command -v rt' > /dev/null || fails 'rt is on the PATH of this check'
+runs 0 ./cargo-edit --version
+says 'cargo-edit 0.1.0 (behaves as cargo-edit 0.13.14)'
+says 'the released program'
+
+# the README's first command, which has a second
+step="the README's first command"
+first=$(sed -n '/^d=\$(mktemp -d).*examples\/first/p' README.md | head -n 1)
+[ -n "$first" ] || fails 'it is not there'
+start=$(date +%s%N)
+clean sh -c "$first" > "$room/out" 2>&1 || true # (its status is that of diff: 1)
+took=$((($(date +%s%N) - start) / 1000000))
+has "$room/out" '> serde_json = "1.0.128"'
+[ "$took" -lt 1000 ] || fails "it took $took milliseconds"
+
+# a workspace, by the scripts of bin/ in the clone and as they are installed
+python3 "$here/tools/checks/cargo_registry.py" "$room" &
+server=$!
+for _ in $(seq 100); do [ -f "$room/port" ] || sleep 0.1; done
+mkdir -p "$room/home/.cargo" "$room/ws/a/src" "$room/ws/b/src"
+cat > "$room/home/.cargo/config.toml" << END
+[source.crates-io]
+replace-with = "one"
+[source.one]
+registry = "sparse+http://127.0.0.1:$(cat "$room/port")/one/"
+END
+cd "$room/ws"
+printf '[workspace]\nmembers = ["a", "b"]\nresolver = "2"\n' > Cargo.toml
+printf '[package]\nname = "a"\nversion = "0.1.0"\nedition = "2021"\n\n[dependencies]\nthird = "1.0" # a comment\n' > a/Cargo.toml
+printf '[package]\nname = "b"\nversion = "0.1.0"\nedition = "2021"\n\n[dependencies]\na = { path = "../a", version = "0.1" }\n' > b/Cargo.toml
+touch a/src/lib.rs b/src/lib.rs
+runs 0 cargo generate-lockfile
+cp -R "$room/ws" "$room/ws.old"
+again() { cd "$room" && rm -rf ws && cp -R ws.old ws && cd ws; }
+both() { # what the two commands do in a project
+  runs 0 cargo upgrade
+  has a/Cargo.toml 'third = "1.1" # a comment'
+  runs 0 cargo set-version --bump minor -p a
+  has a/Cargo.toml 'version = "0.2.0"'
+  has b/Cargo.toml 'a = { path = "../a", version = "0.2" }'
+  has Cargo.lock 'version = "0.2.0"'
+  again
+}
+extra=$room/clone/bin
+both
+
+extra=
+runs 0 "$room/clone/install.sh" --help
+says 'usage: install.sh'
+CDPATH=/tmp runs 2 "$room/clone/install.sh" "$room/clone/out/prefix"
+says 'lies in the folder of install.sh'
+[ ! -e "$room/clone/out" ] || fails 'a folder was made'
+mkdir -p "$room/a prefix/share/man"
+cd "$room"
+export CDPATH=/usr
+(umask 077 && runs 0 env CDPATH=/usr "$room/clone/install.sh" "a prefix/bin")
+unset CDPATH
+says 'is not on PATH'
+[ "$(stat -c %a "a prefix/bin/cargo-upgrade" "a prefix/share/man/man1" "a prefix/bin/cargo-edit" | sort -u)" = 755 ] || fails 'modes'
+cmp "a prefix/bin/cargo-edit" clone/release/cargo-edit
+cd ws
+extra="$room/a prefix/bin"
+both
+
+# a command of another origin, and one that cargo takes first
+printf '#!/bin/sh\n' > "$room/other"
+chmod +x "$room/other"
+mkdir -p "$room/home/.cargo/bin" "$room/foreign/bin"
+cp "$room/other" "$room/foreign/bin/cargo-upgrade"
+extra=
+runs 1 "$room/clone/install.sh" "$room/foreign"
+says 'is of another origin'
+cmp "$room/other" "$room/foreign/bin/cargo-upgrade"
+runs 0 "$room/clone/install.sh" --force "$room/foreign"
+cp "$room/other" "$room/home/.cargo/bin/cargo-upgrade"
+extra="$room/a prefix/bin"
+runs 0 "$room/clone/install.sh" "$room/a prefix"
+says "\`cargo upgrade\` runs $room/home/.cargo/bin/cargo-upgrade"
+
+runs 0 "$room/clone/install.sh" uninstall "$room/a prefix"
+[ "$(cd "$room/a prefix" && find . | sort | tr '\n' ' ')" = '. ./share ./share/man ' ] || fails "left: $(find "$room/a prefix")"
+runs 1 "$room/clone/install.sh" uninstall "$room/a prefix"
