@@ -5,6 +5,7 @@
 set -eu -o pipefail
 export LC_ALL=C
 here=$(cd "$(dirname "$0")/../.." && pwd)
+program=$(readlink -f -- "$1")
 room=$(mktemp -d)
 server=
 trap 'touch "$room/stop"; [ -z "$server" ] || wait "$server"; rm -rf "$room"' EXIT
@@ -17,7 +18,7 @@ git clone -q "$here" "$room/clone"
 cd "$room/clone"
 if [ ! -f release/SOURCES ] || [ "$(cat release/SOURCES)" != "$(tools/sources)" ]; then
   mkdir -p release
-  cp "$1" release/cargo-edit
+  cp "$program" release/cargo-edit
   tools/sources > release/SOURCES
 fi
 

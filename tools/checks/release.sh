@@ -5,8 +5,9 @@
 set -eu -o pipefail
 export LC_ALL=C
 here=$(cd "$(dirname "$0")/../.." && pwd)
+program=$(readlink -f -- "$1")
 cd "$here"
-tools/release --check "$1"
+tools/release --check "$program"
 room=$(mktemp -d)
 trap 'rm -rf "$room"' EXIT
 mkdir "$room/tree"
@@ -14,7 +15,7 @@ cp -R crates.txt HANDLES tools "$room/tree"
 tar --exclude=out -cf - crates | tar -xf - -C "$room/tree"
 cd "$room/tree"
 mkdir -p release
-cp "$1" release/cargo-edit
+cp "$program" release/cargo-edit
 tools/sources > release/SOURCES
 echo kit > release/TOOLCHAIN
 sums() { (cd release && sha256sum cargo-edit SOURCES TOOLCHAIN > SHA256SUMS); }
@@ -23,13 +24,12 @@ says() { # status, text
   tools/release --check "$program" > "$room/out" 2>&1 || status=$?
   [ "$status" = "$1" ] && grep -q -F -- "$2" "$room/out" || { cat "$room/out"; echo "release.sh: not status $1 and: $2"; exit 1; }
 }
-program=$1
 sums
 says 0 'the sources give the released program, byte for byte'
 # one byte in the middle
 size=$(stat -c %s release/cargo-edit)
 printf '\x5a' | dd of=release/cargo-edit bs=1 seek=$((size / 2)) conv=notrunc status=none
-! cmp -s "$1" release/cargo-edit || printf '\xa5' | dd of=release/cargo-edit bs=1 seek=$((size / 2)) conv=notrunc status=none
+! cmp -s "$program" release/cargo-edit || printf '\xa5' | dd of=release/cargo-edit bs=1 seek=$((size / 2)) conv=notrunc status=none
 says 1 'a file of release/ is not the one that its checksum is of'
 sums
 says 1 'the sources do not give the released program'
