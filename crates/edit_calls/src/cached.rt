@@ -129,6 +129,8 @@ fn sources_of(rt: &HostRuntime, folder: &str) -> CargoResult<Sources>
         metadata_json: None,
         index_file: Some("index.json"),
         index_dir: None,
+        config: None,
+        default_config: None,
         rust: RustChoice::Ignored,
     };
     match read_sources(rt.alloc(), &asked, folder, None, &mut files) {

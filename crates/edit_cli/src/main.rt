@@ -1,14 +1,21 @@
 //! The program `cargo-edit`.
 #![tactic(auto)]
 
+mod fetch_plan;
+mod fetch_store;
+mod machine;
+mod next_call;
+mod options;
+
 use edit_base::paths::join;
 use edit_base::{CargoResult, Error};
 use edit_program::run;
 use edit_store::HostStore;
-use std::env::VarError;
-use std::io::{ErrorKind, Write};
+use machine::{machine_error, variable};
+use next_call::next_call;
+use std::env;
+use std::io::Write;
 use std::process::ExitCode;
-use std::{env, io};
 
 fn main(rt: HostRuntime) -> ExitCode {
     match start(&rt) {
@@ -40,10 +47,42 @@ fn start_with(rt: &HostRuntime, words: &[String]) -> CargoResult<u8> {
 /// Runs these words in a folder.
 fn start_in(rt: &HostRuntime, words: &[&str], current: &str) -> CargoResult<u8> {
     let home = cargo_home(rt)?;
-    run_at(rt, words, current, home.as_deref())
+    dispatch(rt, words, current, home.as_deref())
 }
 
-/// Runs these words in a folder, with a home of cargo or none.
+/// Runs the arguments of `next-call` in a folder.
+fn next_call_at(rt: &HostRuntime, arguments: &[&str], current: &str) -> CargoResult<u8> {
+    let mut files = HostStore::new(rt.clone()?);
+    Ok(next_call(
+        rt.alloc(),
+        arguments,
+        current,
+        &mut files,
+        &mut rt.stdout(),
+        &mut rt.stderr(),
+    ))
+}
+
+/// Runs the subcommand that the first word names: one around `curl` or `cargo update`, else one of
+/// `edit_program`. `home` is the home of cargo, where there is one.
+fn dispatch(
+    rt: &HostRuntime,
+    words: &[&str],
+    current: &str,
+    home: Option<&str>,
+) -> CargoResult<u8> {
+    let Some((first, arguments)) = words.split_first() else {
+        return run_at(rt, words, current, home);
+    };
+    match *first {
+        "fetch-plan" => fetch_plan::fetch_plan(rt, arguments, current, home),
+        "fetch-store" => fetch_store::fetch_store(rt, arguments, current),
+        "next-call" => next_call_at(rt, arguments, current),
+        _ => run_at(rt, words, current, home),
+    }
+}
+
+/// Runs these words as a subcommand of `edit_program`.
 fn run_at(rt: &HostRuntime, words: &[&str], current: &str, home: Option<&str>) -> CargoResult<u8> {
     let mut files = HostStore::new(rt.clone()?);
     let index_files = HostStore::new(rt.clone()?);
@@ -67,25 +106,5 @@ fn cargo_home(rt: &HostRuntime) -> CargoResult<Option<String>> {
     match variable(rt, "HOME")? {
         Some(home) => Ok(Some(join(rt.alloc(), home.as_str(), ".cargo")?)),
         None => Ok(None),
-    }
-}
-
-/// A variable of the environment, where it is there and not empty.
-fn variable(rt: &HostRuntime, name: &str) -> CargoResult<Option<String>> {
-    match env::var(rt, name) {
-        Ok(text) if text.is_empty() => Ok(None),
-        Ok(text) => Ok(Some(text)),
-        Err(VarError::NotPresent) => Ok(None),
-        Err(VarError::NotUnicode) => Err(Error::NotUtf8),
-        Err(VarError::OutOfMemory) => Err(Error::Memory),
-    }
-}
-
-/// A fault of the machine, as a refusal.
-fn machine_error(error: io::Error) -> Error {
-    if error.kind() == ErrorKind::OutOfMemory {
-        Error::Memory
-    } else {
-        Error::Io(error)
     }
 }

@@ -38,7 +38,8 @@ pub dry_upgrade : (due : Bool) (Shows Says : List ℕ → Type 0) (words : Upgra
     (home : Option (List ℕ)) (local old new : StoreView) → words.options.dry_run ≡ true
     → IsUpgraded due Shows Says words current home local old new → SameFiles old.file_at new.file_at
 dry_upgrade due Shows Says words current home local old new dry h =
-    dry_keeps Shows (delivery_by words current h.plan h.sources.target h.path) old new dry h.ends.delivered.told
+    dry_keeps Shows (delivery_by words current h.plan h.sources.target h.path h.lock) old new dry
+    h.ends.delivered.told
 
 nothing_written : (outputs : List Output) (old new : StoreView) → outputs ≡ [] → AreWritten outputs old new
     → SameFiles old.file_at new.file_at

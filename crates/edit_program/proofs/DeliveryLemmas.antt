@@ -1,5 +1,5 @@
 -- A delivery, from its steps.
-use Rattle.std.proofs.Common.{◌≡◌, ◌∙◌, ◌+◌, ◌≤◌, ℕ, suc, Bor, List, [], ◌∷◌, ◌++◌, Option, Some, Bool, true, false, ap, append-nil, arith, inl, inr, length, map, option_map, subst, sym, ⊎_elim}
+use Rattle.std.proofs.Common.{◌≡◌, ◌∙◌, ◌+◌, ◌≤◌, ℕ, suc, Bor, List, [], ◌∷◌, ◌++◌, Option, Some, Bool, true, false, ap, append-nil, arith, inl, inr, length, map, option_map, subst, sym, ⊎_elim, Vec, String, Global}
 use Rattle.std.proofs.Math.Nat.{eq-or-lt_of_le}
 use Rattle.std.specs.Prelude.{◌≢◌, ◌⊎◌, ◌||◌, ◌==◌, ℤ, pos, int_le, if◌then◌else◌, not, slice_get, string_bytes}
 use Rattle.std.specs.Io.KnownBytes.{Appends}
@@ -26,7 +26,10 @@ use Rattle.edit_upgrade.specs.declared.upgrade.Warning.{Warning}
 use Rattle.edit_program.specs.CallsFile.{calls_files, due_path, file_of}
 use Rattle.edit_program.specs.TellingCauses.{AreTold, HasBadWord, IsDeliveryCause}
 use Rattle.edit_program.specs.Delivered.{AreBothWritten, IsBehind, IsDelivered, IsToldTo, written}
-use Rattle.edit_program.specs.Delivery.{Delivery, calls_of, delivery_of}
+use Rattle.edit_program.specs.Delivery.{Delivery, calls_against, calls_of, delivery_of}
+use Rattle.edit_lock.specs.Views.{packages_seen}
+use Rattle.edit_upgrade.specs.Views.{calls_seen}
+use Rattle.edit_lock.specs.declared.lock.Lock.{Lock}
 use Rattle.edit_program.specs.Said.{check, check_at, warning, warning_on, warnings_at}
 use Rattle.edit_program.specs.Shown.{diffs_if, messages_as}
 use Rattle.edit_program.specs.Tables.{tables}
@@ -114,11 +117,21 @@ refused_later of old mid new e later (inl memory) = inl memory
 refused_later of old mid new e later (inr failed) =
     inr (failed.0, raised_later old.faults mid.faults new.faults later failed.1)
 
+-- calls that are lent are those that are right against the lock file
+pub told_calls : (lock : Option (Bor Lock)) (offline : Bool) (due made calls : List (Vec (String Global) Global))
+    (of : List Call) → calls ≡ made
+    → calls_seen made ≡ calls_against (option_map (λ l. packages_seen l.now) lock) offline (calls_seen due)
+    → calls_seen due ≡ of
+    → calls_seen calls ≡ calls_against (option_map (λ l. packages_seen l.now) lock) offline of
+told_calls lock offline due made calls of lent right are =
+    ap calls_seen lent ∙ right
+    ∙ ap (calls_against (option_map (λ (l : Bor Lock). packages_seen l.now) lock) offline) are
+
 -- what was printed and is not held back, and what is left of the files
 pub told_to : (Leaves : List Output → List Output → StoreView → StoreView → Type 0) (Shows : List ℕ → Type 0)
     (p : UpgradePlan) (inputs : List Input) (w : Option WorkspaceSaid) (o : Options) (t : Telling)
     (old new : StoreView) (calls : List Call) (outputs made file : List Output)
-    → calls ≡ calls_of p o w
+    → calls ≡ calls_against (option_map (λ lock. packages_seen lock.now) t.lock) t.offline (calls_of p o w)
     → Shows (tables t.presentation.format o.verbosity p.rows.items (length inputs)
     ++ (messages_as t.presentation.format p inputs o calls
     ++ diffs_if t.presentation.diff t.current.now inputs p.outputs.items))

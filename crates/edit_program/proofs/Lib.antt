@@ -8,6 +8,7 @@ pub mod TwiceLemmas
 pub mod PlanClauses
 pub mod PlanLemmas
 pub mod OrderLemmas
+pub mod LockLemmas
 pub mod LookLemmas
 pub mod UpgradeLemmas
 pub mod PrintedLemmas

@@ -3,6 +3,9 @@ use Rattle.std.proofs.Common.{◌≡◌, ◌∙◌, ℕ, Bor, Bool, List, Option
 use Rattle.std.specs.Prelude.{◌⊎◌, ◌==◌, not, option_copied}
 use Rattle.edit_base.specs.Errors.{IsMemory}
 use Rattle.edit_base.specs.declared.errors.Error.{Error}
+use Rattle.edit_lock.specs.LockFile.{Package}
+use Rattle.edit_lock.specs.Views.{packages_seen}
+use Rattle.edit_lock.specs.declared.lock.Lock.{Lock}
 use Rattle.edit_metadata.specs.Metadata.{WorkspaceSaid}
 use Rattle.edit_metadata.specs.Workspaces.{workspace_said}
 use Rattle.edit_metadata.specs.declared.input.Input.{Input}
@@ -25,6 +28,7 @@ use Rattle.edit_program.proofs.DryRuns.{dry_keeps}
 use Rattle.edit_program.specs.TellingCauses.{IsDeliveryCause}
 use Rattle.edit_program.specs.Delivered.{AreBothWritten, HaveStopped, IsBehind, IsCutShort, IsToldTo, written}
 use Rattle.edit_program.specs.Delivery.{Delivery, delivery_of}
+use Rattle.edit_program.specs.LockRead.{HasNoLock, IsLockRead}
 use Rattle.edit_program.specs.declared.upgrade_told.telling.Telling.{Telling}
 use Rattle.edit_program.specs.UpgradeCauses.{IsUpgradeCause}
 use Rattle.edit_program.specs.Planned.{IsPlanCause, asking, index_view}
@@ -45,15 +49,33 @@ same_workspace : (r : Option (Bor Workspace)) (w : Option Workspace) → option_
 same_workspace None w is = ap (option_map workspace_said) is
 same_workspace (Some x) w is = ap (option_map workspace_said) is
 
+-- the packages of a lock file that is borrowed
+pub same_lock : (r : Option (Bor Lock)) (lock : Option Lock) → option_copied r ≡ lock
+    → option_map (λ l. packages_seen l.now) r ≡ option_map packages_seen lock
+same_lock None lock is = ap (option_map packages_seen) is
+same_lock (Some l) lock is = ap (option_map packages_seen) is
+
 -- what is delivered is what the words ask for
 pub same_delivery : (words : UpgradeWords) (current : Bor (List ℕ)) (plan : UpgradePlan) (target : Target)
-    (path : Option (Bor (List ℕ))) (inputs : List Input) (r : Option (Bor Workspace))
+    (path : Option (Bor (List ℕ))) (lock : Option (Bor Lock)) (inputs : List Input) (r : Option (Bor Workspace))
     → inputs ≡ target.inputs.items → option_copied r ≡ target.workspace
     → delivery_of plan inputs (option_map (λ x. workspace_said x.now) r) words.options
-    (record { current = current; presentation = words.presentation; update_calls = path })
-    ≡ delivery_by words current.now plan target (given path)
-same_delivery words current plan target path inputs r same is =
-    let telling : Telling = record { current = current; presentation = words.presentation; update_calls = path } in
+    (record {
+      current = current;
+      presentation = words.presentation;
+      update_calls = path;
+      lock = lock;
+      offline = words.offline;
+    })
+    ≡ delivery_by words current.now plan target (given path) (option_map (λ l. packages_seen l.now) lock)
+same_delivery words current plan target path lock inputs r same is =
+    let telling : Telling = record {
+      current = current;
+      presentation = words.presentation;
+      update_calls = path;
+      lock = lock;
+      offline = words.offline;
+    } in
     ap (λ (xs : List Input). delivery_of plan xs (option_map (λ (x : Bor Workspace). workspace_said x.now) r)
     words.options telling) same
     ∙ ap (λ (w : Option WorkspaceSaid). delivery_of plan target.inputs.items w words.options telling)
@@ -95,20 +117,24 @@ told_after Leaves Shows d old mid new after told = record {
 -- a plan that was delivered
 pub upgraded : (due : Bool) (Shows Says : List ℕ → Type 0) (words : UpgradeWords) (current : List ℕ)
     (home : Option (List ℕ)) (local old mid new : StoreView) (s : Sources) (plan : UpgradePlan)
-    (path : Option (List ℕ)) → OnlyReads old mid
+    (path : Option (List ℕ)) (lock : Option (List Package)) → OnlyReads old mid
     → (old.tells ≡ true → IsRead words current home old.file_at s) → IsPlannedFor words s local plan
     → IsPathOf current (given words.update_calls) path
-    → IsAnsweredWith due Shows Says mid new (delivery_by words current plan s.target path)
+    → (old.tells ≡ true → IsLockRead old.file_at current (given words.lock_file) lock)
+    → IsAnsweredWith due Shows Says mid new (delivery_by words current plan s.target path lock)
     → old.tells ≡ true → IsUpgraded due Shows Says words current home local old new
-upgraded due Shows Says words current home local old mid new s plan path reads read planned at answered t =
-    let d = delivery_by words current plan s.target path in
+upgraded due Shows Says words current home local old mid new s plan path lock reads read planned at locked answered
+    t =
+    let d = delivery_by words current plan s.target path lock in
     record {
       sources = s;
       plan = plan;
       path = path;
+      lock = lock;
       read = read t;
       planned = planned;
       at = at;
+      locked = locked t;
       ends = record {
         is = answered.is;
         delivered = record {
@@ -125,7 +151,8 @@ pub upgraded_dry : (due : Bool) (Shows Says : List ℕ → Type 0) (words : Upgr
     (home : Option (List ℕ)) (local old new : StoreView) → words.options.dry_run ≡ true
     → IsUpgraded due Shows Says words current home local old new → SameFiles old.file_at new.file_at
 upgraded_dry due Shows Says words current home local old new dry h =
-    dry_keeps Shows (delivery_by words current h.plan h.sources.target h.path) old new dry h.ends.delivered.told
+    dry_keeps Shows (delivery_by words current h.plan h.sources.target h.path h.lock) old new dry
+    h.ends.delivered.told
 
 cut_after : (Shows : List ℕ → Type 0) (d : Delivery) (old mid new : StoreView) → OnlyReads old mid
     → IsCutShort Shows d mid new → IsCutShort Shows d old new
@@ -139,24 +166,28 @@ cut_after Shows d old mid new reads (inr whole) =
 -- and one whose delivery was refused
 pub broken : (Shows : List ℕ → Type 0) (words : UpgradeWords) (current : List ℕ)
     (home : Option (List ℕ)) (local old mid new : StoreView) (s : Sources) (plan : UpgradePlan)
-    (path : Option (List ℕ)) → OnlyReads old mid
+    (path : Option (List ℕ)) (lock : Option (List Package)) → OnlyReads old mid
     → (old.tells ≡ true → IsRead words current home old.file_at s) → IsPlannedFor words s local plan
     → IsPathOf current (given words.update_calls) path
+    → (old.tells ≡ true → IsLockRead old.file_at current (given words.lock_file) lock)
     → SameFiles mid.file_at new.file_at
-    ⊎ IsCutShort Shows (delivery_by words current plan s.target path) mid new
+    ⊎ IsCutShort Shows (delivery_by words current plan s.target path lock) mid new
     → old.tells ≡ true
     → SameFiles old.file_at new.file_at ⊎ IsBroken Shows words current home local old new
-broken Shows words current home local old mid new s plan path reads read planned at (inl kept) t =
+broken Shows words current home local old mid new s plan path lock reads read planned at locked (inl kept) t =
     inl (λ file. kept file ∙ reads.files file)
-broken Shows words current home local old mid new s plan path reads read planned at (inr cut) t = inr (record {
-  sources = s;
-  plan = plan;
-  path = path;
-  read = read t;
-  planned = planned;
-  at = at;
-  ends = cut_after Shows (delivery_by words current plan s.target path) old mid new reads cut;
-})
+broken Shows words current home local old mid new s plan path lock reads read planned at locked (inr cut) t =
+    inr (record {
+      sources = s;
+      plan = plan;
+      path = path;
+      lock = lock;
+      read = read t;
+      planned = planned;
+      at = at;
+      locked = locked t;
+      ends = cut_after Shows (delivery_by words current plan s.target path lock) old mid new reads cut;
+    })
 
 -- ---- causes
 
@@ -165,7 +196,16 @@ pub read_cause : (words : UpgradeWords) (current : List ℕ) (home : Option (Lis
     (local old new : StoreView) (e : Error) → IsReadCause current home (asking words) old new e
     → IsUpgradeCause words current home local old new e
 read_cause words current home local old new e (inl failed) = inl failed
-read_cause words current home local old new e (inr wrong) = inr (inr (inr (λ t. inl (wrong t))))
+read_cause words current home local old new e (inr wrong) = inr (inr (inr (λ t. inr (inl (wrong t)))))
+
+-- nor its lock file
+pub lock_cause : (words : UpgradeWords) (current : List ℕ) (home : Option (List ℕ))
+    (local old new : StoreView) (e : Error)
+    → IsReadCause current home (asking words) old new e
+    ⊎ (old.tells ≡ true → HasNoLock old.file_at current (given words.lock_file) e)
+    → IsUpgradeCause words current home local old new e
+lock_cause words current home local old new e (inl cause) = read_cause words current home local old new e cause
+lock_cause words current home local old new e (inr none) = inr (inr (inr (λ t. inl (none t))))
 
 -- there is no plan for it
 pub plan_cause : (words : UpgradeWords) (current : List ℕ) (home : Option (List ℕ))
@@ -175,30 +215,36 @@ pub plan_cause : (words : UpgradeWords) (current : List ℕ) (home : Option (Lis
     (index_view s.index local) e
     → IsUpgradeCause words current home local old new e
 plan_cause words current home local old new s e read (inl memory) = inl (inl (inl memory))
-plan_cause words current home local old new s e read (inr wrong) = inr (inr (inr (λ t. inr (inl (record {
+plan_cause words current home local old new s e read (inr wrong) = inr (inr (inr (λ t. inr (inr (inl (record {
   sources = s;
   read = read t;
   cause = wrong;
-})))))
+}))))))
 
 -- the plan is not delivered
 pub stop_cause : (words : UpgradeWords) (current : List ℕ) (home : Option (List ℕ))
-    (local old mid new : StoreView) (s : Sources) (plan : UpgradePlan) (path : Option (List ℕ)) (e : Error)
+    (local old mid new : StoreView) (s : Sources) (plan : UpgradePlan) (path : Option (List ℕ))
+    (lock : Option (List Package)) (e : Error)
     → OnlyReads old mid
     → (old.tells ≡ true → IsRead words current home old.file_at s) → IsPlannedFor words s local plan
     → IsPathOf current (given words.update_calls) path
+    → (old.tells ≡ true → IsLockRead old.file_at current (given words.lock_file) lock)
     → IsDeliveryCause plan words.options mid new e → IsUpgradeCause words current home local old new e
-stop_cause words current home local old mid new s plan path e reads read planned at (inl refused) =
+stop_cause words current home local old mid new s plan path lock e reads read planned at locked (inl refused) =
     inr (inl (refused_on call.Write old mid new e reads refused))
-stop_cause words current home local old mid new s plan path e reads read planned at (inr (inl unwritten)) =
+stop_cause words current home local old mid new s plan path lock e reads read planned at locked
+    (inr (inl unwritten)) =
     inr (inr (inl unwritten))
-stop_cause words current home local old mid new s plan path e reads read planned at (inr (inr stopped)) =
-    inr (inr (inr (λ t. inr (inr (record {
+stop_cause words current home local old mid new s plan path lock e reads read planned at locked
+    (inr (inr stopped)) =
+    inr (inr (inr (λ t. inr (inr (inr (record {
       sources = s;
       plan = plan;
       path = path;
+      lock = lock;
       read = read t;
       planned = planned;
       at = at;
+      locked = locked t;
       ends = stopped;
-    })))))
+    }))))))

@@ -1,7 +1,10 @@
 -- What is delivered: a plan for inputs, and how it is told.
-use Rattle.std.specs.Prelude.{ℕ, List, [], Option, option_map}
+use Rattle.std.specs.Prelude.{ℕ, Bool, List, [], Option, Some, None, option_map}
 use Rattle.std.specs.Option.{option_map_or}
 use Rattle.edit_upgrade.specs.declared.decision.options.Options.{Options}
+use Rattle.edit_lock.specs.LockFile.{Package}
+use Rattle.edit_lock.specs.Standing.{changes, standing_calls}
+use Rattle.edit_lock.specs.Views.{packages_seen}
 use Rattle.edit_metadata.specs.Metadata.{WorkspaceSaid}
 use Rattle.edit_metadata.specs.declared.input.Input.{Input}
 use Rattle.edit_shown.specs.declared.presentation.Presentation.{Presentation}
@@ -13,6 +16,12 @@ use Rattle.edit_program.specs.declared.upgrade_told.telling.Telling.{Telling}
 -- the calls of `cargo update`, where there is a workspace
 abbrev pub calls_of : UpgradePlan → Options → Option WorkspaceSaid → List Call
 calls_of plan options workspace = option_map_or (update_calls (asked_by plan options)) workspace []
+
+-- calls as they are right against the lock file with these packages, where there is one; `offline` says that they
+-- fetch nothing
+abbrev pub calls_against : Option (List Package) → Bool → List Call → List Call
+calls_against None offline calls = calls
+calls_against (Some packages) offline calls = standing_calls (changes packages packages) offline calls
 
 -- a plan for inputs by its options, and how it is told: in which folder, in what form, the calls that follow,
 -- and the path of the file that they go to
@@ -33,6 +42,7 @@ delivery_of plan inputs workspace options telling = record {
   options = options;
   current = telling.current.now;
   presentation = telling.presentation;
-  calls = calls_of plan options workspace;
+  calls = calls_against (option_map (λ lock. packages_seen lock.now) telling.lock) telling.offline
+      (calls_of plan options workspace);
   calls_path = option_map (λ path. path.now) telling.update_calls;
 }

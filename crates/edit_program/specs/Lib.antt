@@ -5,6 +5,7 @@ pub mod Presented
 pub mod Runs
 pub mod UpgradeAsked
 pub mod VersionWords
+pub mod LockRead
 pub mod LookLines
 pub mod Needed
 pub mod NoIndex

@@ -29,6 +29,8 @@ asking words = record {
   metadata = given words.metadata_json;
   index = given words.index_file;
   index_dir = given words.index_dir;
+  config = given words.config;
+  default_config = given words.default_config;
   rust = asked_rust words.rust;
 }
 
@@ -39,6 +41,8 @@ asking_for_looks words = record {
   metadata = given words.metadata_json;
   index = None;
   index_dir = None;
+  config = given words.config;
+  default_config = given words.default_config;
   rust = asked_rust words.rust;
 }
 

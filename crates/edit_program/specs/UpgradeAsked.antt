@@ -36,12 +36,16 @@ pub record AskForUpgrade (rows : List Row) (w : UpgradeWords) : Type 0 where
   pub metadata : given w.metadata_json ≡ first_of (codes "metadata-json") rows
   pub index : given w.index_file ≡ first_of (codes "index-file") rows
   pub folder : given w.index_dir ≡ first_of (codes "index-dir") rows
+  pub config : given w.config ≡ first_of (codes "config") rows
+  pub default_config : given w.default_config ≡ first_of (codes "default-config") rows
   pub one_index : name_two_indexes rows ≡ false
   pub rust : IsRust (first_of (codes "rust-version") rows)
       (is_given (codes "ignore-rust-version") rows) w.rust
   pub options : AskForOptions rows w.options
   pub presentation : presentation_of rows ≡ Some w.presentation
   pub calls : given w.update_calls ≡ first_of (codes "update-calls") rows
+  pub lock : given w.lock_file ≡ first_of (codes "lock-file") rows
+  pub offline : w.offline ≡ is_given (codes "offline") rows
 
 -- two indexes are named, one of the values is none that its option has, it is not said which versions of Rust
 -- count, or not how the plan is printed

@@ -4,6 +4,8 @@ use Rattle.edit_base.specs.declared.errors.DeviceCall.TheVariants as call
 use Rattle.edit_base.specs.declared.errors.Error.{Error}
 use Rattle.edit_base.specs.declared.errors.Error.TheVariants.{Output as Unwritten}
 use Rattle.edit_program.specs.NoIndex.{no_view}
+use Rattle.edit_program.specs.LockRead.{HasNoLock}
+use Rattle.edit_sources.specs.Configured.{given}
 use Rattle.edit_sources.specs.Index.{IndexView}
 use Rattle.edit_store.specs.Store.{Files, RefusesCall, StoreView}
 use Rattle.edit_upgrade.specs.declared.decision.options.Options.{Options}
@@ -29,13 +31,14 @@ abbrev pub IsStopped : Options → UpgradePlan → Error → Type 0
 IsStopped o plan e =
     IsHeldBack o plan.outputs.items (map string_bytes plan.missing.items) e ⊎ HasBadWord plan o e
 
--- what is wrong with what the words name: it is not read, there is no plan for it, or the plan is not carried
--- out
+-- what is wrong with what the words name: the lock file or something else is not read, there is no plan for
+-- it, or the plan is not carried out
 abbrev pub IsUnfit : UpgradeWords → List ℕ → Option (List ℕ) → StoreView → Files → Error → Type 0
 IsUnfit words current home local files e =
-    IsWrong files current home (asking words) e
+    HasNoLock files current (given words.lock_file) e
+    ⊎ (IsWrong files current home (asking words) e
     ⊎ (HasNoPlan words.options (λ s. index_view s.index local) (asking words) current home files e
-    ⊎ IsPlannedTo (λ d. IsStopped words.options d.plan e) words current home local files)
+    ⊎ IsPlannedTo (λ d. IsStopped words.options d.plan e) words current home local files))
 
 -- why an upgrade is refused: memory or the device failed, a stream did not take what is printed, or what the
 -- words name is unfit

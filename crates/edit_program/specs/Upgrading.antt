@@ -1,5 +1,6 @@
 -- What an upgrade reads, plans and writes.
 use Rattle.std.specs.Prelude.{◌≡◌, ℕ, List, Bool, not, ◌==◌, Option, Some, None, length, option_map, ⊤}
+use Rattle.edit_lock.specs.LockFile.{Package}
 use Rattle.edit_metadata.specs.Workspaces.{workspace_said}
 use Rattle.edit_sources.specs.Configured.{given}
 use Rattle.edit_steps.specs.Absolute.{IsAbsoluteOf}
@@ -11,7 +12,8 @@ use Rattle.edit_steps.specs.declared.upgrade_read.target.Target.{Target}
 use Rattle.edit_program.specs.Planned.{IsPlanned, asking, index_view}
 use Rattle.edit_program.specs.declared.upgrade_run.words.UpgradeWords.{UpgradeWords}
 use Rattle.edit_program.specs.Delivered.{IsCutShort, IsDelivered}
-use Rattle.edit_program.specs.Delivery.{Delivery, calls_of}
+use Rattle.edit_program.specs.Delivery.{Delivery, calls_against, calls_of}
+use Rattle.edit_program.specs.LockRead.{IsLockRead}
 use Rattle.edit_program.specs.Said.{said}
 
 -- what the words name was read
@@ -29,15 +31,18 @@ IsPathOf current None None = ⊤
 IsPathOf current (Some named) (Some path) = IsAbsoluteOf current named path
 IsPathOf current _ _ = ⊥
 
--- a plan for these manifests, as the words ask to tell it, with this path for the file of the calls
-abbrev pub delivery_by : UpgradeWords → List ℕ → UpgradePlan → Target → Option (List ℕ) → Delivery
-delivery_by words current plan target path = record {
+-- a plan for these manifests, as the words ask to tell it, with this path for the file of the calls, which are
+-- right against the lock file with these packages, where there is one
+abbrev pub delivery_by : UpgradeWords → List ℕ → UpgradePlan → Target → Option (List ℕ) → Option (List Package)
+    → Delivery
+delivery_by words current plan target path lock = record {
   plan = plan;
   inputs = target.inputs.items;
   options = words.options;
   current = current;
   presentation = words.presentation;
-  calls = calls_of plan words.options (option_map workspace_said target.workspace);
+  calls = calls_against lock words.offline
+      (calls_of plan words.options (option_map workspace_said target.workspace));
   calls_path = path;
 }
 
@@ -47,10 +52,12 @@ pub record IsPlannedTo (Ends : Delivery → Type 0) (words : UpgradeWords) (curr
   pub sources : Sources
   pub plan : UpgradePlan
   pub path : Option (List ℕ)
+  pub lock : Option (List Package)
   pub read : IsRead words current home files sources
   pub planned : IsPlannedFor words sources local plan
   pub at : IsPathOf current (given words.update_calls) path
-  pub ends : Ends (delivery_by words current plan sources.target path)
+  pub locked : IsLockRead files current (given words.lock_file) lock
+  pub ends : Ends (delivery_by words current plan sources.target path lock)
 
 -- the plan changes a manifest
 abbrev pub has_outputs : UpgradePlan → Bool

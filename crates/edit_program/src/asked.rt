@@ -146,9 +146,13 @@ pub(crate) fn upgrade_words<'a>(
         metadata_json: matches.get_str("metadata-json"),
         index_file: matches.get_str("index-file"),
         index_dir: matches.get_str("index-dir"),
+        config: matches.get_str("config"),
+        default_config: matches.get_str("default-config"),
         rust,
         options: options_of(alloc, matches)?,
         presentation,
         update_calls: matches.get_str("update-calls"),
+        lock_file: matches.get_str("lock-file"),
+        offline: is_given(matches, "offline"),
     })
 }

@@ -114,8 +114,8 @@ fn answer_given<S: Store, T: Store + Drop, O: io::Write, E: io::Write>(
 /// `rm`, whatever follows, that cargo has them by itself), or, with `--check`, that something would change; 2
 /// a fault of the command line, also an empty path. An option that may stand without its value then says yes.
 /// `current` is the absolute folder that relative paths start from.
-/// Manifests, configurations, metadata and the index file are read, and manifests and the file of the calls
-/// written, through `files`; `cargo_home` is the folder whose configuration counts last. `index_files` has
+/// Manifests, configurations, metadata, the index file and the lock file are read, and manifests and the file of
+/// the calls written, through `files`; `cargo_home` is the folder whose configuration counts last. `index_files` has
 /// the index that is looked in where no index file is named, and is taken over.
 pub fn run<S: Store, T: Store + Drop, O: io::Write, E: io::Write>(
     alloc: Global,

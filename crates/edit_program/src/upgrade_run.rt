@@ -3,6 +3,7 @@
 mod delivering;
 mod looking;
 mod plan;
+mod reading;
 mod upgrading;
 pub mod words;
 

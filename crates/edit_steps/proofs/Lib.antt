@@ -5,4 +5,5 @@ pub mod WorkspaceLemmas
 pub mod Written
 pub mod FoundLemmas
 pub mod ReadLemmas
+pub mod NamedLemmas
 pub mod TargetLemmas

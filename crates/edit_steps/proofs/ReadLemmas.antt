@@ -1,5 +1,5 @@
 -- What was read, one part after another, and why a part is not read.
-use Rattle.std.proofs.Common.{◌≡◌, ◌∙◌, ◌<◌, ◌+◌, ◌++◌, ◌∷◌, ℕ, List, [], Option, true, ap, get_or, inl, inr, length, sym, subst, take}
+use Rattle.std.proofs.Common.{◌≡◌, ◌∙◌, ◌<◌, ◌+◌, ◌++◌, ◌∷◌, ℕ, List, [], Option, None, Some, true, ap, refl, get_or, inl, inr, length, sym, subst, take}
 use Rattle.std.specs.Global.{Vec}
 use Rattle.std.specs.List.{AllZip}
 use Rattle.std.specs.Prelude.{◌⊎◌, Contains, string_bytes}
@@ -14,12 +14,14 @@ use Rattle.edit_manifest.proofs.PassedWords.{as_before}
 use Rattle.edit_metadata.proofs.InputLemmas.{reads-on}
 use Rattle.edit_metadata.specs.declared.input.Input.{Input}
 use Rattle.edit_metadata.specs.declared.workspace.Workspace.{Workspace}
-use Rattle.edit_sources.specs.ConfigurationFiles.{AreConfigs, ConfigsFail, HasFailed}
+use Rattle.edit_sources.specs.ConfigurationFiles.{ConfigsFail, HasFailed, IsUnread}
 use Rattle.edit_sources.specs.declared.config.Config.{Config}
 use Rattle.edit_store.specs.Store.{Files, OnlyReads, RefusesCall, StoreView}
 use Rattle.edit_steps.specs.Asking.{Asking}
-use Rattle.edit_steps.specs.Causes.{HasNoIndex, HasNoTarget, IsFailure, IsReadCause, IsUnconfigured}
-use Rattle.edit_steps.specs.Sources.{AreConfigured, AreInputsRead}
+use Rattle.edit_steps.specs.Causes.{HasNoIndex, HasNoTarget, IsFailure, IsReadCause, IsUnconfigured, LacksNamed}
+use Rattle.edit_steps.specs.Causes.IsUnconfigured.{of_input, of_named}
+use Rattle.edit_steps.specs.Named.{AreConfigured, AreGathered, ArePairRead, IsUnreadFile, Pair, PathAndBytes}
+use Rattle.edit_steps.specs.Sources.{AreInputsRead}
 
 -- what holds of files that were read since held before
 pub before : (P : Files → Type 0) (old mid : StoreView) → OnlyReads old mid
@@ -46,40 +48,50 @@ each_more xs i x all more own within pushed front =
     ∙ sym (ap length (take_more xs i x within) ∙ length_push (take i xs) (get_or xs i x))
 
 -- the configurations of one input more
-pub configured_more : (old mid : StoreView) (home : Option (List ℕ)) (inputs : List Input)
+pub configured_more : (old mid : StoreView) (home : Option (List ℕ)) (pair : Pair) (inputs : List Input)
     (i : ℕ) (input : Input) (all more : List (Vec Config)) (own : Vec Config) (path : List ℕ)
     → OnlyReads old mid → i < length inputs → input ≡ get_or inputs i input → path ≡ string_bytes input.path
     → more ≡ all ++ own ∷ []
-    → (old.tells ≡ true → AreConfigured old.file_at home (take i inputs) all)
-    → (mid.tells ≡ true → AreConfigs mid.file_at path home own.items)
-    → old.tells ≡ true → AreConfigured old.file_at home (take (i + 1) inputs) more
-configured_more old mid home inputs i input all more own path reads within is here pushed front one t =
+    → (old.tells ≡ true → AreConfigured old.file_at home pair (take i inputs) all)
+    → (mid.tells ≡ true → AreGathered mid.file_at home pair path own.items)
+    → old.tells ≡ true → AreConfigured old.file_at home pair (take (i + 1) inputs) more
+configured_more old mid home pair inputs i input all more own path reads within is here pushed front one t =
     let R : Input → Vec Config → Type 0
-    = λ x configs. AreConfigs old.file_at (string_bytes x.path) home configs.items in
-    let configs : AreConfigs old.file_at (string_bytes input.path) home own.items
-    = subst (λ at. AreConfigs old.file_at at home own.items) here
-    (before (λ files. AreConfigs files path home own.items) old mid reads one t) in
+    = λ x configs. AreGathered old.file_at home pair (string_bytes x.path) configs.items in
+    let configs : AreGathered old.file_at home pair (string_bytes input.path) own.items
+    = subst (λ at. AreGathered old.file_at home pair at own.items) here
+    (before (λ files. AreGathered files home pair path own.items) old mid reads one t) in
     let taken : take (i + 1) inputs ≡ take i inputs ++ input ∷ []
     = take_more inputs i input within ∙ ap (λ x. take i inputs ++ x ∷ []) (sym is) in
     subst (λ xs. AllZip R xs more) (sym taken)
     (subst (λ ys. AllZip R (take i inputs ++ input ∷ []) ys) (sym pushed)
     (all_zipped_more R (take i inputs) all input own (front t) configs))
 
--- a configuration of one of the inputs that is not read
-pub unconfigured : (old mid new : StoreView) (home : Option (List ℕ)) (inputs : List Input) (input : Input)
-    (path : List ℕ) (e : Error) → OnlyReads old mid → path ≡ string_bytes input.path → Contains inputs input
-    → IsMemory e ⊎ (HasFailed mid.faults new.faults e ⊎ ConfigsFail mid.tells mid.file_at path home e)
-    → RefusesCall call.Read old new e ⊎ (old.tells ≡ true → IsUnconfigured old.file_at home inputs e)
-unconfigured old mid new home inputs input path e reads here has (inl memory) = inl (inl memory)
-unconfigured old mid new home inputs input path e reads here has (inr (inl failed)) =
+-- a file that is no configuration is there
+pub unread_there : (file : Option PathAndBytes) (e : Error) → IsUnreadFile file e
+    → (there : PathAndBytes) × (file ≡ Some there) × IsUnread there e
+unread_there None e unread = elim unread [ ]
+unread_there (Some there) e unread = (there, refl, unread)
+
+-- a configuration that is not read: of a file that is named, or of one of the inputs
+pub unconfigured : (old mid new : StoreView) (home : Option (List ℕ)) (pair : Pair) (inputs : List Input)
+    (input : Input) (path : List ℕ) (e : Error) → OnlyReads old mid → path ≡ string_bytes input.path
+    → Contains inputs input
+    → IsMemory e ⊎ (HasFailed mid.faults new.faults e ⊎ (IsUnreadFile pair.first e
+    ⊎ (IsUnreadFile pair.last e ⊎ ConfigsFail mid.tells mid.file_at path home e)))
+    → RefusesCall call.Read old new e ⊎ (old.tells ≡ true → IsUnconfigured old.file_at home pair inputs e)
+unconfigured old mid new home pair inputs input path e reads here has (inl memory) = inl (inl memory)
+unconfigured old mid new home pair inputs input path e reads here has (inr (inl failed)) =
     inl (refused_on call.Read old mid new e reads (inr (failed.is, failed.counted)))
-unconfigured old mid new home inputs input path e reads here has (inr (inr wrong)) = inr (λ t. record {
-  input = input;
-  among = has;
-  fails = before (λ files. ConfigsFail true files (string_bytes input.path) home e) old mid reads
-      (λ told. subst (λ at. ConfigsFail true mid.file_at at home e) here
-      (subst (λ b. ConfigsFail b mid.file_at path home e) told wrong)) t;
-})
+unconfigured old mid new home pair inputs input path e reads here has (inr (inr (inl first))) =
+    inr (λ t. let (there, is, unread) = unread_there pair.first e first in of_named there (inl is) unread)
+unconfigured old mid new home pair inputs input path e reads here has (inr (inr (inr (inl last)))) =
+    inr (λ t. let (there, is, unread) = unread_there pair.last e last in of_named there (inr is) unread)
+unconfigured old mid new home pair inputs input path e reads here has (inr (inr (inr (inr wrong)))) =
+    inr (λ t. of_input input has
+    (before (λ files. ConfigsFail true files (string_bytes input.path) home e) old mid reads
+    (λ told. subst (λ at. ConfigsFail true mid.file_at at home e) here
+    (subst (λ b. ConfigsFail b mid.file_at path home e) told wrong)) t))
 
 -- ---- causes
 
@@ -90,41 +102,66 @@ pub target_cause : (current : List ℕ) (home : Option (List ℕ)) (asking : Ask
 target_cause current home asking old new e (inl failed) = inl failed
 target_cause current home asking old new e (inr wrong) = inr (λ t. inl (wrong t))
 
--- a configuration that is not read behind them
-pub config_cause : (current : List ℕ) (home : Option (List ℕ)) (asking : Asking) (old mid new : StoreView)
+-- a configuration file that is named and is not there
+pub named_cause : (current : List ℕ) (home : Option (List ℕ)) (asking : Asking) (old mid new : StoreView)
     (w : Option Workspace) (inputs : List Input) (e : Error) → OnlyReads old mid
     → (old.tells ≡ true → AreInputsRead old.file_at current asking w inputs)
-    → RefusesCall call.Read mid new e ⊎ (mid.tells ≡ true → IsUnconfigured mid.file_at home inputs e)
+    → RefusesCall call.Read mid new e ⊎ (mid.tells ≡ true → LacksNamed mid.file_at current asking e)
     → IsReadCause current home asking old new e
-config_cause current home asking old mid new w inputs e reads read (inl refused) =
+named_cause current home asking old mid new w inputs e reads read (inl refused) =
     inl (inr (refused_on call.Read old mid new e reads refused))
-config_cause current home asking old mid new w inputs e reads read (inr wrong) =
+named_cause current home asking old mid new w inputs e reads read (inr wrong) =
     inr (λ t. inr (inl (record {
       workspace = w;
       inputs = inputs;
       read = read t;
-      cause = before (λ files. IsUnconfigured files home inputs e) old mid reads wrong t;
+      cause = before (λ files. LacksNamed files current asking e) old mid reads wrong t;
     })))
 
--- an index that is not read behind both
-pub index_cause : (current : List ℕ) (home : Option (List ℕ)) (asking : Asking) (old mid now new : StoreView)
-    (w : Option Workspace) (inputs : List Input) (configs : List (Vec Config)) (e : Error)
-    → OnlyReads old mid → OnlyReads mid now
-    → (old.tells ≡ true → AreInputsRead old.file_at current asking w inputs)
-    → (mid.tells ≡ true → AreConfigured mid.file_at home inputs configs)
-    → RefusesCall call.Read now new e ⊎ (now.tells ≡ true → HasNoIndex now.file_at current asking.index e)
+-- a configuration that is not read after them
+pub config_cause : (current : List ℕ) (home : Option (List ℕ)) (asking : Asking) (old mid now new : StoreView)
+    (w : Option Workspace) (inputs : List Input) (pair : Pair) (e : Error) → OnlyReads old mid
+    → OnlyReads mid now → (old.tells ≡ true → AreInputsRead old.file_at current asking w inputs)
+    → (mid.tells ≡ true → ArePairRead mid.file_at current asking pair)
+    → RefusesCall call.Read now new e ⊎ (now.tells ≡ true → IsUnconfigured now.file_at home pair inputs e)
     → IsReadCause current home asking old new e
-index_cause current home asking old mid now new w inputs configs e first second read configured
-    (inl refused) =
+config_cause current home asking old mid now new w inputs pair e first second read named (inl refused) =
     inl (inr (refused_on call.Read old now new e (reads-on old mid now first second) refused))
-index_cause current home asking old mid now new w inputs configs e first second read configured
-    (inr wrong) =
-    inr (λ t. inr (inr (record {
+config_cause current home asking old mid now new w inputs pair e first second read named (inr wrong) =
+    inr (λ t. inr (inr (inl (record {
+      workspace = w;
+      inputs = inputs;
+      pair = pair;
+      read = read t;
+      named = before (λ files. ArePairRead files current asking pair) old mid first named t;
+      cause = before (λ files. IsUnconfigured files home pair inputs e) old now
+          (reads-on old mid now first second) wrong t;
+    }))))
+
+-- an index that is not read after all of these
+pub index_cause : (current : List ℕ) (home : Option (List ℕ)) (asking : Asking)
+    (old mid now then new : StoreView) (w : Option Workspace) (inputs : List Input) (pair : Pair)
+    (configs : List (Vec Config)) (e : Error) → OnlyReads old mid → OnlyReads mid now → OnlyReads now then
+    → (old.tells ≡ true → AreInputsRead old.file_at current asking w inputs)
+    → (mid.tells ≡ true → ArePairRead mid.file_at current asking pair)
+    → (now.tells ≡ true → AreConfigured now.file_at home pair inputs configs)
+    → RefusesCall call.Read then new e ⊎ (then.tells ≡ true → HasNoIndex then.file_at current asking.index e)
+    → IsReadCause current home asking old new e
+index_cause current home asking old mid now then new w inputs pair configs e first second third read named
+    configured (inl refused) =
+    inl (inr (refused_on call.Read old then new e
+    (reads-on old now then (reads-on old mid now first second) third) refused))
+index_cause current home asking old mid now then new w inputs pair configs e first second third read named
+    configured (inr wrong) =
+    let upto : OnlyReads old now = reads-on old mid now first second in
+    inr (λ t. inr (inr (inr (record {
       workspace = w;
       inputs = inputs;
       configs = configs;
+      pair = pair;
       read = read t;
-      configured = before (λ files. AreConfigured files home inputs configs) old mid first configured t;
-      cause = before (λ files. HasNoIndex files current asking.index e) old now
-          (reads-on old mid now first second) wrong t;
-    })))
+      named = before (λ files. ArePairRead files current asking pair) old mid first named t;
+      configured = before (λ files. AreConfigured files home pair inputs configs) old now upto configured t;
+      cause = before (λ files. HasNoIndex files current asking.index e) old then
+          (reads-on old now then upto third) wrong t;
+    }))))

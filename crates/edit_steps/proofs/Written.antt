@@ -1,5 +1,5 @@
 -- Files that were read before outputs are written to them.
-use Rattle.std.proofs.Common.{◌≡◌, ◌∙◌, List, [], arith}
+use Rattle.std.proofs.Common.{◌∙◌, List, [], arith}
 use Rattle.edit_report.specs.Applied.{AreWritten, HasStopped}
 use Rattle.edit_report.specs.declared.output.Output.{Output}
 use Rattle.edit_store.specs.Store.{OnlyReads, StoreView}

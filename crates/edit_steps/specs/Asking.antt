@@ -19,6 +19,8 @@ pub record Asking : Type 0 where
   pub metadata : Option (List ℕ)
   pub index : Option (List ℕ)
   pub index_dir : Option (List ℕ)
+  pub config : Option (List ℕ)
+  pub default_config : Option (List ℕ)
   pub rust : RustAsked
 
 -- what is asked for
@@ -28,5 +30,7 @@ asking_of asked = record {
   metadata = given asked.metadata_json;
   index = given asked.index_file;
   index_dir = given asked.index_dir;
+  config = given asked.config;
+  default_config = given asked.default_config;
   rust = asked_rust asked.rust;
 }

@@ -8,7 +8,7 @@ use Rattle.edit_manifest.specs.Loaded.{IsBadManifest}
 use Rattle.edit_manifest.specs.Located.{HasNoManifest, IsManifestPath}
 use Rattle.edit_metadata.specs.declared.input.Input.{Input}
 use Rattle.edit_metadata.specs.declared.workspace.Workspace.{Workspace}
-use Rattle.edit_sources.specs.ConfigurationFiles.{ConfigsFail}
+use Rattle.edit_sources.specs.ConfigurationFiles.{ConfigsFail, IsUnread}
 use Rattle.edit_sources.specs.IndexLines.{RefusesLines, lines_of}
 use Rattle.edit_sources.specs.declared.config.Config.{Config}
 use Rattle.edit_steps.specs.Absolute.{IsAbsoluteOf}
@@ -16,7 +16,8 @@ use Rattle.edit_steps.specs.Workspaces.{HasNoWorkspace}
 use Rattle.edit_store.specs.Store.{Files, RefusesCall, StandsAt, StoreView}
 use Rattle.edit_store.specs.declared.store.Kind.TheVariants.{Folder}
 use Rattle.edit_steps.specs.Asking.{Asking}
-use Rattle.edit_steps.specs.Sources.{AreConfigured, AreInputsRead}
+use Rattle.edit_steps.specs.Named.{AreConfigured, ArePairRead, HasNoFile, Pair}
+use Rattle.edit_steps.specs.Sources.{AreInputsRead}
 
 -- memory ran out, or the device failed at a look or a read and the count of faults rose
 abbrev pub IsFailure : StoreView → StoreView → Error → Type 0
@@ -53,12 +54,14 @@ pub data HasNoTarget (files : Files) (current : List ℕ) (asking : Asking) (e :
   no_workspace : (named : List ℕ) → asking.metadata ≡ Some named → HasNoWorkspace files current named e
       → HasNoTarget files current asking e
 
--- a configuration of one of the inputs is not read
-pub record IsUnconfigured (files : Files) (home : Option (List ℕ)) (inputs : List Input) (e : Error)
-    : Type 0 where
-  pub input : Input
-  pub among : Contains inputs input
-  pub fails : ConfigsFail true files (string_bytes input.path) home e
+-- a configuration is not read: that of a file that is named, or one of an input's own
+pub data IsUnconfigured (files : Files) (home : Option (List ℕ)) (pair : Pair) (inputs : List Input)
+    (e : Error) : Type 0 where
+  of_named : (file : List ℕ × List ℕ) → (pair.first ≡ Some file) ⊎ (pair.last ≡ Some file) → IsUnread file e
+      → IsUnconfigured files home pair inputs e
+  of_input : (input : Input) → Contains inputs input
+      → ConfigsFail true files (string_bytes input.path) home e
+      → IsUnconfigured files home pair inputs e
 
 -- why no index is read: there is no file, or a line of it is refused
 abbrev pub IsUnindexed : Option (List ℕ) → Error → Type 0
@@ -78,13 +81,27 @@ pub record HasNoIndex (files : Files) (current : List ℕ) (index : Option (List
   pub is : index ≡ Some named
   pub cause : IsIndexCause files current named e
 
+-- a configuration file that is named is not there
+abbrev pub LacksNamed : Files → List ℕ → Asking → Error → Type 0
+LacksNamed files current asking e =
+    HasNoFile files current asking.config e ⊎ HasNoFile files current asking.default_config e
+
+-- the manifests were read, and a configuration file that is named is not there
+pub record StopsAtNamed (files : Files) (current : List ℕ) (asking : Asking) (e : Error) : Type 0 where
+  pub workspace : Option Workspace
+  pub inputs : List Input
+  pub read : AreInputsRead files current asking workspace inputs
+  pub cause : LacksNamed files current asking e
+
 -- the manifests were read, and a configuration is not
 pub record StopsAtConfigs (files : Files) (current : List ℕ) (home : Option (List ℕ)) (asking : Asking)
     (e : Error) : Type 0 where
   pub workspace : Option Workspace
   pub inputs : List Input
+  pub pair : Pair
   pub read : AreInputsRead files current asking workspace inputs
-  pub cause : IsUnconfigured files home inputs e
+  pub named : ArePairRead files current asking pair
+  pub cause : IsUnconfigured files home pair inputs e
 
 -- the manifests and their configurations were read, and the index is not
 pub record StopsAtIndex (files : Files) (current : List ℕ) (home : Option (List ℕ)) (asking : Asking)
@@ -92,15 +109,18 @@ pub record StopsAtIndex (files : Files) (current : List ℕ) (home : Option (Lis
   pub workspace : Option Workspace
   pub inputs : List Input
   pub configs : List (Vec Config)
+  pub pair : Pair
   pub read : AreInputsRead files current asking workspace inputs
-  pub configured : AreConfigured files home inputs configs
+  pub named : ArePairRead files current asking pair
+  pub configured : AreConfigured files home pair inputs configs
   pub cause : HasNoIndex files current asking.index e
 
--- what is wrong with the files: with the manifests or metadata, else a configuration, else the index
+-- what is wrong with the files: with the manifests or metadata, else a configuration file that is named, else
+-- a configuration, else the index
 abbrev pub IsWrong : Files → List ℕ → Option (List ℕ) → Asking → Error → Type 0
 IsWrong files current home asking e =
-    HasNoTarget files current asking e
-    ⊎ (StopsAtConfigs files current home asking e ⊎ StopsAtIndex files current home asking e)
+    HasNoTarget files current asking e ⊎ (StopsAtNamed files current asking e
+    ⊎ (StopsAtConfigs files current home asking e ⊎ StopsAtIndex files current home asking e))
 
 -- why what an upgrade rests on is not read: memory or the device failed, or something is wrong with the files
 abbrev pub IsReadCause : List ℕ → Option (List ℕ) → Asking → StoreView → StoreView → Error → Type 0

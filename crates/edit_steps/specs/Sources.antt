@@ -1,19 +1,16 @@
 -- What an upgrade rests on, as it was read.
 use Rattle.std.specs.Prelude.{◌≡◌, ◌⊎◌, ℕ, List, [], ◌∷◌, Option, Some, None, ⊤, length, map, string_bytes}
-use Rattle.std.specs.Global.{Vec}
-use Rattle.std.specs.List.{AllZip}
 use Rattle.edit_metadata.specs.Workspaces.{workspace_said}
 use Rattle.edit_metadata.specs.declared.input.Input.{Input}
 use Rattle.edit_metadata.specs.declared.workspace.Workspace.{Workspace}
-use Rattle.edit_sources.specs.ConfigurationFiles.{AreConfigs}
 use Rattle.edit_sources.specs.FileIndex.{HoldsLines}
-use Rattle.edit_sources.specs.declared.config.Config.{Config}
 use Rattle.edit_sources.specs.declared.file_index.FileIndex.{FileIndex}
 use Rattle.edit_steps.specs.Absolute.{IsAbsoluteOf}
 use Rattle.edit_steps.specs.Workspaces.{HaveOwnPaths, IsWorkspaceRead}
 use Rattle.edit_store.specs.Store.{Files}
 use Rattle.edit_tree.specs.Shown.{Shown}
 use Rattle.edit_steps.specs.Asking.{Asking}
+use Rattle.edit_steps.specs.Named.{AreConfigured, ArePairRead, Pair}
 use Rattle.edit_steps.specs.Own.{IsManifestRead}
 use Rattle.edit_steps.specs.declared.upgrade_read.index.IndexSource.{IndexSource}
 use Rattle.edit_steps.specs.declared.upgrade_read.index.IndexSource.TheVariants as source
@@ -41,11 +38,6 @@ abbrev pub AreDocuments : List Shown → List Input → Type 0
 AreDocuments documents inputs =
     (documents ≡ []) ⊎ (map (λ d. d.bytes) documents ≡ map (λ input. input.bytes.items) inputs)
 
--- each input has the configurations of its manifest
-abbrev pub AreConfigured : Files → Option (List ℕ) → List Input → List (Vec Config) → Type 0
-AreConfigured files home inputs configs =
-    AllZip (λ input own. AreConfigs files (string_bytes input.path) home own.items) inputs configs
-
 -- the index in the file that is named was read
 pub record IsIndexAt (files : Files) (current named : List ℕ) (index : FileIndex) : Type 0 where
   pub path : List ℕ
@@ -66,11 +58,14 @@ IsIndexOf files current _ _ _ = ⊥
 abbrev pub IsIndexRead : Files → List ℕ → Asking → IndexSource → Type 0
 IsIndexRead files current asking index = IsIndexOf files current asking.index asking.index_dir index
 
--- all that an upgrade rests on was read: its manifests, the configurations of each, and the index
+-- all that an upgrade rests on was read: its manifests, the configuration files that are named, the
+-- configurations of each manifest, and the index
 pub record AreRead (files : Files) (current : List ℕ) (home : Option (List ℕ)) (asking : Asking)
     (s : Sources) : Type 0 where
   pub target : IsTargetRead files current asking s.target
-  pub configured : AreConfigured files home s.target.inputs.items s.configs.items
+  pub pair : Pair
+  pub named : ArePairRead files current asking pair
+  pub configured : AreConfigured files home pair s.target.inputs.items s.configs.items
   pub indexed : IsIndexRead files current asking s.index
 
 -- a plan may be made: each input has a path of its own, and a list of configurations

@@ -5,6 +5,7 @@ mod configs;
 mod found;
 mod index;
 mod locate;
+mod named;
 mod own;
 mod sources;
 mod target;

@@ -14,9 +14,18 @@ places =
     ∷ path_rule (codes "index-file")
     ∷ []
 
--- the options that name the folder of an index, and the file of the calls that follow
+-- the options that name the folder of an index, the file of the calls that follow, and the lock file that these
+-- have to be right against
 abbrev pub outlets : List Rule
-outlets = path_rule (codes "index-dir") ∷ path_rule (codes "update-calls") ∷ []
+outlets =
+    path_rule (codes "index-dir")
+    ∷ path_rule (codes "update-calls")
+    ∷ path_rule (codes "lock-file")
+    ∷ []
+
+-- the options that name configuration files beside those that cargo finds
+abbrev pub configurations : List Rule
+configurations = path_rule (codes "config") ∷ path_rule (codes "default-config") ∷ []
 
 -- the options that say which versions of Rust count
 abbrev pub rust_choices : List Rule
@@ -27,6 +36,7 @@ abbrev pub switches : List Rule
 switches =
     record (flag_rule (codes "dry-run")) { short = Some 110 }
     ∷ flag_rule (codes "locked")
+    ∷ flag_rule (codes "offline")
     ∷ count_rule (codes "verbose") 118
     ∷ count_rule (codes "quiet") 113
     ∷ flag_rule (codes "never-lower")
@@ -44,8 +54,8 @@ choices =
 -- the subcommand `upgrade`, and the one that takes the same words
 abbrev pub upgrade_app : Text → App
 upgrade_app name =
-    with_rules (with_rules (with_rules (with_rules (with_rules (with_rules (with_rules (new_app name)
-    places) outlets) rust_choices) switches) reports) choices) selections
+    with_rules (with_rules (with_rules (with_rules (with_rules (with_rules (with_rules (with_rules
+    (new_app name) places) outlets) configurations) rust_choices) switches) reports) choices) selections
 
 -- the program's own settings
 abbrev pub top_shape : Shape

@@ -1,7 +1,7 @@
 //! The command line: which words there are.
 ghost use Rattle.std.specs.Prelude.{◌≡◌, ◌++◌, IfOk, map, true};
 ghost use Rattle.clap.specs.Words.{app_of, is_simple, is_simple_and_free};
-ghost use Rattle.edit_words.specs.CommandLine.{choices, edit_app, outlets, places, rust_choices, selections, switches, upgrade_app};
+ghost use Rattle.edit_words.specs.CommandLine.{choices, configurations, edit_app, outlets, places, rust_choices, selections, switches, upgrade_app};
 ghost use Rattle.edit_words.specs.Tables.{IsLocal, word_rule};
 
 use crate::reports::reports;
@@ -11,7 +11,7 @@ use clap::Command;
 use std::alloc::{AllocError, Global};
 
 /// The options that name files and the folder of an index.
-fn files<'a>() -> [Word<'a>; 5]
+fn files<'a>() -> [Word<'a>; 6]
     ensures { map word_rule result ≡ places ++ outlets }
 {
     [
@@ -40,11 +40,34 @@ fn files<'a>() -> [Word<'a>; 5]
             Form::Path("FILE"),
             "Writes the calls of `cargo update` that follow to this file",
         ),
+        plain(
+            "lock-file",
+            Form::Path("FILE"),
+            "Leaves out of the calls what this Cargo.lock has not",
+        ),
+    ]
+}
+
+/// The options that name configuration files beside those that cargo finds.
+fn configurations<'a>() -> [Word<'a>; 2]
+    ensures { map word_rule result ≡ configurations }
+{
+    [
+        plain(
+            "config",
+            Form::Path("FILE"),
+            "A configuration file of cargo that counts before all others",
+        ),
+        plain(
+            "default-config",
+            Form::Path("FILE"),
+            "A configuration file of cargo that counts after all others",
+        ),
     ]
 }
 
 /// What says which versions of Rust count, and the flags.
-fn switches<'a>() -> [Word<'a>; 7]
+fn switches<'a>() -> [Word<'a>; 8]
     ensures { map word_rule result ≡ rust_choices ++ switches }
 {
     [
@@ -65,6 +88,11 @@ fn switches<'a>() -> [Word<'a>; 7]
         )
         .short('n'),
         plain("locked", Form::Flag, "Refuses to change the manifest"),
+        plain(
+            "offline",
+            Form::Flag,
+            "Calls of `cargo update` fetch nothing",
+        ),
         plain("verbose", Form::Counted, "Reports more").short('v'),
         plain("quiet", Form::Counted, "Reports less").short('q'),
         plain("never-lower", Form::Flag, "Lowers no requirement"),
@@ -132,6 +160,7 @@ fn upgrade_command<'a>(
 {
     let command = Ok(Command::new(alloc, name).about(about));
     let command = with_words(alloc, command, &files());
+    let command = with_words(alloc, command, &configurations());
     let command = with_words(alloc, command, &switches());
     let command = with_words(alloc, command, &reports());
     let command = with_words(alloc, command, &choices());

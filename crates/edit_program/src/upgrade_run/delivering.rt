@@ -2,6 +2,7 @@
 ghost use Rattle.std.specs.Prelude.{◌≡◌, ◌≤◌, ◌⊎◌, IfErr, IfOk, OnErr, option_map, string_bytes};
 ghost use Rattle.std.specs.Io.KnownBytes.{Appends};
 ghost use Rattle.edit_base.specs.Errors.{IsMemory};
+ghost use Rattle.edit_lock.specs.Views.{packages_seen};
 ghost use Rattle.edit_report.specs.Applied.{HaveDistinctPaths};
 ghost use Rattle.edit_sources.specs.Configured.{given};
 ghost use Rattle.edit_store.specs.Store.{SameFiles};
@@ -14,6 +15,7 @@ ghost use Rattle.edit_program.specs.Tables.{AreInOrder};
 use crate::upgrade_run::words::UpgradeWords;
 use crate::upgrade_told::{Telling, deliver};
 use edit_base::CargoResult;
+use edit_lock::Lock;
 use edit_steps::upgrade_read::Target;
 use edit_steps::{RunResult, absolute};
 use edit_store::Store;
@@ -38,8 +40,8 @@ pub(crate) fn path_of(
     Ok(Some(path))
 }
 
-/// Delivers a plan for manifests as the words ask, with this path for the file of the calls; answers whether
-/// the plan changes a manifest.
+/// Delivers a plan for manifests as the words ask, with this path for the file of the calls, which are right
+/// against the lock file where there is one; answers whether the plan changes a manifest.
 pub(crate) fn deliver_plan<S: Store, O: io::Write, E: io::Write>(
     alloc: Global,
     words: &UpgradeWords<'_>,
@@ -47,6 +49,7 @@ pub(crate) fn deliver_plan<S: Store, O: io::Write, E: io::Write>(
     target: &Target,
     plan: &UpgradePlan,
     path: Option<&str>,
+    lock: Option<&Lock>,
     files: &mut S,
     out: &mut O,
     err: &mut E,
@@ -58,10 +61,12 @@ pub(crate) fn deliver_plan<S: Store, O: io::Write, E: io::Write>(
     ensures later { (S.view files.old).faults ≤ (S.view files.new).faults }
     ensures done { IfOk result (λ due. IsAnsweredWith due (Appends (O.contents out.old) (O.contents out.new))
         (Appends (E.contents err.old) (E.contents err.new)) (S.view files.old) (S.view files.new)
-        (delivery_by words.now current.now plan.now target.now (given path.entry))) }
+        (delivery_by words.now current.now plan.now target.now (given path.entry)
+        (option_map (λ l. packages_seen l.now) lock.entry))) }
     ensures stopped { OnErr result (SameFiles (S.view files.old).file_at (S.view files.new).file_at
         ⊎ IsCutShort (Appends (O.contents out.old) (O.contents out.new))
-        (delivery_by words.now current.now plan.now target.now (given path.entry))
+        (delivery_by words.now current.now plan.now target.now (given path.entry)
+        (option_map (λ l. packages_seen l.now) lock.entry))
         (S.view files.old) (S.view files.new)) }
     ensures cause { IfErr result (λ r. IsDeliveryCause plan.now words.now.options
         (S.view files.old) (S.view files.new) r.error) }
@@ -70,6 +75,8 @@ pub(crate) fn deliver_plan<S: Store, O: io::Write, E: io::Write>(
         current,
         presentation: words.presentation,
         update_calls: path,
+        lock,
+        offline: words.offline,
     };
     let inputs = target.inputs.as_slice();
     let workspace = target.workspace.as_ref();

@@ -8,8 +8,9 @@ ghost use Rattle.edit_program.specs.Upgrading.{IsBroken, IsUpgraded};
 
 use crate::upgrade_run::delivering::{deliver_plan, path_of};
 use crate::upgrade_run::plan::plan_for;
+use crate::upgrade_run::reading::{Readings, read};
 use crate::upgrade_run::words::UpgradeWords;
-use edit_steps::upgrade_read::{Sources, read_sources};
+use edit_steps::upgrade_read::Sources;
 use edit_steps::{RunResult, at_input};
 use edit_store::Store;
 use std::alloc::Global;
@@ -43,7 +44,8 @@ pub fn upgrade<S: Store, T: Store + Drop, O: io::Write, E: io::Write>(
         (T.view index_files) (S.view files.old) (S.view files.new) r.error) }
 {
     let named = path_of(alloc, current, words.update_calls)?;
-    let sources = read_sources(alloc, &words.asked(), current, cargo_home, files)?;
+    let readings = read(alloc, words, current, cargo_home, files)?;
+    let Readings { sources, lock } = readings;
     let Sources {
         target,
         configs,
@@ -55,5 +57,8 @@ pub fn upgrade<S: Store, T: Store + Drop, O: io::Write, E: io::Write>(
         Err(error) => return Err(at_input(alloc, error, &target.inputs)),
     };
     let path = named.as_deref();
-    deliver_plan(alloc, words, current, &target, &plan, path, files, out, err)
+    let lock = lock.as_ref();
+    deliver_plan(
+        alloc, words, current, &target, &plan, path, lock, files, out, err,
+    )
 }

@@ -18,11 +18,19 @@ pub struct UpgradeWords<'a> {
     /// A folder with a folder for each registry, which stands for the index in files. Where an index file is
     /// named it is not looked at.
     pub index_dir: Option<&'a str>,
+    /// A configuration file that counts before all others.
+    pub config: Option<&'a str>,
+    /// A configuration file that counts after all others.
+    pub default_config: Option<&'a str>,
     pub rust: RustChoice,
     pub options: Options,
     pub presentation: Presentation,
     /// The file to which the calls of `cargo update` are written.
     pub update_calls: Option<&'a str>,
+    /// The lock file that the calls have to be right against; where none is named they are all made.
+    pub lock_file: Option<&'a str>,
+    /// Whether calls that are right against a lock file fetch nothing.
+    pub offline: bool,
 }
 
 impl<'a> UpgradeWords<'a> {
@@ -35,6 +43,8 @@ impl<'a> UpgradeWords<'a> {
             metadata_json: self.metadata_json,
             index_file: self.index_file,
             index_dir: self.index_dir,
+            config: self.config,
+            default_config: self.default_config,
             rust: self.rust,
         }
     }

@@ -4,14 +4,16 @@ ghost use Rattle.std.specs.Io.KnownBytes.{Appends};
 ghost use Rattle.std.specs.List.{join_by};
 ghost use Rattle.edit_base.specs.Errors.{IsMemory};
 ghost use Rattle.edit_base.specs.declared.errors.Error.TheVariants.{Output};
+ghost use Rattle.edit_lock.specs.Views.{packages_seen};
 ghost use Rattle.edit_metadata.specs.Workspaces.{workspace_said};
 ghost use Rattle.edit_upgrade.specs.Asked.{asked_by, is_due};
 ghost use Rattle.edit_upgrade.specs.Pins.{IsFirstRefused};
 ghost use Rattle.edit_upgrade.specs.Views.{calls_seen, words_seen};
-ghost use Rattle.edit_program.specs.Delivery.{calls_of};
+ghost use Rattle.edit_program.specs.Delivery.{calls_against, calls_of};
 ghost use Rattle.edit_program.specs.Said.{run, runs};
 
 use edit_base::CargoResult;
+use edit_lock::{Lock, standing_calls};
 use edit_metadata::Workspace;
 use edit_report::shell_status;
 use edit_upgrade::update::update_calls;
@@ -34,6 +36,22 @@ pub(crate) fn calls_of(
     match workspace {
         Some(workspace) => update_calls(alloc, plan, workspace, options),
         None => Ok(Vec::new(alloc)),
+    }
+}
+
+/// The calls that follow a plan as they are right against the lock file, where there is one.
+pub(crate) fn calls_against(
+    alloc: Global,
+    calls: Vec<Vec<String>>,
+    lock: Option<&Lock>,
+    offline: bool,
+) -> Result<Vec<Vec<String>>, AllocError>
+    ensures { IfOk result (λ v. calls_seen v.items ≡ calls_against
+        (option_map (λ l. packages_seen l.now) lock.entry) offline (calls_seen calls.items)) }
+{
+    match lock {
+        Some(lock) => standing_calls(alloc, &calls, lock, lock, offline),
+        None => Ok(calls),
     }
 }
 

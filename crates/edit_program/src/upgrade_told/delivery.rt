@@ -10,7 +10,7 @@ ghost use Rattle.edit_program.specs.Delivery.{delivery_of};
 ghost use Rattle.edit_program.specs.Said.{AreWarningsInOrder, said};
 ghost use Rattle.edit_program.specs.Tables.{AreInOrder};
 
-use crate::upgrade_told::calls::calls_of;
+use crate::upgrade_told::calls::{calls_against, calls_of};
 use crate::upgrade_told::calls_file::calls_outputs;
 use crate::upgrade_told::carried::{carry_out, conclude};
 use crate::upgrade_told::held::{check_lock, written};
@@ -23,9 +23,9 @@ use edit_upgrade::{Options, UpgradePlan};
 use std::alloc::Global;
 use std::io;
 
-/// Prints a plan for inputs, writes its outputs, tells the calls of `cargo update` that follow where the
-/// workspace is known, writes them to the file that is named for them, refuses missing names, and prints the
-/// notes.
+/// Prints a plan for inputs, writes its outputs, prints the calls of `cargo update` that follow where the
+/// workspace is known, as they are right against the lock file where there is one, writes them to the file that
+/// is named for them, refuses missing names, and prints the notes.
 ///
 /// Nothing is written at a dry run or where the manifests are locked; if the plan has outputs where they are
 /// locked, that is a refusal.
@@ -60,7 +60,8 @@ pub fn deliver<S: Store, O: io::Write, E: io::Write>(
     ensures cause { IfErr result (λ r. IsDeliveryCause plan.now options.now
         (S.view files.old) (S.view files.new) r.error) }
 {
-    let made = calls_of(alloc, plan, options, workspace)?;
+    let due = calls_of(alloc, plan, options, workspace)?;
+    let made = calls_against(alloc, due, telling.lock, telling.offline)?;
     let calls = made.as_slice();
     let outputs = calls_outputs(alloc, options, telling.update_calls, calls)?;
     let file = outputs.as_slice();

@@ -49,5 +49,9 @@ pub struct Asked<'a> {
     pub index_file: Option<&'a str>,
     /// A folder with a folder for each registry. Where an index file is named it is not looked at.
     pub index_dir: Option<&'a str>,
+    /// A configuration file that counts before all others.
+    pub config: Option<&'a str>,
+    /// A configuration file that counts after all others.
+    pub default_config: Option<&'a str>,
     pub rust: RustChoice,
 }

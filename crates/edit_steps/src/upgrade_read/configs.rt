@@ -1,36 +1,79 @@
 //! The configurations of the manifests.
 ghost use Rattle.std.specs.Prelude.{◌≡◌, ◌⊎◌, IfErr, IfOk, length, true};
+ghost use Rattle.edit_base.specs.Errors.{IsMemory};
 ghost use Rattle.edit_base.specs.declared.errors.DeviceCall.TheVariants as call;
+ghost use Rattle.edit_sources.specs.ConfigurationFiles.{ConfigsFail, HasFailed};
 ghost use Rattle.edit_sources.specs.Configured.{given};
+ghost use Rattle.edit_sources.specs.KeptConfigs.{AreKept};
 ghost use Rattle.edit_store.specs.Store.{OnlyReads, RefusesCall};
 ghost use Rattle.edit_steps.specs.Causes.{IsUnconfigured};
-ghost use Rattle.edit_steps.specs.Sources.{AreConfigured};
+ghost use Rattle.edit_steps.specs.Named.{AreConfigured, AreGathered, IsUnreadFile, pair_of};
 
+use crate::upgrade_read::named::{NamedFiles, configs_in};
 use edit_base::CargoResult;
 use edit_metadata::Input;
 use edit_sources::{Config, ConfigCache};
 use edit_store::Store;
 use std::alloc::Global;
 
+/// The configurations of a manifest, the first one first, between those of the files that are named.
+fn gather<S: Store>(
+    alloc: Global,
+    named: &NamedFiles,
+    manifest: &str,
+    cargo_home: Option<&str>,
+    cache: &mut ConfigCache,
+    files: &mut S,
+) -> CargoResult<Vec<Config>>
+    ensures store { OnlyReads (S.view files.old) (S.view files.new) }
+    ensures kept { AreKept (S.view files.old) cache.old → AreKept (S.view files.new) cache.new }
+    ensures read { IfOk result (λ v. AreKept (S.view files.old) cache.old
+        → (S.view files.old).tells ≡ true → AreGathered (S.view files.old).file_at
+        (given cargo_home.entry) (pair_of named.now) manifest.now v.items) }
+    ensures refused { IfErr result (λ e. IsMemory e
+        ⊎ (HasFailed (S.view files.old).faults (S.view files.new).faults e
+        ⊎ (IsUnreadFile (pair_of named.now).first e ⊎ (IsUnreadFile (pair_of named.now).last e
+        ⊎ ConfigsFail (S.view files.old).tells (S.view files.old).file_at manifest.now
+        (given cargo_home.entry) e)))) }
+{
+    let mut configs = configs_in(alloc, named.first.as_ref())?;
+    let mut own = match cache.read_configs(alloc, files, manifest, cargo_home) {
+        Ok(own) => own,
+        Err(error) => return Err(error),
+    };
+    configs.append(&mut own)?;
+    let mut last = configs_in(alloc, named.last.as_ref())?;
+    configs.append(&mut last)?;
+    Ok(configs)
+}
+
 /// Reads the configurations of each of the inputs, in their order, and each file once.
 pub(crate) fn read_all<S: Store>(
     alloc: Global,
+    named: &NamedFiles,
     inputs: &[Input],
     cargo_home: Option<&str>,
     files: &mut S,
 ) -> CargoResult<Vec<Vec<Config>>>
     ensures store { OnlyReads (S.view files.old) (S.view files.new) }
-    ensures read { IfOk result (λ v. (S.view files.old).tells ≡ true
-        → AreConfigured (S.view files.old).file_at (given cargo_home.entry) inputs.now v.items) }
+    ensures read { IfOk result (λ v. (S.view files.old).tells ≡ true → AreConfigured
+        (S.view files.old).file_at (given cargo_home.entry) (pair_of named.now) inputs.now v.items) }
     ensures each { IfOk result (λ v. length v.items ≡ length inputs.now) }
     ensures refused { IfErr result (λ e. RefusesCall call.Read (S.view files.old) (S.view files.new) e
-        ⊎ ((S.view files.old).tells ≡ true
-        → IsUnconfigured (S.view files.old).file_at (given cargo_home.entry) inputs.now e)) }
+        ⊎ ((S.view files.old).tells ≡ true → IsUnconfigured (S.view files.old).file_at
+        (given cargo_home.entry) (pair_of named.now) inputs.now e)) }
 {
     let mut cache = ConfigCache::new(alloc);
     let mut all = Vec::new(alloc);
     'inputs: for input in inputs {
-        let configs = match cache.read_configs(alloc, files, input.path.as_str(), cargo_home) {
+        let configs = match gather(
+            alloc,
+            named,
+            input.path.as_str(),
+            cargo_home,
+            &mut cache,
+            files,
+        ) {
             Ok(configs) => configs,
             Err(error) => return Err(error),
         };

@@ -10,6 +10,7 @@ use crate::RunResult;
 use crate::upgrade_read::asked::Asked;
 use crate::upgrade_read::configs::read_all;
 use crate::upgrade_read::index::{IndexSource, read_index};
+use crate::upgrade_read::named::read_named;
 use crate::upgrade_read::target::{Target, read_target};
 use edit_sources::Config;
 use edit_store::Store;
@@ -26,8 +27,8 @@ pub struct Sources {
 }
 
 /// Reads what an upgrade rests on, in this order: the metadata that are named with their manifests, else the
-/// manifest that is found; the configurations of each; the file of an index that is named. Nothing is read of
-/// an index in a folder, and no file changes.
+/// manifest that is found; the configuration files that are named; the configurations of each manifest; the
+/// file of an index that is named. Nothing is read of an index in a folder, and no file changes.
 pub fn read_sources<S: Store>(
     alloc: Global,
     asked: &Asked<'_>,
@@ -44,7 +45,8 @@ pub fn read_sources<S: Store>(
         (asking_of asked.now) (S.view files.old) (S.view files.new) r.error) }
 {
     let target = read_target(alloc, asked, current, files)?;
-    let configs = read_all(alloc, &target.inputs, cargo_home, files)?;
+    let named = read_named(alloc, asked, current, files)?;
+    let configs = read_all(alloc, &named, &target.inputs, cargo_home, files)?;
     let index = read_index(alloc, asked.index_file, asked.index_dir, current, files)?;
     Ok(Sources {
         target,

@@ -18,6 +18,8 @@ const FILES: &str = "\
 ~/w/.cargo/config.toml [source]@\
 ~/w/b/.cargo/config [source]@\
 ~/h/config.toml [source]@\
+~/w/near.toml [source.near]@\
+~/w/far.toml [source.far]@\
 ~/w/index {'name':'x','vers':'1.0.0','deps':[],'cksum':'','features':{},'yanked':false}@\
 ~/w/bad_index {}@\
 ~/w/all.json {'workspace_root':'/w','workspace_members':['/w/a','/w/b','/w/c'],'packages':[\
@@ -87,14 +89,16 @@ fn choice(rt: &impl Abort, alloc: Global, word: Option<&str>) -> RustChoice {
     }
 }
 
-/// What is asked for: the words name a manifest and metadata; and an index, the choice of a Rust version and
-/// a folder of registries.
+/// What is asked for: the words name a manifest and metadata; and an index, the choice of a Rust version, a
+/// folder of registries, and the configuration files that count before and after all others.
 fn asked<'a>(rt: &impl Abort, alloc: Global, target: &'a str, more: &'a str) -> Asked<'a> {
     Asked {
         manifest_path: nth(target, 0),
         metadata_json: nth(target, 1),
         index_file: nth(more, 0),
         index_dir: nth(more, 2),
+        config: nth(more, 3),
+        default_config: nth(more, 4),
         rust: choice(rt, alloc, nth(more, 1)),
     }
 }
@@ -115,7 +119,8 @@ fn read(rt: &impl Abort, alloc: Global, target: &str, more: &str) -> String {
     answered(rt, alloc, &asked, &mut store)
 }
 
-/// What is read; the manifest and the metadata that are named; the index, the Rust version and the folder.
+/// What is read; the manifest and the metadata that are named; the index, the Rust version, the folder, and the
+/// two configuration files.
 const READ: &str = "\
 a /w/a/Cargo.toml 1.70.0 2; files, 1|- -|- -\
 ~virtual workspace /w/Cargo.toml - 2; a file, 1|/w -|../../index -\
@@ -129,7 +134,11 @@ of/w/c /w/c/Cargo.toml - 2; files, 0|- /w/all.json|- !\
 ~a /w/a/Cargo.toml 1.70.0 2; /w/a/registries, 1|- -|- - ../registries\
 ~a /w/a/Cargo.toml 1.70.0 2; /r, 1|- -|- - /r/\
 ~virtual workspace /w/Cargo.toml - 2; a file, 1|/w -|../../index - /r\
-~30 Invalid index line 1|- -|/w/bad_index - /r";
+~30 Invalid index line 1|- -|/w/bad_index - /r\
+~a /w/a/Cargo.toml 1.70.0 4; files, 1|- -|- - - /w/near.toml ../../far.toml\
+~a /w/a/Cargo.toml 1.70.0 3; files, 1|- -|- - - - ../../far.toml\
+~6 Failed to get cargo file metadata|- -|- - - /w/none.toml ../../far.toml\
+~31 invalid cargo config at /w/c/Cargo.toml|- -|- - - - /w/c/Cargo.toml";
 
 #[test]
 fn reads_sources(rt: HostRuntime) {

@@ -29,6 +29,9 @@ returns-clause-asks c =
       metadata = kept_is c.args.matches.now (codes "metadata-json") c.get_str-3.result _ refl c.get_str-3.ensures;
       index = kept_is c.args.matches.now (codes "index-file") c.get_str-4.result _ refl c.get_str-4.ensures;
       folder = kept_is c.args.matches.now (codes "index-dir") c.get_str-5.result _ refl c.get_str-5.ensures;
+      config = kept_is c.args.matches.now (codes "config") c.get_str-6.result _ refl c.get_str-6.ensures;
+      default_config = kept_is c.args.matches.now (codes "default-config") c.get_str-7.result _ refl
+          c.get_str-7.ensures;
       one_index = search rules;
       rust = subst (λ (b : Bool). IsRust (first_of (codes "rust-version") rows) b c.in_ok-rust.rust)
           c.is_given-ignored.ensures
@@ -36,5 +39,7 @@ returns-clause-asks c =
           c.in_ok-rust.ensures.ok);
       options = c.in_ok-options_of.ensures.options;
       presentation = c.in_ok-presentation.ensures.ok;
-      calls = kept_is c.args.matches.now (codes "update-calls") c.get_str-6.result _ refl c.get_str-6.ensures;
+      calls = kept_is c.args.matches.now (codes "update-calls") c.get_str-8.result _ refl c.get_str-8.ensures;
+      lock = kept_is c.args.matches.now (codes "lock-file") c.get_str-9.result _ refl c.get_str-9.ensures;
+      offline = search rules;
     }

@@ -12,7 +12,7 @@ pub returns-clause-done : goal.returns-clause-done
 returns-clause-done g c =
     let old = g.S.Store.view c.args.files.now in
     let new = g.S.Store.view c.deliver.new.files in
-    let same = same_delivery c.args.words.now c.args.current c.args.plan.now c.args.target.now c.args.path
+    let same = same_delivery c.args.words.now c.args.current c.args.plan.now c.args.target.now c.args.path c.args.lock
     c.as_slice-inputs.result.now c.as_ref-workspace.result c.as_slice-inputs.ensures.value
     c.as_ref-workspace.ensures.value in
     record {
@@ -31,7 +31,7 @@ returns-in_err-deliver-clause-stopped g c =
     on_refusal c.from_residual.result _
     (subst (λ d. SameFiles old.file_at new.file_at ⊎ IsCutShort
     (Appends (g.O.Write.contents c.args.out.now) (g.O.Write.contents c.deliver.new.out)) d old new)
-    (same_delivery c.args.words.now c.args.current c.args.plan.now c.args.target.now c.args.path
+    (same_delivery c.args.words.now c.args.current c.args.plan.now c.args.target.now c.args.path c.args.lock
     c.as_slice-inputs.result.now c.as_ref-workspace.result c.as_slice-inputs.ensures.value
     c.as_ref-workspace.ensures.value)
     c.in_err-deliver.ensures.stopped)

@@ -1,4 +1,4 @@
-use Rattle.std.proofs.Common.{◌≡◌, subst, sym, true}
+use Rattle.std.proofs.Common.{◌≡◌, option_map, subst, sym, true}
 use Rattle.std.proofs.lemmas.Result.{IfErr-weaker, IfOk-weaker, on_err_weaker}
 use Rattle.std.specs.Prelude.{◌⊎◌}
 use Rattle.std.specs.Io.KnownBytes.{Appends}
@@ -9,25 +9,25 @@ use Rattle.edit_steps.specs.Causes.{IsReadCause}
 use Rattle.edit_steps.specs.Sources.{AreRead}
 use Rattle.edit_program.specs.UpgradeCauses.{IsUpgradeCause}
 use Rattle.edit_program.specs.Planned.{IsPlanCause, IsPlanned, index_view}
+use Rattle.edit_lock.specs.Views.{packages_seen}
+use Rattle.edit_program.specs.LockRead.{IsLockRead}
 use Rattle.edit_program.specs.Upgrading.{IsPathOf, IsRead}
 use Rattle.edit_program.proofs.OrderLemmas.{rows_in_order, warnings_in_order}
-use Rattle.edit_program.proofs.UpgradeLemmas.{broken, plan_cause, plan_paths, read_cause, stop_cause, upgraded}
+use Rattle.edit_program.proofs.UpgradeLemmas.{broken, plan_cause, lock_cause, plan_paths, same_lock, stop_cause, upgraded}
 use Rattle.edit_program.proofs.upgrade_run.upgrading.upgrade.Goals as goal
 
-pub returns-in_err-sources-clause-why : goal.returns-in_err-sources-clause-why
-returns-in_err-sources-clause-why g c =
+pub returns-in_err-readings-clause-why : goal.returns-in_err-readings-clause-why
+returns-in_err-readings-clause-why g c =
     let words = c.args.words.now in
     let current = c.args.current.now in
     let home = given c.args.cargo_home in
     let local = g.T.Store.view c.args.index_files in
     let old = g.S.Store.view c.args.files.now in
-    let mid = g.S.Store.view c.read_sources.new.files in
-    let e = c.in_err-sources.field-0.0 in
-    refusal_has c.from_residual-in_err-sources.result e (λ error. IsUpgradeCause words current home local old mid error)
-    c.from_residual-in_err-sources.ensures.1
-    (read_cause words current home local old mid e.error
-    (subst (λ a. IsReadCause current home a old mid e.error) c.asked.ensures
-    c.in_err-sources.ensures.refused))
+    let mid = g.S.Store.view c.read.new.files in
+    let e = c.in_err-readings.field-0.0 in
+    refusal_has c.from_residual-in_err-readings.result e
+    (λ error. IsUpgradeCause words current home local old mid error) c.from_residual-in_err-readings.ensures.1
+    (lock_cause words current home local old mid e.error c.in_err-readings.ensures.refused)
 
 pub returns-in-Err-clause-why : goal.returns-in-Err-clause-why
 returns-in-Err-clause-why g c =
@@ -36,10 +36,10 @@ returns-in-Err-clause-why g c =
     let home = given c.args.cargo_home in
     let local = g.T.Store.view c.args.index_files in
     let old = g.S.Store.view c.args.files.now in
-    let mid = g.S.Store.view c.read_sources.new.files in
-    let s = c.in_ok-sources.sources in
+    let mid = g.S.Store.view c.read.new.files in
+    let s = c.in_ok-readings.readings.sources in
     let read : old.tells ≡ true → IsRead words current home old.file_at s =
-    λ t. subst (λ a. AreRead old.file_at current home a s) c.asked.ensures (c.in_ok-sources.ensures.read t) in
+    c.in_ok-readings.ensures.read in
     subst (λ e. IsUpgradeCause words current home local old mid e) (sym c.at_input.ensures)
     (plan_cause words current home local old mid s c.in-Err.error read
     (subst (λ cs. IsMemory c.in-Err.error
@@ -49,20 +49,20 @@ returns-in-Err-clause-why g c =
 pub deliver_plan-requires-clause-outputs : goal.deliver_plan-requires-clause-outputs
 deliver_plan-requires-clause-outputs g c =
     let words = c.args.words.now in
-    let s = c.in_ok-sources.sources in
+    let s = c.in_ok-readings.readings.sources in
     let local = g.T.Store.view c.args.index_files in
-    plan_paths words s local c.in-Ok.plan c.in_ok-sources.ensures.planned.paths
+    plan_paths words s local c.in-Ok.plan c.in_ok-readings.ensures.planned.paths
     (subst (λ cs. IsPlanned words.options s.target.inputs.items cs (index_view s.index local) c.in-Ok.plan)
     c.deref.ensures.value c.in-Ok.ensures.planned)
 
 pub deliver_plan-requires-clause-rows : goal.deliver_plan-requires-clause-rows
 deliver_plan-requires-clause-rows g c =
-    rows_in_order c.in_ok-sources.sources.target.inputs.items c.in-Ok.plan
+    rows_in_order c.in_ok-readings.readings.sources.target.inputs.items c.in-Ok.plan
     c.in-Ok.ensures.planned.is.rows_in_order
 
 pub deliver_plan-requires-clause-warnings : goal.deliver_plan-requires-clause-warnings
 deliver_plan-requires-clause-warnings g c =
-    warnings_in_order c.in_ok-sources.sources.target.inputs.items c.in-Ok.plan
+    warnings_in_order c.in_ok-readings.readings.sources.target.inputs.items c.in-Ok.plan
     c.in-Ok.ensures.planned.is.warnings_in_order
 
 pub returns-clause-done : goal.returns-clause-done
@@ -72,22 +72,27 @@ returns-clause-done g c =
     let home = given c.args.cargo_home in
     let local = g.T.Store.view c.args.index_files in
     let old = g.S.Store.view c.args.files.now in
-    let mid = g.S.Store.view c.read_sources.new.files in
+    let mid = g.S.Store.view c.read.new.files in
     let new = g.S.Store.view c.deliver_plan.new.files in
     let Shows = Appends (g.O.Write.contents c.args.out.now) (g.O.Write.contents c.deliver_plan.new.out) in
     let Says = Appends (g.E.Write.contents c.args.err.now) (g.E.Write.contents c.deliver_plan.new.err) in
-    let s = c.in_ok-sources.sources in
+    let s = c.in_ok-readings.readings.sources in
     let plan = c.in-Ok.plan in
     let path = given c.as_deref-path.result in
     let read : old.tells ≡ true → IsRead words current home old.file_at s =
-    λ t. subst (λ a. AreRead old.file_at current home a s) c.asked.ensures (c.in_ok-sources.ensures.read t) in
+    c.in_ok-readings.ensures.read in
     let planned = subst (λ cs. IsPlanned words.options s.target.inputs.items cs (index_view s.index local) plan)
     c.deref.ensures.value c.in-Ok.ensures.planned in
     let at = subst (IsPathOf current (given words.update_calls)) (sym c.as_deref-path.ensures.value)
     c.in_ok-named.ensures.path in
+    let lock = option_map (λ l. packages_seen l.now) c.as_ref-lock.result in
+    let locked : old.tells ≡ true → IsLockRead old.file_at current (given words.lock_file) lock =
+    λ t. subst (IsLockRead old.file_at current (given words.lock_file))
+    (sym (same_lock c.as_ref-lock.result c.in_ok-readings.readings.lock c.as_ref-lock.ensures.value))
+    (c.in_ok-readings.ensures.locked t) in
     IfOk-weaker c.deliver_plan.result _ _
-    (λ due. upgraded due Shows Says words current home local old mid new s plan path
-    c.in_ok-sources.ensures.store read planned at)
+    (λ due. upgraded due Shows Says words current home local old mid new s plan path lock
+    c.in_ok-readings.ensures.store read planned at locked)
     c.deliver_plan.ensures.done
 
 pub returns-clause-refused : goal.returns-clause-refused
@@ -97,21 +102,26 @@ returns-clause-refused g c =
     let home = given c.args.cargo_home in
     let local = g.T.Store.view c.args.index_files in
     let old = g.S.Store.view c.args.files.now in
-    let mid = g.S.Store.view c.read_sources.new.files in
+    let mid = g.S.Store.view c.read.new.files in
     let new = g.S.Store.view c.deliver_plan.new.files in
     let Shows = Appends (g.O.Write.contents c.args.out.now) (g.O.Write.contents c.deliver_plan.new.out) in
-    let s = c.in_ok-sources.sources in
+    let s = c.in_ok-readings.readings.sources in
     let plan = c.in-Ok.plan in
     let path = given c.as_deref-path.result in
     let read : old.tells ≡ true → IsRead words current home old.file_at s =
-    λ t. subst (λ a. AreRead old.file_at current home a s) c.asked.ensures (c.in_ok-sources.ensures.read t) in
+    c.in_ok-readings.ensures.read in
     let planned = subst (λ cs. IsPlanned words.options s.target.inputs.items cs (index_view s.index local) plan)
     c.deref.ensures.value c.in-Ok.ensures.planned in
     let at = subst (IsPathOf current (given words.update_calls)) (sym c.as_deref-path.ensures.value)
     c.in_ok-named.ensures.path in
+    let lock = option_map (λ l. packages_seen l.now) c.as_ref-lock.result in
+    let locked : old.tells ≡ true → IsLockRead old.file_at current (given words.lock_file) lock =
+    λ t. subst (IsLockRead old.file_at current (given words.lock_file))
+    (sym (same_lock c.as_ref-lock.result c.in_ok-readings.readings.lock c.as_ref-lock.ensures.value))
+    (c.in_ok-readings.ensures.locked t) in
     on_err_weaker c.deliver_plan.result
-    (λ h. broken Shows words current home local old mid new s plan path c.in_ok-sources.ensures.store read
-    planned at h)
+    (λ h. broken Shows words current home local old mid new s plan path lock c.in_ok-readings.ensures.store
+    read planned at locked h)
     c.deliver_plan.ensures.stopped
 
 pub returns-clause-why : goal.returns-clause-why
@@ -121,18 +131,23 @@ returns-clause-why g c =
     let home = given c.args.cargo_home in
     let local = g.T.Store.view c.args.index_files in
     let old = g.S.Store.view c.args.files.now in
-    let mid = g.S.Store.view c.read_sources.new.files in
+    let mid = g.S.Store.view c.read.new.files in
     let new = g.S.Store.view c.deliver_plan.new.files in
-    let s = c.in_ok-sources.sources in
+    let s = c.in_ok-readings.readings.sources in
     let plan = c.in-Ok.plan in
     let path = given c.as_deref-path.result in
     let read : old.tells ≡ true → IsRead words current home old.file_at s =
-    λ t. subst (λ a. AreRead old.file_at current home a s) c.asked.ensures (c.in_ok-sources.ensures.read t) in
+    c.in_ok-readings.ensures.read in
     let planned = subst (λ cs. IsPlanned words.options s.target.inputs.items cs (index_view s.index local) plan)
     c.deref.ensures.value c.in-Ok.ensures.planned in
     let at = subst (IsPathOf current (given words.update_calls)) (sym c.as_deref-path.ensures.value)
     c.in_ok-named.ensures.path in
+    let lock = option_map (λ l. packages_seen l.now) c.as_ref-lock.result in
+    let locked : old.tells ≡ true → IsLockRead old.file_at current (given words.lock_file) lock =
+    λ t. subst (IsLockRead old.file_at current (given words.lock_file))
+    (sym (same_lock c.as_ref-lock.result c.in_ok-readings.readings.lock c.as_ref-lock.ensures.value))
+    (c.in_ok-readings.ensures.locked t) in
     IfErr-weaker c.deliver_plan.result _ _
-    (λ r. stop_cause words current home local old mid new s plan path r.error c.in_ok-sources.ensures.store read
-    planned at)
+    (λ r. stop_cause words current home local old mid new s plan path lock r.error
+    c.in_ok-readings.ensures.store read planned at locked)
     c.deliver_plan.ensures.cause

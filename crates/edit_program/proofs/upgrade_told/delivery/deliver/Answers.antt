@@ -7,14 +7,14 @@ use Rattle.edit_steps.proofs.Refusals.{on_refusal, refusal_made}
 use Rattle.edit_upgrade.specs.Views.{calls_seen}
 use Rattle.edit_program.specs.Delivered.{AreBothWritten, HaveStopped}
 use Rattle.edit_program.specs.Said.{runs}
-use Rattle.edit_program.proofs.DeliveryLemmas.{calls_cause, delivered, end_cause, told_to}
+use Rattle.edit_program.proofs.DeliveryLemmas.{calls_cause, delivered, end_cause, told_calls, told_to}
 use Rattle.edit_program.proofs.upgrade_told.delivery.deliver.Goals as goal
 
-pub returns-in_err-made-clause-cause : goal.returns-in_err-made-clause-cause
-returns-in_err-made-clause-cause g c =
-    refusal_made c.from_residual.result c.in_err-made.field-0.0 _ c.from_residual.ensures.1
+pub returns-in_err-due-clause-cause : goal.returns-in_err-due-clause-cause
+returns-in_err-due-clause-cause g c =
+    refusal_made c.from_residual.result c.in_err-due.field-0.0 _ c.from_residual.ensures.1
     (calls_cause c.args.plan.now c.args.options.now (g.S.Store.view c.args.files.now)
-    (g.S.Store.view c.args.files.now) c.in_err-made.field-0.0 c.in_err-made.ensures.refused)
+    (g.S.Store.view c.args.files.now) c.in_err-due.field-0.0 c.in_err-due.ensures.refused)
 
 pub returns-in_err-carry_out-clause-stopped : goal.returns-in_err-carry_out-clause-stopped
 returns-in_err-carry_out-clause-stopped g c =
@@ -23,7 +23,8 @@ returns-in_err-carry_out-clause-stopped g c =
     c.args.plan.now c.args.inputs.now (option_map (λ w. workspace_said w.now) c.args.workspace)
     c.args.options.now c.args.telling.now (g.S.Store.view c.args.files.now)
     (g.S.Store.view c.carry_out.new.files) _ _ _ _
-    (ap calls_seen c.as_slice-calls.ensures.value ∙ c.in_ok-made.ensures.calls)
+    (told_calls c.args.telling.now.lock c.args.telling.now.offline _ _ _ _ c.as_slice-calls.ensures.value c.in_ok-made.ensures
+    c.in_ok-due.ensures.calls)
     c.in_ok-print_plan.ensures.shows c.in_ok-check_lock.ensures.ok c.written.ensures
     c.as_slice-file.ensures.value c.in_ok-outputs.ensures.file c.in_err-carry_out.ensures.stopped)))
 
@@ -35,7 +36,8 @@ returns-clause-done g c =
     c.args.plan.now c.args.inputs.now (option_map (λ w. workspace_said w.now) c.args.workspace)
     c.args.options.now c.args.telling.now (g.S.Store.view c.args.files.now)
     (g.S.Store.view c.carry_out.new.files) _ _ _ _
-    (ap calls_seen c.as_slice-calls.ensures.value ∙ c.in_ok-made.ensures.calls)
+    (told_calls c.args.telling.now.lock c.args.telling.now.offline _ _ _ _ c.as_slice-calls.ensures.value c.in_ok-made.ensures
+    c.in_ok-due.ensures.calls)
     c.in_ok-print_plan.ensures.shows c.in_ok-check_lock.ensures.ok c.written.ensures
     c.as_slice-file.ensures.value c.in_ok-outputs.ensures.file c.in_ok-carry_out.ensures.written) complete)
     c.conclude.ensures.complete
@@ -47,7 +49,8 @@ returns-clause-stopped g c =
     c.args.plan.now c.args.inputs.now (option_map (λ w. workspace_said w.now) c.args.workspace)
     c.args.options.now c.args.telling.now (g.S.Store.view c.args.files.now)
     (g.S.Store.view c.carry_out.new.files) _ _ _ _
-    (ap calls_seen c.as_slice-calls.ensures.value ∙ c.in_ok-made.ensures.calls)
+    (told_calls c.args.telling.now.lock c.args.telling.now.offline _ _ _ _ c.as_slice-calls.ensures.value c.in_ok-made.ensures
+    c.in_ok-due.ensures.calls)
     c.in_ok-print_plan.ensures.shows c.in_ok-check_lock.ensures.ok c.written.ensures
     c.as_slice-file.ensures.value c.in_ok-outputs.ensures.file c.in_ok-carry_out.ensures.written)))
 
@@ -61,7 +64,8 @@ returns-clause-said g c =
     (λ notes. Appends-trans a b e _ _ c.in_ok-print_plan.ensures.checks
     (Appends-trans b d e _ _
     (subst (λ calls. Appends b d (runs calls))
-    (ap calls_seen c.as_slice-calls.ensures.value ∙ c.in_ok-made.ensures.calls)
+    (told_calls c.args.telling.now.lock c.args.telling.now.offline _ _ _ _ c.as_slice-calls.ensures.value c.in_ok-made.ensures
+    c.in_ok-due.ensures.calls)
     c.in_ok-carry_out.ensures.text) notes))
     c.conclude.ensures.text
 

@@ -2,7 +2,7 @@ use Rattle.std.proofs.Common.{◌≡◌, length, take, true}
 use Rattle.edit_sources.specs.Configured.{given}
 use Rattle.edit_sources.specs.KeptConfigs.{AreKept}
 use Rattle.edit_store.specs.Store.{OnlyReads}
-use Rattle.edit_steps.specs.Sources.{AreConfigured}
+use Rattle.edit_steps.specs.Named.{AreConfigured, pair_of}
 use Rattle.edit_steps.proofs.upgrade_read.configs.read_all.Given as goal
 
 abbrev pub invariant-inputs : goal.invariant-inputs
@@ -12,5 +12,5 @@ invariant-inputs g l = record {
   each : length l.all.items ≡ length (take l.input-index l.inputs);
   read : (g.S.Store.view l.initial.files).tells ≡ true
       → AreConfigured (g.S.Store.view l.initial.files).file_at (given l.cargo_home)
-      (take l.input-index l.inputs) l.all.items;
+      (pair_of l.named) (take l.input-index l.inputs) l.all.items;
 }

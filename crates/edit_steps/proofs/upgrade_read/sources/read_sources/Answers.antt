@@ -2,11 +2,14 @@ use Rattle.std.proofs.Common.{◌≡◌, ◌⊎◌, subst, true}
 use Rattle.edit_base.specs.declared.errors.DeviceCall.TheVariants as call
 use Rattle.edit_sources.specs.Configured.{given}
 use Rattle.edit_steps.proofs.Refusals.{refusal_has, refusal_made}
-use Rattle.edit_store.specs.Store.{RefusesCall}
+use Rattle.edit_store.specs.Store.{OnlyReads, RefusesCall}
 use Rattle.edit_steps.specs.Asking.{asking_of}
 use Rattle.edit_steps.specs.Causes.{IsUnconfigured}
-use Rattle.edit_steps.specs.Sources.{AreConfigured}
-use Rattle.edit_steps.proofs.ReadLemmas.{config_cause, index_cause, target_cause}
+use Rattle.edit_metadata.proofs.InputLemmas.{reads-on}
+use Rattle.edit_steps.proofs.ReadLemmas.{before}
+use Rattle.edit_steps.specs.Named.{AreConfigured, ArePairRead, pair_of}
+use Rattle.edit_steps.specs.Sources.{IsIndexRead}
+use Rattle.edit_steps.proofs.ReadLemmas.{config_cause, index_cause, named_cause, target_cause}
 use Rattle.edit_steps.proofs.upgrade_read.sources.read_sources.Goals as goal
 
 pub returns-in_err-target-clause-refused : goal.returns-in_err-target-clause-refused
@@ -16,20 +19,32 @@ returns-in_err-target-clause-refused g c =
     (g.S.Store.view c.args.files.now) (g.S.Store.view c.read_target.new.files)
     c.in_err-target.field-0.0.error c.in_err-target.ensures.refused)
 
+pub returns-in_err-named-clause-refused : goal.returns-in_err-named-clause-refused
+returns-in_err-named-clause-refused g c =
+    refusal_has c.from_residual-in_err-named.result c.in_err-named.field-0.0 _
+    c.from_residual-in_err-named.ensures.1
+    (named_cause c.args.current.now (given c.args.cargo_home) (asking_of c.args.asked.now)
+    (g.S.Store.view c.args.files.now) (g.S.Store.view c.read_target.new.files)
+    (g.S.Store.view c.read_named.new.files) c.in_ok-target.target.workspace
+    c.in_ok-target.target.inputs.items c.in_err-named.field-0.0.error c.in_ok-target.ensures.store
+    c.in_ok-target.ensures.read c.in_err-named.ensures.refused)
+
 pub returns-in_err-configs-clause-refused : goal.returns-in_err-configs-clause-refused
 returns-in_err-configs-clause-refused g c =
     refusal_made c.from_residual-in_err-configs.result c.in_err-configs.field-0.0 _
     c.from_residual-in_err-configs.ensures.1
     (config_cause c.args.current.now (given c.args.cargo_home) (asking_of c.args.asked.now)
     (g.S.Store.view c.args.files.now) (g.S.Store.view c.read_target.new.files)
-    (g.S.Store.view c.read_all.new.files) c.in_ok-target.target.workspace
-    c.in_ok-target.target.inputs.items c.in_err-configs.field-0.0 c.in_ok-target.ensures.store
-    c.in_ok-target.ensures.read
-    (subst (λ is. RefusesCall call.Read (g.S.Store.view c.read_target.new.files)
+    (g.S.Store.view c.read_named.new.files) (g.S.Store.view c.read_all.new.files)
+    c.in_ok-target.target.workspace c.in_ok-target.target.inputs.items (pair_of c.in_ok-named.named)
+    c.in_err-configs.field-0.0 c.in_ok-target.ensures.store c.in_ok-named.ensures.store
+    c.in_ok-target.ensures.read c.in_ok-named.ensures.read
+    (subst (λ is. RefusesCall call.Read (g.S.Store.view c.read_named.new.files)
     (g.S.Store.view c.read_all.new.files) c.in_err-configs.field-0.0
-    ⊎ ((g.S.Store.view c.read_target.new.files).tells ≡ true
-    → IsUnconfigured (g.S.Store.view c.read_target.new.files).file_at (given c.args.cargo_home) is
-    c.in_err-configs.field-0.0)) c.deref.ensures.value c.in_err-configs.ensures.refused))
+    ⊎ ((g.S.Store.view c.read_named.new.files).tells ≡ true
+    → IsUnconfigured (g.S.Store.view c.read_named.new.files).file_at (given c.args.cargo_home)
+    (pair_of c.in_ok-named.named) is c.in_err-configs.field-0.0)) c.deref.ensures.value
+    c.in_err-configs.ensures.refused))
 
 pub returns-in_err-index-clause-refused : goal.returns-in_err-index-clause-refused
 returns-in_err-index-clause-refused g c =
@@ -37,10 +52,36 @@ returns-in_err-index-clause-refused g c =
     c.from_residual-in_err-index.ensures.1
     (index_cause c.args.current.now (given c.args.cargo_home) (asking_of c.args.asked.now)
     (g.S.Store.view c.args.files.now) (g.S.Store.view c.read_target.new.files)
-    (g.S.Store.view c.read_all.new.files) (g.S.Store.view c.read_index.new.files)
-    c.in_ok-target.target.workspace c.in_ok-target.target.inputs.items c.in_ok-configs.configs.items
-    c.in_err-index.field-0.0.error c.in_ok-target.ensures.store c.in_ok-configs.ensures.store
-    c.in_ok-target.ensures.read
-    (λ t. subst (λ is. AreConfigured (g.S.Store.view c.read_target.new.files).file_at
-    (given c.args.cargo_home) is c.in_ok-configs.configs.items) c.deref.ensures.value
-    (c.in_ok-configs.ensures.read t)) c.in_err-index.ensures.refused)
+    (g.S.Store.view c.read_named.new.files) (g.S.Store.view c.read_all.new.files)
+    (g.S.Store.view c.read_index.new.files) c.in_ok-target.target.workspace
+    c.in_ok-target.target.inputs.items (pair_of c.in_ok-named.named) c.in_ok-configs.configs.items
+    c.in_err-index.field-0.0.error c.in_ok-target.ensures.store c.in_ok-named.ensures.store
+    c.in_ok-configs.ensures.store c.in_ok-target.ensures.read c.in_ok-named.ensures.read
+    (λ t. subst (λ is. AreConfigured (g.S.Store.view c.read_named.new.files).file_at
+    (given c.args.cargo_home) (pair_of c.in_ok-named.named) is c.in_ok-configs.configs.items)
+    c.deref.ensures.value (c.in_ok-configs.ensures.read t)) c.in_err-index.ensures.refused)
+
+pub returns-clause-read : goal.returns-clause-read
+returns-clause-read g c = λ t.
+    let old = g.S.Store.view c.args.files.now in
+    let found = g.S.Store.view c.read_target.new.files in
+    let named = g.S.Store.view c.read_named.new.files in
+    let all = g.S.Store.view c.read_all.new.files in
+    let current = c.args.current.now in
+    let home = given c.args.cargo_home in
+    let asking = asking_of c.args.asked.now in
+    let pair = pair_of c.in_ok-named.named in
+    let configs = c.in_ok-configs.configs.items in
+    let upto : OnlyReads old named
+    = reads-on old found named c.in_ok-target.ensures.store c.in_ok-named.ensures.store in
+    record {
+      target = c.in_ok-target.ensures.read t;
+      pair = pair;
+      named = before (λ files. ArePairRead files current asking pair) old found c.in_ok-target.ensures.store
+          c.in_ok-named.ensures.read t;
+      configured = before (λ files. AreConfigured files home pair c.in_ok-target.target.inputs.items configs)
+          old named upto (λ u. subst (λ is. AreConfigured named.file_at home pair is configs)
+          c.deref.ensures.value (c.in_ok-configs.ensures.read u)) t;
+      indexed = before (λ files. IsIndexRead files current asking c.in_ok-index.index) old all
+          (reads-on old named all upto c.in_ok-configs.ensures.store) c.in_ok-index.ensures.read t;
+    }

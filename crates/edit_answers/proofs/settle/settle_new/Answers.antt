@@ -1,0 +1,52 @@
+use Rattle.std.proofs.Common.{◌≡◌, ◌∙◌, Some, ap, sym, subst}
+use Rattle.edit_lookups.specs.Cached.{cached_path}
+use Rattle.edit_lookups.specs.Lookups.{lookup_text}
+use Rattle.edit_answers.specs.Outcomes.{Puts, PutsIndexed, Settles, by_cached}
+use Rattle.edit_answers.specs.Outcomes.Settles.{fetched, unusable}
+use Rattle.edit_answers.specs.declared.meaning.Failure.TheVariants.{NotAnIndex}
+use Rattle.edit_answers.specs.declared.meaning.Meaning.TheVariants.{New}
+use Rattle.edit_answers.specs.declared.meaning.Outcome.TheVariants.{Cached, Fetched}
+use Rattle.edit_answers.proofs.ChangeLemmas.{after-reads, on-ok, weakened}
+use Rattle.edit_answers.proofs.PutLemmas.{indexed-puts}
+use Rattle.edit_answers.proofs.settle.settle_new.Goals as goal
+
+pub returns-in-Ok-None-clause-changes : goal.returns-in-Ok-None-clause-changes
+returns-in-Ok-None-clause-changes g c =
+    let p = c.args.places.now in
+    let l = lookup_text c.args.lookup.now in
+    after-reads (Puts p l) (Puts p l Fetched) _ _ _ _ c.read_body.ensures.reads
+    (weakened (λ _. PutsIndexed p l) (Puts p l) (PutsIndexed p l) (Puts p l Fetched) _ _ _
+    (λ t o. indexed-puts p l o) (indexed-puts p l Fetched) c.from_cache.ensures.changes)
+
+pub returns-in-Ok-None-clause-told : goal.returns-in-Ok-None-clause-told
+returns-in-Ok-None-clause-told g c =
+    let p = c.args.places.now in
+    let l = lookup_text c.args.lookup.now in
+    let files = (g.S.Store.view c.args.files.now).file_at in
+    let reads = c.read_body.ensures.reads in
+    on-ok _ _ c.from_cache.result
+    (λ o h t. subst (λ o. Settles p l c.args.number files New o)
+    (sym (h (reads.tells ∙ t)
+    ∙ ap (λ x. by_cached x (Cached NotAnIndex) NotAnIndex) (reads.files (cached_path p.cache.now l))))
+    (unusable (λ b. (rw c.in-Ok-None.field-0-is at (c.in-Ok-None.ensures.body t)) b.0
+    (subst (λ q. files q ≡ Some b.0) (sym (c.as_str.ensures.value ∙ c.in_ok-body_path.ensures)) b.1) b.2)))
+    c.from_cache.ensures.told
+
+pub returns-clause-changes : goal.returns-clause-changes
+returns-clause-changes g c = after-reads _ _ _ _ _ _ c.read_body.ensures.reads c.store_body.ensures.changes
+
+pub returns-clause-told : goal.returns-clause-told
+returns-clause-told g c =
+    let p = c.args.places.now in
+    let l = lookup_text c.args.lookup.now in
+    let files = (g.S.Store.view c.args.files.now).file_at in
+    let reads = c.read_body.ensures.reads in
+    on-ok _ _ c.store_body.result
+    (λ o h t. subst (λ o. Settles p l c.args.number files New o) (sym (h (reads.tells ∙ t)))
+    (fetched (
+      c.in-Ok-Some.body.items,
+      subst (λ q. files q ≡ Some c.in-Ok-Some.body.items) (c.as_str.ensures.value ∙ c.in_ok-body_path.ensures)
+          (rw c.in-Ok-Some.field-0-is at (c.in-Ok-Some.ensures.body t)),
+      rw c.in-Ok-Some.field-0-is at c.in-Ok-Some.ensures.whole,
+    )))
+    c.store_body.ensures.told

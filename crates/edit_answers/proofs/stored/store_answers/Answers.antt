@@ -1,0 +1,48 @@
+use Rattle.std.proofs.Common.{◌≡◌, ◌∷◌, ◌++◌, true, ℕ, List, map, ◌∙◌, ap, sym, subst}
+use Rattle.std.specs.Prelude.{codes}
+use Rattle.edit_lookups.specs.Lookups.{SaysLookups, lookup_text}
+use Rattle.edit_answers.specs.Outcomes.{PutsSome}
+use Rattle.edit_answers.specs.Stored.{PutsOf, text_of}
+use Rattle.edit_answers.specs.declared.messages.Report.{Report}
+use Rattle.edit_answers.proofs.ChangeLemmas.{after-reads, only-reads, reads-fails, reads-refused, weakened-told}
+use Rattle.edit_answers.proofs.stored.store_answers.Goals as goal
+
+pub returns-in-Err : goal.returns-in-Err
+returns-in-Err g c =
+    let may = PutsOf c.args.places.now (g.S.Store.view c.args.files.now).file_at in
+    reads-fails {T = Report} (λ _. may) may _ _ _ c.read_from_room.ensures.reads c.in-Err.ensures.refused
+
+pub returns-in_err-lookups : goal.returns-in_err-lookups
+returns-in_err-lookups g c =
+    let may = PutsOf c.args.places.now (g.S.Store.view c.args.files.now).file_at in
+    reads-refused {T = Report} (λ _. may) may _ _ _ c.read_from_room.ensures.reads c.from_residual.ensures.1
+
+pub returns-in-Some : goal.returns-in-Some
+returns-in-Some g c =
+    let p = c.args.places.now in
+    let files = (g.S.Store.view c.args.files.now).file_at in
+    let may = PutsOf p files in
+    let ls = map lookup_text c.deref.result.now in
+    let say : (g.S.Store.view c.args.files.now).tells ≡ true
+    → SaysLookups (text_of (files (p.room.now ++ 47 ∷ codes "lookups"))) ls
+    = λ t. subst (λ xs. SaysLookups (text_of (files (p.room.now ++ 47 ∷ codes "lookups"))) (map lookup_text xs))
+    (sym c.deref.ensures.value)
+    (subst (λ text. SaysLookups text (map lookup_text c.in-Some.lookups.items))
+    (c.as_str.ensures.value ∙ c.in-Ok.ensures.text t)
+    (rw c.in-Some.is at c.in_ok-lookups.ensures)) in
+    after-reads {T = Report} (λ _. may) may _ _ _ _ c.read_from_room.ensures.reads
+    (weakened-told (λ _. PutsSome p ls) (λ _. may) (PutsSome p ls) may _ _ _
+    (λ t v path bytes h. record { lookups = ls; say = say (sym c.read_from_room.ensures.reads.tells ∙ t); puts = h })
+    (λ t path bytes h. record { lookups = ls; say = say (sym c.read_from_room.ensures.reads.tells ∙ t); puts = h })
+    c.store_lookups.ensures)
+
+pub returns-in_err-unreadable-in-None : goal.returns-in_err-unreadable-in-None
+returns-in_err-unreadable-in-None g c =
+    let may = PutsOf c.args.places.now (g.S.Store.view c.args.files.now).file_at in
+    reads-refused {T = Report} (λ _. may) may _ _ _ c.read_from_room.ensures.reads
+    c.from_residual-in_err-unreadable-in-None.ensures.1
+
+pub returns : goal.returns
+returns g c =
+    let may = PutsOf c.args.places.now (g.S.Store.view c.args.files.now).file_at in
+    only-reads {T = Report} (λ _. may) may _ _ c.in_ok-unreadable-in-None.field-0 c.read_from_room.ensures.reads

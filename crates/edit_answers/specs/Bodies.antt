@@ -1,0 +1,25 @@
+-- Which bodies are index files (Cargo reference, "Registries", index format).
+use Rattle.std.specs.Prelude.{◌≡◌, ℕ, ◌-◌, ◌<◌, List, All, length, map, slice_index}
+use Rattle.std.specs.Char.{to_ascii_lowercase}
+use Rattle.edit_version.specs.IndexEntry.{IndexEntry}
+use Rattle.edit_sources.specs.IndexLines.{LinesSay, lines_of}
+
+-- two names are one, the case of letters of ASCII aside
+abbrev pub IsSameName : List ℕ → List ℕ → Type 0
+IsSameName a b = map to_ascii_lowercase a ≡ map to_ascii_lowercase b
+
+-- there are entries, and each has this name
+pub record AreNamed (entries : List IndexEntry) (name : List ℕ) : Type 0 where
+  pub some : 0 < length entries
+  pub all : All (λ e. IsSameName e.name name) entries
+
+-- a text ends with a line end
+abbrev pub EndsLine : List ℕ → Type 0
+EndsLine body = slice_index body (length body - 1) ≡ 10
+
+-- a body is a whole index file of a crate: it ends with a line end, its lines say entries, and each has the name
+pub record IsWholeIndex (name body : List ℕ) : Type 0 where
+  pub ended : EndsLine body
+  pub entries : List IndexEntry
+  pub say : LinesSay (lines_of body) entries
+  pub named : AreNamed entries name

@@ -1,0 +1,9 @@
+pub mod Answers
+pub mod Bodies
+pub mod CacheStore
+pub mod Changes
+pub mod Links
+pub mod Meanings
+pub mod Outcomes
+pub mod Places
+pub mod Stored

@@ -1,0 +1,77 @@
+-- What becomes of lookups.
+use Rattle.std.specs.Prelude.{◌≡◌, ℕ, List, Option, Some, None, Bool, true, false, slice_get}
+use Rattle.edit_store.specs.Store.{Files}
+use Rattle.edit_lookups.specs.Cached.{cached_path, validator_path}
+use Rattle.edit_lookups.specs.Lookups.{LookupText}
+use Rattle.edit_lookups.specs.Validators.{IsValidatorOf}
+use Rattle.edit_answers.specs.Bodies.{IsWholeIndex}
+use Rattle.edit_answers.specs.Places.{body_path, index_path}
+use Rattle.edit_answers.specs.declared.meaning.Failure.{Failure}
+use Rattle.edit_answers.specs.declared.meaning.Failure.TheVariants.{NotAnIndex}
+use Rattle.edit_answers.specs.declared.meaning.Meaning.{Meaning}
+use Rattle.edit_answers.specs.declared.meaning.Meaning.TheVariants.{Failed, New, NotModified}
+use Rattle.edit_answers.specs.declared.meaning.Meaning.TheVariants as meaning
+use Rattle.edit_answers.specs.declared.meaning.Outcome.{Outcome}
+use Rattle.edit_answers.specs.declared.meaning.Outcome.TheVariants.{Absent, Cached, Current, Fetched, Missing}
+use Rattle.edit_answers.specs.declared.places.Places.{Places}
+
+-- what a step may write for a lookup: where it was fetched, its entry, a whole index file of its crate, and the
+-- validator of such a body; and the file where an upgrade reads it
+pub data Puts (p : Places) (l : LookupText) (o : Outcome) : List ℕ → List ℕ → Type 0 where
+  entry : (bytes : List ℕ) → o ≡ Fetched → IsWholeIndex l.name bytes → Puts p l o (cached_path p.cache.now l) bytes
+  validator : (body bytes etag : List ℕ) → o ≡ Fetched → IsWholeIndex l.name body → IsValidatorOf body bytes etag
+      → Puts p l o (validator_path (cached_path p.cache.now l)) bytes
+  indexed : (bytes : List ℕ) → Puts p l o (index_path p.room.now l) bytes
+
+-- what a lookup comes to by whether there is a cached entry
+abbrev pub by_link : Bool → Outcome → Failure → Outcome
+by_link true had lost = had
+by_link false had lost = Missing lost
+
+-- the same by the cached entry
+abbrev pub by_cached : Option (List ℕ) → Outcome → Failure → Outcome
+by_cached None had lost = Missing lost
+by_cached (Some bytes) had lost = had
+
+-- the file of the transfer's body is a whole index file of the crate
+abbrev pub HasBody : Places → LookupText → ℕ → Files → Type 0
+HasBody p l number files =
+    (body : List ℕ) × (files (body_path p.room.now number) ≡ Some body) × IsWholeIndex l.name body
+
+-- what becomes of a lookup by what its answer means, over these files: a new body counts only as a whole index file;
+-- where nothing was had, the cached entry serves
+pub data Settles (p : Places) (l : LookupText) (number : ℕ) (files : Files) : Meaning → Outcome → Type 0 where
+  fetched : HasBody p l number files → Settles p l number files New Fetched
+  unusable : (HasBody p l number files → ⊥) → Settles p l number files New
+      (by_cached (files (cached_path p.cache.now l)) (Cached NotAnIndex) NotAnIndex)
+  current : (lost : Failure) → Settles p l number files NotModified
+      (by_cached (files (cached_path p.cache.now l)) Current lost)
+  absent : Settles p l number files meaning.Absent Absent
+  failed : (f : Failure) → Settles p l number files (Failed f)
+      (by_cached (files (cached_path p.cache.now l)) (Cached f) f)
+
+-- the validator of a body beside its entry
+abbrev pub PutsValidator : List ℕ → List ℕ → List ℕ → List ℕ → Type 0
+PutsValidator at body path bytes =
+    (path ≡ validator_path at) × ((etag : List ℕ) × IsValidatorOf body bytes etag)
+
+-- the file where an upgrade reads an entry, alone
+abbrev pub PutsIndexed : Places → LookupText → List ℕ → List ℕ → Type 0
+PutsIndexed p l path bytes = path ≡ index_path p.room.now l
+
+-- what may be written for some of these lookups, by what becomes of it
+pub record PutsOne (p : Places) (ls : List LookupText) (outcomes : List Outcome) (path bytes : List ℕ)
+    : Type 0 where
+  pub number : ℕ
+  pub lookup : LookupText
+  pub outcome : Outcome
+  pub is : slice_get ls number ≡ Some lookup
+  pub becomes : slice_get outcomes number ≡ Some outcome
+  pub puts : Puts p lookup outcome path bytes
+
+-- what may be written for some of these lookups
+pub record PutsSome (p : Places) (ls : List LookupText) (path bytes : List ℕ) : Type 0 where
+  pub number : ℕ
+  pub lookup : LookupText
+  pub is : slice_get ls number ≡ Some lookup
+  pub puts : Puts p lookup Fetched path bytes

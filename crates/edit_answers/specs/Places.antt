@@ -1,0 +1,13 @@
+-- Where a fetch has its files.
+use Rattle.std.specs.Prelude.{ℕ, List, ◌∷◌, ◌++◌, codes}
+use Rattle.std.specs.Fmt.{decimal}
+use Rattle.edit_sources.specs.Folders.{registry_folder}
+use Rattle.edit_lookups.specs.Lookups.{LookupText}
+
+-- the file of the body that a transfer wrote
+abbrev pub body_path : List ℕ → ℕ → List ℕ
+body_path room number = room ++ 47 ∷ decimal number
+
+-- the file where an upgrade reads an entry: in the folder of its registry below `index`
+abbrev pub index_path : List ℕ → LookupText → List ℕ
+index_path room l = room ++ (codes "/index/" ++ (registry_folder l.address ++ 47 ∷ l.path))

@@ -1,0 +1,86 @@
+//! What curl says of its transfers.
+ghost use Rattle.std.specs.Prelude.{◌≡◌, ◌⊎◌, ◌+◌, ℕ, Some, None, IfOk, IfSome, length, replicate, slice_get};
+ghost use Rattle.edit_answers.specs.Answers.{AreSaid, SaysAnswer};
+ghost use Rattle.edit_answers.specs.declared.answers.Answer.{Answer};
+
+use std::alloc::{AllocError, Global};
+
+/// What curl says of a transfer: the status of the answer, curl's exit code, and its message, which may be empty.
+#[derive(Clone, Copy, Debug)]
+pub struct Answer<'a> {
+    pub code: &'a str,
+    pub exit: &'a str,
+    pub message: &'a str,
+}
+
+/// The number of a transfer and what curl says of it, by a line `NUMBER TAB CODE TAB EXIT TAB MESSAGE`.
+fn read_answer<'a>(line: &'a str) -> Option<(usize, Answer<'a>)>
+    ensures { IfSome result (λ x. SaysAnswer line.now x.0 x.1) }
+{
+    let Some((number, rest)) = line.split_once('\t') else {
+        return None;
+    };
+    let Some((code, rest)) = rest.split_once('\t') else {
+        return None;
+    };
+    let Some((exit, message)) = rest.split_once('\t') else {
+        return None;
+    };
+    match number.parse::<usize>() {
+        Ok(number) => Some((
+            number,
+            Answer {
+                code,
+                exit,
+                message,
+            },
+        )),
+        Err(_) => None,
+    }
+}
+
+/// A table without answers.
+fn no_answers<'a>(alloc: Global, count: usize) -> Result<Vec<Option<Answer<'a>>>, AllocError>
+    ensures { IfOk result (λ v. v.items ≡ replicate count None) }
+{
+    let mut table = Vec::with_capacity(alloc, count)?;
+    for i in 0..count {
+        table.push(None)?;
+    }
+    Ok(table)
+}
+
+/// Puts an answer into a table, where the table has a place of its number, from 1, and that is free.
+fn put<'a>(table: &mut Vec<Option<Answer<'a>>>, number: usize, answer: Answer<'a>)
+    ensures put { (k : ℕ) (a : Answer) → slice_get table.new.items k ≡ Some (Some a)
+        → (slice_get table.old.items k ≡ Some (Some a)) ⊎ ((k + 1 ≡ number) × (a ≡ answer.entry)) }
+    ensures count { length table.new.items ≡ length table.old.items }
+{
+    if number == 0 || number > table.len() {
+        return;
+    }
+    if table[number - 1].is_none() {
+        table[number - 1] = Some(answer);
+    }
+}
+
+/// What curl says of its transfers number 1 to `count`, by the lines that it wrote. A line without a line end was
+/// cut, and is not read.
+pub fn read_answers<'a>(
+    alloc: Global,
+    text: &'a str,
+    count: usize,
+) -> Result<Vec<Option<Answer<'a>>>, AllocError>
+    ensures said { IfOk result (λ v. AreSaid text.now v.items) }
+    ensures count { IfOk result (λ v. length v.items ≡ count) }
+{
+    let mut table = no_answers(alloc, count)?;
+    let mut rest = text;
+    while let Some((line, after)) = rest.split_once('\n') {
+        if let Some((number, answer)) = read_answer(line) {
+            put(&mut table, number, answer);
+        }
+        rest = after;
+    }
+    Ok(table)
+}

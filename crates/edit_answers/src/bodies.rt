@@ -1,0 +1,60 @@
+//! Which bodies are index files.
+ghost use Rattle.std.specs.Prelude.{◌≡◌, ◌↔◌, All, IsTrue, IfOk, MatchBool, map, string_bytes};
+ghost use Rattle.edit_answers.specs.Bodies.{AreNamed, EndsLine, IsSameName, IsWholeIndex};
+ghost use Rattle.edit_version.specs.IndexEntry.{entry_of};
+
+use edit_base::{CargoResult, Error};
+use edit_sources::index_lines::read_lines;
+use edit_version::fetch::IndexVersion;
+use std::alloc::{AllocError, Global};
+
+/// Whether a name is this one, the case of letters of ASCII aside.
+fn is_named(entry: &IndexVersion, name: &str) -> bool
+    ensures { IsTrue result ↔ IsSameName (string_bytes entry.now.name) name.now }
+{
+    entry
+        .name
+        .as_str()
+        .as_bytes()
+        .eq_ignore_ascii_case(name.as_bytes())
+}
+
+/// Whether each entry has this name.
+fn all_named(entries: &[IndexVersion], name: &str) -> bool
+    ensures { IsTrue result ↔ All (λ v. IsSameName (string_bytes v.name) name.now) entries.now }
+{
+    entries.iter().all(|entry| is_named(entry, name))
+}
+
+/// Whether there are entries, and each has this name.
+fn are_named(entries: &[IndexVersion], name: &str) -> bool
+    ensures { IsTrue result ↔ AreNamed (map entry_of entries.now) name.now }
+{
+    !entries.is_empty() && all_named(entries, name)
+}
+
+/// Whether a text ends with a line end.
+fn ends_with_line_end(body: &[u8]) -> bool
+    ensures { IsTrue result ↔ EndsLine body.now }
+{
+    match body {
+        [.., last] => *last == b'\n',
+        [] => false,
+    }
+}
+
+/// Whether a body is a whole index file of a crate: it ends with a line end, it has entries, each line that is not
+/// blank is one, and each has the name of the crate, the case of letters of ASCII aside.
+pub fn is_whole_index(alloc: Global, name: &str, body: &[u8]) -> Result<bool, AllocError>
+    ensures { IfOk result (λ b. MatchBool b (IsWholeIndex name.now body.now) (IsWholeIndex name.now body.now → ⊥)) }
+{
+    if !ends_with_line_end(body) {
+        return Ok(false);
+    }
+    match read_lines(alloc, body) {
+        Ok(entries) => Ok(are_named(&entries, name)),
+        Err(Error::IndexLine { .. }) => Ok(false),
+        // the only other error is want of memory
+        Err(_) => Err(AllocError),
+    }
+}

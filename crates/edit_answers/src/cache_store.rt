@@ -1,0 +1,162 @@
+//! The files of the machine below a cache.
+ghost use Rattle.std.specs.Prelude.{◌≡◌};
+ghost use Rattle.edit_answers.specs.CacheStore.{cache_faults, cache_view};
+ghost use Rattle.edit_store.specs.Host.{IsRefusal};
+
+use crate::link_store::{LinkStore, copy};
+use edit_base::errors::{CargoResult, DeviceCall, Error};
+use edit_base::paths::folder;
+use edit_store::{Kind, Store};
+use std::alloc::Global;
+use std::fs::{DirBuilder, File, Files, OpenOptions};
+use std::io::{ErrorKind, Write};
+use std::os::unix::fs::{DirBuilderExt, OpenOptionsExt};
+use std::{fs, io};
+
+/// The files of the machine below a cache: missing folders are made, for their owner alone, and a file is replaced
+/// whole or not at all. No clause can say what they hold.
+#[derive(Debug, Drop)]
+pub struct CacheStore<R> {
+    rt: R,
+    run: u32,
+    failed: u64,
+}
+
+impl<R: Files<File = File> + Alloc<A = Global> + Drop> CacheStore<R> {
+    /// The files that the runtime reaches; `run` is the number of the process, for the names of new files.
+    pub fn new(rt: R, run: u32) -> CacheStore<R>
+        ensures { cache_faults result ≡ 0 }
+    {
+        CacheStore { rt, run, failed: 0 }
+    }
+
+    /// The error of a call. Each but want of memory counts as a fault.
+    fn refused(&mut self, call: DeviceCall, error: io::Error) -> Error
+        ensures { IsRefusal call self.old.failed self.new.failed result }
+    {
+        if error.kind() == ErrorKind::OutOfMemory {
+            return Error::Memory;
+        }
+        self.failed = self.failed.saturating_add(1);
+        Error::Device(call)
+    }
+}
+
+/// Makes the missing folders above a file, for their owner alone.
+fn make_folders<R: Files<File = File>>(rt: &R, path: &str) -> io::Result<()> {
+    DirBuilder::new()
+        .recursive(true)
+        .mode(0o700)
+        .create(rt, folder(path))
+}
+
+/// A new empty file in the folder of another one, and its path. A file of such a name that is there already was left by
+/// a process that was killed, or is another one's.
+fn make_beside<R: Files<File = File>>(
+    rt: &R,
+    alloc: Global,
+    path: &str,
+    run: u32,
+) -> io::Result<(File, String)> {
+    let folder = folder(path);
+    for n in 0..1000u32 {
+        let name = format!(in alloc; "{folder}/.new-{run}-{n}")?;
+        let made = OpenOptions::new()
+            .write(true)
+            .create_new(true)
+            .mode(0o600)
+            .open(rt, name.as_str());
+        match made {
+            Ok(file) => return Ok((file, name)),
+            Err(error) if error.kind() == ErrorKind::AlreadyExists => {}
+            Err(error) => return Err(error),
+        }
+    }
+    Err(io::Error::from(ErrorKind::AlreadyExists))
+}
+
+/// Fills a new file. A validator counts only beside the body whose sum it has, so it is not flushed to the disk.
+fn fill(file: &mut File, path: &str, bytes: &[u8]) -> io::Result<()> {
+    file.write_all(bytes)?;
+    if path.ends_with(".etag") {
+        return Ok(());
+    }
+    file.sync_data()
+}
+
+/// Replaces a file, or makes it: the bytes are written beside it and moved over it.
+fn replace<R: Files<File = File>>(
+    rt: &R,
+    alloc: Global,
+    path: &str,
+    bytes: &[u8],
+    run: u32,
+) -> io::Result<()> {
+    make_folders(rt, path)?;
+    let (mut file, name) = make_beside(rt, alloc, path, run)?;
+    let mut done = fill(&mut file, path, bytes);
+    if done.is_ok() {
+        done = fs::rename(rt, name.as_str(), path);
+    }
+    if done.is_err() {
+        let _ = fs::remove_file(rt, name.as_str());
+    }
+    done
+}
+
+/// Puts a file at a second path, as a link.
+fn link<R: Files<File = File>>(rt: &R, from: &str, to: &str) -> io::Result<()> {
+    make_folders(rt, to)?;
+    fs::hard_link(rt, from, to)
+}
+
+impl<R: Files<File = File> + Alloc<A = Global> + Drop> Store for CacheStore<R> {
+    ghost view = { cache_view };
+
+    fn kind(&mut self, _alloc: Global, path: &str) -> CargoResult<Kind> {
+        match fs::metadata(&self.rt, path) {
+            Ok(metadata) if metadata.is_file() => Ok(Kind::File),
+            Ok(metadata) if metadata.is_dir() => Ok(Kind::Folder),
+            Ok(_) => Ok(Kind::Absent),
+            Err(error) if is_absent(error.kind()) => Ok(Kind::Absent),
+            Err(error) => Err(self.refused(DeviceCall::Kind, error)),
+        }
+    }
+
+    fn read(&mut self, _alloc: Global, path: &str) -> CargoResult<Option<Vec<u8>>> {
+        match fs::read(&self.rt, path) {
+            Ok(bytes) => Ok(Some(bytes)),
+            Err(error) if is_absent(error.kind()) => Ok(None),
+            Err(error) => Err(self.refused(DeviceCall::Read, error)),
+        }
+    }
+
+    fn write(&mut self, alloc: Global, path: &str, bytes: &[u8]) -> CargoResult<()> {
+        match replace(&self.rt, alloc, path, bytes, self.run) {
+            Ok(()) => Ok(()),
+            Err(error) => Err(self.refused(DeviceCall::Write, error)),
+        }
+    }
+
+    fn faults(&self) -> u64 {
+        self.failed
+    }
+}
+
+impl<R: Files<File = File> + Alloc<A = Global> + Drop> LinkStore for CacheStore<R> {
+    fn link(&mut self, alloc: Global, from: &str, to: &str) -> CargoResult<bool> {
+        match link(&self.rt, from, to) {
+            Ok(()) => Ok(true),
+            Err(error) if error.kind() == ErrorKind::NotFound => Ok(false),
+            Err(_) => copy(alloc, self, from, to),
+        }
+    }
+}
+
+/// Whether the machine says that no file stands at a path.
+fn is_absent(kind: ErrorKind) -> bool {
+    matches!(
+        kind,
+        ErrorKind::NotFound | ErrorKind::NotADirectory | ErrorKind::IsADirectory
+    )
+}

@@ -1,0 +1,149 @@
+//! The whole step behind a fetch.
+ghost use Rattle.std.specs.Prelude.{◌≡◌, ◌∷◌, ◌++◌, true, IfErr, IfOk, map, string_bytes};
+ghost use Rattle.edit_answers.specs.Changes.{Changes, Fails};
+ghost use Rattle.edit_answers.specs.Outcomes.{PutsSome};
+ghost use Rattle.edit_answers.specs.Stored.{PutsOf, text_of};
+ghost use Rattle.edit_lookups.specs.Lookups.{lookup_text};
+ghost use Rattle.edit_store.specs.Store.{OnlyReads};
+
+use crate::answers::read_answers;
+use crate::link_store::LinkStore;
+use crate::messages::{Report, report_of, unreadable};
+use crate::places::Places;
+use crate::settle::settle_all;
+use edit_base::CargoResult;
+use edit_lookups::{Lookup, read_lookups};
+use edit_store::Store;
+use std::alloc::Global;
+
+/// The text of a file; empty where no file stands.
+fn read_text<S: Store>(alloc: Global, files: &mut S, path: &str) -> CargoResult<String>
+    ensures reads { OnlyReads (S.view files.old) (S.view files.new) }
+    ensures text { IfOk result (λ s. (S.view files.old).tells ≡ true
+        → string_bytes s ≡ text_of ((S.view files.old).file_at path.now)) }
+    ensures refused { IfErr result (Fails (S.view files.old).faults (S.view files.new).faults) }
+{
+    match files.read(alloc, path) {
+        Ok(Some(bytes)) => Ok(String::from_utf8_lossy(alloc, &bytes)?),
+        Ok(None) => Ok(String::new(alloc)),
+        Err(error) => Err(error),
+    }
+}
+
+/// The text of a file of a run's room; empty where no file stands.
+fn read_from_room<S: Store>(
+    alloc: Global,
+    files: &mut S,
+    room: &str,
+    name: &str,
+) -> CargoResult<String>
+    ensures reads { OnlyReads (S.view files.old) (S.view files.new) }
+    ensures text { IfOk result (λ s. (S.view files.old).tells ≡ true
+        → string_bytes s ≡ text_of ((S.view files.old).file_at (room.now ++ 47 ∷ name.now))) }
+    ensures refused { IfErr result (Fails (S.view files.old).faults (S.view files.new).faults) }
+{
+    let path = format!(in alloc; "{room}/{name}")?;
+    read_text(alloc, files, path.as_str())
+}
+
+/// Stores the good answers to these lookups, and says what was not had.
+fn store_lookups<S: LinkStore>(
+    alloc: Global,
+    files: &mut S,
+    places: &Places,
+    lookups: &[Lookup<'_>],
+    offline: bool,
+) -> CargoResult<Report>
+    ensures { Changes (λ _. PutsSome places.now (map lookup_text lookups.now))
+        (PutsSome places.now (map lookup_text lookups.now)) (S.view files.old) (S.view files.new) result }
+{
+    let text = match read_from_room(alloc, files, places.room, "answers") {
+        Ok(text) => text,
+        Err(error) => return Err(error),
+    };
+    let answers = read_answers(alloc, text.as_str(), lookups.len())?;
+    let outcomes = match settle_all(alloc, files, places, lookups, offline, &answers) {
+        Ok(outcomes) => outcomes,
+        Err(error) => return Err(error),
+    };
+    Ok(report_of(alloc, lookups, &outcomes, offline)?)
+}
+
+/// Stores the good answers to the lookups of a run in the cache, puts each entry that the run has where an upgrade
+/// reads it, and says what was not had.
+pub fn store_answers<S: LinkStore>(
+    alloc: Global,
+    files: &mut S,
+    places: &Places,
+    offline: bool,
+) -> CargoResult<Report>
+    ensures { Changes (λ _. PutsOf places.now (S.view files.old).file_at)
+        (PutsOf places.now (S.view files.old).file_at) (S.view files.old) (S.view files.new) result }
+{
+    let text = match read_from_room(alloc, files, places.room, "lookups") {
+        Ok(text) => text,
+        Err(error) => return Err(error),
+    };
+    match read_lookups(alloc, text.as_str())? {
+        Some(lookups) => store_lookups(alloc, files, places, &lookups, offline),
+        None => Ok(unreadable(alloc)?),
+    }
+}
+
+#[cfg(test)]
+mod tests {
+    use super::*;
+    use edit_store::{FaultStore, MemoryStore};
+    use std::test::Fail;
+
+    const PLACES: Places<'static> = Places {
+        cache: "/c",
+        room: "/c/.run.1",
+    };
+
+    /// Where the entry of `serde` stands in the cache.
+    const SERDE: &str = "/c/sparse+https:%2F%2Fh.example%2F/se/rd/serde";
+
+    const OLD: &[u8] = b"{\"name\":\"serde\",\"vers\":\"1.0.0\"}\n";
+
+    const NEW: &[u8] =
+        b"{\"name\":\"serde\",\"vers\":\"1.0.0\"}\n{\"name\":\"serde\",\"vers\":\"1.1.0\",\"yanked\":false}\n";
+
+    fn put(alloc: Global, store: &mut MemoryStore, path: &str, bytes: &[u8]) -> Result<(), Fail> {
+        store.write(alloc, path, bytes)?;
+        Ok(())
+    }
+
+    /// A run of one lookup with this answer and body, over a cache with an old entry.
+    fn run_with(alloc: Global, answer: &[u8], body: &[u8]) -> Result<(MemoryStore, Report), Fail> {
+        let mut store = MemoryStore::new(alloc);
+        put(
+            alloc,
+            &mut store,
+            "/c/.run.1/lookups",
+            b"sparse+https://u:p@h.example/\tserde\tse/rd/serde\n",
+        )?;
+        put(alloc, &mut store, "/c/.run.1/answers", answer)?;
+        put(alloc, &mut store, "/c/.run.1/1", body)?;
+        put(alloc, &mut store, "/c/.run.1/1.etag", b"W/\"2\"\n")?;
+        put(alloc, &mut store, SERDE, OLD)?;
+        let report = store_answers(alloc, &mut store, &PLACES, false)?;
+        Ok((store, report))
+    }
+
+    fn entry(alloc: Global, store: &mut MemoryStore) -> Result<Vec<u8>, Fail> {
+        Ok(store.read(alloc, SERDE)?.ok_or("no entry")?)
+    }
+
+    #[test]
+    fn a_new_body(rt: HostRuntime) -> Result<(), Fail> {
+        let (mut store, report) = run_with(rt.alloc(), b"1\t200\t0\t\n", NEW)?;
+        assert!(rt; report.error.is_none());
+        assert!(rt; report.warnings.is_empty());
+        assert_eq!(rt; entry(rt.alloc(), &mut store)?.as_slice(), NEW);
+        let indexed = "/c/.run.1/index/sparse+https:%2F%2Fu:p@h.example%2F/se/rd/serde";
+        let indexed = store.read(rt.alloc(), indexed)?.ok_or("not indexed")?;
+        assert_eq!(rt; indexed.as_slice(), NEW);
+        Ok(())
+    }
+}

@@ -1,0 +1,6 @@
+pub mod NameLemmas
+pub mod PlanLemmas
+pub mod ReadLemmas
+pub mod RowLemmas
+pub mod SettingsLemmas
+pub mod TokenLemmas

@@ -1,0 +1,12 @@
+use Rattle.std.proofs.Common.{◌∙◌}
+use Rattle.edit_fetch.proofs.RowLemmas.{four_lines, line_same}
+use Rattle.edit_fetch.specs.Transfers.{file_options}
+use Rattle.edit_fetch.proofs.transfers.push_files.Goals as goal
+
+pub returns : goal.returns
+unfolding file_options
+returns c = four_lines _ _ _ _ _ _ _ _ _
+    (line_same _ _ _ _ _ c.in_ok-push_valued.ensures c.deref.ensures.value)
+    (line_same _ _ _ _ _ c.in_ok-push_valued-2.ensures (c.as_bytes.ensures.value ∙ c.in_ok-body.ensures))
+    (line_same _ _ _ _ _ c.in_ok-push_valued-3.ensures (c.as_bytes-2.ensures.value ∙ c.in_ok-etag.ensures))
+    (line_same _ _ _ _ _ c.in_ok-push_valued-4.ensures (c.as_bytes-3.ensures.value ∙ c.in_ok-outcome.ensures.ok))

@@ -1,0 +1,42 @@
+-- The tokens of registries (Cargo reference, "Registries", Registry Authentication).
+use Rattle.std.specs.Prelude.{◌≡◌, ℕ, List, ◌∷◌, ◌++◌, Option, None, Ok, Err, ◌==◌, ◌⊎◌, codes, map, option_map, if◌then◌else◌}
+use Rattle.std.specs.Char.{to_ascii_uppercase}
+use Rattle.std.specs.List.{find}
+use Rattle.std.specs.Str.{bytes_eq}
+use Rattle.url.specs.Parser.{parse_url}
+use Rattle.url.specs.Parts.{Parts, serialize}
+use Rattle.url.specs.declared.error.ParseError.{ParseError}
+use Rattle.url.specs.declared.error.ParseError.TheVariants.{Overflow}
+use Rattle.edit_fetch.specs.declared.tokens.Token.{Token}
+
+-- the token of the registry with an address: the first
+abbrev pub token_of : List Token → List ℕ → Option (List ℕ)
+token_of tokens address =
+    option_map (λ t. t.token.now) (find (λ t. bytes_eq t.address.now address) tokens)
+
+-- a token is that of a registry with this address
+pub record IsTokenOf (tokens : List Token) (address token : List ℕ) : Type 0 where
+  pub before : List Token
+  pub holder : Token
+  pub after : List Token
+  pub among : tokens ≡ before ++ holder ∷ after
+  pub own : holder.address.now ≡ address
+  pub is : holder.token.now ≡ token
+
+-- a byte of a registry's name as a variable's name has it
+abbrev pub variable_byte : ℕ → ℕ
+variable_byte b = if b == 45 then 95 else to_ascii_uppercase b
+
+-- the variable with the token of a registry
+abbrev pub token_variable : List ℕ → List ℕ
+token_variable name = codes "CARGO_REGISTRIES_" ++ (map variable_byte name ++ codes "_TOKEN")
+
+-- an address as the URL has it that a text is (URL Standard, "URL serializing")
+pub record IsAddressOf (text address : List ℕ) : Type 0 where
+  pub url : Parts
+  pub reads : parse_url None text ≡ Ok url
+  pub writes : address ≡ serialize url
+
+-- a text is no URL, or one of 4 GB
+abbrev pub IsNoAddress : List ℕ → Type 0
+IsNoAddress text = (e : ParseError) × ((parse_url None text ≡ Err e) ⊎ (e ≡ Overflow))

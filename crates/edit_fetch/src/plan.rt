@@ -1,0 +1,162 @@
+//! What is fetched for lookups, written down for curl.
+ghost use Rattle.std.specs.Prelude.{◌≡◌, ◌≤◌, ◌⊎◌, Some, true, IfErr, IfOk, MatchOption, OnOk, codes};
+ghost use Rattle.edit_base.specs.Errors.{IsMemory};
+ghost use Rattle.edit_fetch.specs.Plans.{HasFailedIn, IsPlanned, IsUnreadable, SameButRoom, room_file};
+ghost use Rattle.edit_store.specs.Store.{SameBut, SameFiles};
+
+use crate::requests::requests_made;
+use crate::settings::NetSettings;
+use crate::tokens::Token;
+use crate::transfers::requests_text;
+use edit_base::CargoResult;
+use edit_lookups::read_lookups;
+use edit_store::Store;
+use std::alloc::Global;
+
+/// How lookups are fetched.
+#[derive(Clone, Copy, Debug)]
+pub struct FetchPlan<'a> {
+    /// The folder of the cache.
+    pub cache: &'a str,
+    /// The folder that the transfers of this run use.
+    pub room: &'a str,
+    pub settings: &'a NetSettings,
+    pub tokens: &'a [Token<'a>],
+}
+
+/// Writes a file of the folder that the transfers use.
+fn write_in_room<S: Store>(
+    alloc: Global,
+    store: &mut S,
+    room: &str,
+    name: &str,
+    bytes: &[u8],
+) -> CargoResult<()>
+    ensures written { OnOk result ((S.view store.old).tells ≡ true
+        → (S.view store.new).file_at (room_file room.now name.now) ≡ Some bytes.now) }
+    ensures others { SameBut (room_file room.now name.now) (S.view store.old).file_at
+        (S.view store.new).file_at }
+    ensures tells { (S.view store.new).tells ≡ (S.view store.old).tells }
+    ensures later { (S.view store.old).faults ≤ (S.view store.new).faults }
+    ensures refused { IfErr result (λ e. IsMemory e
+        ⊎ HasFailedIn (S.view store.old).faults (S.view store.new).faults e) }
+{
+    let path = format!(in alloc; "{room}/{name}")?;
+    match store.write(alloc, path.as_str(), bytes) {
+        Ok(()) => Ok(()),
+        Err(error) => Err(error),
+    }
+}
+
+/// Writes the text of lookups and the configuration of curl.
+fn write_plan<S: Store>(
+    alloc: Global,
+    store: &mut S,
+    room: &str,
+    text: &[u8],
+    config: &[u8],
+) -> CargoResult<()>
+    ensures lookups { OnOk result ((S.view store.old).tells ≡ true
+        → (S.view store.new).file_at (room_file room.now (codes "lookups")) ≡ Some text.now) }
+    ensures config { OnOk result ((S.view store.old).tells ≡ true
+        → (S.view store.new).file_at (room_file room.now (codes "curl")) ≡ Some config.now) }
+    ensures others { SameButRoom room.now (S.view store.old).file_at (S.view store.new).file_at }
+    ensures tells { (S.view store.new).tells ≡ (S.view store.old).tells }
+    ensures later { (S.view store.old).faults ≤ (S.view store.new).faults }
+    ensures refused { IfErr result (λ e. IsMemory e
+        ⊎ HasFailedIn (S.view store.old).faults (S.view store.new).faults e) }
+{
+    match write_in_room(alloc, store, room, "lookups", text) {
+        Ok(()) => {}
+        Err(error) => return Err(error),
+    }
+    match write_in_room(alloc, store, room, "curl", config) {
+        Ok(()) => Ok(()),
+        Err(error) => Err(error),
+    }
+}
+
+/// Writes down what is fetched for the lookups of a text, as files of the folder that the transfers use:
+/// `lookups`, the text, and `curl`, the configuration of curl. It answers how many transfers there are; none where
+/// the text is not the lines of lookups, and then no file is written.
+///
+/// An entry is fetched where its registry speaks the sparse protocol, unless the settings are offline.
+pub fn fetch_plan<S: Store>(
+    alloc: Global,
+    store: &mut S,
+    plan: &FetchPlan<'_>,
+    text: &str,
+) -> CargoResult<Option<usize>>
+    ensures planned { IfOk result (λ o. MatchOption o (IsUnreadable text.now
+        × SameFiles (S.view store.old).file_at (S.view store.new).file_at)
+        (λ n. (S.view store.old).tells ≡ true → IsPlanned (S.view store.old).file_at
+        (S.view store.new).file_at plan.now text.now n)) }
+    ensures others { SameButRoom plan.now.room.now (S.view store.old).file_at (S.view store.new).file_at }
+    ensures tells { (S.view store.new).tells ≡ (S.view store.old).tells }
+    ensures refused { IfErr result (λ e. IsMemory e
+        ⊎ HasFailedIn (S.view store.old).faults (S.view store.new).faults e) }
+{
+    let Some(lookups) = read_lookups(alloc, text)? else {
+        return Ok(None);
+    };
+    let requests = match requests_made(alloc, store, plan, &lookups) {
+        Ok(requests) => requests,
+        Err(error) => return Err(error),
+    };
+    let config = requests_text(alloc, plan.settings, plan.room, &requests)?;
+    match write_plan(alloc, store, plan.room, text.as_bytes(), &config) {
+        Ok(()) => Ok(Some(requests.len())),
+        Err(error) => Err(error),
+    }
+}
+
+#[cfg(test)]
+mod tests {
+    use super::*;
+    use edit_store::MemoryStore;
+    use std::test::Fail;
+
+    const LOOKUPS: &str =
+        "sparse+https://index.example/\tserde\tse/rd/serde\nfile:///idx\tabc\t3/a/abc\n";
+
+    const CONFIG: &[u8] = b"url = \"https://index.example/se/rd/serde\"
+output = \"/room/1\"
+etag-save = \"/room/1.etag\"
+write-out = \"1\\t%{response_code}\\t%{exitcode}\\t%{errormsg}\\n\"
+location
+max-redirs = \"5\"
+proto = \"=https\"
+proto-redir = \"=https\"
+silent
+globoff
+compressed
+user-agent = \"cargo-edit/0.1.0\"
+connect-timeout = \"30\"
+speed-limit = \"10\"
+speed-time = \"30\"
+retry = \"3\"
+";
+
+    #[test]
+    fn one_of_two(rt: HostRuntime) -> Result<(), Fail> {
+        let settings = NetSettings {
+            offline: false,
+            retry: 3,
+            timeout: 30,
+            proxy: None,
+            cainfo: None,
+        };
+        let plan = FetchPlan {
+            cache: "/cache",
+            room: "/room",
+            settings: &settings,
+            tokens: &[],
+        };
+        let mut store = MemoryStore::new(rt.alloc());
+        let count = fetch_plan(rt.alloc(), &mut store, &plan, LOOKUPS)?;
+        assert_eq!(rt; count, Some(1));
+        let config = store.read(rt.alloc(), "/room/curl")?.ok_or("no file")?;
+        assert_eq!(rt; config.as_slice(), CONFIG);
+        Ok(())
+    }
+}

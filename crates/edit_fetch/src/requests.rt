@@ -1,0 +1,152 @@
+//! The requests of lookups.
+ghost use Rattle.std.specs.Prelude.{◌≡◌, ◌++◌, ◌⊎◌, true, IfErr, IfOk, map, option_map, string_bytes};
+ghost use Rattle.edit_base.specs.Errors.{IsMemory};
+ghost use Rattle.edit_fetch.specs.Plans.{AreMade, AreRequests, IsCachedEtag, IsRequest, fetched_url, is_fetched, with_slash};
+ghost use Rattle.edit_lookups.specs.Cached.{cached_path, validator_path};
+ghost use Rattle.edit_lookups.specs.Lookups.{lookup_text};
+ghost use Rattle.edit_sources.specs.ConfigurationFiles.{HasFailed};
+ghost use Rattle.edit_store.specs.Store.{OnlyReads};
+
+use crate::plan::FetchPlan;
+use crate::tokens::token_of;
+use crate::transfers::Request;
+use edit_base::CargoResult;
+use edit_lookups::{Lookup, cached_path, usable_etag, validator_path};
+use edit_store::Store;
+use std::alloc::{AllocError, Global};
+
+/// Whether the entries of a registry are fetched.
+fn is_fetched(address: &[u8]) -> bool
+    ensures { result ≡ is_fetched address.now }
+{
+    address.starts_with(b"sparse+http://") || address.starts_with(b"sparse+https://")
+}
+
+/// Adds a slash where a text does not end with one.
+fn end_with_slash(text: &mut Vec<u8>) -> Result<(), AllocError>
+    ensures { IfOk result (λ _. text.new.items ≡ with_slash text.old.items) }
+{
+    if !text.ends_with(b"/") {
+        text.push(b'/')?;
+    }
+    Ok(())
+}
+
+/// Where an entry is fetched.
+fn fetched_url(alloc: Global, lookup: &Lookup<'_>) -> Result<Vec<u8>, AllocError>
+    ensures { IfOk result (λ v. v.items ≡ fetched_url (lookup_text lookup.now)) }
+{
+    let mut url = Vec::new(alloc);
+    if let Some(base) = lookup.address.as_bytes().get(7..) {
+        url.extend_from_slice(base)?;
+    }
+    end_with_slash(&mut url)?;
+    url.extend_from_slice(lookup.path.as_bytes())?;
+    Ok(url)
+}
+
+/// The ETag of a validator, where that belongs to the bytes of an entry.
+fn etag_of(alloc: Global, body: &[u8], line: &[u8]) -> Result<Option<String>, AllocError>
+    ensures { IfOk result (λ e. IsCachedEtag (Some body.now) (Some line.now) (option_map string_bytes e)) }
+{
+    match usable_etag(alloc, body, line)? {
+        Some(etag) => Ok(Some(String::from_str(alloc, etag)?)),
+        None => Ok(None),
+    }
+}
+
+/// The ETag of an entry in the cache.
+fn cached_etag<S: Store>(alloc: Global, store: &mut S, entry: &str) -> CargoResult<Option<String>>
+    ensures store { OnlyReads (S.view store.old) (S.view store.new) }
+    ensures etag { IfOk result (λ e. (S.view store.old).tells ≡ true
+        → IsCachedEtag ((S.view store.old).file_at entry.now)
+        ((S.view store.old).file_at (validator_path entry.now)) (option_map string_bytes e)) }
+    ensures refused { IfErr result (λ e. IsMemory e
+        ⊎ HasFailed (S.view store.old).faults (S.view store.new).faults e) }
+{
+    let validator = validator_path(alloc, entry)?;
+    let body = match store.read(alloc, entry) {
+        Ok(Some(body)) => body,
+        Ok(None) => return Ok(None),
+        Err(error) => return Err(error),
+    };
+    match store.read(alloc, validator.as_str()) {
+        Ok(Some(line)) => Ok(etag_of(alloc, &body, &line)?),
+        Ok(None) => Ok(None),
+        Err(error) => Err(error),
+    }
+}
+
+/// The request of a lookup.
+fn request<'a, S: Store>(
+    alloc: Global,
+    store: &mut S,
+    plan: &FetchPlan<'a>,
+    number: usize,
+    lookup: &Lookup<'_>,
+) -> CargoResult<Request<'a>>
+    ensures store { OnlyReads (S.view store.old) (S.view store.new) }
+    ensures request { IfOk result (λ r. (S.view store.old).tells ≡ true
+        → IsRequest (S.view store.old).file_at plan.now number (lookup_text lookup.now) r) }
+    ensures refused { IfErr result (λ e. IsMemory e
+        ⊎ HasFailed (S.view store.old).faults (S.view store.new).faults e) }
+{
+    let url = fetched_url(alloc, lookup)?;
+    let entry = cached_path(alloc, plan.cache, lookup)?;
+    let etag = match cached_etag(alloc, store, entry.as_str()) {
+        Ok(etag) => etag,
+        Err(error) => return Err(error),
+    };
+    let token = token_of(plan.tokens, lookup.address);
+    Ok(Request {
+        number,
+        url,
+        etag,
+        token,
+    })
+}
+
+/// The requests of lookups, in their order.
+pub(crate) fn requests<'a, S: Store>(
+    alloc: Global,
+    store: &mut S,
+    plan: &FetchPlan<'a>,
+    lookups: &[Lookup<'_>],
+) -> CargoResult<Vec<Request<'a>>>
+    ensures store { OnlyReads (S.view store.old) (S.view store.new) }
+    ensures requests { IfOk result (λ v. (S.view store.old).tells ≡ true
+        → AreRequests (S.view store.old).file_at plan.now (map lookup_text lookups.now) v.items) }
+    ensures refused { IfErr result (λ e. IsMemory e
+        ⊎ HasFailed (S.view store.old).faults (S.view store.new).faults e) }
+{
+    let mut requests = Vec::new(alloc);
+    for (i, lookup) in lookups.iter().enumerate() {
+        if !is_fetched(lookup.address.as_bytes()) {
+            continue;
+        }
+        match request(alloc, store, plan, i + 1, lookup) {
+            Ok(request) => requests.push(request)?,
+            Err(error) => return Err(error),
+        }
+    }
+    Ok(requests)
+}
+
+/// The requests that are made for lookups: none offline.
+pub(crate) fn requests_made<'a, S: Store>(
+    alloc: Global,
+    store: &mut S,
+    plan: &FetchPlan<'a>,
+    lookups: &[Lookup<'_>],
+) -> CargoResult<Vec<Request<'a>>>
+    ensures store { OnlyReads (S.view store.old) (S.view store.new) }
+    ensures requests { IfOk result (λ v. (S.view store.old).tells ≡ true
+        → AreMade (S.view store.old).file_at plan.now (map lookup_text lookups.now) v.items) }
+    ensures refused { IfErr result (λ e. IsMemory e
+        ⊎ HasFailed (S.view store.old).faults (S.view store.new).faults e) }
+{
+    if plan.settings.offline {
+        return Ok(Vec::new(alloc));
+    }
+    requests(alloc, store, plan, lookups)
+}

@@ -1,0 +1,136 @@
+//! The network settings of cargo that count for a transfer.
+ghost use Rattle.std.specs.Prelude.{◌≡◌, ◌⊎◌, true, IfErr, IfOk};
+ghost use Rattle.edit_base.specs.Errors.{IsMemory};
+ghost use Rattle.edit_fetch.specs.Settings.{AreSettings, no_values, settings_of, settings_view, values_of, values_or};
+ghost use Rattle.edit_sources.specs.ConfigurationFiles.{HasFailed};
+ghost use Rattle.edit_store.specs.Store.{OnlyReads};
+
+mod environment;
+mod file;
+
+use edit_base::CargoResult;
+use edit_sources::Config;
+use edit_store::Store;
+pub use environment::Environment;
+use file::values_at;
+use std::alloc::Global;
+
+/// The network settings that count.
+#[derive(Debug, Drop)]
+pub struct NetSettings {
+    /// Whether nothing is to be fetched.
+    pub offline: bool,
+    /// How often a transfer is tried again.
+    pub retry: u32,
+    /// How many seconds a connection may take, and a transfer stand still.
+    pub timeout: u32,
+    /// The proxy that transfers go through.
+    pub proxy: Option<String>,
+    /// The file of the certificates that are trusted.
+    pub cainfo: Option<String>,
+}
+
+/// The network settings that one place gives: the environment, or a configuration file.
+#[derive(Debug, Drop)]
+pub struct NetValues {
+    pub offline: Option<bool>,
+    pub retry: Option<u32>,
+    pub timeout: Option<u32>,
+    pub proxy: Option<String>,
+    pub cainfo: Option<String>,
+}
+
+/// No settings.
+fn no_values() -> NetValues
+    ensures { values_of result ≡ no_values }
+{
+    NetValues {
+        offline: None,
+        retry: None,
+        timeout: None,
+        proxy: None,
+        cainfo: None,
+    }
+}
+
+/// The settings of a place, and those of a later place where the first gives none.
+fn values_or(first: NetValues, later: NetValues) -> NetValues
+    ensures { values_of result ≡ values_or (values_of first) (values_of later) }
+{
+    NetValues {
+        offline: first.offline.or(later.offline),
+        retry: first.retry.or(later.retry),
+        timeout: first.timeout.or(later.timeout),
+        proxy: first.proxy.or(later.proxy),
+        cainfo: first.cainfo.or(later.cainfo),
+    }
+}
+
+/// The settings that count: cargo's defaults where none are given.
+fn settings_of(values: NetValues) -> NetSettings
+    ensures { settings_view result ≡ settings_of (values_of values) }
+{
+    NetSettings {
+        offline: values.offline.unwrap_or(false),
+        retry: values.retry.unwrap_or(3),
+        timeout: values.timeout.unwrap_or(30),
+        proxy: values.proxy,
+        cainfo: values.cainfo,
+    }
+}
+
+/// The network settings that count, by the environment and then by the files of these configurations, in their
+/// order: `net.offline`, `net.retry`, `http.timeout`, `http.proxy` and `http.cainfo`. A value of another type
+/// than cargo's counts as absent.
+pub fn net_settings<S: Store>(
+    alloc: Global,
+    store: &mut S,
+    environment: &Environment<'_>,
+    configs: &[Config],
+) -> CargoResult<NetSettings>
+    ensures store { OnlyReads (S.view store.old) (S.view store.new) }
+    ensures read { IfOk result (λ s. (S.view store.old).tells ≡ true
+        → AreSettings (S.view store.old).file_at environment.now configs.now (settings_view s)) }
+    ensures refused { IfErr result (λ e. IsMemory e
+        ⊎ HasFailed (S.view store.old).faults (S.view store.new).faults e) }
+{
+    let mut values = environment.values(alloc)?;
+    for config in configs {
+        let later = match values_at(alloc, store, config.path.as_str()) {
+            Ok(later) => later,
+            Err(error) => return Err(error),
+        };
+        values = values_or(values, later);
+    }
+    Ok(settings_of(values))
+}
+
+#[cfg(test)]
+mod tests {
+    use super::*;
+    use edit_sources::config::read_configs;
+    use edit_store::MemoryStore;
+    use std::test::Fail;
+
+    const CONFIG: &[u8] = b"[net]\nretry = 7\n[http]\ntimeout = 5\ncainfo = \"ca.pem\"\n";
+
+    #[test]
+    fn of_both(rt: HostRuntime) -> Result<(), Fail> {
+        let mut store = MemoryStore::new(rt.alloc());
+        store.write(rt.alloc(), "/w/.cargo/config.toml", CONFIG)?;
+        let configs = read_configs(rt.alloc(), &mut store, "/w/Cargo.toml", None)?;
+        let environment = Environment {
+            offline: Some("true"),
+            retry: Some("9"),
+            timeout: None,
+            proxy: None,
+            cainfo: None,
+        };
+        let settings = net_settings(rt.alloc(), &mut store, &environment, &configs)?;
+        assert!(rt; settings.offline);
+        assert_eq!(rt; settings.retry, 9);
+        assert_eq!(rt; settings.timeout, 5);
+        assert_eq!(rt; settings.cainfo.as_deref(), Some("/w/ca.pem"));
+        Ok(())
+    }
+}

@@ -1,0 +1,272 @@
+//! The transfers that fetch index entries, as text for curl.
+ghost use Rattle.std.specs.Prelude.{◌≡◌, ◌==◌, ◌++◌, true, IfOk, IsSome, OnOk, decimal, map, option_map, string_bytes};
+ghost use Rattle.std.specs.List.{flat_map, list_any};
+ghost use Rattle.edit_fetch.specs.CurlConfig.{in_a_row, option_line, options_in, without_nuls};
+ghost use Rattle.edit_fetch.specs.Transfers.{begins_at_loopback, common_options, etag_options, file_options, has_either, header_text, is_header_text, is_https, is_loopback, is_secure, named_options, numbered, protocol_options, protocols, requests_text, sent_etag, sent_token, time_options, token_options, transfer_options};
+
+use crate::curl_config::{push_bare, push_parting, push_valued};
+use crate::settings::NetSettings;
+use std::alloc::{AllocError, Global};
+
+/// An index entry that is to be fetched.
+#[derive(Debug, Drop)]
+pub struct Request<'a> {
+    /// The number of its lookup, from 1.
+    pub number: usize,
+    /// Where it is fetched, an `http` or `https` address.
+    pub url: Vec<u8>,
+    /// The ETag of the cached entry, where that counts.
+    pub etag: Option<String>,
+    /// The token of its registry, where there is one.
+    pub token: Option<&'a str>,
+}
+
+/// Whether an address is reached by TLS.
+fn is_https(url: &[u8]) -> bool
+    ensures { result ≡ is_https url.now }
+{
+    url.starts_with(b"https://")
+}
+
+/// Whether an address begins with one of two texts.
+#[tactic(auto, unfolding(crate::specs::Transfers::has_either))]
+fn has_either(url: &[u8], first: &[u8], second: &[u8]) -> bool
+    ensures { result ≡ has_either url.now first.now second.now }
+{
+    url.starts_with(first) || url.starts_with(second)
+}
+
+/// Whether an address names the loopback interface after its scheme.
+fn begins_at_loopback(url: &[u8]) -> bool
+    ensures { result ≡ begins_at_loopback url.now }
+{
+    has_either(url, b"http://localhost/", b"http://localhost:")
+        || has_either(url, b"http://127.0.0.1/", b"http://127.0.0.1:")
+        || has_either(url, b"http://[::1]/", b"http://[::1]:")
+}
+
+/// Whether `@` stands in an address.
+fn has_at_sign(url: &[u8]) -> bool
+    ensures { result ≡ list_any (λ b. b == 64) url.now }
+{
+    url.iter().any(|b| *b == b'@')
+}
+
+/// Whether an address is one of the loopback interface.
+fn is_loopback(url: &[u8]) -> bool
+    ensures { result ≡ is_loopback url.now }
+{
+    !has_at_sign(url) && begins_at_loopback(url)
+}
+
+/// Whether a text may stand in a header.
+fn is_header_text(text: &[u8]) -> bool
+    ensures { result ≡ is_header_text text.now }
+{
+    text.iter().all(|b| 32 <= *b && *b != 127)
+}
+
+/// A text, where it may stand in a header.
+fn header_text<'a>(text: Option<&'a str>) -> Option<&'a str>
+    ensures { option_map (λ t. t.now) result ≡ header_text (option_map (λ t. t.now) text.entry) }
+{
+    let text = text?;
+    if is_header_text(text.as_bytes()) {
+        Some(text)
+    } else {
+        None
+    }
+}
+
+/// The token that is sent.
+fn sent_token<'a>(request: &Request<'a>) -> Option<&'a str>
+    ensures token { option_map (λ t. t.now) result ≡ sent_token request.now }
+    ensures secure { IsSome result → is_secure request.now.url.items ≡ true }
+{
+    if is_https(&request.url) || is_loopback(&request.url) {
+        header_text(request.token)
+    } else {
+        None
+    }
+}
+
+/// Adds the header with the ETag of the cached entry.
+#[tactic(auto, unfolding(crate::specs::Transfers::etag_options))]
+fn push_etag(alloc: Global, text: &mut Vec<u8>, request: &Request<'_>) -> Result<(), AllocError>
+    ensures { OnOk result (text.new.items
+        ≡ text.old.items ++ flat_map option_line (etag_options (sent_etag request.now))) }
+{
+    let Some(etag) = header_text(request.etag.as_deref()) else {
+        return Ok(());
+    };
+    let header = format!(in alloc; "If-None-Match: {etag}")?;
+    push_valued(text, "header", header.as_bytes())?;
+    Ok(())
+}
+
+/// Adds the header with a token, or that redirects are followed.
+#[tactic(auto, unfolding(crate::specs::Transfers::token_options))]
+fn push_token(alloc: Global, text: &mut Vec<u8>, request: &Request<'_>) -> Result<(), AllocError>
+    ensures { OnOk result (text.new.items
+        ≡ text.old.items ++ flat_map option_line (token_options (sent_token request.now))) }
+{
+    let Some(token) = sent_token(request) else {
+        push_bare(text, "location")?;
+        push_valued(text, "max-redirs", b"5")?;
+        return Ok(());
+    };
+    let header = format!(in alloc; "Authorization: {token}")?;
+    push_valued(text, "header", header.as_bytes())?;
+    Ok(())
+}
+
+/// The protocols that may be used, as curl has them.
+fn protocols(url: &[u8]) -> &'static str
+    ensures { result.now ≡ protocols url.now }
+{
+    if is_https(url) {
+        "=https"
+    } else {
+        "=http,https"
+    }
+}
+
+/// Adds the protocols that may be used.
+#[tactic(auto, unfolding(crate::specs::Transfers::protocol_options))]
+fn push_protocols(text: &mut Vec<u8>, url: &[u8]) -> Result<(), AllocError>
+    ensures { OnOk result (text.new.items
+        ≡ text.old.items ++ flat_map option_line (protocol_options url.now)) }
+{
+    let protocols = protocols(url).as_bytes();
+    push_valued(text, "proto", protocols)?;
+    push_valued(text, "proto-redir", protocols)?;
+    Ok(())
+}
+
+/// The path of a transfer's file.
+fn numbered(alloc: Global, room: &str, number: usize, ending: &str) -> Result<String, AllocError>
+    ensures { IfOk result (λ s. string_bytes s ≡ numbered room.now number ending.now) }
+{
+    format!(in alloc; "{room}/{number}{ending}")
+}
+
+/// Adds where to get an entry, and where to put what comes.
+#[tactic(auto, unfolding(crate::specs::Transfers::file_options))]
+fn push_files(
+    alloc: Global,
+    text: &mut Vec<u8>,
+    room: &str,
+    request: &Request<'_>,
+) -> Result<(), AllocError>
+    ensures { OnOk result (text.new.items
+        ≡ text.old.items ++ flat_map option_line (file_options room.now request.now)) }
+{
+    let number = request.number;
+    let body = numbered(alloc, room, number, "")?;
+    let etag = numbered(alloc, room, number, ".etag")?;
+    let outcome = format!(in alloc;
+        "{number}\t%{{response_code}}\t%{{exitcode}}\t%{{errormsg}}\n"
+    )?;
+    push_valued(text, "url", &request.url)?;
+    push_valued(text, "output", body.as_bytes())?;
+    push_valued(text, "etag-save", etag.as_bytes())?;
+    push_valued(text, "write-out", outcome.as_bytes())?;
+    Ok(())
+}
+
+/// Adds what all transfers have alike.
+#[tactic(auto, unfolding(crate::specs::Transfers::common_options))]
+fn push_common(text: &mut Vec<u8>) -> Result<(), AllocError>
+    ensures { OnOk result (text.new.items ≡ text.old.items ++ flat_map option_line common_options) }
+{
+    push_bare(text, "silent")?;
+    push_bare(text, "globoff")?;
+    push_bare(text, "compressed")?;
+    push_valued(text, "user-agent", b"cargo-edit/0.1.0")?;
+    Ok(())
+}
+
+/// Adds how long to wait, and how often to try again.
+#[tactic(auto, unfolding(crate::specs::Transfers::time_options))]
+fn push_times(alloc: Global, text: &mut Vec<u8>, settings: &NetSettings) -> Result<(), AllocError>
+    ensures { OnOk result (text.new.items
+        ≡ text.old.items ++ flat_map option_line (time_options settings.now)) }
+{
+    let timeout = settings.timeout.to_string(alloc)?;
+    let retry = settings.retry.to_string(alloc)?;
+    push_valued(text, "connect-timeout", timeout.as_bytes())?;
+    push_valued(text, "speed-limit", b"10")?;
+    push_valued(text, "speed-time", timeout.as_bytes())?;
+    push_valued(text, "retry", retry.as_bytes())?;
+    Ok(())
+}
+
+/// Adds the proxy and the file of certificates, where settings name them.
+#[tactic(auto, unfolding(crate::specs::Transfers::named_options))]
+fn push_named(text: &mut Vec<u8>, settings: &NetSettings) -> Result<(), AllocError>
+    ensures { OnOk result (text.new.items
+        ≡ text.old.items ++ flat_map option_line (named_options settings.now)) }
+{
+    if let Some(proxy) = &settings.proxy {
+        push_valued(text, "proxy", proxy.as_bytes())?;
+    }
+    if let Some(cainfo) = &settings.cainfo {
+        push_valued(text, "cacert", cainfo.as_bytes())?;
+    }
+    Ok(())
+}
+
+/// Adds the options of a transfer.
+#[tactic(auto, unfolding(crate::specs::Transfers::transfer_options))]
+fn push_transfer(
+    alloc: Global,
+    text: &mut Vec<u8>,
+    settings: &NetSettings,
+    room: &str,
+    request: &Request<'_>,
+) -> Result<(), AllocError>
+    ensures { OnOk result (text.new.items
+        ≡ text.old.items ++ flat_map option_line (transfer_options settings.now room.now request.now)) }
+{
+    push_files(alloc, text, room, request)?;
+    push_etag(alloc, text, request)?;
+    push_token(alloc, text, request)?;
+    push_protocols(text, &request.url)?;
+    push_common(text)?;
+    push_times(alloc, text, settings)?;
+    push_named(text, settings)?;
+    Ok(())
+}
+
+/// The lines of the options of transfers, parted by `next`.
+fn transfers_text(
+    alloc: Global,
+    settings: &NetSettings,
+    room: &str,
+    requests: &[Request<'_>],
+) -> Result<Vec<u8>, AllocError>
+    ensures { IfOk result (λ v. v.items ≡ requests_text settings.now room.now requests.now) }
+{
+    let mut text = Vec::new(alloc);
+    for (i, request) in requests.iter().enumerate() {
+        push_parting(&mut text, i)?;
+        push_transfer(alloc, &mut text, settings, room, request)?;
+    }
+    Ok(text)
+}
+
+/// The configuration of curl that fetches these entries, each into a file of the folder `room`.
+pub fn requests_text(
+    alloc: Global,
+    settings: &NetSettings,
+    room: &str,
+    requests: &[Request<'_>],
+) -> Result<Vec<u8>, AllocError>
+    ensures text { IfOk result (λ v. v.items ≡ requests_text settings.now room.now requests.now) }
+    // no value ends its string or adds an option: curl reads these options and no others
+    ensures read { IfOk result (λ v. options_in v.items
+        ≡ map without_nuls (in_a_row (map (transfer_options settings.now room.now) requests.now))) }
+{
+    let text = transfers_text(alloc, settings, room, requests)?;
+    Ok(text)
+}

@@ -1,0 +1,4 @@
+pub mod CallLemmas
+pub mod IndexLemmas
+pub mod ListLemmas
+pub mod RightLemmas

@@ -1,0 +1,4 @@
+pub mod Cached
+pub mod Lookups
+pub mod Shown
+pub mod Validators

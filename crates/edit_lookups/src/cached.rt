@@ -1,0 +1,59 @@
+//! Where entries stand in the cache.
+ghost use Rattle.std.specs.Prelude.{◌≡◌, IfOk, string_bytes};
+ghost use Rattle.edit_sources.specs.Folders.{registry_folder};
+ghost use Rattle.edit_lookups.specs.Cached.{cached_path, validator_path};
+ghost use Rattle.edit_lookups.specs.Lookups.{lookup_text};
+ghost use Rattle.edit_lookups.specs.Shown.{shown_address};
+
+use crate::lookups::Lookup;
+use crate::shown::shown_address;
+use edit_sources::index_dir::folder::ESCAPED;
+use percent_encoding::utf8_percent_encode;
+use std::alloc::{AllocError, Global};
+
+/// The folder of a registry in the cache: its address without userinfo, each `%` as `%25` and each `/` as `%2F`.
+fn cached_folder(alloc: Global, address: &str) -> Result<String, AllocError>
+    ensures { IfOk result (λ s. string_bytes s ≡ registry_folder (shown_address address.now)) }
+{
+    let shown = shown_address(alloc, address)?;
+    let mut folder = String::new(alloc);
+    utf8_percent_encode(shown.as_str(), ESCAPED).append_to(&mut folder)?;
+    Ok(folder)
+}
+
+/// The file of an entry in the cache.
+pub fn cached_path(alloc: Global, cache: &str, lookup: &Lookup) -> Result<String, AllocError>
+    ensures { IfOk result (λ s. string_bytes s ≡ cached_path cache.now (lookup_text lookup.now)) }
+{
+    let folder = cached_folder(alloc, lookup.address)?;
+    let path = lookup.path;
+    format!(in alloc; "{cache}/{folder}/{path}")
+}
+
+/// The file of the validator of an entry, beside the entry's file.
+pub fn validator_path(alloc: Global, entry: &str) -> Result<String, AllocError>
+    ensures { IfOk result (λ s. string_bytes s ≡ validator_path entry.now) }
+{
+    format!(in alloc; "{entry}.etag")
+}
+
+#[cfg(test)]
+mod tests {
+    use super::*;
+    use std::test::Fail;
+
+    #[test]
+    fn in_the_cache(rt: HostRuntime) -> Result<(), Fail> {
+        let lookup = Lookup {
+            address: "sparse+https://user:pw@host.example/a%20b/",
+            name: "serde",
+            path: "se/rd/serde",
+        };
+        let entry = cached_path(rt.alloc(), "/cache", &lookup)?;
+        assert_eq!(rt;
+            entry.as_str(),
+            "/cache/sparse+https:%2F%2Fhost.example%2Fa%2520b%2F/se/rd/serde"
+        );
+        Ok(())
+    }
+}

@@ -1,0 +1,76 @@
+//! Addresses without user names and passwords.
+ghost use Rattle.std.specs.Prelude.{◌≡◌, ◌++◌, ◌-◌, ◌<◌, ◌≤◌, IfOk, codes, drop, length, slice_index, string_bytes};
+ghost use Rattle.edit_lookups.specs.Shown.{ends_authority, shown_address, userinfo_len};
+
+use std::alloc::{AllocError, Global};
+
+/// Whether a byte ends the part of an address that names the host: `/`, `?` or `#`.
+fn ends_authority(b: u8) -> bool
+    ensures { result ≡ ends_authority b }
+{
+    b == b'/' || b == b'?' || b == b'#'
+}
+
+/// How many bytes come up to the last `@` before the first `/`, `?` or `#`, with that `@`; 0 where there is none.
+fn userinfo_len(text: &[u8]) -> usize
+    ensures len { result ≡ userinfo_len text.now }
+    ensures within { result ≤ length text.now }
+    ensures behind { 0 < result → slice_index text.now (result - 1) ≡ 64 }
+{
+    let mut len = 0;
+    for (i, b) in text.iter().enumerate() {
+        if ends_authority(*b) {
+            return len;
+        }
+        if *b == b'@' {
+            len = i + 1;
+        }
+    }
+    len
+}
+
+/// What stands behind the userinfo at the front of a text.
+fn without_userinfo(text: &str) -> &str
+    ensures { result.now ≡ drop (userinfo_len text.now) text.now }
+{
+    let len = userinfo_len(text.as_bytes());
+    &text[len..]
+}
+
+/// A scheme, `//` and what follows them.
+fn with_scheme(alloc: Global, scheme: &str, rest: &str) -> Result<String, AllocError>
+    ensures { IfOk result (λ s. string_bytes s ≡ scheme.now ++ codes "//" ++ rest.now) }
+{
+    format!(in alloc; "{scheme}//{rest}")
+}
+
+/// An address without userinfo, for messages and for the names of folders.
+///
+/// The userinfo is what stands between `//` and the last `@` before the next `/`, `?` or `#`. It is taken out
+/// with that `@`. The `//` are the first two slashes of the address, where they stand together.
+pub fn shown_address(alloc: Global, address: &str) -> Result<String, AllocError>
+    ensures { IfOk result (λ s. string_bytes s ≡ shown_address address.now) }
+{
+    let Some((scheme, rest)) = address.split_once('/') else {
+        return String::from_str(alloc, address);
+    };
+    let Some(rest) = rest.strip_prefix('/') else {
+        return String::from_str(alloc, address);
+    };
+    with_scheme(alloc, scheme, without_userinfo(rest))
+}
+
+#[cfg(test)]
+mod tests {
+    use super::*;
+    use std::test::Fail;
+
+    #[test]
+    fn without_userinfo(rt: HostRuntime) -> Result<(), Fail> {
+        let shown = shown_address(rt.alloc(), "sparse+https://user:p@ss@host.example/a@b")?;
+        assert_eq!(rt; shown.as_str(), "sparse+https://host.example/a@b");
+        let shown = shown_address(rt.alloc(), "https://host.example?q=a@b")?;
+        assert_eq!(rt; shown.as_str(), "https://host.example?q=a@b");
+        Ok(())
+    }
+}

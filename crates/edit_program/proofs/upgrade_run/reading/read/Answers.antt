@@ -1,0 +1,38 @@
+use Rattle.std.proofs.Common.{◌≡◌, inl, subst, true}
+use Rattle.std.specs.Prelude.{◌⊎◌}
+use Rattle.edit_sources.specs.Configured.{given}
+use Rattle.edit_steps.proofs.Refusals.{refusal_has}
+use Rattle.edit_steps.specs.Causes.{IsReadCause}
+use Rattle.edit_program.specs.LockRead.{HasNoLock}
+use Rattle.edit_program.specs.Planned.{asking}
+use Rattle.edit_program.proofs.LockLemmas.{cause_after, lock_refused}
+use Rattle.edit_program.proofs.upgrade_run.reading.read.Goals as goal
+
+pub returns-in_err-lock-clause-refused : goal.returns-in_err-lock-clause-refused
+returns-in_err-lock-clause-refused g c =
+    let words = c.args.words.now in
+    let current = c.args.current.now in
+    let home = given c.args.cargo_home in
+    let old = g.S.Store.view c.args.files.now in
+    let new = g.S.Store.view c.read_lock.new.files in
+    let e = c.in_err-lock.field-0.0 in
+    refusal_has c.from_residual.result e (λ error. IsReadCause current home (asking words) old new error
+    ⊎ (old.tells ≡ true → HasNoLock old.file_at current (given words.lock_file) error))
+    c.from_residual.ensures.1
+    (lock_refused old new current home (given words.lock_file) (asking words) e.error c.in_err-lock.ensures.refused)
+
+pub returns-in_err-sources-clause-refused : goal.returns-in_err-sources-clause-refused
+returns-in_err-sources-clause-refused g c =
+    let words = c.args.words.now in
+    let current = c.args.current.now in
+    let home = given c.args.cargo_home in
+    let old = g.S.Store.view c.args.files.now in
+    let mid = g.S.Store.view c.read_lock.new.files in
+    let new = g.S.Store.view c.read_sources.new.files in
+    let e = c.in_err-sources.field-0.0 in
+    refusal_has c.from_residual-in_err-sources.result e
+    (λ error. IsReadCause current home (asking words) old new error
+    ⊎ (old.tells ≡ true → HasNoLock old.file_at current (given words.lock_file) error))
+    c.from_residual-in_err-sources.ensures.1
+    (inl (cause_after old mid new current home (asking words) e.error c.in_ok-lock.ensures.store
+    (subst (λ a. IsReadCause current home a mid new e.error) c.asked.ensures c.in_err-sources.ensures.refused)))

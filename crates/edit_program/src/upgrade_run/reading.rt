@@ -1,0 +1,98 @@
+//! What an upgrade reads.
+ghost use Rattle.std.specs.Prelude.{◌≡◌, ◌⊎◌, IfErr, IfOk, Some, option_map, true};
+ghost use Rattle.edit_base.specs.declared.errors.DeviceCall.TheVariants as call;
+ghost use Rattle.edit_lock.specs.Views.{packages_seen};
+ghost use Rattle.edit_sources.specs.Configured.{given};
+ghost use Rattle.edit_steps.specs.Causes.{IsReadCause};
+ghost use Rattle.edit_steps.specs.Sources.{MayBePlanned};
+ghost use Rattle.edit_store.specs.Store.{OnlyReads, RefusesCall};
+ghost use Rattle.edit_program.specs.LockRead.{HasNoLock, IsLockAt, IsLockRead};
+ghost use Rattle.edit_program.specs.Planned.{asking};
+ghost use Rattle.edit_program.specs.Upgrading.{IsRead};
+
+use crate::upgrade_run::words::UpgradeWords;
+use edit_lock::Lock;
+use edit_steps::upgrade_read::{Sources, read_sources};
+use edit_steps::{RunResult, absolute, at_path};
+use edit_store::Store;
+use std::alloc::Global;
+
+/// What an upgrade rests on, and the lock file that its calls have to be right against.
+pub(crate) struct Readings {
+    pub(crate) sources: Sources,
+    pub(crate) lock: Option<Lock>,
+}
+
+/// Reads the lock file at a path; it has no packages where no file stands.
+fn read_lock_at<S: Store>(
+    alloc: Global,
+    named: &str,
+    current: &str,
+    files: &mut S,
+) -> RunResult<Lock>
+    ensures store { OnlyReads (S.view files.old) (S.view files.new) }
+    ensures read { IfOk result (λ lock. (S.view files.old).tells ≡ true
+        → IsLockAt (S.view files.old).file_at current.now named.now (packages_seen lock)) }
+    ensures refused { IfErr result (λ r. RefusesCall call.Read (S.view files.old) (S.view files.new) r.error
+        ⊎ ((S.view files.old).tells ≡ true
+        → HasNoLock (S.view files.old).file_at current.now (Some named.now) r.error)) }
+{
+    let path = absolute(alloc, current, named)?;
+    let bytes = match files.read(alloc, path.as_str()) {
+        Ok(Some(bytes)) => bytes,
+        Ok(None) => return Ok(Lock::empty(alloc)),
+        Err(error) => return Err(at_path(alloc, error, path.as_str())),
+    };
+    match Lock::read(alloc, &bytes) {
+        Ok(lock) => Ok(lock),
+        Err(error) => Err(at_path(alloc, error, path.as_str())),
+    }
+}
+
+/// Reads the lock file that is named, where one is.
+fn read_lock<S: Store>(
+    alloc: Global,
+    named: Option<&str>,
+    current: &str,
+    files: &mut S,
+) -> RunResult<Option<Lock>>
+    ensures store { OnlyReads (S.view files.old) (S.view files.new) }
+    ensures read { IfOk result (λ lock. (S.view files.old).tells ≡ true
+        → IsLockRead (S.view files.old).file_at current.now (given named.entry) (option_map packages_seen lock)) }
+    ensures refused { IfErr result (λ r. RefusesCall call.Read (S.view files.old) (S.view files.new) r.error
+        ⊎ ((S.view files.old).tells ≡ true
+        → HasNoLock (S.view files.old).file_at current.now (given named.entry) r.error)) }
+{
+    let Some(named) = named else {
+        return Ok(None);
+    };
+    match read_lock_at(alloc, named, current, files) {
+        Ok(lock) => Ok(Some(lock)),
+        Err(refusal) => Err(refusal),
+    }
+}
+
+/// Reads the lock file that the words name, and then what the upgrade rests on. No file changes.
+pub(crate) fn read<S: Store>(
+    alloc: Global,
+    words: &UpgradeWords<'_>,
+    current: &str,
+    cargo_home: Option<&str>,
+    files: &mut S,
+) -> RunResult<Readings>
+    ensures store { OnlyReads (S.view files.old) (S.view files.new) }
+    ensures read { IfOk result (λ r. (S.view files.old).tells ≡ true
+        → IsRead words.now current.now (given cargo_home.entry) (S.view files.old).file_at r.sources) }
+    ensures locked { IfOk result (λ r. (S.view files.old).tells ≡ true
+        → IsLockRead (S.view files.old).file_at current.now (given words.now.lock_file)
+        (option_map packages_seen r.lock)) }
+    ensures planned { IfOk result (λ r. MayBePlanned r.sources) }
+    ensures refused { IfErr result (λ r. IsReadCause current.now (given cargo_home.entry) (asking words.now)
+        (S.view files.old) (S.view files.new) r.error
+        ⊎ ((S.view files.old).tells ≡ true
+        → HasNoLock (S.view files.old).file_at current.now (given words.now.lock_file) r.error)) }
+{
+    let lock = read_lock(alloc, words.lock_file, current, files)?;
+    let sources = read_sources(alloc, &words.asked(), current, cargo_home, files)?;
+    Ok(Readings { sources, lock })
+}

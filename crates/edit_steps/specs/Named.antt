@@ -1,0 +1,86 @@
+-- Configuration files that the command line names, and the configurations of a manifest with them.
+use Rattle.std.specs.Prelude.{◌≡◌, ℕ, List, ◌++◌, Option, Some, None, ⊤, option_map, string_bytes}
+use Rattle.std.specs.Borrow.{Bor}
+use Rattle.std.specs.Global.{Vec}
+use Rattle.std.specs.List.{AllZip}
+use Rattle.std.specs.Option.{option_to_list}
+use Rattle.edit_base.specs.declared.errors.Error.{Error}
+use Rattle.edit_base.specs.declared.errors.Error.TheVariants.{NoPath}
+use Rattle.edit_metadata.specs.declared.input.Input.{Input}
+use Rattle.edit_sources.specs.ConfigurationFiles.{AreConfigs, IsReadFrom, IsUnread}
+use Rattle.edit_sources.specs.declared.config.Config.{Config}
+use Rattle.edit_store.specs.Store.{Files}
+use Rattle.edit_steps.specs.Absolute.{IsAbsoluteOf}
+use Rattle.edit_steps.specs.Asking.{Asking}
+use Rattle.edit_steps.specs.declared.upgrade_read.named.NamedFile.{NamedFile}
+use Rattle.edit_steps.specs.declared.upgrade_read.named.NamedFiles.{NamedFiles}
+
+-- a file: its path and its bytes
+abbrev pub PathAndBytes : Type 0
+PathAndBytes = List ℕ × List ℕ
+
+-- the path and the bytes of a file that was read
+abbrev pub path_and_bytes : NamedFile → PathAndBytes
+path_and_bytes file = (string_bytes file.path, file.bytes.items)
+
+-- the same, of a file that need not be there
+abbrev pub seen : Option (Bor NamedFile) → Option PathAndBytes
+seen file = option_map (λ f. path_and_bytes f.now) file
+
+-- the file that is named stands at its absolute path, with these bytes; where none is named there is none
+abbrev pub IsNamedRead : Files → List ℕ → Option (List ℕ) → Option PathAndBytes → Type 0
+IsNamedRead files current None None = ⊤
+IsNamedRead files current (Some named) (Some file) =
+    IsAbsoluteOf current named file.0 × (files file.0 ≡ Some file.1)
+IsNamedRead files current _ _ = ⊥
+
+-- the two files that may be named: the one that counts before all others, and the one that counts after them
+pub record Pair : Type 0 where
+  pub first : Option PathAndBytes
+  pub last : Option PathAndBytes
+
+-- the two files, as they were read
+abbrev pub pair_of : NamedFiles → Pair
+pair_of named = record {
+  first = option_map path_and_bytes named.first;
+  last = option_map path_and_bytes named.last;
+}
+
+-- both were read
+pub record ArePairRead (files : Files) (current : List ℕ) (asking : Asking) (pair : Pair) : Type 0 where
+  pub first : IsNamedRead files current asking.config pair.first
+  pub last : IsNamedRead files current asking.default_config pair.last
+
+-- what these files say
+abbrev pub AreSaid : Option PathAndBytes → List Config → Type 0
+AreSaid file configs = AllZip IsReadFrom (option_to_list file) configs
+
+-- a file that says no configuration, and its error
+abbrev pub IsUnreadFile : Option PathAndBytes → Error → Type 0
+IsUnreadFile None e = ⊥
+IsUnreadFile (Some file) e = IsUnread file e
+
+-- the configurations of a manifest: that of the first file, its own, and that of the last file
+pub record AreGathered (files : Files) (home : Option (List ℕ)) (pair : Pair) (manifest : List ℕ)
+    (configs : List Config) : Type 0 where
+  pub before : List Config
+  pub own : List Config
+  pub behind : List Config
+  pub first : AreSaid pair.first before
+  pub read : AreConfigs files manifest home own
+  pub last : AreSaid pair.last behind
+  pub all : configs ≡ before ++ (own ++ behind)
+
+-- each input has the configurations of its manifest
+abbrev pub AreConfigured : Files → Option (List ℕ) → Pair → List Input → List (Vec Config) → Type 0
+AreConfigured files home pair inputs configs =
+    AllZip (λ input own. AreGathered files home pair (string_bytes input.path) own.items) inputs configs
+
+-- a file is named, and there is none
+pub record HasNoFile (files : Files) (current : List ℕ) (named : Option (List ℕ)) (e : Error) : Type 0 where
+  pub name : List ℕ
+  pub is : named ≡ Some name
+  pub path : List ℕ
+  pub at : IsAbsoluteOf current name path
+  pub absent : files path ≡ None
+  pub error : e ≡ NoPath

@@ -1,0 +1,90 @@
+//! The configuration files that the command line names.
+ghost use Rattle.std.specs.Prelude.{◌≡◌, ◌⊎◌, IfErr, IfOk, option_map, true};
+ghost use Rattle.edit_base.specs.Errors.{IsMemory};
+ghost use Rattle.edit_base.specs.declared.errors.DeviceCall.TheVariants as call;
+ghost use Rattle.edit_sources.specs.Configured.{given};
+ghost use Rattle.edit_store.specs.Store.{OnlyReads, RefusesCall};
+ghost use Rattle.edit_steps.specs.Asking.{asking_of};
+ghost use Rattle.edit_steps.specs.Causes.{LacksNamed};
+ghost use Rattle.edit_steps.specs.Named.{ArePairRead, AreSaid, HasNoFile, IsNamedRead, IsUnreadFile, pair_of, path_and_bytes, seen};
+
+use crate::upgrade_read::asked::Asked;
+use crate::{RunResult, absolute, at_path};
+use edit_base::{CargoResult, Error};
+use edit_sources::Config;
+use edit_store::Store;
+use std::alloc::Global;
+
+/// A configuration file that the command line names, as it was read.
+#[derive(Drop)]
+pub(crate) struct NamedFile {
+    pub(crate) path: String,
+    pub(crate) bytes: Vec<u8>,
+}
+
+/// The configuration files that the command line names: the one that counts before all others, and the one
+/// that counts after them.
+#[derive(Drop)]
+pub(crate) struct NamedFiles {
+    pub(crate) first: Option<NamedFile>,
+    pub(crate) last: Option<NamedFile>,
+}
+
+/// Reads the file that is named; none where none is.
+fn read_file<S: Store>(
+    alloc: Global,
+    named: Option<&str>,
+    current: &str,
+    files: &mut S,
+) -> RunResult<Option<NamedFile>>
+    ensures store { OnlyReads (S.view files.old) (S.view files.new) }
+    ensures read { IfOk result (λ f. (S.view files.old).tells ≡ true → IsNamedRead
+        (S.view files.old).file_at current.now (given named.entry) (option_map path_and_bytes f)) }
+    ensures refused { IfErr result (λ r. RefusesCall call.Read (S.view files.old) (S.view files.new) r.error
+        ⊎ ((S.view files.old).tells ≡ true
+        → HasNoFile (S.view files.old).file_at current.now (given named.entry) r.error)) }
+{
+    let Some(named) = named else {
+        return Ok(None);
+    };
+    let path = absolute(alloc, current, named)?;
+    match files.read(alloc, path.as_str()) {
+        Ok(Some(bytes)) => Ok(Some(NamedFile { path, bytes })),
+        Ok(None) => Err(at_path(alloc, Error::NoPath, path.as_str())),
+        Err(error) => Err(at_path(alloc, error, path.as_str())),
+    }
+}
+
+/// Reads the configuration files that are named.
+pub(crate) fn read_named<S: Store>(
+    alloc: Global,
+    asked: &Asked<'_>,
+    current: &str,
+    files: &mut S,
+) -> RunResult<NamedFiles>
+    ensures store { OnlyReads (S.view files.old) (S.view files.new) }
+    ensures read { IfOk result (λ n. (S.view files.old).tells ≡ true → ArePairRead
+        (S.view files.old).file_at current.now (asking_of asked.now) (pair_of n)) }
+    ensures refused { IfErr result (λ r. RefusesCall call.Read (S.view files.old) (S.view files.new) r.error
+        ⊎ ((S.view files.old).tells ≡ true
+        → LacksNamed (S.view files.old).file_at current.now (asking_of asked.now) r.error)) }
+{
+    let first = read_file(alloc, asked.config, current, files)?;
+    let last = read_file(alloc, asked.default_config, current, files)?;
+    Ok(NamedFiles { first, last })
+}
+
+/// The configuration that a file says, where there is one. A file that is no configuration is an error.
+pub(crate) fn configs_in(alloc: Global, file: Option<&NamedFile>) -> CargoResult<Vec<Config>>
+    ensures said { IfOk result (λ v. AreSaid (seen file.entry) v.items) }
+    ensures refused { IfErr result (λ e. IsMemory e ⊎ IsUnreadFile (seen file.entry) e) }
+{
+    let mut configs = Vec::new(alloc);
+    if let Some(file) = file {
+        match Config::read(alloc, file.path.as_str(), &file.bytes) {
+            Ok(config) => configs.push(config)?,
+            Err(error) => return Err(error),
+        }
+    }
+    Ok(configs)
+}
