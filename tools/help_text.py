@@ -64,9 +64,6 @@ class Help:
         """The entries that are options, whatever their heading."""
         return [it for _, entries, _ in self.sections for it in entries if it.flags]
 
-    def with_more(self, other):
-        return Help(self.about, self.usage, self.sections + other.sections)
-
 
 def section(heading, lines):
     """The entries of a section; a line that stands deeper goes on with the text of the entry above."""

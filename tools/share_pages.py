@@ -1,8 +1,8 @@
 """Man pages in roff, made of a help."""
 STATUS = (
-    ("0", "All was done; with --check: nothing would change."),
-    ("1", "It was refused; the reason is printed behind `Error: `. With --check and no such line: something would change."),
-    ("2", "The command line is at fault."),
+    ("0", "Success; with --check: nothing would change."),
+    ("1", "An error, which is printed after `Error: `; with --check and no such line: something would change."),
+    ("2", "A usage error."),
 )
 
 
@@ -70,5 +70,4 @@ def of_program(name, version, top, commands, installed):
 
 def of_command(name, command, version, page):
     """The page of a command that is installed by its own name, and so is one of cargo's."""
-    shown = page.usage.replace("cargo-edit ", "cargo ", 1)
-    return joined(front(name, version, page.about) + usage(shown) + sections(page, "SH") + back(["cargo", "cargo-edit"]))
+    return joined(front(name, version, page.about) + usage(page.usage) + sections(page, "SH") + back(["cargo", "cargo-edit"]))

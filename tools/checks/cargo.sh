@@ -1,53 +1,20 @@
 #!/usr/bin/env bash
-# cargo.sh PROGRAM [FILE]   `cargo upgrade` and `cargo set-version` by the scripts of bin/, with real cargo, over registries on the
-# loopback interface (cargo_registry.py): two sparse ones with a crate of one name, one as a folder, and a workspace of five
-# members with inherited, renamed, target, git and path entries. The commands are installed from the tarball of
-# tools/dist.sh, which is all that the folder they run from has. Left out where cargo, curl or git is not on PATH.
-set -eu -o pipefail
-export LC_ALL=C
-here=$(cd "$(dirname "$0")/../.." && pwd)
-for tool in cargo curl git; do
-  command -v "$tool" > /dev/null || { echo "cargo.sh: left out, there is no $tool on PATH"; exit 0; }
-done
-room=$(mktemp -d)
-server=
-trap 'touch "$room/stop"; [ -z "$server" ] || wait "$server"; rm -rf "$room"' EXIT
-mkdir "$room/home" "$room/ws" "$room/alone"
-"$here/tools/dist.sh" "$room" "$1" > "$room/answer"
-tar -xzf "$room"/cargo-edit-*.tar.gz -C "$room/alone"
-(cd "$room"/alone/* && ./install.sh "$room") 2> "$room/answer"
-python3 "$here/tools/checks/cargo_registry.py" "$room" &
-server=$!
-for _ in $(seq 100); do [ -f "$room/port" ] || sleep 0.1; done
-base=http://127.0.0.1:$(cat "$room/port")
-export NO_PROXY=127.0.0.1 no_proxy=127.0.0.1
-curl -sf -o "$room/answer" "$base/one/config.json" || { echo "cargo.sh: left out, the loopback interface does not answer"; exit 0; }
-export CARGO_HOME="$room/home" XDG_CACHE_HOME="$room/cache" CARGO_NET_GIT_FETCH_WITH_CLI=true PATH="$room/bin:$PATH"
-cargo --version > "$room/answer" 2>&1 || { echo "cargo.sh: left out, cargo does not run"; exit 0; }
-cat > "$room/home/config.toml" << END
-[source.crates-io]
-replace-with = "one"
-
-[source.one]
-registry = "sparse+$base/one/"
-
-[registries.two]
-index = "sparse+$base/two/"
-
-[registries.files]
-index = "file://$room/files"
-END
+# cargo.sh PROGRAM [FILE]   `cargo upgrade` and `cargo set-version` by the scripts of bin/, with real cargo, over
+# registries on the loopback interface (tools/cargo_checks/registry.py): two sparse ones with a crate of one name, one
+# as a folder, and a workspace of five members with inherited, renamed, target, git and path entries. FILE gets what
+# the runs print.
+# shellcheck source-path=SCRIPTDIR source=../cargo_checks/lib.sh
+. "$(dirname "$0")/../cargo_checks/lib.sh"
+begin "$1"
+set -e
+mkdir "$room/ws" "$room/five"
 
 package() { # folder, name, the rest of its manifest
   mkdir -p "$1/src"
   touch "$1/src/lib.rs"
   printf '[package]\nname = "%s"\nversion.workspace = true\nedition = "2021"\n\n%s\n' "$2" "$3" > "$1/Cargo.toml"
 }
-package "$room/repo" local ''
-sed -i 's/^version.workspace = true/version = "0.1.0"/' "$room/repo/Cargo.toml"
-git init -q "$room/repo"
-git -C "$room/repo" add .
-git -C "$room/repo" -c user.name=a -c user.email=a@b.invalid commit -q -m local
+repository "$room/repo"
 cd "$room/ws"
 printf '[workspace]\nmembers = ["a", "b", "c", "d", "e"]\nresolver = "2"\n\n[workspace.package]\nversion = "0.1.0"\n\n%s\n' \
   '[workspace.dependencies]
@@ -66,8 +33,7 @@ dep = { version = "2.0", registry = "two" }
 filed = { version = "1.0", registry = "files" }'
 cargo generate-lockfile 2> /dev/null
 cargo update --precise 1.0.0 dep@1.2.3 2> /dev/null
-mkdir "$room/first"
-cp -R . "$room/first"
+cp -R . "$room/five"
 
 # A text with names in place of what another run has otherwise.
 named() { sed -e "s|$room/ws|/ws|g" -e "s|$base|http://registry|g" -e "s|$room|/room|g"; }
@@ -90,14 +56,26 @@ runs() { # status, words of cargo
   [ "$status" = "$wanted" ] || fails "status $status in place of $wanted"
 }
 prints() { diff - "$room/out" > "$room/diff" || fails "$(cat "$room/diff")"; }
-tells() { # (answers come in any order, and so do the warnings of what was not fetched)
-  { sed -n '/^warning: .*`/p' "$room/err" | sort; sed '/^warning: .*`/d' "$room/err"; } > "$room/told"
+tells() { # (what is said of the registries, `unhad` looks at)
+  sed '/^warning: .*sparse+http:/d' "$room/err" > "$room/told"
   diff - "$room/told" > "$room/diff" || fails "$(cat "$room/diff")"
+}
+unhad() { # the warnings of what was not had from the two registries: what each says
+  local registry crates
+  while read -r registry crates; do
+    grep -E "^warning: .*sparse\+http://registry/$registry/.*[ (]$crates(\)| \(.*)?\$" "$room/err" | grep -q -E -- "$1" ||
+      fails "no warning that names the registry $registry, \`$1\` and $crates"
+  done << END
+one dep, other, third
+two dep
+END
+  [ "$(grep -c '^warning: .*sparse+http:' "$room/err")" -eq 2 ] || fails 'not one warning for each registry'
 }
 looks() { # whose dependencies are looked at
   for it in 'virtual workspace' a b c d e; do printf '    Checking %s'"'"'s dependencies\n' "$it"; done
 }
-calls() { printf "         Run cargo update --manifest-path /ws/Cargo.toml %s --offline\n" "$@"; }
+calls() { printf "         Run cargo update --manifest-path /ws/Cargo.toml %s${offline:+ --offline}\n" "$@"; }
+offline=
 others() { printf 'note: Re-run with `--%s\n' "$@"; }
 pinned='pinned` to upgrade pinned version requirements'
 incompatible='incompatible` to upgrade incompatible version requirements'
@@ -121,15 +99,15 @@ dep   2.0     2.4.0      3.0.0  2.4     incompatible
 filed 1.0     1.3.0      1.3.0  1.3                 
 END
 }
-has() { grep -q -F -- "$2" "$1" || fails "no \`$2\` in $1"; }
+has() { grep -q -F -- "$2" "$1" || fails "no $2 in $1"; }
 locks() { # the versions of dep, parted by blanks; third 1.1.0, which needs dep 1, is locked all along, and so is the rest
   printf 'dep %s\n' $1 > "$room/wanted"
   printf '%s\n' 'filed 1.3.0' 'other 0.2.5' 'third 1.1.0' >> "$room/wanted"
   awk '{ gsub(/"/, "") } $1 == "name" { name = $3 } $1 == "version" && name ~ /^(dep|filed|other|third)$/ { print name, $3 }' \
     Cargo.lock | sort | diff "$room/wanted" - > "$room/diff" || fails "$(cat "$room/diff")"
 }
-unchanged() { diff -r "$room/${1:-first}" . > "$room/out" || fails 'a file changed'; }
-again() { rm -rf ./*; cp -R "$room/first/." .; }
+unchanged() { diff -r "$room/${1:-five}" . > "$room/out" || fails 'a file changed'; }
+again() { rm -rf ./*; cp -R "$room/five/." .; }
 requires() { # the requirements of dep, other, third, the second dep, filed
   has Cargo.toml "dep = \"$1\""
   has b/Cargo.toml "d2 = { package = \"other\", version = \"$2\" } # renamed"
@@ -139,16 +117,9 @@ requires() { # the requirements of dep, other, third, the second dep, filed
 }
 
 held() { printf '  git: local\n  latest: %s\n' "${1:-a}"; }
-whole() { looks; calls "$git" "$raised"; others "$pinned" "$incompatible" "$verbose"; held; }
-unfetched() { # what the registry and curl answered
-  printf 'warning: `%s` could not be fetched from sparse+http://registry/%s/ (%s): what is kept is used\n' \
-    dep one "$1" dep two "$1" other one "$1" third one "$1"
-}
-unkept() {
-  printf 'warning: nothing is kept of `%s` at sparse+http://registry/%s/, and --offline fetches nothing\n' \
-    dep one dep two other one third one
-}
-
+# (the call for the git dependency takes dep to 1.2.3, so the next one is for that version)
+moved='--aggressive --package dep@1.2.3 --package dep@2.4.0 --package filed@1.3.0 --package other@0.2.5 --package third@1.1.0'
+whole() { looks; calls "$git" "$raised"; others "$pinned" "$incompatible" "$verbose"; held; calls "$moved"; }
 runs 0 upgrade --dry-run
 raises
 { looks; others "$pinned" "$incompatible" "$verbose"; held; echo 'warning: aborting upgrade due to dry run'; } | tells
@@ -178,22 +149,23 @@ prints < /dev/null
 } | tells
 unchanged second
 [ ! -s "$room/asked" ] || fails 'a request'
-while read -r mode answer; do
+while IFS=: read -r mode answer; do
   echo "$mode" > "$room/mode"
   again
-  if [ "$mode" = short ]; then find "$room/cache" -name '*.etag' -delete; fi
-  CARGO_HTTP_TIMEOUT=2 runs 0 upgrade < /dev/null
+  if [ "$mode" = partial ]; then find "$cache" -name '*.etag' -delete; fi
+  CARGO_HTTP_TIMEOUT=1 runs 0 upgrade < /dev/null
   raises
-  { unfetched "$answer"; whole; } | tells
+  whole | tells
+  unhad "$answer"
   requires 1.2 0.2.5 1.1 2.4 1.3
   locks '1.2.3 2.4.0'
 done << END
-down status 503, curl 0
-slow status 000, curl 28
-short status 200, curl 18
+down:status 503
+slow 3:curl.? 28
+partial:curl.? 18
 END
 rm "$room/mode"
-rm -rf "$room/cache"
+rm -rf "$cache"
 again
 runs 0 upgrade --offline
 prints << END
@@ -201,7 +173,10 @@ name  old req compatible latest new req
 ====  ======= ========== ====== =======
 filed 1.0     1.3.0      1.3.0  1.3    
 END
-{ unkept; looks; calls "$git" '--aggressive --package filed@1.3.0'; others "$verbose"; held '4 packages'; } | tells
+offline=yes
+{ looks; calls "$git" '--aggressive --package filed@1.3.0'; others "$verbose"; held '4 packages'; } | tells
+offline=
+unhad cached
 requires 1.0 0.2.0 1.0 2.0 1.3
 locks '1.0.0 2.4.0'
 again
@@ -221,7 +196,13 @@ name  old req compatible latest new req
 dep   2.0     2.4.0      3.0.0  3.0    
 filed 1.0     1.3.0      1.3.0  1.3    
 END
-{ looks; calls "$git" "$raised"; others "$pinned" "$verbose"; held; } | tells
+{
+  looks
+  calls "$git" "$raised"
+  others "$pinned" "$verbose"
+  held
+  calls '--aggressive --package dep@1.0.0 --package dep@2.0.0 --package dep@3.0.0 --package filed@1.3.0 --package other@0.2.5 --package third@1.1.0'
+} | tells
 requires 2.0 0.2.5 1.1 3.0 1.3
 locks '1.2.3 2.0.0 3.0.0'
 again

@@ -57,7 +57,7 @@ has "$room/out" '> serde_json = "1.0.128"'
 [ "$took" -lt 1000 ] || fails "it took $took milliseconds"
 
 # a workspace, by the scripts of bin/ in the clone and as they are installed
-python3 "$here/tools/checks/cargo_registry.py" "$room" &
+python3 "$here/tools/cargo_checks/registry.py" "$room" &
 server=$!
 for _ in $(seq 100); do [ -f "$room/port" ] || sleep 0.1; done
 mkdir -p "$room/home/.cargo" "$room/ws/a/src" "$room/ws/b/src"

@@ -80,6 +80,25 @@ source.a.replace-with = 'b'@source.b.replace-with = 'c'@source.c.registry = 'fil
 source.crates-io.replace-with = 'a'@"""
 
 
+# The address of a registry, a name, the registry, what the files of --config and --default-config say (`-`: the option
+# is not given), and what the project's own configuration says: the first file that defines a key counts.
+NAMED = """\
+file:///first|--config counts before the project's files|r|registries.r.index = 'file:///first'@|-|\
+registries.r.index = 'file:///own'@
+file:///own|--default-config counts after them|r|-|registries.r.index = 'file:///last'@|\
+registries.r.index = 'file:///own'@
+file:///last|--default-config where nothing else defines the key|r|-|registries.r.index = 'file:///last'@|
+file:///first|--config before --default-config|r|registries.r.index = 'file:///first'@|\
+registries.r.index = 'file:///last'@|
+file:///idx|a chain over all three|r|source.r.replace-with = 'b'@|source.c.registry = 'file:///idx'@|\
+source.b.replace-with = 'c'@
+sparse+https://index.crates.io/|crates-io named by an entry|crates-io|-|\
+source.crates-io.registry = 'sparse+https://index.crates.io/'@|
+32 The registry 'crates-io' could not be found|crates-io without a definition|crates-io|-|-|
+31 invalid cargo config at /named/first.toml|--config is no configuration|r|= no TOML|-|
+31 invalid cargo config at /named/last.toml|--default-config is no configuration|r|-|= no TOML|"""
+
+
 def unfolded(lines):
     """The lines of a field, which stand with `@` for a line's end."""
     return lines.replace("@", "\n")
@@ -122,6 +141,19 @@ def registries(check):
         files = {path: unfolded(lines) for path, lines in zip(rest[::2], rest[1::2])}
         files["/w/Cargo.toml"] = manifest(("k", registry))
         check.same("ADDRESSES", name, address(check.run(["looks"], files, CARGO_HOME="@ROOT@/home")), want)
+
+
+def named(check):
+    """Each row's registry under the files that the command line names."""
+    for row in NAMED.splitlines():
+        want, name, registry, first, last, own = row.split("|")
+        files = {"/w/Cargo.toml": manifest(("k", registry)), "/w/.cargo/config.toml": unfolded(own)}
+        words = ["looks"]
+        for option, file, lines in (("--config", "first", first), ("--default-config", "last", last)):
+            if lines != "-":
+                files[f"/named/{file}.toml"] = unfolded(lines)
+                words += [option, f"../named/{file}.toml"]
+        check.same("NAMED", name, address(check.run(words, files)), want)
 
 
 def configurations(check):
@@ -194,5 +226,5 @@ def chain(check):
 
 def rows(check):
     """All tables."""
-    for table in (registries, configurations, by_hand, members, workspace, chain):
+    for table in (registries, named, configurations, by_hand, members, workspace, chain):
         table(check)

@@ -44,6 +44,14 @@ For more information, try '--help'.
 2 error: a value is required for '--update-calls <FILE>' but none was supplied
 
 For more information, try '--help'.
+§looks --config=|\
+2 error: a value is required for '--config <FILE>' but none was supplied
+
+For more information, try '--help'.
+§upgrade --default-config ''|\
+2 error: a value is required for '--default-config <FILE>' but none was supplied
+
+For more information, try '--help'.
 §- --message-format xml|\
 2 error: invalid value 'xml' for '--message-format <human|json>'
 
@@ -79,10 +87,14 @@ Options:
       --index-file <FILE>            Index lines, as a registry's index has them
       --index-dir <DIR>              A folder with a folder of index files for each registry
       --update-calls <FILE>          Writes the calls of `cargo update` that follow to this file
+      --lock-file <FILE>             Leaves out of the calls what this Cargo.lock has not
+      --config <FILE>                A configuration file of cargo that counts before all others
+      --default-config <FILE>        A configuration file of cargo that counts after all others
       --rust-version <VER>           Override `rust-version`
       --ignore-rust-version          Ignore `rust-version` specification in packages
   -n, --dry-run                      Prints what would change, and changes nothing
       --locked                       Refuses to change the manifest
+      --offline                      Calls of `cargo update` fetch nothing
   -v, --verbose...                   Reports more
   -q, --quiet...                     Reports less
       --never-lower                  Lowers no requirement

@@ -49,6 +49,37 @@ log@0.4.3
 
 """
 
+LOCK = """\
+version = 4
+
+[[package]]
+name = "serde"
+version = "1.0.5"
+"""
+
+LOCK_BEFORE = LOCK + """
+[[package]]
+name = "log"
+version = "0.4.3"
+"""
+
+LOCK_NOW = LOCK + """
+[[package]]
+name = "log"
+version = "0.4.5"
+"""
+
+LOCKED_CALLS = """\
+cargo
+update
+--manifest-path
+/w/Cargo.toml
+--aggressive
+--package
+serde@1.0.5
+
+"""
+
 # The files of rows: the letter, the path and the text; capitals are raised. `@NAME@` is the folder that
 # stands for `/`, as the name of a registry's folder has it.
 FILES = {
@@ -59,6 +90,11 @@ FILES = {
     "p": ("/w/dir/file:%2F%2F@NAME@%2Fidx/se/rd/serde", '{"name":"serde","vers":"1.2.3"}\n'),
     "u": ("/w/calls", CALLS),
     "U": ("/w/calls", ""),
+    "t": ("/w/calls", LOCKED_CALLS),
+    "l": ("/w/Cargo.lock", LOCK),
+    "L": ("/w/before.lock", LOCK_BEFORE),
+    "q": ("/w/Cargo.lock", LOCK_NOW),
+    "k": ("/w/Cargo.lock", "[[package]]\nname = 1\n"),
     "c": ("/w/.cargo/config.toml", LOCAL),
     "r": ("/w/Cargo.toml", "[workspace.dependencies]\nserde = '1.0' # all\n"),
     "R": ("/w/Cargo.toml", '[workspace.dependencies]\nserde = "1.2" # all\n'),
@@ -172,6 +208,37 @@ log  0.4.0   0.4.5      0.4.5  0.4.5
 --package log@0.4.3 --offline
 note: Re-run with `--verbose` to show more dependencies
   latest: serde
+§the calls that a lock file allows|mirabl||--metadata-json metadata.json --index-file index.json \
+--rust-version 1.70 --lock-file Cargo.lock --update-calls calls|RAbt|\
+0 name  old req compatible latest new req
+====  ======= ========== ====== =======
+serde 1.0     1.2.3      1.2.3  1.2    
+name old req compatible latest new req
+==== ======= ========== ====== =======
+log  0.4.0   0.4.5      0.4.5  0.4.5  
+    Checking virtual workspace's dependencies
+    Checking a's dependencies
+    Checking b's dependencies
+         Run cargo update --manifest-path /w/Cargo.toml --aggressive --package serde@1.0.5
+note: Re-run with `--verbose` to show more dependencies
+  latest: serde
+§no calls without a lock file|mirab||--metadata-json metadata.json --index-file index.json \
+--rust-version 1.70 --lock-file Cargo.lock --offline --update-calls calls|RAbU|\
+0 name  old req compatible latest new req
+====  ======= ========== ====== =======
+serde 1.0     1.2.3      1.2.3  1.2    
+name old req compatible latest new req
+==== ======= ========== ====== =======
+log  0.4.0   0.4.5      0.4.5  0.4.5  
+    Checking virtual workspace's dependencies
+    Checking a's dependencies
+    Checking b's dependencies
+note: Re-run with `--verbose` to show more dependencies
+  latest: serde
+§a lock file that is none|mirabk||--metadata-json metadata.json --index-file index.json \
+--rust-version 1.70 --lock-file Cargo.lock|rab|\
+1 Error: Invalid workspace metadata
+  at /w/Cargo.lock
 §no calls in it|if||--index-file index.json --update-calls ./x/../calls|FU|\
 0 name  old req compatible latest new req
 ====  ======= ========== ====== =======
@@ -249,6 +316,44 @@ warning: aborting set-version due to dry run
 +a = { path = "../a", version = "0.2" }
    Upgrading a from 0.1.0 to 0.2.0
     Updating b's dependency from 0.1 to 0.2
+§the next call, of which a package has moved|uLq||next-call --calls calls --lock-before before.lock \
+--lock-file Cargo.lock --number 1 --offline|uLq|\
+0 cargo
+update
+--manifest-path
+/w/Cargo.toml
+--aggressive
+--package
+serde@1.0.5
+--package
+log@0.4.5
+--offline
+         Run cargo update --manifest-path /w/Cargo.toml --aggressive --package serde@1.0.5 \
+--package log@0.4.5 --offline
+§the next call as it stands in the file|tLq||next-call --calls calls --lock-before before.lock \
+--lock-file ./Cargo.lock --number=1|tLq|\
+0 cargo
+update
+--manifest-path
+/w/Cargo.toml
+--aggressive
+--package
+serde@1.0.5
+§a call of which nothing is left|uL||next-call --calls calls --lock-before before.lock \
+--lock-file Cargo.lock --number 1|uL|\
+0     Skipping cargo update --manifest-path /w/Cargo.toml --aggressive --package serde@1.0.5 \
+--package log@0.4.3 --offline
+§no such call|tLq||next-call --calls calls --lock-before before.lock --lock-file Cargo.lock --number 2|tLq|\
+1 Error: there is no call 2 in calls
+§a number that is none|tLq||next-call --calls calls --lock-before before.lock --lock-file Cargo.lock --number 0|tLq|\
+2 error: `--number <N>` is a number from 1
+§a next call without its lock file|tk||next-call --calls calls --lock-before Cargo.lock --lock-file Cargo.lock \
+--number 1|tk|\
+1 Error: Invalid workspace metadata
+  at /w/Cargo.lock
+§no file of calls|q||next-call --calls calls --lock-before Cargo.lock --lock-file Cargo.lock --number 1|q|\
+1 Error: Failed to get cargo file metadata
+  at /w/calls
 """
 
 

@@ -1,0 +1,225 @@
+#!/usr/bin/env python3
+"""Registries on the loopback interface, for tools/checks/cargo_*.sh.
+
+    registry.py DIR
+
+Serves the sparse registries `one` and `two` with ETags, and the files of their crates; `files` is a registry whose index is a
+git repository at DIR/files. DIR/port has the port, DIR/tls-port that of the same by https (certificate: loopback.pem).
+DIR/asked gets a line for each request of a client that is not cargo: its path, `sent` or `kept` (304), its user agent, what it
+has for Authorization or `-`, its Accept-Encoding or `-`, and `proxied` where this server was its proxy. DIR/mode says what
+such a client is answered:
+
+    down, status N      an answer of that status, without a body
+    status N NAME       the same, for the crate NAME alone
+    html, empty, cut, partial, foreign
+                        status 200 with a page, nothing, a body that ends within its last line, one that is shorter than its
+                        Content-Length, the body of another crate
+    zipped              the body by gzip, for a client that takes it
+    slow N              the answer after N seconds
+    trickle             the body within 5 seconds, a part each half second
+    flaky TEXT          503 at the first request for each path in the mode of this text, then the answer
+    redirect-once URL   302 to URL and the path, once for each path
+    loop                302 to itself
+    token TEXT          401 but where the header Authorization is TEXT
+    gate                waits until DIR/open is there
+
+The mode may be changed at any time. Ends when DIR/stop is there.
+"""
+import gzip
+import hashlib
+import http.server
+import io
+import json
+import os
+import ssl
+import subprocess
+import sys
+import tarfile
+import threading
+import time
+
+# registry, name, versions, each with what it depends on
+CRATES = [
+    ("one", "dep", {"1.0.0": {}, "1.2.3": {}, "2.0.0": {}}),
+    ("one", "other", {"0.2.0": {}, "0.2.5": {}, "0.3.0": {}}),
+    ("one", "third", {"1.0.0": {"dep": "1"}, "1.1.0": {"dep": "1"}}),
+    ("two", "dep", {"2.0.0": {}, "2.4.0": {}, "3.0.0": {}}),
+    ("files", "filed", {"1.0.0": {}, "1.3.0": {}}),
+]
+
+
+def layout(name):
+    """The path of a name in an index's layout."""
+    if len(name) < 3:
+        return f"{len(name)}/{name}"
+    return f"3/{name[0]}/{name}" if len(name) == 3 else f"{name[:2]}/{name[2:4]}/{name}"
+
+
+def crate(name, version, needs):
+    """The bytes of a crate's file."""
+    manifest = f'[package]\nname = "{name}"\nversion = "{version}"\nedition = "2021"\n\n[dependencies]\n'
+    manifest += "".join(f'{other} = "{req}"\n' for other, req in needs.items())
+    plain = io.BytesIO()
+    with tarfile.open(fileobj=plain, mode="w") as tar:
+        for path, text in (("Cargo.toml", manifest), ("src/lib.rs", "")):
+            entry = tarfile.TarInfo(f"{name}-{version}/{path}")
+            entry.size = len(text)
+            tar.addfile(entry, io.BytesIO(text.encode()))
+    return gzip.compress(plain.getvalue(), mtime=0)
+
+
+def line(name, version, needs, file):
+    """The line of a version in an index."""
+    deps = [{"name": other, "req": req, "features": [], "optional": False, "default_features": True, "target": None,
+             "kind": "normal", "registry": None, "package": None} for other, req in needs.items()]
+    said = {"name": name, "vers": version, "deps": deps, "cksum": hashlib.sha256(file).hexdigest(), "features": {},
+            "yanked": False}
+    return json.dumps(said) + "\n"
+
+
+def write(path, text):
+    """Writes a file and the folders above it."""
+    os.makedirs(os.path.dirname(path), exist_ok=True)
+    with open(path, "wb") as file:
+        file.write(text)
+
+
+class Answers(http.server.BaseHTTPRequestHandler):
+    """Answers from the files below the room."""
+    protocol_version = "HTTP/1.1"
+    flaky = set()
+    moved = set()
+
+    def answer(self, status, body=b"", tag=None, length=None, more=()):
+        self.send_response(status)
+        if tag:
+            self.send_header("ETag", tag)
+        for name, text in more:
+            self.send_header(name, text)
+        self.send_header("Content-Length", str(len(body) if length is None else length))
+        self.end_headers()
+        self.wfile.write(body)
+
+    def note(self, *what):
+        said = [self.headers.get(it, "-").replace(" ", "") for it in ("User-Agent", "Authorization", "Accept-Encoding")]
+        with open(room + "/asked", "a") as asked:
+            asked.write(" ".join([self.path, what[0], *said, *what[1:]]) + "\n")
+
+    def odd(self, mode, body, tag):
+        """Answers as the mode has it, and whether it did."""
+        word, _, rest = mode.partition(" ")
+        if word == "down":
+            self.answer(503)
+        elif word == "status":
+            number, _, name = rest.partition(" ")
+            if name and os.path.basename(self.path) != name:
+                return False
+            self.answer(int(number))
+        elif word == "html":
+            self.answer(200, b"<html>Please log in</html>\n", '"portal"')
+        elif word == "empty":
+            self.answer(200, b"", '"nothing"')
+        elif word == "cut":
+            self.answer(200, body[:-20], '"cut"')
+        elif word == "partial":
+            self.close_connection = True
+            self.answer(200, body[:10], tag, len(body))
+        elif word == "foreign":
+            self.answer(200, body.replace(os.path.basename(self.path).encode(), b"foreign"), '"foreign"')
+        elif word == "zipped" and "gzip" in self.headers.get("Accept-Encoding", ""):
+            self.answer(200, gzip.compress(body), tag, more=[("Content-Encoding", "gzip")])
+        elif word == "slow":
+            time.sleep(float(rest))
+            return False
+        elif word == "trickle" and self.path.endswith("dep"):
+            self.send_response(200)
+            self.send_header("Content-Length", str(len(body)))
+            self.end_headers()
+            for k in range(10):
+                time.sleep(0.5)
+                self.wfile.write(body[k * 40:(k + 1) * 40] if k < 9 else body[k * 40:])
+                self.wfile.flush()
+        elif word == "flaky" and (rest, self.path) not in self.flaky:
+            self.flaky.add((rest, self.path))
+            self.answer(503)
+        elif word == "redirect-once" and self.path not in self.moved:
+            self.moved.add(self.path)
+            self.answer(302, more=[("Location", rest + self.path)])
+        elif word == "loop":
+            self.answer(302, more=[("Location", self.path)])
+        elif word == "token" and self.headers.get("Authorization") != rest:
+            self.answer(401)
+        elif word == "gate":
+            while not os.path.exists(room + "/open"):
+                time.sleep(0.02)
+            return False
+        else:
+            return False
+        return True
+
+    def do_GET(self):
+        proxied = ["proxied"] if self.path.startswith("http://") else []
+        if proxied:
+            self.path = "/" + self.path.split("/", 3)[3]
+        path = os.path.join(room, "served", self.path.lstrip("/"))
+        mode = open(room + "/mode").read().strip() if os.path.exists(room + "/mode") else ""
+        entry = not self.path.startswith("/dl/") and not self.path.endswith("/config.json")
+        watched = entry and not self.headers.get("User-Agent", "").startswith("cargo/")
+        is_there = os.path.isfile(path)
+        body = open(path, "rb").read() if is_there else b""
+        tag = '"' + hashlib.sha256(body).hexdigest()[:16] + '"'
+        kept = is_there and self.headers.get("If-None-Match") == tag
+        if watched:
+            self.note("kept" if kept else "sent", *proxied)
+            if self.odd(mode, body, tag):
+                return None
+        if not is_there:
+            return self.answer(404)
+        if kept:
+            return self.answer(304, tag=tag)
+        return self.answer(200, body, tag)
+
+    def log_message(self, *words):
+        pass
+
+
+class Server(http.server.ThreadingHTTPServer):
+    """A server for clients that give up before they have an answer."""
+    request_queue_size = 128
+    daemon_threads = True
+
+    def handle_error(self, request, client_address):
+        if not isinstance(sys.exc_info()[1], (OSError, ValueError)):
+            super().handle_error(request, client_address)
+
+
+room = os.path.abspath(sys.argv[1])
+server = Server(("127.0.0.1", 0), Answers)
+port = server.server_address[1]
+for registry, name, versions in CRATES:
+    lines = ""
+    for version, needs in versions.items():
+        file = crate(name, version, needs)
+        write(f"{room}/served/dl/{registry}/{name}-{version}", file)
+        lines += line(name, version, needs, file)
+    top = f"{room}/files" if registry == "files" else f"{room}/served/{registry}"
+    write(f"{top}/{layout(name)}", lines.encode())
+for registry in ("one", "two", "files"):
+    top = f"{room}/files" if registry == "files" else f"{room}/served/{registry}"
+    said = {"dl": f"http://127.0.0.1:{port}/dl/{registry}/{{crate}}-{{version}}"}
+    write(f"{top}/config.json", json.dumps(said).encode())
+git = ["git", "-C", room + "/files", "-c", "user.name=a", "-c", "user.email=a@b.invalid"]
+subprocess.run(["git", "init", "-q", room + "/files"], check=True)
+subprocess.run(git + ["add", "."], check=True)
+subprocess.run(git + ["commit", "-q", "-m", "index"], check=True)
+threading.Thread(target=server.serve_forever, daemon=True).start()
+safe = Server(("127.0.0.1", 0), Answers)
+context = ssl.SSLContext(ssl.PROTOCOL_TLS_SERVER)
+context.load_cert_chain(os.path.join(os.path.dirname(os.path.abspath(__file__)), "loopback.pem"))
+safe.socket = context.wrap_socket(safe.socket, server_side=True)
+threading.Thread(target=safe.serve_forever, daemon=True).start()
+for name, number in (("tls-port", safe.server_address[1]), ("port", port)):
+    write(f"{room}/{name}.new", str(number).encode())
+    os.replace(f"{room}/{name}.new", f"{room}/{name}")
+while not os.path.exists(room + "/stop"):
+    time.sleep(0.05)

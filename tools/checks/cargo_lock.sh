@@ -1,0 +1,234 @@
+#!/usr/bin/env bash
+# cargo_lock.sh PROGRAM   what `cargo upgrade` and `cargo set-version` do to Cargo.lock, which calls of cargo they make, and with
+# which status they end, with real cargo over loopback registries.
+# shellcheck source-path=SCRIPTDIR source=../cargo_checks/lib.sh
+. "$(dirname "$0")/../cargo_checks/lib.sh"
+begin "$1"
+repository "$room/repo"
+git_dependency="local = { git = \"file://$room/repo\""
+
+# The project of a row: dependencies, then packages that are locked at these versions.
+begins() { # DEPENDENCIES [NAME@VERSION ..]
+  rm -rf ./*
+  project . "$1"
+  shift
+  for package; do cargo update -q --precise "${package#*@}" "${package%@*}" 2> /dev/null || fail "no $package"; done
+  cargo fetch -q
+  cp Cargo.toml "$room/begun.toml"
+  cp Cargo.lock "$room/begun.lock"
+}
+# Each call of `cargo update` names a package.
+scoped() {
+  ! updates | grep -v -e ' --package ' > "$room/log" || fail "a call without a package: $(cat "$room/log")"
+}
+# Of all calls that are told as `Run ..`, each is made as it is told, and no other is made. (Where a call before it moved its
+# packages, a call is told once more, with the versions that are there then.)
+told_is_run() {
+  sed -n "s/^ *Run //p" "$room/err" | awk '{ key = $0; gsub(/@[^ ]*/, "", key); if (!(key in last)) order[++n] = key; last[key] = $0 }
+    END { for (k = 1; k <= n; k++) print last[order[k]] }' > "$room/told"
+  updates > "$room/log"
+  cmp -s "$room/told" "$room/log" || fail "told: $(cat "$room/told"); made: $(cat "$room/log")"
+}
+# Keeps a full `cargo metadata` from resolving, or an update from being made.
+broken_cargo() { # CONDITION
+  cat > "$room/broken" << BROKEN
+#!/bin/sh
+printf 'cargo %s\n' "\$*" >> "$room/calls"
+case "\$*" in $1) echo 'error: out of luck' >&2; exit 101 ;; esac
+exec "$cargo" "\$@"
+BROKEN
+  chmod 755 "$room/broken"
+}
+broken() { # STATUS COMMAND ARGUMENTS
+  local wanted=$1 status=0
+  shift
+  CARGO="$room/broken" "cargo-$1" "$@" > "$room/out" 2> "$room/err" || status=$?
+  [ "$status" = "$wanted" ] || fail "cargo $*: status $status in place of $wanted"
+}
+
+# (S2, S3, F1) An optional git dependency: no call without a package, and excluded crates stay locked.
+row_optional_git() {
+  begins "third = \"1.0\"
+other = \"0.2.0\"
+$git_dependency, optional = true }" other@0.2.0 third@1.0.0 dep@1.0.0
+  noted 0 upgrade --exclude other
+  scoped
+  locks other 0.2.0
+  locks third 1.1.0
+}
+# (F1) The version that is asked for of an optional dependency is locked.
+row_optional_precise() {
+  begins 'other = { version = "0.2", optional = true }'
+  locks other 0.2.5
+  noted 0 upgrade -p other@0.2.0
+  locks other 0.2.0
+}
+# (F1) What an optional dependency needs is updated with it.
+row_optional_recursive() {
+  begins 'third = { version = "1.0", optional = true }' third@1.0.0 dep@1.0.0
+  noted 0 upgrade
+  locks third 1.1.0
+  locks dep 1.2.3
+}
+# (F2) A call before it moved the package in the lock file: it is updated at the version that is there then.
+row_moved_by_a_call() {
+  begins "third = \"1.0\"
+$git_dependency }" third@1.0.0 dep@1.0.0
+  noted 0 upgrade
+  scoped
+  locks third 1.1.0
+  locks dep 1.2.3
+}
+row_not_recursive() {
+  begins 'third = "1.0"' third@1.0.0 dep@1.0.0
+  noted 0 upgrade --recursive false
+  locks dep 1.0.0
+}
+# (S2) Where cargo cannot resolve the workspace, no call is made, and it is said that the lock file stays.
+row_unresolved() {
+  begins "dep = \"1.0\"
+$git_dependency }" dep@1.0.0
+  broken_cargo '*metadata*--no-deps*) ;; *metadata*'
+  broken 0 upgrade
+  scoped
+  same "$room/begun.lock" Cargo.lock
+  has Cargo.toml 'dep = "1.2"'
+  says Cargo.lock
+  says 'out of luck'
+}
+# (S8) A call of `cargo update` that fails: status 1, with its words, and the manifests are written.
+row_update_fails() {
+  broken_cargo '*update*'
+  broken 1 upgrade
+  raised
+  says 'out of luck'
+  says_once '^Error: .*manifests? '
+}
+# (S12) The calls can be written to a file of the user's.
+row_update_calls() {
+  noted 0 upgrade --update-calls calls.txt
+  awk '{ printf "%s%s", sep, $0; sep = " " } /^$/ { print ""; sep = "" }' calls.txt | sed 's/ *$//' > "$room/told"
+  updates | cmp -s - "$room/told" || fail "$(cat "$room/told" "$room/calls")"
+  cp "$room/first/Cargo.toml" "$room/first/Cargo.lock" .
+  : > "$room/calls"
+  noted 0 upgrade --update-calls=calls.txt
+  [ -s calls.txt ] || fail 'no calls'
+}
+# (S9, S11) A dry run neither makes nor changes the lock file, however it is asked for.
+row_dry_runs() {
+  local option status
+  for option in -n --dry-run --check -qn -nv; do
+    [ "$option" = --check ] && status=1 || status=0
+    rm -f Cargo.lock
+    run $status upgrade $option
+    shown
+    [ ! -e Cargo.lock ] || fail "upgrade $option: Cargo.lock is made"
+    run $status set-version $option 0.2.0
+    [ ! -e Cargo.lock ] || fail "set-version $option: Cargo.lock is made"
+    sed 's/name = "a"/name = "b"/' "$room/first/Cargo.lock" > Cargo.lock
+    cp Cargo.lock "$room/begun.lock"
+    run $status upgrade $option
+    run $status set-version $option 0.2.0
+    same "$room/begun.lock" Cargo.lock
+  done
+  same "$room/first/Cargo.toml" Cargo.toml
+}
+# (S11) Arguments behind `--`.
+row_dashes() {
+  run 0 upgrade -n --
+  shown
+  run 0 set-version -- 1.0.0
+  has Cargo.toml 'version = "1.0.0"'
+  run 0 set-version --bump minor --
+  has Cargo.toml 'version = "1.1.0"'
+}
+# (S14) 2,000 packages in a lock file of 5,000: the packages of the calls are looked up in one pass.
+row_many_packages() {
+  python3 "$here/tools/cargo_checks/many.py" "$room/many" 5000 2000 || exit 1
+  export CARGO="$room/many/cargo" CARGO_HOME="$room/many"
+  cd "$room/many/ws" || exit 1
+  local status=0 TIMEFORMAT='%U %S'
+  { time cargo-upgrade upgrade > "$room/out" 2> "$room/err" || status=$?; } 2> "$room/took"
+  unset CARGO
+  [ "$status" = 0 ] || fail "status $status"
+  grep -c -e '^--package$' "$room/many/update" | grep -q '^2000$' || fail "$(grep -c -e --package "$room/many/update") packages"
+  # (time of processors, since other checks run beside this one)
+  awk '{ exit !($1 + $2 < 8) }' "$room/took" || fail "user and system: $(cat "$room/took")"
+}
+
+# (S11, F3) set-version --locked: checked before anything is written.
+row_locked_stale() {
+  sed -i 's/^dep = .*/dep = "1.2"/' Cargo.toml
+  cp Cargo.toml "$room/begun.toml"
+  run 1 set-version --locked 0.2.0
+  same "$room/begun.toml" Cargo.toml
+  same "$room/first/Cargo.lock" Cargo.lock
+  rm Cargo.lock
+  run 1 set-version --locked --bump minor
+  same "$room/begun.toml" Cargo.toml
+  [ ! -e Cargo.lock ] || fail 'Cargo.lock is made'
+  run 1 set-version --locked -n 0.2.0
+}
+row_locked_fits() {
+  run 0 set-version --locked 0.2.0
+  has Cargo.toml 'version = "0.2.0"'
+  same "$room/first/Cargo.lock" Cargo.lock
+  says Cargo.lock
+}
+row_set_version_locks() {
+  noted 0 set-version 0.2.0
+  locks a 0.2.0
+  locks dep 1.0.0
+}
+# (S11) cargo is asked for the lock file only where a version changed.
+row_set_version_unchanged() {
+  noted 0 set-version 0.1.0
+  [ "$(wc -l < "$room/calls")" = 1 ] || fail "$(cat "$room/calls")"
+}
+# (F5) What cargo cannot do ends with status 1, and it is said that the manifests are written.
+row_set_version_unresolved() {
+  broken_cargo '*metadata*--no-deps*) ;; *metadata*'
+  broken 1 set-version 0.2.0
+  has Cargo.toml 'version = "0.2.0"'
+  says 'out of luck'
+  says_once '^Error: .*manifests? '
+}
+row_no_manifest() {
+  cd "$room/user" || exit 1
+  run 1 set-version 0.2.0
+  run 1 upgrade
+}
+# Statuses of a check: 1 for changes, 0 for none, 2 for usage.
+row_statuses() {
+  run 1 upgrade --check
+  run 0 upgrade
+  run 0 upgrade --check
+  run 2 upgrade --wrong
+  run 1 set-version --check 0.2.0
+  run 0 set-version --check 0.1.0
+  run 2 set-version --wrong
+  run 2 upgrade --pinned maybe
+}
+# (S15, F6) What is told as run is run, with --offline only where the user gave it.
+row_told_is_run() {
+  noted 0 upgrade
+  updates | grep -q -e --package || fail 'no call'
+  ! updates | grep -q -e --offline || fail 'a call has --offline'
+  told_is_run
+}
+row_told_is_run_git() {
+  begins "third = \"1.0\"
+$git_dependency }" third@1.0.0 dep@1.0.0
+  noted 0 upgrade
+  told_is_run
+}
+row_told_is_run_offline() {
+  noted 0 upgrade -n
+  cargo fetch -q
+  sed -i 's/"1.0"/"1.0.0"/' Cargo.toml
+  : > "$room/calls"
+  noted 0 upgrade --offline -p dep@1.0.0 -p other@0.2.0
+  told_is_run
+}
+
+all_rows

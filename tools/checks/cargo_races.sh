@@ -1,0 +1,150 @@
+#!/usr/bin/env bash
+# cargo_races.sh PROGRAM   the cache of `cargo upgrade` where runs meet or end early: several at once over a
+# registry that changes, kills at varying moments, a temporary folder on another file system, and files that cannot
+# grow. An entry is always one that the registry had, whole, and the next run has the newest.
+# shellcheck source-path=SCRIPTDIR source=../cargo_checks/lib.sh
+. "$(dirname "$0")/../cargo_checks/lib.sh"
+begin "$1"
+published=0
+
+# The registry gets version 1.N.0 of dep, with a description that makes its file large; $room/bodies has each file that it had.
+publish() {
+  published=$((published + 1))
+  [ -d "$room/bodies" ] || { mkdir "$room/bodies"; cp "$room/served/one/3/d/dep" "$room/bodies"; }
+  python3 - "$room/served/one/3/d/dep" "$published" << 'END_OF_PYTHON'
+import json, os, sys
+path, number = sys.argv[1], int(sys.argv[2]) + 2
+line = json.loads(open(path).readline())
+line.update(vers=f"1.{number}.0", features={"f": ["x" * 40000]})
+with open(path + ".new", "a") as file:
+    file.write(open(path).readline() + json.dumps(line) + "\n")
+os.replace(path + ".new", path)
+END_OF_PYTHON
+  cp "$room/served/one/3/d/dep" "$room/bodies/$published"
+}
+newest() { # this run shows it
+  run 0 upgrade -n
+  grep -q -E "^dep +1\.0 .* 1\.$((published + 2)) " "$room/out" || fail "version 1.$((published + 2)).0 is not shown"
+  cmp -s "$room/served/one/3/d/dep" "$(entry one 3/d/dep)" || fail 'the cached entry is not the newest'
+}
+whole() { # the cached entry is one that the registry had
+  local body
+  [ -f "$(entry one 3/d/dep)" ] || return 0
+  for body in "$room"/bodies/*; do if cmp -s "$body" "$(entry one 3/d/dep)"; then return 0; fi; done
+  fail 'the cached entry is none that the registry had'
+}
+
+row_at_once() {
+  local round each
+  for round in 1 2 3; do
+    publish
+    for each in 1 2 3 4; do
+      cargo-upgrade upgrade -n > "$room/out.$each" 2> "$room/err.$each" &
+      [ "$each" != 2 ] || publish
+    done
+    for each in $(jobs -p); do [ "$each" = "$server" ] || wait "$each" || fail "round $round: $(cat "$room"/err.?)"; done
+    whole
+  done
+  newest
+}
+# A curl that has its answers, and then waits until $room/open is there.
+held_curl() {
+  mkdir -p "$room/curl"
+  cat > "$room/curl/curl" << CURL
+#!/bin/sh
+$(command -v curl) "\$@"
+it=\$?
+case "\$*" in *--config*) touch "$room/fetched"; while [ ! -e "$room/open" ]; do sleep 0.05; done ;; esac
+exit \$it
+CURL
+  chmod 755 "$room/curl/curl"
+  rm -f "$room/fetched"
+  PATH="$room/curl:$PATH" cargo-upgrade upgrade -n > "$room/out.1" 2> "$room/err.1" &
+  while [ ! -e "$room/fetched" ]; do
+    kill -0 "$!" 2> /dev/null || fail "$(cat "$room/err.1")"
+    sleep 0.05
+  done
+}
+# Two that fetched different bodies store them at the same time: the second to write has the older one.
+row_older_one_stores_last() {
+  publish
+  held_curl
+  publish
+  run 0 upgrade -n
+  touch "$room/open"
+  wait "$!" || fail "$(cat "$room/err.1")"
+  whole
+  newest
+}
+# (S4) The same, where the run with the newer body is held between its body and its validator, if it moves them one by one.
+row_mixed_answers() {
+  local older newer
+  publish
+  held_curl
+  older=$!
+  publish
+  mkdir -p "$room/held"
+  cat > "$room/held/mv" << MOVE
+#!/bin/sh
+$(command -v mv) "\$@"
+it=\$?
+if mkdir "$room/paused" 2> /dev/null; then while [ ! -e "$room/go" ]; do sleep 0.05; done; fi
+exit \$it
+MOVE
+  chmod 755 "$room/held/mv"
+  rm -rf "$room/paused" "$room/go"
+  PATH="$room/held:$PATH" cargo-upgrade upgrade -n > "$room/out.2" 2> "$room/err.2" &
+  newer=$!
+  while [ ! -e "$room/paused" ] && kill -0 "$newer" 2> /dev/null; do sleep 0.05; done
+  touch "$room/open"
+  wait "$older" || fail "$(cat "$room/err.1")"
+  touch "$room/go"
+  wait "$newer" || fail "$(cat "$room/err.2")"
+  newest
+}
+row_kills() {
+  local kill
+  for kill in $(seq 14); do
+    publish
+    # (a group of its own, so that all that the run started ends with it)
+    setsid cargo-upgrade upgrade -n > "$room/out" 2> "$room/err" &
+    sleep "0.$((kill * 3 / 10))$((kill * 3 % 10))"
+    kill -KILL -- "-$!" 2> /dev/null
+    wait "$!" 2> /dev/null
+    whole
+  done
+  newest
+  [ "$(find "$cache" -maxdepth 1 -name '.run.*' | wc -l)" -le 14 ] || fail 'what is left piles up'
+}
+# (S7) Nothing is moved from another file system into the cache.
+row_other_file_system() {
+
+  local other
+  other=$(mktemp -d /dev/shm/cargo_races.XXXXXX) || fail "there is no other file system at /dev/shm"
+  mkdir -p "$room/move"
+  cat > "$room/move/mv" << MOVE
+#!/bin/sh
+for it; do
+  case \$it in -*) ;; *) stat -c %d "\$it" 2> /dev/null || stat -c %d "\$(dirname "\$it")" ;; esac
+done >> "$room/devices"
+exec $(command -v mv) "\$@"
+MOVE
+  chmod 755 "$room/move/mv"
+  : > "$room/devices"
+  publish
+  PATH="$room/move:$PATH" TMPDIR="$other" run 0 upgrade -n
+  rm -r "$other"
+  [ "$(sort -u "$room/devices" | wc -l)" -le 1 ] || fail 'a file is moved to another file system'
+  newest
+}
+# Files that cannot grow: the old entry stays whole, and it is said that the new one is not had.
+row_no_room() {
+  run 0 upgrade -n
+  publish
+  (ulimit -f 24; run 0 upgrade -n) || exit 1
+  says_like '^warning: .*dep'
+  whole
+  newest
+}
+
+all_rows
