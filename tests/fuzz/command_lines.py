@@ -1,0 +1,167 @@
+"""Command lines: the arguments of `upgrade` and `set-version`, and what those of an upgrade mean."""
+
+import re
+
+import oracle
+import semver
+from manifests import requirement
+
+VALUED = {"--compatible": ("allow", "true", "ignore", "false"),
+          "--incompatible": ("allow", "true", "ignore", "false"),
+          "-i": ("allow", "true", "ignore", "false"), "--pinned": ("allow", "true", "ignore", "false"),
+          "--recursive": ("true", "false")}
+YES = ("allow", "true")
+NEED_VALUE = ("--rust-version", "-p", "--package", "--exclude", "--index-file", "--metadata-json",
+              "--manifest-path")
+MANIFESTS = ("@HERE@/ws/Cargo.toml", "@HERE@/ws", "Cargo.toml")
+LEVELS = ("major", "minor", "patch", "release", "rc", "beta", "alpha")
+# Arguments of every kind, also those that are none. (--update-calls names a file of its own alone: one that
+# is read or written by the same run would be replaced. Arguments that are not UTF-8 are left out, as are
+# empty names.)
+ANY = ("-n", "--dry-run", "--check", "--locked", "--diff", "--message-format json", "--message-format human",
+       "--message-format=json", "--message-format xml", "-i", "--incompatible", "--pinned", "--pinned ignore",
+       "--compatible", "--compatible=ignore", "--compatible maybe", "--never-lower", "--recursive",
+       "--recursive false", "--recursive=x", "-v", "-vv", "-vvvv", "-q", "-qq", "-vq", "-p serde", "-p log@1",
+       "-p log@", "-p @1", "-p a/b", "--exclude a", "--exclude", "-p", "--rust-version 1.60",
+       "--rust-version x", "--ignore-rust-version", "--offline", "--workspace", "--all", "--bump minor",
+       "--bump x", "--bump", "1.2.3", "0.0.1", "x", "-m b1", "-m +", "--metadata=1.0", "--", "--help", "-h",
+       "--version", "-V", "--nope", "-z", "--check=1", "=", "--update-calls @HERE@/calls", "--manifest-path",
+       "--manifest-path @HERE@/ws", "--manifest-path @HERE@/none/Cargo.toml", "--index-dir @HERE@/ix",
+       "--index-file @HERE@/none", "\u00e9", "-\u00e9", "--exclude=", "--manifest-path=")
+
+
+def choice(rng, long, short, value):
+    """An option with a value, in one of its forms."""
+    forms = [[long, value], [f"{long}={value}"]] + ([[short, value], [short + value]] if short else [])
+    return rng.choice(forms)
+
+
+def upgrade_options(rng, names):
+    """Options of an upgrade that say what is raised."""
+    words = []
+    if rng.random() < 0.4:
+        words += rng.choice((["-i"], ["--incompatible"], ["--incompatible=allow"], ["-i", "true"],
+                             ["--incompatible", "ignore"]))
+    if rng.random() < 0.3:
+        words += rng.choice((["--pinned"], ["--pinned", "allow"], ["--pinned=false"]))
+    if rng.random() < 0.15:
+        words += rng.choice((["--compatible", "ignore"], ["--compatible=false"], ["--compatible"],
+                             ["--compatible", "true"]))
+    if rng.random() < 0.2:
+        words += ["--never-lower"] if words or rng.random() < 0.3 else ["--never-lower", "-i"]
+    if rng.random() < 0.2:
+        words += rng.choice((["--recursive"], ["--recursive", "false"], ["--recursive=true"]))
+    if rng.random() < 0.25:
+        words += choice(rng, "--rust-version", None, rng.choice(("1.56", "1.60", "1.70.1", "2", "1.65.0")))
+    elif rng.random() < 0.2:
+        words.append("--ignore-rust-version")
+    while rng.random() < 0.25:
+        name = rng.choice(names)
+        # (a requirement with build metadata counts as a change where it stands already: it is left out)
+        given = requirement(rng).split("+")[0]
+        words += choice(rng, "--package", "-p", f"{name}@{given}" if rng.random() < 0.35 else name)
+    while rng.random() < 0.15:
+        words += choice(rng, "--exclude", None, rng.choice(names))
+    words += rng.choice(([], [], [], ["-v"], ["-vv"], ["-q"], ["-v", "--verbose"]))
+    return words
+
+
+def set_version_options(rng, names):
+    """Options of `set-version` that say which versions are set."""
+    words = []
+    kind = rng.random()
+    if kind < 0.6:
+        words += choice(rng, "--bump", None, rng.choice(LEVELS))
+    elif kind < 0.95:
+        words.append(rng.choice(("0.2.0", "1.0.0", "1.0.0-rc.1", "2.0.0", "3.0.0", "11.0.0", "1.2.3+b",
+                                 "0.0.1", "x")))
+    if rng.random() < 0.2:
+        words += choice(rng, "--metadata", "-m", rng.choice(("b", "1.0", "a-b", "+")))
+    kind = rng.random()
+    if kind < 0.35:
+        words.append("--workspace")
+    elif kind < 0.4:
+        words.append("--all")
+    else:
+        while rng.random() < 0.35:
+            words += choice(rng, "--package", "-p", rng.choice(names))
+    while rng.random() < 0.12:
+        words += choice(rng, "--exclude", None, rng.choice(names))
+    return words
+
+
+def any_options(rng):
+    """Arguments of every kind, in any number and order."""
+    words = []
+    for _ in range(rng.choice((0, 1, 2, 2, 3, 4, 6))):
+        words += rng.choice(ANY).split(" ")
+    if rng.random() < 0.1 and words:
+        words[rng.randrange(len(words))] += rng.choice(("x", "=", "\u00e9", "'"))
+    return words
+
+
+# ---- what the arguments of an upgrade mean
+
+def pairs_of(words):
+    """The options with their values; Unknown where the words have another form than those above."""
+    at = 0
+    while at < len(words):
+        word, value = words[at], None
+        at += 1
+        if word.startswith("--") and "=" in word:
+            word, value = word.split("=", 1)
+        elif word[:2] in ("-p", "-i") and len(word) > 2 and word[1] != "-":
+            word, value = word[:2], word[2:]
+        elif word in NEED_VALUE:
+            if at == len(words) or words[at].startswith("-"):
+                raise oracle.Unknown("an option without its value")
+            value, at = words[at], at + 1
+        elif word in VALUED:
+            value = VALUED[word][0]
+            if at < len(words) and words[at] in VALUED[word]:
+                value, at = words[at], at + 1
+        yield word, value
+
+
+def add_package(options, value):
+    """Adds a -p."""
+    name, at, text = value.partition("@")
+    if not re.fullmatch(r"[\w-]+", name) or at and semver.read_requirement(text) is None:
+        raise oracle.Unknown("a name or a requirement that cannot be read")
+    options.named = True
+    options.packages[name] = text if at else None
+
+
+def check_value(word, value):
+    """Unknown where an option has a value that is none of its own, or names another manifest."""
+    bad_version = word == "--rust-version" and not oracle.rust_numbers(value)
+    other_path = word == "--manifest-path" and value not in MANIFESTS
+    if bad_version or other_path or value == "" or word in VALUED and value not in VALUED[word]:
+        raise oracle.Unknown(f"a value of {word}")
+
+
+def upgrade_meaning(words):
+    """What an upgrade may do by its options."""
+    options, seen = oracle.Options(), set()
+    for word, value in pairs_of(words):
+        word = "--incompatible" if word == "-i" else word
+        if word in seen and word not in ("-p", "--package", "--exclude", "-v", "-vv", "-q", "--verbose"):
+            raise oracle.Unknown("an option twice")
+        seen.add(word)
+        check_value(word, value)
+        if word in ("-p", "--package"):
+            add_package(options, value or "")
+        elif word == "--exclude":
+            options.excluded.add(value)
+        elif word == "--rust-version":
+            options.rust_version = oracle.rust_numbers(value)
+        elif word in ("--incompatible", "--pinned", "--compatible"):
+            setattr(options, word[2:], value in YES)
+        elif word in ("--never-lower", "--ignore-rust-version"):
+            setattr(options, word[2:].replace("-", "_"), True)
+        elif word not in ("-v", "-vv", "-q", "--verbose", "--recursive", "--index-file", "--metadata-json",
+                          "--manifest-path"):
+            raise oracle.Unknown(f"the argument {word}")
+    if {"--rust-version", "--ignore-rust-version"} <= seen:
+        raise oracle.Unknown("options that exclude each other")
+    return options

@@ -1,0 +1,72 @@
+"""What is wrong with messages as JSON: their form, as docs/MESSAGES.md has it."""
+
+import json
+
+TEXT, MAYBE, TRUTH = "a text", "a text or null", "a truth value"
+TEXTS, PLACE, CALLS = "a list of texts", "a place", "a list of lists of texts"
+WHY = ("latest", "compatible", "incompatible", "pinned", "git", "local", "excluded", None)
+CHANGE = ("explicit", "latest", "compatible", None)
+MEMBERS = {
+    "upgrade-row": {"manifest_path": TEXT, "name": TEXT, "rename": MAYBE, "place": PLACE, "old": MAYBE,
+                    "compatible": MAYBE,
+                    "latest": MAYBE, "new": MAYBE, "why": WHY, "change": CHANGE},
+    "upgrade-warning": {"manifest_path": TEXT, "message": TEXT},
+    "upgrade-file": {"manifest_path": TEXT, "written": TRUTH},
+    "upgrade-summary": {"dry_run": TRUTH, "modified": TEXTS, "git_crates": TEXTS, "missing": TEXTS,
+                        "pinned_present": TRUTH,
+                        "incompatible_present": TRUTH, "update_calls": CALLS},
+    "set-version-change": {"action": ("Upgrading", "Updating"), "message": TEXT},
+}
+ORDER = {"upgrade": ("upgrade-row", "upgrade-warning", "upgrade-file", "upgrade-summary"),
+         "set-version": ("set-version-change",)}
+
+
+def is_texts(value):
+    """Whether a value is a list of texts."""
+    return isinstance(value, list) and all(isinstance(one, str) for one in value)
+
+
+def fits(value, form):
+    """Whether a value has a form."""
+    if isinstance(form, tuple):
+        return value is None and None in form or isinstance(value, str) and value in form
+    return {TEXT: isinstance(value, str), MAYBE: value is None or isinstance(value, str),
+            TRUTH: isinstance(value, bool),
+            TEXTS: is_texts(value), CALLS: isinstance(value, list) and all(map(is_texts, value)),
+            PLACE: isinstance(value, list) and all(isinstance(one, str | int) for one in value)}[form]
+
+
+def read(out):
+    """The messages of an output; a ValueError where a line is no object as this program writes it."""
+    messages = []
+    for line in out.decode().split("\n")[:-1]:
+        told = json.loads(line)
+        keys = list(told) if isinstance(told, dict) else []
+        if not keys or keys != sorted(keys, key=str.encode):
+            raise ValueError(f"no object with sorted keys: {line}")
+        messages.append(told)
+    if out and not out.endswith(b"\n"):
+        raise ValueError("no line end at the end")
+    return messages
+
+
+def faults(command, messages):
+    """What is wrong with messages of a command."""
+    reasons = ORDER[command]
+    for told in messages:
+        reason = told.get("reason")
+        form = MEMBERS.get(reason)
+        if form is None or reason not in reasons:
+            yield f"a message with the reason {reason}"
+            continue
+        lacks = form.keys() - told.keys()
+        if lacks:
+            yield f"a message without {sorted(lacks)}: {told}"
+        for name in form.keys() & told.keys():
+            if not fits(told[name], form[name]):
+                yield f"the member {name} is not {form[name]}: {told}"
+    order = [reasons.index(told["reason"]) for told in messages if told.get("reason") in reasons]
+    if order != sorted(order):
+        yield "messages out of their order"
+    if command == "upgrade" and order.count(3) != 1:
+        yield f"{order.count(3)} summaries"

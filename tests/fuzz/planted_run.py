@@ -1,0 +1,57 @@
+"""A run of the program whose arguments, status, printed text and files may be spoilt (planted_faults.py)."""
+
+import pathlib
+import re
+import subprocess
+
+FAULTS = []
+FLAGS = ("-n", "--dry-run", "--locked", "--never-lower", "--check", "--diff")
+
+
+class Run:
+    """A run of the program, whose parts a fault changes."""
+
+    def __init__(self, program, words):
+        self.program, self.words = program, words
+        self.before = manifests()
+        self.status, self.out, self.err = 0, b"", b""
+
+    def go(self, words=None):
+        """Runs the program."""
+        done = subprocess.run([self.program, *(self.words if words is None else words)], capture_output=True,
+                              check=False)
+        self.status, self.out, self.err = done.returncode, done.stdout, done.stderr
+
+    def written(self):
+        """The manifests that the run changed."""
+        return [path for path, text in manifests().items() if self.before.get(path) != text]
+
+    def has(self, *words):
+        """Whether one of these arguments stands there."""
+        return any(word.split("=")[0] in words for word in self.words)
+
+
+def manifests():
+    """The manifests below the current folder."""
+    return {path: path.read_bytes() for path in pathlib.Path(".").rglob("Cargo.toml")}
+
+
+def edit(path, old, new, count=1):
+    """Replaces in a file."""
+    path.write_bytes(re.sub(old, new, path.read_bytes(), count=count, flags=re.MULTILINE))
+
+
+def without(words, *names):
+    """The arguments without options of these names, and without their values where they stand behind them."""
+    left, skip = [], False
+    for word in words:
+        if not skip and word.split("=")[0] not in names:
+            left.append(word)
+        skip = not skip and word in names and word not in FLAGS
+    return left
+
+
+def fault(function):
+    """Adds a function to the faults."""
+    FAULTS.append(function)
+    return function

@@ -1,0 +1,61 @@
+"""What is wrong with the new versions of a case: by the properties of its runs."""
+
+import oracle
+import set_version_oracle
+from confined import NoTree, leaves, tree_of
+from properties import confined_changes, diffs, dry_runs, general, read_messages, told
+
+
+def may_change(data):
+    """The places of versions and of path dependencies' requirements in a manifest."""
+    try:
+        tree = tree_of(data)
+    except NoTree:
+        return set()
+    found = {("package", "version"), ("workspace", "package", "version")}
+    for place, table in oracle.tables(tree):
+        found |= {(*place, key, "version") for key, value in table.items()
+                  if isinstance(value, dict) and "path" in value}
+    return found
+
+
+def expected(room, words):
+    """What the oracle wants; none where it has no opinion."""
+    try:
+        return set_version_oracle.expected(words[1:], room.begin, room.path)
+    except oracle.Unknown:
+        return {}, None
+
+
+def by_oracle(room, run, wanted):
+    """What the oracle says against a run."""
+    if wanted is None and run.status != 1:
+        yield f"the oracle wants an error: {told(run)}"
+    if wanted and run.status:
+        yield f"the oracle wants no error: {told(run)}"
+        return
+    for name, changed in (wanted or {}).items():
+        old, new = leaves(tree_of(room.begin[name])), leaves(tree_of(run.files[name]))
+        for place in old.keys() | changed.keys():
+            want = changed.get(place, old.get(place))
+            if new.get(place) != want:
+                yield f"{name}: the oracle wants {want!r} at {place}, not {new.get(place)!r}: {told(run)}"
+
+
+def faults(room, case, choose):
+    """All that is wrong with new versions."""
+    real = room.run(case.words)
+    yield from general(room, real)
+    yield from confined_changes(room, real, may_change)
+    wanted, count = expected(room, case.words)
+    if case.sure or real.status != 2:
+        yield from by_oracle(room, real, wanted)
+    yield from dry_runs(room, case.words, real)
+    if choose(0.3):
+        yield from diffs(room, case.words, real, choose)
+    if choose(0.3):
+        read, wrong = read_messages(room, case.words, real, "set-version")
+        yield from wrong
+        updated = sum(one["action"] == "Updating" for one in read if not wrong)
+        if not wrong and real.status == 0 and count is not None and updated != count:
+            yield f"{updated} messages of requirements, where {count} change"
