@@ -104,6 +104,9 @@ mod tests {
     /// Where the entry of `serde` stands in the cache.
     const SERDE: &str = "/c/sparse+https:%2F%2Fh.example%2F/se/rd/serde";
 
+    /// Where an upgrade reads it.
+    const INDEXED: &str = "/c/.run.1/index/sparse+https:%2F%2Fu:p@h.example%2F/se/rd/serde";
+
     const OLD: &[u8] = b"{\"name\":\"serde\",\"vers\":\"1.0.0\"}\n";
 
     const NEW: &[u8] =
@@ -141,9 +144,81 @@ mod tests {
         assert!(rt; report.error.is_none());
         assert!(rt; report.warnings.is_empty());
         assert_eq!(rt; entry(rt.alloc(), &mut store)?.as_slice(), NEW);
-        let indexed = "/c/.run.1/index/sparse+https:%2F%2Fu:p@h.example%2F/se/rd/serde";
-        let indexed = store.read(rt.alloc(), indexed)?.ok_or("not indexed")?;
+        let indexed = store.read(rt.alloc(), INDEXED)?.ok_or("not indexed")?;
         assert_eq!(rt; indexed.as_slice(), NEW);
+        Ok(())
+    }
+
+    /// Whether a run with this answer and body leaves the old entry, which serves with a warning.
+    fn is_left(alloc: Global, answer: &[u8], body: &[u8]) -> Result<bool, Fail> {
+        let (mut store, report) = run_with(alloc, answer, body)?;
+        let kept = entry(alloc, &mut store)?.as_slice() == OLD;
+        let serves = store.read(alloc, INDEXED)?.is_some();
+        Ok(kept && serves && report.error.is_none() && !report.warnings.is_empty())
+    }
+
+    #[test]
+    fn answers_without_an_entry(rt: HostRuntime) -> Result<(), Fail> {
+        let alloc = rt.alloc();
+        assert!(rt; is_left(alloc, b"1\t403\t0\t\n", b"")?, "forbidden");
+        assert!(rt;
+            is_left(alloc, b"1\t000\t6\tCould not resolve host\n", b"")?,
+            "no host"
+        );
+        assert!(rt;
+            is_left(alloc, b"1\t200\t18\ttransfer closed\n", NEW)?,
+            "cut off"
+        );
+        assert!(rt; is_left(alloc, b"1\t200\t0\t", NEW)?, "a cut line");
+        assert!(rt;
+            is_left(alloc, b"1\t200\t0\t\n", b"<html>log in</html>\n")?,
+            "a page"
+        );
+        assert!(rt;
+            is_left(
+                alloc,
+                b"1\t200\t0\t\n",
+                b"{\"name\":\"serde\",\"vers\":\"1.1.0\"}"
+            )?,
+            "a cut body"
+        );
+        assert!(rt;
+            is_left(
+                alloc,
+                b"1\t200\t0\t\n",
+                b"{\"name\":\"log\",\"vers\":\"1.1.0\"}\n"
+            )?,
+            "another crate"
+        );
+        Ok(())
+    }
+
+    #[test]
+    fn a_crate_that_is_not_there(rt: HostRuntime) -> Result<(), Fail> {
+        let (mut store, report) = run_with(rt.alloc(), b"1\t404\t0\t\n", b"")?;
+        assert!(rt; report.error.is_none());
+        assert!(rt; report.warnings.is_empty());
+        assert_eq!(rt; entry(rt.alloc(), &mut store)?.as_slice(), OLD);
+        assert!(rt; store.read(rt.alloc(), INDEXED)?.is_none());
+        Ok(())
+    }
+
+    #[test]
+    fn a_failed_write(rt: HostRuntime) -> Result<(), Fail> {
+        let (mut store, _report) = run_with(rt.alloc(), b"1\t304\t0\t\n", NEW)?;
+        put(
+            rt.alloc(),
+            &mut store,
+            "/c/.run.1/answers",
+            b"1\t200\t0\t\n",
+        )?;
+        put(rt.alloc(), &mut store, "/c/other", OLD)?;
+        // the calls before are those that read the lookups, the answers and the body
+        let mut store = FaultStore::new(store, 3, 5);
+        let result = store_answers(rt.alloc(), &mut store, &PLACES, false);
+        assert!(rt; result.is_err());
+        let other = store.read(rt.alloc(), "/c/other")?.ok_or("no other entry")?;
+        assert_eq!(rt; other.as_slice(), OLD);
         Ok(())
     }
 }
