@@ -17,7 +17,7 @@ such a client is answered:
     zipped              the body by gzip, for a client that takes it
     slow N              the answer after N seconds
     trickle             the body within 5 seconds, a part each half second
-    flaky TEXT          503 at the first request for each path in the mode of this text, then the answer
+    flaky               503 at the first request for each path, then the answer
     redirect-once URL   302 to URL and the path, once for each path
     loop                302 to itself
     token TEXT          401 but where the header Authorization is TEXT
@@ -108,6 +108,8 @@ class Answers(http.server.BaseHTTPRequestHandler):
     def odd(self, mode, body, tag):
         """Answers as the mode has it, and whether it did."""
         word, _, rest = mode.partition(" ")
+        # (a mode that is written again begins anew)
+        once = (self.path, os.stat(room + "/mode").st_mtime_ns) if mode else None
         if word == "down":
             self.answer(503)
         elif word == "status":
@@ -139,11 +141,11 @@ class Answers(http.server.BaseHTTPRequestHandler):
                 time.sleep(0.5)
                 self.wfile.write(body[k * 40:(k + 1) * 40] if k < 9 else body[k * 40:])
                 self.wfile.flush()
-        elif word == "flaky" and (rest, self.path) not in self.flaky:
-            self.flaky.add((rest, self.path))
+        elif word == "flaky" and once not in self.flaky:
+            self.flaky.add(once)
             self.answer(503)
-        elif word == "redirect-once" and self.path not in self.moved:
-            self.moved.add(self.path)
+        elif word == "redirect-once" and once not in self.moved:
+            self.moved.add(once)
             self.answer(302, more=[("Location", rest + self.path)])
         elif word == "loop":
             self.answer(302, more=[("Location", self.path)])

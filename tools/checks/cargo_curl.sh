@@ -13,7 +13,7 @@ curl_of() {
 }
 by_curl_of() { PATH="$room/curl:$PATH" "$@"; }
 
-# (S1) A curl that fails before all transfers: its words, and status 1.
+# A curl that fails before all transfers: its words, and status 1.
 row_curl_fails() {
   # shellcheck disable=SC2016
   echo 'case "$*" in *--version*) exec $curl "$@" ;; esac; echo "curl: (27) no more memory" >&2; exit 27' | curl_of
@@ -51,7 +51,7 @@ row_answer_is_missing() {
   unwritten
 }
 
-# (S6) No file of curl's own settings is read.
+# No file of curl's own settings is read.
 row_curlrc() {
   printf 'include\nproxy = http://127.0.0.1:1\nnoproxy = "-"\n' > "$HOME/.curlrc"
   run 0 upgrade -n
@@ -64,11 +64,12 @@ row_redirects() {
   mode "redirect-once $base"
   run 0 upgrade -n
   shown
-  rm -rf "$cache"
+  [ "$(requests)" = 4 ] || fail 'no redirect was followed'
+  rm -rf "$cache" "$room/asked"
   mode loop
   run 1 upgrade -n
   says_like 'curl:? 47'
-  [ "$(requests)" -le 14 ] || fail "$(requests) requests"
+  [ "$(requests)" -le 12 ] || fail "$(requests) requests"
 }
 row_https_stays_https() {
   sed -i "s,sparse+http://[0-9.:]*/one,sparse+$safe/one," "$CARGO_HOME/config.toml"

@@ -20,7 +20,7 @@ row_revalidates() {
   [ "$(grep -c ' kept ' "$room/asked")" = 2 ] || fail 'an entry was sent again'
 }
 
-# (S5) A 200 that is no index of this crate leaves what is cached, which serves this run and one with --offline.
+# A 200 that is no index of this crate leaves what is cached, which serves this run and one with --offline.
 refused_body() { # MODE
   fill
   find "$cache" -name '*.etag' -delete
@@ -43,7 +43,7 @@ row_cut() { refused_body cut; }
 row_partial() { refused_body partial; says_like 'curl:? 18'; }
 row_foreign() { refused_body foreign; }
 
-# (S10) No status but 200 changes the cache; 404, 410 and 451 say that this run has no such crate.
+# No status but 200 changes the cache; 404, 410 and 451 say that this run has no such crate.
 row_statuses() {
   local status
   fill
@@ -68,7 +68,7 @@ row_one_is_not_there() {
   has Cargo.toml 'other = "0.2.5"'
 }
 
-# (S8) Not had and not cached: status 1 and nothing written, also at a check; the crates once, with the reason.
+# Not had and not cached: status 1 and nothing written, also at a check; the crates once, with the reason.
 row_nothing_is_had() {
   local option
   for option in -v --check -n; do
@@ -105,7 +105,7 @@ row_exclude_leaves_out() {
   has Cargo.toml 'other = "0.2.0"'
 }
 
-# (S4) The validator belongs to the body: a body that another run wrote, or that stands there since a kill, is asked for anew.
+# The validator belongs to the body: a body that another run wrote, or that stands there since a kill, is asked for anew.
 row_validator_of_another_body() {
   fill
   cp "$(entry one 3/d/dep)" "$room/old"
@@ -119,7 +119,7 @@ row_validator_of_another_body() {
   silent '1\.2\.3'
 }
 
-# (7, S16) The cache is the user's alone, and no userinfo gets into it or into a message.
+# The cache is the user's alone, and no userinfo gets into it or into a message.
 row_private_cache() {
   (umask 022; run 0 upgrade) || exit 1
   [ "$(stat -c %a "$cache")" = 700 ] || fail "the cache has mode $(stat -c %a "$cache")"
@@ -162,7 +162,7 @@ row_no_folder() {
   says "$room/nowhere"
 }
 
-# (S20, S23, S24) Odd folders, no HOME, a relative one for caches, a link to the script.
+# Odd folders, no HOME, a relative one for caches, a link to the script.
 row_odd_names() {
   local odd="$room/ws/a b\"c\\d'e"
   mkdir "$odd" "$odd/ws" "$odd/tmp"
@@ -196,7 +196,7 @@ row_link_to_the_script() {
   PATH="$room/user/links:$(dirname "$cargo"):/usr/bin:/bin" run 0 set-version 0.3.0
   has Cargo.toml 'version = "0.3.0"'
 }
-# (S21) Nothing is left where a signal ends the run.
+# Nothing is left where a signal ends the run.
 row_signals() {
   local signal
   for signal in HUP INT TERM; do

@@ -46,7 +46,7 @@ broken() { # STATUS COMMAND ARGUMENTS
   [ "$status" = "$wanted" ] || fail "cargo $*: status $status in place of $wanted"
 }
 
-# (S2, S3, F1) An optional git dependency: no call without a package, and excluded crates stay locked.
+# An optional git dependency: no call without a package, and excluded crates stay locked.
 row_optional_git() {
   begins "third = \"1.0\"
 other = \"0.2.0\"
@@ -56,21 +56,21 @@ $git_dependency, optional = true }" other@0.2.0 third@1.0.0 dep@1.0.0
   locks other 0.2.0
   locks third 1.1.0
 }
-# (F1) The version that is asked for of an optional dependency is locked.
+# The version that is asked for of an optional dependency is locked.
 row_optional_precise() {
   begins 'other = { version = "0.2", optional = true }'
   locks other 0.2.5
   noted 0 upgrade -p other@0.2.0
   locks other 0.2.0
 }
-# (F1) What an optional dependency needs is updated with it.
+# What an optional dependency needs is updated with it.
 row_optional_recursive() {
   begins 'third = { version = "1.0", optional = true }' third@1.0.0 dep@1.0.0
   noted 0 upgrade
   locks third 1.1.0
   locks dep 1.2.3
 }
-# (F2) A call before it moved the package in the lock file: it is updated at the version that is there then.
+# A call before it moved the package in the lock file: it is updated at the version that is there then.
 row_moved_by_a_call() {
   begins "third = \"1.0\"
 $git_dependency }" third@1.0.0 dep@1.0.0
@@ -84,7 +84,7 @@ row_not_recursive() {
   noted 0 upgrade --recursive false
   locks dep 1.0.0
 }
-# (S2) Where cargo cannot resolve the workspace, no call is made, and it is said that the lock file stays.
+# Where cargo cannot resolve the workspace, no call is made, and it is said that the lock file stays.
 row_unresolved() {
   begins "dep = \"1.0\"
 $git_dependency }" dep@1.0.0
@@ -96,7 +96,7 @@ $git_dependency }" dep@1.0.0
   says Cargo.lock
   says 'out of luck'
 }
-# (S8) A call of `cargo update` that fails: status 1, with its words, and the manifests are written.
+# A call of `cargo update` that fails: status 1, with its words, and the manifests are written.
 row_update_fails() {
   broken_cargo '*update*'
   broken 1 upgrade
@@ -104,7 +104,7 @@ row_update_fails() {
   says 'out of luck'
   says_once '^Error: .*manifests? '
 }
-# (S12) The calls can be written to a file of the user's.
+# The calls can be written to a file of the user's.
 row_update_calls() {
   noted 0 upgrade --update-calls calls.txt
   awk '{ printf "%s%s", sep, $0; sep = " " } /^$/ { print ""; sep = "" }' calls.txt | sed 's/ *$//' > "$room/told"
@@ -114,7 +114,7 @@ row_update_calls() {
   noted 0 upgrade --update-calls=calls.txt
   [ -s calls.txt ] || fail 'no calls'
 }
-# (S9, S11) A dry run neither makes nor changes the lock file, however it is asked for.
+# A dry run neither makes nor changes the lock file, however it is asked for.
 row_dry_runs() {
   local option status
   for option in -n --dry-run --check -qn -nv; do
@@ -133,7 +133,7 @@ row_dry_runs() {
   done
   same "$room/first/Cargo.toml" Cargo.toml
 }
-# (S11) Arguments behind `--`.
+# Arguments behind `--`.
 row_dashes() {
   run 0 upgrade -n --
   shown
@@ -142,7 +142,7 @@ row_dashes() {
   run 0 set-version --bump minor --
   has Cargo.toml 'version = "1.1.0"'
 }
-# (S14) 2,000 packages in a lock file of 5,000: the packages of the calls are looked up in one pass.
+# 2,000 packages in a lock file of 5,000: the packages of the calls are looked up in one pass.
 row_many_packages() {
   python3 "$here/tools/cargo_checks/many.py" "$room/many" 5000 2000 || exit 1
   export CARGO="$room/many/cargo" CARGO_HOME="$room/many"
@@ -156,7 +156,7 @@ row_many_packages() {
   awk '{ exit !($1 + $2 < 8) }' "$room/took" || fail "user and system: $(cat "$room/took")"
 }
 
-# (S11, F3) set-version --locked: checked before anything is written.
+# set-version --locked: checked before anything is written.
 row_locked_stale() {
   sed -i 's/^dep = .*/dep = "1.2"/' Cargo.toml
   cp Cargo.toml "$room/begun.toml"
@@ -180,12 +180,12 @@ row_set_version_locks() {
   locks a 0.2.0
   locks dep 1.0.0
 }
-# (S11) cargo is asked for the lock file only where a version changed.
+# cargo is asked for the lock file only where a version changed.
 row_set_version_unchanged() {
   noted 0 set-version 0.1.0
   [ "$(wc -l < "$room/calls")" = 1 ] || fail "$(cat "$room/calls")"
 }
-# (F5) What cargo cannot do ends with status 1, and it is said that the manifests are written.
+# What cargo cannot do ends with status 1, and it is said that the manifests are written.
 row_set_version_unresolved() {
   broken_cargo '*metadata*--no-deps*) ;; *metadata*'
   broken 1 set-version 0.2.0
@@ -209,7 +209,7 @@ row_statuses() {
   run 2 set-version --wrong
   run 2 upgrade --pinned maybe
 }
-# (S15, F6) What is told as run is run, with --offline only where the user gave it.
+# What is told as run is run, with --offline only where the user gave it.
 row_told_is_run() {
   noted 0 upgrade
   updates | grep -q -e --package || fail 'no call'

@@ -76,7 +76,7 @@ row_older_one_stores_last() {
   whole
   newest
 }
-# (S4) The same, where the run with the newer body is held between its body and its validator, if it moves them one by one.
+# The same, where the run with the newer body is held between its body and its validator, if it moves them one by one.
 row_mixed_answers() {
   local older newer
   publish
@@ -116,7 +116,7 @@ row_kills() {
   newest
   [ "$(find "$cache" -maxdepth 1 -name '.run.*' | wc -l)" -le 14 ] || fail 'what is left piles up'
 }
-# (S7) Nothing is moved from another file system into the cache.
+# Nothing is moved from another file system into the cache.
 row_other_file_system() {
 
   local other

@@ -44,7 +44,7 @@ row_retry() {
 }
 row_retry_in_a_file() {
   printf '\n[net]\nretry = 0\n' >> "$CARGO_HOME/config.toml"
-  mode flaky file
+  mode flaky
   (unset CARGO_NET_RETRY; run 1 upgrade -n) || exit 1
   says 'status 503'
 }
@@ -137,7 +137,7 @@ row_token_by_plain_http() {
   grep -q '^/one/3/d/dep .* - ' "$room/asked" || fail 'a token by plain http to another machine'
 }
 
-# (6, S18) Registries that cannot be fetched: one line for each, status 1; with --offline their crates stay.
+# Registries that cannot be fetched: one line for each, status 1; with --offline their crates stay.
 row_git_registry() {
   private 'https://127.0.0.1:1/git'
   printf 'other = { version = "0.2.0", registry = "private" }\n' >> Cargo.toml
