@@ -14,7 +14,9 @@ fails() { echo "clone.sh: $step: $1"; [ ! -f "$room/out" ] || sed 's/^/  /' "$ro
 for tool in cargo rustc curl git python3; do
   command -v "$tool" > /dev/null || fails "$tool is not on PATH"
 done
-git clone -q "$here" "$room/clone"
+# (the repository may be another user's)
+printf '[safe]\n\tdirectory = *\n' > "$room/gitconfig"
+GIT_CONFIG_GLOBAL=$room/gitconfig git clone -q "$here" "$room/clone"
 cd "$room/clone"
 if [ ! -f release/SOURCES ] || [ "$(cat release/SOURCES)" != "$(tools/sources)" ]; then
   mkdir -p release
