@@ -11,3 +11,5 @@ pub mod NameLemmas
 pub mod OutcomeLemmas
 pub mod SourceLemmas
 pub mod FolderOutcomes
+pub mod JsonGrammarLemmas
+pub mod PutMemberLemmas

@@ -12,3 +12,4 @@ pub mod SourceReplacement
 pub mod Sources
 pub mod DirIndex
 pub mod Folders
+pub mod LineFields

@@ -1,12 +1,15 @@
 //! The lines of an index file.
-ghost use Rattle.std.specs.Prelude.{◌≡◌, ◌==◌, ◌+◌, Ok, Err, IfOk, IfErr, map, MatchResult, string_bytes, option_map, option_and_then};
+ghost use Rattle.std.specs.Prelude.{◌≡◌, ◌==◌, ◌+◌, Ok, Err, IfOk, IfErr, IfSome, map, MatchResult, string_bytes, option_map, option_and_then};
 ghost use Rattle.edit_base.specs.declared.errors.Error.TheVariants.{IndexLine};
+ghost use Rattle.edit_base.specs.Errors.{IsMemory};
 ghost use Rattle.edit_version.specs.IndexEntry.{entry_of};
 ghost use Rattle.edit_sources.specs.IndexLines.{IsIndexLine, LinesSay, RefusesLine, RefusesLines, is_blank, lines_of, rust_version_of, shown, yanked_of};
 ghost use Rattle.serde_json.specs.Find.{as_str};
 
+use crate::line_reader::read_fields;
 use edit_base::errors::{CargoResult, Error};
 use edit_version::fetch::IndexVersion;
+use json::Scratch;
 use serde_json::Value;
 use std::alloc::{AllocError, Global};
 
@@ -60,8 +63,53 @@ pub(crate) fn copied(alloc: Global, text: Option<&str>) -> Result<Option<String>
     }
 }
 
+/// The entry of a line that is read without a tree; none where that reader does not take the line.
+fn entry_from_tokens(
+    alloc: Global,
+    bytes: &[u8],
+    scratch: &mut Scratch,
+) -> CargoResult<Option<IndexVersion>>
+    ensures ok { IfOk result (λ o. IfSome o (λ v. IsIndexLine bytes.now (entry_of v))) }
+    ensures refused { IfErr result IsMemory }
+{
+    let Ok(text) = simdutf8::compat::from_utf8(bytes) else {
+        return Ok(None);
+    };
+    let Some(fields) = read_fields(text, scratch) else {
+        return Ok(None);
+    };
+    let Some(name) = fields.name else {
+        return Ok(None);
+    };
+    let Some(version) = fields.version else {
+        return Ok(None);
+    };
+    Ok(Some(IndexVersion {
+        name: String::from_str(alloc, name)?,
+        version: String::from_str(alloc, version)?,
+        yanked: fields.yanked,
+        rust_version: copied(alloc, fields.rust_version)?,
+    }))
+}
+
 /// The entry that a line says.
-fn read_line(alloc: Global, bytes: &[u8], line: usize) -> CargoResult<IndexVersion>
+fn read_line(
+    alloc: Global,
+    bytes: &[u8],
+    line: usize,
+    scratch: &mut Scratch,
+) -> CargoResult<IndexVersion>
+    ensures { MatchResult result (λ v. IsIndexLine bytes.now (entry_of v)) (RefusesLine bytes.now line) }
+{
+    match entry_from_tokens(alloc, bytes, scratch) {
+        Ok(Some(entry)) => Ok(entry),
+        Ok(None) => entry_from_tree(alloc, bytes, line),
+        Err(_) => Err(Error::Memory),
+    }
+}
+
+/// The entry of a line of which a tree is made.
+fn entry_from_tree(alloc: Global, bytes: &[u8], line: usize) -> CargoResult<IndexVersion>
     ensures { MatchResult result (λ v. IsIndexLine bytes.now (entry_of v)) (RefusesLine bytes.now line) }
 {
     let value = match Value::from_slice(alloc, bytes) {
@@ -97,12 +145,13 @@ pub fn read_lines(alloc: Global, bytes: &[u8]) -> CargoResult<Vec<IndexVersion>>
     ensures entries { IfOk result (λ v. LinesSay (lines_of bytes.now) (map entry_of v.items)) }
     ensures refused { IfErr result (RefusesLines (lines_of bytes.now)) }
 {
+    let mut scratch = Scratch::new(alloc);
     let mut entries = Vec::new(alloc);
     'lines: for (i, line) in bytes.split(|b| *b == b'\n').enumerate() {
         if blank(line) {
             continue;
         }
-        match read_line(alloc, line, i + 1) {
+        match read_line(alloc, line, i + 1, &mut scratch) {
             Ok(entry) => entries.push(entry)?,
             Err(error) => return Err(error),
         }

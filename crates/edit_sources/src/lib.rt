@@ -8,6 +8,7 @@ pub mod index;
 pub mod index_dir;
 pub mod index_lines;
 mod index_path;
+mod line_reader;
 pub mod local_index;
 pub mod registry;
 
