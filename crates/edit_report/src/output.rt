@@ -1,8 +1,8 @@
 //! Outputs written to their files.
-ghost use Rattle.std.specs.Prelude.{◌≡◌, OnErr, OnOk, true};
+ghost use Rattle.std.specs.Prelude.{◌≡◌, ◌≢◌, ◌<◌, OnErr, OnOk, length, true};
 ghost use Rattle.edit_base.specs.declared.errors.DeviceCall.TheVariants as call;
 ghost use Rattle.edit_report.specs.Applied.{AreWritten, HasStopped, HaveDistinctPaths, IsWhole, path_of};
-ghost use Rattle.edit_store.specs.Store.{HasCause, SameBut};
+ghost use Rattle.edit_store.specs.Store.{HasCause, SameBut, SameFiles};
 
 use edit_base::CargoResult;
 use edit_store::Store;
@@ -15,6 +15,34 @@ pub struct Output {
     pub bytes: Vec<u8>,
 }
 
+/// Makes the write of each output ready, in order. No file changes.
+fn stage_all<S: Store>(alloc: Global, outputs: &[Output], store: &mut S) -> CargoResult<()>
+    ensures tells { (S.view store.new).tells ≡ (S.view store.old).tells }
+    ensures files { SameFiles (S.view store.old).file_at (S.view store.new).file_at }
+    ensures cause { HasCause call.Write (S.view store.old) (S.view store.new) result }
+    ensures ready { OnOk result ((S.view store.new).stage_errors ≡ (S.view store.old).stage_errors) }
+    ensures some { OnErr result (0 < length outputs.now) }
+{
+    for output in outputs {
+        store.stage(alloc, output.path.as_str(), output.bytes.as_slice())?;
+    }
+    Ok(())
+}
+
+/// Compares the file of each output with what was read of it, in order. No file changes.
+fn verify_all<S: Store>(alloc: Global, outputs: &[Output], store: &mut S) -> CargoResult<()>
+    ensures tells { (S.view store.new).tells ≡ (S.view store.old).tells }
+    ensures files { SameFiles (S.view store.old).file_at (S.view store.new).file_at }
+    ensures cause { HasCause call.Write (S.view store.old) (S.view store.new) result }
+    ensures ready { OnOk result ((S.view store.new).stage_errors ≡ (S.view store.old).stage_errors) }
+    ensures some { OnErr result (0 < length outputs.now) }
+{
+    for output in outputs {
+        store.verify(alloc, output.path.as_str())?;
+    }
+    Ok(())
+}
+
 /// Writes an output to its file.
 fn write_output<S: Store>(alloc: Global, output: &Output, store: &mut S) -> CargoResult<()>
     ensures tells { (S.view store.new).tells ≡ (S.view store.old).tells }
@@ -22,21 +50,59 @@ fn write_output<S: Store>(alloc: Global, output: &Output, store: &mut S) -> Carg
         → IsWhole (S.view store.new).file_at output.now) }
     ensures others { SameBut (path_of output.now) (S.view store.old).file_at (S.view store.new).file_at }
     ensures cause { HasCause call.Write (S.view store.old) (S.view store.new) result }
+    ensures ready { (S.view store.new).stage_errors ≡ (S.view store.old).stage_errors }
 {
     store.write(alloc, output.path.as_str(), output.bytes.as_slice())
 }
 
-/// Writes the outputs in order, each to its own path, and stops at the first that is refused. The file that
-/// was being written may then hold anything.
-pub fn apply<S: Store>(alloc: Global, outputs: &[Output], store: &mut S) -> CargoResult<()>
+/// Writes the outputs in order, each to its own path, and stops at the first error.
+fn write_all<S: Store>(alloc: Global, outputs: &[Output], store: &mut S) -> CargoResult<()>
     requires { HaveDistinctPaths outputs.now }
     ensures tells { (S.view store.new).tells ≡ (S.view store.old).tells }
     ensures written { OnOk result (AreWritten outputs.now (S.view store.old) (S.view store.new)) }
     ensures stopped { OnErr result (HasStopped outputs.now (S.view store.old) (S.view store.new)) }
     ensures cause { HasCause call.Write (S.view store.old) (S.view store.new) result }
+    ensures ready { (S.view store.new).stage_errors ≡ (S.view store.old).stage_errors }
 {
     for output in outputs {
         write_output(alloc, output, store)?;
     }
     Ok(())
+}
+
+/// Makes all outputs ready, and then writes them.
+fn stage_and_write<S: Store>(alloc: Global, outputs: &[Output], store: &mut S) -> CargoResult<()>
+    requires { HaveDistinctPaths outputs.now }
+    ensures tells { (S.view store.new).tells ≡ (S.view store.old).tells }
+    ensures written { OnOk result (AreWritten outputs.now (S.view store.old) (S.view store.new)) }
+    ensures stopped { OnErr result (HasStopped outputs.now (S.view store.old) (S.view store.new)) }
+    ensures staged { OnErr result ((S.view store.new).stage_errors ≢ (S.view store.old).stage_errors
+        → SameFiles (S.view store.old).file_at (S.view store.new).file_at) }
+    ensures cause { HasCause call.Write (S.view store.old) (S.view store.new) result }
+{
+    stage_all(alloc, outputs, store)?;
+    verify_all(alloc, outputs, store)?;
+    write_all(alloc, outputs, store)
+}
+
+/// Writes the outputs in order, each to its own path, and stops at the first error. The file that was being written may
+/// then hold anything.
+///
+/// Before the first of them is written all are made ready: where that fails, each file is as it was.
+pub fn apply<S: Store>(alloc: Global, outputs: &[Output], store: &mut S) -> CargoResult<()>
+    requires { HaveDistinctPaths outputs.now }
+    ensures tells { (S.view store.new).tells ≡ (S.view store.old).tells }
+    ensures written { OnOk result (AreWritten outputs.now (S.view store.old) (S.view store.new)) }
+    ensures stopped { OnErr result (HasStopped outputs.now (S.view store.old) (S.view store.new)) }
+    ensures staged { OnErr result ((S.view store.new).stage_errors ≢ (S.view store.old).stage_errors
+        → SameFiles (S.view store.old).file_at (S.view store.new).file_at) }
+    ensures cause { HasCause call.Write (S.view store.old) (S.view store.new) result }
+{
+    match stage_and_write(alloc, outputs, store) {
+        Ok(()) => Ok(()),
+        Err(error) => {
+            store.unstage(alloc);
+            Err(error)
+        }
+    }
 }

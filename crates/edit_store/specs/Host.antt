@@ -11,9 +11,18 @@ use Rattle.edit_store.specs.declared.host_store.HostStore.{HostStore}
 abbrev pub host_faults : {R : Type 0} → HostStore R → ℕ
 host_faults store = store.failed
 
+-- how often a write could not be made ready (own)
+abbrev pub host_stage_errors : {R : Type 0} → HostStore R → ℕ
+host_stage_errors store = store.stage_errors
+
 -- the machine's files are not told (own)
 abbrev pub host_view : {R : Type 0} → HostStore R → StoreView
-host_view store = record { tells = false; file_at = λ _. None; faults = host_faults store }
+host_view store = record {
+  tells = false;
+  file_at = λ _. None;
+  faults = host_faults store;
+  stage_errors = host_stage_errors store;
+}
 
 -- a refusal of a call: want of memory, which is not counted, or a fault of the device, which is (own)
 abbrev pub IsRefusal : DeviceCall → ℕ → ℕ → Error → Type 0

@@ -10,7 +10,7 @@ files_in store path = option_map (λ v. v.items) (get_by_text store.files path)
 
 -- a store in memory tells its files, and never fails (own)
 abbrev pub memory_view : MemoryStore → StoreView
-memory_view store = record { tells = true; file_at = files_in store; faults = 0 }
+memory_view store = record { tells = true; file_at = files_in store; faults = 0; stage_errors = 0 }
 
 -- a file's path is this one, a `/`, and more (own)
 abbrev pub IsFrontOf : MemoryStore → List ℕ → Type 0

@@ -27,7 +27,7 @@ one_less (Some (suc n)) = Some n
 
 -- it tells its files, and counts its one fault (own)
 abbrev pub fault_view : FaultStore → StoreView
-fault_view store = record { tells = true; file_at = files_in store.inner; faults = faults_of store }
+fault_view store = record { tells = true; file_at = files_in store.inner; faults = faults_of store; stage_errors = 0 }
 
 -- a write that fails leaves a front of its bytes, but for want of memory (own)
 abbrev pub LeavesFront : FaultStore → FaultStore → List ℕ → List ℕ → Error → Type 0

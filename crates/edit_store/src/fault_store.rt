@@ -92,6 +92,15 @@ impl Store for FaultStore {
         self.inner.read(alloc, path)
     }
 
+    fn read_stream(&mut self, alloc: Global, path: &str) -> CargoResult<Option<Vec<u8>>>
+        ensures files { SameFiles (files_in self.old.inner) (files_in self.new.inner) }
+        ensures bytes { IfOk result (λ r. option_map (λ v. v.items) r ≡ files_in self.old.inner path.now) }
+        ensures cause { HasCause DeviceCall.Read (fault_view self.old) (fault_view self.new) result }
+        ensures turn { TakesTurn DeviceCall.Read self.old self.new result }
+    {
+        self.read(alloc, path)
+    }
+
     fn write(&mut self, alloc: Global, path: &str, bytes: &[u8]) -> CargoResult<()>
         ensures written { OnOk result (files_in self.new.inner path.now ≡ Some bytes.now) }
         ensures others { SameBut path.now (files_in self.old.inner) (files_in self.new.inner) }

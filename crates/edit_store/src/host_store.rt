@@ -1,72 +1,85 @@
 //! The files of the machine.
 ghost use Rattle.std.specs.Prelude.{◌≡◌};
-ghost use Rattle.edit_store.specs.Host.{IsRefusal, host_faults, host_view};
+ghost use Rattle.edit_store.specs.Host.{IsRefusal, host_faults, host_stage_errors, host_view};
+ghost use Rattle.edit_store.specs.Store.{raised};
 
-use crate::replace::replace;
+use crate::reading::{read_regular, read_stream};
+use crate::reason::{Answer, Reason};
 use crate::store::{Kind, Store};
+use crate::temporary::remove_leavings;
+use crate::work::Work;
 use edit_base::errors::{CargoResult, DeviceCall, Error};
+use edit_base::paths::folder;
 use std::alloc::Global;
+use std::env::Env;
+use std::fs;
 use std::fs::{File, Files};
-use std::io::ErrorKind;
-use std::{fs, io};
+use std::io::{Eprint, ErrorKind};
 
 /// The files of the machine. No clause can say what they hold.
 #[derive(Debug, Drop)]
 pub struct HostStore<R> {
     rt: R,
     failed: u64,
+    stage_errors: u64,
+    /// Why the last call failed.
+    reason: Option<Reason>,
+    work: Work,
 }
 
 impl<R: Files<File = File> + Alloc<A = Global> + Drop> HostStore<R> {
     /// The files that the runtime reaches.
     pub fn new(rt: R) -> HostStore<R>
-        ensures { host_faults result ≡ 0 }
+        ensures faults { host_faults result ≡ 0 }
+        ensures ready { host_stage_errors result ≡ 0 }
     {
-        HostStore { rt, failed: 0 }
+        HostStore::for_process(rt, 0)
     }
 
-    /// The refusal of a call. Each but want of memory counts as a fault.
-    fn refused(&mut self, call: DeviceCall, error: io::Error) -> Error
-        ensures { IsRefusal call self.old.failed self.new.failed result }
+    /// The files that the runtime reaches; the names of temporary files have the number of the process.
+    pub fn for_process(rt: R, process: u32) -> HostStore<R>
+        ensures faults { host_faults result ≡ 0 }
+        ensures ready { host_stage_errors result ≡ 0 }
     {
-        if error.kind() == ErrorKind::OutOfMemory {
+        let work = Work::new(rt.alloc(), process);
+        HostStore {
+            rt,
+            failed: 0,
+            stage_errors: 0,
+            reason: None,
+            work,
+        }
+    }
+
+    /// The error of a call. Each but want of memory counts as a fault.
+    fn refused(&mut self, call: DeviceCall, reason: Reason) -> Error
+        ensures cause { IsRefusal call self.old.failed self.new.failed result }
+        ensures ready { host_stage_errors self.new ≡ host_stage_errors self.old }
+    {
+        if reason.is_memory() {
             return Error::Memory;
         }
         self.failed = self.failed.saturating_add(1);
+        self.reason = Some(reason);
         Error::Device(call)
+    }
+
+    /// The error of a write that cannot be made ready.
+    fn not_ready(&mut self, reason: Reason) -> Error
+        ensures cause { IsRefusal DeviceCall.Write self.old.failed self.new.failed result }
+        ensures counted { raised (host_stage_errors self.old) (host_stage_errors self.new) }
+    {
+        self.stage_errors = self.stage_errors.saturating_add(1);
+        self.refused(DeviceCall::Write, reason)
     }
 }
 
-impl<R: Files<File = File> + Alloc<A = Global> + Drop> Store for HostStore<R> {
-    ghost view = { host_view };
-
-    fn kind(&mut self, _alloc: Global, path: &str) -> CargoResult<Kind> {
-        match fs::metadata(&self.rt, path) {
-            Ok(metadata) if metadata.is_file() => Ok(Kind::File),
-            Ok(metadata) if metadata.is_dir() => Ok(Kind::Folder),
-            Ok(_) => Ok(Kind::Absent),
-            Err(error) if is_absent(error.kind()) => Ok(Kind::Absent),
-            Err(error) => Err(self.refused(DeviceCall::Kind, error)),
-        }
-    }
-
-    fn read(&mut self, _alloc: Global, path: &str) -> CargoResult<Option<Vec<u8>>> {
-        match fs::read(&self.rt, path) {
-            Ok(bytes) => Ok(Some(bytes)),
-            Err(error) if is_absent(error.kind()) => Ok(None),
-            Err(error) => Err(self.refused(DeviceCall::Read, error)),
-        }
-    }
-
-    fn write(&mut self, alloc: Global, path: &str, bytes: &[u8]) -> CargoResult<()> {
-        match replace(&self.rt, alloc, path, bytes) {
-            Ok(()) => Ok(()),
-            Err(error) => Err(self.refused(DeviceCall::Write, error)),
-        }
-    }
-
-    fn faults(&self) -> u64 {
-        self.failed
+/// The bytes of a file, where one stands: what the machine says of a path at which none stands is no error.
+fn where_found(answer: Answer<Vec<u8>>) -> Answer<Option<Vec<u8>>> {
+    match answer {
+        Ok(bytes) => Ok(Some(bytes)),
+        Err(Reason::Machine(error)) if is_absent(error.kind()) => Ok(None),
+        Err(reason) => Err(reason),
     }
 }
 
@@ -76,4 +89,84 @@ fn is_absent(kind: ErrorKind) -> bool {
         kind,
         ErrorKind::NotFound | ErrorKind::NotADirectory | ErrorKind::IsADirectory
     )
+}
+
+impl<R: Files<File = File> + Alloc<A = Global> + Env + Eprint + Clone + Drop> Store
+    for HostStore<R> {
+    ghost view = { host_view };
+
+    fn kind(&mut self, _alloc: Global, path: &str) -> CargoResult<Kind> {
+        match fs::metadata(&self.rt, path) {
+            Ok(metadata) if metadata.is_file() => Ok(Kind::File),
+            Ok(metadata) if metadata.is_dir() => Ok(Kind::Folder),
+            Ok(_) => Ok(Kind::Absent),
+            Err(error) if is_absent(error.kind()) => Ok(Kind::Absent),
+            Err(error) => Err(self.refused(DeviceCall::Kind, Reason::from(error))),
+        }
+    }
+
+    fn read(&mut self, alloc: Global, path: &str) -> CargoResult<Option<Vec<u8>>> {
+        match where_found(read_regular(&self.rt, alloc, path)) {
+            Ok(Some(bytes)) => {
+                self.work.remember(alloc, path, &bytes)?;
+                Ok(Some(bytes))
+            }
+            Ok(None) => Ok(None),
+            Err(reason) => Err(self.refused(DeviceCall::Read, reason)),
+        }
+    }
+
+    fn read_stream(&mut self, alloc: Global, path: &str) -> CargoResult<Option<Vec<u8>>> {
+        match where_found(read_stream(&self.rt, alloc, path)) {
+            Ok(bytes) => Ok(bytes),
+            Err(reason) => Err(self.refused(DeviceCall::Read, reason)),
+        }
+    }
+
+    fn stage(&mut self, alloc: Global, path: &str, bytes: &[u8]) -> CargoResult<()> {
+        match self.work.stage(&self.rt, alloc, path, bytes) {
+            Ok(()) => Ok(()),
+            Err(reason) => Err(self.not_ready(reason)),
+        }
+    }
+
+    fn verify(&mut self, alloc: Global, path: &str) -> CargoResult<()> {
+        match self.work.verify(&self.rt, alloc, path) {
+            Ok(()) => Ok(()),
+            Err(reason) => Err(self.not_ready(reason)),
+        }
+    }
+
+    fn write(&mut self, alloc: Global, path: &str, bytes: &[u8]) -> CargoResult<()> {
+        match self.work.write(&self.rt, alloc, path, bytes) {
+            Ok(()) => Ok(()),
+            Err(reason) => Err(self.refused(DeviceCall::Write, reason)),
+        }
+    }
+
+    fn unstage(&mut self, alloc: Global) {
+        self.work.unstage(&self.rt, alloc);
+    }
+
+    fn lock(&mut self, alloc: Global, folder: &str) {
+        self.work.lock(&self.rt, alloc, folder);
+    }
+
+    fn tidy(&mut self, alloc: Global, path: &str) {
+        if let Ok(target) = fs::canonicalize(&self.rt, path) {
+            let folder = folder(target.as_path().as_str());
+            remove_leavings(&self.rt, alloc, folder, self.work.process());
+        }
+    }
+
+    fn faults(&self) -> u64 {
+        self.failed
+    }
+
+    fn reason(&self, alloc: Global) -> Option<String> {
+        match &self.reason {
+            Some(reason) => reason.text(alloc),
+            None => None,
+        }
+    }
 }

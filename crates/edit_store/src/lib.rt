@@ -1,12 +1,17 @@
 //! Files that may fail: those of the machine, those in memory, and those that fail in one call.
 #![tactic(auto)]
 
-mod beside;
+mod commit;
 pub mod fault_store;
 pub mod host_store;
 pub mod memory_store;
-mod replace;
+mod reading;
+mod reason;
+mod staged;
 pub mod store;
+mod temporary;
+mod watched;
+mod work;
 
 pub use fault_store::FaultStore;
 pub use host_store::HostStore;

@@ -4,7 +4,7 @@ use Rattle.edit_report.proofs.ApplyLemmas.{on_refusal, stopped_at, written_more}
 use Rattle.edit_report.specs.Applied.{IsWhole, path_of}
 use Rattle.edit_report.specs.declared.output.Output.{Output}
 use Rattle.edit_store.specs.Store.{SameBut}
-use Rattle.edit_report.proofs.output.apply.Goals as goal
+use Rattle.edit_report.proofs.output.write_all.Goals as goal
 
 pub returns-in_err-write_output-clause-stopped : goal.returns-in_err-write_output-clause-stopped
 returns-in_err-write_output-clause-stopped g c =
@@ -28,4 +28,5 @@ loop-output-preserved g c =
           (λ t. subst (IsWhole new.file_at) c.output-item.is (c.in_ok-write_output.ensures.written t))
           (subst (λ (o : Output). SameBut (path_of o) mid.file_at new.file_at) c.output-item.is
           c.write_output.ensures.others);
+      ready = c.write_output.ensures.ready ∙ c.loop-output.invariant.ready;
     }

@@ -1,6 +1,6 @@
 use Rattle.std.proofs.Common.{◌≡◌, ◌≤◌, take}
 use Rattle.edit_report.specs.Applied.{AreWritten}
-use Rattle.edit_report.proofs.output.apply.Given as goal
+use Rattle.edit_report.proofs.output.write_all.Given as goal
 
 abbrev pub invariant-loop-output : goal.invariant-loop-output
 invariant-loop-output g l = record {
@@ -8,4 +8,5 @@ invariant-loop-output g l = record {
   later : (g.S.Store.view l.initial.store).faults ≤ (g.S.Store.view l.store).faults;
   written : AreWritten (take l.output-index l.outputs) (g.S.Store.view l.initial.store)
       (g.S.Store.view l.store);
+  ready : (g.S.Store.view l.store).stage_errors ≡ (g.S.Store.view l.initial.store).stage_errors;
 }

@@ -1,0 +1,60 @@
+//! Why a call for a file of the machine failed.
+use std::alloc::{AllocError, AllocFailed, Global};
+use std::io;
+use std::io::ErrorKind;
+
+/// Why a call for a file failed.
+#[derive(Debug, Drop)]
+pub(crate) enum Reason {
+    /// The error of the machine.
+    Machine(io::Error),
+    /// What this store found wrong.
+    Found(String),
+}
+
+/// What a step of a call answers.
+pub(crate) type Answer<T> = Result<T, Reason>;
+
+impl Reason {
+    /// Whether memory ran out.
+    pub(crate) fn is_memory(&self) -> bool {
+        match self {
+            Reason::Machine(error) => error.kind() == ErrorKind::OutOfMemory,
+            Reason::Found(_) => false,
+        }
+    }
+
+    /// The reason in words; none where memory is short.
+    pub(crate) fn text(&self, alloc: Global) -> Option<String> {
+        match self {
+            Reason::Machine(error) => format!(in alloc; "{error}").ok(),
+            Reason::Found(text) => String::from_str(alloc, text.as_str()).ok(),
+        }
+    }
+}
+
+impl From<io::Error> for Reason {
+    fn from(error: io::Error) -> Reason {
+        Reason::Machine(error)
+    }
+}
+
+impl From<AllocError> for Reason {
+    fn from(_error: AllocError) -> Reason {
+        Reason::Machine(io::Error::from(ErrorKind::OutOfMemory))
+    }
+}
+
+impl<T: Drop> From<AllocFailed<T>> for Reason {
+    fn from(_error: AllocFailed<T>) -> Reason {
+        Reason::Machine(io::Error::from(ErrorKind::OutOfMemory))
+    }
+}
+
+/// What this store found wrong.
+pub(crate) fn found(alloc: Global, text: &str) -> Reason {
+    match String::from_str(alloc, text) {
+        Ok(text) => Reason::Found(text),
+        Err(error) => Reason::from(error),
+    }
+}

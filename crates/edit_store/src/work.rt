@@ -1,0 +1,244 @@
+//! What a store of the machine's files has read, made ready and written in a run.
+use crate::commit::commit;
+use crate::reading::Fingerprint;
+use crate::reason::{Answer, Reason, found};
+use crate::staged::{Staged, Way, prepare};
+use crate::watched::{WATCHED, Watched, settle};
+use edit_base::paths::folder;
+use std::alloc::{AllocError, Global};
+use std::collections::BTreeMap;
+use std::env::Env;
+use std::fs::{File, Files, TryLockError};
+use std::io::Eprint;
+
+/// What a store of the machine's files has read, made ready and written in a run.
+#[derive(Debug, Drop)]
+pub(crate) struct Work {
+    /// The number of the run's process, for the names of new files.
+    process: u32,
+    /// The text of each file as it was read first, or was written since.
+    texts: BTreeMap<String, Fingerprint>,
+    /// The writes that are ready, by their paths.
+    staged: BTreeMap<String, Staged>,
+    /// How many of them were compared with what was read.
+    verified: usize,
+    /// The path that is staged for each file, by the file's device and number.
+    paths: BTreeMap<(u64, u64), String>,
+    /// The files that were replaced since the last flush, and their folders.
+    watched: Vec<Watched>,
+    folders: Vec<String>,
+    /// Locked folders, which stay so while they are open.
+    locked: Vec<File>,
+}
+
+impl Work {
+    /// Nothing yet.
+    pub(crate) fn new(alloc: Global, process: u32) -> Work {
+        Work {
+            process,
+            texts: BTreeMap::new(alloc),
+            staged: BTreeMap::new(alloc),
+            verified: 0,
+            paths: BTreeMap::new(alloc),
+            watched: Vec::new(alloc),
+            folders: Vec::new(alloc),
+            locked: Vec::new(alloc),
+        }
+    }
+
+    /// The number of the run's process.
+    pub(crate) fn process(&self) -> u32 {
+        self.process
+    }
+
+    /// Remembers the text of a file as it is read first.
+    pub(crate) fn remember(
+        &mut self,
+        alloc: Global,
+        path: &str,
+        bytes: &[u8],
+    ) -> Result<(), AllocError> {
+        if self.texts.contains_key(path) {
+            return Ok(());
+        }
+        let name = String::from_str(alloc, path)?;
+        self.texts.insert(name, Fingerprint::of(bytes))?;
+        Ok(())
+    }
+
+    /// Makes a write ready. Two paths of one file are an error.
+    pub(crate) fn stage<R: Files<File = File> + Alloc<A = Global> + Env>(
+        &mut self,
+        rt: &R,
+        alloc: Global,
+        path: &str,
+        bytes: &[u8],
+    ) -> Answer<()> {
+        if let Some(staged) = self.staged.get(path)
+            && staged.text == Fingerprint::of(bytes)
+        {
+            return Ok(());
+        }
+        self.give_up(rt, path);
+        let staged = prepare(rt, alloc, path, bytes, self.process)?;
+        match self.put(alloc, path, &staged) {
+            Ok(name) => match self.staged.insert(name, staged) {
+                Ok(_) => Ok(()),
+                Err(failed) => {
+                    let (_name, staged) = failed.value;
+                    staged.give_up(rt);
+                    Err(Reason::from(AllocError))
+                }
+            },
+            Err(reason) => {
+                staged.give_up(rt);
+                Err(reason)
+            }
+        }
+    }
+
+    /// Notes the path of a write that is ready, and answers a copy of it; an error where another path of the same file is
+    /// staged.
+    fn put(&mut self, alloc: Global, path: &str, staged: &Staged) -> Answer<String> {
+        if let Some(identity) = staged.identity
+            && matches!(staged.way, Way::Rename(_) | Way::InPlace(_))
+        {
+            if let Some(other) = self.paths.get(&identity)
+                && other.as_str() != path
+            {
+                let other = other.as_str();
+                return Err(Reason::Found(format!(in alloc; "it is the same file as {other}")?));
+            }
+            self.paths.insert(identity, String::from_str(alloc, path)?)?;
+        }
+        Ok(String::from_str(alloc, path)?)
+    }
+
+    /// Removes the files that were made for a write, where it is ready.
+    fn give_up<R: Files<File = File>>(&mut self, rt: &R, path: &str) {
+        if let Some(staged) = self.staged.remove(path) {
+            if staged.verified {
+                self.verified = self.verified.saturating_sub(1);
+            }
+            staged.give_up(rt);
+        }
+    }
+
+    /// Compares a file that is staged with what was read of it.
+    pub(crate) fn verify<R: Files<File = File>>(
+        &mut self,
+        rt: &R,
+        alloc: Global,
+        path: &str,
+    ) -> Answer<()> {
+        let Some(staged) = self.staged.get_mut(path) else {
+            return Ok(());
+        };
+        if staged.verified {
+            return Ok(());
+        }
+        if !staged.stands(rt) {
+            return Err(found(alloc, "another program moved its temporary file"));
+        }
+        if let Some(old) = self.texts.get(path) {
+            let Some(watched) = Watched::open(rt, alloc, path, *old, staged.text)? else {
+                return Err(found(alloc, "the file was changed while cargo-edit ran"));
+            };
+            if matches!(staged.way, Way::Rename(_)) && self.watched.len() < WATCHED {
+                self.watched.push(watched)?;
+            }
+        }
+        staged.verified = true;
+        self.verified = self.verified.saturating_add(1);
+        Ok(())
+    }
+
+    /// Writes a file. Behind the last write that is compared the folders are flushed to the disk, and the files that
+    /// were replaced are looked at again.
+    pub(crate) fn write<R: Files<File = File> + Alloc<A = Global> + Env>(
+        &mut self,
+        rt: &R,
+        alloc: Global,
+        path: &str,
+        bytes: &[u8],
+    ) -> Answer<()> {
+        self.stage(rt, alloc, path, bytes)?;
+        if let Err(reason) = self.verify(rt, alloc, path) {
+            self.give_up(rt, path);
+            return Err(reason);
+        }
+        let Some(staged) = self.staged.remove(path) else {
+            return Ok(());
+        };
+        self.verified = self.verified.saturating_sub(1);
+        commit(rt, alloc, &staged, bytes, self.process)?;
+        self.note(alloc, &staged)?;
+        if self.verified == 0 {
+            return self.settle(rt, alloc);
+        }
+        Ok(())
+    }
+
+    /// Notes a write that was made.
+    fn note(&mut self, alloc: Global, staged: &Staged) -> Answer<()> {
+        let path = String::from_str(alloc, staged.path.as_str())?;
+        self.texts.insert(path, staged.text)?;
+        if matches!(staged.way, Way::Rename(_)) {
+            self.folders
+                .push(String::from_str(alloc, folder(staged.target.as_str()))?)?;
+        }
+        Ok(())
+    }
+
+    /// Flushes the folders of the files that were replaced, and looks at those files again. A folder that cannot be
+    /// flushed is passed over: each file is whole, the old one or the new one.
+    fn settle<R: Files<File = File> + Alloc<A = Global> + Env>(
+        &mut self,
+        rt: &R,
+        alloc: Global,
+    ) -> Answer<()> {
+        for folder in self.folders.iter() {
+            if let Ok(file) = File::open(rt, folder.as_str()) {
+                let _ = file.sync_all();
+            }
+        }
+        self.folders.clear();
+        let done = settle(rt, alloc, &mut self.watched, self.process);
+        self.watched.clear();
+        done
+    }
+
+    /// Gives up the writes that are ready and not made.
+    pub(crate) fn unstage<R: Files<File = File> + Alloc<A = Global> + Env>(
+        &mut self,
+        rt: &R,
+        alloc: Global,
+    ) {
+        for staged in self.staged.values() {
+            staged.give_up(rt);
+        }
+        self.staged = BTreeMap::new(alloc);
+        self.paths = BTreeMap::new(alloc);
+        self.verified = 0;
+        let _ = self.settle(rt, alloc);
+    }
+
+    /// Locks a folder until the end of the run. Where another run has locked it, this is told, and waited for.
+    pub(crate) fn lock<R: Files<File = File> + Eprint>(
+        &mut self,
+        rt: &R,
+        alloc: Global,
+        folder: &str,
+    ) {
+        let Ok(file) = File::open(rt, folder) else {
+            return;
+        };
+        if let Err(TryLockError::WouldBlock) = file.try_lock() {
+            if let Ok(text) = format!(in alloc; "    Blocking waiting for file lock on {folder}") {
+                let _ = rt.eprintln(text);
+            }
+            let _ = file.lock();
+        }
+        let _ = self.locked.push(file);
+    }
+}
