@@ -48,8 +48,8 @@ fn calls_of(alloc: Global, lines: &[&str]) -> Result<Vec<Vec<String>>, AllocErro
     Ok(calls)
 }
 
-/// Reads the file of calls that `upgrade --update-calls` writes: one argument a line, and an empty line behind each
-/// call. Arguments behind the last empty line are left out.
+/// Reads the file of calls that `upgrade --update-calls` writes: one argument a line, and an empty line
+/// behind each call. Arguments behind the last empty line are left out.
 pub fn read_calls(alloc: Global, text: &str) -> Result<Vec<Vec<String>>, AllocError>
     ensures { IfOk result (λ v. (calls : List Call) → All HasTexts calls → lines text.now ≡ file_lines calls
         → calls_seen v.items ≡ calls) }

@@ -91,7 +91,8 @@ fn new_packages(
     packages: &[LockedPackage],
 ) -> Result<Vec<Gained>, AllocError>
     ensures { IfOk result (λ v. pairs_seen v.items
-        ≡ map pair_of (filter (λ p. not (contains_text had.now (spec_of p))) (map package_seen packages.now))) }
+        ≡ map pair_of (filter (λ p. not (contains_text had.now (spec_of p)))
+        (map package_seen packages.now))) }
 {
     let mut gained = Vec::new(alloc);
     'packages: for package in packages {
@@ -116,7 +117,8 @@ fn by_name(alloc: Global, gained: Vec<Gained>) -> Result<BTreeMap<String, Vec<Ga
 impl Index {
     /// Reads both files into maps.
     pub(crate) fn new(alloc: Global, before: &Lock, now: &Lock) -> Result<Index, AllocError>
-        ensures { IfOk result (λ i. changes_seen i ≡ changes (packages_seen before.now) (packages_seen now.now)) }
+        ensures { IfOk result (λ i. changes_seen i
+            ≡ changes (packages_seen before.now) (packages_seen now.now)) }
     {
         let had = specs_of(alloc, &before.packages)?;
         let has = specs_of(alloc, &now.packages)?;

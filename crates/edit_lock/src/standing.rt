@@ -153,14 +153,15 @@ fn push_call(calls: &mut Vec<Call>, call: Call) -> Result<(), AllocError>
     Ok(())
 }
 
-/// The calls of `cargo update` that are right against the lock file `now`, in their order; `before` is the lock
-/// file before the first of them was made.
+/// The calls of `cargo update` that are right against the lock file `now`, in their order; `before` is the
+/// lock file before the first of them was made.
 ///
-/// A call is a list of arguments, of which each `--package` is followed by `NAME@VERSION`. It stays where `now` has
-/// that package. Where it does not and `before` had it, a call before this one has changed that version: then
-/// `--package` with each package of that name which `now` has and `before` had not stands in its place. Else it is
-/// dropped. A call that names no package then is dropped, since it would update every package. `--offline` stays only
-/// where `offline` says that nothing may be fetched. All else of a call stays.
+/// A call is a list of arguments, of which each `--package` is followed by `NAME@VERSION`. It stays where
+/// `now` has that package. Where it does not and `before` had it, a call before this one has changed that
+/// version: then `--package` with each package of that name which `now` has and `before` had not stands in
+/// its place. Else it is dropped. A call that names no package then is dropped, since it would update every
+/// package. `--offline` stays only where `offline` says that nothing may be fetched. All else of a call
+/// stays.
 pub fn standing_calls(
     alloc: Global,
     calls: &[Vec<String>],
