@@ -52,9 +52,11 @@ settings_named : (settings : NetSettings) → AreNamed (named_options settings)
 unfolding named_options
 settings_named settings = both_named
     (elim settings.proxy as (λ o. AreNamed (option_to_list
-    (option_map (λ p. valued (codes "proxy") (string_bytes p)) o))) [ None ↦ record { named = refl } | Some p ↦ record { named = refl } ])
+    (option_map (λ p. valued (codes "proxy") (string_bytes p)) o)))
+    [ None ↦ record { named = refl } | Some p ↦ record { named = refl } ])
     (elim settings.cainfo as (λ o. AreNamed (option_to_list
-    (option_map (λ c. valued (codes "cacert") (string_bytes c)) o))) [ None ↦ record { named = refl } | Some c ↦ record { named = refl } ])
+    (option_map (λ c. valued (codes "cacert") (string_bytes c)) o)))
+    [ None ↦ record { named = refl } | Some c ↦ record { named = refl } ])
 
 transfer_named : (settings : NetSettings) (room : List ℕ) (r : Request)
     → AreNamed (transfer_options settings room r)

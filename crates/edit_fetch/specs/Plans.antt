@@ -16,7 +16,8 @@ use Rattle.edit_store.specs.Store.{Files, raised}
 -- whether the entries of a registry are fetched: one of the sparse protocol, over http or https
 abbrev pub is_fetched : List ℕ → Bool
 is_fetched address =
-    starts_with nat_eq address (codes "sparse+http://") || starts_with nat_eq address (codes "sparse+https://")
+    starts_with nat_eq address (codes "sparse+http://")
+    || starts_with nat_eq address (codes "sparse+https://")
 
 -- a text with a slash at its end
 abbrev pub with_slash : List ℕ → List ℕ

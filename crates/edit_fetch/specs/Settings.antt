@@ -57,6 +57,7 @@ pub record Settings : Type 0 where
   pub proxy : Option (List ℕ)
   pub cainfo : Option (List ℕ)
 
+-- the settings that count, as numbers and texts
 abbrev pub settings_view : NetSettings → Settings
 settings_view s = record {
   offline = s.offline;

@@ -77,7 +77,7 @@ file_options room request =
     ∷ valued (codes "output") (numbered room request.number [])
     ∷ valued (codes "etag-save") (numbered room request.number (codes ".etag"))
     ∷ valued (codes "write-out")
-    (decimal request.number ++ codes "\t%{response_code}\t%{exitcode}\t%{errormsg}\n")
+    (decimal request.number ++ codes "\t%{response_code}\t%{exitcode}\t%{num_redirects}\t%{errormsg}\n")
     ∷ []
 
 -- how to transfer: no progress is shown, no globbing in addresses, compressed if the server can

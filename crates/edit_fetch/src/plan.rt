@@ -77,8 +77,8 @@ fn write_plan<S: Store>(
 }
 
 /// Writes down what is fetched for the lookups of a text, as files of the folder that the transfers use:
-/// `lookups`, the text, and `curl`, the configuration of curl. It answers how many transfers there are; none where
-/// the text is not the lines of lookups, and then no file is written.
+/// `lookups`, the text, and `curl`, the configuration of curl. It answers how many transfers there are;
+/// none where the text is not the lines of lookups, and then no file is written.
 ///
 /// An entry is fetched where its registry speaks the sparse protocol, unless the settings are offline.
 pub fn fetch_plan<S: Store>(
@@ -122,7 +122,7 @@ mod tests {
     const CONFIG: &[u8] = b"url = \"https://index.example/se/rd/serde\"
 output = \"/room/1\"
 etag-save = \"/room/1.etag\"
-write-out = \"1\\t%{response_code}\\t%{exitcode}\\t%{errormsg}\\n\"
+write-out = \"1\\t%{response_code}\\t%{exitcode}\\t%{num_redirects}\\t%{errormsg}\\n\"
 location
 max-redirs = \"5\"
 proto = \"=https\"

@@ -79,9 +79,9 @@ fn settings_of(values: NetValues) -> NetSettings
     }
 }
 
-/// The network settings that count, by the environment and then by the files of these configurations, in their
-/// order: `net.offline`, `net.retry`, `http.timeout`, `http.proxy` and `http.cainfo`. A value of another type
-/// than cargo's counts as absent.
+/// The network settings that count, by the environment and then by the files of these configurations, in
+/// their order: `net.offline`, `net.retry`, `http.timeout`, `http.proxy` and `http.cainfo`. A value of
+/// another type than cargo's counts as absent.
 pub fn net_settings<S: Store>(
     alloc: Global,
     store: &mut S,

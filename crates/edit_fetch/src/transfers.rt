@@ -59,8 +59,8 @@ fn is_loopback(url: &[u8]) -> bool
     !has_at_sign(url) && begins_at_loopback(url)
 }
 
-/// Whether a text may stand in a header.
-fn is_header_text(text: &[u8]) -> bool
+/// Whether a text may stand in a header: no control character is in it.
+pub fn is_header_text(text: &[u8]) -> bool
     ensures { result ≡ is_header_text text.now }
 {
     text.iter().all(|b| 32 <= *b && *b != 127)
@@ -165,7 +165,7 @@ fn push_files(
     let body = numbered(alloc, room, number, "")?;
     let etag = numbered(alloc, room, number, ".etag")?;
     let outcome = format!(in alloc;
-        "{number}\t%{{response_code}}\t%{{exitcode}}\t%{{errormsg}}\n"
+        "{number}\t%{{response_code}}\t%{{exitcode}}\t%{{num_redirects}}\t%{{errormsg}}\n"
     )?;
     push_valued(text, "url", &request.url)?;
     push_valued(text, "output", body.as_bytes())?;
@@ -269,4 +269,18 @@ pub fn requests_text(
 {
     let text = transfers_text(alloc, settings, room, requests)?;
     Ok(text)
+}
+
+#[cfg(test)]
+mod tests {
+    use super::*;
+    use std::test::Fail;
+
+    #[test]
+    fn texts_of_headers(rt: HostRuntime) -> Result<(), Fail> {
+        assert!(rt; is_header_text(b"Bearer a-token \xff~"));
+        assert!(rt; !is_header_text(b"token\n"));
+        assert!(rt; !is_header_text(b"a\x7f"));
+        Ok(())
+    }
 }

@@ -56,7 +56,8 @@ texts-more : (items xs : List Lookup) (x : Lookup) → xs ≡ items ++ x ∷ []
     → map lookup_text xs ≡ map lookup_text items ++ lookup_text x ∷ []
 texts-more items xs x e = ap (map lookup_text) e ∙ map-append lookup_text items (x ∷ [])
 
-pub All-more : (items xs : List Lookup) (x : Lookup) → xs ≡ items ++ x ∷ [] → All IsLookup (map lookup_text items)
+pub All-more : (items xs : List Lookup) (x : Lookup) → xs ≡ items ++ x ∷ []
+    → All IsLookup (map lookup_text items)
     → IsLookup (lookup_text x) → All IsLookup (map lookup_text xs)
 All-more items xs x e all is =
     subst (All IsLookup) (sym (texts-more items xs x e)) (All-push IsLookup _ _ all is)

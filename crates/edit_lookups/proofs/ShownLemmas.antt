@@ -8,7 +8,8 @@ use Rattle.edit_lookups.specs.Shown.{shown_address, userinfo_len}
 
 head-off : (xs : List ℕ) → ((r : List ℕ) → xs ≢ 47 ∷ r) → eqb (get_or xs 0 0) 47 ≡ false
 head-off [] h = refl
-head-off (x ∷ xs) h = false_from_ne_true (eqb x 47) (λ e. let same : x ≡ 47 = grind (arith, nat_tests) in h xs (ap (λ y. y ∷ xs) same))
+head-off (x ∷ xs) h = false_from_ne_true (eqb x 47)
+    (λ e. let same : x ≡ 47 = grind (arith, nat_tests) in h xs (ap (λ y. y ∷ xs) same))
 
 abbrev cut : List ℕ → List ℕ
 cut address =
@@ -28,5 +29,6 @@ pub shown-cut : (address scheme rest host : List ℕ) → scheme ≡ before_firs
 shown-cut address scheme rest host es er eh =
     let at : after_first (λ b. eqb b 47) address ≡ 47 ∷ host = sym er ∙ eh in
     ap (λ xs. cond (eqb (get_or xs 0 0) 47) (cut address) address) at
-    ∙ (ap (λ xs. (before_first (λ b. eqb b 47) address ++ codes "//") ++ drop (userinfo_len (drop 1 xs)) (drop 1 xs)) at
+    ∙ (ap (λ xs. (before_first (λ b. eqb b 47) address ++ codes "//")
+    ++ drop (userinfo_len (drop 1 xs)) (drop 1 xs)) at
     ∙ ap (λ t. (t ++ codes "//") ++ drop (userinfo_len host) host) (sym es))

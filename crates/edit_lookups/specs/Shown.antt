@@ -11,7 +11,8 @@ abbrev pub one_more : Bool → ℕ → ℕ
 one_more is_at zero = if is_at then 1 else 0
 one_more is_at (suc n) = suc (suc n)
 
--- how many bytes come up to the last `@` before the first of those bytes, with that `@`; 0 where there is none
+-- how many bytes come up to the last `@` before the first of those bytes, with that `@`; 0 where there is
+-- none
 abbrev pub userinfo_len : List ℕ → ℕ
 userinfo_len [] = 0
 userinfo_len (b ∷ rest) =

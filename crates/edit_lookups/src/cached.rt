@@ -11,7 +11,8 @@ use edit_sources::index_dir::folder::ESCAPED;
 use percent_encoding::utf8_percent_encode;
 use std::alloc::{AllocError, Global};
 
-/// The folder of a registry in the cache: its address without userinfo, each `%` as `%25` and each `/` as `%2F`.
+/// The folder of a registry in the cache: its address without userinfo, each `%` as `%25` and each `/` as
+/// `%2F`.
 fn cached_folder(alloc: Global, address: &str) -> Result<String, AllocError>
     ensures { IfOk result (λ s. string_bytes s ≡ registry_folder (shown_address address.now)) }
 {
@@ -53,6 +54,11 @@ mod tests {
         assert_eq!(rt;
             entry.as_str(),
             "/cache/sparse+https:%2F%2Fhost.example%2Fa%2520b%2F/se/rd/serde"
+        );
+        let validator = validator_path(rt.alloc(), entry.as_str())?;
+        assert_eq!(rt;
+            validator.as_str(),
+            "/cache/sparse+https:%2F%2Fhost.example%2Fa%2520b%2F/se/rd/serde.etag"
         );
         Ok(())
     }

@@ -1,5 +1,5 @@
-//! The index entries that an upgrade looks up: their lines, their files in the cache, and the validators beside
-//! those files.
+//! The index entries that an upgrade looks up: their lines, their files in the cache, and the validators
+//! beside those files.
 #![tactic(auto)]
 
 pub mod cached;

@@ -11,7 +11,8 @@ fn ends_authority(b: u8) -> bool
     b == b'/' || b == b'?' || b == b'#'
 }
 
-/// How many bytes come up to the last `@` before the first `/`, `?` or `#`, with that `@`; 0 where there is none.
+/// How many bytes come up to the last `@` before the first `/`, `?` or `#`, with that `@`; 0 where there is
+/// none.
 fn userinfo_len(text: &[u8]) -> usize
     ensures len { result ≡ userinfo_len text.now }
     ensures within { result ≤ length text.now }

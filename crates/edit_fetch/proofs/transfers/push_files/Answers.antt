@@ -9,4 +9,5 @@ returns c = four_lines _ _ _ _ _ _ _ _ _
     (line_same _ _ _ _ _ c.in_ok-push_valued.ensures c.deref.ensures.value)
     (line_same _ _ _ _ _ c.in_ok-push_valued-2.ensures (c.as_bytes.ensures.value ∙ c.in_ok-body.ensures))
     (line_same _ _ _ _ _ c.in_ok-push_valued-3.ensures (c.as_bytes-2.ensures.value ∙ c.in_ok-etag.ensures))
-    (line_same _ _ _ _ _ c.in_ok-push_valued-4.ensures (c.as_bytes-3.ensures.value ∙ c.in_ok-outcome.ensures.ok))
+    (line_same _ _ _ _ _ c.in_ok-push_valued-4.ensures
+    (c.as_bytes-3.ensures.value ∙ c.in_ok-outcome.ensures.ok))

@@ -34,9 +34,18 @@ returns c =
     let rest = HasNo-tail 10 9 _ (HasNo-right 10 c.in-Some.address.now _ no_end) in
     let rest2 = subst (HasNo 10) cut2 rest in (
       record {
-        address = record { no_tab = cut-first 9 _ _ _ c.in-Some.ensures.cases (lit< tt); no_line_end = HasNo-left 10 _ _ no_end };
-        name = record { no_tab = cut-first 9 _ _ _ c.in-Some-split_once.ensures.cases (lit< tt); no_line_end = HasNo-left 10 _ _ rest2 };
-        path = record { no_tab = c.has_tab.ensures.free c.if-has_tab.false; no_line_end = HasNo-tail 10 9 _ (HasNo-right 10 c.in-Some-split_once.name.now _ rest2) };
+        address = record {
+          no_tab = cut-first 9 _ _ _ c.in-Some.ensures.cases (lit< tt);
+          no_line_end = HasNo-left 10 _ _ no_end;
+        };
+        name = record {
+          no_tab = cut-first 9 _ _ _ c.in-Some-split_once.ensures.cases (lit< tt);
+          no_line_end = HasNo-left 10 _ _ rest2;
+        };
+        path = record {
+          no_tab = c.has_tab.ensures.free c.if-has_tab.false;
+          no_line_end = HasNo-tail 10 9 _ (HasNo-right 10 c.in-Some-split_once.name.now _ rest2);
+        };
       },
       subst (λ t. c.args.line.now ≡ c.in-Some.address.now ++ 9 ∷ t) cut2 cut,
     )

@@ -23,7 +23,8 @@ loop-line-preserved c =
       All-more c.loop-line.lookups.items c.push.new.self.items c.in-Some-read_line.lookup
           c.in_ok-push.ensures.items c.loop-line.invariant.2 c.in-Some-read_line.ensures.0,
       λ ls h. let rest = c.loop-line.invariant.3 ls h in
-          let first = first-line _ _ _ rest.0 cut (cut-first 10 _ _ _ c.in-Some.ensures.cases (lit< tt)) rest.1 in
+          let first = first-line _ _ _ rest.0 cut
+          (cut-first 10 _ _ _ c.in-Some.ensures.cases (lit< tt)) rest.1 in
           (first.others, first.say),
     )
 
@@ -31,4 +32,5 @@ pub returns : goal.returns
 returns c ls h =
     let rest = c.loop-line.invariant.3 ls h in
     let empty = no-line _ rest.0 (cut-none 10 _ c.in_default.ensures.cases (lit< tt)) rest.1 in
-    false≢true (sym c.if-is_empty.false ∙ (c.is_empty.ensures ∙ ap (λ (xs : List ℕ). eqb (length xs) 0) empty))
+    false≢true (sym c.if-is_empty.false ∙ (c.is_empty.ensures
+    ∙ ap (λ (xs : List ℕ). eqb (length xs) 0) empty))

@@ -21,5 +21,6 @@ returns c etag h =
     omega (arith, length-encode_with lower_digits (sha256 c.args.body.now), length-sha256 c.args.body.now) in
     let same = c.in-Some.ensures.found sum etag len h.valid h.is in
     let whole : c.as_slice.result.now ≡ c.args.line.now =
-    c.as_slice.ensures.value ∙ (c.in_ok-wanted.ensures ∙ (ap (validator_line c.args.body.now) same ∙ sym h.is)) in
+    c.as_slice.ensures.value ∙ (c.in_ok-wanted.ensures
+    ∙ (ap (validator_line c.args.body.now) same ∙ sym h.is)) in
     other_text _ _ (sym c.if-eq.false ∙ c.eq.ensures) whole

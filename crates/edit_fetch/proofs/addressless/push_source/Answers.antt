@@ -1,0 +1,8 @@
+use Rattle.edit_fetch.proofs.VariableLemmas.{four_parts}
+use Rattle.edit_fetch.specs.Addressless.{source_line}
+use Rattle.edit_fetch.proofs.addressless.push_source.Goals as goal
+
+pub returns : goal.returns
+unfolding source_line
+returns c = four_parts _ _ _ _ _ _ _ _ _ c.in_ok-extend_from_slice.ensures.items c.in_ok-push_quoted.ensures
+    c.in_ok-extend_from_slice-2.ensures.items c.in_ok-push_value_line.ensures

@@ -1,0 +1,194 @@
+//! Sources of configuration files that have no address, as that of a vendored project.
+ghost use Rattle.std.specs.Prelude.{◌≡◌, ◌++◌, All, IfOk, OnOk, find, option_map, string_bytes};
+ghost use Rattle.std.specs.List.{flat_map};
+ghost use Rattle.std.specs.Str.{bytes_eq};
+ghost use Rattle.edit_fetch.specs.Addressless.{IsAddressless, is_empty_definition, is_empty_source, is_own_key, source_line, stand_in_address, stand_in_line};
+ghost use Rattle.edit_sources.specs.Configured.{all_definitions, configuration, source_view};
+ghost use Rattle.edit_sources.specs.SourceReplacement.{definitions_of, first};
+
+use crate::toml_text::{push_quoted, push_value_line};
+use edit_sources::Config;
+use edit_sources::config::ConfigSource;
+use edit_sources::registry::CRATES_IO_INDEX;
+use std::alloc::{AllocError, Global};
+
+/// A source that names neither a registry nor another source: a vendored folder, a local registry or a git
+/// repository of packages.
+#[derive(Clone, Copy, Debug)]
+pub struct AddresslessSource<'a> {
+    /// Its key below `source`.
+    pub key: &'a str,
+    /// The path of the configuration file that names it.
+    pub file: &'a str,
+}
+
+/// What a file gives a key of `registries`, where it has that key.
+fn registry_at<'a>(config: &'a Config, key: &str) -> Option<&'a (String, Option<String>)>
+    ensures { option_map (λ r. r.now) result
+        ≡ find (λ r. bytes_eq key.now (string_bytes r.0)) config.now.registries.items }
+{
+    config
+        .registries
+        .iter()
+        .find(|entry| key == entry.0.as_str())
+}
+
+/// What a file gives a key of `source`, where it has that key.
+fn source_at<'a>(config: &'a Config, key: &str) -> Option<&'a (String, ConfigSource)>
+    ensures { option_map (λ s. s.now) result
+        ≡ find (λ s. bytes_eq key.now (string_bytes s.0)) config.now.sources.items }
+{
+    config.sources.iter().find(|entry| key == entry.0.as_str())
+}
+
+/// Whether a source names neither a registry nor another source.
+fn is_empty_source(source: &ConfigSource) -> bool
+    ensures { result ≡ is_empty_source (source_view source.now) }
+{
+    source.registry.is_none() && source.replace_with.is_none()
+}
+
+/// Whether the first definition of a key in a file has no address and no replacement, where the file has
+/// that key.
+fn is_empty_in(config: &Config, key: &str) -> Option<bool>
+    ensures { result ≡ option_map is_empty_source
+        (first key.now (definitions_of (configuration config.now))) }
+{
+    if let Some(entry) = registry_at(config, key) {
+        return Some(entry.1.is_none());
+    }
+    let entry = source_at(config, key)?;
+    Some(is_empty_source(&entry.1))
+}
+
+/// Whether the first definition of a key in these files, in their order, has no address and no replacement.
+fn is_empty(configs: &[Config], key: &str) -> bool
+    ensures { result ≡ is_empty_definition (first key.now (all_definitions configs.now)) }
+{
+    for config in configs {
+        if let Some(empty) = is_empty_in(config, key) {
+            return empty;
+        }
+    }
+    false
+}
+
+/// Whether a key is another than those of the default registry, which has an address where none is given.
+fn is_own_key(key: &str) -> bool
+    ensures { result ≡ is_own_key key.now }
+{
+    key != "crates-io" && key != CRATES_IO_INDEX
+}
+
+/// Whether a source is listed.
+fn is_listed(sources: &[AddresslessSource<'_>], key: &str) -> bool {
+    sources.iter().any(|source| source.key == key)
+}
+
+/// The sources without an address, each once: those that these files define, in their order, without one.
+pub fn addressless_sources<'a>(
+    alloc: Global,
+    configs: &'a [Config],
+) -> Result<Vec<AddresslessSource<'a>>, AllocError>
+    ensures { IfOk result (λ v. All (λ s. IsAddressless configs.entry.now s.key.now) v.items) }
+{
+    let mut found: Vec<AddresslessSource<'a>> = Vec::new(alloc);
+    for config in configs {
+        for (key, _) in &config.sources {
+            let key = key.as_str();
+            if is_own_key(key) && is_empty(configs, key) && !is_listed(&found, key) {
+                let file = config.path.as_str();
+                found.push(AddresslessSource { key, file })?;
+            }
+        }
+    }
+    Ok(found)
+}
+
+/// The address that stands for a source without one: its key after `source:`, a scheme that no registry has.
+pub fn stand_in_address(alloc: Global, key: &str) -> Result<String, AllocError>
+    ensures { IfOk result (λ s. string_bytes s ≡ stand_in_address key.now) }
+{
+    format!(in alloc; "source:{key}")
+}
+
+/// Adds the line that gives a source its address.
+#[tactic(auto, unfolding(crate::specs::Addressless::source_line))]
+fn push_source(text: &mut Vec<u8>, key: &[u8], address: &[u8]) -> Result<(), AllocError>
+    ensures { OnOk result (text.new.items ≡ text.old.items ++ source_line key.now address.now) }
+{
+    text.extend_from_slice(b"source.")?;
+    push_quoted(text, key)?;
+    text.extend_from_slice(b".registry = ")?;
+    push_value_line(text, address)?;
+    Ok(())
+}
+
+/// The lines of a configuration file that give each of these sources an address that no registry has, so
+/// that an upgrade is planned and tells the crates of them from others.
+pub fn sources_text(alloc: Global, sources: &[AddresslessSource<'_>]) -> Result<Vec<u8>, AllocError>
+    ensures { IfOk result (λ v. v.items ≡ flat_map stand_in_line sources.now) }
+{
+    let mut text = Vec::new(alloc);
+    for source in sources {
+        let address = stand_in_address(alloc, source.key)?;
+        push_source(&mut text, source.key.as_bytes(), address.as_bytes())?;
+    }
+    Ok(text)
+}
+
+#[cfg(test)]
+mod tests {
+    use super::*;
+    use std::test::Fail;
+
+    /// The configuration of a vendored project.
+    const VENDORED: &[u8] = b"[source.crates-io]
+replace-with = 'vendored \"it\"'
+[source.'vendored \"it\"']
+directory = 'vendor'
+[source.own]
+registry = 'file:///own'
+";
+
+    /// A configuration of the user's home.
+    const HOME: &[u8] = b"[source.own]
+[source.'vendored \"it\"']
+[source.git]
+git = 'https://git.example/'
+[source.crates-io]
+";
+
+    fn configs(alloc: Global) -> Result<Vec<Config>, Fail> {
+        let mut configs = Vec::new(alloc);
+        configs.push(Config::read(alloc, "/w/.cargo/config.toml", VENDORED)?)?;
+        configs.push(Config::read(alloc, "/h/config.toml", HOME)?)?;
+        Ok(configs)
+    }
+
+    #[test]
+    fn first_definitions(rt: HostRuntime) -> Result<(), Fail> {
+        let configs = configs(rt.alloc())?;
+        let sources = addressless_sources(rt.alloc(), &configs)?;
+        assert_eq!(rt; sources.len(), 2);
+        assert_eq!(rt; sources[0].key, "vendored \"it\"");
+        assert_eq!(rt; sources[0].file, "/w/.cargo/config.toml");
+        assert_eq!(rt; sources[1].key, "git");
+        assert_eq!(rt; sources[1].file, "/h/config.toml");
+        Ok(())
+    }
+
+    #[test]
+    fn read_back(rt: HostRuntime) -> Result<(), Fail> {
+        let configs = configs(rt.alloc())?;
+        let sources = addressless_sources(rt.alloc(), &configs)?;
+        let text = sources_text(rt.alloc(), &sources)?;
+        let config = Config::read(rt.alloc(), "first.toml", &text)?;
+        assert_eq!(rt; config.sources.len(), 2);
+        for (key, source) in &config.sources {
+            let address = stand_in_address(rt.alloc(), key.as_str())?;
+            assert_eq!(rt; source.registry.as_deref(), Some(address.as_str()));
+        }
+        Ok(())
+    }
+}

@@ -1,0 +1,208 @@
+//! Registries that variables of the environment define, as lines of a configuration file of cargo.
+ghost use Rattle.std.specs.Prelude.{◌≡◌, ◌++◌, ◌<◌, ◌==◌, IfOk, OnOk, length, map};
+ghost use Rattle.std.specs.List.{flat_map, list_any};
+ghost use Rattle.edit_fetch.specs.Variables.{dashed, dashed_byte, default_registry_text, is_between, is_index_variable, is_name, is_name_byte, key_byte, registry_key, registry_line, registry_lines, registry_part, variable_lines, variable_texts};
+
+use crate::toml_text::push_value_line;
+use edit_sources::registry::CRATES_IO_INDEX;
+use std::alloc::{AllocError, Global};
+
+/// Whether a byte may stand in the part of a variable's name that is a registry's: a capital letter, a
+/// digit or `_`.
+fn is_name_byte(byte: u8) -> bool
+    ensures { result ≡ is_name_byte byte }
+{
+    (b'A' <= byte && byte <= b'Z') || (b'0' <= byte && byte <= b'9') || byte == b'_'
+}
+
+/// What stands between `CARGO_REGISTRIES_` and `_INDEX`, where a name has more than these 23 bytes.
+fn registry_part(name: &[u8]) -> &[u8]
+    requires { 23 < length name.now }
+    ensures { result.now ≡ registry_part name.now }
+{
+    &name[17..name.len() - 6]
+}
+
+/// Whether a part of a variable's name can be that of a registry: capital letters, digits and `_`.
+fn is_name(part: &[u8]) -> bool
+    ensures { result ≡ is_name part.now }
+{
+    part.iter().all(|b| is_name_byte(*b))
+}
+
+/// Whether a name begins with `CARGO_REGISTRIES_` and ends with `_INDEX`.
+fn is_between(name: &[u8]) -> bool
+    ensures { result ≡ is_between name.now }
+{
+    name.starts_with(b"CARGO_REGISTRIES_") && name.ends_with(b"_INDEX")
+}
+
+/// Whether a variable of this name has the address of a registry's index.
+fn is_index_variable(name: &[u8]) -> bool
+    ensures { result ≡ is_index_variable name.now }
+{
+    23 < name.len() && is_between(name) && is_name(registry_part(name))
+}
+
+/// A byte of a registry's name as a key of a configuration has it: in small letters.
+fn key_byte(byte: u8) -> u8
+    ensures { result ≡ key_byte byte }
+{
+    byte.to_ascii_lowercase()
+}
+
+/// The name of a registry as a key of a configuration.
+fn registry_key(alloc: Global, part: &[u8]) -> Result<Vec<u8>, AllocError>
+    ensures { IfOk result (λ v. v.items ≡ registry_key part.now) }
+{
+    let mut key = Vec::new(alloc);
+    for byte in part {
+        key.push(key_byte(*byte))?;
+    }
+    Ok(key)
+}
+
+/// A byte of a key, `-` for `_`.
+fn dashed_byte(byte: u8) -> u8
+    ensures { result ≡ dashed_byte byte }
+{
+    if byte == b'_' { b'-' } else { byte }
+}
+
+/// A key with `-` for each `_`.
+fn dashed(alloc: Global, key: &[u8]) -> Result<Vec<u8>, AllocError>
+    ensures { IfOk result (λ v. v.items ≡ dashed key.now) }
+{
+    let mut dashed = Vec::new(alloc);
+    for byte in key {
+        dashed.push(dashed_byte(*byte))?;
+    }
+    Ok(dashed)
+}
+
+/// Adds the line that gives a registry its index.
+#[tactic(auto, unfolding(crate::specs::Variables::registry_line))]
+fn push_registry(text: &mut Vec<u8>, key: &[u8], index: &[u8]) -> Result<(), AllocError>
+    ensures { OnOk result (text.new.items ≡ text.old.items ++ registry_line key.now index.now) }
+{
+    text.extend_from_slice(b"registries.")?;
+    text.extend_from_slice(key)?;
+    text.extend_from_slice(b".index = ")?;
+    push_value_line(text, index)?;
+    Ok(())
+}
+
+/// Whether `_` stands in a key.
+fn has_underscore(key: &[u8]) -> bool
+    ensures { result ≡ list_any (λ b. b == 95) key.now }
+{
+    key.iter().any(|b| *b == b'_')
+}
+
+/// Adds the lines that give a registry its index: one for its key, and where `_` stands in that, one for
+/// the key with `-` in place of it.
+#[tactic(auto, unfolding(crate::specs::Variables::registry_lines))]
+fn push_both(alloc: Global, text: &mut Vec<u8>, key: &[u8], index: &[u8]) -> Result<(), AllocError>
+    ensures { OnOk result (text.new.items ≡ text.old.items ++ registry_lines key.now index.now) }
+{
+    push_registry(text, key, index)?;
+    if has_underscore(key) {
+        let key = dashed(alloc, key)?;
+        push_registry(text, &key, index)?;
+    }
+    Ok(())
+}
+
+/// Adds the lines of a variable.
+#[tactic(auto, unfolding(crate::specs::Variables::variable_lines))]
+fn push_variable(
+    alloc: Global,
+    text: &mut Vec<u8>,
+    name: &[u8],
+    value: &[u8],
+) -> Result<(), AllocError>
+    ensures { OnOk result (text.new.items ≡ text.old.items ++ variable_lines (name.now, value.now)) }
+{
+    if !is_index_variable(name) {
+        return Ok(());
+    }
+    let key = registry_key(alloc, registry_part(name))?;
+    push_both(alloc, text, &key, value)
+}
+
+/// The lines of a configuration file for the registries that variables of the environment define.
+///
+/// A variable `CARGO_REGISTRIES_NAME_INDEX`, where NAME is of capital letters, digits and `_`, gives the
+/// index of the registry `name`; where `_` stands in NAME, also that of the registry with `-` for each `_`,
+/// since cargo writes both so. Other variables give no line. A value may be any text.
+pub fn variables_text(alloc: Global, variables: &[(String, String)]) -> Result<Vec<u8>, AllocError>
+    ensures { IfOk result (λ v. v.items ≡ flat_map variable_lines (map variable_texts variables.now)) }
+{
+    let mut text = Vec::new(alloc);
+    for (name, value) in variables {
+        push_variable(alloc, &mut text, name.as_bytes(), value.as_bytes())?;
+    }
+    Ok(text)
+}
+
+/// The line of a configuration file for what cargo has built in: the address of the default registry's index.
+pub fn default_registry_text(alloc: Global) -> Result<Vec<u8>, AllocError>
+    ensures { IfOk result (λ v. v.items ≡ default_registry_text) }
+{
+    let mut text = Vec::new(alloc);
+    text.extend_from_slice(b"source.crates-io.registry = ")?;
+    push_value_line(&mut text, CRATES_IO_INDEX.as_bytes())?;
+    Ok(text)
+}
+
+#[cfg(test)]
+mod tests {
+    use super::*;
+    use edit_sources::Config;
+    use std::test::Fail;
+
+    #[test]
+    fn read_back(rt: HostRuntime) -> Result<(), Fail> {
+        let alloc = rt.alloc();
+        let mut variables = Vec::new(alloc);
+        for (name, value) in [
+            ("CARGO_REGISTRIES_ONE_INDEX", "sparse+https://one.example/"),
+            ("CARGO_REGISTRIES_MY_OWN_INDEX", "'a' \"b\" \\c\t\u{7f}\né"),
+            ("CARGO_REGISTRIES__INDEX", "x"),
+            ("CARGO_REGISTRIES_small_INDEX", "x"),
+            ("CARGO_REGISTRIES_ONE_TOKEN", "x"),
+        ] {
+            variables.push((
+                String::from_str(alloc, name)?,
+                String::from_str(alloc, value)?,
+            ))?;
+        }
+        let text = variables_text(alloc, &variables)?;
+        let config = Config::read(alloc, "first.toml", &text)?;
+        assert_eq!(rt; config.registries.len(), 3);
+        for (key, index) in &config.registries {
+            let wanted = if key.as_str() == "one" {
+                "sparse+https://one.example/"
+            } else {
+                assert!(rt; key.as_str() == "my-own" || key.as_str() == "my_own");
+                "'a' \"b\" \\c\t\u{7f}\né"
+            };
+            assert_eq!(rt; index.as_deref(), Some(wanted));
+        }
+        Ok(())
+    }
+
+    #[test]
+    fn default_registry(rt: HostRuntime) -> Result<(), Fail> {
+        let text = default_registry_text(rt.alloc())?;
+        let config = Config::read(rt.alloc(), "last.toml", &text)?;
+        assert_eq!(rt; config.sources.len(), 1);
+        let (key, source) = &config.sources[0];
+        assert_eq!(rt; key.as_str(), "crates-io");
+        assert_eq!(rt;
+            source.registry.as_deref(),
+            Some("sparse+https://index.crates.io/")
+        );
+        Ok(())
+    }
+}
