@@ -1,5 +1,5 @@
 -- Which bodies are whole index files.
-use Rattle.std.proofs.Common.{◌≡◌, ℕ, ◌<◌, List, Bool, true, false, length, map, get_or, sym, subst, arith, refl}
+use Rattle.std.proofs.Common.{ℕ, List, Bool, true, false, map, subst, arith, refl}
 use Rattle.std.specs.Prelude.{All, IsTrue, MatchBool, ◌↔◌}
 use Rattle.std.proofs.lemmas.Bool.{false≢true}
 use Rattle.std.proofs.lemmas.List.{length-map}

@@ -1,5 +1,5 @@
 -- How changes of files follow one another.
-use Rattle.std.proofs.Common.{◌≡◌, ◌≢◌, ℕ, ◌<◌, ◌≤◌, List, [], Vec, Global, ap, option_map, Bool, true, false, Option, Some, None, refl, sym, ◌∙◌, subst, inl, inr, ⊎_elim, arith, Decides}
+use Rattle.std.proofs.Common.{◌≡◌, ◌≢◌, ℕ, ◌≤◌, List, [], Vec, Global, ap, option_map, Bool, true, false, Option, Some, None, refl, sym, ◌∙◌, subst, inl, inr, ⊎_elim, arith, Decides}
 use Rattle.std.specs.Prelude.{◌⊎◌, Result, Ok, Err, OnOk, IfOk, IsErrAnd}
 use Rattle.std.specs.Str.{bytes_eq}
 use Rattle.std.proofs.lemmas.Bool.{false≢true}
@@ -10,7 +10,6 @@ use Rattle.edit_base.specs.declared.errors.Error.{Error}
 use Rattle.edit_base.specs.declared.errors.Error.TheVariants.{Memory}
 use Rattle.edit_store.specs.Store.{Files, HasCause, OnlyReads, RefusesCall, SameBut, SameFiles, StoreView, raised}
 use Rattle.edit_answers.specs.Changes.{Changes, Fails, IsKeptAt, Keeps, KeepsBut}
-use Rattle.edit_answers.specs.Links.{IsLinked}
 
 by_test : (t : Bool) (P : Type 0) → Decides t P → P ⊎ (P → ⊥)
 by_test true P d = inl (d.0 refl)

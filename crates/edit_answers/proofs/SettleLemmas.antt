@@ -2,7 +2,7 @@
 use Rattle.std.proofs.lemmas.List.{length-map}
 use Rattle.std.proofs.lemmas.Option.{slice_get-get_or}
 use Rattle.std.proofs.Math.ListN.{get_or-map}
-use Rattle.std.proofs.Common.{◌≡◌, ℕ, zero, suc, ◌<◌, get_or, map, ap, List, [], ◌∷◌, ◌++◌, length, Some, None, refl, sym, ◌∙◌, subst, inl, arith}
+use Rattle.std.proofs.Common.{◌≡◌, ℕ, zero, suc, ◌<◌, get_or, map, ap, List, [], ◌∷◌, ◌++◌, length, Some, refl, sym, ◌∙◌, subst, inl, arith}
 use Rattle.std.specs.Prelude.{Ok, Err, IsErrAnd, Result, slice_get}
 use Rattle.edit_base.specs.Errors.{IsMemory, number_of}
 use Rattle.edit_base.specs.declared.errors.Error.{Error}
@@ -20,7 +20,7 @@ use Rattle.edit_answers.proofs.ChangeLemmas.{but-weaker, fails-later, keeps-then
 -- whatever may be written for a lookup may be written for one that was fetched
 puts-fetched : (p : Places) (l : LookupText) (o : Outcome) (path bytes : List ℕ) → Puts p l o path bytes
     → Puts p l Fetched path bytes
-puts-fetched p l o path bytes (entry bs is whole) = entry bs refl whole
+puts-fetched p l o path bytes (entry bs is whole) = entry bs (inl refl) whole
 puts-fetched p l o path bytes (validator body bs etag is whole of) = validator body bs etag refl whole of
 puts-fetched p l o path bytes (indexed bs) = indexed bs
 

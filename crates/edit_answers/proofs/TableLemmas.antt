@@ -1,8 +1,24 @@
 -- The table of answers.
-use Rattle.std.proofs.Common.{◌≡◌, ℕ, zero, suc, ◌+◌, List, [], ◌∷◌, ◌++◌, Option, Some, None, replicate, refl, sym, ◌∙◌, ap, subst, ⊎_elim, append_assoc}
-use Rattle.std.specs.Prelude.{◌⊎◌, slice_get}
-use Rattle.edit_answers.specs.Answers.{AreSaid, HasAnswer, SaysAnswer}
+use Rattle.std.proofs.Common.{◌≡◌, ℕ, zero, suc, ◌+◌, ◌-◌, ◌<◌, true, arith, get_or, List, [], ◌∷◌, ◌++◌, length, Option, Some, None, replicate, refl, sym, subst, ⊎_elim, inl, inr}
+use Rattle.std.specs.Prelude.{◌⊎◌, slice_get, slice_set}
+use Rattle.std.specs.Option.{is_some}
+use Rattle.edit_lookups.specs.Lookups.{HasNo}
+use Rattle.edit_answers.specs.Answers.{AreFound, AreSaid, HasLine, HasOne, SaysAnswer}
+use Rattle.edit_answers.specs.Answers.HasLine.{first, later}
 use Rattle.edit_answers.specs.declared.answers.Answer.{Answer}
+use Rattle.edit_answers.proofs.LineLemmas.{line-cases, no-line}
+
+-- what a line says is found
+abbrev pub IsFound : List ℕ → List (Option Answer) → Type 0
+IsFound line table = (k : ℕ) (a : Answer) → k < length table → SaysAnswer line (k + 1) a → HasOne table k
+
+-- the lines of a rest are lines of the text, and what the other lines of the text say is found
+pub record IsRest (text rest : List ℕ) (table : List (Option Answer)) : Type 0 where
+  pub lines : (line : List ℕ) → HasLine line rest → HasLine line text
+  pub found : (line : List ℕ) → HasLine line text → HasLine line rest ⊎ IsFound line table
+
+pub rest-begins : (text : List ℕ) (table : List (Option Answer)) → IsRest text text table
+rest-begins text table = record { lines = λ line h. h; found = λ line h. inl h }
 
 -- a table without answers has none
 pub none-said : (text : List ℕ) (n : ℕ) → AreSaid text (replicate n None)
@@ -14,26 +30,81 @@ none-said text n k a e = absurd (never n k e)
     never (suc n) (suc k) e = never n k e
 
 -- an answer more
-pub one-said : (text before line after : List ℕ) (old new : List (Option Answer)) (number : ℕ) (answer : Answer)
-    → text ≡ before ++ (line ++ 10 ∷ after) → SaysAnswer line number answer
+pub one-said : (text line : List ℕ) (old new : List (Option Answer)) (number : ℕ) (answer : Answer)
+    → HasLine line text → SaysAnswer line number answer
     → ((k : ℕ) (a : Answer) → slice_get new k ≡ Some (Some a)
     → (slice_get old k ≡ Some (Some a)) ⊎ ((k + 1 ≡ number) × (a ≡ answer)))
     → AreSaid text old → AreSaid text new
-one-said text before line after old new number answer whole says put said k a e =
+one-said text line old new number answer whole says put said k a e =
     ⊎_elim (λ was. said k a was)
     (λ is. record {
-      before = before;
       line = line;
-      after = after;
       whole = whole;
       says = subst (λ x. SaysAnswer line (k + 1) x) (sym is.1) (subst (λ n. SaysAnswer line n answer) (sym is.0) says);
     }) (put k a e)
 
--- a line further
-pub line-on : (text before rest line after : List ℕ) → text ≡ before ++ rest → rest ≡ line ++ 10 ∷ after
-    → text ≡ (before ++ (line ++ 10 ∷ [])) ++ after
-line-on text before rest line after so cut =
-    so ∙ (ap (λ t. before ++ t) cut ∙ regroup before line after)
-  where
-    regroup : (a b c : List ℕ) → a ++ (b ++ 10 ∷ c) ≡ (a ++ (b ++ 10 ∷ [])) ++ c
-    regroup a b c = simp append_assoc
+-- the first line of a rest is a line of the text
+pub first-line : (text rest line after : List ℕ) (table : List (Option Answer)) → IsRest text rest table
+    → rest ≡ line ++ 10 ∷ after → HasNo 10 line → HasLine line text
+first-line text rest line after table so cut none =
+    so.lines line (subst (HasLine line) (sym cut) (first after none))
+
+-- a line further, which is found
+pub line-on : (text rest line after : List ℕ) (old new : List (Option Answer)) → IsRest text rest old
+    → rest ≡ line ++ 10 ∷ after → HasNo 10 line → length new ≡ length old
+    → ((k : ℕ) → HasOne old k → HasOne new k) → IsFound line new → IsRest text after new
+line-on text rest line after old new so cut none count kept is = record {
+  lines = λ l h. so.lines l (subst (HasLine l) (sym cut) (later line after none h));
+  found = λ l h. ⊎_elim
+      (λ in_rest. ⊎_elim (λ same. inr (subst (λ x. IsFound x new) (sym same) is)) (λ in_after. inl in_after)
+      (line-cases l line after none (subst (HasLine l) cut in_rest)))
+      (λ was. inr (λ k a w says. kept k (was k a (subst (λ n. k < n) count w) says)))
+      (so.found l h);
+}
+
+-- a line that says no answer
+pub says-none : (line : List ℕ) (table : List (Option Answer))
+    → ((number : ℕ) (a : Answer) → SaysAnswer line number a → ⊥) → IsFound line table
+says-none line table never k a w says = absurd (never (k + 1) a says)
+
+-- a line says one number
+pub says-one : (line : List ℕ) (old new : List (Option Answer)) (number : ℕ) (answer : Answer)
+    → SaysAnswer line number answer
+    → ((n m : ℕ) (a b : Answer) → SaysAnswer line n a → SaysAnswer line m b → n ≡ m)
+    → length new ≡ length old → ((k : ℕ) → k + 1 ≡ number → k < length old → HasOne new k) → IsFound line new
+says-one line old new number answer says one count has k a w other =
+    has k (one (k + 1) number a answer other says) (subst (λ n. k < n) count w)
+
+-- all is found where no line is left
+pub all-found : (text rest : List ℕ) (table : List (Option Answer)) → IsRest text rest table → HasNo 10 rest
+    → AreFound text table
+all-found text rest table so none k a w answer =
+    ⊎_elim (λ in_rest. absurd (no-line answer.line rest none in_rest)) (λ is. is k a w answer.says)
+    (so.found answer.line answer.whole)
+
+get-set : (xs : List (Option Answer)) (k : ℕ) (y : Option Answer) → k < length xs
+    → slice_get (slice_set xs k y) k ≡ Some y
+get-set [] k y w = absurd (omega arith)
+get-set (x ∷ xs) zero y w = refl
+get-set (x ∷ xs) (suc k) y w = get-set xs k y (omega arith)
+
+-- an answer that was put is there
+pub has-set : (xs : List (Option Answer)) (number : ℕ) (a : Answer) (k : ℕ) → k + 1 ≡ number → k < length xs
+    → HasOne (slice_set xs (number - 1) (Some a)) k
+has-set xs number a k e w =
+    let at : k ≡ number - 1 = omega (arith, e) in
+    subst (λ i. HasOne (slice_set xs i (Some a)) k) at (a, get-set xs k (Some a) w)
+
+-- where one is there already
+has-got : (xs : List (Option Answer)) (k : ℕ) (d : Option Answer) → is_some (get_or xs k d) ≡ true
+    → k < length xs → HasOne xs k
+has-got [] k d e w = absurd (omega arith)
+has-got (None ∷ xs) zero d e w = cc
+has-got (Some a ∷ xs) zero d e w = (a, refl)
+has-got (x ∷ xs) (suc k) d e w = has-got xs k d e (omega arith)
+
+pub has-kept : (xs : List (Option Answer)) (number : ℕ) (o d : Option Answer) (k : ℕ) → is_some o ≡ true
+    → o ≡ get_or xs (number - 1) d → k + 1 ≡ number → k < length xs → HasOne xs k
+has-kept xs number o d k some is e w =
+    let at : number - 1 ≡ k = omega (arith, e) in
+    has-got xs k d (subst (λ i. is_some (get_or xs i d) ≡ true) at (subst (λ x. is_some x ≡ true) is some)) w

@@ -2,6 +2,7 @@ pub mod Answers
 pub mod Bodies
 pub mod CacheStore
 pub mod Changes
+pub mod CurlVersion
 pub mod Links
 pub mod Meanings
 pub mod Outcomes

@@ -1,25 +1,31 @@
 -- What answers mean for entries.
 use Rattle.std.specs.Prelude.{◌≡◌, ◌≢◌, ◌⊎◌, ℕ, List, Option, Some, None, Bool, true, false, codes}
 use Rattle.std.specs.Borrow.{Bor}
+use Rattle.std.specs.Str.{bytes_eq}
 use Rattle.edit_answers.specs.declared.answers.Answer.{Answer}
-use Rattle.edit_answers.specs.declared.meaning.Failure.TheVariants.{Curl, NotFetchable, Offline, Status, Unanswered}
+use Rattle.edit_answers.specs.declared.meaning.Failure.TheVariants.{Curl, Status, Unanswered}
 use Rattle.edit_answers.specs.declared.meaning.Meaning.{Meaning}
-use Rattle.edit_answers.specs.declared.meaning.Meaning.TheVariants.{Absent, Failed, New, NotModified}
+use Rattle.edit_answers.specs.declared.meaning.Meaning.TheVariants.{Absent, Failed, Moved, New, NotModified}
 
 -- the statuses that say that there is no such crate (Cargo reference, "Registries", nonexistent crates)
 abbrev pub IsAbsence : List ℕ → Type 0
 IsAbsence code = (code ≡ codes "404") ⊎ ((code ≡ codes "410") ⊎ (code ≡ codes "451"))
 
--- what the status of a transfer that did not fail means
-pub data MeansBy (code : Bor (List ℕ)) : Meaning → Type 0 where
-  new : code.now ≡ codes "200" → MeansBy code New
-  not_modified : code.now ≡ codes "304" → MeansBy code NotModified
-  absent : IsAbsence code.now → MeansBy code Absent
+-- what a new body means, by whether no redirect was followed
+abbrev pub new_meaning : Bool → Meaning
+new_meaning true = New
+new_meaning false = Moved
+
+-- what the status of a transfer that did not fail means; a body that came behind a redirect is told apart
+pub data MeansBy (code : Bor (List ℕ)) (redirects : List ℕ) : Meaning → Type 0 where
+  new : code.now ≡ codes "200" → MeansBy code redirects (new_meaning (bytes_eq redirects (codes "0")))
+  not_modified : code.now ≡ codes "304" → MeansBy code redirects NotModified
+  absent : IsAbsence code.now → MeansBy code redirects Absent
   other : code.now ≢ codes "200" → code.now ≢ codes "304" → (IsAbsence code.now → ⊥)
-      → MeansBy code (Failed (Status code))
+      → MeansBy code redirects (Failed (Status code))
 
 -- what curl's answer to a transfer means; a failed transfer means nothing by its status
 pub data Means : Option Answer → Meaning → Type 0 where
   unanswered : Means None (Failed Unanswered)
   failed : (a : Answer) → a.exit.now ≢ codes "0" → Means (Some a) (Failed (Curl a.exit a.message))
-  answered : (a : Answer) (m : Meaning) → a.exit.now ≡ codes "0" → MeansBy a.code m → Means (Some a) m
+  answered : (a : Answer) (m : Meaning) → a.exit.now ≡ codes "0" → MeansBy a.code a.redirects.now m → Means (Some a) m

@@ -1,24 +1,29 @@
 -- What becomes of lookups.
-use Rattle.std.specs.Prelude.{◌≡◌, ℕ, List, Option, Some, None, Bool, true, false, slice_get}
+use Rattle.std.specs.Prelude.{◌≡◌, ◌⊎◌, ℕ, List, Option, Some, None, Bool, true, false, slice_get}
 use Rattle.edit_store.specs.Store.{Files}
 use Rattle.edit_lookups.specs.Cached.{cached_path, validator_path}
 use Rattle.edit_lookups.specs.Lookups.{LookupText}
 use Rattle.edit_lookups.specs.Validators.{IsValidatorOf}
 use Rattle.edit_answers.specs.Bodies.{IsWholeIndex}
+use Rattle.edit_answers.specs.Meanings.{new_meaning}
 use Rattle.edit_answers.specs.Places.{body_path, index_path}
 use Rattle.edit_answers.specs.declared.meaning.Failure.{Failure}
 use Rattle.edit_answers.specs.declared.meaning.Failure.TheVariants.{NotAnIndex}
 use Rattle.edit_answers.specs.declared.meaning.Meaning.{Meaning}
-use Rattle.edit_answers.specs.declared.meaning.Meaning.TheVariants.{Failed, New, NotModified}
+use Rattle.edit_answers.specs.declared.meaning.Meaning.TheVariants.{Failed, NotModified}
 use Rattle.edit_answers.specs.declared.meaning.Meaning.TheVariants as meaning
 use Rattle.edit_answers.specs.declared.meaning.Outcome.{Outcome}
-use Rattle.edit_answers.specs.declared.meaning.Outcome.TheVariants.{Absent, Cached, Current, Fetched, Missing}
+use Rattle.edit_answers.specs.declared.meaning.Outcome.TheVariants.{Absent, Cached, Current, Fetched, Missing, Moved}
 use Rattle.edit_answers.specs.declared.places.Places.{Places}
 
--- what a step may write for a lookup: where it was fetched, its entry, a whole index file of its crate, and the
--- validator of such a body; and the file where an upgrade reads it
+-- the entry was fetched, as the answer to the request or behind a redirect
+abbrev pub IsStored : Outcome → Type 0
+IsStored o = (o ≡ Fetched) ⊎ (o ≡ Moved)
+
+-- what a step may write for a lookup: where it was fetched, its entry, a whole index file of its crate; where no
+-- redirect was followed, the validator of such a body; and the file where an upgrade reads it
 pub data Puts (p : Places) (l : LookupText) (o : Outcome) : List ℕ → List ℕ → Type 0 where
-  entry : (bytes : List ℕ) → o ≡ Fetched → IsWholeIndex l.name bytes → Puts p l o (cached_path p.cache.now l) bytes
+  entry : (bytes : List ℕ) → IsStored o → IsWholeIndex l.name bytes → Puts p l o (cached_path p.cache.now l) bytes
   validator : (body bytes etag : List ℕ) → o ≡ Fetched → IsWholeIndex l.name body → IsValidatorOf body bytes etag
       → Puts p l o (validator_path (cached_path p.cache.now l)) bytes
   indexed : (bytes : List ℕ) → Puts p l o (index_path p.room.now l) bytes
@@ -38,11 +43,18 @@ abbrev pub HasBody : Places → LookupText → ℕ → Files → Type 0
 HasBody p l number files =
     (body : List ℕ) × (files (body_path p.room.now number) ≡ Some body) × IsWholeIndex l.name body
 
+-- what becomes of a lookup whose new body is stored, by whether no redirect was followed
+abbrev pub stored : Bool → Outcome
+stored true = Fetched
+stored false = Moved
+
 -- what becomes of a lookup by what its answer means, over these files: a new body counts only as a whole index file;
 -- where nothing was had, the cached entry serves
 pub data Settles (p : Places) (l : LookupText) (number : ℕ) (files : Files) : Meaning → Outcome → Type 0 where
-  fetched : HasBody p l number files → Settles p l number files New Fetched
-  unusable : (HasBody p l number files → ⊥) → Settles p l number files New
+  fetched : (is_direct : Bool) → HasBody p l number files
+      → Settles p l number files (new_meaning is_direct) (stored is_direct)
+  unusable : (is_direct : Bool) → (HasBody p l number files → ⊥)
+      → Settles p l number files (new_meaning is_direct)
       (by_cached (files (cached_path p.cache.now l)) (Cached NotAnIndex) NotAnIndex)
   current : (lost : Failure) → Settles p l number files NotModified
       (by_cached (files (cached_path p.cache.now l)) Current lost)
@@ -54,6 +66,10 @@ pub data Settles (p : Places) (l : LookupText) (number : ℕ) (files : Files) : 
 abbrev pub PutsValidator : List ℕ → List ℕ → List ℕ → List ℕ → Type 0
 PutsValidator at body path bytes =
     (path ≡ validator_path at) × ((etag : List ℕ) × IsValidatorOf body bytes etag)
+
+-- the same, and nothing where a redirect was followed
+abbrev pub PutsDirect : Bool → List ℕ → List ℕ → List ℕ → List ℕ → Type 0
+PutsDirect is_direct at body path bytes = (is_direct ≡ true) × PutsValidator at body path bytes
 
 -- the file where an upgrade reads an entry, alone
 abbrev pub PutsIndexed : Places → LookupText → List ℕ → List ℕ → Type 0

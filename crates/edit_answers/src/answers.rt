@@ -1,21 +1,25 @@
 //! What curl says of its transfers.
-ghost use Rattle.std.specs.Prelude.{◌≡◌, ◌⊎◌, ◌+◌, ℕ, Some, None, IfOk, IfSome, length, replicate, slice_get};
-ghost use Rattle.edit_answers.specs.Answers.{AreSaid, SaysAnswer};
+ghost use Rattle.std.specs.Prelude.{◌≡◌, ◌⊎◌, ◌+◌, ◌<◌, ℕ, Some, None, IfNone, IfOk, IfSome, length, replicate, slice_get};
+ghost use Rattle.edit_answers.specs.Answers.{AreFound, AreSaid, HasOne, SaysAnswer};
 ghost use Rattle.edit_answers.specs.declared.answers.Answer.{Answer};
 
 use std::alloc::{AllocError, Global};
 
-/// What curl says of a transfer: the status of the answer, curl's exit code, and its message, which may be empty.
+/// What curl says of a transfer: the status of the answer, curl's exit code, how many redirects it followed,
+/// and its message, which may be empty.
 #[derive(Clone, Copy, Debug)]
 pub struct Answer<'a> {
     pub code: &'a str,
     pub exit: &'a str,
+    pub redirects: &'a str,
     pub message: &'a str,
 }
 
-/// The number of a transfer and what curl says of it, by a line `NUMBER TAB CODE TAB EXIT TAB MESSAGE`.
+/// The number of a transfer and what curl says of it, by a line `NUMBER TAB CODE TAB EXIT TAB REDIRECTS TAB
+/// MESSAGE`.
 fn read_answer<'a>(line: &'a str) -> Option<(usize, Answer<'a>)>
-    ensures { IfSome result (λ x. SaysAnswer line.now x.0 x.1) }
+    ensures some { IfSome result (λ x. SaysAnswer line.now x.0 x.1) }
+    ensures none { IfNone result ((number : ℕ) (a : Answer) → SaysAnswer line.now number a → ⊥) }
 {
     let Some((number, rest)) = line.split_once('\t') else {
         return None;
@@ -23,7 +27,10 @@ fn read_answer<'a>(line: &'a str) -> Option<(usize, Answer<'a>)>
     let Some((code, rest)) = rest.split_once('\t') else {
         return None;
     };
-    let Some((exit, message)) = rest.split_once('\t') else {
+    let Some((exit, rest)) = rest.split_once('\t') else {
+        return None;
+    };
+    let Some((redirects, message)) = rest.split_once('\t') else {
         return None;
     };
     match number.parse::<usize>() {
@@ -32,6 +39,7 @@ fn read_answer<'a>(line: &'a str) -> Option<(usize, Answer<'a>)>
             Answer {
                 code,
                 exit,
+                redirects,
                 message,
             },
         )),
@@ -54,6 +62,8 @@ fn no_answers<'a>(alloc: Global, count: usize) -> Result<Vec<Option<Answer<'a>>>
 fn put<'a>(table: &mut Vec<Option<Answer<'a>>>, number: usize, answer: Answer<'a>)
     ensures put { (k : ℕ) (a : Answer) → slice_get table.new.items k ≡ Some (Some a)
         → (slice_get table.old.items k ≡ Some (Some a)) ⊎ ((k + 1 ≡ number) × (a ≡ answer.entry)) }
+    ensures kept { (k : ℕ) → HasOne table.old.items k → HasOne table.new.items k }
+    ensures has { (k : ℕ) → k + 1 ≡ number → k < length table.old.items → HasOne table.new.items k }
     ensures count { length table.new.items ≡ length table.old.items }
 {
     if number == 0 || number > table.len() {
@@ -64,14 +74,15 @@ fn put<'a>(table: &mut Vec<Option<Answer<'a>>>, number: usize, answer: Answer<'a
     }
 }
 
-/// What curl says of its transfers number 1 to `count`, by the lines that it wrote. A line without a line end was
-/// cut, and is not read.
+/// What curl says of its transfers number 1 to `count`, by the lines that it wrote. A line without a line end
+/// was cut, and is not read.
 pub fn read_answers<'a>(
     alloc: Global,
     text: &'a str,
     count: usize,
 ) -> Result<Vec<Option<Answer<'a>>>, AllocError>
     ensures said { IfOk result (λ v. AreSaid text.now v.items) }
+    ensures found { IfOk result (λ v. AreFound text.now v.items) }
     ensures count { IfOk result (λ v. length v.items ≡ count) }
 {
     let mut table = no_answers(alloc, count)?;

@@ -43,10 +43,11 @@ fn ends_with_line_end(body: &[u8]) -> bool
     }
 }
 
-/// Whether a body is a whole index file of a crate: it ends with a line end, it has entries, each line that is not
-/// blank is one, and each has the name of the crate, the case of letters of ASCII aside.
+/// Whether a body is a whole index file of a crate: it ends with a line end, it has entries, each line that
+/// is not blank is one, and each has the name of the crate, the case of letters of ASCII aside.
 pub fn is_whole_index(alloc: Global, name: &str, body: &[u8]) -> Result<bool, AllocError>
-    ensures { IfOk result (λ b. MatchBool b (IsWholeIndex name.now body.now) (IsWholeIndex name.now body.now → ⊥)) }
+    ensures { IfOk result (λ b. MatchBool b (IsWholeIndex name.now body.now)
+        (IsWholeIndex name.now body.now → ⊥)) }
 {
     if !ends_with_line_end(body) {
         return Ok(false);

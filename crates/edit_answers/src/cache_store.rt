@@ -13,8 +13,8 @@ use std::io::{ErrorKind, Write};
 use std::os::unix::fs::{DirBuilderExt, OpenOptionsExt};
 use std::{fs, io};
 
-/// The files of the machine below a cache: missing folders are made, for their owner alone, and a file is replaced
-/// whole or not at all. No clause can say what they hold.
+/// The files of the machine below a cache: missing folders are made, for their owner alone, and a file is
+/// replaced whole or not at all. No clause can say what they hold.
 #[derive(Debug, Drop)]
 pub struct CacheStore<R> {
     rt: R,
@@ -50,8 +50,8 @@ fn make_folders<R: Files<File = File>>(rt: &R, path: &str) -> io::Result<()> {
         .create(rt, folder(path))
 }
 
-/// A new empty file in the folder of another one, and its path. A file of such a name that is there already was left by
-/// a process that was killed, or is another one's.
+/// A new empty file in the folder of another one, and its path. A file of such a name that is there already
+/// was left by a process that was killed, or is another one's.
 fn make_beside<R: Files<File = File>>(
     rt: &R,
     alloc: Global,
@@ -75,7 +75,8 @@ fn make_beside<R: Files<File = File>>(
     Err(io::Error::from(ErrorKind::AlreadyExists))
 }
 
-/// Fills a new file. A validator counts only beside the body whose sum it has, so it is not flushed to the disk.
+/// Fills a new file. A validator counts only beside the body whose sum it has, so it is not flushed to the
+/// disk.
 fn fill(file: &mut File, path: &str, bytes: &[u8]) -> io::Result<()> {
     file.write_all(bytes)?;
     if path.ends_with(".etag") {

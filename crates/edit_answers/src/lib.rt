@@ -1,23 +1,29 @@
-//! What becomes of the answers to a fetch of index entries: which entries are stored in the cache, which are put
-//! where an upgrade reads them, and what is said of the others.
+//! What becomes of the answers to a fetch of index entries: which entries are stored in the cache, which are
+//! put where an upgrade reads them, and what is said of the others.
 #![tactic(auto)]
 
 pub mod answers;
 pub mod bodies;
 pub mod cache_store;
+pub mod curl_version;
 pub mod link_store;
 pub mod local;
+pub mod lookups;
 pub mod meaning;
 pub mod messages;
 pub mod places;
+pub mod pruning;
 pub mod settle;
 pub mod stored;
+mod validators;
 
 pub use answers::{Answer, read_answers};
 pub use cache_store::CacheStore;
+pub use curl_version::is_new_enough;
 pub use link_store::LinkStore;
+pub use lookups::settle_all;
 pub use meaning::{Failure, Meaning, Outcome, meaning_of};
-pub use messages::{Report, report_of};
+pub use messages::{Report, StoreOptions, report_of};
 pub use places::Places;
-pub use settle::settle_all;
+pub use pruning::prune;
 pub use stored::store_answers;

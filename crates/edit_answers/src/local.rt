@@ -1,7 +1,8 @@
 //! Registries in folders of this machine.
-ghost use Rattle.std.specs.Prelude.{◌≡◌, ◌⊎◌, ℕ, List, true, IfErr, IfOk};
+ghost use Rattle.std.specs.Prelude.{◌≡◌, IfErr, IfOk, string_bytes};
 ghost use Rattle.edit_answers.specs.Changes.{Changes, Fails};
 ghost use Rattle.edit_answers.specs.Outcomes.{Puts};
+ghost use Rattle.edit_answers.specs.Places.{local_path};
 ghost use Rattle.edit_lookups.specs.Lookups.{lookup_text};
 ghost use Rattle.edit_store.specs.Store.{OnlyReads};
 
@@ -78,14 +79,17 @@ fn standing_folder<S: Store>(
 }
 
 /// The file of an entry below the folder of a registry on this machine.
-pub fn local_path(alloc: Global, folder: &str, path: &str) -> Result<String, AllocError> {
+pub fn local_path(alloc: Global, folder: &str, path: &str) -> Result<String, AllocError>
+    ensures { IfOk result (λ s. string_bytes s ≡ local_path folder.now path.now) }
+{
     if folder == "/" {
         return format!(in alloc; "/{path}");
     }
     format!(in alloc; "{folder}/{path}")
 }
 
-/// Puts the bytes of a file of a registry on this machine where an upgrade reads them, where they are index lines.
+/// Puts the bytes of a file of a registry on this machine where an upgrade reads them, where they are index
+/// lines.
 fn put_local<'a, S: Store>(
     alloc: Global,
     files: &mut S,
@@ -94,7 +98,8 @@ fn put_local<'a, S: Store>(
     bytes: &[u8],
 ) -> CargoResult<Outcome<'a>>
     ensures { Changes (Puts places.now (lookup_text lookup.now))
-        (Puts places.now (lookup_text lookup.now) Outcome.Fetched) (S.view files.old) (S.view files.new) result }
+        (Puts places.now (lookup_text lookup.now) Outcome.Fetched)
+        (S.view files.old) (S.view files.new) result }
 {
     match read_lines(alloc, bytes) {
         Ok(_) => {}
@@ -116,7 +121,8 @@ pub fn settle_local<'a, S: Store>(
     lookup: &Lookup,
 ) -> CargoResult<Outcome<'a>>
     ensures { Changes (Puts places.now (lookup_text lookup.now))
-        (Puts places.now (lookup_text lookup.now) Outcome.Fetched) (S.view files.old) (S.view files.new) result }
+        (Puts places.now (lookup_text lookup.now) Outcome.Fetched)
+        (S.view files.old) (S.view files.new) result }
 {
     let folder = match standing_folder(alloc, files, lookup.address) {
         Ok(Some(folder)) => folder,

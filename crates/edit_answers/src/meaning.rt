@@ -1,6 +1,7 @@
 //! What answers mean for entries.
-ghost use Rattle.std.specs.Prelude.{◌↔◌, IsTrue};
-ghost use Rattle.edit_answers.specs.Meanings.{IsAbsence, Means, MeansBy};
+ghost use Rattle.std.specs.Prelude.{◌≡◌, ◌↔◌, IsTrue, codes};
+ghost use Rattle.std.specs.Str.{bytes_eq};
+ghost use Rattle.edit_answers.specs.Meanings.{IsAbsence, Means, MeansBy, new_meaning};
 
 use crate::answers::Answer;
 
@@ -30,6 +31,8 @@ pub enum Failure<'a> {
 pub enum Meaning<'a> {
     /// A body came, which may be a new entry.
     New,
+    /// The same behind a redirect: an ETag that curl saved may be that of the answer which redirects.
+    Moved,
     /// The cached entry is the one that the registry has.
     NotModified,
     /// The registry has no such crate.
@@ -43,6 +46,8 @@ pub enum Meaning<'a> {
 pub enum Outcome<'a> {
     /// A new body was stored in the cache.
     Fetched,
+    /// A new body, which came behind a redirect, was stored in the cache without a validator.
+    Moved,
     /// The cached entry is the one that the registry has.
     Current,
     /// The entry was read from a folder of this machine.
@@ -62,12 +67,23 @@ fn is_absence(code: &str) -> bool
     code == "404" || code == "410" || code == "451"
 }
 
-/// What the status of a transfer that did not fail means.
-fn meaning_by<'a>(code: &'a str) -> Meaning<'a>
-    ensures { MeansBy code.entry result }
+/// What a body means that came behind so many redirects.
+fn body_meaning<'a>(redirects: &str) -> Meaning<'a>
+    ensures { result ≡ new_meaning (bytes_eq redirects.now (codes "0")) }
+{
+    if redirects == "0" {
+        Meaning::New
+    } else {
+        Meaning::Moved
+    }
+}
+
+/// What the status and the redirects of a transfer that did not fail mean.
+fn meaning_by<'a>(code: &'a str, redirects: &str) -> Meaning<'a>
+    ensures { MeansBy code.entry redirects.now result }
 {
     if code == "200" {
-        return Meaning::New;
+        return body_meaning(redirects);
     }
     if code == "304" {
         return Meaning::NotModified;
@@ -86,7 +102,7 @@ pub fn meaning_of<'a>(answer: Option<Answer<'a>>) -> Meaning<'a>
         return Meaning::Failed(Failure::Unanswered);
     };
     if answer.exit == "0" {
-        return meaning_by(answer.code);
+        return meaning_by(answer.code, answer.redirects);
     }
     Meaning::Failed(Failure::Curl(answer.exit, answer.message))
 }

@@ -1,4 +1,6 @@
 //! What is said of entries that were not had.
+ghost use Rattle.std.specs.Prelude.{◌≡◌, [], Some, IfOk, codes, option_map, string_bytes};
+
 use crate::local::{local_folder, local_path};
 use crate::meaning::{Failure, Outcome};
 use edit_lookups::{Lookup, shown_address};
@@ -13,7 +15,17 @@ pub struct Report {
     pub error: Option<String>,
 }
 
-/// The entries of a registry that were not had: why the first of them was not, how many there are, and their names.
+/// What the user asked for.
+#[derive(Clone, Copy, Debug)]
+pub struct StoreOptions<'a> {
+    /// Nothing is fetched.
+    pub offline: bool,
+    /// The names of crates that are not upgraded, so that their entries need not be had.
+    pub excluded: &'a [&'a str],
+}
+
+/// The entries of a registry that were not had: why the first of them was not, how many there are, and their
+/// names.
 #[derive(Debug, Drop)]
 struct Group {
     reason: String,
@@ -144,15 +156,23 @@ fn push_left(text: &mut String, shown: &str, group: &Group) -> Result<(), AllocE
 }
 
 /// The report of a run whose lookups are malformed.
-pub fn unreadable(alloc: Global) -> Result<Report, AllocError> {
+pub fn unreadable(alloc: Global) -> Result<Report, AllocError>
+    ensures { IfOk result (λ r. (string_bytes r.warnings ≡ [])
+        × (option_map string_bytes r.error ≡ Some (codes "the lookups of this run are malformed"))) }
+{
     Ok(Report {
         warnings: String::new(alloc),
         error: Some(String::from_str(alloc, "the lookups of this run are malformed")?),
     })
 }
 
-/// The groups of outcomes: of those that the cached entry serves, of those that are left, and of those without which an
-/// upgrade cannot go on.
+/// Whether a name is among those of crates that are not upgraded.
+fn is_excluded(excluded: &[&str], name: &str) -> bool {
+    excluded.iter().any(|other| *other == name)
+}
+
+/// The groups of outcomes: of those that the cached entry serves, of those that are left, and of those
+/// without which an upgrade cannot go on.
 #[derive(Drop)]
 struct Groups {
     cached: BTreeMap<String, Group>,
@@ -197,12 +217,12 @@ fn error_of(alloc: Global, groups: &BTreeMap<String, Group>) -> Result<Option<St
     Ok(Some(text))
 }
 
-/// What is said of the outcomes of lookups.
+/// What is said of the outcomes of lookups. Nothing is said of crates that are not upgraded.
 pub fn report_of(
     alloc: Global,
     lookups: &[Lookup<'_>],
     outcomes: &[Outcome<'_>],
-    offline: bool,
+    options: &StoreOptions<'_>,
 ) -> Result<Report, AllocError> {
     let mut groups = Groups {
         cached: BTreeMap::new(alloc),
@@ -210,7 +230,9 @@ pub fn report_of(
         fatal: BTreeMap::new(alloc),
     };
     for (lookup, outcome) in lookups.iter().zip(outcomes) {
-        add_outcome(alloc, &mut groups, lookup, *outcome, offline)?;
+        if !is_excluded(options.excluded, lookup.name) {
+            add_outcome(alloc, &mut groups, lookup, *outcome, options.offline)?;
+        }
     }
     let mut warnings = String::new(alloc);
     for (shown, group) in &groups.cached {

@@ -8,9 +8,9 @@ ghost use Rattle.edit_store.specs.Store.{OnlyReads};
 
 use crate::answers::read_answers;
 use crate::link_store::LinkStore;
-use crate::messages::{Report, report_of, unreadable};
+use crate::lookups::settle_all;
+use crate::messages::{Report, StoreOptions, report_of, unreadable};
 use crate::places::Places;
-use crate::settle::settle_all;
 use edit_base::CargoResult;
 use edit_lookups::{Lookup, read_lookups};
 use edit_store::Store;
@@ -52,7 +52,7 @@ fn store_lookups<S: LinkStore>(
     files: &mut S,
     places: &Places,
     lookups: &[Lookup<'_>],
-    offline: bool,
+    options: &StoreOptions<'_>,
 ) -> CargoResult<Report>
     ensures { Changes (λ _. PutsSome places.now (map lookup_text lookups.now))
         (PutsSome places.now (map lookup_text lookups.now)) (S.view files.old) (S.view files.new) result }
@@ -62,20 +62,20 @@ fn store_lookups<S: LinkStore>(
         Err(error) => return Err(error),
     };
     let answers = read_answers(alloc, text.as_str(), lookups.len())?;
-    let outcomes = match settle_all(alloc, files, places, lookups, offline, &answers) {
+    let outcomes = match settle_all(alloc, files, places, lookups, options.offline, &answers) {
         Ok(outcomes) => outcomes,
         Err(error) => return Err(error),
     };
-    Ok(report_of(alloc, lookups, &outcomes, offline)?)
+    Ok(report_of(alloc, lookups, &outcomes, options)?)
 }
 
-/// Stores the good answers to the lookups of a run in the cache, puts each entry that the run has where an upgrade
-/// reads it, and says what was not had.
+/// Stores the good answers to the lookups of a run in the cache, puts each entry that the run has where an
+/// upgrade reads it, and says what was not had.
 pub fn store_answers<S: LinkStore>(
     alloc: Global,
     files: &mut S,
     places: &Places,
-    offline: bool,
+    options: &StoreOptions<'_>,
 ) -> CargoResult<Report>
     ensures { Changes (λ _. PutsOf places.now (S.view files.old).file_at)
         (PutsOf places.now (S.view files.old).file_at) (S.view files.old) (S.view files.new) result }
@@ -85,7 +85,7 @@ pub fn store_answers<S: LinkStore>(
         Err(error) => return Err(error),
     };
     match read_lookups(alloc, text.as_str())? {
-        Some(lookups) => store_lookups(alloc, files, places, &lookups, offline),
+        Some(lookups) => store_lookups(alloc, files, places, &lookups, options),
         None => Ok(unreadable(alloc)?),
     }
 }
@@ -99,6 +99,11 @@ mod tests {
     const PLACES: Places<'static> = Places {
         cache: "/c",
         room: "/c/.run.1",
+    };
+
+    const OPTIONS: StoreOptions<'static> = StoreOptions {
+        offline: false,
+        excluded: &[],
     };
 
     /// Where the entry of `serde` stands in the cache.
@@ -130,7 +135,7 @@ mod tests {
         put(alloc, &mut store, "/c/.run.1/1", body)?;
         put(alloc, &mut store, "/c/.run.1/1.etag", b"W/\"2\"\n")?;
         put(alloc, &mut store, SERDE, OLD)?;
-        let report = store_answers(alloc, &mut store, &PLACES, false)?;
+        let report = store_answers(alloc, &mut store, &PLACES, &OPTIONS)?;
         Ok((store, report))
     }
 
@@ -140,7 +145,7 @@ mod tests {
 
     #[test]
     fn a_new_body(rt: HostRuntime) -> Result<(), Fail> {
-        let (mut store, report) = run_with(rt.alloc(), b"1\t200\t0\t\n", NEW)?;
+        let (mut store, report) = run_with(rt.alloc(), b"1\t200\t0\t0\t\n", NEW)?;
         assert!(rt; report.error.is_none());
         assert!(rt; report.warnings.is_empty());
         assert_eq!(rt; entry(rt.alloc(), &mut store)?.as_slice(), NEW);
@@ -160,24 +165,24 @@ mod tests {
     #[test]
     fn answers_without_an_entry(rt: HostRuntime) -> Result<(), Fail> {
         let alloc = rt.alloc();
-        assert!(rt; is_left(alloc, b"1\t403\t0\t\n", b"")?, "forbidden");
+        assert!(rt; is_left(alloc, b"1\t403\t0\t0\t\n", b"")?, "forbidden");
         assert!(rt;
-            is_left(alloc, b"1\t000\t6\tCould not resolve host\n", b"")?,
+            is_left(alloc, b"1\t000\t6\t0\tCould not resolve host\n", b"")?,
             "no host"
         );
         assert!(rt;
-            is_left(alloc, b"1\t200\t18\ttransfer closed\n", NEW)?,
+            is_left(alloc, b"1\t200\t18\t0\ttransfer closed\n", NEW)?,
             "cut off"
         );
-        assert!(rt; is_left(alloc, b"1\t200\t0\t", NEW)?, "a cut line");
+        assert!(rt; is_left(alloc, b"1\t200\t0\t0\t", NEW)?, "a cut line");
         assert!(rt;
-            is_left(alloc, b"1\t200\t0\t\n", b"<html>log in</html>\n")?,
+            is_left(alloc, b"1\t200\t0\t0\t\n", b"<html>log in</html>\n")?,
             "a page"
         );
         assert!(rt;
             is_left(
                 alloc,
-                b"1\t200\t0\t\n",
+                b"1\t200\t0\t0\t\n",
                 b"{\"name\":\"serde\",\"vers\":\"1.1.0\"}"
             )?,
             "a cut body"
@@ -185,7 +190,7 @@ mod tests {
         assert!(rt;
             is_left(
                 alloc,
-                b"1\t200\t0\t\n",
+                b"1\t200\t0\t0\t\n",
                 b"{\"name\":\"log\",\"vers\":\"1.1.0\"}\n"
             )?,
             "another crate"
@@ -193,9 +198,49 @@ mod tests {
         Ok(())
     }
 
+    /// Where the validator of that entry stands.
+    const VALIDATOR: &str = "/c/sparse+https:%2F%2Fh.example%2F/se/rd/serde.etag";
+
+    #[test]
+    fn a_redirected_body(rt: HostRuntime) -> Result<(), Fail> {
+        let (mut store, report) = run_with(rt.alloc(), b"1\t200\t0\t0\t\n", NEW)?;
+        assert!(rt; report.error.is_none());
+        assert!(rt; store.read(rt.alloc(), VALIDATOR)?.is_some());
+        let (mut store, report) = run_with(rt.alloc(), b"1\t200\t0\t1\t\n", NEW)?;
+        assert!(rt; report.error.is_none());
+        assert_eq!(rt; entry(rt.alloc(), &mut store)?.as_slice(), NEW);
+        assert!(rt; store.read(rt.alloc(), VALIDATOR)?.is_none());
+        Ok(())
+    }
+
+    /// Whether a run that has neither an answer nor a cached entry ends with an error.
+    fn is_error(alloc: Global, excluded: &[&str]) -> Result<bool, Fail> {
+        let mut store = MemoryStore::new(alloc);
+        put(
+            alloc,
+            &mut store,
+            "/c/.run.1/lookups",
+            b"sparse+https://h.example/\tserde\tse/rd/serde\n",
+        )?;
+        let options = StoreOptions {
+            offline: false,
+            excluded,
+        };
+        let report = store_answers(alloc, &mut store, &PLACES, &options)?;
+        Ok(report.error.is_some())
+    }
+
+    #[test]
+    fn an_excluded_crate(rt: HostRuntime) -> Result<(), Fail> {
+        assert!(rt; is_error(rt.alloc(), &[])?, "no entry");
+        assert!(rt; is_error(rt.alloc(), &["log"])?, "another crate");
+        assert!(rt; !is_error(rt.alloc(), &["log", "serde"])?, "excluded");
+        Ok(())
+    }
+
     #[test]
     fn a_crate_that_is_not_there(rt: HostRuntime) -> Result<(), Fail> {
-        let (mut store, report) = run_with(rt.alloc(), b"1\t404\t0\t\n", b"")?;
+        let (mut store, report) = run_with(rt.alloc(), b"1\t404\t0\t0\t\n", b"")?;
         assert!(rt; report.error.is_none());
         assert!(rt; report.warnings.is_empty());
         assert_eq!(rt; entry(rt.alloc(), &mut store)?.as_slice(), OLD);
@@ -205,17 +250,17 @@ mod tests {
 
     #[test]
     fn a_failed_write(rt: HostRuntime) -> Result<(), Fail> {
-        let (mut store, _report) = run_with(rt.alloc(), b"1\t304\t0\t\n", NEW)?;
+        let (mut store, _report) = run_with(rt.alloc(), b"1\t304\t0\t0\t\n", NEW)?;
         put(
             rt.alloc(),
             &mut store,
             "/c/.run.1/answers",
-            b"1\t200\t0\t\n",
+            b"1\t200\t0\t0\t\n",
         )?;
         put(rt.alloc(), &mut store, "/c/other", OLD)?;
         // the calls before are those that read the lookups, the answers and the body
         let mut store = FaultStore::new(store, 3, 5);
-        let result = store_answers(rt.alloc(), &mut store, &PLACES, false);
+        let result = store_answers(rt.alloc(), &mut store, &PLACES, &OPTIONS);
         assert!(rt; result.is_err());
         let other = store.read(rt.alloc(), "/c/other")?.ok_or("no other entry")?;
         assert_eq!(rt; other.as_slice(), OLD);

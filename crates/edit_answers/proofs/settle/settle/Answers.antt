@@ -1,4 +1,4 @@
-use Rattle.std.proofs.Common.{◌≡◌, ◌∙◌, ap, sym, subst}
+use Rattle.std.proofs.Common.{sym, subst}
 use Rattle.edit_lookups.specs.Lookups.{lookup_text}
 use Rattle.edit_answers.specs.Outcomes.{Puts, PutsIndexed, Settles}
 use Rattle.edit_answers.specs.Outcomes.Settles.{absent, failed}

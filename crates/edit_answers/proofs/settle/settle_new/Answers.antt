@@ -1,10 +1,10 @@
 use Rattle.std.proofs.Common.{◌≡◌, ◌∙◌, Some, ap, sym, subst}
 use Rattle.edit_lookups.specs.Cached.{cached_path}
 use Rattle.edit_lookups.specs.Lookups.{lookup_text}
+use Rattle.edit_answers.specs.Meanings.{new_meaning}
 use Rattle.edit_answers.specs.Outcomes.{Puts, PutsIndexed, Settles, by_cached}
 use Rattle.edit_answers.specs.Outcomes.Settles.{fetched, unusable}
 use Rattle.edit_answers.specs.declared.meaning.Failure.TheVariants.{NotAnIndex}
-use Rattle.edit_answers.specs.declared.meaning.Meaning.TheVariants.{New}
 use Rattle.edit_answers.specs.declared.meaning.Outcome.TheVariants.{Cached, Fetched}
 use Rattle.edit_answers.proofs.ChangeLemmas.{after-reads, on-ok, weakened}
 use Rattle.edit_answers.proofs.PutLemmas.{indexed-puts}
@@ -25,10 +25,10 @@ returns-in-Ok-None-clause-told g c =
     let files = (g.S.Store.view c.args.files.now).file_at in
     let reads = c.read_body.ensures.reads in
     on-ok _ _ c.from_cache.result
-    (λ o h t. subst (λ o. Settles p l c.args.number files New o)
+    (λ o h t. subst (λ o. Settles p l c.args.number files (new_meaning c.args.is_direct) o)
     (sym (h (reads.tells ∙ t)
     ∙ ap (λ x. by_cached x (Cached NotAnIndex) NotAnIndex) (reads.files (cached_path p.cache.now l))))
-    (unusable (λ b. (rw c.in-Ok-None.field-0-is at (c.in-Ok-None.ensures.body t)) b.0
+    (unusable c.args.is_direct (λ b. (rw c.in-Ok-None.field-0-is at (c.in-Ok-None.ensures.body t)) b.0
     (subst (λ q. files q ≡ Some b.0) (sym (c.as_str.ensures.value ∙ c.in_ok-body_path.ensures)) b.1) b.2)))
     c.from_cache.ensures.told
 
@@ -42,8 +42,8 @@ returns-clause-told g c =
     let files = (g.S.Store.view c.args.files.now).file_at in
     let reads = c.read_body.ensures.reads in
     on-ok _ _ c.store_body.result
-    (λ o h t. subst (λ o. Settles p l c.args.number files New o) (sym (h (reads.tells ∙ t)))
-    (fetched (
+    (λ o h t. subst (λ o. Settles p l c.args.number files (new_meaning c.args.is_direct) o) (sym (h (reads.tells ∙ t)))
+    (fetched c.args.is_direct (
       c.in-Ok-Some.body.items,
       subst (λ q. files q ≡ Some c.in-Ok-Some.body.items) (c.as_str.ensures.value ∙ c.in_ok-body_path.ensures)
           (rw c.in-Ok-Some.field-0-is at (c.in-Ok-Some.ensures.body t)),

@@ -1,4 +1,4 @@
-use Rattle.std.proofs.Common.{◌≡◌, ◌∷◌, ◌++◌, true, ℕ, List, map, ◌∙◌, ap, sym, subst}
+use Rattle.std.proofs.Common.{◌≡◌, ◌∷◌, ◌++◌, true, map, ◌∙◌, sym, subst}
 use Rattle.std.specs.Prelude.{codes}
 use Rattle.edit_lookups.specs.Lookups.{SaysLookups, lookup_text}
 use Rattle.edit_answers.specs.Outcomes.{PutsSome}

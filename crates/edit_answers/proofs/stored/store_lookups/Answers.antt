@@ -1,4 +1,4 @@
-use Rattle.std.proofs.Common.{ℕ, List, Vec, Global, map}
+use Rattle.std.proofs.Common.{Vec, Global, map}
 use Rattle.edit_lookups.specs.Lookups.{lookup_text}
 use Rattle.edit_answers.specs.Outcomes.{PutsOne, PutsSome}
 use Rattle.edit_answers.specs.declared.meaning.Outcome.{Outcome}

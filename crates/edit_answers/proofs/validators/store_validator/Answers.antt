@@ -1,7 +1,7 @@
-use Rattle.std.proofs.Common.{◌≡◌, ◌∙◌}
+use Rattle.std.proofs.Common.{◌∙◌}
 use Rattle.edit_answers.specs.Outcomes.{PutsValidator}
 use Rattle.edit_answers.proofs.ChangeLemmas.{after-reads, keeps-write, write-changes}
-use Rattle.edit_answers.proofs.settle.store_validator.Goals as goal
+use Rattle.edit_answers.proofs.validators.store_validator.Goals as goal
 
 pub returns : goal.returns
 returns g c =

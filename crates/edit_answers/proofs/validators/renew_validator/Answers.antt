@@ -1,6 +1,6 @@
-use Rattle.std.proofs.Common.{◌≡◌, sym, ◌∙◌}
+use Rattle.std.proofs.Common.{sym, ◌∙◌}
 use Rattle.edit_answers.proofs.ChangeLemmas.{after-reads, keeps-anew, read-stands, write-changes}
-use Rattle.edit_answers.proofs.settle.renew_validator.Goals as goal
+use Rattle.edit_answers.proofs.validators.renew_validator.Goals as goal
 
 pub returns-in-Ok-Some : goal.returns-in-Ok-Some
 returns-in-Ok-Some g c =

@@ -1,9 +1,9 @@
-use Rattle.std.proofs.Common.{◌≡◌, lit<, sym, ◌∙◌, subst}
+use Rattle.std.proofs.Common.{lit<, sym, ◌∙◌, subst}
 use Rattle.edit_lookups.specs.Lookups.{HasNo}
 use Rattle.edit_lookups.proofs.CutLemmas.{HasNo-at, cut-whole, cut-first, cut-none}
 use Rattle.edit_answers.proofs.TextLemmas.{front-utf8}
 use Rattle.std.specs.Str.{IsUtf8}
-use Rattle.edit_answers.proofs.settle.etag_of.Goals as goal
+use Rattle.edit_answers.proofs.validators.etag_of.Goals as goal
 
 pub returns-else-is_empty-clause-valid : goal.returns-else-is_empty-clause-valid
 returns-else-is_empty-clause-valid c =

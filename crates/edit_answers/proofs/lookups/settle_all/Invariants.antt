@@ -3,7 +3,7 @@ use Rattle.std.specs.Prelude.{Ok}
 use Rattle.edit_lookups.specs.Lookups.{lookup_text}
 use Rattle.edit_answers.specs.Changes.{Changes}
 use Rattle.edit_answers.specs.Outcomes.{PutsOne, PutsSome}
-use Rattle.edit_answers.proofs.settle.settle_all.Given as goal
+use Rattle.edit_answers.proofs.lookups.settle_all.Given as goal
 
 -- the outcomes of the lookups so far, and what was written for them
 abbrev pub invariant-loop-i : goal.invariant-loop-i

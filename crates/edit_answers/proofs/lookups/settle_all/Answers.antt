@@ -1,8 +1,7 @@
-use Rattle.std.proofs.Common.{◌≡◌, ◌<◌, ◌∷◌, [], length, map, ◌∙◌, arith}
+use Rattle.std.proofs.Common.{◌<◌, length, map, arith}
 use Rattle.edit_lookups.specs.Lookups.{lookup_text}
-use Rattle.edit_answers.specs.Outcomes.{PutsOne}
 use Rattle.edit_answers.proofs.SettleLemmas.{lookup-at, settled-err, settled-more, settled-refused}
-use Rattle.edit_answers.proofs.settle.settle_all.Goals as goal
+use Rattle.edit_answers.proofs.lookups.settle_all.Goals as goal
 
 pub returns-in_err-push-in-Ok-clause-changes : goal.returns-in_err-push-in-Ok-clause-changes
 returns-in_err-push-in-Ok-clause-changes g c =

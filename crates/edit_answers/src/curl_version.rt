@@ -1,0 +1,76 @@
+//! Which curl can fetch index entries.
+ghost use Rattle.std.specs.Prelude.{◌≡◌, ◌↔◌, ℕ, IfNone, IfSome, IsTrue};
+ghost use Rattle.edit_answers.specs.CurlVersion.{HasVariables, IsNewEnough, SaysVersion};
+
+/// Whether a version of curl has all options and variables that the transfers use.
+fn has_variables(major: u32, minor: u32) -> bool
+    ensures { IsTrue result ↔ HasVariables major minor }
+{
+    major > 7 || (major == 7 && minor >= 75)
+}
+
+/// The version that a text names as that of curl: `curl MAJOR.MINOR.`, and anything behind it.
+fn version_in(text: &str) -> Option<(u32, u32)>
+    ensures some { IfSome result (λ v. SaysVersion text.now v.0 v.1) }
+    ensures none { IfNone result ((major minor : ℕ) → SaysVersion text.now major minor → ⊥) }
+{
+    let Some((name, rest)) = text.split_once(' ') else {
+        return None;
+    };
+    if name != "curl" {
+        return None;
+    }
+    let Some((major, rest)) = rest.split_once('.') else {
+        return None;
+    };
+    let Some((minor, _)) = rest.split_once('.') else {
+        return None;
+    };
+    let Ok(major) = major.parse::<u32>() else {
+        return None;
+    };
+    let Ok(minor) = minor.parse::<u32>() else {
+        return None;
+    };
+    Some((major, minor))
+}
+
+/// Whether this is what `curl --version` prints of a version from 7.75 on, the first that has all options and
+/// variables that the transfers use.
+pub fn is_new_enough(text: &str) -> bool
+    ensures { IsTrue result ↔ IsNewEnough text.now }
+{
+    match version_in(text) {
+        Some((major, minor)) => has_variables(major, minor),
+        None => false,
+    }
+}
+
+#[cfg(test)]
+mod tests {
+    use super::*;
+
+    #[test]
+    fn versions(rt: HostRuntime) {
+        let new = [
+            "curl 7.88.1 (x86_64-pc-linux-gnu) libcurl/7.88.1 OpenSSL/3.0.19",
+            "curl 7.75.0 (x86_64-pc-linux-gnu)",
+            "curl 8.14.1 (aarch64-apple-darwin)",
+            "curl 10.0.0",
+        ];
+        for text in new {
+            assert!(rt; is_new_enough(text), "{text}");
+        }
+        let old = [
+            "",
+            "curl 7.74.0 (x86_64-pc-linux-gnu)",
+            "curl 7.9.8",
+            "curl 6.99.0",
+            "wget 8.1.0",
+            "curl 8",
+        ];
+        for text in old {
+            assert!(rt; !is_new_enough(text), "{text}");
+        }
+    }
+}
