@@ -8,18 +8,14 @@ ghost use Rattle.edit_program.specs.Runs.{status_of};
 use crate::words_fault::WordsFault;
 use clap::error::ErrorKind;
 use edit_base::Error;
-use edit_steps::{Refusal, RunResult};
+use edit_steps::{Refusal, RunResult, print_error};
 use std::io;
 
-/// Prints a refusal and its place, and answers its status, also where the printing fails.
+/// Prints an error with what is known of its place, cause and cure, and answers its status, also where the printing fails.
 pub(crate) fn refuse<E: io::Write>(refusal: Refusal, err: &mut E) -> u8
     ensures { result ≡ 1 }
 {
-    let Refusal { error, place } = refusal;
-    let printed = writeln!(err, "Error: {error}");
-    if let (Ok(()), Some(place)) = (printed, place) {
-        let _ = writeln!(err, "  at {place}");
-    }
+    let _ = print_error(&refusal, err);
     1
 }
 

@@ -1,5 +1,5 @@
 -- What was read, one part after another, and why a part is not read.
-use Rattle.std.proofs.Common.{◌≡◌, ◌∙◌, ◌<◌, ◌+◌, ◌++◌, ◌∷◌, ℕ, List, [], Option, None, Some, true, ap, refl, get_or, inl, inr, length, sym, subst, take}
+use Rattle.std.proofs.Common.{◌≡◌, ◌∙◌, ◌<◌, ◌^◌, ◌+◌, ◌++◌, ◌∷◌, ℕ, List, [], Option, None, Some, true, ap, arith, refl, get_or, inl, inr, length, sym, subst, take}
 use Rattle.std.specs.Global.{Vec}
 use Rattle.std.specs.List.{AllZip}
 use Rattle.std.specs.Prelude.{◌⊎◌, Contains, string_bytes}
@@ -16,7 +16,7 @@ use Rattle.edit_metadata.specs.declared.input.Input.{Input}
 use Rattle.edit_metadata.specs.declared.workspace.Workspace.{Workspace}
 use Rattle.edit_sources.specs.ConfigurationFiles.{ConfigsFail, HasFailed, IsUnread}
 use Rattle.edit_sources.specs.declared.config.Config.{Config}
-use Rattle.edit_store.specs.Store.{Files, OnlyReads, RefusesCall, StoreView}
+use Rattle.edit_store.specs.Store.{Files, OnlyReads, RefusesCall, StoreView, raised}
 use Rattle.edit_steps.specs.Asking.{Asking}
 use Rattle.edit_steps.specs.Causes.{HasNoIndex, HasNoTarget, IsFailure, IsReadCause, IsUnconfigured, LacksNamed}
 use Rattle.edit_steps.specs.Causes.IsUnconfigured.{of_input, of_named}
@@ -33,6 +33,30 @@ pub refused_on : (of : DeviceCall) (old mid new : StoreView) (e : Error) → Onl
     → RefusesCall of mid new e → RefusesCall of old new e
 refused_on of old mid new e reads refused =
     fault_later of old.faults mid.faults new.faults e reads.later refused
+
+-- a refusal of the device before more reads
+pub refused_before : (of : DeviceCall) (old mid new : StoreView) (e : Error) → OnlyReads mid new
+    → new.faults < 2 ^ 64 → RefusesCall of old mid e → RefusesCall of old new e
+refused_before of old mid new e reads bound (inl memory) = inl memory
+refused_before of old mid new e reads bound (inr failed) = inr (failed.0, later failed.1)
+  where
+    later : raised old.faults mid.faults → raised old.faults new.faults
+    later (inl lt) = inl (omega (arith, reads.later, lt))
+    later (inr ends) = inr (ends.0, omega (arith, reads.later, bound, ends.1))
+
+-- configurations that are not read, before more reads
+pub unconfigured_before : (old mid new : StoreView) (home : Option (List ℕ)) (pair : Pair) (inputs : List Input)
+    (e told : Error) → OnlyReads mid new → new.faults < 2 ^ 64 → told ≡ e
+    → RefusesCall call.Read old mid e ⊎ (old.tells ≡ true → IsUnconfigured old.file_at home pair inputs e)
+    → RefusesCall call.Read old new told ⊎ (old.tells ≡ true → IsUnconfigured old.file_at home pair inputs told)
+unconfigured_before old mid new home pair inputs e told reads bound same why =
+    subst (λ x. RefusesCall call.Read old new x
+    ⊎ (old.tells ≡ true → IsUnconfigured old.file_at home pair inputs x)) (sym same) (later why)
+  where
+    later : RefusesCall call.Read old mid e ⊎ (old.tells ≡ true → IsUnconfigured old.file_at home pair inputs e)
+        → RefusesCall call.Read old new e ⊎ (old.tells ≡ true → IsUnconfigured old.file_at home pair inputs e)
+    later (inl refused) = inl (refused_before call.Read old mid new e reads bound refused)
+    later (inr none) = inr none
 
 -- ---- configurations
 

@@ -1,5 +1,5 @@
 -- The inputs of a workspace whose members stand in folders of their own, and files that were only read.
-use Rattle.std.proofs.Common.{◌≡◌, ◌≢◌, ◌∙◌, ℕ, zero, suc, ◌<◌, List, [], ◌∷◌, length, map, true, Some, ap, sym, subst, inl, inr, arith}
+use Rattle.std.proofs.Common.{◌≡◌, ◌≢◌, ◌∙◌, ℕ, zero, suc, ◌<◌, ◌^◌, List, [], ◌∷◌, length, map, true, Some, ap, sym, subst, inl, inr, arith}
 use Rattle.std.specs.Prelude.{◌⊎◌, All, Contains, slice_index_or, string_bytes}
 use Rattle.std.specs.List.{AllZip}
 use Rattle.std.proofs.lemmas.List.Elements.{All-cons, All-nil}
@@ -19,6 +19,7 @@ use Rattle.edit_steps.specs.Absolute.{IsAbsoluteOf}
 use Rattle.edit_steps.specs.Workspaces.{AreMetadataRead, HasNoMetadata, HasNoWorkspace, HaveOwnPaths, IsUnsaid, IsWorkspaceRead}
 use Rattle.edit_steps.proofs.DistinctPaths.{Differ, first_differs, none_differ, others_differ}
 use Rattle.edit_steps.proofs.NormalPaths.{one_folder, one_normal}
+use Rattle.edit_steps.proofs.ReadLemmas.{refused_before}
 
 -- ---- paths of inputs
 
@@ -135,3 +136,18 @@ manifest_cause old mid new current named w e reads metadata cause =
       is = none.0;
       lacks = none.1 t;
     }))
+
+-- a manifest that is not read, before more reads
+pub manifest_before : (old mid read new : StoreView) (current named : List ℕ) (w : WorkspaceSaid) (e told : Error)
+    → OnlyReads old mid → OnlyReads read new → new.faults < 2 ^ 64 → told ≡ e
+    → (old.tells ≡ true → AreMetadataRead old.file_at current named w)
+    → IsNoInput mid read (manifests w) e
+    → RefusesCall call.Read old new told ⊎ (old.tells ≡ true → HasNoWorkspace old.file_at current named told)
+manifest_before old mid read new current named w e told before reads bound same metadata cause =
+    subst (λ x. RefusesCall call.Read old new x ⊎ (old.tells ≡ true → HasNoWorkspace old.file_at current named x))
+    (sym same) (later (manifest_cause old mid read current named w e before metadata cause))
+  where
+    later : RefusesCall call.Read old read e ⊎ (old.tells ≡ true → HasNoWorkspace old.file_at current named e)
+        → RefusesCall call.Read old new e ⊎ (old.tells ≡ true → HasNoWorkspace old.file_at current named e)
+    later (inl refused) = inl (refused_before call.Read old read new e reads bound refused)
+    later (inr none) = inr none

@@ -2,15 +2,20 @@
 //! is read, and the files that are written.
 #![tactic(auto)]
 
+mod excerpt;
 mod inputs;
+mod metadata_fault;
 mod outputs;
 mod paths;
 mod refusal;
+mod reread;
+mod toml_fault;
 pub mod upgrade_read;
 mod workspaces;
 
 pub use inputs::at_input;
 pub use outputs::write_outputs;
 pub use paths::absolute;
-pub use refusal::{Refusal, RunResult, at_byte, at_path};
+pub use refusal::{Refusal, RunResult, at_byte, at_path, position, print_error};
+pub use reread::at_first;
 pub use workspaces::{ReadWorkspace, read_workspace};

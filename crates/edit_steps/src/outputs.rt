@@ -1,13 +1,96 @@
 //! The files that a plan changes.
-ghost use Rattle.std.specs.Prelude.{◌≡◌, ◌≤◌, IfErr, OnErr, OnOk, true};
+ghost use Rattle.std.specs.Prelude.{◌≡◌, ◌≢◌, ◌<◌, ◌≤◌, IfErr, OnErr, OnOk, length, true};
 ghost use Rattle.edit_base.specs.declared.errors.DeviceCall.TheVariants as call;
 ghost use Rattle.edit_report.specs.Applied.{AreWritten, HasStopped, HaveDistinctPaths, IsWhole, path_of};
-ghost use Rattle.edit_store.specs.Store.{RefusesCall, SameBut};
+ghost use Rattle.edit_store.specs.Store.{RefusesCall, SameBut, SameFiles};
 
-use crate::refusal::{RunResult, at_path};
+use crate::refusal::{Refusal, RunResult, at_path};
+use edit_base::Error;
 use edit_report::Output;
 use edit_store::Store;
-use std::alloc::Global;
+use std::alloc::{AllocError, Global};
+
+/// An error of the file at a path, with the machine's own reason.
+fn at_file(alloc: Global, error: Error, path: &str, reason: Option<String>) -> Refusal
+    ensures { result.error ≡ error }
+{
+    let Refusal {
+        error,
+        place,
+        help,
+        ..
+    } = at_path(alloc, error, path);
+    Refusal {
+        error,
+        place,
+        cause: reason,
+        help,
+    }
+}
+
+/// Makes the write of an output ready. No file changes.
+fn stage_output<S: Store>(alloc: Global, output: &Output, files: &mut S) -> RunResult<()>
+    ensures tells { (S.view files.new).tells ≡ (S.view files.old).tells }
+    ensures later { (S.view files.old).faults ≤ (S.view files.new).faults }
+    ensures files { SameFiles (S.view files.old).file_at (S.view files.new).file_at }
+    ensures ready { OnOk result ((S.view files.new).stage_errors ≡ (S.view files.old).stage_errors) }
+    ensures refused { IfErr result
+        (λ r. RefusesCall call.Write (S.view files.old) (S.view files.new) r.error) }
+{
+    let path = output.path.as_str();
+    match files.stage(alloc, path, output.bytes.as_slice()) {
+        Ok(()) => Ok(()),
+        Err(error) => Err(at_file(alloc, error, path, files.reason(alloc))),
+    }
+}
+
+/// Compares the file of an output with what was read of it. No file changes.
+fn verify_output<S: Store>(alloc: Global, output: &Output, files: &mut S) -> RunResult<()>
+    ensures tells { (S.view files.new).tells ≡ (S.view files.old).tells }
+    ensures later { (S.view files.old).faults ≤ (S.view files.new).faults }
+    ensures files { SameFiles (S.view files.old).file_at (S.view files.new).file_at }
+    ensures ready { OnOk result ((S.view files.new).stage_errors ≡ (S.view files.old).stage_errors) }
+    ensures refused { IfErr result
+        (λ r. RefusesCall call.Write (S.view files.old) (S.view files.new) r.error) }
+{
+    let path = output.path.as_str();
+    match files.verify(alloc, path) {
+        Ok(()) => Ok(()),
+        Err(error) => Err(at_file(alloc, error, path, files.reason(alloc))),
+    }
+}
+
+/// Makes the writes of the outputs ready, in order. No file changes.
+fn stage_all<S: Store>(alloc: Global, outputs: &[Output], files: &mut S) -> RunResult<()>
+    ensures tells { (S.view files.new).tells ≡ (S.view files.old).tells }
+    ensures later { (S.view files.old).faults ≤ (S.view files.new).faults }
+    ensures files { SameFiles (S.view files.old).file_at (S.view files.new).file_at }
+    ensures ready { OnOk result ((S.view files.new).stage_errors ≡ (S.view files.old).stage_errors) }
+    ensures some { OnErr result (0 < length outputs.now) }
+    ensures refused { IfErr result
+        (λ r. RefusesCall call.Write (S.view files.old) (S.view files.new) r.error) }
+{
+    for output in outputs {
+        stage_output(alloc, output, files)?;
+    }
+    Ok(())
+}
+
+/// Compares the files of the outputs with what was read of them, in order. No file changes.
+fn verify_all<S: Store>(alloc: Global, outputs: &[Output], files: &mut S) -> RunResult<()>
+    ensures tells { (S.view files.new).tells ≡ (S.view files.old).tells }
+    ensures later { (S.view files.old).faults ≤ (S.view files.new).faults }
+    ensures files { SameFiles (S.view files.old).file_at (S.view files.new).file_at }
+    ensures ready { OnOk result ((S.view files.new).stage_errors ≡ (S.view files.old).stage_errors) }
+    ensures some { OnErr result (0 < length outputs.now) }
+    ensures refused { IfErr result
+        (λ r. RefusesCall call.Write (S.view files.old) (S.view files.new) r.error) }
+{
+    for output in outputs {
+        verify_output(alloc, output, files)?;
+    }
+    Ok(())
+}
 
 /// Writes an output to its file.
 fn write_output<S: Store>(alloc: Global, output: &Output, files: &mut S) -> RunResult<()>
@@ -16,28 +99,118 @@ fn write_output<S: Store>(alloc: Global, output: &Output, files: &mut S) -> RunR
     ensures written { OnOk result ((S.view files.old).tells ≡ true
         → IsWhole (S.view files.new).file_at output.now) }
     ensures others { SameBut (path_of output.now) (S.view files.old).file_at (S.view files.new).file_at }
+    ensures ready { (S.view files.new).stage_errors ≡ (S.view files.old).stage_errors }
     ensures refused { IfErr result
         (λ r. RefusesCall call.Write (S.view files.old) (S.view files.new) r.error) }
 {
-    match files.write(alloc, output.path.as_str(), output.bytes.as_slice()) {
+    let path = output.path.as_str();
+    match files.write(alloc, path, output.bytes.as_slice()) {
         Ok(()) => Ok(()),
-        Err(error) => Err(at_path(alloc, error, output.path.as_str())),
+        Err(error) => Err(at_file(alloc, error, path, files.reason(alloc))),
     }
 }
 
-/// Writes the outputs in order, each to its own path, and stops at the first that is refused: as `apply`
-/// does, but that refusal has its place.
+/// Which of the outputs were written, behind a reason.
+fn written_text(
+    alloc: Global,
+    reason: &str,
+    outputs: &[Output],
+    done: usize,
+) -> Result<String, AllocError> {
+    let count = outputs.len();
+    if done == 0 {
+        return format!(in alloc; "{reason}; none of {count} files was written");
+    }
+    let mut text = format!(in alloc; "{reason}; {done} of {count} files were written")?;
+    let mut mark = ": ";
+    for output in outputs.iter().take(done) {
+        text.push_str(mark)?;
+        text.push_str(output.path.as_str())?;
+        mark = ", ";
+    }
+    Ok(text)
+}
+
+/// An error at which the writing of some outputs stopped, with how many of them were written, and which.
+fn at_output(alloc: Global, refusal: Refusal, outputs: &[Output], done: usize) -> Refusal
+    ensures { result.error ≡ refusal.error }
+{
+    let Refusal {
+        error,
+        place,
+        cause,
+        help,
+    } = refusal;
+    let cause = match cause {
+        Some(reason) if outputs.len() > 1 => {
+            written_text(alloc, reason.as_str(), outputs, done).ok()
+        }
+        cause => cause,
+    };
+    Refusal {
+        error,
+        place,
+        cause,
+        help,
+    }
+}
+
+/// Writes the outputs in order, each to its own path, and stops at the first error.
+fn write_all<S: Store>(alloc: Global, outputs: &[Output], files: &mut S) -> RunResult<()>
+    requires { HaveDistinctPaths outputs.now }
+    ensures tells { (S.view files.new).tells ≡ (S.view files.old).tells }
+    ensures later { (S.view files.old).faults ≤ (S.view files.new).faults }
+    ensures written { OnOk result (AreWritten outputs.now (S.view files.old) (S.view files.new)) }
+    ensures stopped { OnErr result (HasStopped outputs.now (S.view files.old) (S.view files.new)) }
+    ensures ready { (S.view files.new).stage_errors ≡ (S.view files.old).stage_errors }
+    ensures refused { IfErr result
+        (λ r. RefusesCall call.Write (S.view files.old) (S.view files.new) r.error) }
+{
+    let mut done = 0usize;
+    for output in outputs {
+        match write_output(alloc, output, files) {
+            Ok(()) => done = done.saturating_add(1),
+            Err(refusal) => return Err(at_output(alloc, refusal, outputs, done)),
+        }
+    }
+    Ok(())
+}
+
+/// Makes all outputs ready, and then writes them.
+fn stage_and_write<S: Store>(alloc: Global, outputs: &[Output], files: &mut S) -> RunResult<()>
+    requires { HaveDistinctPaths outputs.now }
+    ensures tells { (S.view files.new).tells ≡ (S.view files.old).tells }
+    ensures later { (S.view files.old).faults ≤ (S.view files.new).faults }
+    ensures written { OnOk result (AreWritten outputs.now (S.view files.old) (S.view files.new)) }
+    ensures stopped { OnErr result (HasStopped outputs.now (S.view files.old) (S.view files.new)) }
+    ensures staged { OnErr result ((S.view files.new).stage_errors ≢ (S.view files.old).stage_errors
+        → SameFiles (S.view files.old).file_at (S.view files.new).file_at) }
+    ensures refused { IfErr result
+        (λ r. RefusesCall call.Write (S.view files.old) (S.view files.new) r.error) }
+{
+    stage_all(alloc, outputs, files)?;
+    verify_all(alloc, outputs, files)?;
+    write_all(alloc, outputs, files)
+}
+
+/// Writes the outputs in order, each to its own path, and stops at the first error: as `apply` does, but that error has
+/// its place, the machine's reason, and which of the outputs were written.
 pub fn write_outputs<S: Store>(alloc: Global, outputs: &[Output], files: &mut S) -> RunResult<()>
     requires { HaveDistinctPaths outputs.now }
     ensures tells { (S.view files.new).tells ≡ (S.view files.old).tells }
     ensures later { (S.view files.old).faults ≤ (S.view files.new).faults }
     ensures written { OnOk result (AreWritten outputs.now (S.view files.old) (S.view files.new)) }
     ensures stopped { OnErr result (HasStopped outputs.now (S.view files.old) (S.view files.new)) }
+    ensures staged { OnErr result ((S.view files.new).stage_errors ≢ (S.view files.old).stage_errors
+        → SameFiles (S.view files.old).file_at (S.view files.new).file_at) }
     ensures refused { IfErr result
         (λ r. RefusesCall call.Write (S.view files.old) (S.view files.new) r.error) }
 {
-    for output in outputs {
-        write_output(alloc, output, files)?;
+    match stage_and_write(alloc, outputs, files) {
+        Ok(()) => Ok(()),
+        Err(refusal) => {
+            files.unstage(alloc);
+            Err(refusal)
+        }
     }
-    Ok(())
 }

@@ -1,6 +1,7 @@
 //! What an upgrade rests on, as it is read: manifests, their configurations and the index.
 
 mod asked;
+mod config_faults;
 mod configs;
 mod found;
 mod index;

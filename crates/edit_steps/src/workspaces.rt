@@ -1,5 +1,5 @@
 //! The workspace that a command is for.
-ghost use Rattle.std.specs.Prelude.{◌≡◌, ◌⊎◌, All, IfErr, IfOk, option_map, true};
+ghost use Rattle.std.specs.Prelude.{◌≡◌, ◌<◌, ◌^◌, ◌⊎◌, All, IfErr, IfOk, option_map, true};
 ghost use Rattle.edit_base.specs.declared.errors.DeviceCall.TheVariants as call;
 ghost use Rattle.edit_metadata.specs.Inputs.{AreInputs};
 ghost use Rattle.edit_metadata.specs.Workspaces.{HasOwnFolders, workspace_said};
@@ -9,9 +9,12 @@ ghost use Rattle.edit_version.specs.RustVersions.{numbers_of};
 ghost use Rattle.semver.specs.Identifiers.{parts_of};
 ghost use Rattle.edit_steps.specs.Workspaces.{AreMetadataRead, HasNoMetadata, HasNoWorkspace, HaveOwnPaths, IsWorkspaceRead};
 
+use crate::metadata_fault::at_metadata;
 use crate::paths::absolute;
-use crate::refusal::{RunResult, at_path};
-use edit_base::Error;
+use crate::refusal::{Refusal, RunResult, at_path};
+use crate::reread::at_first;
+use edit_base::paths::normal;
+use edit_base::{CargoResult, Error};
 use edit_metadata::{Input, Workspace, workspace_inputs};
 use edit_store::Store;
 use edit_version::RustVersion;
@@ -24,11 +27,13 @@ pub struct ReadWorkspace {
     pub inputs: Vec<Input>,
 }
 
-/// Reads the metadata in the file that is named.
+/// Reads the metadata in the file that is named. Where files are to be written, other runs on the workspace are waited for
+/// and then kept waiting.
 fn read_metadata<S: Store>(
     alloc: Global,
     named: &str,
     current: &str,
+    writes: bool,
     files: &mut S,
 ) -> RunResult<Workspace>
     ensures reads { OnlyReads (S.view files.old) (S.view files.new) }
@@ -41,25 +46,71 @@ fn read_metadata<S: Store>(
         → HasNoMetadata (S.view files.old).file_at current.now named.now r.error)) }
 {
     let path = absolute(alloc, current, named)?;
-    let bytes = match files.read(alloc, path.as_str()) {
+    let bytes = match files.read_stream(alloc, path.as_str()) {
         Ok(Some(bytes)) => bytes,
         Ok(None) => return Err(at_path(alloc, Error::NoPath, path.as_str())),
         Err(error) => return Err(at_path(alloc, error, path.as_str())),
     };
     match Workspace::read(alloc, &bytes) {
-        Ok(workspace) => Ok(workspace),
-        Err(error) => Err(at_path(alloc, error, path.as_str())),
+        Ok(workspace) => {
+            if writes {
+                files.lock(alloc, workspace.root.as_str());
+            }
+            Ok(workspace)
+        }
+        Err(error) => Err(at_metadata(alloc, error, path.as_str(), &bytes)),
     }
 }
 
+/// Removes what runs that were killed left beside the manifests.
+fn tidy_folders<S: Store>(alloc: Global, inputs: &[Input], files: &mut S)
+    ensures { OnlyReads (S.view files.old) (S.view files.new) }
+{
+    for input in inputs {
+        files.tidy(alloc, input.path.as_str());
+    }
+}
+
+/// Where the manifests of a workspace stand: those of its members, and the root's.
+fn manifest_paths(alloc: Global, workspace: &Workspace) -> CargoResult<Vec<String>> {
+    let mut paths = Vec::new(alloc);
+    for package in &workspace.packages {
+        if package.member {
+            paths.push(normal(alloc, package.manifest_path.as_str())?)?;
+        }
+    }
+    paths.push(absolute(alloc, workspace.root.as_str(), "Cargo.toml")?)?;
+    Ok(paths)
+}
+
+/// An error of reading the manifests of a workspace, with the path of the one at fault.
+fn at_manifest<S: Store>(
+    alloc: Global,
+    error: Error,
+    workspace: &Workspace,
+    files: &mut S,
+) -> Refusal
+    ensures same { result.error ≡ error }
+    ensures reads { OnlyReads (S.view files.old) (S.view files.new) }
+    ensures counted { (S.view files.new).faults < 2 ^ 64 }
+{
+    let paths = match manifest_paths(alloc, workspace) {
+        Ok(paths) => paths,
+        Err(_) => Vec::new(alloc),
+    };
+    at_first(alloc, error, &paths, files)
+}
+
 /// Reads the workspace whose metadata stand in the file that is named, and its manifests, for a Rust version
-/// or with those of the members ignored, as `workspace_inputs` does.
+/// or with those of the members ignored, as `workspace_inputs` does. `writes` says whether files are to be written: then
+/// other runs on the workspace are kept waiting.
 pub fn read_workspace<S: Store>(
     alloc: Global,
     named: &str,
     current: &str,
     rust_version: Option<RustVersion>,
     ignore: bool,
+    writes: bool,
     files: &mut S,
 ) -> RunResult<ReadWorkspace>
     ensures reads { OnlyReads (S.view files.old) (S.view files.new) }
@@ -79,7 +130,13 @@ pub fn read_workspace<S: Store>(
         ⊎ ((S.view files.old).tells ≡ true
         → HasNoWorkspace (S.view files.old).file_at current.now named.now r.error)) }
 {
-    let workspace = read_metadata(alloc, named, current, files)?;
-    let inputs = workspace_inputs(alloc, files, &workspace, rust_version, ignore)?;
+    let workspace = read_metadata(alloc, named, current, writes, files)?;
+    let inputs = match workspace_inputs(alloc, files, &workspace, rust_version, ignore) {
+        Ok(inputs) => inputs,
+        Err(error) => return Err(at_manifest(alloc, error, &workspace, files)),
+    };
+    if writes {
+        tidy_folders(alloc, &inputs, files);
+    }
     Ok(ReadWorkspace { workspace, inputs })
 }

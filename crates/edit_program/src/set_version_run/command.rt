@@ -42,7 +42,16 @@ pub fn set_version<S: Store, O: io::Write, E: io::Write>(
     ensures why { IfErr result (λ r. IsSetVersionCause words.now current.now
         (S.view files.old) (S.view files.new) r.error) }
 {
-    let read = read_workspace(alloc, words.metadata_json, current, None, true, files)?;
+    let writes = !words.dry_run;
+    let read = read_workspace(
+        alloc,
+        words.metadata_json,
+        current,
+        None,
+        true,
+        writes,
+        files,
+    )?;
     warn_if(words.all, ALL, err)?;
     let plan = plan_for(alloc, words, &read)?;
     print_plan(

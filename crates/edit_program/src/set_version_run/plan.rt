@@ -11,36 +11,11 @@ ghost use Rattle.edit_program.specs.Plans.{IsVersionPlan};
 ghost use Rattle.edit_program.specs.SetVersions.{has_some, no_rust, written};
 
 use crate::set_version_run::words::SetVersionWords;
-use edit_base::Error;
-use edit_manifest::Manifest;
-use edit_metadata::Input;
+use edit_diagnostics::explain_set_version;
 use edit_report::Output;
 use edit_set_version::{SetVersionPlan, plan_set_version};
-use edit_steps::{ReadWorkspace, Refusal, RunResult, at_byte};
+use edit_steps::{ReadWorkspace, RunResult};
 use std::alloc::Global;
-
-/// Whether an input is no manifest, for this refusal.
-fn is_refused(alloc: Global, input: &Input, error: &Error) -> bool {
-    match Manifest::read_bytes(alloc, &input.bytes) {
-        Ok(_) => false,
-        Err(own) => own.number() == error.number(),
-    }
-}
-
-/// A refusal of a plan, with its place where an input is no manifest: it is that of the first such input.
-fn at_input(alloc: Global, error: Error, inputs: &[Input]) -> Refusal
-    ensures { result.error ≡ error }
-{
-    if !matches!(&error, Error::NotToml { .. } | Error::NotUtf8) {
-        return Refusal::from(error);
-    }
-    for input in inputs {
-        if is_refused(alloc, input, &error) {
-            return at_byte(alloc, error, input.path.as_str(), &input.bytes);
-        }
-    }
-    Refusal::from(error)
-}
 
 /// The plan that the words ask for, over the workspace that was read.
 pub(crate) fn plan_for(
@@ -65,7 +40,17 @@ pub(crate) fn plan_for(
         inputs.as_slice(),
     ) {
         Ok(plan) => Ok(plan),
-        Err(error) => Err(at_input(alloc, error, inputs.as_slice())),
+        Err(error) => {
+            let (target, selection) = (&words.target, &words.selection);
+            Err(explain_set_version(
+                alloc,
+                error,
+                target,
+                selection,
+                workspace,
+                inputs.as_slice(),
+            ))
+        }
     }
 }
 

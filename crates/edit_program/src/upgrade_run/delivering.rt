@@ -15,6 +15,7 @@ ghost use Rattle.edit_program.specs.Tables.{AreInOrder};
 use crate::upgrade_run::words::UpgradeWords;
 use crate::upgrade_told::{Telling, deliver};
 use edit_base::CargoResult;
+use edit_diagnostics::explain_delivery;
 use edit_lock::Lock;
 use edit_steps::upgrade_read::Target;
 use edit_steps::{RunResult, absolute};
@@ -42,7 +43,7 @@ pub(crate) fn path_of(
 
 /// Delivers a plan for manifests as the words ask, with this path for the file of the calls, which are right
 /// against the lock file where there is one; answers whether the plan changes a manifest.
-pub(crate) fn deliver_plan<S: Store, O: io::Write, E: io::Write>(
+fn deliver_plan<S: Store, O: io::Write, E: io::Write>(
     alloc: Global,
     words: &UpgradeWords<'_>,
     current: &str,
@@ -85,4 +86,42 @@ pub(crate) fn deliver_plan<S: Store, O: io::Write, E: io::Write>(
         alloc, plan, inputs, workspace, options, &telling, files, out, err,
     )?;
     Ok(!plan.outputs.is_empty())
+}
+
+/// The same, where an error has what can be done about it.
+pub(crate) fn deliver_explained<S: Store, O: io::Write, E: io::Write>(
+    alloc: Global,
+    words: &UpgradeWords<'_>,
+    current: &str,
+    target: &Target,
+    plan: &UpgradePlan,
+    path: Option<&str>,
+    lock: Option<&Lock>,
+    files: &mut S,
+    out: &mut O,
+    err: &mut E,
+) -> RunResult<bool>
+    requires outputs { HaveDistinctPaths plan.now.outputs.items }
+    requires rows { AreInOrder plan.now.rows.items }
+    requires warnings { AreWarningsInOrder plan.now.warnings.items }
+    ensures tells { (S.view files.new).tells ≡ (S.view files.old).tells }
+    ensures later { (S.view files.old).faults ≤ (S.view files.new).faults }
+    ensures done { IfOk result (λ due. IsAnsweredWith due (Appends (O.contents out.old) (O.contents out.new))
+        (Appends (E.contents err.old) (E.contents err.new)) (S.view files.old) (S.view files.new)
+        (delivery_by words.now current.now plan.now target.now (given path.entry)
+        (option_map (λ l. packages_seen l.now) lock.entry))) }
+    ensures stopped { OnErr result (SameFiles (S.view files.old).file_at (S.view files.new).file_at
+        ⊎ IsCutShort (Appends (O.contents out.old) (O.contents out.new))
+        (delivery_by words.now current.now plan.now target.now (given path.entry)
+        (option_map (λ l. packages_seen l.now) lock.entry))
+        (S.view files.old) (S.view files.new)) }
+    ensures cause { IfErr result (λ r. IsDeliveryCause plan.now words.now.options
+        (S.view files.old) (S.view files.new) r.error) }
+{
+    match deliver_plan(
+        alloc, words, current, target, plan, path, lock, files, out, err,
+    ) {
+        Ok(due) => Ok(due),
+        Err(refusal) => Err(explain_delivery(alloc, refusal, plan)),
+    }
 }

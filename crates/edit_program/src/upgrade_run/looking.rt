@@ -16,10 +16,11 @@ use crate::looks::{NoIndex, looks_text};
 use crate::upgrade_run::plan::plan_over;
 use crate::upgrade_run::words::UpgradeWords;
 use edit_base::CargoResult;
+use edit_diagnostics::explain_upgrade;
 use edit_report::shell_write_stdout;
 use edit_sources::Config;
+use edit_steps::RunResult;
 use edit_steps::upgrade_read::{Sources, Target, read_sources};
-use edit_steps::{RunResult, at_input};
 use edit_store::Store;
 use edit_upgrade::Options;
 use std::alloc::Global;
@@ -71,7 +72,11 @@ pub fn looks<S: Store, O: io::Write>(
     } = sources;
     let lines = match lines_for(alloc, &words.options, &target, &configs) {
         Ok(lines) => lines,
-        Err(error) => return Err(at_input(alloc, error, &target.inputs)),
+        Err(error) => {
+            let asked = words.asked_for_looks();
+            let inputs = &target.inputs;
+            return Err(explain_upgrade(alloc, error, &asked, current, inputs, &configs, files));
+        }
     };
     shell_write_stdout(out, lines.as_str())?;
     Ok(())

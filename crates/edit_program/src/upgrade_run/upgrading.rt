@@ -6,12 +6,13 @@ ghost use Rattle.edit_store.specs.Store.{SameFiles};
 ghost use Rattle.edit_program.specs.UpgradeCauses.{IsUpgradeCause};
 ghost use Rattle.edit_program.specs.Upgrading.{IsBroken, IsUpgraded};
 
-use crate::upgrade_run::delivering::{deliver_plan, path_of};
+use crate::upgrade_run::delivering::{deliver_explained, path_of};
 use crate::upgrade_run::plan::plan_for;
 use crate::upgrade_run::reading::{Readings, read};
 use crate::upgrade_run::words::UpgradeWords;
+use edit_diagnostics::explain_upgrade;
+use edit_steps::RunResult;
 use edit_steps::upgrade_read::Sources;
-use edit_steps::{RunResult, at_input};
 use edit_store::Store;
 use std::alloc::Global;
 use std::io;
@@ -54,11 +55,15 @@ pub fn upgrade<S: Store, T: Store + Drop, O: io::Write, E: io::Write>(
     let options = &words.options;
     let plan = match plan_for(alloc, options, &target, &configs, index, index_files) {
         Ok(plan) => plan,
-        Err(error) => return Err(at_input(alloc, error, &target.inputs)),
+        Err(error) => {
+            let asked = words.asked();
+            let inputs = &target.inputs;
+            return Err(explain_upgrade(alloc, error, &asked, current, inputs, &configs, files));
+        }
     };
     let path = named.as_deref();
     let lock = lock.as_ref();
-    deliver_plan(
+    deliver_explained(
         alloc, words, current, &target, &plan, path, lock, files, out, err,
     )
 }

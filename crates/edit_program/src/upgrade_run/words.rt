@@ -46,6 +46,7 @@ impl<'a> UpgradeWords<'a> {
             config: self.config,
             default_config: self.default_config,
             rust: self.rust,
+            writes: !self.options.dry_run && !self.options.locked,
         }
     }
 
@@ -56,6 +57,7 @@ impl<'a> UpgradeWords<'a> {
         Asked {
             index_file: None,
             index_dir: None,
+            writes: false,
             ..self.asked()
         }
     }

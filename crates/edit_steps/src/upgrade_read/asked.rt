@@ -54,4 +54,6 @@ pub struct Asked<'a> {
     /// A configuration file that counts after all others.
     pub default_config: Option<&'a str>,
     pub rust: RustChoice,
+    /// Whether files are to be written: then other runs on the same files are kept waiting.
+    pub writes: bool,
 }

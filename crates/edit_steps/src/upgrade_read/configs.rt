@@ -9,6 +9,8 @@ ghost use Rattle.edit_store.specs.Store.{OnlyReads, RefusesCall};
 ghost use Rattle.edit_steps.specs.Causes.{IsUnconfigured};
 ghost use Rattle.edit_steps.specs.Named.{AreConfigured, AreGathered, IsUnreadFile, pair_of};
 
+use crate::RunResult;
+use crate::upgrade_read::config_faults::at_config;
 use crate::upgrade_read::named::{NamedFiles, configs_in};
 use edit_base::CargoResult;
 use edit_metadata::Input;
@@ -48,7 +50,7 @@ fn gather<S: Store>(
 }
 
 /// Reads the configurations of each of the inputs, in their order, and each file once.
-pub(crate) fn read_all<S: Store>(
+fn read_all<S: Store>(
     alloc: Global,
     named: &NamedFiles,
     inputs: &[Input],
@@ -80,4 +82,26 @@ pub(crate) fn read_all<S: Store>(
         all.push(configs)?;
     }
     Ok(all)
+}
+
+/// The same, where an error has the configuration file that it is about.
+pub(crate) fn read_configurations<S: Store>(
+    alloc: Global,
+    named: &NamedFiles,
+    inputs: &[Input],
+    cargo_home: Option<&str>,
+    files: &mut S,
+) -> RunResult<Vec<Vec<Config>>>
+    ensures store { OnlyReads (S.view files.old) (S.view files.new) }
+    ensures read { IfOk result (λ v. (S.view files.old).tells ≡ true → AreConfigured
+        (S.view files.old).file_at (given cargo_home.entry) (pair_of named.now) inputs.now v.items) }
+    ensures each { IfOk result (λ v. length v.items ≡ length inputs.now) }
+    ensures refused { IfErr result (λ r. RefusesCall call.Read (S.view files.old) (S.view files.new) r.error
+        ⊎ ((S.view files.old).tells ≡ true → IsUnconfigured (S.view files.old).file_at
+        (given cargo_home.entry) (pair_of named.now) inputs.now r.error)) }
+{
+    match read_all(alloc, named, inputs, cargo_home, files) {
+        Ok(all) => Ok(all),
+        Err(error) => Err(at_config(alloc, error, inputs, cargo_home, files)),
+    }
 }

@@ -53,12 +53,14 @@ fn manifest_of(
     Ok(ReadManifest { input, document })
 }
 
-/// Reads the manifest that is named, or the nearest one where none is.
+/// Reads the manifest that is named, or the nearest one where none is. Where it is to be written, other runs on it are
+/// kept waiting.
 pub(crate) fn read_manifest<S: Store>(
     alloc: Global,
     named: Option<&str>,
     current: &str,
     rust: RustChoice,
+    writes: bool,
     files: &mut S,
 ) -> RunResult<ReadManifest>
     ensures store { OnlyReads (S.view files.old) (S.view files.new) }
@@ -70,7 +72,7 @@ pub(crate) fn read_manifest<S: Store>(
         ⊎ ((S.view files.old).tells ≡ true
         → IsManifestCause (S.view files.old).file_at current.now (given named.entry) r.error)) }
 {
-    let path = manifest_path(alloc, named, current, files)?;
+    let path = manifest_path(alloc, named, current, writes, files)?;
     let bytes = match files.read(alloc, path.as_str()) {
         Ok(Some(bytes)) => bytes,
         Ok(None) => return Err(at_path(alloc, Error::NoManifest, path.as_str())),

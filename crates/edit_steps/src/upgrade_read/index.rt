@@ -38,7 +38,7 @@ fn read_file<S: Store>(
         → IsIndexCause (S.view files.old).file_at current.now named.now r.error)) }
 {
     let path = absolute(alloc, current, named)?;
-    let lines = match files.read(alloc, path.as_str()) {
+    let lines = match files.read_stream(alloc, path.as_str()) {
         Ok(Some(lines)) => lines,
         Ok(None) => return Err(at_path(alloc, Error::NoPath, path.as_str())),
         Err(error) => return Err(at_path(alloc, error, path.as_str())),

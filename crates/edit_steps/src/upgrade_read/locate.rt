@@ -7,6 +7,7 @@ ghost use Rattle.edit_sources.specs.Configured.{given};
 
 use crate::{Refusal, RunResult, absolute, at_path};
 use edit_base::Error;
+use edit_base::paths::folder;
 use edit_manifest::find;
 use edit_store::Store;
 use std::alloc::Global;
@@ -22,11 +23,13 @@ fn at_named(alloc: Global, error: Error, current: &str, named: &str) -> Refusal
 }
 
 /// The path of the manifest: the file named, or the nearest `Cargo.toml` from the folder named upwards; from
-/// the current folder where none is named.
+/// the current folder where none is named. Where it is to be written, other runs on it are waited for and then kept
+/// waiting, and what runs that were killed left beside it is removed.
 pub(crate) fn manifest_path<S: Store>(
     alloc: Global,
     named: Option<&str>,
     current: &str,
+    writes: bool,
     files: &mut S,
 ) -> RunResult<String>
     ensures store { OnlyReads (S.view files.old) (S.view files.new) }
@@ -37,7 +40,13 @@ pub(crate) fn manifest_path<S: Store>(
         → HasNoManifest (S.view files.old).file_at current.now r.error (given named.entry))) }
 {
     match find(alloc, files, named, current) {
-        Ok(path) => Ok(path),
+        Ok(path) => {
+            if writes {
+                files.lock(alloc, folder(path.as_str()));
+                files.tidy(alloc, path.as_str());
+            }
+            Ok(path)
+        }
         Err(error) => Err(at_named(alloc, error, current, named.unwrap_or(current))),
     }
 }

@@ -48,7 +48,7 @@ fn read_file<S: Store>(
         return Ok(None);
     };
     let path = absolute(alloc, current, named)?;
-    match files.read(alloc, path.as_str()) {
+    match files.read_stream(alloc, path.as_str()) {
         Ok(Some(bytes)) => Ok(Some(NamedFile { path, bytes })),
         Ok(None) => Err(at_path(alloc, Error::NoPath, path.as_str())),
         Err(error) => Err(at_path(alloc, error, path.as_str())),

@@ -8,7 +8,7 @@ ghost use Rattle.edit_steps.specs.Sources.{AreRead, MayBePlanned};
 
 use crate::RunResult;
 use crate::upgrade_read::asked::Asked;
-use crate::upgrade_read::configs::read_all;
+use crate::upgrade_read::configs::read_configurations;
 use crate::upgrade_read::index::{IndexSource, read_index};
 use crate::upgrade_read::named::read_named;
 use crate::upgrade_read::target::{Target, read_target};
@@ -46,7 +46,7 @@ pub fn read_sources<S: Store>(
 {
     let target = read_target(alloc, asked, current, files)?;
     let named = read_named(alloc, asked, current, files)?;
-    let configs = read_all(alloc, &named, &target.inputs, cargo_home, files)?;
+    let configs = read_configurations(alloc, &named, &target.inputs, cargo_home, files)?;
     let index = read_index(alloc, asked.index_file, asked.index_dir, current, files)?;
     Ok(Sources {
         target,

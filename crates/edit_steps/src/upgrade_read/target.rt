@@ -58,13 +58,13 @@ pub(crate) fn read_target<S: Store>(
         ⊎ ((S.view files.old).tells ≡ true
         → HasNoTarget (S.view files.old).file_at current.now (asking_of asked.now) r.error)) }
 {
-    let rust = asked.rust;
+    let (rust, writes) = (asked.rust, asked.writes);
     let Some(named) = asked.metadata_json else {
-        let manifest = read_manifest(alloc, asked.manifest_path, current, rust, files)?;
+        let manifest = read_manifest(alloc, asked.manifest_path, current, rust, writes, files)?;
         return Ok(alone(alloc, manifest)?);
     };
     let (given, ignored) = (rust.given(), rust.is_ignored());
-    let read = read_workspace(alloc, named, current, given, ignored, files)?;
+    let read = read_workspace(alloc, named, current, given, ignored, writes, files)?;
     let ReadWorkspace { workspace, inputs } = read;
     Ok(Target {
         workspace: Some(workspace),

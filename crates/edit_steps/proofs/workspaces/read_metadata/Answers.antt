@@ -10,6 +10,6 @@ returns-clause-refused g c =
     inr (λ t. unsaid_at (g.S.Store.view c.args.files.now).file_at c.args.current.now c.args.named.now
     (string_bytes c.in_ok-path.path) c.as_str.result.now c.in-Ok-Some.bytes.items _ c.in_ok-path.ensures.text
     c.as_str.ensures.value (there t)
-    (subst (λ (e : Error). IsNoWorkspace c.in-Ok-Some.bytes.items e) (sym c.at_path-in-Err-read.ensures)
+    (subst (λ (e : Error). IsNoWorkspace c.in-Ok-Some.bytes.items e) (sym c.at_metadata.ensures)
     (subst (λ bytes. IsNoWorkspace bytes c.in-Err-read.error) c.deref.ensures.value
     c.in-Err-read.ensures.refused)))

@@ -1,23 +1,23 @@
 use Rattle.std.specs.Prelude.{option_map}
 use Rattle.edit_metadata.specs.Workspaces.{workspace_said}
 use Rattle.edit_version.specs.RustVersions.{numbers_of}
-use Rattle.edit_steps.proofs.Refusals.{refusal_has, refusal_made}
-use Rattle.edit_steps.proofs.WorkspaceLemmas.{is_read, manifest_cause, metadata_cause, own_paths}
+use Rattle.edit_steps.proofs.Refusals.{refusal_has}
+use Rattle.edit_steps.proofs.WorkspaceLemmas.{is_read, manifest_before, metadata_cause, own_paths}
 use Rattle.edit_steps.proofs.workspaces.read_workspace.Goals as goal
 
 pub returns-clause-workspace : goal.returns-clause-workspace
 returns-clause-workspace g c =
     is_read (record { given = option_map numbers_of c.args.rust_version; ignored = c.args.ignore })
     (g.S.Store.view c.args.files.now) (g.S.Store.view c.read_metadata.new.files) c.args.current.now
-    c.args.named.now (workspace_said c.in_ok-workspace.workspace) c.in_ok-inputs.inputs.items
-    c.in_ok-workspace.ensures.reads c.in_ok-workspace.ensures.metadata c.in_ok-inputs.ensures.inputs
-    c.in_ok-inputs.ensures.bytes
+    c.args.named.now (workspace_said c.in_ok-workspace.workspace) c.in-Ok.inputs.items
+    c.in_ok-workspace.ensures.reads c.in_ok-workspace.ensures.metadata c.in-Ok.ensures.inputs
+    c.in-Ok.ensures.bytes
 
 pub returns-clause-paths : goal.returns-clause-paths
 returns-clause-paths g c =
     own_paths (record { given = option_map numbers_of c.args.rust_version; ignored = c.args.ignore })
-    (workspace_said c.in_ok-workspace.workspace) c.in_ok-inputs.inputs.items
-    c.in_ok-workspace.ensures.folders c.in_ok-inputs.ensures.inputs
+    (workspace_said c.in_ok-workspace.workspace) c.in-Ok.inputs.items
+    c.in_ok-workspace.ensures.folders c.in-Ok.ensures.inputs
 
 pub returns-in_err-workspace-clause-refused : goal.returns-in_err-workspace-clause-refused
 returns-in_err-workspace-clause-refused g c =
@@ -26,12 +26,11 @@ returns-in_err-workspace-clause-refused g c =
     c.args.current.now c.args.named.now
     c.in_err-workspace.field-0.0.error c.in_err-workspace.ensures.refused)
 
-pub returns-in_err-inputs-clause-refused : goal.returns-in_err-inputs-clause-refused
-returns-in_err-inputs-clause-refused g c =
-    refusal_made c.from_residual-in_err-inputs.result c.in_err-inputs.field-0.0 _
-    c.from_residual-in_err-inputs.ensures.1
-    (manifest_cause (g.S.Store.view c.args.files.now) (g.S.Store.view c.read_metadata.new.files)
-    (g.S.Store.view c.workspace_inputs.new.store) c.args.current.now c.args.named.now
-    (workspace_said c.in_ok-workspace.workspace) c.in_err-inputs.field-0.0
-    c.in_ok-workspace.ensures.reads c.in_ok-workspace.ensures.metadata
-    c.in_err-inputs.ensures.refused)
+pub returns-in-Err-clause-refused : goal.returns-in-Err-clause-refused
+returns-in-Err-clause-refused g c =
+    manifest_before (g.S.Store.view c.args.files.now) (g.S.Store.view c.read_metadata.new.files)
+    (g.S.Store.view c.workspace_inputs.new.store) (g.S.Store.view c.at_manifest.new.files)
+    c.args.current.now c.args.named.now (workspace_said c.in_ok-workspace.workspace) c.in-Err.error
+    c.at_manifest.result.error c.in_ok-workspace.ensures.reads c.at_manifest.ensures.reads
+    c.at_manifest.ensures.counted c.at_manifest.ensures.same c.in_ok-workspace.ensures.metadata
+    c.in-Err.ensures.refused

@@ -34,5 +34,5 @@ returns-in-Err-clause-refused c =
     let t = target_of c.args.words.now.target in
     let a = asked_of c.args.words.now.selection in
     let w = workspace_said c.args.read.now.workspace in
-    subst (λ is. IsCauseOf t a w is c.at_input.result.error) c.as_slice.ensures.value
-    (subst (λ e. IsCauseOf t a w c.as_slice.result.now e) (sym c.at_input.ensures) c.in-Err.ensures.refused)
+    subst (λ is. IsCauseOf t a w is c.explain_set_version.result.error) c.as_slice.ensures.value
+    (subst (λ e. IsCauseOf t a w c.as_slice.result.now e) (sym c.explain_set_version.ensures) c.in-Err.ensures.refused)

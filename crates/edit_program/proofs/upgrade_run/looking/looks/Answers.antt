@@ -11,6 +11,7 @@ use Rattle.edit_steps.specs.Sources.{AreRead}
 use Rattle.edit_program.specs.UpgradeCauses.{IsLooksCause}
 use Rattle.edit_program.specs.Looking.{AreLinesOf}
 use Rattle.edit_program.specs.Planned.{IsPlanCause}
+use Rattle.edit_metadata.proofs.InputLemmas.{reads-on}
 use Rattle.edit_program.proofs.LookLemmas.{unplanned_cause, unread_cause}
 use Rattle.edit_program.proofs.upgrade_run.looking.looks.Goals as goal
 
@@ -34,15 +35,20 @@ returns-in-Err-clause-why g c =
     let current = c.args.current.now in
     let home = given c.args.cargo_home in
     let old = g.S.Store.view c.args.files.now in
-    let new = g.S.Store.view c.read_sources.new.files in
+    let new = g.S.Store.view c.explain_upgrade.new.files in
     let s = c.in_ok-sources.sources in
-    subst (λ e. IsLooksCause words current home old new e) (sym c.at_input.ensures)
+    subst (λ e. IsLooksCause words current home old new e) (sym c.explain_upgrade.ensures.same)
     (unplanned_cause words current home old new s c.in-Err.error
     (λ t. subst (λ a. AreRead old.file_at current home a s) c.asked_for_looks.ensures
     (c.in_ok-sources.ensures.read t))
     (subst (λ cs. IsMemory c.in-Err.error
     ⊎ IsPlanCause words.options s.target.inputs.items cs no_view c.in-Err.error)
     c.deref.ensures.value c.in-Err.ensures.refused))
+
+pub returns-in-Err-clause-reads : goal.returns-in-Err-clause-reads
+returns-in-Err-clause-reads g c =
+    reads-on (g.S.Store.view c.args.files.now) (g.S.Store.view c.read_sources.new.files)
+    (g.S.Store.view c.explain_upgrade.new.files) c.in_ok-sources.ensures.store c.explain_upgrade.ensures.reads
 
 pub returns-clause-done : goal.returns-clause-done
 returns-clause-done g c = λ t.

@@ -1,4 +1,4 @@
-use Rattle.std.proofs.Common.{◌≡◌, option_map, subst, sym, true}
+use Rattle.std.proofs.Common.{◌≡◌, ◌∙◌, inl, option_map, subst, sym, true}
 use Rattle.std.proofs.lemmas.Result.{IfErr-weaker, IfOk-weaker, on_err_weaker}
 use Rattle.std.specs.Prelude.{◌⊎◌}
 use Rattle.std.specs.Io.KnownBytes.{Appends}
@@ -36,18 +36,25 @@ returns-in-Err-clause-why g c =
     let home = given c.args.cargo_home in
     let local = g.T.Store.view c.args.index_files in
     let old = g.S.Store.view c.args.files.now in
-    let mid = g.S.Store.view c.read.new.files in
+    let mid = g.S.Store.view c.explain_upgrade.new.files in
     let s = c.in_ok-readings.readings.sources in
     let read : old.tells ≡ true → IsRead words current home old.file_at s =
     c.in_ok-readings.ensures.read in
-    subst (λ e. IsUpgradeCause words current home local old mid e) (sym c.at_input.ensures)
+    subst (λ e. IsUpgradeCause words current home local old mid e) (sym c.explain_upgrade.ensures.same)
     (plan_cause words current home local old mid s c.in-Err.error read
     (subst (λ cs. IsMemory c.in-Err.error
     ⊎ IsPlanCause words.options s.target.inputs.items cs (index_view s.index local) c.in-Err.error)
     c.deref.ensures.value c.in-Err.ensures.refused))
 
-pub deliver_plan-requires-clause-outputs : goal.deliver_plan-requires-clause-outputs
-deliver_plan-requires-clause-outputs g c =
+pub returns-in-Err-clause-tells : goal.returns-in-Err-clause-tells
+returns-in-Err-clause-tells g c = c.explain_upgrade.ensures.reads.tells ∙ c.in_ok-readings.ensures.store.tells
+
+pub returns-in-Err-clause-refused : goal.returns-in-Err-clause-refused
+returns-in-Err-clause-refused g c =
+    λ t. inl (λ path. c.explain_upgrade.ensures.reads.files path ∙ c.in_ok-readings.ensures.store.files path)
+
+pub deliver_explained-requires-clause-outputs : goal.deliver_explained-requires-clause-outputs
+deliver_explained-requires-clause-outputs g c =
     let words = c.args.words.now in
     let s = c.in_ok-readings.readings.sources in
     let local = g.T.Store.view c.args.index_files in
@@ -55,13 +62,13 @@ deliver_plan-requires-clause-outputs g c =
     (subst (λ cs. IsPlanned words.options s.target.inputs.items cs (index_view s.index local) c.in-Ok.plan)
     c.deref.ensures.value c.in-Ok.ensures.planned)
 
-pub deliver_plan-requires-clause-rows : goal.deliver_plan-requires-clause-rows
-deliver_plan-requires-clause-rows g c =
+pub deliver_explained-requires-clause-rows : goal.deliver_explained-requires-clause-rows
+deliver_explained-requires-clause-rows g c =
     rows_in_order c.in_ok-readings.readings.sources.target.inputs.items c.in-Ok.plan
     c.in-Ok.ensures.planned.is.rows_in_order
 
-pub deliver_plan-requires-clause-warnings : goal.deliver_plan-requires-clause-warnings
-deliver_plan-requires-clause-warnings g c =
+pub deliver_explained-requires-clause-warnings : goal.deliver_explained-requires-clause-warnings
+deliver_explained-requires-clause-warnings g c =
     warnings_in_order c.in_ok-readings.readings.sources.target.inputs.items c.in-Ok.plan
     c.in-Ok.ensures.planned.is.warnings_in_order
 
@@ -73,9 +80,9 @@ returns-clause-done g c =
     let local = g.T.Store.view c.args.index_files in
     let old = g.S.Store.view c.args.files.now in
     let mid = g.S.Store.view c.read.new.files in
-    let new = g.S.Store.view c.deliver_plan.new.files in
-    let Shows = Appends (g.O.Write.contents c.args.out.now) (g.O.Write.contents c.deliver_plan.new.out) in
-    let Says = Appends (g.E.Write.contents c.args.err.now) (g.E.Write.contents c.deliver_plan.new.err) in
+    let new = g.S.Store.view c.deliver_explained.new.files in
+    let Shows = Appends (g.O.Write.contents c.args.out.now) (g.O.Write.contents c.deliver_explained.new.out) in
+    let Says = Appends (g.E.Write.contents c.args.err.now) (g.E.Write.contents c.deliver_explained.new.err) in
     let s = c.in_ok-readings.readings.sources in
     let plan = c.in-Ok.plan in
     let path = given c.as_deref-path.result in
@@ -90,10 +97,10 @@ returns-clause-done g c =
     λ t. subst (IsLockRead old.file_at current (given words.lock_file))
     (sym (same_lock c.as_ref-lock.result c.in_ok-readings.readings.lock c.as_ref-lock.ensures.value))
     (c.in_ok-readings.ensures.locked t) in
-    IfOk-weaker c.deliver_plan.result _ _
+    IfOk-weaker c.deliver_explained.result _ _
     (λ due. upgraded due Shows Says words current home local old mid new s plan path lock
     c.in_ok-readings.ensures.store read planned at locked)
-    c.deliver_plan.ensures.done
+    c.deliver_explained.ensures.done
 
 pub returns-clause-refused : goal.returns-clause-refused
 returns-clause-refused g c =
@@ -103,8 +110,8 @@ returns-clause-refused g c =
     let local = g.T.Store.view c.args.index_files in
     let old = g.S.Store.view c.args.files.now in
     let mid = g.S.Store.view c.read.new.files in
-    let new = g.S.Store.view c.deliver_plan.new.files in
-    let Shows = Appends (g.O.Write.contents c.args.out.now) (g.O.Write.contents c.deliver_plan.new.out) in
+    let new = g.S.Store.view c.deliver_explained.new.files in
+    let Shows = Appends (g.O.Write.contents c.args.out.now) (g.O.Write.contents c.deliver_explained.new.out) in
     let s = c.in_ok-readings.readings.sources in
     let plan = c.in-Ok.plan in
     let path = given c.as_deref-path.result in
@@ -119,10 +126,10 @@ returns-clause-refused g c =
     λ t. subst (IsLockRead old.file_at current (given words.lock_file))
     (sym (same_lock c.as_ref-lock.result c.in_ok-readings.readings.lock c.as_ref-lock.ensures.value))
     (c.in_ok-readings.ensures.locked t) in
-    on_err_weaker c.deliver_plan.result
+    on_err_weaker c.deliver_explained.result
     (λ h. broken Shows words current home local old mid new s plan path lock c.in_ok-readings.ensures.store
     read planned at locked h)
-    c.deliver_plan.ensures.stopped
+    c.deliver_explained.ensures.stopped
 
 pub returns-clause-why : goal.returns-clause-why
 returns-clause-why g c =
@@ -132,7 +139,7 @@ returns-clause-why g c =
     let local = g.T.Store.view c.args.index_files in
     let old = g.S.Store.view c.args.files.now in
     let mid = g.S.Store.view c.read.new.files in
-    let new = g.S.Store.view c.deliver_plan.new.files in
+    let new = g.S.Store.view c.deliver_explained.new.files in
     let s = c.in_ok-readings.readings.sources in
     let plan = c.in-Ok.plan in
     let path = given c.as_deref-path.result in
@@ -147,7 +154,7 @@ returns-clause-why g c =
     λ t. subst (IsLockRead old.file_at current (given words.lock_file))
     (sym (same_lock c.as_ref-lock.result c.in_ok-readings.readings.lock c.as_ref-lock.ensures.value))
     (c.in_ok-readings.ensures.locked t) in
-    IfErr-weaker c.deliver_plan.result _ _
+    IfErr-weaker c.deliver_explained.result _ _
     (λ r. stop_cause words current home local old mid new s plan path lock r.error
     c.in_ok-readings.ensures.store read planned at locked)
-    c.deliver_plan.ensures.cause
+    c.deliver_explained.ensures.cause

@@ -1,7 +1,7 @@
 use Rattle.std.proofs.Common.{◌≡◌, ◌⊎◌, subst, true}
 use Rattle.edit_base.specs.declared.errors.DeviceCall.TheVariants as call
 use Rattle.edit_sources.specs.Configured.{given}
-use Rattle.edit_steps.proofs.Refusals.{refusal_has, refusal_made}
+use Rattle.edit_steps.proofs.Refusals.{refusal_has}
 use Rattle.edit_store.specs.Store.{OnlyReads, RefusesCall}
 use Rattle.edit_steps.specs.Asking.{asking_of}
 use Rattle.edit_steps.specs.Causes.{IsUnconfigured}
@@ -31,19 +31,19 @@ returns-in_err-named-clause-refused g c =
 
 pub returns-in_err-configs-clause-refused : goal.returns-in_err-configs-clause-refused
 returns-in_err-configs-clause-refused g c =
-    refusal_made c.from_residual-in_err-configs.result c.in_err-configs.field-0.0 _
+    refusal_has c.from_residual-in_err-configs.result c.in_err-configs.field-0.0 _
     c.from_residual-in_err-configs.ensures.1
     (config_cause c.args.current.now (given c.args.cargo_home) (asking_of c.args.asked.now)
     (g.S.Store.view c.args.files.now) (g.S.Store.view c.read_target.new.files)
-    (g.S.Store.view c.read_named.new.files) (g.S.Store.view c.read_all.new.files)
+    (g.S.Store.view c.read_named.new.files) (g.S.Store.view c.read_configurations.new.files)
     c.in_ok-target.target.workspace c.in_ok-target.target.inputs.items (pair_of c.in_ok-named.named)
-    c.in_err-configs.field-0.0 c.in_ok-target.ensures.store c.in_ok-named.ensures.store
+    c.in_err-configs.field-0.0.error c.in_ok-target.ensures.store c.in_ok-named.ensures.store
     c.in_ok-target.ensures.read c.in_ok-named.ensures.read
     (subst (λ is. RefusesCall call.Read (g.S.Store.view c.read_named.new.files)
-    (g.S.Store.view c.read_all.new.files) c.in_err-configs.field-0.0
+    (g.S.Store.view c.read_configurations.new.files) c.in_err-configs.field-0.0.error
     ⊎ ((g.S.Store.view c.read_named.new.files).tells ≡ true
     → IsUnconfigured (g.S.Store.view c.read_named.new.files).file_at (given c.args.cargo_home)
-    (pair_of c.in_ok-named.named) is c.in_err-configs.field-0.0)) c.deref.ensures.value
+    (pair_of c.in_ok-named.named) is c.in_err-configs.field-0.0.error)) c.deref.ensures.value
     c.in_err-configs.ensures.refused))
 
 pub returns-in_err-index-clause-refused : goal.returns-in_err-index-clause-refused
@@ -52,7 +52,7 @@ returns-in_err-index-clause-refused g c =
     c.from_residual-in_err-index.ensures.1
     (index_cause c.args.current.now (given c.args.cargo_home) (asking_of c.args.asked.now)
     (g.S.Store.view c.args.files.now) (g.S.Store.view c.read_target.new.files)
-    (g.S.Store.view c.read_named.new.files) (g.S.Store.view c.read_all.new.files)
+    (g.S.Store.view c.read_named.new.files) (g.S.Store.view c.read_configurations.new.files)
     (g.S.Store.view c.read_index.new.files) c.in_ok-target.target.workspace
     c.in_ok-target.target.inputs.items (pair_of c.in_ok-named.named) c.in_ok-configs.configs.items
     c.in_err-index.field-0.0.error c.in_ok-target.ensures.store c.in_ok-named.ensures.store
@@ -66,7 +66,7 @@ returns-clause-read g c = λ t.
     let old = g.S.Store.view c.args.files.now in
     let found = g.S.Store.view c.read_target.new.files in
     let named = g.S.Store.view c.read_named.new.files in
-    let all = g.S.Store.view c.read_all.new.files in
+    let all = g.S.Store.view c.read_configurations.new.files in
     let current = c.args.current.now in
     let home = given c.args.cargo_home in
     let asking = asking_of c.args.asked.now in

@@ -1,6 +1,6 @@
 use Rattle.std.proofs.Common.{◌≡◌, ◌≤◌, take}
 use Rattle.edit_report.specs.Applied.{AreWritten}
-use Rattle.edit_steps.proofs.outputs.write_outputs.Given as goal
+use Rattle.edit_steps.proofs.outputs.write_all.Given as goal
 
 abbrev pub invariant-loop-output : goal.invariant-loop-output
 invariant-loop-output g l = record {
@@ -8,4 +8,5 @@ invariant-loop-output g l = record {
   later : (g.S.Store.view l.initial.files).faults ≤ (g.S.Store.view l.files).faults;
   written : AreWritten (take l.output-index l.outputs) (g.S.Store.view l.initial.files)
       (g.S.Store.view l.files);
+  ready : (g.S.Store.view l.files).stage_errors ≡ (g.S.Store.view l.initial.files).stage_errors;
 }

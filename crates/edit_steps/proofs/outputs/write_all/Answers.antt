@@ -3,17 +3,16 @@ use Rattle.edit_report.proofs.ApplyLemmas.{stopped_at, written_more}
 use Rattle.edit_report.specs.Applied.{IsWhole, path_of}
 use Rattle.edit_report.specs.declared.output.Output.{Output}
 use Rattle.edit_store.specs.Store.{SameBut}
-use Rattle.edit_steps.proofs.Refusals.{on_refusal}
-use Rattle.edit_steps.proofs.outputs.write_outputs.Goals as goal
+use Rattle.edit_steps.proofs.outputs.write_all.Goals as goal
 
-pub returns-in_err-write_output-clause-stopped : goal.returns-in_err-write_output-clause-stopped
-returns-in_err-write_output-clause-stopped g c =
+pub returns-in-Err-clause-stopped : goal.returns-in-Err-clause-stopped
+returns-in-Err-clause-stopped g c =
     let mid = g.S.Store.view c.loop-output.files in
     let new = g.S.Store.view c.write_output.new.files in
-    on_refusal _ _ (stopped_at c.args.outputs.now c.loop-output.output-index c.output-item.result
+    stopped_at c.args.outputs.now c.loop-output.output-index c.output-item.result
     (g.S.Store.view c.args.files.now) mid new c.requires (omega arith) c.loop-output.invariant.written
     (subst (λ (o : Output). SameBut (path_of o) mid.file_at new.file_at) c.output-item.is
-    c.write_output.ensures.others))
+    c.write_output.ensures.others)
 
 pub loop-output-preserved : goal.loop-output-preserved
 loop-output-preserved g c =
@@ -25,7 +24,8 @@ loop-output-preserved g c =
       written = written_more c.args.outputs.now c.loop-output.output-index c.output-item.result
           (g.S.Store.view c.args.files.now) mid new c.requires (omega arith) c.loop-output.invariant.tells
           c.loop-output.invariant.written
-          (λ t. subst (IsWhole new.file_at) c.output-item.is (c.in_ok-write_output.ensures.written t))
+          (λ t. subst (IsWhole new.file_at) c.output-item.is (c.in-Ok.ensures.written t))
           (subst (λ (o : Output). SameBut (path_of o) mid.file_at new.file_at) c.output-item.is
           c.write_output.ensures.others);
+      ready = c.write_output.ensures.ready ∙ c.loop-output.invariant.ready;
     }

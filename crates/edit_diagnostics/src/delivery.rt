@@ -1,0 +1,56 @@
+//! Errors of a plan that is made and not carried out.
+ghost use Rattle.std.specs.Prelude.{◌≡◌};
+
+use crate::suggestions::suggestions;
+use edit_base::{Error, MissingNames};
+use edit_steps::Refusal;
+use edit_upgrade::UpgradePlan;
+use std::alloc::{AllocError, Global};
+
+/// The names of a plan's entries that are near missing ones.
+fn names_near(
+    alloc: Global,
+    missing: &MissingNames,
+    plan: &UpgradePlan,
+) -> Result<Option<String>, AllocError> {
+    let mut names = Vec::new(alloc);
+    for row in &plan.rows {
+        names.push(row.name.as_str())?;
+    }
+    suggestions(alloc, missing, &names)
+}
+
+/// An error of a plan that `--locked` holds back, with the first manifest that would change.
+fn held_back(alloc: Global, refusal: Refusal, plan: &UpgradePlan) -> Refusal
+    ensures { result.error ≡ refusal.error }
+{
+    let place = match plan.outputs.first() {
+        Some(output) => String::from_str(alloc, output.path.as_str()).ok(),
+        None => None,
+    };
+    let count = plan.outputs.len();
+    let cause = format!(in alloc; "manifests that would change: {count}").ok();
+    let help = String::from_str(alloc, "leave out `--locked` to write them").ok();
+    Refusal {
+        place,
+        cause,
+        help,
+        ..refusal
+    }
+}
+
+/// An error of a plan that is not carried out, with what can be done about it: the manifest that `--locked` keeps as it
+/// is, and the nearest name of an entry for one that is missing.
+pub fn explain_delivery(alloc: Global, refusal: Refusal, plan: &UpgradePlan) -> Refusal
+    ensures { result.error ≡ refusal.error }
+{
+    let help = match &refusal.error {
+        Error::Locked => return held_back(alloc, refusal, plan),
+        Error::DependenciesMissing(missing) => names_near(alloc, missing, plan),
+        _ => return refusal,
+    };
+    Refusal {
+        help: help.unwrap_or(None),
+        ..refusal
+    }
+}

@@ -1,0 +1,108 @@
+//! The files of an index that an upgrade looks in.
+
+use crate::registries::{Lookup, lookup_of};
+use edit_base::CargoResult;
+use edit_base::paths::{folder, join};
+use edit_manifest::Manifest;
+use edit_manifest::entries::entries;
+use edit_metadata::Input;
+use edit_sources::Config;
+use edit_sources::index_dir::{layout_path, registry_folder};
+use edit_sources::registry::Definitions;
+use percent_encoding::percent_decode;
+use std::alloc::{AllocError, Global};
+use std::collections::BTreeSet;
+use std::str;
+use url::Url;
+
+/// The folder that an address of the scheme `file` names; none where it names none.
+fn local_folder(alloc: Global, registry: &Url) -> Result<Option<String>, AllocError> {
+    if registry.scheme() != "file" || registry.has_host() {
+        return Ok(None);
+    }
+    let mut bytes = Vec::new(alloc);
+    percent_decode(registry.path().as_bytes()).append_to(&mut bytes)?;
+    match str::from_utf8(&bytes) {
+        Ok(text) => Ok(Some(String::from_str(alloc, text)?)),
+        Err(_) => Ok(None),
+    }
+}
+
+/// The folder of a registry's entries: below the folder that is named, else the one that its address names.
+fn registry_at(alloc: Global, dir: Option<&str>, registry: &Url) -> CargoResult<Option<String>> {
+    match dir {
+        Some(dir) => {
+            let name = registry_folder(alloc, registry)?;
+            Ok(Some(join(alloc, dir, name.as_str())?))
+        }
+        None => Ok(local_folder(alloc, registry)?),
+    }
+}
+
+/// The file that a crate is looked up in; none where there is none.
+fn file_of(
+    alloc: Global,
+    dir: Option<&str>,
+    lookup: Lookup<'_>,
+    definitions: &mut Definitions<'_>,
+) -> CargoResult<Option<String>> {
+    let url = definitions.resolve(alloc, lookup.registry)?;
+    let layout = layout_path(alloc, lookup.name)?;
+    match registry_at(alloc, dir, &url)? {
+        Some(folder) => Ok(Some(join(alloc, folder.as_str(), layout.as_str())?)),
+        None => Ok(None),
+    }
+}
+
+/// Adds a path, unless it was seen before.
+fn push_new(
+    alloc: Global,
+    path: String,
+    seen: &mut BTreeSet<String>,
+    paths: &mut Vec<String>,
+) -> Result<(), AllocError> {
+    if seen.insert(String::from_str(alloc, path.as_str())?)? {
+        paths.push(path)?;
+    }
+    Ok(())
+}
+
+/// Adds the files that the entries of a manifest are looked up in.
+fn push_files(
+    alloc: Global,
+    dir: Option<&str>,
+    input: &Input,
+    configs: &[Config],
+    seen: &mut BTreeSet<String>,
+    paths: &mut Vec<String>,
+) -> CargoResult<()> {
+    let manifest = Manifest::read_bytes(alloc, &input.bytes)?;
+    let found = entries(alloc, folder(input.path.as_str()), &manifest.document)?;
+    let mut definitions = Definitions::read(alloc, configs)?;
+    for entry in &found {
+        if let Some(lookup) = lookup_of(entry) {
+            if let Some(path) = file_of(alloc, dir, lookup, &mut definitions)? {
+                push_new(alloc, path, seen, paths)?;
+            }
+        }
+    }
+    Ok(())
+}
+
+/// The files of an index that the entries of these manifests are looked up in, each once, in order, up to the first
+/// entry that has none: below the folder that is named, else where the registries' addresses name folders.
+pub(crate) fn index_files(
+    alloc: Global,
+    dir: Option<&str>,
+    inputs: &[Input],
+    configs: &[Vec<Config>],
+) -> Vec<String> {
+    let mut seen = BTreeSet::new(alloc);
+    let mut paths = Vec::new(alloc);
+    for (input, own) in inputs.iter().zip(configs.iter()) {
+        if push_files(alloc, dir, input, own, &mut seen, &mut paths).is_err() {
+            return paths;
+        }
+    }
+    paths
+}

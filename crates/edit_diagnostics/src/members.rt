@@ -1,0 +1,158 @@
+//! The members that a new version is asked for, and those whose version gives an error.
+
+use crate::entries::{entry_position, place_of};
+use crate::same::is_same;
+use edit_base::Error;
+use edit_base::paths::normal;
+use edit_document::Document;
+use edit_manifest::Manifest;
+use edit_metadata::{Input, Package, Workspace};
+use edit_set_version::{Selection, TargetVersion};
+use std::alloc::Global;
+
+/// What is known of an error besides its text.
+#[derive(Drop)]
+pub(crate) struct Explanation {
+    pub(crate) place: Option<String>,
+    pub(crate) cause: Option<String>,
+    pub(crate) help: Option<String>,
+}
+
+/// Whether one of these texts is this one.
+fn is_among(texts: &[String], text: &str) -> bool {
+    texts.iter().any(|other| other.as_str() == text)
+}
+
+/// Whether a selection asks for a package.
+pub(crate) fn is_asked(selection: &Selection, package: &Package) -> bool {
+    let name = package.name.as_str();
+    if selection.workspace || selection.packages.is_empty() {
+        return package.member && !is_among(&selection.exclude, name);
+    }
+    package.member && is_among(&selection.packages, name)
+}
+
+/// The input that a package's manifest is.
+fn input_of<'a>(alloc: Global, package: &Package, inputs: &'a [Input]) -> Option<&'a Input> {
+    let path = normal(alloc, package.manifest_path.as_str()).ok()?;
+    for input in inputs {
+        if input.path.as_str() == path.as_str() {
+            return Some(input);
+        }
+    }
+    None
+}
+
+/// Whether a manifest has no version to set: it inherits none, and no value is written at `package.version`.
+fn lacks_version(alloc: Global, manifest: &Manifest) -> bool {
+    if manifest.version_is_inherited() {
+        return false;
+    }
+    match place_of(alloc, &["package", "version"]) {
+        Some(place) => !manifest.document.is_value(&place),
+        None => false,
+    }
+}
+
+/// How a member is left out.
+fn help_for(alloc: Global, package: &Package) -> Option<String> {
+    let name = package.name.as_str();
+    format!(in alloc; "leave this package out by `--exclude {name}`").ok()
+}
+
+/// The first package that is asked for and has no version to set.
+pub(crate) fn without_version(
+    alloc: Global,
+    selection: &Selection,
+    workspace: &Workspace,
+    inputs: &[Input],
+) -> Option<Explanation> {
+    for package in &workspace.packages {
+        if !is_asked(selection, package) {
+            continue;
+        }
+        let input = input_of(alloc, package, inputs)?;
+        let manifest = Manifest::read_bytes(alloc, &input.bytes).ok()?;
+        if lacks_version(alloc, &manifest) {
+            let name = package.name.as_str();
+            return Some(Explanation {
+                place: String::from_str(alloc, input.path.as_str()).ok(),
+                cause: format!(in alloc; "the package `{name}` has no `package.version`").ok(),
+                help: help_for(alloc, package),
+            });
+        }
+    }
+    None
+}
+
+/// Where the version of a package is written, or its manifest's path where it has no version there.
+fn version_position(alloc: Global, input: &Input, document: &Document) -> Option<String> {
+    let place = place_of(alloc, &["package", "version"])?;
+    entry_position(alloc, input, document, &place)
+}
+
+/// What is known of an error of a package's version; none where the package takes it from the workspace.
+fn version_fault(alloc: Global, package: &Package, inputs: &[Input]) -> Option<Explanation> {
+    let input = input_of(alloc, package, inputs)?;
+    let manifest = Manifest::read_bytes(alloc, &input.bytes).ok()?;
+    if manifest.version_is_inherited() {
+        return None;
+    }
+    let (name, version) = (package.name.as_str(), &package.version);
+    Some(Explanation {
+        place: version_position(alloc, input, &manifest.document),
+        cause: format!(in alloc; "the package `{name}` has the version {version}").ok(),
+        help: help_for(alloc, package),
+    })
+}
+
+/// The first package that is asked for and whose version the target refuses with this error.
+pub(crate) fn refused_version(
+    alloc: Global,
+    error: &Error,
+    target: &TargetVersion,
+    selection: &Selection,
+    workspace: &Workspace,
+    inputs: &[Input],
+) -> Option<Explanation> {
+    let metadata = selection.metadata.as_deref();
+    for package in &workspace.packages {
+        if !is_asked(selection, package) {
+            continue;
+        }
+        if let Err(own) = target.bump(alloc, &package.version, metadata) {
+            if is_same(alloc, &own, error) {
+                return version_fault(alloc, package, inputs);
+            }
+        }
+    }
+    None
+}
+
+/// The root's own version, where the target refuses it with this error.
+pub(crate) fn refused_root(
+    alloc: Global,
+    error: &Error,
+    target: &TargetVersion,
+    selection: &Selection,
+    inputs: &[Input],
+) -> Option<Explanation> {
+    let metadata = selection.metadata.as_deref();
+    let place = place_of(alloc, &["workspace", "package", "version"])?;
+    for input in inputs {
+        let manifest = Manifest::read_bytes(alloc, &input.bytes).ok()?;
+        let Some(version) = manifest.get_workspace_version(alloc).ok()? else {
+            continue;
+        };
+        if let Err(own) = target.bump(alloc, &version, metadata) {
+            if is_same(alloc, &own, error) {
+                return Some(Explanation {
+                    place: entry_position(alloc, input, &manifest.document, &place),
+                    cause: format!(in alloc; "`workspace.package.version` is {version}").ok(),
+                    help: None,
+                });
+            }
+        }
+    }
+    None
+}

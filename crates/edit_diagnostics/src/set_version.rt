@@ -1,0 +1,103 @@
+//! Errors of a plan of new versions.
+ghost use Rattle.std.specs.Prelude.{◌≡◌};
+
+use crate::members::{Explanation, refused_root, refused_version, without_version};
+use crate::requirements::refused_requirement;
+use crate::suggestions::suggestions;
+use edit_base::paths::join;
+use edit_base::{Error, MissingNames};
+use edit_metadata::{Input, Workspace};
+use edit_set_version::{Selection, TargetVersion};
+use edit_steps::{Refusal, at_input};
+use std::alloc::{AllocError, Global};
+
+/// What a user can do where an excluded member shares the version of the workspace.
+const SHARED: &str = "leave out `--exclude` for them: they take their version from the workspace";
+
+/// The members' names that are near missing ones.
+fn names_near(
+    alloc: Global,
+    missing: &MissingNames,
+    workspace: &Workspace,
+) -> Result<Option<String>, AllocError> {
+    let mut names = Vec::new(alloc);
+    for package in &workspace.packages {
+        if package.member {
+            names.push(package.name.as_str())?;
+        }
+    }
+    suggestions(alloc, missing, &names)
+}
+
+/// What is known where a name is of no member.
+fn missing_member(
+    alloc: Global,
+    missing: &MissingNames,
+    workspace: &Workspace,
+) -> Option<Explanation> {
+    Some(Explanation {
+        place: None,
+        cause: None,
+        help: names_near(alloc, missing, workspace).ok()?,
+    })
+}
+
+/// What is known where an excluded member shares the version of the workspace.
+fn shared_version(alloc: Global, workspace: &Workspace) -> Option<Explanation> {
+    Some(Explanation {
+        place: join(alloc, workspace.root.as_str(), "Cargo.toml").ok(),
+        cause: None,
+        help: String::from_str(alloc, SHARED).ok(),
+    })
+}
+
+/// What is known of an error of a plan of new versions, besides its text.
+fn explained(
+    alloc: Global,
+    error: &Error,
+    target: &TargetVersion,
+    selection: &Selection,
+    workspace: &Workspace,
+    inputs: &[Input],
+) -> Option<Explanation> {
+    match error {
+        Error::Memory => None,
+        Error::NoVersionPlace => without_version(alloc, selection, workspace, inputs),
+        Error::InvalidRequirement { .. } | Error::Unsupported { .. } => {
+            refused_requirement(alloc, error, selection, workspace, inputs)
+        }
+        Error::PackagesMissing(missing) => missing_member(alloc, missing, workspace),
+        Error::CannotExclude { .. } => shared_version(alloc, workspace),
+        _ => match refused_version(alloc, error, target, selection, workspace, inputs) {
+            Some(found) => Some(found),
+            None => refused_root(alloc, error, target, selection, inputs),
+        },
+    }
+}
+
+/// An error of a plan of new versions for a workspace, with where it arose and what can be done about it: the manifest that
+/// is no TOML, the package whose version is missing or cannot be raised, the requirement that cannot follow, or the
+/// member's name that is nearest to one that no member has.
+pub fn explain_set_version(
+    alloc: Global,
+    error: Error,
+    target: &TargetVersion,
+    selection: &Selection,
+    workspace: &Workspace,
+    inputs: &[Input],
+) -> Refusal
+    ensures { result.error ≡ error }
+{
+    if matches!(&error, Error::NotToml { .. } | Error::NotUtf8) {
+        return at_input(alloc, error, inputs);
+    }
+    match explained(alloc, &error, target, selection, workspace, inputs) {
+        Some(found) => Refusal {
+            error,
+            place: found.place,
+            cause: found.cause,
+            help: found.help,
+        },
+        None => Refusal::from(error),
+    }
+}

@@ -1,0 +1,10 @@
+use crate::nearest;
+
+#[test]
+fn finds_the_name_that_was_meant(rt: HostRuntime) {
+    let alloc = rt.alloc();
+    let names = ["serde", "serde_json", "syn"];
+    assert!(rt; nearest(alloc, "serd", &names) == Some("serde"));
+    assert!(rt; nearest(alloc, "serde_jsno", &names) == Some("serde_json"));
+    assert!(rt; nearest(alloc, "tokio", &names).is_none());
+}

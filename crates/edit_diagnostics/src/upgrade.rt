@@ -1,0 +1,90 @@
+//! Errors of the plan of an upgrade.
+ghost use Rattle.std.specs.Prelude.{◌≡◌};
+ghost use Rattle.edit_store.specs.Store.{OnlyReads};
+
+use crate::index_files::index_files;
+use crate::registries::first_fault;
+use crate::sources::registry_help;
+use edit_base::Error;
+use edit_metadata::Input;
+use edit_sources::Config;
+use edit_steps::upgrade_read::Asked;
+use edit_steps::{Refusal, absolute, at_first, at_input};
+use edit_store::Store;
+use std::alloc::Global;
+
+/// What a line of an index has to be.
+const INDEX_LINE: &str = "a line of an index is a JSON object with strings `name` and `vers`";
+
+/// An error of reading an index, with the file that it arose in.
+fn at_index<S: Store>(
+    alloc: Global,
+    error: Error,
+    dir: Option<&str>,
+    inputs: &[Input],
+    configs: &[Vec<Config>],
+    files: &mut S,
+) -> Refusal
+    ensures same { result.error ≡ error }
+    ensures reads { OnlyReads (S.view files.old) (S.view files.new) }
+{
+    let paths = index_files(alloc, dir, inputs, configs);
+    let cause = match &error {
+        Error::IndexLine { .. } => String::from_str(alloc, INDEX_LINE).ok(),
+        _ => None,
+    };
+    let refusal = at_first(alloc, error, &paths, files);
+    Refusal { cause, ..refusal }
+}
+
+/// An error of an entry that is looked up, with its place.
+fn at_entry(alloc: Global, error: Error, inputs: &[Input], configs: &[Vec<Config>]) -> Refusal
+    ensures { result.error ≡ error }
+{
+    let help = registry_help(alloc, &error);
+    match first_fault(alloc, &error, inputs, configs) {
+        Some(fault) => Refusal {
+            error,
+            place: fault.place,
+            cause: fault.cause,
+            help,
+        },
+        None => Refusal {
+            error,
+            place: None,
+            cause: None,
+            help,
+        },
+    }
+}
+
+/// The folder of an index that is named, as an absolute path.
+fn folder_named(alloc: Global, asked: &Asked<'_>, current: &str) -> Option<String> {
+    absolute(alloc, current, asked.index_dir?).ok()
+}
+
+/// An error of the plan of an upgrade over these manifests, with where it arose and what can be done about it: the
+/// manifest that is no TOML, the entry whose registry or name is refused, or the file of the index. Files are read again
+/// for it, and none changes.
+pub fn explain_upgrade<S: Store>(
+    alloc: Global,
+    error: Error,
+    asked: &Asked<'_>,
+    current: &str,
+    inputs: &[Input],
+    configs: &[Vec<Config>],
+    files: &mut S,
+) -> Refusal
+    ensures same { result.error ≡ error }
+    ensures reads { OnlyReads (S.view files.old) (S.view files.new) }
+{
+    match &error {
+        Error::Memory => Refusal::from(error),
+        Error::NotToml { .. } | Error::NotUtf8 => at_input(alloc, error, inputs),
+        Error::IndexLine { .. } | Error::Device(_) => {
+            let dir = folder_named(alloc, asked, current);
+            at_index(alloc, error, dir.as_deref(), inputs, configs, files)
+        }
+        _ => at_entry(alloc, error, inputs, configs),
+    }
+}

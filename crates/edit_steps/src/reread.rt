@@ -1,0 +1,66 @@
+//! The file at fault among several, found by reading them again.
+ghost use Rattle.std.specs.Prelude.{◌≡◌, ◌<◌, ◌^◌, IfSome, length};
+ghost use Rattle.edit_store.specs.Store.{OnlyReads};
+
+use crate::refusal::{Refusal, at_path};
+use edit_base::Error;
+use edit_sources::FileIndex;
+use edit_store::Store;
+use std::alloc::Global;
+
+/// Whether bytes are refused as lines of an index with this error.
+fn is_bad_index(alloc: Global, error: &Error, bytes: &[u8]) -> bool {
+    let Error::IndexLine { line } = error else {
+        return false;
+    };
+    match FileIndex::read(alloc, bytes) {
+        Err(Error::IndexLine { line: own }) => own == *line,
+        _ => false,
+    }
+}
+
+/// Whether reading the file at a path gives this error: it is not there, its device fails, or a line of it is not one
+/// of an index.
+fn gives<S: Store>(alloc: Global, error: &Error, path: &str, files: &mut S) -> bool
+    ensures reads { OnlyReads (S.view files.old) (S.view files.new) }
+{
+    match files.read(alloc, path) {
+        Ok(Some(bytes)) => is_bad_index(alloc, error, &bytes),
+        Ok(None) => matches!(error, Error::NoManifest),
+        Err(_) => matches!(error, Error::Device(_)),
+    }
+}
+
+/// The first of these paths whose file gives this error.
+fn first_giving<S: Store>(
+    alloc: Global,
+    error: &Error,
+    paths: &[String],
+    files: &mut S,
+) -> Option<usize>
+    ensures reads { OnlyReads (S.view files.old) (S.view files.new) }
+    ensures within { IfSome result (λ i. i < length paths.now) }
+{
+    'paths: for (i, path) in paths.iter().enumerate() {
+        if gives(alloc, error, path.as_str(), files) {
+            return Some(i);
+        }
+    }
+    None
+}
+
+/// An error of reading one of several files, with the first of their paths that gives it when it is read again: a
+/// manifest that is not there, an entry of an index with a bad line, a file whose device fails. Another error, or one
+/// that is not seen again, stays without a place.
+pub fn at_first<S: Store>(alloc: Global, error: Error, paths: &[String], files: &mut S) -> Refusal
+    ensures same { result.error ≡ error }
+    ensures reads { OnlyReads (S.view files.old) (S.view files.new) }
+    ensures counted { (S.view files.new).faults < 2 ^ 64 }
+{
+    let first = first_giving(alloc, &error, paths, files);
+    let _faults = files.faults();
+    match first {
+        Some(i) => at_path(alloc, error, paths[i].as_str()),
+        None => Refusal::from(error),
+    }
+}

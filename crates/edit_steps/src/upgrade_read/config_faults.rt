@@ -1,0 +1,107 @@
+//! The configuration file that an error is about.
+ghost use Rattle.std.specs.Prelude.{◌≡◌, ◌<◌, ◌^◌};
+ghost use Rattle.edit_store.specs.Store.{OnlyReads};
+
+use crate::refusal::{Refusal, shown_position};
+use crate::reread::at_first;
+use crate::toml_fault::toml_fault;
+use edit_base::paths::{folder, join};
+use edit_base::{CargoResult, Error};
+use edit_metadata::Input;
+use edit_store::Store;
+use std::alloc::Global;
+use std::collections::BTreeSet;
+
+/// What a configuration has to be that is TOML.
+const SHAPE: &str =
+    "`registries` and `source` have to be tables of tables, and `index`, `registry` and `replace-with` in these strings";
+
+/// Adds the two files that hold a folder's configuration, unless the folder was seen before.
+fn push_files(
+    alloc: Global,
+    folder: &str,
+    seen: &mut BTreeSet<String>,
+    paths: &mut Vec<String>,
+) -> CargoResult<()> {
+    if seen.insert(String::from_str(alloc, folder)?)? {
+        paths.push(join(alloc, folder, "config")?)?;
+        paths.push(join(alloc, folder, "config.toml")?)?;
+    }
+    Ok(())
+}
+
+/// Where the configurations of manifests and the one at home may stand, each path once.
+fn config_paths(
+    alloc: Global,
+    inputs: &[Input],
+    cargo_home: Option<&str>,
+) -> CargoResult<Vec<String>> {
+    let mut seen = BTreeSet::new(alloc);
+    let mut paths = Vec::new(alloc);
+    for input in inputs {
+        let mut above = String::new(alloc);
+        for name in folder(input.path.as_str()).split('/') {
+            above.push_str(name)?;
+            above.push('/')?;
+            let place = join(alloc, above.as_str(), ".cargo")?;
+            push_files(alloc, place.as_str(), &mut seen, &mut paths)?;
+        }
+    }
+    if let Some(home) = cargo_home {
+        push_files(alloc, home, &mut seen, &mut paths)?;
+    }
+    Ok(paths)
+}
+
+/// The place and the cause of the error of a configuration file: where it stops being TOML, else what it has to be.
+fn place_and_cause<S: Store>(
+    alloc: Global,
+    path: &str,
+    files: &mut S,
+) -> (Option<String>, Option<String>)
+    ensures reads { OnlyReads (S.view files.old) (S.view files.new) }
+{
+    let bytes = match files.read(alloc, path) {
+        Ok(Some(bytes)) => bytes,
+        _ => return (String::from_str(alloc, path).ok(), None),
+    };
+    match toml_fault(alloc, &bytes) {
+        Some(fault) => (
+            shown_position(alloc, path, &bytes, fault.at),
+            Some(fault.message),
+        ),
+        None => (
+            String::from_str(alloc, path).ok(),
+            String::from_str(alloc, SHAPE).ok(),
+        ),
+    }
+}
+
+/// An error of reading configurations, with the file at fault.
+pub(crate) fn at_config<S: Store>(
+    alloc: Global,
+    error: Error,
+    inputs: &[Input],
+    cargo_home: Option<&str>,
+    files: &mut S,
+) -> Refusal
+    ensures same { result.error ≡ error }
+    ensures reads { OnlyReads (S.view files.old) (S.view files.new) }
+    ensures counted { (S.view files.new).faults < 2 ^ 64 }
+{
+    if let Error::Config { path } = &error {
+        let (place, cause) = place_and_cause(alloc, path.as_str(), files);
+        let _faults = files.faults();
+        return Refusal {
+            error,
+            place,
+            cause,
+            help: None,
+        };
+    }
+    let paths = match config_paths(alloc, inputs, cargo_home) {
+        Ok(paths) => paths,
+        Err(_) => Vec::new(alloc),
+    };
+    at_first(alloc, error, &paths, files)
+}
