@@ -1,11 +1,14 @@
 -- Lists that are made number by number.
-use Rattle.std.proofs.Common.{◌≡◌, ℕ, ◌+◌, ◌<◌, ◌≤◌, suc, List, [], ◌∷◌, ◌++◌, map, true, false, length, drop, refl, ap, sym, ◌∙◌, arith}
-use Rattle.std.specs.List.{flat_map, range_with_len}
+use Rattle.std.proofs.Common.{◌≡◌, ℕ, ◌+◌, ◌<◌, ◌≤◌, suc, Bool, List, [], ◌∷◌, ◌++◌, map, true, false, cond, length, take, drop, get_or, refl, ap, sym, ◌∙◌, ⊎_elim, add-zero, arith}
+use Rattle.std.specs.List.{count_by, flat_map, range_with_len}
 use Rattle.std.proofs.Math.ListN.{drop_of_length-le}
+use Rattle.std.proofs.lemmas.Bool.{cases_Bool}
 use Rattle.std.proofs.lemmas.Grind.{flat_map-append}
 use Rattle.std.proofs.lemmas.List.{append-nil, drop_more, map-append}
 use Rattle.std.proofs.lemmas.List.FromFn.{get_or-map-range_with_len, length-map-range_with_len, map-range_with_len_more}
-use Rattle.edit_shown.specs.Shown.{is_shown, leading, shown_lines}
+use Rattle.std.proofs.lemmas.List.Sums.{count_by_more_no, count_by_more_yes}
+use Rattle.edit_shown.specs.Hunks.{AreCounted}
+use Rattle.edit_shown.specs.Shown.{is_new, is_old, is_shown, leading, shown_lines}
 use Rattle.edit_shown.specs.declared.diff.marks.Mark.{Mark}
 
 id-map : (xs : List ℕ) → map (λ x. x) xs ≡ xs
@@ -65,3 +68,24 @@ one_more g f n piece old new added before is =
     added ∙ ap (λ xs. xs ++ map g piece) before
     ∙ ap (λ m. map g (flat_map f (range_with_len 0 n)) ++ map g m) is
     ∙ sym (taken_more g f n)
+
+-- one line more, counted where it is one of those
+count_more : (is : Mark → Bool) (marks : List Mark) (i : ℕ) (end : Mark) (count more : ℕ) → i < length marks
+    → count ≡ count_by is (take i marks)
+    → more ≡ count + cond (is (get_or marks i end)) 1 0 → more ≡ count_by is (take (i + 1) marks)
+count_more is marks i end count more within before added = ⊎_elim
+    (λ yes. added ∙ ap (λ b. count + cond b 1 0) yes ∙ ap (λ n. n + 1) before
+    ∙ sym (count_by_more_yes is marks i end within yes))
+    (λ no. added ∙ ap (λ b. count + cond b 1 0) no ∙ add-zero count ∙ before
+    ∙ sym (count_by_more_no is marks i end within no))
+    (cases_Bool (is (get_or marks i end)))
+
+-- one line more, counted in both texts
+pub counted_more : (marks : List Mark) (i : ℕ) (end : Mark) (old new old' new' : ℕ) → i < length marks
+    → AreCounted (take i marks) old new
+    → old' ≡ old + cond (is_old (get_or marks i end)) 1 0 → new' ≡ new + cond (is_new (get_or marks i end)) 1 0
+    → AreCounted (take (i + 1) marks) old' new'
+counted_more marks i end old new old' new' within before older newer = record {
+  old_lines = count_more is_old marks i end old old' within before.old_lines older;
+  new_lines = count_more is_new marks i end new new' within before.new_lines newer;
+}

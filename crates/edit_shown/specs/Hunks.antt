@@ -1,6 +1,6 @@
 -- The parts of a unified diff: a head, and lines behind their signs
 -- (POSIX, "diff", Diff -u or -U Output Format).
-use Rattle.std.specs.Prelude.{ℕ, ◌+◌, ◌-◌, List, [], ◌∷◌, ◌++◌, Bool, not, ◌||◌, ◌==◌, codes, decimal, length, drop, take, slice_index, slice_index_or, if◌then◌else◌}
+use Rattle.std.specs.Prelude.{◌≡◌, ℕ, ◌+◌, ◌-◌, List, [], ◌∷◌, ◌++◌, Bool, not, ◌||◌, ◌==◌, codes, decimal, length, drop, take, slice_index, slice_index_or, if◌then◌else◌}
 use Rattle.std.specs.List.{count_by, flat_map, range_with_len}
 use Rattle.edit_shown.specs.declared.diff.marks.Mark.{Mark}
 use Rattle.edit_shown.specs.declared.diff.marks.Mark.TheVariants.{Kept, Removed, Added}
@@ -35,11 +35,20 @@ range_text before count =
     if count == 1 then decimal (first_number before count)
     else decimal (first_number before count) ++ (codes "," ++ decimal count)
 
+-- how many lines of the old and of the new text are among lines (own)
+pub record AreCounted (marks : List Mark) (old new : ℕ) : Type 0 where
+  pub old_lines : old ≡ count_by is_old marks
+  pub new_lines : new ≡ count_by is_new marks
+
+-- the head of a part behind so many lines of the old and of the new text (POSIX, "diff", Diff -u)
+abbrev pub head_behind : ℕ → ℕ → List Mark → List ℕ
+head_behind old new part =
+    codes "@@ -" ++ (range_text old (count_by is_old part)
+    ++ (codes " +" ++ (range_text new (count_by is_new part) ++ codes " @@\n")))
+
 -- the head of a part behind some lines (POSIX, "diff", Diff -u)
 abbrev pub head_text : List Mark → List Mark → List ℕ
-head_text before part =
-    codes "@@ -" ++ (range_text (count_by is_old before) (count_by is_old part)
-    ++ (codes " +" ++ (range_text (count_by is_new before) (count_by is_new part) ++ codes " @@\n")))
+head_text before part = head_behind (count_by is_old before) (count_by is_new before) part
 
 -- the head of the part that begins at a line: it has all lines that are shown in a row (own)
 abbrev pub head_at : List Mark → ℕ → List ℕ

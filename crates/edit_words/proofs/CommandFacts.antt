@@ -28,6 +28,15 @@ no_index_file : fault_of edit_app (codes "upgrade" ∷ codes "--manifest-path" �
 unfolding clap_on_literals edit_app
 no_index_file = refl
 
+no_name : fault_of edit_app (codes "upgrade" ∷ codes "-p" ∷ [] ∷ []) ≡ kind.InvalidValue ∷ []
+unfolding clap_on_literals edit_app
+no_name = refl
+
+no_excluded_name : fault_of edit_app (codes "set-version" ∷ codes "--metadata-json" ∷ codes "m" ∷ codes "--exclude="
+    ∷ []) ≡ kind.InvalidValue ∷ []
+unfolding clap_on_literals edit_app
+no_excluded_name = refl
+
 help : fault_of edit_app (codes "upgrade" ∷ codes "--help" ∷ []) ≡ kind.DisplayHelp ∷ []
 unfolding clap_on_literals edit_app
 help = refl

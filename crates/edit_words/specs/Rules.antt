@@ -28,14 +28,14 @@ choice_rule id =
       parser = Some value.String;
     }
 
--- an option that may be given any number of times, each time with one value
+-- an option that may be given any number of times, each time with one value, which is not the empty text
 abbrev pub list_rule : Text → Rule
 list_rule id =
     record (new_rule id) {
       long = Some id;
       action = Some Append;
       value_names = 1;
-      parser = Some value.String;
+      parser = Some value.NonEmptyString;
     }
 
 -- a flag

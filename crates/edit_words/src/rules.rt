@@ -23,7 +23,7 @@ pub(crate) enum Form<'a> {
     Choice(&'a str),
     /// An option that may be given, with `true` or `false`.
     Truth(&'a str),
-    /// An option that may be given any number of times, each time with a value.
+    /// An option that may be given any number of times, each time with a value that is not empty.
     List(&'a str),
     /// A flag.
     Flag,
@@ -110,7 +110,12 @@ fn formed<'a>(alloc: Global, word: Word<'a>) -> Arg<'a>
         Form::Needed(value) => path(arg.long(id), value).required(true),
         Form::Choice(value) => taking(arg.long(id), value, ArgAction::Set, ValueParser::String),
         Form::Truth(value) => taking(arg.long(id), value, ArgAction::Set, ValueParser::Bool),
-        Form::List(value) => taking(arg.long(id), value, ArgAction::Append, ValueParser::String),
+        Form::List(value) => taking(
+            arg.long(id),
+            value,
+            ArgAction::Append,
+            ValueParser::NonEmptyString,
+        ),
         Form::Flag => arg.long(id).action(ArgAction::SetTrue),
         Form::Counted => arg.long(id).action(ArgAction::Count),
     }

@@ -1,6 +1,8 @@
 //! The lines of a diff, and the heads of its parts.
-ghost use Rattle.std.specs.Prelude.{◌≡◌, ◌+◌, ◌^◌, ◌<◌, ◌++◌, IfOk, OnOk, length, map, string_bytes};
+ghost use Rattle.std.specs.Prelude.{◌≡◌, ◌+◌, ◌^◌, ◌<◌, ◌++◌, IfOk, OnOk, if◌then◌else◌, length, map, string_bytes, take};
 ghost use Rattle.edit_shown.specs.Hunks as spec;
+ghost use Rattle.edit_shown.specs.Hunks.{AreCounted};
+ghost use Rattle.edit_shown.specs.Shown.{is_new, is_old};
 
 use crate::diff::marks::Mark;
 use crate::diff::shown::{count_new, count_old, is_shown, part_length};
@@ -83,20 +85,54 @@ fn push_range(
     Ok(())
 }
 
-/// Adds the head of a part behind some lines.
+/// How many lines of the old and of the new text come before a line of a diff.
+#[derive(Clone, Copy)]
+struct LineCounts {
+    old: usize,
+    new: usize,
+}
+
+impl LineCounts {
+    /// The counts before the next line, where this line has a mark.
+    fn past(self, mark: Mark) -> LineCounts
+        requires old { self.old + 1 < 2 ^ 64 }
+        requires new { self.new + 1 < 2 ^ 64 }
+        ensures old { result.old ≡ self.old + (if is_old mark then 1 else 0) }
+        ensures new { result.new ≡ self.new + (if is_new mark then 1 else 0) }
+    {
+        match mark {
+            Mark::Kept => LineCounts {
+                old: self.old + 1,
+                new: self.new + 1,
+            },
+            Mark::Removed => LineCounts {
+                old: self.old + 1,
+                new: self.new,
+            },
+            Mark::Added => LineCounts {
+                old: self.old,
+                new: self.new + 1,
+            },
+        }
+    }
+}
+
+/// Adds the head of a part; `before` has the lines that come before it.
 fn push_head(
     alloc: Global,
     text: &mut Vec<u8>,
-    before: &[Mark],
+    before: LineCounts,
     part: &[Mark],
 ) -> Result<(), AllocError>
-    requires { length before.now + length part.now < 2 ^ 64 }
-    ensures ok { OnOk result (text.new.items ≡ text.old.items ++ spec.head_text before.now part.now) }
+    requires old { before.old + length part.now < 2 ^ 64 }
+    requires new { before.new + length part.now < 2 ^ 64 }
+    ensures ok { OnOk result (text.new.items
+        ≡ text.old.items ++ spec.head_behind before.old before.new part.now) }
 {
     text.extend_from_slice(b"@@ -")?;
-    push_range(alloc, text, count_old(before), count_old(part))?;
+    push_range(alloc, text, before.old, count_old(part))?;
     text.extend_from_slice(b" +")?;
-    push_range(alloc, text, count_new(before), count_new(part))?;
+    push_range(alloc, text, before.new, count_new(part))?;
     text.extend_from_slice(b" @@\n")?;
     Ok(())
 }
@@ -109,21 +145,23 @@ fn begins(marks: &[Mark], i: usize) -> bool
     i == 0 || !is_shown(marks, i - 1)
 }
 
-/// Adds the head of a part where one begins at a line that is shown.
+/// Adds the head of a part where one begins at a line that is shown. `before` has the lines that come before
+/// it.
 fn push_head_at(
     alloc: Global,
     text: &mut Vec<u8>,
     marks: &[Mark],
+    before: LineCounts,
     i: usize,
 ) -> Result<(), AllocError>
-    requires { i < length marks.now }
+    requires within { i < length marks.now }
+    requires counted { AreCounted (take i marks.now) before.old before.new }
     ensures ok { OnOk result (text.new.items ≡ text.old.items ++ spec.head_where marks.now i) }
 {
     if !begins(marks, i) {
         return Ok(());
     }
-    let (before, after) = marks.split_at(i);
-    let (part, _) = after.split_at(part_length(marks, i));
+    let part = &marks[i..i + part_length(marks, i)];
     push_head(alloc, text, before, part)
 }
 
@@ -133,17 +171,19 @@ fn push_at(
     text: &mut Vec<u8>,
     marks: &[Mark],
     lines: &[&[u8]],
+    before: LineCounts,
     i: usize,
 ) -> Result<(), AllocError>
     requires within { i < length marks.now }
     requires lines { length lines.now ≡ length marks.now }
+    requires counted { AreCounted (take i marks.now) before.old before.new }
     ensures ok { OnOk result (text.new.items
         ≡ text.old.items ++ spec.text_at marks.now (map (λ l. l.now) lines.now) i) }
 {
     if !is_shown(marks, i) {
         return Ok(());
     }
-    push_head_at(alloc, text, marks, i)?;
+    push_head_at(alloc, text, marks, before, i)?;
     push_line(text, marks[i], lines[i])
 }
 
@@ -158,8 +198,10 @@ pub(crate) fn push_parts(
     ensures ok { OnOk result (text.new.items
         ≡ text.old.items ++ spec.parts_text marks.now (map (λ l. l.now) lines.now)) }
 {
+    let mut before = LineCounts { old: 0, new: 0 };
     for i in 0..marks.len() {
-        push_at(alloc, text, marks, lines, i)?;
+        push_at(alloc, text, marks, lines, before, i)?;
+        before = before.past(marks[i]);
     }
     Ok(())
 }

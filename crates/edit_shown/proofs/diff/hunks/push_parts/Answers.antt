@@ -1,6 +1,6 @@
-use Rattle.std.proofs.Common.{◌++◌, ◌∙◌, Bor, List, ap, append_assoc, map, sym, ℕ}
+use Rattle.std.proofs.Common.{◌++◌, ◌∙◌, Bor, List, ap, append_assoc, arith, map, sym, ℕ}
 use Rattle.std.specs.List.{flat_map, range_with_len}
-use Rattle.edit_shown.proofs.MarkLemmas.{pieces_more}
+use Rattle.edit_shown.proofs.MarkLemmas.{counted_more, pieces_more}
 use Rattle.edit_shown.specs.Hunks.{text_at}
 use Rattle.edit_shown.proofs.diff.hunks.push_parts.Goals as goal
 
@@ -8,7 +8,12 @@ pub loop-i-preserved : goal.loop-i-preserved
 loop-i-preserved c =
     let piece = text_at c.args.marks.now (map (λ (l : Bor (List ℕ)). l.now) c.args.lines.now) in
     let front = flat_map piece (range_with_len 0 c.loop-i.i) in
-    c.in_ok-push_at.ensures.ok
-    ∙ ap (λ (t : List ℕ). t ++ piece c.loop-i.i) c.loop-i.invariant
-    ∙ append_assoc c.args.text.now.items front (piece c.loop-i.i)
-    ∙ sym (ap (λ (t : List ℕ). c.args.text.now.items ++ t) (pieces_more piece c.loop-i.i))
+    record {
+      text = c.in_ok-push_at.ensures.ok
+          ∙ ap (λ (t : List ℕ). t ++ piece c.loop-i.i) c.loop-i.invariant.text
+          ∙ append_assoc c.args.text.now.items front (piece c.loop-i.i)
+          ∙ sym (ap (λ (t : List ℕ). c.args.text.now.items ++ t) (pieces_more piece c.loop-i.i));
+      counted = counted_more c.args.marks.now c.loop-i.i _ c.loop-i.before.old c.loop-i.before.new
+          c.past-before.result.old c.past-before.result.new (omega arith)
+          c.loop-i.invariant.counted c.past-before.ensures.old c.past-before.ensures.new;
+    }

@@ -1,9 +1,12 @@
-use Rattle.std.proofs.Common.{◌≡◌, ◌++◌, map}
+use Rattle.std.proofs.Common.{◌≡◌, ◌++◌, map, take}
 use Rattle.std.specs.List.{flat_map, range_with_len}
-use Rattle.edit_shown.specs.Hunks.{text_at}
+use Rattle.edit_shown.specs.Hunks.{AreCounted, text_at}
 use Rattle.edit_shown.proofs.diff.hunks.push_parts.Given as goal
 
--- what stands of the lines so far
+-- what stands of the lines so far, and how many they are
 abbrev pub invariant-loop-i : goal.invariant-loop-i
-invariant-loop-i l = l.text.items ≡ l.initial.text.items
-    ++ flat_map (text_at l.marks (map (λ x. x.now) l.lines)) (range_with_len 0 l.i)
+invariant-loop-i l = record {
+  text : l.text.items ≡ l.initial.text.items
+      ++ flat_map (text_at l.marks (map (λ x. x.now) l.lines)) (range_with_len 0 l.i);
+  counted : AreCounted (take l.i l.marks) l.before.old l.before.new;
+}
