@@ -132,6 +132,7 @@ fn sources_of(rt: &HostRuntime, folder: &str) -> CargoResult<Sources>
         config: None,
         default_config: None,
         rust: RustChoice::Ignored,
+        writes: false,
     };
     match read_sources(rt.alloc(), &asked, folder, None, &mut files) {
         Ok(sources) => Ok(sources),

@@ -74,7 +74,15 @@ fn workspace_of(rt: &HostRuntime, folder: &str) -> CargoResult<ReadWorkspace>
     ensures paths { IfOk result (λ r. HaveOwnPaths r.inputs.items) }
 {
     let mut files = HostStore::new(rt.clone()?);
-    match read_workspace(rt.alloc(), "metadata.json", folder, None, true, &mut files) {
+    match read_workspace(
+        rt.alloc(),
+        "metadata.json",
+        folder,
+        None,
+        true,
+        false,
+        &mut files,
+    ) {
         Ok(read) => Ok(read),
         Err(refusal) => Err(refusal.error),
     }

@@ -1,10 +1,15 @@
 //! The subcommand `fetch-plan`: which index entries are to be fetched, as a configuration of curl.
 
 mod arguments;
+mod configurations;
+mod environment;
 mod tokens;
+mod unread;
 
 use crate::machine::{machine_error, variable};
+use crate::streams::errors;
 use arguments::{FetchArguments, USAGE, read_arguments};
+use configurations::{all_configs, write_configurations};
 use edit_base::paths::join;
 use edit_base::{CargoResult, Error};
 use edit_fetch::{Environment, FetchPlan, NetSettings, Token, net_settings};
@@ -15,9 +20,10 @@ use edit_store::HostStore;
 use std::io::Write;
 use std::str;
 use tokens::registry_tokens;
+use unread::unread_error;
 
-/// Runs `fetch-plan` with these arguments, and answers its status: that of `looks` where that is not 0, and 2
-/// for a usage error.
+/// Runs `fetch-plan` with these arguments, and answers its status: that of `looks` where that is not 0, 1 for
+/// registries of which no entry can be had, and 2 for a usage error.
 pub(crate) fn fetch_plan(
     rt: &HostRuntime,
     arguments: &[&str],
@@ -28,15 +34,32 @@ pub(crate) fn fetch_plan(
         let _ = writeln!(rt.stderr(), "{USAGE}");
         return Ok(2);
     };
+    let mut files = HostStore::new(rt.clone()?);
+    let room = join(rt.alloc(), current, arguments.room)?;
+    let all = all_configs(rt, &mut files, arguments.upgrade, current, home)?;
+    let environment = write_configurations(rt, &mut files, room.as_str(), &all)?;
     let mut text = Vec::new(rt.alloc());
     let status = lookups_text(rt, &arguments, current, home, &mut text)?;
     if status != 0 {
         return Ok(status);
     }
-    match str::from_utf8(&text) {
-        Ok(text) => plan_lookups(rt, &arguments, current, home, text),
-        Err(_) => Err(Error::NotUtf8),
+    let Ok(text) = str::from_utf8(&text) else {
+        return Err(Error::NotUtf8);
+    };
+    let manifest_path = join(rt.alloc(), current, "Cargo.toml")?;
+    let configs = read_configs(rt.alloc(), &mut files, manifest_path.as_str(), home)?;
+    let mut settings = settings(rt, &mut files, &configs)?;
+    settings.offline = settings.offline || arguments.offline;
+    if !settings.offline
+        && let Some(error) = unread_error(rt, text, arguments.upgrade, &environment, &all)?
+    {
+        let _ = writeln!(rt.stderr(), "Error: {error}");
+        return Ok(1);
     }
+    let tokens = registry_tokens(rt, &environment, &configs)?;
+    plan_lookups(
+        rt, &mut files, &arguments, current, &settings, &tokens, text,
+    )
 }
 
 /// Runs `looks` with the arguments of the upgrade, and answers its status; what it prints is added to `text`.
@@ -54,6 +77,7 @@ fn lookups_text(
     }
     let mut files = HostStore::new(rt.clone()?);
     let index_files = HostStore::new(rt.clone()?);
+    let mut err = errors(rt)?;
     Ok(run(
         rt.alloc(),
         &words,
@@ -62,26 +86,22 @@ fn lookups_text(
         &mut files,
         index_files,
         text,
-        &mut rt.stderr(),
+        &mut err,
     ))
 }
 
 /// Plans the transfers of lookups, and prints their count.
 fn plan_lookups(
     rt: &HostRuntime,
+    files: &mut HostStore<HostRuntime>,
     arguments: &FetchArguments<'_>,
     current: &str,
-    home: Option<&str>,
+    settings: &NetSettings,
+    owned: &[(String, String)],
     text: &str,
 ) -> CargoResult<u8> {
-    let mut files = HostStore::new(rt.clone()?);
-    let manifest_path = join(rt.alloc(), current, "Cargo.toml")?;
-    let configs = read_configs(rt.alloc(), &mut files, manifest_path.as_str(), home)?;
-    let mut settings = settings(rt, &mut files, &configs)?;
-    settings.offline = settings.offline || arguments.offline;
-    let owned = registry_tokens(rt, &configs)?;
     let mut tokens = Vec::new(rt.alloc());
-    for (address, token) in &owned {
+    for (address, token) in owned {
         tokens.push(Token {
             address: address.as_str(),
             token: token.as_str(),
@@ -92,10 +112,10 @@ fn plan_lookups(
     let plan = FetchPlan {
         cache: cache.as_str(),
         room: room.as_str(),
-        settings: &settings,
+        settings,
         tokens: &tokens,
     };
-    write_plan(rt, &mut files, &plan, text)
+    write_plan(rt, files, &plan, text)
 }
 
 /// Writes the plan, and prints the count of transfers.

@@ -1,14 +1,16 @@
-//! The subcommand `fetch-store`: stores the index entries that curl fetched.
+//! The subcommands `fetch-store`, which stores the index entries that curl fetched, and `check-curl`.
 
 use crate::options::value_of;
-use edit_answers::{CacheStore, Places, Report, store_answers};
+use crate::parsing::{parse_words, print_parse_error, words_of};
+use edit_answers::{CacheStore, Places, Report, StoreOptions, is_new_enough, prune, store_answers};
 use edit_base::paths::join;
 use edit_base::{CargoResult, DeviceCall, Error};
 use std::io::Write;
-use std::process;
+use std::{fs, process};
 
 /// What is printed for arguments that are not those of `fetch-store`.
-const USAGE: &str = "Usage: cargo-edit fetch-store --cache DIR --room DIR [--offline]";
+const USAGE: &str =
+    "Usage: cargo-edit fetch-store --cache DIR --room DIR [--offline] -- UPGRADE-ARGUMENTS..";
 
 /// The arguments of `fetch-store`.
 #[derive(Clone, Copy, Debug)]
@@ -19,10 +21,15 @@ struct StoreArguments<'a> {
     room: &'a str,
     /// Whether nothing was to be fetched.
     offline: bool,
+    /// The arguments of the upgrade whose index entries were fetched.
+    upgrade: &'a [&'a str],
 }
 
-/// Reads options; none where an option is unknown, has no value or is missing.
-fn read_arguments<'a>(options: &[&'a str]) -> Option<StoreArguments<'a>> {
+/// Reads options up to `--`; none where an option is unknown, has no value or is missing.
+fn read_arguments<'a>(arguments: &'a [&'a str]) -> Option<StoreArguments<'a>> {
+    let end = arguments.iter().position(|argument| *argument == "--")?;
+    let options = arguments.get(..end)?;
+    let upgrade = arguments.get(end + 1..)?;
     let cache = value_of(options, "--cache")?;
     let room = value_of(options, "--room")?;
     let offline = options.iter().any(|option| *option == "--offline");
@@ -34,30 +41,67 @@ fn read_arguments<'a>(options: &[&'a str]) -> Option<StoreArguments<'a>> {
         cache,
         room,
         offline,
+        upgrade,
     })
 }
 
 /// Runs `fetch-store` with these arguments, and answers its status: 1 where entries are neither fetched nor
 /// cached, and 2 for a usage error.
-pub(crate) fn fetch_store(rt: &HostRuntime, arguments: &[&str], current: &str) -> CargoResult<u8> {
+pub(crate) fn fetch_store<E: Write>(
+    rt: &HostRuntime,
+    arguments: &[&str],
+    current: &str,
+    err: &mut E,
+) -> CargoResult<u8> {
     let Some(arguments) = read_arguments(arguments) else {
-        let _ = writeln!(rt.stderr(), "{USAGE}");
+        let _ = writeln!(err, "{USAGE}");
         return Ok(2);
     };
+    let words = words_of(rt.alloc(), "upgrade", arguments.upgrade)?;
+    let matches = match parse_words(rt.alloc(), &words) {
+        Ok(matches) => matches,
+        Err(error) => return print_parse_error(&error, &mut rt.stdout(), err),
+    };
+    let upgrade = matches.subcommand().map(|(_, matches)| matches);
+    let excluded = upgrade
+        .and_then(|matches| matches.get_strs("exclude"))
+        .unwrap_or(&[]);
+    let options = StoreOptions {
+        offline: arguments.offline,
+        excluded,
+    };
+    store(rt, &arguments, &options, current, err)
+}
+
+/// Stores the answers of a run, says what was not had, removes what was not used for a long time, and answers
+/// the status.
+fn store<E: Write>(
+    rt: &HostRuntime,
+    arguments: &StoreArguments<'_>,
+    options: &StoreOptions<'_>,
+    current: &str,
+    err: &mut E,
+) -> CargoResult<u8> {
     let cache = join(rt.alloc(), current, arguments.cache)?;
     let room = join(rt.alloc(), current, arguments.room)?;
     let places = Places {
         cache: cache.as_str(),
         room: room.as_str(),
     };
+    let index = join(rt.alloc(), room.as_str(), "index")?;
+    if fs::create_dir_all(rt, index.as_str()).is_err() {
+        let _ = writeln!(err, "Error: Failed to make the folder {index}");
+        return Ok(1);
+    }
     let mut files = CacheStore::new(rt.clone()?, process::id(rt.process()));
-    match store_answers(rt.alloc(), &mut files, &places, arguments.offline) {
-        Ok(report) => Ok(print_report(rt, &report)),
+    match store_answers(rt.alloc(), &mut files, &places, options) {
+        Ok(report) => {
+            // (an entry that cannot be removed does no harm)
+            let _ = prune(rt, cache.as_str());
+            Ok(print_report(&report, err))
+        }
         Err(Error::Device(DeviceCall::Write)) => {
-            let _ = writeln!(
-                rt.stderr(),
-                "Error: Failed to write an index entry below {cache}"
-            );
+            let _ = writeln!(err, "Error: Failed to write an index entry below {cache}");
             Ok(1)
         }
         Err(error) => Err(error),
@@ -65,13 +109,27 @@ pub(crate) fn fetch_store(rt: &HostRuntime, arguments: &[&str], current: &str) -
 }
 
 /// Prints what is said of a run, and answers the status.
-fn print_report(rt: &HostRuntime, report: &Report) -> u8 {
-    let _ = rt.stderr().write_all(report.warnings.as_bytes());
+fn print_report<E: Write>(report: &Report, err: &mut E) -> u8 {
+    let _ = err.write_all(report.warnings.as_bytes());
     match &report.error {
         Some(text) => {
-            let _ = writeln!(rt.stderr(), "Error: {text}");
+            let _ = writeln!(err, "Error: {text}");
             1
         }
         None => 0,
     }
+}
+
+/// Runs `check-curl TEXT`, where TEXT is what `curl --version` prints, and answers its status: 1, with an
+/// error, where that curl is too old or there is none.
+pub(crate) fn check_curl<E: Write>(arguments: &[&str], err: &mut E) -> u8 {
+    let text = arguments.first().copied().unwrap_or("");
+    if is_new_enough(text) {
+        return 0;
+    }
+    let _ = writeln!(
+        err,
+        "Error: curl 7.75 or later is needed to fetch index entries (or --offline, which fetches none)"
+    );
+    1
 }

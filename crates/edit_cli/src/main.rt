@@ -1,21 +1,43 @@
 //! The program `cargo-edit`.
 #![tactic(auto)]
 
+mod checks;
 mod fetch_plan;
 mod fetch_store;
 mod machine;
 mod next_call;
 mod options;
+mod parsing;
+mod shell_options;
+mod streams;
 
+use checks::{Folders, fault_of};
+use clap::ArgMatches;
 use edit_base::paths::join;
 use edit_base::{CargoResult, Error};
 use edit_program::run;
 use edit_store::HostStore;
+use edit_words::{command, filled_words};
+use fetch_store::{check_curl, fetch_store};
 use machine::{machine_error, variable};
 use next_call::next_call;
-use std::env;
-use std::io::Write;
+use shell_options::shell_options;
+use std::io::{ErrorKind, Write};
 use std::process::ExitCode;
+use std::{env, process};
+use streams::{errors, output};
+
+/// The folders of a run that asks for no file.
+const NO_FOLDERS: Folders<'static> = Folders {
+    current: "/",
+    home: None,
+};
+
+/// What is said where there is no current folder.
+const NO_CURRENT: &str = "the current folder is not there, or its path is not UTF-8";
+
+/// What is said where the home of cargo cannot be named.
+const NO_HOME: &str = "the environment variable CARGO_HOME or HOME is not UTF-8";
 
 fn main(rt: HostRuntime) -> ExitCode {
     match start(&rt) {
@@ -27,75 +49,182 @@ fn main(rt: HostRuntime) -> ExitCode {
     }
 }
 
-/// Runs the program's words, and answers the status.
-fn start(rt: &HostRuntime) -> CargoResult<u8> {
-    let words = env::args(rt).map_err(machine_error)?;
-    let words: Vec<String> = words.skip(1).collect(rt.alloc())?;
-    start_with(rt, &words)
+/// Prints what is wrong with the arguments or their surroundings, and answers the status of a usage error.
+fn refuse_usage(rt: &HostRuntime, fault: &str) -> CargoResult<u8> {
+    let mut err = errors(rt)?;
+    let _ = writeln!(err, "error: {fault}\n\nFor more information, try '--help'.");
+    Ok(2)
 }
 
-/// Runs these words in the current folder.
-fn start_with(rt: &HostRuntime, words: &[String]) -> CargoResult<u8> {
+/// Runs the program's arguments, and answers the status.
+fn start(rt: &HostRuntime) -> CargoResult<u8> {
+    let words = match env::args(rt) {
+        Ok(words) => words,
+        Err(error) if error.kind() == ErrorKind::InvalidData => {
+            return refuse_usage(rt, "invalid UTF-8 was detected in one or more arguments");
+        }
+        Err(error) => return Err(machine_error(error)),
+    };
+    let words: Vec<String> = words.skip(1).collect(rt.alloc())?;
     let texts: Vec<&str> = words.iter().map(|word| word.as_str()).collect(rt.alloc())?;
-    let current = env::current_dir(rt).map_err(machine_error)?;
+    start_with(rt, &texts)
+}
+
+/// Runs these arguments. Those that ask for no file, as `--help`, need no current folder and no environment.
+fn start_with(rt: &HostRuntime, words: &[&str]) -> CargoResult<u8> {
+    match words.first().copied() {
+        Some("check-curl" | "shell-options") => return run_fileless(rt, words),
+        Some("fetch-plan" | "fetch-store" | "next-call") => return start_in(rt, words, None),
+        _ => {}
+    }
+    let filled = filled_words(rt.alloc(), words)?;
+    start_parsed(rt, words, filled.as_slice())
+}
+
+/// Runs the arguments of a subcommand of `edit_program`. `filled` has the same with all their values.
+fn start_parsed(rt: &HostRuntime, words: &[&str], filled: &[&str]) -> CargoResult<u8> {
+    let command = command(rt.alloc())?;
+    let matches = match command.try_get_matches_from(filled) {
+        Ok(matches) => matches,
+        Err(_) => return run_at(rt, words, NO_FOLDERS, true),
+    };
+    start_in(rt, words, matches.subcommand())
+}
+
+/// Runs these arguments in the current folder. `matches` is what a subcommand of `edit_program` was given.
+fn start_in(
+    rt: &HostRuntime,
+    words: &[&str],
+    matches: Option<(&str, &ArgMatches<'_>)>,
+) -> CargoResult<u8> {
+    let current = match env::current_dir(rt) {
+        Ok(current) => current,
+        Err(error) if error.kind() == ErrorKind::OutOfMemory => return Err(Error::Memory),
+        Err(_) => return refuse_usage(rt, NO_CURRENT),
+    };
     match current.as_path().to_str() {
-        Some(current) => start_in(rt, &texts, current),
-        None => Err(Error::NotUtf8),
+        Some(current) => start_at(rt, words, current, matches),
+        None => refuse_usage(rt, NO_CURRENT),
     }
 }
 
-/// Runs these words in a folder.
-fn start_in(rt: &HostRuntime, words: &[&str], current: &str) -> CargoResult<u8> {
-    let home = cargo_home(rt)?;
-    dispatch(rt, words, current, home.as_deref())
+/// The same in a folder.
+fn start_at(
+    rt: &HostRuntime,
+    words: &[&str],
+    current: &str,
+    matches: Option<(&str, &ArgMatches<'_>)>,
+) -> CargoResult<u8> {
+    let home = match cargo_home(rt) {
+        Ok(home) => home,
+        Err(Error::NotUtf8) => return refuse_usage(rt, NO_HOME),
+        Err(error) => return Err(error),
+    };
+    let home = home.as_deref();
+    dispatch(rt, words, Folders::new(current, home), matches)
+}
+
+/// The same with the home of cargo, where there is one.
+fn dispatch(
+    rt: &HostRuntime,
+    words: &[&str],
+    folders: Folders<'_>,
+    matches: Option<(&str, &ArgMatches<'_>)>,
+) -> CargoResult<u8> {
+    match matches {
+        Some((name, matches)) => run_checked(rt, words, folders, name, matches),
+        None => run_own(rt, words, folders),
+    }
+}
+
+/// Runs these arguments as a subcommand of `edit_program`, unless something is wrong with a path.
+fn run_checked(
+    rt: &HostRuntime,
+    words: &[&str],
+    folders: Folders<'_>,
+    name: &str,
+    matches: &ArgMatches<'_>,
+) -> CargoResult<u8> {
+    if name == "upgrade" {
+        if let Some(fault) = fault_of(rt, matches, folders)? {
+            return refuse_usage(rt, fault.as_str());
+        }
+    }
+    let is_for_people = matches.get_str("message-format") != Some("json");
+    run_at(rt, words, folders, is_for_people)
+}
+
+/// Runs the arguments of a subcommand for the scripts that needs no file. The first of them names it.
+fn run_fileless(rt: &HostRuntime, words: &[&str]) -> CargoResult<u8> {
+    let Some((first, arguments)) = words.split_first() else {
+        return Ok(2);
+    };
+    let mut out = output(rt, false)?;
+    let mut err = errors(rt)?;
+    match *first {
+        "check-curl" => Ok(check_curl(arguments, &mut err)),
+        _ => Ok(shell_options(rt.alloc(), arguments, &mut out, &mut err)),
+    }
+}
+
+/// Runs the arguments of a subcommand for the scripts that reads files. The first of them names it.
+fn run_own(rt: &HostRuntime, words: &[&str], folders: Folders<'_>) -> CargoResult<u8> {
+    let Some((first, arguments)) = words.split_first() else {
+        return Ok(2);
+    };
+    let current = folders.current;
+    let mut err = errors(rt)?;
+    match *first {
+        "fetch-plan" => fetch_plan::fetch_plan(rt, arguments, current, folders.home),
+        "fetch-store" => fetch_store(rt, arguments, current, &mut err),
+        _ => next_call_at(rt, arguments, current),
+    }
 }
 
 /// Runs the arguments of `next-call` in a folder.
 fn next_call_at(rt: &HostRuntime, arguments: &[&str], current: &str) -> CargoResult<u8> {
     let mut files = HostStore::new(rt.clone()?);
+    let mut out = output(rt, false)?;
+    let mut err = errors(rt)?;
     Ok(next_call(
         rt.alloc(),
         arguments,
         current,
         &mut files,
-        &mut rt.stdout(),
-        &mut rt.stderr(),
+        &mut out,
+        &mut err,
     ))
 }
 
-/// Runs the subcommand that the first word names: one around `curl` or `cargo update`, else one of
-/// `edit_program`. `home` is the home of cargo, where there is one.
-fn dispatch(
+/// Runs these arguments as a subcommand of `edit_program`. What it prints on standard output is for people,
+/// or else for programs.
+fn run_at(
     rt: &HostRuntime,
     words: &[&str],
-    current: &str,
-    home: Option<&str>,
+    folders: Folders<'_>,
+    is_for_people: bool,
 ) -> CargoResult<u8> {
-    let Some((first, arguments)) = words.split_first() else {
-        return run_at(rt, words, current, home);
-    };
-    match *first {
-        "fetch-plan" => fetch_plan::fetch_plan(rt, arguments, current, home),
-        "fetch-store" => fetch_store::fetch_store(rt, arguments, current),
-        "next-call" => next_call_at(rt, arguments, current),
-        _ => run_at(rt, words, current, home),
-    }
-}
-
-/// Runs these words as a subcommand of `edit_program`.
-fn run_at(rt: &HostRuntime, words: &[&str], current: &str, home: Option<&str>) -> CargoResult<u8> {
-    let mut files = HostStore::new(rt.clone()?);
+    let mut files = HostStore::for_process(rt.clone()?, process::id(rt.process()));
     let index_files = HostStore::new(rt.clone()?);
-    Ok(run(
+    let mut out = output(rt, is_for_people)?;
+    let mut err = errors(rt)?;
+    let status = run(
         rt.alloc(),
         words,
-        current,
-        home,
+        folders.current,
+        folders.home,
         &mut files,
         index_files,
-        &mut rt.stdout(),
-        &mut rt.stderr(),
-    ))
+        &mut out,
+        &mut err,
+    );
+    let is_printed = out.flush().is_ok();
+    let _ = err.flush();
+    if is_printed || status != 0 {
+        Ok(status)
+    } else {
+        Err(Error::Output)
+    }
 }
 
 /// The home of cargo: `CARGO_HOME`, else `.cargo` in `HOME`, else none. An empty variable counts as absent.

@@ -1,28 +1,28 @@
-//! The subcommand `next-call`: a call of `cargo update` as it is right against the lock file when it is made. The
-//! script behind `cargo upgrade` uses it before each call, since the one before it may have changed the lock file.
+//! The subcommand `next-call`: the next call of `cargo update` that is right against the lock file as it is
+//! now. The script behind `cargo upgrade` uses it before each call, since the one before it may have changed
+//! the lock file.
 
+use crate::parsing::print_parse_error;
 use clap::builder::ValueParser;
-use clap::error::ErrorKind;
 use clap::{Arg, ArgAction, ArgMatches, Command};
 use edit_base::Error;
 use edit_lock::{Lock, read_calls, standing_calls};
-use edit_report::{shell_status, shell_write_stdout};
-use edit_steps::{Refusal, RunResult, absolute, at_path};
+use edit_report::shell_status;
+use edit_shell::{push_arguments, push_assignment};
+use edit_steps::{Refusal, RunResult, absolute, at_path, print_error};
 use edit_store::Store;
 use std::alloc::{AllocError, Global};
 use std::io;
 
-/// What the arguments say: the file of calls, the lock files, and which call is next.
+/// What the arguments say: the file of calls, the lock files, and how many calls were made.
 #[derive(Clone, Copy)]
 struct Next<'a> {
     calls: &'a str,
     /// The lock file as it was before the first call.
     before: &'a str,
     lock: &'a str,
-    /// The number of the call, from 1, as it was given.
-    number: &'a str,
-    /// The same, from 0.
-    index: usize,
+    /// The number of the call before the next one, from 1; 0 before the first call.
+    after: usize,
     offline: bool,
 }
 
@@ -37,11 +37,11 @@ fn file<'a>(alloc: Global, id: &'a str, help: &'a str) -> Arg<'a> {
         .required(true)
 }
 
-/// The option that says which call is next.
-fn number<'a>(alloc: Global) -> Arg<'a> {
-    Arg::new(alloc, "number")
-        .long("number")
-        .help("Which call is next, from 1")
+/// The option that says which call was the last one.
+fn after<'a>(alloc: Global) -> Arg<'a> {
+    Arg::new(alloc, "after")
+        .long("after")
+        .help("The number of the call before this one, from 1; 0 before the first call")
         .value_name("N")
         .action(ArgAction::Set)
         .value_parser(ValueParser::NonEmptyString)
@@ -60,7 +60,7 @@ fn offline<'a>(alloc: Global) -> Arg<'a> {
 fn command<'a>(alloc: Global) -> Result<Command<'a>, AllocError> {
     Command::new(alloc, "next-call")
         .about(
-            "Prints a call of `cargo update`, one argument a line, as it is right against a lock file",
+            "Prints the next call of `cargo update` that is right against a lock file, for a shell",
         )
         .no_binary_name(true)
         .bin_name("cargo-edit next-call")?
@@ -75,19 +75,17 @@ fn command<'a>(alloc: Global) -> Result<Command<'a>, AllocError> {
             "The Cargo.lock as it was before the first call",
         ))?
         .arg(file(alloc, "lock-file", "The Cargo.lock as it is now"))?
-        .arg(number(alloc))?
+        .arg(after(alloc))?
         .arg(offline(alloc))
 }
 
 /// What matched arguments say; `None` where the number is none.
 fn next_of<'a>(matches: &ArgMatches<'a>) -> Option<Next<'a>> {
-    let number = matches.get_str("number")?;
     Some(Next {
         calls: matches.get_str("calls")?,
         before: matches.get_str("lock-before")?,
         lock: matches.get_str("lock-file")?,
-        number,
-        index: number.parse::<usize>().ok()?.checked_sub(1)?,
+        after: matches.get_str("after")?.parse::<usize>().ok()?,
         offline: matches.get_flag("offline"),
     })
 }
@@ -130,25 +128,34 @@ fn read_file<S: Store>(
     Ok(read_calls(alloc, text)?)
 }
 
-/// Prints a call, one argument a line, and as a status where it differs from the one in the file.
+/// Prints a call for a shell: its number, and the arguments that cargo gets. A status says so where the call
+/// differs from the one in the file, which was printed before.
 fn print_call<O: io::Write, E: io::Write>(
     alloc: Global,
+    number: usize,
     call: &[String],
-    same: bool,
+    is_same: bool,
     out: &mut O,
     err: &mut E,
 ) -> RunResult<()> {
-    if !same {
+    if !is_same {
         let message = call.join(alloc, " ")?;
         shell_status(err, "Run", message.as_str())?;
     }
-    let mut lines = call.join(alloc, "\n")?;
-    lines.push_str("\n")?;
-    shell_write_stdout(out, lines.as_str())?;
-    Ok(())
+    // the first argument is `cargo` itself
+    let arguments = call.get(1..).unwrap_or(&[]);
+    let mut text = Vec::new(alloc);
+    let number = format!(in alloc; "{number}")?;
+    push_assignment(&mut text, "number", number.as_str())?;
+    push_arguments(&mut text, arguments)?;
+    match out.write_all(&text) {
+        Ok(()) => Ok(()),
+        Err(_) => Err(Refusal::from(Error::Output)),
+    }
 }
 
-/// Prints the call that is next; where none of its packages stands any more, a status says that it is left out.
+/// Prints the first call behind `next.after` of which a package is still locked, and nothing where there is
+/// none. A status says so of each call that is left out.
 fn print_next<S: Store, O: io::Write, E: io::Write>(
     alloc: Global,
     next: &Next<'_>,
@@ -156,48 +163,21 @@ fn print_next<S: Store, O: io::Write, E: io::Write>(
     files: &mut S,
     out: &mut O,
     err: &mut E,
-) -> RunResult<u8> {
+) -> RunResult<()> {
     let calls = read_file(alloc, current, next.calls, files)?;
-    let index = next.index;
-    let Some(call) = calls.get(index) else {
-        let _ = writeln!(
-            err,
-            "Error: there is no call {} in {}",
-            next.number, next.calls
-        );
-        return Ok(1);
-    };
     let before = read_lock(alloc, current, next.before, files)?;
     let now = read_lock(alloc, current, next.lock, files)?;
-    let given = &calls[index..index + 1];
-    let standing = standing_calls(alloc, given, &before, &now, next.offline)?;
-    match standing.first() {
-        Some(made) => print_call(alloc, made, made == call, out, err)?,
-        None => {
-            let message = call.join(alloc, " ")?;
-            shell_status(err, "Skipping", message.as_str())?;
+    for index in next.after..calls.len() {
+        let call = &calls[index];
+        let given = &calls[index..index + 1];
+        let standing = standing_calls(alloc, given, &before, &now, next.offline)?;
+        if let Some(made) = standing.first() {
+            return print_call(alloc, index + 1, made, made == call, out, err);
         }
+        let message = call.join(alloc, " ")?;
+        shell_status(err, "Skipping", message.as_str())?;
     }
-    Ok(0)
-}
-
-/// Prints what `clap` says in place of matches, and answers its status.
-fn shown<O: io::Write, E: io::Write>(
-    error: &clap::Error,
-    out: &mut O,
-    err: &mut E,
-) -> RunResult<u8> {
-    if error.kind() == ErrorKind::OutOfMemory {
-        return Err(Refusal::from(Error::Memory));
-    }
-    if error.use_stderr() {
-        let _ = write!(err, "{error}");
-        return Ok(2);
-    }
-    match write!(out, "{error}") {
-        Ok(()) => Ok(0),
-        Err(_) => Err(Refusal::from(Error::Output)),
-    }
+    Ok(())
 }
 
 /// Runs the arguments behind `next-call`.
@@ -212,19 +192,22 @@ fn answer<S: Store, O: io::Write, E: io::Write>(
     let command = command(alloc)?;
     let matches = match command.try_get_matches_from(arguments) {
         Ok(matches) => matches,
-        Err(error) => return shown(&error, out, err),
+        Err(error) => return Ok(print_parse_error(&error, out, err)?),
     };
     match next_of(&matches) {
-        Some(next) => print_next(alloc, &next, current, files, out, err),
+        Some(next) => {
+            print_next(alloc, &next, current, files, out, err)?;
+            Ok(0)
+        }
         None => {
-            let _ = writeln!(err, "error: `--number <N>` is a number from 1");
+            let _ = writeln!(err, "error: `--after <N>` is a number");
             Ok(2)
         }
     }
 }
 
-/// Runs the arguments behind `next-call`, and answers the status: 0 done; 1 for an error, which is printed with its
-/// place where it is known; 2 for a fault of the command line.
+/// Runs the arguments behind `next-call`, and answers the status: 0 done; 1 for an error, which is printed
+/// with its place where it is known; 2 for a fault of the command line.
 pub(crate) fn next_call<S: Store, O: io::Write, E: io::Write>(
     alloc: Global,
     arguments: &[&str],
@@ -236,11 +219,7 @@ pub(crate) fn next_call<S: Store, O: io::Write, E: io::Write>(
     match answer(alloc, arguments, current, files, out, err) {
         Ok(status) => status,
         Err(refusal) => {
-            let Refusal { error, place } = refusal;
-            let printed = writeln!(err, "Error: {error}");
-            if let (Ok(()), Some(place)) = (printed, place) {
-                let _ = writeln!(err, "  at {place}");
-            }
+            let _ = print_error(&refusal, err);
             1
         }
     }

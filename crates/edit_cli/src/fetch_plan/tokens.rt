@@ -1,27 +1,64 @@
-//! The tokens of the registries that configuration files name.
+//! The tokens of the registries that configuration files and variables name.
 
-use crate::machine::variable;
-use edit_base::CargoResult;
-use edit_fetch::{registry_address, token_variable};
+use edit_base::{CargoResult, Error};
+use edit_fetch::{is_header_text, registry_address, token_variable};
 use edit_sources::Config;
+use std::env;
+use std::env::VarError;
+use std::io::Write;
 
-/// The address of each registry whose token stands in the environment, with that token.
+/// What is said of a token that no header can have.
+const UNSENDABLE: &str =
+    "is not sent: a token has no control characters, such as a line end, and is UTF-8";
+
+/// The address of each registry whose token stands in the environment, with that token. Of the definitions
+/// of a registry that of the environment counts, else the first of these configuration files. A token that
+/// no header can have is left out, with a warning.
 pub(super) fn registry_tokens(
     rt: &HostRuntime,
+    environment: &Config,
     configs: &[Config],
 ) -> CargoResult<Vec<(String, String)>> {
     let mut tokens = Vec::new(rt.alloc());
+    let mut warned = Vec::new(rt.alloc());
+    let mut earlier: Vec<&Config> = Vec::new(rt.alloc());
+    add_tokens(rt, environment, &earlier, &mut warned, &mut tokens)?;
+    earlier.push(environment)?;
     for config in configs {
-        for (name, index) in &config.registries {
-            if let Some(index) = index {
-                let found = registry_token(rt, name.as_str(), index.as_str())?;
-                if let Some(token) = found {
-                    tokens.push(token)?;
-                }
-            }
-        }
+        add_tokens(rt, config, &earlier, &mut warned, &mut tokens)?;
+        earlier.push(config)?;
     }
     Ok(tokens)
+}
+
+/// Adds the tokens of the registries of a configuration that none of the earlier ones defines.
+fn add_tokens(
+    rt: &HostRuntime,
+    config: &Config,
+    earlier: &[&Config],
+    warned: &mut Vec<String>,
+    tokens: &mut Vec<(String, String)>,
+) -> CargoResult<()> {
+    for (name, index) in &config.registries {
+        let name = name.as_str();
+        if earlier.iter().any(|it| has_registry(it, name)) {
+            continue;
+        }
+        if let Some(index) = index
+            && let Some(token) = registry_token(rt, name, index.as_str(), warned)?
+        {
+            tokens.push(token)?;
+        }
+    }
+    Ok(())
+}
+
+/// Whether a configuration file names a registry.
+fn has_registry(config: &Config, name: &str) -> bool {
+    config
+        .registries
+        .iter()
+        .any(|(key, _)| key.as_str() == name)
 }
 
 /// The address of a registry and its token, where that stands in the environment.
@@ -29,15 +66,38 @@ fn registry_token(
     rt: &HostRuntime,
     name: &str,
     index: &str,
+    warned: &mut Vec<String>,
 ) -> CargoResult<Option<(String, String)>> {
     let Some(key) = token_variable(rt.alloc(), name)? else {
         return Ok(None);
     };
-    let Some(token) = variable(rt, key.as_str())? else {
+    let Some(token) = sendable_token(rt, key, warned)? else {
         return Ok(None);
     };
     match registry_address(rt.alloc(), index)? {
         Some(address) => Ok(Some((address, token))),
         None => Ok(None),
+    }
+}
+
+/// The token of a variable, where it is there, not empty, and a text that a header can have; of one that is
+/// not such a text a warning is printed, unless one was.
+fn sendable_token(
+    rt: &HostRuntime,
+    key: String,
+    warned: &mut Vec<String>,
+) -> CargoResult<Option<String>> {
+    match env::var(rt, key.as_str()) {
+        Ok(token) if token.is_empty() => Ok(None),
+        Ok(token) if is_header_text(token.as_bytes()) => Ok(Some(token)),
+        Ok(_) | Err(VarError::NotUnicode) => {
+            if !warned.contains(&key) {
+                let _ = writeln!(rt.stderr(), "warning: {key} {UNSENDABLE}");
+                warned.push(key)?;
+            }
+            Ok(None)
+        }
+        Err(VarError::NotPresent) => Ok(None),
+        Err(VarError::OutOfMemory) => Err(Error::Memory),
     }
 }

@@ -1,4 +1,4 @@
-//! Stores in memory, a call that fails, and a device of the machine.
+//! Stores in memory, a call that fails, and devices of the machine.
 use super::steps::steps;
 use crate::stop::kept;
 use edit_store::{FaultStore, HostStore, MemoryStore};
@@ -72,14 +72,16 @@ fn the_first_call_fails(rt: HostRuntime) {
     }
 }
 
-/// A device, which is no file, among the files of the machine.
+/// A device, which is no file, among the files of the machine, and a folder that is not there.
 const DEVICE: &str = "\
 no fault yet|faults|||0
 a device is no file|kind|/dev/null||absent
-a device has a text|read|/dev/null||
-a device is not written|write|/dev/null|six|3 Failed to write updated Cargo.toml
+a device without a text|read|/dev/null||
+a device is written to|write|/dev/null|six|written
+still no fault|faults|||0
+a device with a text|read|/dev/zero||3 Failed to read a file
 a fault|faults|||1
-nor once more|write|/dev/null|six|3 Failed to write updated Cargo.toml
+no folder|write|/dev/null/no/file|six|3 Failed to write updated Cargo.toml
 a second fault|faults|||2";
 
 #[test]

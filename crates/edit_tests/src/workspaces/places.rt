@@ -42,10 +42,13 @@ fn inputs_of(rt: &impl Abort, alloc: Global, rows: &str) -> Vec<Input> {
     all
 }
 
-/// The place of a refusal, `-` being none.
+/// The file, line and column of an error, without the lines of the file that are shown below them; `-` being none.
 fn shown(rt: &impl Abort, alloc: Global, refusal: &Refusal) -> String {
     match &refusal.place {
-        Some(place) => text(rt, alloc, place.as_str()),
+        Some(place) => {
+            let (place, _excerpt) = place.split_once('\n').unwrap_or((place.as_str(), ""));
+            text(rt, alloc, place)
+        }
         None => text(rt, alloc, "-"),
     }
 }

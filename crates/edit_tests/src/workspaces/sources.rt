@@ -100,6 +100,7 @@ fn asked<'a>(rt: &impl Abort, alloc: Global, target: &'a str, more: &'a str) -> 
         config: nth(more, 3),
         default_config: nth(more, 4),
         rust: choice(rt, alloc, nth(more, 1)),
+        writes: false,
     }
 }
 

@@ -1,0 +1,212 @@
+//! What can be wrong with the paths on the command line, as it is known before anything is read.
+
+use clap::ArgMatches;
+use edit_base::CargoResult;
+use edit_base::paths::{folder, join};
+use std::fs;
+use std::fs::Metadata;
+use std::os::unix::fs::MetadataExt;
+
+/// The options that name a file that is read.
+const READ: [&str; 6] = [
+    "manifest-path",
+    "metadata-json",
+    "index-file",
+    "lock-file",
+    "config",
+    "default-config",
+];
+
+/// The names of files that cargo reads or writes: wherever such a file stands, no calls are written over it.
+const CARGO_NAMES: [&str; 4] = [
+    "/Cargo.toml",
+    "/Cargo.lock",
+    "/.cargo/config.toml",
+    "/.cargo/config",
+];
+
+/// The names of a configuration in the home of cargo.
+const HOME_NAMES: [&str; 2] = ["config.toml", "config"];
+
+/// The paths of a run start here.
+#[derive(Clone, Copy)]
+pub(crate) struct Folders<'a> {
+    pub(crate) current: &'a str,
+    /// The home of cargo, where there is one.
+    pub(crate) home: Option<&'a str>,
+}
+
+impl<'a> Folders<'a> {
+    /// The current folder, and the home of cargo where there is one.
+    pub(crate) fn new(current: &'a str, home: Option<&'a str>) -> Folders<'a> {
+        Folders { current, home }
+    }
+}
+
+/// The folder of an index that is looked in: not where an index file is named too, which is another usage error.
+fn index_folder<'a>(arguments: &ArgMatches<'a>) -> Option<&'a str> {
+    match arguments.get_str("index-file") {
+        Some(_) => None,
+        None => arguments.get_str("index-dir"),
+    }
+}
+
+/// What is wrong with the paths that the arguments of `upgrade` name; none where nothing is.
+pub(crate) fn fault_of(
+    rt: &HostRuntime,
+    arguments: &ArgMatches<'_>,
+    folders: Folders<'_>,
+) -> CargoResult<Option<String>> {
+    if let Some(named) = index_folder(arguments) {
+        let path = join(rt.alloc(), folders.current, named)?;
+        if !is_folder(rt, path.as_str()) {
+            let fault = format!(in rt.alloc();
+                "invalid value '{named}' for '--index-dir <DIR>': there is no such folder"
+            )?;
+            return Ok(Some(fault));
+        }
+    }
+    match arguments.get_str("update-calls") {
+        Some(named) => calls_fault(rt, arguments, folders, named),
+        None => Ok(None),
+    }
+}
+
+/// What is wrong with the file for the calls.
+fn calls_fault(
+    rt: &HostRuntime,
+    arguments: &ArgMatches<'_>,
+    folders: Folders<'_>,
+    named: &str,
+) -> CargoResult<Option<String>> {
+    let path = join(rt.alloc(), folders.current, named)?;
+    let fault = if is_parted(arguments, folders.current) {
+        Some("a call cannot name the workspace, since the path has a line end")
+    } else if !is_folder(rt, folder(path.as_str())) {
+        Some("there is no such folder")
+    } else {
+        place_fault(rt, arguments, folders, path.as_str())?
+    };
+    let Some(fault) = fault else {
+        return Ok(None);
+    };
+    let fault = format!(in rt.alloc();
+        "invalid value '{named}' for '--update-calls <FILE>': {fault}"
+    )?;
+    Ok(Some(fault))
+}
+
+/// Whether the path of the workspace has a line end: the file has one argument of a call a line.
+fn is_parted(arguments: &ArgMatches<'_>, current: &str) -> bool {
+    match arguments.get_str("manifest-path") {
+        Some(path) if path.starts_with('/') => path.contains('\n'),
+        Some(path) => path.contains('\n') || current.contains('\n'),
+        None => current.contains('\n'),
+    }
+}
+
+/// What is wrong with what stands at the path of the file for the calls.
+fn place_fault(
+    rt: &HostRuntime,
+    arguments: &ArgMatches<'_>,
+    folders: Folders<'_>,
+    path: &str,
+) -> CargoResult<Option<&'static str>> {
+    let Ok(found) = fs::metadata(rt, path) else {
+        return Ok(None);
+    };
+    if found.is_dir() {
+        return Ok(Some("it is a folder"));
+    }
+    if found.is_file() && is_input(rt, arguments, folders, path, &found)? {
+        return Ok(Some("the file is read or written as something else"));
+    }
+    Ok(None)
+}
+
+/// Whether a file is one that cargo or this run reads or writes, by whatever name.
+fn is_input(
+    rt: &HostRuntime,
+    arguments: &ArgMatches<'_>,
+    folders: Folders<'_>,
+    path: &str,
+    found: &Metadata,
+) -> CargoResult<bool> {
+    let real = real_path(rt, path)?;
+    if CARGO_NAMES.iter().any(|name| real.ends_with(*name)) {
+        return Ok(true);
+    }
+    if is_named(rt, arguments, folders.current, found)? || is_of_home(rt, folders.home, found)? {
+        return Ok(true);
+    }
+    match index_folder(arguments) {
+        Some(named) => is_below(rt, folders.current, named, real.as_str()),
+        None => Ok(false),
+    }
+}
+
+/// Whether an option names this file as one to be read.
+fn is_named(
+    rt: &HostRuntime,
+    arguments: &ArgMatches<'_>,
+    current: &str,
+    found: &Metadata,
+) -> CargoResult<bool> {
+    for option in READ {
+        if let Some(named) = arguments.get_str(option) {
+            let path = join(rt.alloc(), current, named)?;
+            if is_at(rt, path.as_str(), found) {
+                return Ok(true);
+            }
+        }
+    }
+    Ok(false)
+}
+
+/// Whether this file is a configuration in the home of cargo.
+fn is_of_home(rt: &HostRuntime, home: Option<&str>, found: &Metadata) -> CargoResult<bool> {
+    let Some(home) = home else {
+        return Ok(false);
+    };
+    for name in HOME_NAMES {
+        let path = join(rt.alloc(), home, name)?;
+        if is_at(rt, path.as_str(), found) {
+            return Ok(true);
+        }
+    }
+    Ok(false)
+}
+
+/// Whether a path without links leads into the folder that is named.
+fn is_below(rt: &HostRuntime, current: &str, named: &str, real: &str) -> CargoResult<bool> {
+    let path = join(rt.alloc(), current, named)?;
+    let mut index = real_path(rt, path.as_str())?;
+    index.push('/')?;
+    Ok(real.starts_with(index.as_str()))
+}
+
+/// Whether this file stands at a path, links followed: the same inode of the same device.
+fn is_at(rt: &HostRuntime, path: &str, found: &Metadata) -> bool {
+    match fs::metadata(rt, path) {
+        Ok(other) => other.dev() == found.dev() && other.ino() == found.ino(),
+        Err(_) => false,
+    }
+}
+
+/// Whether a folder stands at a path, links followed.
+fn is_folder(rt: &HostRuntime, path: &str) -> bool {
+    match fs::metadata(rt, path) {
+        Ok(found) => found.is_dir(),
+        Err(_) => false,
+    }
+}
+
+/// A path without links; the path itself where the machine does not know it.
+fn real_path(rt: &HostRuntime, path: &str) -> CargoResult<String> {
+    if let Ok(real) = fs::canonicalize(rt, path) {
+        if let Some(text) = real.as_path().to_str() {
+            return Ok(String::from_str(rt.alloc(), text)?);
+        }
+    }
+    Ok(String::from_str(rt.alloc(), path)?)
+}

@@ -1,0 +1,88 @@
+//! The configuration files of a run that stand before and after those of the user.
+
+use crate::fetch_plan::environment::variables;
+use crate::options::value_of;
+use edit_base::CargoResult;
+use edit_base::paths::join;
+use edit_fetch::{addressless_sources, default_registry_text, sources_text, variables_text};
+use edit_metadata::Workspace;
+use edit_sources::{Config, ConfigCache};
+use edit_store::{HostStore, Store};
+
+/// Writes the two files into the folder of this run: `first.toml`, which counts before all others, has the
+/// registries that variables define and an address for each source that has none; `last.toml`, which counts
+/// after all others, has what cargo has built in. The answer is what the first says.
+pub(super) fn write_configurations(
+    rt: &HostRuntime,
+    files: &mut HostStore<HostRuntime>,
+    room: &str,
+    configs: &[Config],
+) -> CargoResult<Config> {
+    let alloc = rt.alloc();
+    let variables = variables(rt, files)?;
+    let mut text = variables_text(alloc, &variables)?;
+    let sources = addressless_sources(alloc, configs)?;
+    text.extend_from_slice(&sources_text(alloc, &sources)?)?;
+    let first = join(alloc, room, "first.toml")?;
+    files.write(alloc, first.as_str(), &text)?;
+    let last = join(alloc, room, "last.toml")?;
+    files.write(alloc, last.as_str(), &default_registry_text(alloc)?)?;
+    Config::read(alloc, first.as_str(), &text)
+}
+
+/// The configurations of the current folder, and then those of each member of the workspace that the
+/// arguments of an upgrade name, each file once. What cannot be read is left out: the upgrade says so.
+pub(super) fn all_configs(
+    rt: &HostRuntime,
+    files: &mut HostStore<HostRuntime>,
+    upgrade: &[&str],
+    current: &str,
+    home: Option<&str>,
+) -> CargoResult<Vec<Config>> {
+    let alloc = rt.alloc();
+    let own = join(alloc, current, "Cargo.toml")?;
+    let mut cache = ConfigCache::new(alloc);
+    let mut all = Vec::new(alloc);
+    if let Ok(configs) = cache.read_configs(alloc, files, own.as_str(), home) {
+        add_configs(configs, &mut all)?;
+    }
+    let Some(workspace) = workspace(rt, files, upgrade, current)? else {
+        return Ok(all);
+    };
+    for package in &workspace.packages {
+        if package.member {
+            let path = package.manifest_path.as_str();
+            if let Ok(configs) = cache.read_configs(alloc, files, path, home) {
+                add_configs(configs, &mut all)?;
+            }
+        }
+    }
+    Ok(all)
+}
+
+/// The workspace that the arguments of an upgrade name, where it can be read.
+fn workspace(
+    rt: &HostRuntime,
+    files: &mut HostStore<HostRuntime>,
+    upgrade: &[&str],
+    current: &str,
+) -> CargoResult<Option<Workspace>> {
+    let Some(path) = value_of(upgrade, "--metadata-json") else {
+        return Ok(None);
+    };
+    let path = join(rt.alloc(), current, path)?;
+    match files.read(rt.alloc(), path.as_str()) {
+        Ok(Some(json)) => Ok(Workspace::read(rt.alloc(), &json).ok()),
+        _ => Ok(None),
+    }
+}
+
+/// Adds the configurations whose file is not there yet.
+fn add_configs(configs: Vec<Config>, all: &mut Vec<Config>) -> CargoResult<()> {
+    for config in configs {
+        if !all.iter().any(|earlier| earlier.path == config.path) {
+            all.push(config)?;
+        }
+    }
+    Ok(())
+}

@@ -1,0 +1,221 @@
+//! The registries of which no index entry can be had: those that are neither sparse nor a folder.
+
+use edit_base::CargoResult;
+use edit_fetch::{AddresslessSource, addressless_sources, registry_address, stand_in_address};
+use edit_lookups::{Lookup, read_lookups, shown_address};
+use edit_sources::Config;
+use std::alloc::AllocError;
+use std::fmt::Write;
+
+/// What is said of a source without a registry.
+const VENDORED: &str =
+    " (a vendored folder, or another source without a registry: take the replacement out for this run)";
+
+/// The crates of a registry of which no index entry can be had.
+#[derive(Debug, Drop)]
+struct Unread<'a> {
+    address: &'a str,
+    names: Vec<&'a str>,
+}
+
+/// The names after `--exclude` among the arguments of an upgrade.
+fn excluded_names<'a>(rt: &HostRuntime, upgrade: &[&'a str]) -> CargoResult<Vec<&'a str>> {
+    let mut names = Vec::new(rt.alloc());
+    let mut before = "";
+    for argument in upgrade {
+        if *argument == "--" {
+            break;
+        }
+        if before == "--exclude" {
+            names.push(*argument)?;
+        } else if let Some(name) = argument.strip_prefix("--exclude=") {
+            names.push(name)?;
+        }
+        before = *argument;
+    }
+    Ok(names)
+}
+
+/// Whether entries of a registry can be had.
+fn is_read(address: &str) -> bool {
+    address.starts_with("sparse+http://")
+        || address.starts_with("sparse+https://")
+        || address.starts_with("file:")
+}
+
+/// Adds a name to the registry with an address.
+fn add_unread<'a>(
+    rt: &HostRuntime,
+    registries: &mut Vec<Unread<'a>>,
+    address: &'a str,
+    name: &'a str,
+) -> CargoResult<()> {
+    for registry in registries.iter_mut() {
+        if registry.address == address {
+            registry.names.push(name)?;
+            return Ok(());
+        }
+    }
+    let mut names = Vec::new(rt.alloc());
+    names.push(name)?;
+    registries.push(Unread { address, names })?;
+    Ok(())
+}
+
+/// The registries of lookups of which no entry can be had, in their order, with the crates that are not
+/// excluded.
+fn unread_registries<'a>(
+    rt: &HostRuntime,
+    lookups: &[Lookup<'a>],
+    excluded: &[&str],
+) -> CargoResult<Vec<Unread<'a>>> {
+    let mut registries = Vec::new(rt.alloc());
+    for lookup in lookups {
+        let Lookup { address, name, .. } = *lookup;
+        if !is_read(address) && !excluded.iter().any(|it| *it == name) {
+            add_unread(rt, &mut registries, address, name)?;
+        }
+    }
+    Ok(registries)
+}
+
+/// Adds a text, each control character escaped.
+fn push_shown(to: &mut String, text: &str) -> Result<(), AllocError> {
+    for c in text.chars() {
+        if c.is_control() {
+            let code = c as u32;
+            write!(to, "\\u{{{code:x}}}")?;
+        } else {
+            to.push(c)?;
+        }
+    }
+    Ok(())
+}
+
+/// Adds what defines something: its kind, its key, and the configuration file.
+fn push_definition(to: &mut String, kind: &str, key: &str, file: &str) -> Result<(), AllocError> {
+    to.push_str(kind)?;
+    to.push_str(" `")?;
+    push_shown(to, key)?;
+    to.push_str("` of ")?;
+    push_shown(to, file)
+}
+
+/// Whether the text of a configuration is an address as lookups have it.
+fn is_address(rt: &HostRuntime, text: Option<&str>, address: &str) -> CargoResult<bool> {
+    let Some(text) = text else {
+        return Ok(false);
+    };
+    let found = registry_address(rt.alloc(), text)?;
+    Ok(found.as_deref() == Some(address))
+}
+
+/// Adds the source without an address that an address stands for, and answers whether there is one.
+fn push_addressless(
+    rt: &HostRuntime,
+    to: &mut String,
+    sources: &[AddresslessSource<'_>],
+    address: &str,
+) -> CargoResult<bool> {
+    for source in sources {
+        let stand_in = stand_in_address(rt.alloc(), source.key)?;
+        if is_address(rt, Some(stand_in.as_str()), address)? {
+            push_definition(to, "source", source.key, source.file)?;
+            return Ok(true);
+        }
+    }
+    Ok(false)
+}
+
+/// Adds the registry with an address among those of the environment, else the first definition with it among
+/// configuration files, and answers whether there is one.
+fn push_defined(
+    rt: &HostRuntime,
+    to: &mut String,
+    environment: &Config,
+    configs: &[Config],
+    address: &str,
+) -> CargoResult<bool> {
+    for (key, index) in &environment.registries {
+        if is_address(rt, index.as_deref(), address)? {
+            push_definition(to, "registry", key.as_str(), "the environment")?;
+            return Ok(true);
+        }
+    }
+    for config in configs {
+        for (key, index) in &config.registries {
+            if is_address(rt, index.as_deref(), address)? {
+                push_definition(to, "registry", key.as_str(), config.path.as_str())?;
+                return Ok(true);
+            }
+        }
+        for (key, source) in &config.sources {
+            if is_address(rt, source.registry.as_deref(), address)? {
+                push_definition(to, "source", key.as_str(), config.path.as_str())?;
+                return Ok(true);
+            }
+        }
+    }
+    Ok(false)
+}
+
+/// Adds the line of a registry: what defines it, its crates, and why they cannot be had.
+fn push_unread(
+    rt: &HostRuntime,
+    to: &mut String,
+    environment: &Config,
+    configs: &[Config],
+    sources: &[AddresslessSource<'_>],
+    registry: &Unread<'_>,
+) -> CargoResult<()> {
+    to.push_str("\n  ")?;
+    let addressless = push_addressless(rt, to, sources, registry.address)?;
+    if !addressless {
+        let shown = shown_address(rt.alloc(), registry.address)?;
+        if push_defined(rt, to, environment, configs, registry.address)? {
+            to.push_str(", ")?;
+        }
+        push_shown(to, shown.as_str())?;
+    }
+    let mut separator = ": ";
+    for name in &registry.names {
+        to.push_str(separator)?;
+        push_shown(to, name)?;
+        separator = ", ";
+    }
+    to.push_str(if addressless {
+        VENDORED
+    } else {
+        " (only sparse registries and folders can be read)"
+    })?;
+    Ok(())
+}
+
+/// The error for the lookups of a text in registries of which no entry can be had; none where there are
+/// none, crates that the arguments exclude aside. Each registry has a line, with the configuration file
+/// that defines it; `environment` has the registries that variables define.
+pub(super) fn unread_error(
+    rt: &HostRuntime,
+    lookups: &str,
+    upgrade: &[&str],
+    environment: &Config,
+    configs: &[Config],
+) -> CargoResult<Option<String>> {
+    let Some(lookups) = read_lookups(rt.alloc(), lookups)? else {
+        return Ok(None);
+    };
+    let excluded = excluded_names(rt, upgrade)?;
+    let registries = unread_registries(rt, &lookups, &excluded)?;
+    if registries.is_empty() {
+        return Ok(None);
+    }
+    let sources = addressless_sources(rt.alloc(), configs)?;
+    let mut text = String::from_str(
+        rt.alloc(),
+        "index entries cannot be had; leave the crates out by `--exclude`, or as they are by `--offline`:",
+    )?;
+    for registry in &registries {
+        push_unread(rt, &mut text, environment, configs, &sources, registry)?;
+    }
+    Ok(Some(text))
+}

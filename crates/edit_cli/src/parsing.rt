@@ -1,0 +1,50 @@
+//! The arguments of `upgrade` and `set-version`, as the plumbing subcommands read them.
+
+use clap::ArgMatches;
+use clap::error::ErrorKind;
+use edit_base::{CargoResult, Error};
+use edit_words::{command, filled_words};
+use std::alloc::{AllocError, Global};
+use std::io;
+
+/// The words of a command line with their values, for `parse_words`.
+pub(crate) fn words_of<'a>(
+    alloc: Global,
+    subcommand: &'a str,
+    arguments: &[&'a str],
+) -> Result<Vec<&'a str>, AllocError> {
+    let mut words = Vec::new(alloc);
+    words.push(subcommand)?;
+    for argument in arguments {
+        words.push(*argument)?;
+    }
+    filled_words(alloc, &words)
+}
+
+/// Parses words that begin with a subcommand of `cargo-edit`.
+pub(crate) fn parse_words<'a>(
+    alloc: Global,
+    words: &'a [&'a str],
+) -> Result<ArgMatches<'a>, clap::Error> {
+    let command = command(alloc)?;
+    command.try_get_matches_from(words)
+}
+
+/// Prints what `clap` says in place of matches, and answers its status: 0 for a help and a version, else 2.
+pub(crate) fn print_parse_error<O: io::Write, E: io::Write>(
+    error: &clap::Error,
+    out: &mut O,
+    err: &mut E,
+) -> CargoResult<u8> {
+    if error.kind() == ErrorKind::OutOfMemory {
+        return Err(Error::Memory);
+    }
+    if error.use_stderr() {
+        let _ = write!(err, "{error}");
+        return Ok(2);
+    }
+    match write!(out, "{error}") {
+        Ok(()) => Ok(0),
+        Err(_) => Err(Error::Output),
+    }
+}

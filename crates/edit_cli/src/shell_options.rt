@@ -1,0 +1,153 @@
+//! The subcommand `shell-options`: what the scripts of `bin/` have to know of their arguments, as text that a
+//! shell evaluates.
+
+use crate::parsing::{parse_words, print_parse_error, words_of};
+use clap::ArgMatches;
+use clap::error::ErrorKind;
+use edit_base::Error;
+use edit_shell::push_assignment;
+use edit_steps::{Refusal, RunResult, print_error};
+use std::alloc::{AllocError, Global};
+use std::io;
+
+/// What is printed for arguments that are not those of `shell-options`.
+const USAGE: &str = "Usage: cargo-edit shell-options upgrade|set-version ARGUMENTS..";
+
+/// What a script does with its arguments.
+#[derive(Clone, Copy)]
+enum Action {
+    /// It calls cargo, and `cargo-edit` with what cargo says.
+    Run,
+    /// It hands them to `cargo-edit`, since they name the metadata or an index, or ask for the version.
+    Program,
+    /// It prints its help.
+    Help,
+}
+
+impl Action {
+    /// The value of the variable `action`.
+    fn text(self) -> &'static str {
+        match self {
+            Action::Run => "run",
+            Action::Program => "program",
+            Action::Help => "help",
+        }
+    }
+}
+
+/// What a script does with matched arguments.
+fn action_of(matches: &ArgMatches<'_>) -> Action {
+    let files = ["metadata-json", "index-file", "index-dir"];
+    let names_file = files
+        .iter()
+        .any(|id| matches.get_str(id).is_some_and(|file| file != "-"));
+    if names_file {
+        Action::Program
+    } else {
+        Action::Run
+    }
+}
+
+/// A flag as the script hands it on to cargo; empty where it is not given.
+fn flag_text(is_given: bool, flag: &'static str) -> &'static str {
+    if is_given { flag } else { "" }
+}
+
+/// Adds the assignments of matched arguments.
+fn push_options(text: &mut Vec<u8>, matches: &ArgMatches<'_>) -> Result<(), AllocError> {
+    let dry = matches.get_flag("dry-run") || matches.get_flag("check");
+    push_assignment(text, "action", action_of(matches).text())?;
+    push_assignment(
+        text,
+        "manifest",
+        matches.get_str("manifest-path").unwrap_or(""),
+    )?;
+    push_assignment(text, "calls", matches.get_str("update-calls").unwrap_or(""))?;
+    push_assignment(
+        text,
+        "locked",
+        flag_text(matches.get_flag("locked"), "--locked"),
+    )?;
+    push_assignment(
+        text,
+        "offline",
+        flag_text(matches.get_flag("offline"), "--offline"),
+    )?;
+    push_assignment(text, "dry", flag_text(dry, "yes"))
+}
+
+/// The arguments of a subcommand, with metadata in place of those that the script adds.
+fn with_metadata<'a>(
+    alloc: Global,
+    subcommand: &str,
+    arguments: &[&'a str],
+) -> Result<Vec<&'a str>, AllocError> {
+    let mut all = Vec::new(alloc);
+    let names_metadata = arguments
+        .iter()
+        .any(|argument| argument.starts_with("--metadata-json"));
+    if subcommand == "set-version" && !names_metadata {
+        all.push("--metadata-json=-")?;
+    }
+    for argument in arguments {
+        all.push(*argument)?;
+    }
+    Ok(all)
+}
+
+/// Writes the assignments for the arguments of a subcommand, and answers the status.
+fn write_options<O: io::Write, E: io::Write>(
+    alloc: Global,
+    subcommand: &str,
+    arguments: &[&str],
+    out: &mut O,
+    err: &mut E,
+) -> RunResult<u8> {
+    let arguments = with_metadata(alloc, subcommand, arguments)?;
+    let words = words_of(alloc, subcommand, &arguments)?;
+    let mut text = Vec::new(alloc);
+    match parse_words(alloc, &words) {
+        Ok(matches) => {
+            if let Some((_, matches)) = matches.subcommand() {
+                push_options(&mut text, matches)?;
+            }
+        }
+        Err(error) => match error.kind() {
+            ErrorKind::DisplayHelp => push_assignment(&mut text, "action", Action::Help.text())?,
+            ErrorKind::DisplayVersion => {
+                push_assignment(&mut text, "action", Action::Program.text())?;
+            }
+            _ => return Ok(print_parse_error(&error, out, err)?),
+        },
+    }
+    match out.write_all(&text) {
+        Ok(()) => Ok(0),
+        Err(_) => Err(Refusal::from(Error::Output)),
+    }
+}
+
+/// Runs the arguments behind `shell-options`, and answers the status: 0 done, 1 for an error, and 2 where the
+/// arguments are not those of the subcommand that the first of them names.
+pub(crate) fn shell_options<O: io::Write, E: io::Write>(
+    alloc: Global,
+    arguments: &[&str],
+    out: &mut O,
+    err: &mut E,
+) -> u8 {
+    let written = match arguments.split_first() {
+        Some((subcommand, rest)) if *subcommand == "upgrade" || *subcommand == "set-version" => {
+            write_options(alloc, subcommand, rest, out, err)
+        }
+        _ => {
+            let _ = writeln!(err, "{USAGE}");
+            return 2;
+        }
+    };
+    match written {
+        Ok(status) => status,
+        Err(refusal) => {
+            let _ = print_error(&refusal, err);
+            1
+        }
+    }
+}
