@@ -50,10 +50,21 @@ complete -F {function} {name}
 """
 
 
+# Cargo's own completion hands a command's words to this function from bash-completion 2.12 on. Before, it knows options by
+# variables of its own alone, and completes others from a variable of that form.
+BASH_OLD = """if [ "${{BASH_COMPLETION_VERSINFO[0]:-2}}" -eq 2 ] && [ "${{BASH_COMPLETION_VERSINFO[1]:-12}}" -lt 12 ]; then
+    # cargo's own completion reads the options of a command here
+    # shellcheck disable=SC2034
+    opt__{variable}='{options}'
+fi
+"""
+
+
 def bash_of_command(name, command, page):
     cases = bash_cases(page, " " * 8) + ["    esac"]
     cases += ['    [ "$COMP_CWORD" -gt 1 ] || words="%s $words"' % command]
-    return BASH.format(made=MADE, function=function_of(name), name=name, cases="\n".join(cases))
+    old = BASH_OLD.format(variable=command.replace("-", "_"), options=" ".join(flags_of(page)))
+    return BASH.format(made=MADE, function=function_of(name), name=name, cases="\n".join(cases)) + old
 
 
 def bash_of_program(name, top, commands):

@@ -57,8 +57,7 @@ def upgrade_options(rng, names):
         words.append("--ignore-rust-version")
     while rng.random() < 0.25:
         name = rng.choice(names)
-        # (a requirement with build metadata counts as a change where it stands already: it is left out)
-        given = requirement(rng).split("+")[0]
+        given = requirement(rng)
         words += choice(rng, "--package", "-p", f"{name}@{given}" if rng.random() < 0.35 else name)
     while rng.random() < 0.15:
         words += choice(rng, "--exclude", None, rng.choice(names))

@@ -65,9 +65,9 @@ def same_report(one, other, what):
         yield f"{what} prints something else: {told(one)}; {told(other)}"
 
 
-def dry_runs(room, words, real):
-    """What is wrong with the dry run and the check of a run that wrote."""
-    changed = changed_files(room, real)
+def dry_runs(room, words, real, changed):
+    """What is wrong with the dry run and the check of a run that wrote; `changed` has the files that it set
+    something in."""
     dry, check = room.run([*words, "-n"]), room.run([*words, "--check"])
     yield from general(room, dry, may_write=False)
     yield from general(room, check, may_check=bool(changed), may_write=False)

@@ -3,7 +3,7 @@
 import oracle
 import set_version_oracle
 from confined import NoTree, leaves, tree_of
-from properties import confined_changes, diffs, dry_runs, general, read_messages, told
+from properties import changed_files, confined_changes, diffs, dry_runs, general, read_messages, told
 
 
 def may_change(data):
@@ -50,7 +50,7 @@ def faults(room, case, choose):
     wanted, count = expected(room, case.words)
     if case.sure or real.status != 2:
         yield from by_oracle(room, real, wanted)
-    yield from dry_runs(room, case.words, real)
+    yield from dry_runs(room, case.words, real, changed_files(room, real))
     if choose(0.3):
         yield from diffs(room, case.words, real, choose)
     if choose(0.3):

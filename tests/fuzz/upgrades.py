@@ -10,7 +10,7 @@ from confined import NoTree, leaves, tree_of
 from properties import (MISSING, changed_files, confined_changes, diffs, dry_runs, general, read_messages,
                         same_report, told)
 
-CRATE_NAME = re.compile(r"[A-Za-z][A-Za-z0-9_-]*")
+CRATE_NAME = re.compile(r"[A-Za-z0-9_-]+")
 
 
 def inputs(room, words):
@@ -134,15 +134,44 @@ def by_oracle(room, words, run):
                 yield f"{name}: the oracle wants {want!r} at {place}, not {new.get(place)!r}: {told(run)}"
 
 
-def rows_agree(room, real, read):
+def set_places(room, words):
+    """The places by their manifests where a requirement is set to the text that stands there already. An
+    entry's old requirement is its text before the first plus, so that one given as `NAME@1.0.0+b` is another
+    one, also where `1.0.0+b` is what stands there."""
+    try:
+        wanted = expected(room, words) or {}
+    except oracle.Unknown:
+        wanted = {}
+    found = {}
+    for name, changed in wanted.items():
+        old = leaves(tree_of(room.begin[name]))
+        found[name] = {place for place, new in changed.items() if old.get(place) == new}
+    return found
+
+
+def set_files(room, words, run):
+    """The names of files that a run changed, or in which it set a requirement to the text that stood
+    there."""
+    ended_well = not run.status or MISSING.search(run.err)
+    return sorted({*changed_files(room, run), *(name for name, places in set_places(room, words).items()
+                                                if places and ended_well)})
+
+
+def without_version(place):
+    """The place of an entry, from that of its requirement."""
+    return place[:-1] if place[-1] == "version" and len(place) > 2 else place
+
+
+def rows_agree(room, words, real, read):
     """What is wrong where the messages' rows tell of other changes than those that were written."""
     written, reported = {}, {}
+    for name, places in set_places(room, words).items():
+        written.update({(name, without_version(place)): None for place in places})
     for name in changed_files(room, real):
         old, new = leaves(tree_of(room.begin[name])), leaves(tree_of(real.files[name]))
         for place in old:
             if old[place] != new.get(place):
-                written[name, place[:-1] if place[-1] == "version" and len(place) > 2
-                        else place] = new.get(place)
+                written[name, without_version(place)] = new.get(place)
     for row in (one for one in read if one["reason"] == "upgrade-row" and one["change"] is not None):
         place = tuple(row["place"])
         name = os.path.relpath(row["manifest_path"], room.path)
@@ -156,14 +185,14 @@ def rows_agree(room, real, read):
         yield f"rows tell of changes {sorted(reported)}, and {sorted(written)} were written"
     files = sorted(os.path.relpath(one["manifest_path"], room.path) for one in read
                    if one["reason"] == "upgrade-file")
-    if files != changed_files(room, real):
-        yield f"messages tell of the files {files}, and {changed_files(room, real)} changed"
+    if files != set_files(room, words, real):
+        yield f"messages tell of the files {files}, and {set_files(room, words, real)} changed"
 
 
 def locked_run(room, words, real):
     """What is wrong with a run that may change nothing."""
     run = room.run([*words, "--locked"])
-    changed = changed_files(room, real)
+    changed = set_files(room, words, real)
     yield from general(room, run, may_write=False)
     said = b"Error: cannot upgrade due to `--locked`" in run.err
     if (real.status == 0 or MISSING.search(real.err)) and said != bool(changed):
@@ -214,7 +243,7 @@ def by_folder(room, words, real):
     if looks.status:
         return
     lines = [line for line in room.begin["index.json"].split(b"\n") if line.strip()]
-    added = {}
+    added = {"dir/README": b""} # (an index folder that is not there is a usage error)
     for look in looks.out.decode().split("\n")[:-1]:
         address, name, path = look.split("\t")
         own = [line for line in lines if oracle.read_line(line)["name"] == name]
@@ -242,14 +271,14 @@ def faults(room, case, choose):
     yield from second_run(room, words, real)
     if case.sure or real.status != 2:
         yield from by_oracle(room, words, real)
-    yield from dry_runs(room, words, real)
+    yield from dry_runs(room, words, real, set_files(room, words, real))
     if choose(0.3):
         yield from diffs(room, words, real, choose)
     if choose(0.3):
         read, wrong = read_messages(room, words, real, "upgrade")
         yield from wrong
         if not wrong and real.status == 0:
-            yield from rows_agree(room, real, read)
+            yield from rows_agree(room, words, real, read)
     if choose(0.2):
         yield from locked_run(room, words, real)
     if choose(0.15):

@@ -100,6 +100,25 @@ def on_path(number):
     return b'm%d={path="../m%d",version="0.1"}\n' % (number, number)
 
 
+def nested(count):
+    """Metadata whose package has so many arrays, each 120 deep."""
+    files, words = upgrade([entries(1)], lines(1))
+    told = json.loads(files["metadata.json"])
+    told["packages"][0]["metadata"] = "@ARRAYS@"
+    arrays = ",".join(["[" * 120 + "]" * 120] * count)
+    files["metadata.json"] = json.dumps(told).replace('"@ARRAYS@"', f"[{arrays}]").encode()
+    return files, words
+
+
+def one_package(count):
+    """Metadata that name one package as member so many times."""
+    files, words = upgrade([entries(1)], lines(1))
+    told = json.loads(files["metadata.json"])
+    told["workspace_members"] = ["m0"] * count
+    files["metadata.json"] = json.dumps(told).encode()
+    return files, words
+
+
 def registries(count, address=b"file:///r"):
     """A configuration with so many registries."""
     return b"".join(b'registries.r%d.index="%s%d"\n' % (number, address, number) for number in range(count))
@@ -125,7 +144,7 @@ def rows():
                  lambda n: single(entries(n, b'c%d = "1.5.0"\n'), lines(n)))
     yield Family("hunks of a diff", 8000, lambda n: single(
         b"[dependencies]\n" + b"".join(b'c%d = "1.0"\n' % at + b"# c\n" * 9 for at in range(n)), lines(n),
-                                                           ["--diff"]), ("time",))
+                                                           ["--diff"]))
     yield Family("looks", 10000, lambda n: ({"Cargo.toml": entries(n)},
                                             ["looks", "--manifest-path", f"{HERE}/Cargo.toml"]))
 
@@ -149,6 +168,9 @@ def choices():
         entries(n, b'c%d = { package = "x", version = "^0.1" }\n'), versions(n)), ("time",))
     yield Family("the same with requirements of 32 comparators", 1000, lambda n: single(
         entries(n, b'c%%d = { package = "x", version = "%s" }\n' % COMPARATORS), versions(n)), ("time",))
+    yield Family("entries of one crate, all of whose versions are pre-releases", 4000, lambda n: single(
+        entries(n, b'c%d = { package = "x", version = "1" }\n'),
+        numbered(n, b'{"name":"x","vers":"1.0.0-a.%d"}\n')), ("time",))
     yield Family("one requirement of 32 comparators over versions", 40000, lambda n: single(
         b'[dependencies]\nx = "%s"\n' % COMPARATORS, versions(n)))
     yield Family("versions that differ in build metadata alone", 40000, lambda n: single(
@@ -190,6 +212,11 @@ def workspaces():
     yield Family("inheritance: each member each entry of the workspace", 400, lambda n: upgrade(
         [entries(n, b"c%d.workspace = true\n")] * n, lines(n),
         root=b"[workspace]\n[workspace.dependencies]\n" + numbered(n, b'c%d = "1.0"\n')))
+    yield Family("metadata with arrays 120 deep", 8000, nested)
+    yield Family("metadata that name one package again and again", 40000, one_package)
+    yield Family("a configuration with keys of 80 parts", 4000, lambda n: upgrade(
+        [PACKAGE + b'x="1.0"\n'], versions(5),
+        config=numbered(n, b"a%d." + b".".join([b"a"] * 79) + b"=1\n")))
     yield Family("metadata of packages that are no members", 40000, lambda n: upgrade(
         [entries(1)], lines(1), packages=map(package, range(n))))
 

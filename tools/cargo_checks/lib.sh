@@ -88,6 +88,11 @@ fail() {
   [ ! -f "$room/err" ] || cat "$room/out" "$room/err" | tail -n 40 | cut -c 1-300 | sed 's/^/    | /'
   exit 1
 }
+# Ends a row that this machine does not allow; it is not counted among those that hold.
+leave_out() { # REASON
+  echo "$*" > "$room/left_out"
+  exit 77
+}
 # A run of cargo in the current folder.
 run() { # STATUS ARGUMENTS
   local wanted=$1 status=0
@@ -150,23 +155,28 @@ updates() { grep -E '^cargo update ' "$room/calls" || true; }
 
 # Each row in a copy of the first project, with no cache.
 all_rows() {
-  local it row failed=0 count=0 begun
+  local it row status failed=0 left=0 count=0 begun
   for row in ${ROWS:-$(declare -F | sed -n 's/^declare -f row_//p')}; do
-    for it in ws user tmp mode asked calls out err open served; do rm -rf "${room:?}/$it"; done
+    for it in ws user tmp mode asked calls out err open served left_out; do rm -rf "${room:?}/$it"; done
     mkdir "$room/user" "$room/tmp"
     cp -R "$room/served.first" "$room/served"
     cp -R "$room/first" "$room/ws"
     echo "$settings" > "$CARGO_HOME/config.toml"
     begun=$(date +%s%N)
     count=$((count + 1))
-    if (cd "$room/ws" && "row_$row") > "$room/verdict" 2>&1; then
+    status=0
+    (cd "$room/ws" && "row_$row") > "$room/verdict" 2>&1 || status=$?
+    if [ "$status" = 0 ]; then
       echo "$self: $row: ok ($((($(date +%s%N) - begun) / 1000000)) ms)"
+    elif [ "$status" = 77 ] && [ -f "$room/left_out" ]; then
+      left=$((left + 1))
+      echo "$self: $row: left out, $(cat "$room/left_out")"
     else
       failed=$((failed + 1))
       echo "$self: $row: FAILED"
       sed 's/^/  /' "$room/verdict"
     fi
   done
-  echo "$self: $((count - failed)) rows hold, $failed do not"
+  echo "$self: $((count - failed - left)) rows hold, $failed do not, $left were left out"
   [ "$failed" = 0 ]
 }

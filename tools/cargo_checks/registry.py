@@ -18,7 +18,7 @@ such a client is answered:
     slow N              the answer after N seconds
     trickle             the body within 5 seconds, a part each half second
     flaky               503 at the first request for each path, then the answer
-    redirect-once URL   302 to URL and the path, once for each path
+    redirect-once URL   302 with an ETag to URL and the path, once for each path
     loop                302 to itself
     token TEXT          401 but where the header Authorization is TEXT
     gate                waits until DIR/open is there
@@ -146,7 +146,7 @@ class Answers(http.server.BaseHTTPRequestHandler):
             self.answer(503)
         elif word == "redirect-once" and once not in self.moved:
             self.moved.add(once)
-            self.answer(302, more=[("Location", rest + self.path)])
+            self.answer(302, tag='"moved"', more=[("Location", rest + self.path)])
         elif word == "loop":
             self.answer(302, more=[("Location", self.path)])
         elif word == "token" and self.headers.get("Authorization") != rest:

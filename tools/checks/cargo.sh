@@ -126,7 +126,11 @@ raises
 unchanged
 runs 1 upgrade --locked
 raises
-{ looks; echo 'Error: cannot upgrade due to `--locked`'; } | tells
+{
+  looks
+  printf '%s\n' 'Error: cannot upgrade due to `--locked`' '  at /ws/Cargo.toml' '  cause: manifests that would change: 4' \
+    '  help: leave out `--locked` to write them'
+} | tells
 unchanged
 runs 0 upgrade
 raises

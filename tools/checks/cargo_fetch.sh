@@ -119,6 +119,19 @@ row_validator_of_another_body() {
   silent '1\.2\.3'
 }
 
+# An ETag that came behind a redirect may be that of the answer which redirects: no validator is stored beside the entry.
+row_redirected_validator() {
+  mode "redirect-once $base"
+  run 0 upgrade -n
+  shown
+  whole
+  [ -z "$(find "$cache" -name '*.etag')" ] || fail "a validator: $(find "$cache" -name '*.etag' -exec cat {} +)"
+  rm "$room/mode" "$room/asked"
+  run 0 upgrade -n
+  [ "$(grep -c ' sent ' "$room/asked")" = 2 ] || fail 'an entry was not asked for anew'
+  [ "$(find "$cache" -name '*.etag' | wc -l)" = 2 ] || fail 'an answer without a redirect has no validator'
+}
+
 # The cache is the user's alone, and no userinfo gets into it or into a message.
 row_private_cache() {
   (umask 022; run 0 upgrade) || exit 1
@@ -154,6 +167,54 @@ row_prune() {
   [ ! -e "$cache/.run.left" ] || fail 'what a killed run left'
 }
 
+# Control characters of names of folders, of a configuration and of what a server says do not reach a terminal.
+on_terminal() { # STATUS ARGUMENTS
+  local wanted=$1 status=0
+  shift
+  : > "$room/err"
+  CARGO_TERM_COLOR=never CARGO_TERM_PROGRESS_WHEN=never python3 -c 'import os, pty, sys
+said = open(sys.argv[1], "wb")
+def read(fd):
+    data = os.read(fd, 1024)
+    said.write(data.replace(b"\r\n", b"\n"))
+    return b" " if data else data
+sys.stdout = open(os.devnull, "w")
+os.dup2(sys.stdout.fileno(), 1)
+sys.exit(os.waitstatus_to_exitcode(pty.spawn(sys.argv[2:], read)))' "$room/out" cargo "$@" < /dev/null || status=$?
+  [ "$status" = "$wanted" ] || fail "cargo $*: status $status in place of $wanted"
+  printable
+}
+printable() {
+  ! grep -n -a "[$(printf '\001-\010\013-\037\177')]" "$room/out" "$room/err" > "$room/log" ||
+    fail "it prints a control character: $(cat -v "$room/log")"
+}
+# (not run yet: the program does not print through edit_terminal)
+open_control_characters() {
+  local escape odd
+  escape=$(printf '\033[31m')
+  odd="$room/ws/a${escape}b"
+  mkdir "$odd"
+  cp -R Cargo.toml Cargo.lock src "$odd"
+  cd "$odd" || exit 1
+  on_terminal 0 upgrade
+  raised
+  cp "$room/first/Cargo.toml" .
+  on_terminal 1 upgrade --update-calls nowhere/calls
+  grep -q -F '[31mb/nowhere' "$room/out" || fail 'the file is not named'
+  on_terminal 0 set-version --bump minor
+  mode "redirect-once ${escape}odd$escape:/"
+  rm -rf "$cache"
+  on_terminal 1 upgrade -n
+  run 1 upgrade -n
+  missing 'dep, other'
+  rm "$room/mode"
+  printf '[registries.odd]\nindex = "sparse+http://127.0.0.1:1/\\u001B[31m/"\n' >> "$CARGO_HOME/config.toml"
+  sed -i 's/^other = .*/other = { version = "0.2.0", registry = "odd" }/' Cargo.toml
+  on_terminal 1 upgrade -n
+  run 1 upgrade -n
+  missing other
+}
+
 # A folder that is not there is an error, and not an index without the crate.
 row_no_folder() {
   sed -i "s,^registry = .*,registry = \"file://$room/nowhere\"," "$CARGO_HOME/config.toml"
@@ -170,6 +231,8 @@ row_odd_names() {
   cd "$odd/ws" || exit 1
   TMPDIR="$odd/tmp" XDG_CACHE_HOME="$odd/cache" run 0 upgrade
   raised
+  locks dep 1.2.3
+  locks other 0.2.5
   [ -d "$odd/cache/cargo-edit/index" ] || fail 'the cache is elsewhere'
   [ -z "$(ls "$odd/tmp")" ] || fail 'something is left in TMPDIR'
 }
@@ -218,13 +281,14 @@ os.execvp("cargo-upgrade", ["cargo-upgrade", "upgrade"])' > "$room/out" 2> "$roo
   done
   unwritten
 }
-# An entry that is cached and no index names its file and line.
-# (not so yet, and not run: an error about an index entry does not name its file)
+# An error about a cached entry names its file and line.
+# (the entry that the message names stands in the folder of the run, which is gone afterwards, and not in the cache)
 open_broken_entry() {
   fill
   printf 'nothing\n' > "$(entry one 3/d/dep)"
   run 1 upgrade --offline
-  says '3/d/dep'
+  says 'Error: Invalid index line 1'
+  says "  at $(entry one 3/d/dep):1"
   unwritten
   run 0 upgrade
   raised

@@ -7,7 +7,7 @@ begin "$1"
 
 of_the_command() { # COMMAND FILE
   grep -q -e '--offline' "$2" || fail "no --offline in $2"
-  ! grep -n -E 'metadata-json|index-dir|index-file|fetch-plan|fetch-store|next-call' "$2" > "$room/log" || fail "$2 has $(cat "$room/log")"
+  ! grep -n -E 'metadata-json|index-dir|index-file|fetch-plan|fetch-store|next-call|check-curl|shell-options' "$2" > "$room/log" || fail "$2 has $(cat "$room/log")"
   ! grep -n -E -e "cargo-edit $1" "$2" > "$room/log" || fail "$2 has $(cat "$room/log")"
 }
 row_help() {
@@ -41,6 +41,24 @@ row_completions() {
       ! grep -q -E 'metadata-json|index-dir|index-file' "$file" || fail "$file has more than the command takes"
     done
   done
+}
+# cargo's own completion for bash has the options of both commands, with bash-completion before 2.12 and from it on.
+row_bash_completes_cargo() {
+  local of_cargo='' file
+  for file in /usr/share/bash-completion/completions/cargo "$(dirname "$(dirname "$(readlink -f "$(rustup which cargo 2> /dev/null)")")")/etc/bash_completion.d/cargo"; do
+    [ ! -f "$file" ] || of_cargo=$file
+  done
+  [ -n "$of_cargo" ] || leave_out 'there is no completion of cargo'
+  [ -f /usr/share/bash-completion/bash_completion ] || fail 'there is no bash-completion (gate_needs installs it)'
+  completed() { # COMMAND WORD: what `cargo COMMAND WORD` completes to
+    # shellcheck disable=SC2016
+    XDG_DATA_HOME="$room/prefix/share" bash -c '. /usr/share/bash-completion/bash_completion && . "$1" && . "$2" || exit 1
+      COMP_WORDS=(cargo "$3" "$4") COMP_CWORD=2 COMP_LINE="cargo $3 $4" COMP_POINT=${#COMP_LINE}
+      _cargo cargo "$4" "$3"
+      echo "${COMPREPLY[@]}"' '' "$of_cargo" "$room/prefix/share/bash-completion/completions/cargo-$1" "$1" "$2"
+  }
+  [ "$(completed upgrade --never)" = --never-lower ] || fail "upgrade: $(completed upgrade --never)"
+  [ "$(completed set-version --bu)" = --bump ] || fail "set-version: $(completed set-version --bu)"
 }
 
 all_rows

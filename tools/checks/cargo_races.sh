@@ -146,5 +146,45 @@ row_no_room() {
   whole
   newest
 }
+# Disks of several sizes that are full at some step below the cache: each entry there is one that the registry had, whole, the
+# old one where the new one does not fit, and a run that has no entry ends with an error.
+row_full_disk() {
+  local space size old status
+  for space in 'unshare --mount' 'unshare --map-root-user --mount' ''; do
+    if [ -z "$space" ]; then leave_out 'no file system can be mounted here'; fi
+    if $space sh -c 'mount -t tmpfs -o size=64k tmpfs /mnt' 2> /dev/null; then break; fi
+  done
+  run 0 upgrade -n
+  cp -R "$cache" "$room/filled"
+  publish
+  for old in yes ''; do
+    for size in 16 24 32 48 64 80 96 112 128 160 192 256; do
+      rm -rf "$room/seen"
+      status=0
+      # (the mount is gone with the process that made it)
+      # shellcheck disable=SC2016
+      $space sh -c 'mkdir -p "$1" && mount -t tmpfs -o "size=$2k" tmpfs "$1" || exit 9
+        if [ -n "$4" ]; then cp -R "$4/." "$1"; fi
+        cargo upgrade -n; status=$?; cp -R "$1" "$3"; exit "$status"' \
+        '' "$cache" "$size" "$room/seen" "${old:+$room/filled}" > "$room/out" 2> "$room/err" || status=$?
+      case $status in
+        0) grep -q -E "^dep +1\.0 .* 1\.$((published + 2)) " "$room/out" || says_like '^warning: .*dep' ;;
+        1) says_like '^Error: ' ;;
+        *) fail "$size kB: status $status" ;;
+      esac
+      [ -z "$(find "$room/seen" -name '.run*')" ] || fail "$size kB: the folder of the run is left"
+      find "$room/seen" -type f ! -name '*.etag' ! -name '.*' > "$room/entries"
+      while IFS= read -r entry; do
+        case $entry in
+          */3/d/dep)
+            for body in "$room"/bodies/*; do if cmp -s "$body" "$entry"; then continue 2; fi; done ;;
+          */ot/he/other) if cmp -s "$room/served/one/ot/he/other" "$entry"; then continue; fi ;;
+        esac
+        fail "$size kB: $entry is none that the registry had"
+      done < "$room/entries"
+      [ -z "$old" ] || [ "$(wc -l < "$room/entries")" = 2 ] || fail "$size kB: an entry is gone"
+    done
+  done
+}
 
 all_rows

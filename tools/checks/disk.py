@@ -2,7 +2,7 @@
 """disk.py PROGRAM: runs that may not write. On a disk without room, and under a limit of the size of files, the manifest
 stays as it was, the refusal is told and no file is left; with room again it is raised. A manifest that may not be written
 stays; in a folder where none may be made it is overwritten, and where it would grow on a disk without room it stays. Of runs
-at once, over one manifest or a workspace of 20, each leaves manifests whole, and the last that writes wins."""
+at once, over one manifest or a workspace of 30, each leaves manifests whole, and all of them are of the last that writes."""
 
 import os
 import pathlib
@@ -152,7 +152,7 @@ def at_once(place):
 
 
 def workspace_at_once(program, folder):
-    """Two runs at once over a workspace, with two indexes: each manifest is one of the two texts, whole."""
+    """Two runs at once over a workspace, with two indexes: all manifests are of one of the two runs, whole."""
     global tries
     folder.mkdir()
     (folder / "index7.json").write_bytes(b'{"name":"a","vers":"1.7.0"}\n')
@@ -167,8 +167,8 @@ def workspace_at_once(program, folder):
             said = run.communicate()[1]
             if run.returncode:
                 yield f"one of two runs at once over a workspace: {said!r}"
-        if not manifests.hold(manifests.new, seven) or manifests.left():
-            yield f"two runs at once over a workspace left a manifest cut, or {manifests.left()} files"
+        if not (manifests.hold(manifests.new) or manifests.hold(seven)) or manifests.left():
+            yield f"two runs at once over a workspace left a mixture, a manifest cut, or {manifests.left()} files"
 
 
 def main():

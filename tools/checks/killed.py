@@ -1,9 +1,9 @@
 #!/usr/bin/env python3
-"""killed.py PROGRAM: the program is killed 200 times at varying moments while it writes the 20 manifests of a workspace, and
-what it leaves stays. Each manifest is always the old or the new text whole, and leavings do not pile up. An undisturbed run
-then ends as ever, also where names beside a manifest are taken, and never writes in place."""
+"""killed.py PROGRAM: the program is killed 100 times at varying moments while it writes the 30 manifests of a workspace, and
+what it leaves stays. Each manifest is always the old or the new text whole, those that are new are the first ones in their
+order, and most kills leave all old or all new; leavings do not pile up. An undisturbed run
+then ends as ever, and never writes in place."""
 
-import fcntl
 import json
 import os
 import pathlib
@@ -13,7 +13,7 @@ import sys
 import tempfile
 import time
 
-KILLS, MOST_LEFT, MEMBERS = 200, 4, 20
+KILLS, MOST_LEFT, MEMBERS = 100, 4, 30
 HEAD = b'[dependencies]\na = "1.0"\n'
 LINES = b'{"name":"a","vers":"1.0.0"}\n{"name":"a","vers":"1.5.0"}\n'
 
@@ -63,6 +63,12 @@ class Manifests:
         """Whether each manifest is one of these texts."""
         return all(path.read_bytes() in texts for path in self.paths)
 
+    def raised(self):
+        """How many manifests at the front are new; none where one behind them is not old."""
+        texts = [path.read_bytes() for path in self.paths]
+        front = next((at for at, text in enumerate(texts) if text != self.new), len(texts))
+        return front if all(text == self.old for text in texts[front:]) else None
+
     def start(self):
         return subprocess.Popen(self.words, stdout=subprocess.DEVNULL, stderr=subprocess.DEVNULL)
 
@@ -89,33 +95,30 @@ def kills(manifests, usual):
             break
         manifests.reset()
         killed += kill(manifests, usual)
-        if not manifests.hold(manifests.old, manifests.new):
-            yield f"kill {turn}: a manifest is cut"
+        raised = manifests.raised()
+        if raised is None:
+            yield f"kill {turn}: a manifest is cut, or new before another one"
         most = max(most, manifests.most_left())
-        partly += manifests.hold(manifests.old, manifests.new) and not manifests.hold(manifests.old)
+        partly += raised not in (None, 0, MEMBERS)
     if killed < KILLS:
         yield f"{killed} runs were killed, of {4 * KILLS}"
     if most == 0:
         yield "no run was killed in its write"
+    if 2 * partly > killed:
+        yield f"{partly} kills left a part of the manifests new"
     if most > MOST_LEFT:
         yield f"{most} files were left"
     print(f"{killed} runs over {len(manifests.paths)} manifests killed; at most {most} files left in a folder at a time; "
-          f"{partly} times a manifest was new")
+          f"{partly} times a part of the manifests was new")
 
 
-def taken(manifests):
-    """A last run, where names beside a manifest are held by others, and it has a second name, which parts where it is not
-    written in place; what is wrong behind it."""
+def parted(manifests):
+    """A last run, where a manifest has a second name, which parts where it is not written in place; what is wrong behind it."""
     folder = manifests.paths[0].parent
-    held = [open(folder / f"cargo-edit.new-{number}", "wb") for number in range(20)]
-    for file in held:
-        fcntl.flock(file, fcntl.LOCK_EX)
     manifests.reset()
     os.link(manifests.paths[0], folder / "same")
     if not manifests.is_raised() or (folder / "same").read_bytes() != manifests.old:
-        yield "the manifest is written in place where names are taken"
-    if any(os.fstat(file.fileno()).st_nlink != 1 for file in held):
-        yield "a file that another run holds is taken"
+        yield "the manifest is written in place"
 
 
 def faults(program, room):
@@ -135,7 +138,7 @@ def faults(program, room):
         yield "the last run does not raise the manifests"
     if manifests.left():
         yield f"{manifests.left()} files are left"
-    yield from taken(manifests)
+    yield from parted(manifests)
 
 
 def main():

@@ -9,6 +9,7 @@ import collections
 import importlib.util
 import os
 import pathlib
+import re
 import shutil
 import subprocess
 import sys
@@ -16,13 +17,17 @@ import tempfile
 
 HERE = pathlib.Path(__file__).resolve().parent
 
+# What an error says below its text and its place: its cause, its help, and the line of a text that is no TOML. errors.py has them.
+MORE = re.compile(r"^(?:  (?:cause|help): .*| +[0-9]* \|.*)\n", re.MULTILINE)
+
 
 class Ran:
-    """What a run answered and left. The folder that stands for `/` is left out of every text."""
+    """What a run answered and left. The folder that stands for `/` is left out of every text, and what an error says below
+    its place."""
 
     def __init__(self, room, done):
         self.room, self.status = room, done.returncode
-        self.out, self.err = self.shown(done.stdout), self.shown(done.stderr)
+        self.out, self.err = self.shown(done.stdout), MORE.sub("", self.shown(done.stderr))
 
     def shown(self, data):
         """Bytes as text, with paths as the row has them."""

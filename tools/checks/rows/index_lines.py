@@ -15,7 +15,30 @@ BAD_LINES = r"""30 Invalid index line 1|no version|{"name":"a"}
 30 Invalid index line 1|yanked by a text|{"name":"a","vers":"1.0.0","yanked":"no"}
 30 Invalid index line 2|the second line|{"name":"a","vers":"1.0.0"}@{"name":"a"
 30 Invalid index line 1|too deep|
-30 Invalid index line 1|no UTF-8|"""
+30 Invalid index line 1|a member nested 127 levels deep|
+30 Invalid index line 1|no UTF-8|
+30 Invalid index line 1|a name that is a number|{"name":1,"vers":"1.0.0"}
+30 Invalid index line 1|yanked by null|{"name":"a","vers":"1.0.0","yanked":null}
+30 Invalid index line 1|a Rust version that is a number|{"name":"a","vers":"1.0.0","rust_version":1}
+30 Invalid index line 1|a second version that is no text|{"name":"a","vers":"1.0.0","vers":null}
+30 Invalid index line 1|a number out of range in another member|{"name":"a","vers":"1.0.0","v":1e999}
+30 Invalid index line 1|half of a surrogate pair in another member|{"name":"a","vers":"1.0.0","deps":["\ud800"]}
+30 Invalid index line 1|a number with a leading zero in another member|{"name":"a","vers":"1.0.0","v":01}
+30 Invalid index line 1|a comma behind the last member|{"name":"a","vers":"1.0.0",}
+30 Invalid index line 1|text behind the object|{"name":"a","vers":"1.0.0"} {}"""
+
+# A name, the version that is found for `a`, and the line. Of equal keys the last one counts (RFC 8259, section 4).
+GOOD_LINES = r"""a key with an escape|1.0.0|{"na\u006de":"a","vers":"1.0.0"}
+a version with an escape|1.0.0|{"name":"a","vers":"1.\u0030.0"}
+a pair of surrogates in another member|1.0.0|{"name":"a","vers":"1.0.0","deps":["\ud83d\ude00"]}
+two names|1.0.0|{"name":"b","name":"a","vers":"1.0.0"}
+two versions|1.1.0|{"name":"a","vers":"1.0.0","vers":"1.1.0"}
+yanked and then not|1.0.0|{"name":"a","vers":"1.0.0","yanked":true,"yanked":false}
+not yanked and then yanked|none|{"name":"a","vers":"1.0.0","yanked":false,"yanked":true}
+numbers of every form in other members|1.0.0|{"v":2,"x":[0,-1,1.5,2E-3,18446744073709551616],"name":"a","vers":"1.0.0"}
+an empty key|1.0.0|{"":{},"name":"a","vers":"1.0.0"}
+white space of JSON between all tokens|1.0.0| { "name" : "a" , "vers" :	"1.0.0" }
+a member nested 126 levels deep|1.0.0|"""
 
 # The lines of two crates.
 TWO = (b'{"name":"a","vers":"1.0.0"}\r\n \t\n{"name":"b","vers":"2.0.0"}\n'
@@ -93,9 +116,23 @@ def look(check, name, address, files, *words):
     return looked(check.run([*UPGRADE, *words], files), name)
 
 
+def nested(levels):
+    """A line of the crate `a` with a member of arrays in one another, so many levels deep."""
+    return '{"name":"a","vers":"1.0.0","deps":' + "[" * levels + "]" * levels + "}"
+
+
+def good_lines(check):
+    """What is found in the line of each row."""
+    for row in GOOD_LINES.splitlines():
+        name, version, text = row.split("|")
+        text = text.replace(r"\t", "\t").replace(r"\r", "\r") or nested(126)
+        seen = look(check, "a", "file:///x", {"/w/index.json": text}, "--index-file", "index.json")
+        check.same("GOOD_LINES", name, seen, "none" if version == "none" else f"a {version}.")
+
+
 def bad_lines(check):
     """What is told of the lines of each row."""
-    lines = {"no UTF-8": b"\xff", "too deep": "[" * 1000}
+    lines = {"no UTF-8": b"\xff", "too deep": "[" * 1000, "a member nested 127 levels deep": nested(127)}
     for row in BAD_LINES.splitlines():
         want, name, text = row.split("|")
         files = {"/w/index.json": lines.get(name, unfolded(text))}
@@ -128,6 +165,7 @@ def looks_in_registries(check):
         if address in FOLDERS:
             old, new = FOLDERS[address]
             own = {path.replace(old, new): text for path, text in files.items() if path.startswith(old)}
+            own["/d/empty"] = ""
             seen = look(check, name, address, own, "--index-dir", "@ROOT@/d")
             check.same("IN_FILES, in a folder of registries", row, seen, want)
 
@@ -142,5 +180,5 @@ def looks_in_a_folder(check):
 
 def rows(check):
     """All tables."""
-    for table in (bad_lines, looks_in_one_file, looks_in_files, looks_in_registries, looks_in_a_folder):
+    for table in (bad_lines, good_lines, looks_in_one_file, looks_in_files, looks_in_registries, looks_in_a_folder):
         table(check)

@@ -73,7 +73,7 @@ def paths(check):
         seen = told(ran) or ran.out.removesuffix("\n").rpartition("\t")[2]
         check.same("paths of names", row, seen, want)
         if want.startswith("29 "):
-            ran = check.run(["upgrade", "--index-dir", "@ROOT@/look"], files)
+            ran = check.run(["upgrade", "--index-dir", "@ROOT@/look"], {**files, "/look/empty": ""})
             check.same("paths of names in a folder", row, told(ran), want)
 
 

@@ -58,6 +58,7 @@ serde 1.0     1.2.3      1.2.3  1.2
     Checking virtual workspace's dependencies
 §no index file, and no index in files|mi|upgrade --manifest-path Cargo.toml|\
 1 manifest Error: Registry scheme `sparse+https` is not supported
+  at /w/Cargo.toml:2:9
 §nothing there|i|-|1 none Error: Failed to get cargo file metadata
   at /w/Cargo.toml
 §a folder in its place|b|-|1 none Error: Failed to read manifest contents
@@ -75,6 +76,7 @@ serde 1.0     1.2.3      1.2.3  1.2
 §a malformed line|ml|-|1 manifest Error: Invalid index line 1
   at /w/index.json:1
 §a name that no index has|oi|-|1 odd name Error: Invalid crate name `no name`
+  at /w/Cargo.toml:2:13
 §found above|snm|upgrade --manifest-path a/./b/ --index-file ../w//index.json|\
 1 manifest Error: Invalid index line 2
   at /w/index.json:2
@@ -89,8 +91,10 @@ serde 1.0     1.2.3      1.2.3  1.2
 serde 1.0     1.2.3      1.2.3  1.2    
     Checking virtual workspace's dependencies
 §a registry that none names|ri|-|1 of a registry Error: The registry 'r' could not be found
+  at /w/Cargo.toml:2:9
 §a broken configuration, before the index|rkh|-|\
 1 of a registry Error: invalid cargo config at /w/.cargo/config.toml
+  at /w/.cargo/config.toml
 §nothing to raise|aj|-|0 up to date     Checking virtual workspace's dependencies
 note: Re-run with `--verbose` to show more dependencies
   latest: a
@@ -126,6 +130,7 @@ warning: aborting upgrade due to dry run
 serde 1.0     1.2.3      1.2.3  1.2    
     Checking virtual workspace's dependencies
 Error: cannot upgrade due to `--locked`
+  at /w/Cargo.toml
 §a change as a diff|mi|- --diff|0 raised name  old req compatible latest new req
 ====  ======= ========== ====== =======
 serde 1.0     1.2.3      1.2.3  1.2    
@@ -152,6 +157,7 @@ note: Re-run with `--verbose` to show more dependencies
 serde 1.0     1.2.3      1.2.3  1.2    
     Checking virtual workspace's dependencies
 Error: cannot upgrade due to `--locked`
+  at /w/Cargo.toml
 §a lock with nothing to raise, and all rows|aj|- --locked -v --verbose|0 up to date \
 name old req compatible latest new req
 ==== ======= ========== ====== =======

@@ -1,6 +1,5 @@
 """Files of the machine, below a folder: permissions, links, writing in place, and the file beside."""
 
-import fcntl
 import itertools
 import json
 import os
@@ -25,7 +24,7 @@ not for all|set mode|/b|640|done
 a new text|write|/b|two|written
 it is there|read|/b||two
 the permissions stay|mode|/b||640
-no file beside|kind|/cargo-edit.new-0||absent
+no file beside|left|/b||a b
 for reading alone|set mode|/b|444|done
 may not be written|write|/b|three|3 Failed to write updated Cargo.toml
 the text stays|read|/b||two
@@ -40,29 +39,25 @@ no file can be made in it|set mode|/d|555|done
 written in place|write|/d/e|two|written
 as before|set mode|/d|755|done
 the text in place|read|/d/e||two
-what killed runs left|leave|/d/e||done
+what a killed run left|leave|/d/e||done
 written beside|write|/d/e|three|written
 the new text|read|/d/e||three
-the first name is free again|kind|/d/cargo-edit.new-0||absent
-what another run fills|held|/d/e|four|written
-the newer text|read|/d/e||four
-it is not taken|read|/d/cargo-edit.new-0||held
-each name beside it|crowd|/d/e||done
+what was left is gone|left|/d/e||e
 a second name|same|/d/e||done
-not in place|write|/d/e|five|written
-the newest text|read|/d/e||five
-the second name parts|read|/d/e.same||four
-no further file|kind|/d/cargo-edit.new-16||absent"""
+not in place|write|/d/e|four|written
+the newer text|read|/d/e||four
+the second name parts|read|/d/e.same||three
+no further file|left|/d/e||e e.same"""
 
 # What stands where the file beside cannot be moved over the old one.
 UNMOVED = """\
 an old file|put|/a|old|done
 the new one is not moved|write|/a|new|3 Failed to write updated Cargo.toml
 the old text|read|/a||old
-no file beside|kind|/cargo-edit.new-0||absent"""
+no file beside|left|/a||a"""
 
 # The words that stand for texts: each for a manifest with a greater version than the one before it.
-WORDS = ("old", "new", "one", "two", "three", "four", "five")
+WORDS = ("old", "new", "one", "two", "three", "four")
 
 # What the calls of `cargo update` say where the locked package has a word as its name.
 CALLS = re.compile(r"cargo\nupdate\n.*\n--package\n(\w+)@1\.0\.0\n--offline\n\n", re.DOTALL)
@@ -145,24 +140,14 @@ class Files:
         number = 3 if said == "Failed to write updated Cargo.toml" else "?"
         return "written" if said is None else f"{number} {said}"
 
-    def held(self, path, word):
-        """What a write gives while another run fills the first file beside."""
-        with open(os.path.dirname(path) + "/cargo-edit.new-0", "wb", buffering=0) as file:
-            file.write(b"held")
-            fcntl.flock(file, fcntl.LOCK_EX)
-            return self.write(path, word)
 
-
-def names(path):
-    """The names beside a file that a run takes first."""
-    return [pathlib.Path(os.path.dirname(path), f"cargo-edit.new-{n}") for n in range(16)]
-
-
-def crowd(path):
-    """Takes each name beside a file by a folder, which no run leaves."""
-    for name in names(path):
-        name.unlink(missing_ok=True)
-        name.mkdir()
+def leave(path):
+    """Leaves beside a file what killed runs leave: an empty new file, and one that is filled, under its own number."""
+    folder = pathlib.Path(path).parent
+    (folder / ".cargo-edit.999999-0.new").write_text("")
+    filled = folder / "filled"
+    filled.write_text("half")
+    filled.rename(folder / f".cargo-edit.999999-{filled.stat().st_ino}.tmp")
 
 
 # What a row changes on the machine, and what it shows of the machine.
@@ -170,10 +155,10 @@ CHANGES = {"put": lambda path, word: pathlib.Path(path).write_text(manifest(word
            "folder": lambda path, _: os.mkdir(path),
            "set mode": lambda path, digits: os.chmod(path, int(digits, 8)),
            "link": lambda path, _: os.symlink(path, path + ".link"),
-           "leave": lambda path, _: [name.write_text("taken") for name in names(path)],
-           "crowd": lambda path, _: crowd(path),
+           "leave": lambda path, _: leave(path),
            "same": lambda path, _: os.link(path, path + ".same")}
-SHOWN = {"mode": lambda path: f"{os.stat(path).st_mode & 0o777:o}",
+SHOWN = {"left": lambda path: " ".join(sorted(os.listdir(os.path.dirname(path)))),
+         "mode": lambda path: f"{os.stat(path).st_mode & 0o777:o}",
          "is link": lambda path: str(os.path.islink(path)).lower()}
 
 

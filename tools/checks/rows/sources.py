@@ -10,12 +10,13 @@ NUMBERS = {
 
 
 def told(ran):
-    """A refusal's number and text, with a space between them. The text of 5 is that of 2 too, which has a
-    place here."""
+    """A refusal's number and text, with a space between them. The text of 5 is that of 2 too, of which
+    there is a file."""
     text, *place = ran.err.splitlines() or [""]
     text = text.removeprefix("Error: ")
     number = next((number for said, number in NUMBERS.items() if text.startswith(said)), 0)
-    return f"{2 if number == 5 and place else number} {text}"
+    stands = place and ran.bytes(place[0].removeprefix("  at ")) is not None
+    return f"{2 if number == 5 and stands else number} {text}"
 
 
 # The files: the path of each and what it holds, `'` being a quote and `@` a line's end.

@@ -47,11 +47,13 @@ a member and what depends on it|mrab|--bump minor -p a|mrAB|\
     Updating b's dependency from 0.1 to 0.2
 §what does not follow|mrag|--bump minor -p a|mrag|\
 1 Error: Support for modifying >=0.1 is currently unsupported
+  at /w/b/Cargo.toml:2:32
 §the version of the workspace|npi|2.0.0|nPi|\
 0    Upgrading workspace version from 1.0.0 to 2.0.0
    Upgrading a from 1.0.0 to 2.0.0 (inherited from workspace)
 §a member that may not be excluded|oqj|2.0.0 --workspace --exclude root|oqj|\
 1 Error: Cannot exclude root package(s) when b package(s) modify `workspace.package.version`
+  at /w/Cargo.toml
 §a name that no member has, twice|mrab|2.0.0 -p missing -p missing|mrab|\
 1 Error: package missing doesn't exist
 §names that no members have|mrab|2.0.0 -p first-missing -p second-missing|mrab|\
@@ -68,6 +70,7 @@ warning: aborting set-version due to dry run
 §the old name of a flag, before a refusal|mrag|0.2.0 --all --exclude b|mrag|\
 1 warning: The flag `--all` has been deprecated in favor of `--workspace`
 Error: Support for modifying >=0.1 is currently unsupported
+  at /w/b/Cargo.toml:2:32
 §no metadata|rab|2.0.0|rab|\
 1 Error: Failed to get cargo file metadata
   at /w/metadata.json
@@ -76,6 +79,7 @@ Error: Support for modifying >=0.1 is currently unsupported
   at /w/metadata.json
 §a member without a manifest|mra|2.0.0|mra|\
 1 Error: Failed to read manifest contents
+  at /w/b/Cargo.toml
 §a member's manifest that is no document|mrdb|2.0.0|mrdb|\
 1 Error: Unable to parse Cargo.toml
   at /w/a/Cargo.toml:1:7
@@ -103,12 +107,15 @@ package.version = "1.0.1-beta.1"
 §--bump beta|1.0.1-alpha.3|0    Upgrading a from 1.0.1-alpha.3 to 1.0.1-beta.1
 package.version = "1.0.1-beta.1"
 §--bump alpha|1.0.1-beta.1|1 Error: Cannot increment the alpha field for 1.0.1-beta.1
+  at /w/Cargo.toml:1:19
 package.version = "1.0.1-beta.1"
 §--bump beta|1.0.1-beta.1|0    Upgrading a from 1.0.1-beta.1 to 1.0.1-beta.2
 package.version = "1.0.1-beta.2"
 §--bump alpha|1.0.1-rc.1|1 Error: Cannot increment the alpha field for 1.0.1-rc.1
+  at /w/Cargo.toml:1:19
 package.version = "1.0.1-rc.1"
 §--bump beta|1.0.1-rc.1|1 Error: Cannot increment the beta field for 1.0.1-rc.1
+  at /w/Cargo.toml:1:19
 package.version = "1.0.1-rc.1"
 §--bump rc|1.0.1-rc.1|0    Upgrading a from 1.0.1-rc.1 to 1.0.1-rc.2
 package.version = "1.0.1-rc.2"
@@ -122,8 +129,10 @@ package.version = "1.0.0+git.123456"
 package.version = "1.3.0+lib.9"
 §--bump major|18446744073709551615.0.0|\
 1 Error: A number of 18446744073709551615.0.0 is at its end
+  at /w/Cargo.toml:1:19
 package.version = "18446744073709551615.0.0"
 §1.0.0|2.0.0|1 Error: Cannot downgrade from 2.0.0 to 1.0.0
+  at /w/Cargo.toml:1:19
 package.version = "2.0.0"
 §2022.3.0|2022.3.0-dev-12345|0    Upgrading a from 2022.3.0-dev-12345 to 2022.3.0
 package.version = "2022.3.0"

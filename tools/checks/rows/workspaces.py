@@ -162,6 +162,7 @@ warning: aborting upgrade due to dry run
 docopt 0.8     0.8.1      0.8.1  1.0.0  
     Checking w's dependencies
 Error: cannot upgrade due to `--locked`
+  at /w/Cargo.toml
 §no metadata|irab||--metadata-json metadata.json --index-file index.json|rab|\
 1 Error: Failed to get cargo file metadata
   at /w/metadata.json
@@ -277,6 +278,7 @@ note: Re-run with `--verbose` to show more dependencies
   latest: serde
 §no index in files|f|s||f|\
 1 Error: Registry scheme `sparse+https` is not supported
+  at /w/Cargo.toml:2:22
 """
 
 # The same, of words that begin with the subcommand.
@@ -291,6 +293,7 @@ file:///idx\tlog\t3/l/log
   at /w/a/Cargo.toml:1:7
 §a look for a name that no index has|o||looks|o|\
 1 Error: Invalid crate name `no name`
+  at /w/Cargo.toml:2:13
 §a check of new versions|mrvy||set-version --metadata-json metadata.json --bump minor -p a --check|rvy|\
 1    Upgrading a from 0.1.0 to 0.2.0
     Updating b's dependency from 0.1 to 0.2
@@ -317,41 +320,60 @@ warning: aborting set-version due to dry run
    Upgrading a from 0.1.0 to 0.2.0
     Updating b's dependency from 0.1 to 0.2
 §the next call, of which a package has moved|uLq||next-call --calls calls --lock-before before.lock \
---lock-file Cargo.lock --number 1 --offline|uLq|\
-0 cargo
-update
---manifest-path
-/w/Cargo.toml
---aggressive
---package
-serde@1.0.5
---package
-log@0.4.5
---offline
+--lock-file Cargo.lock --after 0 --offline|uLq|\
+0 number='1'
+set -- 'update' '--manifest-path' '/w/Cargo.toml' '--aggressive' '--package' 'serde@1.0.5' '--package' 'log@0.4.5' '--offline'
          Run cargo update --manifest-path /w/Cargo.toml --aggressive --package serde@1.0.5 \
 --package log@0.4.5 --offline
 §the next call as it stands in the file|tLq||next-call --calls calls --lock-before before.lock \
---lock-file ./Cargo.lock --number=1|tLq|\
-0 cargo
-update
---manifest-path
-/w/Cargo.toml
---aggressive
---package
-serde@1.0.5
+--lock-file ./Cargo.lock --after=0|tLq|\
+0 number='1'
+set -- 'update' '--manifest-path' '/w/Cargo.toml' '--aggressive' '--package' 'serde@1.0.5'
 §a call of which nothing is left|uL||next-call --calls calls --lock-before before.lock \
---lock-file Cargo.lock --number 1|uL|\
+--lock-file Cargo.lock --after 0|uL|\
 0     Skipping cargo update --manifest-path /w/Cargo.toml --aggressive --package serde@1.0.5 \
 --package log@0.4.3 --offline
-§no such call|tLq||next-call --calls calls --lock-before before.lock --lock-file Cargo.lock --number 2|tLq|\
-1 Error: there is no call 2 in calls
-§a number that is none|tLq||next-call --calls calls --lock-before before.lock --lock-file Cargo.lock --number 0|tLq|\
-2 error: `--number <N>` is a number from 1
+§no further call|tLq||next-call --calls calls --lock-before before.lock --lock-file Cargo.lock --after 1|tLq|\
+0 \
+§a number that is none|tLq||next-call --calls calls --lock-before before.lock --lock-file Cargo.lock --after x|tLq|\
+2 error: `--after <N>` is a number
 §a next call without its lock file|tk||next-call --calls calls --lock-before Cargo.lock --lock-file Cargo.lock \
---number 1|tk|\
+--after 0|tk|\
 1 Error: Invalid workspace metadata
   at /w/Cargo.lock
-§no file of calls|q||next-call --calls calls --lock-before Cargo.lock --lock-file Cargo.lock --number 1|q|\
+§what a script has to know of an upgrade|q||shell-options upgrade -vqnp a --locked --manifest-path it's|q|\
+0 action='run'
+manifest='it'\\''s'
+calls=''
+locked='--locked'
+offline=''
+dry='yes'
+§of an upgrade behind the end of its options|q||shell-options upgrade --offline --update-calls=calls --|q|\
+0 action='run'
+manifest=''
+calls='calls'
+locked=''
+offline='--offline'
+dry=''
+§of new versions|q||shell-options set-version --bump minor --check|q|\
+0 action='run'
+manifest=''
+calls=''
+locked=''
+offline=''
+dry='yes'
+§of an upgrade that needs no script|q||shell-options upgrade --index-file index.json|q|\
+0 action='program'
+manifest=''
+calls=''
+locked=''
+offline=''
+dry=''
+§of a help|q||shell-options set-version -nh|q|\
+0 action='help'
+§of a version|q||shell-options upgrade -V|q|\
+0 action='program'
+§no file of calls|q||next-call --calls calls --lock-before Cargo.lock --lock-file Cargo.lock --after 0|q|\
 1 Error: Failed to get cargo file metadata
   at /w/calls
 """

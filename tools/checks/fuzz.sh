@@ -1,5 +1,5 @@
 #!/usr/bin/env bash
-# minute.sh PROGRAM   a minute of the fuzzer (tests/fuzz/run) with a fresh seed, which it prints first, and each of its saved cases.
+# fuzz.sh PROGRAM   a minute of the fuzzer (tests/fuzz/run) with a fresh seed, which it prints first, and each of its saved cases.
 # `tests/fuzz/run PROGRAM --seed S` tries the cases of a seed again.
 set -eu -o pipefail
 here=$(cd "$(dirname "$0")/../.." && pwd)

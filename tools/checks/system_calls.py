@@ -1,0 +1,105 @@
+#!/usr/bin/env python3
+"""system_calls.py PROGRAM: each system call of an `upgrade` and of a `set-version` over three members is failed in turn, by
+`strace -e inject`, and each is the moment of a kill. No manifest is ever cut. A run that a call fails ends with status 0 and
+each manifest new, or with status 1 (2 where the current folder cannot be had), says why, and the manifests are old but for a
+front of them that the renames made. Behind a kill the next run leaves no file of the killed one."""
+
+import collections
+import concurrent.futures
+import re
+import sys
+import tempfile
+
+from workspaces import Workspace, run
+
+ERRORS = ("EIO", "ENOSPC", "EACCES", "EINTR")
+WORKERS = 4
+# Calls of the C library and of the loader for memory, and the end.
+PASSED = {"exit_group", "brk", "mmap", "munmap", "mremap", "execve"}
+
+
+def calls(words):
+    """The system calls of a run, each with how many of its name came before it, from the first of the program's own."""
+    traced = run(["strace", "-f", "-o", "/dev/stdout", *words]).stdout.decode(errors="replace")
+    names = [found[1] for found in (re.match(r"\d+\s+(\w+)\(", line) for line in traced.splitlines()) if found]
+    seen, numbered = collections.Counter(), []
+    for name in names:
+        seen[name] += 1
+        numbered.append((name, seen[name]))
+    return numbered[names.index("getcwd"):]
+
+
+def inject(words, call, what):
+    """A run in which something befalls a system call."""
+    name, number = call
+    return run(["strace", "-f", "-o", "/dev/null", "-e", f"inject={name}:{what}:when={number}", *words])
+
+
+def is_front(state):
+    """Whether the manifests are new up to one of them, and old behind it."""
+    return re.fullmatch("1*0*", state) is not None
+
+
+def failed(workspace, words, new, share, counts):
+    """What is wrong with runs in which a call fails."""
+    for call in share:
+        for error in ERRORS if call[0] not in PASSED else ():
+            workspace.reset()
+            done = inject(words, call, f"error={error}")
+            state = workspace.state(workspace.old, new)
+            counts[error, f"status {done.returncode}", state] += 1
+            # (what fails while the error is printed leaves it untold)
+            told = done.returncode == 1 and (b"Error: " in done.stderr or call[0] in ("write", "writev"))
+            # (without a current folder the arguments cannot be read: a usage error)
+            is_usage_error = done.returncode == 2 and b"error: the current folder" in done.stderr
+            told |= is_usage_error and call[0] == "getcwd" and state == "000"
+            # (what fails behind the last rename is told, with every manifest new)
+            if not is_front(state) or not (told or (done.returncode == 0 and state == "111")):
+                yield f"{error} of {call}: status {done.returncode}, {state}, {done.stderr[-200:]!r}"
+            if state not in ("000", "111") and not call[0].startswith("rename"):
+                yield f"{error} of {call}, which moves no file: {state}, {done.stderr[-200:]!r}"
+            if workspace.left():
+                run(words)
+                if workspace.left():
+                    yield f"{error} of {call}: behind the next run {workspace.left()} are left"
+
+
+def killed(workspace, words, new, share, counts):
+    """What is wrong with runs that are killed at a call."""
+    for call in share:
+        workspace.reset()
+        inject(words, call, "signal=KILL")
+        state = workspace.state(workspace.old, new)
+        counts["killed", state] += 1
+        if not is_front(state):
+            yield f"a kill at {call}: {state}"
+        run(workspace.upgrade())
+        if workspace.left():
+            yield f"a kill at {call}: behind the next run {workspace.left()} are left"
+
+
+def part(kind, name, number, counts):
+    """What is wrong with every WORKERS-th of the runs of a kind over a command, in a workspace of their own."""
+    with tempfile.TemporaryDirectory() as room:
+        workspace = Workspace(sys.argv[1], room)
+        words = workspace.upgrade() if name == "upgrade" else workspace.set_version("0.2.0")
+        new = workspace.raised() if name == "upgrade" else workspace.bumped()
+        return [f"{name}: {text}" for text in kind(workspace, words, new, calls(words)[number::WORKERS], counts)]
+
+
+def main():
+    counts, wrong = collections.Counter(), []
+    parts = [(kind, name, number) for number in range(WORKERS) for kind in (failed, killed) for name in ("upgrade", "set-version")]
+    with concurrent.futures.ThreadPoolExecutor(WORKERS) as pool:
+        for found in pool.map(lambda one: part(*one, counts), parts):
+            wrong += found
+    for what, count in sorted(counts.items(), key=str):
+        print(count, *what)
+    if not any("1" in state and "0" in state for kind, *_, state in counts if kind == "killed"):
+        wrong.append("no kill came between two renames")
+    print("\n".join(wrong[:20] + [f"{len(wrong)} faults"]))
+    sys.exit(bool(wrong))
+
+
+if __name__ == "__main__":
+    main()
