@@ -176,7 +176,11 @@ def word(check, text):
     if answer != "done\n":
         return refused_word(check, text, name.removeprefix("refused "))
     manifest = f'[dependencies]\n{json.dumps(name)} = {{ path = "p", version = "0.1" }}\n'
-    row, = messages(upgrade(check, manifest, words=["-p", text]), "upgrade-row")
+    upgraded = upgrade(check, manifest, words=["-p", text])
+    if not text:
+        # The library reads an empty name; on a command line an empty argument is an error.
+        return f"{name} -" if upgraded.status == 2 else f"{name} -, but {upgraded.err}"
+    row, = messages(upgraded, "upgrade-row")
     return f"{row['name']} {row['new'] if row['change'] == 'explicit' else '-'}"
 
 
