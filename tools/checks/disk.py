@@ -1,8 +1,9 @@
 #!/usr/bin/env python3
 """disk.py PROGRAM: runs that may not write. On a disk without room, and under a limit of the size of files, the manifest
 stays as it was, the refusal is told and no file is left; with room again it is raised. A manifest that may not be written
-stays; in a folder where none may be made it is overwritten, and where it would grow on a disk without room it stays. Of runs
-at once, over one manifest or a workspace of 30, each leaves manifests whole, and all of them are of the last that writes."""
+stays; in a folder where none may be made it is overwritten, and where it would grow on a disk without room it stays. Runs at
+once, over one manifest or a workspace of 30, wait for each other: with two indexes the later version stands in the end,
+whichever begins first."""
 
 import os
 import pathlib
@@ -131,9 +132,8 @@ def forbidden(program, folder):
 
 
 def at_once(place):
-    """Runs at once, with two indexes: the manifest is one of the two texts, whole."""
+    """Runs at once, with two indexes: each reads what the one before it wrote, and none lowers a requirement."""
     global tries
-    seen = set()
     for number in range(ROUNDS):
         place.manifest.write_bytes(OLD)
         runs = [subprocess.Popen(place.words((5, 7)[(turn + number) % 2]), stdout=subprocess.DEVNULL, stderr=subprocess.PIPE)
@@ -144,15 +144,12 @@ def at_once(place):
             if run.returncode:
                 yield f"one of {AT_ONCE} runs at once: {said!r}"
         text = place.manifest.read_bytes()
-        seen.add(text)
-        if text not in (FIVE, SEVEN) or os.listdir(place.manifest.parent) != ["Cargo.toml"]:
-            yield f"runs at once left {len(text)} bytes, and {os.listdir(place.manifest.parent)}"
-    if len(seen) < 2:
-        yield "the same run wrote last each time"
+        if text != SEVEN or os.listdir(place.manifest.parent) != ["Cargo.toml"]:
+            yield f"runs at once left {text[:26]!r}.., and {os.listdir(place.manifest.parent)}"
 
 
 def workspace_at_once(program, folder):
-    """Two runs at once over a workspace, with two indexes: all manifests are of one of the two runs, whole."""
+    """Two runs at once over a workspace, with two indexes: all manifests have the later version."""
     global tries
     folder.mkdir()
     (folder / "index7.json").write_bytes(b'{"name":"a","vers":"1.7.0"}\n')
@@ -167,8 +164,8 @@ def workspace_at_once(program, folder):
             said = run.communicate()[1]
             if run.returncode:
                 yield f"one of two runs at once over a workspace: {said!r}"
-        if not (manifests.hold(manifests.new) or manifests.hold(seven)) or manifests.left():
-            yield f"two runs at once over a workspace left a mixture, a manifest cut, or {manifests.left()} files"
+        if not manifests.hold(seven) or manifests.left():
+            yield f"two runs at once over a workspace left a mixture, an earlier version, or {manifests.left()} files"
 
 
 def main():
