@@ -1,5 +1,4 @@
 #!/usr/bin/env bash
-# documents.sh   docs/DEFINITIONS.md is what `tools/definitions` writes of the sources.
+# documents.sh   no Markdown file names a file of the repository that is not there, and no link in one is dead (documents.py).
 set -eu -o pipefail
-here=$(cd "$(dirname "$0")/../.." && pwd)
-"$here/tools/definitions" --check
+exec python3 "$(dirname "$0")/documents.py"
