@@ -1,9 +1,9 @@
 #!/usr/bin/env python3
 """documents.py [FILE ..]: what Markdown files name is there (all of the repository's, where none is given).
 
-Checked are links: the file exists, and has the heading behind `#`. And paths in code spans: those that begin with a folder
-of the repository, with a crate's name, or, in a crate's README, with a folder of that crate, and names of Markdown files.
-Parts in capital letters (`crates/NAME/src`) stand for any name, `*` for any part of one. Prints a line for each that is not
+Checked are links: the file exists, and has the heading behind `#`. And paths in code spans: those that begin with a
+folder of the repository, with a crate's name, or, in a crate's README, with a folder of that crate, and names of Markdown
+files. NAME and such (`crates/NAME/src`) stand for any name, `*` for any part of one. Prints a line for each that is not
 there; the status is 1 then."""
 
 import functools
@@ -15,6 +15,7 @@ import sys
 ROOT = os.path.realpath(os.path.join(os.path.dirname(__file__), "..", ".."))
 NO_SOURCES = {".git", "crates", "build", "out", "target", "node_modules", "__pycache__"}
 TOP = {".ci", "bench", "bin", "crates", "docs", "examples", "release", "share", "tests", "tools"}
+PLACEHOLDER = re.compile(r"\b(?:CHAPTER|COMMAND|CRATE|FILE|FUNCTION|NAME|NNNN)\b")
 IN_CRATE = {"more-wrong-bodies", "proofs", "specs", "src", "wrong-bodies"}
 FENCE = re.compile(r"(?ms)^(```|~~~).*?^\1[^\n]*$")
 SPAN = re.compile(r"`([^`\n]+)`")
@@ -60,13 +61,13 @@ def bad_links(path, text):
 
 def stands(pattern):
     """Whether something of the repository has this path; with the ending of its kind left out too."""
-    pattern = "/".join("*" if re.fullmatch(r"[A-Z]+", it) and "." not in it else it for it in pattern.split("/"))
+    pattern = PLACEHOLDER.sub("*", pattern)
     endings = ("", ".rt", ".antt", ".edit", ".py", ".sh", ".md")
     return any(glob.glob(os.path.join(ROOT, pattern.rstrip("/") + ending)) for ending in endings)
 
 
 def candidates(path, word):
-    """The paths, from the repository's root, of which one has to be there for what a file names; none for what names no file."""
+    """The paths, from the repository's root, of which one has to be there; none for a word that names no file."""
     first = word.split("/")[0]
     own = os.path.relpath(path, ROOT).split("/")
     crate = "/".join(own[:2]) if own[0] == "crates" and len(own) > 2 else None
@@ -96,7 +97,7 @@ def missing(path, text):
                 if found and not any(stands(it) for it in found):
                     yield "`%s`, which is not there" % word
     for word in WORD.findall(LINK.sub("", text)):
-        folders = ("", "docs", os.path.relpath(os.path.dirname(path), ROOT))
+        folders = ("", "docs", "crates/NAME", os.path.relpath(os.path.dirname(path), ROOT))
         if not any(stands(os.path.normpath(os.path.join(it, word))) for it in folders):
             yield "%s, which is not there" % word
 
