@@ -4,7 +4,8 @@
     registry.py DIR
 
 Serves the sparse registries `one` and `two` with ETags, and the files of their crates; `files` is a registry whose index is a
-git repository at DIR/files. DIR/port has the port, DIR/tls-port that of the same by https (certificate: loopback.pem).
+git repository at DIR/files. DIR/loopback.pem has to hold a certificate of 127.0.0.1 and its key. DIR/port gets the port,
+DIR/tls-port that of the same by https.
 DIR/asked gets a line for each request of a client that is not cargo: its path, `sent` or `kept` (304), its user agent, what it
 has for Authorization or `-`, its Accept-Encoding or `-`, and `proxied` where this server was its proxy. DIR/mode says what
 such a client is answered:
@@ -217,7 +218,7 @@ subprocess.run(git + ["commit", "-q", "-m", "index"], check=True)
 threading.Thread(target=server.serve_forever, daemon=True).start()
 safe = Server(("127.0.0.1", 0), Answers)
 context = ssl.SSLContext(ssl.PROTOCOL_TLS_SERVER)
-context.load_cert_chain(os.path.join(os.path.dirname(os.path.abspath(__file__)), "loopback.pem"))
+context.load_cert_chain(room + "/loopback.pem")
 safe.socket = context.wrap_socket(safe.socket, server_side=True)
 threading.Thread(target=safe.serve_forever, daemon=True).start()
 for name, number in (("tls-port", safe.server_address[1]), ("port", port)):

@@ -85,7 +85,7 @@ row_redirects() {
 }
 row_https_stays_https() {
   sed -i "s,sparse+http://[0-9.:]*/one,sparse+$safe/one," "$CARGO_HOME/config.toml"
-  export CURL_CA_BUNDLE="$here/tools/cargo_checks/loopback.pem" CARGO_HTTP_CAINFO="$here/tools/cargo_checks/loopback.pem"
+  export CURL_CA_BUNDLE="$room/certificate.pem" CARGO_HTTP_CAINFO="$room/certificate.pem"
   run 0 upgrade -n
   rm -rf "$cache"
   mode "redirect-once $base"

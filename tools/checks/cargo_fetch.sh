@@ -167,7 +167,7 @@ row_prune() {
   [ ! -e "$cache/.run.left" ] || fail 'what a killed run left'
 }
 
-# Control characters of names of folders, of a configuration and of what a server says do not reach a terminal.
+# Runs cargo in a pseudo-terminal, which is both of its streams; $room/out gets what that terminal gets.
 on_terminal() { # STATUS ARGUMENTS
   local wanted=$1 status=0
   shift
@@ -184,12 +184,15 @@ sys.exit(os.waitstatus_to_exitcode(pty.spawn(sys.argv[2:], read)))' "$room/out" 
   [ "$status" = "$wanted" ] || fail "cargo $*: status $status in place of $wanted"
   printable
 }
+# No character on which a terminal acts is in what was printed: none of C0 and C1, and none that sets the direction of text.
 printable() {
-  ! grep -n -a "[$(printf '\001-\010\013-\037\177')]" "$room/out" "$room/err" > "$room/log" ||
-    fail "it prints a control character: $(cat -v "$room/log")"
+  ! grep -n -a -E "$(printf '[\001-\010\013-\037\177]|\302[\200-\237]|\342\200[\216\217\250-\256]|\342\201[\246-\251]|\330\234')" \
+    "$room/out" "$room/err" > "$room/log" || fail "it prints a control character: $(cat -v "$room/log")"
 }
-# (not run yet: the program does not print through edit_terminal)
-open_control_characters() {
+prints() { grep -q -F -- "$1" "$room/out" || fail "the terminal does not get \`$1\`"; }
+# Characters on which a terminal acts never reach one as they are, wherever they come from: the name of a folder, a manifest,
+# a configuration, an index, or what a server answers.
+row_control_characters() {
   local escape odd
   escape=$(printf '\033[31m')
   odd="$room/ws/a${escape}b"
@@ -198,16 +201,47 @@ open_control_characters() {
   cd "$odd" || exit 1
   on_terminal 0 upgrade
   raised
-  cp "$room/first/Cargo.toml" .
-  on_terminal 1 upgrade --update-calls nowhere/calls
-  grep -q -F '[31mb/nowhere' "$room/out" || fail 'the file is not named'
   on_terminal 0 set-version --bump minor
+  cp "$room/first/Cargo.toml" "$room/first/Cargo.lock" .
+  on_terminal 1 upgrade --locked
+  prints 'a\u{1b}[31mb/Cargo.toml'
+  printf '# \302\233 \342\200\256\n' >> Cargo.toml
+  sed -i "s/^other = .*/& # $(printf '\302\233 \342\200\256')/" Cargo.toml
+  on_terminal 0 upgrade -n --diff
+  prints '0.2.5" # \u{9b} \u{202e}'
+}
+# The scripts print what cargo said of a workspace that it does not resolve, which names the folder.
+row_control_characters_of_cargo() {
+  local odd
+  odd="$room/ws/$(printf 'a\033[31m \302\233 \342\200\256b')"
+  mkdir "$odd"
+  cp -R Cargo.toml src "$odd"
+  cd "$odd" || exit 1
+  echo 'nowhere = "1.0"' >> Cargo.toml
+  on_terminal 0 upgrade
+  raised
+  prints '/a ? ?b)'
+}
+row_control_characters_of_servers() {
+  local escape
+  escape=$(printf '\033[31m')
   mode "redirect-once ${escape}odd$escape:/"
-  rm -rf "$cache"
   on_terminal 1 upgrade -n
+  mode "redirect-once ${escape}odd$escape:/"
   run 1 upgrade -n
   missing 'dep, other'
-  rm "$room/mode"
+}
+row_control_characters_of_indexes() {
+  sed -i '1s/"vers"/"v\\u001b[31m"/' "$room/served/one/3/d/dep"
+  printf '{"name":"dep\\u001b[31m\302\233"}\n' >> "$room/served/one/3/d/dep"
+  on_terminal 1 upgrade -n
+  prints '/one/: dep ('
+  rm -rf "$cache" "$room/served"
+  cp -R "$room/served.first" "$room/served"
+  sed -i '1s/"vers":"[^"]*"/"vers":"1.1.0\\u001b[31m"/; 1s/"vers": "[^"]*"/"vers": "1.1.0\\u001b[31m"/' "$room/served/one/3/d/dep"
+  on_terminal 0 upgrade -n -vv
+}
+row_control_characters_of_configurations() {
   printf '[registries.odd]\nindex = "sparse+http://127.0.0.1:1/\\u001B[31m/"\n' >> "$CARGO_HOME/config.toml"
   sed -i 's/^other = .*/other = { version = "0.2.0", registry = "odd" }/' Cargo.toml
   on_terminal 1 upgrade -n

@@ -193,6 +193,24 @@ row_set_version_unresolved() {
   says 'out of luck'
   says_once '^Error: .*manifests? '
 }
+# A member without `package.version`: the error names its file and the option that leaves it out, and nothing is written.
+row_member_without_version() {
+  mkdir -p b/src
+  touch b/src/lib.rs
+  printf '[package]\nname = "b"\nedition = "2021"\n' > b/Cargo.toml
+  printf '\n[workspace]\nmembers = ["b"]\n' >> Cargo.toml
+  cargo update -q --workspace --offline || fail 'cargo does not take the workspace'
+  cp -R . "$room/user/begun"
+  run 1 set-version --workspace 0.2.0
+  says_once '^Error: '
+  says "$room/ws/b/Cargo.toml"
+  says '--exclude b'
+  diff -r "$room/user/begun" . > "$room/log" || fail "$(cat "$room/log")"
+  run 0 set-version --workspace --exclude b 0.2.0
+  has Cargo.toml 'version = "0.2.0"'
+  same "$room/user/begun/b/Cargo.toml" b/Cargo.toml
+  locks a 0.2.0
+}
 row_no_manifest() {
   cd "$room/user" || exit 1
   run 1 set-version 0.2.0

@@ -71,13 +71,13 @@ row_certificates() {
   sed -i "s,sparse+http://[0-9.:]*/,sparse+$safe/," "$CARGO_HOME/config.toml"
   run 1 upgrade -n
   says_like 'curl:? 60'
-  CARGO_HTTP_CAINFO="$here/tools/cargo_checks/loopback.pem" run 0 upgrade -n
+  CARGO_HTTP_CAINFO="$room/certificate.pem" run 0 upgrade -n
   shown
 }
 row_certificates_in_a_file() {
   sed -i "s,sparse+http://[0-9.:]*/,sparse+$safe/," "$CARGO_HOME/config.toml"
   mkdir .cargo
-  cp "$here/tools/cargo_checks/loopback.pem" own.pem
+  cp "$room/certificate.pem" own.pem
   printf '[http]\ncainfo = "own.pem"\n' > .cargo/config.toml
   run 0 upgrade -n
   shown
