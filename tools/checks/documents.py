@@ -4,7 +4,7 @@
 Checked are links: the file exists, and has the heading behind `#`. And paths in code spans: those that begin with a
 folder of the repository, with a crate's name, or, in a crate's README, with a folder of that crate, and names of Markdown
 files. NAME and such (`crates/NAME/src`) stand for any name, `*` for any part of one. Prints a line for each that is not
-there; the status is 1 then."""
+there; the status is 1 then. An example after "from `FILE`" has to stand in that file too, but for spaces."""
 
 import functools
 import glob
@@ -13,11 +13,12 @@ import re
 import sys
 
 ROOT = os.path.realpath(os.path.join(os.path.dirname(__file__), "..", ".."))
-NO_SOURCES = {".git", "crates", "build", "out", "target", "node_modules", "__pycache__"}
+NO_SOURCES = {".git", "build", "out", "target", "node_modules", "__pycache__"}
 TOP = {".ci", "bench", "bin", "crates", "docs", "examples", "release", "share", "tests", "tools"}
 PLACEHOLDER = re.compile(r"\b(?:CHAPTER|COMMAND|CRATE|FILE|FUNCTION|NAME|NNNN)\b")
 IN_CRATE = {"more-wrong-bodies", "proofs", "specs", "src", "wrong-bodies"}
 FENCE = re.compile(r"(?ms)^(```|~~~).*?^\1[^\n]*$")
+QUOTED = re.compile(r"(?s)\bfrom `(crates/[\w/.]+|[\w/.]+\.rt)`[^`]*\n+```rust\n(.*?)\n```")
 SPAN = re.compile(r"`([^`\n]+)`")
 LINK = re.compile(r"\[[^\]]*\]\(([^()\s]+)\)")
 PATH = re.compile(r"[\w.*@+-]+(?:/[\w.*@+-]+)*/?")
@@ -82,8 +83,17 @@ def candidates(path, word):
     return []
 
 
+def wrong_quotes(text):
+    """The files that an example is said to be from, and is not."""
+    for name, example in QUOTED.findall(text):
+        with open(os.path.join(ROOT, "crates", name.removeprefix("crates/")), encoding="utf-8") as file:
+            if " ".join(example.split()) not in " ".join(file.read().split()):
+                yield "an example from %s, which has other words" % name
+
+
 def missing(path, text):
     """What a file names that is not there."""
+    yield from wrong_quotes(text)
     text = FENCE.sub("", text)
     yield from bad_links(path, text)
     if os.path.basename(path) == "CHANGELOG.md":
