@@ -24,7 +24,7 @@ mkdir -p "$top/bin"
 cp "$program" "$top/bin/cargo-edit"
 cp "$here/bin/cargo-upgrade" "$here/bin/cargo-set-version" "$top/bin"
 cp -R "$here/share" "$here/docs" "$top"
-cp "$here/README.md" "$here/CHANGELOG.md" "$here/LICENSE-APACHE" "$here/LICENSE-MIT" "$here/install.sh" "$top"
+cp "$here/README.md" "$here/CHANGELOG.md" "$here/SECURITY.md" "$here/LICENSE-APACHE" "$here/LICENSE-MIT" "$here/install.sh" "$top"
 find "$top" -type f -exec chmod 644 {} +
 chmod 755 "$top/install.sh" "$top"/bin/*
 (cd "$top" && find . -type f | sed 's|^\./||' | sort > "$room/files")
