@@ -137,7 +137,7 @@ def rows():
                                                               ["--message-format", "json"]))
     yield Family("a table of n rows with a key of 4 n bytes", 2000, lambda n: single(
         entries(n) + b'"%s" = { package = "c0", version = "1.0" }\n' % (b"k" * n * 4), lines(n)),
-                 ("time", "memory"))
+                 ("time",))
     yield Family("rows that are not raised, with -vv", 10000,
                  lambda n: single(entries(n, b'c%d = "1.5.0"\n'), lines(n), ["-vv"]))
     yield Family("notes on rows that are not shown", 10000,

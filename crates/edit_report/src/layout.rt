@@ -1,11 +1,20 @@
 //! The text of a table's lines.
-ghost use Rattle.std.specs.Prelude.{◌≡◌, ◌++◌, ◌∷◌, ◌-◌, IfOk, OnOk, length, map, string_bytes};
+ghost use Rattle.std.specs.Prelude.{◌≡◌, ◌++◌, ◌∷◌, ◌-◌, IfErr, IfOk, OnOk, ◌⊎◌, length, map, replicate, string_bytes};
+ghost use Rattle.std.specs.Io.KnownBytes.{Appends};
 ghost use Rattle.std.specs.List.{flat_map};
+ghost use Rattle.edit_base.specs.Errors.{IsMemory};
+ghost use Rattle.edit_base.specs.declared.errors.Error.TheVariants.{Output};
 ghost use Rattle.edit_report.specs.Table.{columns, lines_text, padded};
 ghost use Rattle.edit_report.specs.Widths.{cells_of, column_of, joined_cells, line_width, wide, wide_line};
 
 use crate::lines::{Column, Line, Wide};
+use crate::shell::shell_write_stdout;
+use edit_base::CargoResult;
 use std::alloc::{AllocError, Global};
+use std::io;
+
+/// The spaces that are added at once: 64.
+const SPACES: &str = "                                                                ";
 
 /// The columns, with the note or without.
 fn columns(noted: bool) -> &'static [Column]
@@ -52,16 +61,26 @@ fn measured(alloc: Global, columns: &[Column], lines: &[Line<'_>]) -> Result<Vec
     Ok(columns.collect(alloc)?)
 }
 
+/// Adds so many spaces.
+fn push_spaces(text: &mut String, count: usize) -> Result<(), AllocError>
+    ensures ok { OnOk result (string_bytes text.new ≡ string_bytes text.old ++ replicate count 32) }
+{
+    for _i in 0..count / 64 {
+        text.push_str(SPACES)?;
+    }
+    for _j in 0..count % 64 {
+        text.push(' ')?;
+    }
+    Ok(())
+}
+
 /// Adds a cell, and spaces up to the width.
 fn push_cell(text: &mut String, cell: &str, width: usize) -> Result<(), AllocError>
     ensures ok { OnOk result (string_bytes text.new ≡ string_bytes text.old ++ padded width cell.now) }
 {
     text.push_str(cell)?;
     let missing = width.saturating_sub(cell.len());
-    for _i in 0..missing {
-        text.push(' ')?;
-    }
-    Ok(())
+    push_spaces(text, missing)
 }
 
 /// Adds the cells of a line, joined by a space.
@@ -112,4 +131,39 @@ pub(crate) fn lines_text(
 {
     let columns = measured(alloc, columns(noted), lines)?;
     wide_text(alloc, columns.as_slice(), lines)
+}
+
+/// Writes lines in columns with their widths, one by one.
+fn write_wide<W: io::Write>(
+    alloc: Global,
+    columns: &[Wide],
+    lines: &[Line<'_>],
+    out: &mut W,
+) -> CargoResult<()>
+    ensures bytes { OnOk result (Appends (W.contents out.old) (W.contents out.new)
+        (flat_map (λ line. wide_line columns.now (cells_of line)) lines.now)) }
+    ensures refused { IfErr result (λ e. IsMemory e ⊎ (e ≡ Output)) }
+{
+    let mut text = String::new(alloc);
+    for line in lines {
+        text.clear();
+        push_line(&mut text, columns, line)?;
+        shell_write_stdout(out, text.as_str())?;
+    }
+    Ok(())
+}
+
+/// Writes the text of a table with these lines.
+pub(crate) fn write_lines<W: io::Write>(
+    alloc: Global,
+    lines: &[Line<'_>],
+    noted: bool,
+    out: &mut W,
+) -> CargoResult<()>
+    ensures bytes { OnOk result (Appends (W.contents out.old) (W.contents out.new)
+        (lines_text (columns noted) (map cells_of lines.now))) }
+    ensures refused { IfErr result (λ e. IsMemory e ⊎ (e ≡ Output)) }
+{
+    let columns = measured(alloc, columns(noted), lines)?;
+    write_wide(alloc, columns.as_slice(), lines, out)
 }

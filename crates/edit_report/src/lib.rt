@@ -15,4 +15,4 @@ pub use shell::{
     shell_note, shell_print, shell_status, shell_warn, shell_write_stderr, shell_write_stdout,
 };
 pub use shows::shown;
-pub use table::{name_text, reason_text, table_text};
+pub use table::{name_text, reason_text, table_text, write_table};

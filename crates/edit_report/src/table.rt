@@ -1,17 +1,20 @@
 //! The table of a report.
-ghost use Rattle.std.specs.Prelude.{◌≡◌, ◌++◌, ◌∷◌, IfErr, IfOk, OnOk, filter, map, string_bytes};
+ghost use Rattle.std.specs.Prelude.{◌≡◌, ◌++◌, ◌∷◌, ◌⊎◌, IfErr, IfOk, OnOk, filter, map, string_bytes};
+ghost use Rattle.std.specs.Io.KnownBytes.{Appends};
 ghost use Rattle.std.specs.List.{list_any};
 ghost use Rattle.edit_base.specs.Errors.{IsMemory};
+ghost use Rattle.edit_base.specs.declared.errors.Error.TheVariants.{Output};
 ghost use Rattle.edit_report.specs.Shown.{is_shown};
 ghost use Rattle.edit_report.specs.Table.{headings, is_noted, name_text, or_dash, reason_text, report_text, row_cells, underlines};
 ghost use Rattle.edit_report.specs.Widths.{cells_of};
 
-use crate::layout::lines_text;
+use crate::layout::{lines_text, write_lines};
 use crate::lines::Line;
 use crate::row::{Reason, Row};
 use crate::shows::shown;
 use edit_base::CargoResult;
 use std::alloc::{AllocError, Global};
+use std::io;
 
 /// A dependency's name, behind it the name that its manifest gives it: `name (rename)`.
 pub fn name_text(alloc: Global, row: &Row) -> Result<String, AllocError>
@@ -141,4 +144,26 @@ pub fn table_text(alloc: Global, rows: &[Row], verbosity: i8) -> CargoResult<Str
     let lines = table_lines(alloc, rows.as_slice())?;
     let text = lines_text(alloc, lines.as_slice(), are_noted(rows.as_slice()))?;
     Ok(text)
+}
+
+/// Writes the table of a report of this verbosity; nothing where no row is shown.
+///
+/// A table has as many bytes as its rows times its widest cells: it is written line by line, so that no more
+/// than one line of it is held.
+pub fn write_table<W: io::Write>(
+    alloc: Global,
+    rows: &[Row],
+    verbosity: i8,
+    out: &mut W,
+) -> CargoResult<()>
+    ensures text { OnOk result (Appends (W.contents out.old) (W.contents out.new)
+        (report_text verbosity rows.now)) }
+    ensures refused { IfErr result (λ e. IsMemory e ⊎ (e ≡ Output)) }
+{
+    let rows = shown_rows(alloc, rows, verbosity)?;
+    if rows.is_empty() {
+        return Ok(());
+    }
+    let lines = table_lines(alloc, rows.as_slice())?;
+    write_lines(alloc, lines.as_slice(), are_noted(rows.as_slice()), out)
 }

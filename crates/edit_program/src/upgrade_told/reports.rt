@@ -13,7 +13,7 @@ use crate::upgrade_told::rows::rows_at;
 use crate::upgrade_told::warnings::warnings_at;
 use edit_base::CargoResult;
 use edit_metadata::Input;
-use edit_report::{Row, shell_status, shell_warn, shell_write_stdout, table_text};
+use edit_report::{Row, shell_status, shell_warn, write_table};
 use edit_shown::MessageFormat;
 use edit_upgrade::{UpgradePlan, Warning};
 use std::alloc::Global;
@@ -85,8 +85,7 @@ fn print_rows<O: io::Write>(
         (report_text verbosity (rows_at input rows.now))) }
     ensures refused { IfErr result (λ e. IsMemory e ⊎ (e ≡ Output)) }
 {
-    let table = table_text(alloc, rows_at(rows, input), verbosity)?;
-    shell_write_stdout(out, table.as_str())
+    write_table(alloc, rows_at(rows, input), verbosity, out)
 }
 
 /// Prints the table of the rows of an input; none where the plan is shown as JSON.
