@@ -41,11 +41,11 @@ class Place:
         return [self.program, "upgrade", "--manifest-path", str(self.manifest), "--index-file",
                 str(self.folder / f"index{minor}.json")]
 
-    def run(self, by=(), minor=5, **options):
+    def run(self, by=(), minor=5, more=(), **options):
         global tries
         tries += 1
         environment = {"HOME": str(self.folder), "PATH": os.environ["PATH"]}
-        return subprocess.run([*by, *self.words(minor)], capture_output=True, check=False, env=environment, **options)
+        return subprocess.run([*by, *self.words(minor), *more], capture_output=True, check=False, env=environment, **options)
 
     def faults(self, what, run, status, text):
         """What is wrong with a run that was to end so and to leave this text, and no other file."""
@@ -129,6 +129,14 @@ def forbidden(program, folder):
         place.manifest.parent.chmod(inside)
         yield from place.faults(what, place.run(by), status, text)
     place.manifest.parent.chmod(0o755)
+    place.manifest.chmod(0o644)
+    place.manifest.write_bytes(OLD)
+    sealed = place.folder / "sealed"
+    sealed.mkdir(mode=0o755 if by else 0o555)
+    calls = ["--update-calls", str(sealed / "calls")]
+    yield from place.faults("a file of calls that may not be made", place.run(by, more=calls), 1, OLD)
+    sealed.chmod(0o777)
+    yield from place.faults("a file of calls that may be made", place.run(by, more=calls), 0, FIVE)
 
 
 def at_once(place):

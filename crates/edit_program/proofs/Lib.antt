@@ -10,6 +10,7 @@ pub mod PlanLemmas
 pub mod OrderLemmas
 pub mod LockLemmas
 pub mod LookLemmas
+mod StagingLemmas
 pub mod UpgradeLemmas
 pub mod PrintedLemmas
 pub mod SetVersionLemmas

@@ -14,7 +14,6 @@ use Rattle.edit_report.specs.Applied.{AreWritten, HasStopped, HaveDistinctPaths}
 use Rattle.edit_report.specs.declared.output.Output.{Output}
 use Rattle.edit_sources.specs.Configured.{given}
 use Rattle.edit_steps.proofs.DistinctPaths.{outputs_differ}
-use Rattle.edit_steps.proofs.Written.{stopped_after, written_after}
 use Rattle.edit_steps.specs.Workspaces.{HaveOwnPaths}
 use Rattle.edit_base.specs.declared.errors.DeviceCall.TheVariants as call
 use Rattle.edit_store.specs.Store.{OnlyReads, SameFiles, StoreView}
@@ -25,6 +24,7 @@ use Rattle.edit_steps.specs.Causes.{IsReadCause}
 use Rattle.edit_steps.specs.declared.upgrade_read.sources.Sources.{Sources}
 use Rattle.edit_steps.specs.declared.upgrade_read.target.Target.{Target}
 use Rattle.edit_program.proofs.DryRuns.{dry_keeps}
+use Rattle.edit_program.proofs.StagingLemmas.{all_stopped_after, behind_after}
 use Rattle.edit_program.specs.TellingCauses.{IsDeliveryCause}
 use Rattle.edit_program.specs.Delivered.{AreBothWritten, HaveStopped, IsBehind, IsCutShort, IsToldTo, written}
 use Rattle.edit_program.specs.Delivery.{Delivery, delivery_of}
@@ -82,25 +82,6 @@ same_delivery words current plan target path lock inputs r same is =
     (same_workspace r target.workspace is)
 
 -- ---- behind reads
-
-behind_after : (Leaves : List Output → StoreView → StoreView → Type 0) (first last : List Output)
-    (old mid new : StoreView) → OnlyReads old mid → IsBehind Leaves first last mid new
-    → IsBehind Leaves first last old new
-behind_after Leaves first last old mid new reads left = record {
-  mid = left.mid;
-  tells = left.tells ∙ reads.tells;
-  before = written_after first old mid left.mid reads left.before;
-  behind = left.behind;
-}
-
-all_stopped_after : (first last : List Output) (old mid new : StoreView) → OnlyReads old mid
-    → HaveStopped first last mid new → HaveStopped first last old new
-all_stopped_after first last old mid new reads (inl stopped) =
-    inl (stopped_after first old mid new reads stopped)
-all_stopped_after first last old mid new reads (inr (inl whole)) =
-    inr (inl (written_after first old mid new reads whole))
-all_stopped_after first last old mid new reads (inr (inr left)) =
-    inr (inr (behind_after HasStopped first last old mid new reads left))
 
 told_after : (Leaves : List Output → List Output → StoreView → StoreView → Type 0) (Shows : List ℕ → Type 0)
     (d : Delivery) (old mid new : StoreView)

@@ -14,7 +14,7 @@ pub mod upgrade_read;
 mod workspaces;
 
 pub use inputs::at_input;
-pub use outputs::write_outputs;
+pub use outputs::{stage_outputs, write_outputs};
 pub use paths::absolute;
 pub use refusal::{Refusal, RunResult, at_byte, at_path, position, print_error};
 pub use reread::at_first;

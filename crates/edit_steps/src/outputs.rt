@@ -2,7 +2,7 @@
 ghost use Rattle.std.specs.Prelude.{◌≡◌, ◌≢◌, ◌<◌, ◌≤◌, IfErr, OnErr, OnOk, length, true};
 ghost use Rattle.edit_base.specs.declared.errors.DeviceCall.TheVariants as call;
 ghost use Rattle.edit_report.specs.Applied.{AreWritten, HasStopped, HaveDistinctPaths, IsWhole, path_of};
-ghost use Rattle.edit_store.specs.Store.{RefusesCall, SameBut, SameFiles};
+ghost use Rattle.edit_store.specs.Store.{OnlyReads, RefusesCall, SameBut, SameFiles};
 
 use crate::refusal::{Refusal, RunResult, at_path};
 use edit_base::Error;
@@ -207,6 +207,23 @@ pub fn write_outputs<S: Store>(alloc: Global, outputs: &[Output], files: &mut S)
         (λ r. RefusesCall call.Write (S.view files.old) (S.view files.new) r.error) }
 {
     match stage_and_write(alloc, outputs, files) {
+        Ok(()) => Ok(()),
+        Err(refusal) => {
+            files.unstage(alloc);
+            Err(refusal)
+        }
+    }
+}
+
+/// Makes the writes of outputs ready that `write_outputs` makes later. An error gives up every write that is ready.
+/// No file changes.
+pub fn stage_outputs<S: Store>(alloc: Global, outputs: &[Output], files: &mut S) -> RunResult<()>
+    ensures reads { OnlyReads (S.view files.old) (S.view files.new) }
+    ensures ready { OnOk result ((S.view files.new).stage_errors ≡ (S.view files.old).stage_errors) }
+    ensures refused { IfErr result
+        (λ r. RefusesCall call.Write (S.view files.old) (S.view files.new) r.error) }
+{
+    match stage_all(alloc, outputs, files) {
         Ok(()) => Ok(()),
         Err(refusal) => {
             files.unstage(alloc);

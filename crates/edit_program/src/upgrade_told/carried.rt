@@ -15,14 +15,15 @@ use crate::upgrade_told::calls::print_calls;
 use crate::upgrade_told::held::check_names;
 use crate::upgrade_told::notes::print_notes;
 use edit_report::Output;
-use edit_steps::{RunResult, write_outputs};
+use edit_steps::{Refusal, RunResult, stage_outputs, write_outputs};
 use edit_store::Store;
 use edit_upgrade::{Options, UpgradePlan};
 use std::alloc::Global;
 use std::io;
 
-/// Writes outputs, tells the calls of `cargo update`, and writes the file of the calls.
-pub(crate) fn carry_out<S: Store, E: io::Write>(
+/// Writes outputs, prints the calls of `cargo update`, and writes the file of the calls. An error gives up every write
+/// that is ready.
+fn write_in_order<S: Store, E: io::Write>(
     alloc: Global,
     outputs: &[Output],
     calls: &[Vec<String>],
@@ -45,8 +46,39 @@ pub(crate) fn carry_out<S: Store, E: io::Write>(
         ⊎ (r.error ≡ Unwritten)) }
 {
     write_outputs(alloc, outputs, files)?;
-    print_calls(alloc, calls, err)?;
+    if let Err(error) = print_calls(alloc, calls, err) {
+        files.unstage(alloc);
+        return Err(Refusal::from(error));
+    }
     write_outputs(alloc, file, files)
+}
+
+/// Writes outputs, prints the calls of `cargo update`, and writes the file of the calls. That file is made ready first, so
+/// that a folder in which it cannot be written leaves the outputs as they were.
+pub(crate) fn carry_out<S: Store, E: io::Write>(
+    alloc: Global,
+    outputs: &[Output],
+    calls: &[Vec<String>],
+    file: &[Output],
+    files: &mut S,
+    err: &mut E,
+) -> RunResult<()>
+    requires outputs { HaveDistinctPaths outputs.now }
+    requires file { HaveDistinctPaths file.now }
+    ensures tells { (S.view files.new).tells ≡ (S.view files.old).tells }
+    ensures later { (S.view files.old).faults ≤ (S.view files.new).faults }
+    ensures written { OnOk result
+        (AreBothWritten outputs.now file.now (S.view files.old) (S.view files.new)) }
+    ensures text { OnOk result (Appends (E.contents err.old) (E.contents err.new)
+        (runs (calls_seen calls.now))) }
+    ensures stopped { OnErr result
+        (HaveStopped outputs.now file.now (S.view files.old) (S.view files.new)) }
+    ensures refused { IfErr result
+        (λ r. RefusesCall call.Write (S.view files.old) (S.view files.new) r.error
+        ⊎ (r.error ≡ Unwritten)) }
+{
+    stage_outputs(alloc, file, files)?;
+    write_in_order(alloc, outputs, calls, file, files, err)
 }
 
 /// Refuses a plan whose words name what no entry has, else prints the notes on it.

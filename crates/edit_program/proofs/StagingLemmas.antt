@@ -1,0 +1,48 @@
+-- Outputs that are written behind steps that only read.
+use Rattle.std.proofs.Common.{◌∙◌, List, [], ◌∷◌, arith, inl, inr}
+use Rattle.edit_report.specs.Applied.{AreWritten, HasStopped}
+use Rattle.edit_report.specs.declared.output.Output.{Output}
+use Rattle.edit_steps.proofs.Written.{nothing_written, stopped_after, written_after}
+use Rattle.edit_store.specs.Store.{OnlyReads, SameFiles, StoreView}
+use Rattle.edit_program.specs.Delivered.{HaveStopped, IsBehind}
+
+-- outputs that are written stay so
+pub written_still : (outputs : List Output) (old mid new : StoreView) → SameFiles mid.file_at new.file_at
+    → AreWritten outputs old mid → AreWritten outputs old new
+written_still outputs old mid new same are = record {
+  whole = λ t k d within. same _ ∙ are.whole t k d within;
+  others = λ path none. same path ∙ are.others path none;
+}
+
+-- the first outputs are written behind reads, and what became of the last
+pub behind_after : (Leaves : List Output → StoreView → StoreView → Type 0) (first last : List Output)
+    (old mid new : StoreView) → OnlyReads old mid → IsBehind Leaves first last mid new
+    → IsBehind Leaves first last old new
+behind_after Leaves first last old mid new reads left = record {
+  mid = left.mid;
+  tells = left.tells ∙ reads.tells;
+  before = written_after first old mid left.mid reads left.before;
+  behind = left.behind;
+}
+
+-- the writing of two lists stopped behind reads
+pub all_stopped_after : (first last : List Output) (old mid new : StoreView) → OnlyReads old mid
+    → HaveStopped first last mid new → HaveStopped first last old new
+all_stopped_after first last old mid new reads (inl stopped) =
+    inl (stopped_after first old mid new reads stopped)
+all_stopped_after first last old mid new reads (inr (inl whole)) =
+    inr (inl (written_after first old mid new reads whole))
+all_stopped_after first last old mid new reads (inr (inr left)) =
+    inr (inr (behind_after HasStopped first last old mid new reads left))
+
+-- the writing of two lists stopped before the first write
+pub stopped_before : (first last : List Output) (old new : StoreView) → OnlyReads old new
+    → HaveStopped first last old new
+stopped_before [] last old new reads = inr (inl (nothing_written old new reads))
+stopped_before (o ∷ rest) last old new reads = inl record {
+  at = 0;
+  within = omega arith;
+  whole = λ _ k d within. absurd (omega (arith, within));
+  untouched = λ k d within. reads.files _;
+  others = λ path none. reads.files path;
+}
