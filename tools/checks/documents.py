@@ -107,6 +107,8 @@ def missing(path, text):
                 if found and not any(stands(it) for it in found):
                     yield "`%s`, which is not there" % word
     for word in WORD.findall(LINK.sub("", text)):
+        if word.startswith("build/"):  # what tools make there is in no clone
+            continue
         folders = ("", "docs", "crates/NAME", os.path.relpath(os.path.dirname(path), ROOT))
         if not any(stands(os.path.normpath(os.path.join(it, word))) for it in folders):
             yield "%s, which is not there" % word
