@@ -34,6 +34,8 @@ NOT_SHOWN = {
     48: "of the arguments, the environment and the current folder, before a workspace is read",
     49: "an edit of a plan replaces literals alone, which is never refused",
 }
+# What the machine says of a link to itself.
+LOOP = "  cause: Too many levels of symbolic links"
 # Errors with no file at fault: of the command line, of a stream, or of memory.
 NO_FILE = {19, 20, 39, 43, 44, 45, 46}
 
@@ -140,9 +142,9 @@ def manifests():
     set_version(5, ["--bump", "minor"], "Error: Failed to read manifest contents", "  at @/m2/Cargo.toml\n")
     os.makedirs(WORKSPACE + "/m2")
     os.symlink("Cargo.toml", WORKSPACE + "/m2/Cargo.toml")
-    upgrade(3, "Error: Failed to read a file", "  at @/m2/Cargo.toml\n")
-    set_version(3, ["--bump", "minor"], "Error: Failed to read a file", "  at @/m2/Cargo.toml\n")
-    check(3, ["upgrade", "--manifest-path", "m2"], "Error: Failed to look at a path", "  at @/m2\n")
+    upgrade(3, "Error: Failed to read a file", "  at @/m2/Cargo.toml\n", LOOP)
+    set_version(3, ["--bump", "minor"], "Error: Failed to read a file", "  at @/m2/Cargo.toml\n", LOOP)
+    check(3, ["upgrade", "--manifest-path", "m2"], "Error: Failed to look at a path", "  at @/m2\n", LOOP)
     workspace()
     check(6, ["upgrade", "--metadata-json", "none.json"], "Error: Failed to get cargo file metadata", "  at @/none.json\n")
     upgrade(6, "Error: Failed to get cargo file metadata", "  at @/none\n", words=["--index-file", "none"])
@@ -152,7 +154,7 @@ def manifests():
     workspace()
     os.makedirs(WORKSPACE + "/.cargo")
     os.symlink("config.toml", WORKSPACE + "/.cargo/config.toml")
-    upgrade(3, "Error: Failed to read a file", "  at @/.cargo/config.toml\n")
+    upgrade(3, "Error: Failed to read a file", "  at @/.cargo/config.toml\n", LOOP)
 
 
 def versions():

@@ -5,3 +5,4 @@ pub mod Causes
 pub mod Named
 pub mod Own
 pub mod Sources
+pub mod Printed

@@ -6,8 +6,8 @@ use std::str;
 /// How many bytes a line may have to be shown.
 const LONGEST_LINE: usize = 200;
 
-/// Whether a character would change what a terminal shows besides it: one that controls the terminal, or one that
-/// turns the direction of the text.
+/// Whether a character would change what a terminal shows besides it: one that controls the terminal, or
+/// one that turns the direction of the text.
 fn is_escaped(c: char) -> bool {
     c.is_control()
         || matches!(c, '\u{200e}' | '\u{200f}' | '\u{2028}'..='\u{202e}' | '\u{2066}'..='\u{2069}')
@@ -62,8 +62,8 @@ fn line_at(bytes: &[u8], number: usize) -> Option<&str> {
     None
 }
 
-/// Three lines that show a line of a text and its character at a column; none where the line is not UTF-8, is longer
-/// than 200 bytes, or memory ran out.
+/// Three lines that show a line of a text and its character at a column; none where the line is not UTF-8,
+/// is longer than 200 bytes, or memory ran out.
 pub(crate) fn excerpt(alloc: Global, bytes: &[u8], line: usize, column: usize) -> Option<String> {
     let text = line_at(bytes, line)?;
     if text.len() > LONGEST_LINE {

@@ -1,4 +1,4 @@
-//! Where a plan is refused.
+//! Where an error of a plan arose.
 ghost use Rattle.std.specs.Prelude.{◌≡◌};
 
 use crate::refusal::{Refusal, at_byte};

@@ -16,6 +16,6 @@ mod workspaces;
 pub use inputs::at_input;
 pub use outputs::{stage_outputs, write_outputs};
 pub use paths::absolute;
-pub use refusal::{Refusal, RunResult, at_byte, at_path, position, print_error};
+pub use refusal::{Refusal, RunResult, at_byte, at_file, at_path, position, print_error};
 pub use reread::at_first;
 pub use workspaces::{ReadWorkspace, read_workspace};

@@ -4,29 +4,10 @@ ghost use Rattle.edit_base.specs.declared.errors.DeviceCall.TheVariants as call;
 ghost use Rattle.edit_report.specs.Applied.{AreWritten, HasStopped, HaveDistinctPaths, IsWhole, path_of};
 ghost use Rattle.edit_store.specs.Store.{OnlyReads, RefusesCall, SameBut, SameFiles};
 
-use crate::refusal::{Refusal, RunResult, at_path};
-use edit_base::Error;
+use crate::refusal::{Refusal, RunResult, at_file};
 use edit_report::Output;
 use edit_store::Store;
 use std::alloc::{AllocError, Global};
-
-/// An error of the file at a path, with the machine's own reason.
-fn at_file(alloc: Global, error: Error, path: &str, reason: Option<String>) -> Refusal
-    ensures { result.error ≡ error }
-{
-    let Refusal {
-        error,
-        place,
-        help,
-        ..
-    } = at_path(alloc, error, path);
-    Refusal {
-        error,
-        place,
-        cause: reason,
-        help,
-    }
-}
 
 /// Makes the write of an output ready. No file changes.
 fn stage_output<S: Store>(alloc: Global, output: &Output, files: &mut S) -> RunResult<()>
@@ -193,8 +174,8 @@ fn stage_and_write<S: Store>(alloc: Global, outputs: &[Output], files: &mut S) -
     write_all(alloc, outputs, files)
 }
 
-/// Writes the outputs in order, each to its own path, and stops at the first error: as `apply` does, but that error has
-/// its place, the machine's reason, and which of the outputs were written.
+/// Writes the outputs in order, each to its own path, and stops at the first error: as `apply` does, but
+/// that error has its place, the machine's reason, and which of the outputs were written.
 pub fn write_outputs<S: Store>(alloc: Global, outputs: &[Output], files: &mut S) -> RunResult<()>
     requires { HaveDistinctPaths outputs.now }
     ensures tells { (S.view files.new).tells ≡ (S.view files.old).tells }

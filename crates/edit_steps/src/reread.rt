@@ -2,7 +2,7 @@
 ghost use Rattle.std.specs.Prelude.{◌≡◌, ◌<◌, ◌^◌, IfSome, length};
 ghost use Rattle.edit_store.specs.Store.{OnlyReads};
 
-use crate::refusal::{Refusal, at_path};
+use crate::refusal::{Refusal, at_file};
 use edit_base::Error;
 use edit_sources::FileIndex;
 use edit_store::Store;
@@ -19,8 +19,8 @@ fn is_bad_index(alloc: Global, error: &Error, bytes: &[u8]) -> bool {
     }
 }
 
-/// Whether reading the file at a path gives this error: it is not there, its device fails, or a line of it is not one
-/// of an index.
+/// Whether reading the file at a path gives this error: it is not there, its device fails, or a line of it
+/// is not one of an index.
 fn gives<S: Store>(alloc: Global, error: &Error, path: &str, files: &mut S) -> bool
     ensures reads { OnlyReads (S.view files.old) (S.view files.new) }
 {
@@ -49,9 +49,9 @@ fn first_giving<S: Store>(
     None
 }
 
-/// An error of reading one of several files, with the first of their paths that gives it when it is read again: a
-/// manifest that is not there, an entry of an index with a bad line, a file whose device fails. Another error, or one
-/// that is not seen again, stays without a place.
+/// An error of reading one of several files, with the first of their paths that gives it when it is read
+/// again: a manifest that is not there, an entry of an index with a bad line, a file whose device fails.
+/// Another error, or one that is not seen again, stays without a place.
 pub fn at_first<S: Store>(alloc: Global, error: Error, paths: &[String], files: &mut S) -> Refusal
     ensures same { result.error ≡ error }
     ensures reads { OnlyReads (S.view files.old) (S.view files.new) }
@@ -60,7 +60,7 @@ pub fn at_first<S: Store>(alloc: Global, error: Error, paths: &[String], files: 
     let first = first_giving(alloc, &error, paths, files);
     let _faults = files.faults();
     match first {
-        Some(i) => at_path(alloc, error, paths[i].as_str()),
+        Some(i) => at_file(alloc, error, paths[i].as_str(), files.reason(alloc)),
         None => Refusal::from(error),
     }
 }

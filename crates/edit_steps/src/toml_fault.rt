@@ -13,8 +13,8 @@ pub(crate) struct TomlFault {
     pub(crate) message: String,
 }
 
-/// What `toml` says of a text; none where it accepts it, where the text is not UTF-8 or longer than 256 kB, and where
-/// memory ran out.
+/// What `toml` says of a text; none where it accepts it, where the text is not UTF-8 or longer than 256 kB,
+/// and where memory ran out.
 pub(crate) fn toml_fault(alloc: Global, bytes: &[u8]) -> Option<TomlFault> {
     if bytes.len() > LONGEST_TEXT {
         return None;

@@ -11,7 +11,7 @@ ghost use Rattle.edit_steps.specs.Workspaces.{AreMetadataRead, HasNoMetadata, Ha
 
 use crate::metadata_fault::at_metadata;
 use crate::paths::absolute;
-use crate::refusal::{Refusal, RunResult, at_path};
+use crate::refusal::{Refusal, RunResult, at_file, at_path};
 use crate::reread::at_first;
 use edit_base::paths::normal;
 use edit_base::{CargoResult, Error};
@@ -27,8 +27,8 @@ pub struct ReadWorkspace {
     pub inputs: Vec<Input>,
 }
 
-/// Reads the metadata in the file that is named. Where files are to be written, other runs on the workspace are waited for
-/// and then kept waiting.
+/// Reads the metadata in the file that is named. Where files are to be written, other runs on the workspace
+/// are waited for and then kept waiting.
 fn read_metadata<S: Store>(
     alloc: Global,
     named: &str,
@@ -49,7 +49,7 @@ fn read_metadata<S: Store>(
     let bytes = match files.read_stream(alloc, path.as_str()) {
         Ok(Some(bytes)) => bytes,
         Ok(None) => return Err(at_path(alloc, Error::NoPath, path.as_str())),
-        Err(error) => return Err(at_path(alloc, error, path.as_str())),
+        Err(error) => return Err(at_file(alloc, error, path.as_str(), files.reason(alloc))),
     };
     match Workspace::read(alloc, &bytes) {
         Ok(workspace) => {
@@ -101,9 +101,9 @@ fn at_manifest<S: Store>(
     at_first(alloc, error, &paths, files)
 }
 
-/// Reads the workspace whose metadata stand in the file that is named, and its manifests, for a Rust version
-/// or with those of the members ignored, as `workspace_inputs` does. `writes` says whether files are to be written: then
-/// other runs on the workspace are kept waiting.
+/// Reads the workspace whose metadata stand in the file that is named, and its manifests, for a Rust
+/// version or with those of the members ignored, as `workspace_inputs` does. `writes` says whether files
+/// are to be written: then other runs on the workspace are kept waiting.
 pub fn read_workspace<S: Store>(
     alloc: Global,
     named: &str,

@@ -41,13 +41,13 @@ impl RustChoice {
 #[derive(Clone, Copy, Debug)]
 pub struct Asked<'a> {
     /// A manifest, or a folder that is searched upwards; none is the current folder. Where metadata are named
-    /// it is not looked at.
+    /// it is not read.
     pub manifest_path: Option<&'a str>,
     /// The file with the metadata of a workspace.
     pub metadata_json: Option<&'a str>,
     /// The file with the lines of an index.
     pub index_file: Option<&'a str>,
-    /// A folder with a folder for each registry. Where an index file is named it is not looked at.
+    /// A folder with a folder for each registry. Where an index file is named it is not read.
     pub index_dir: Option<&'a str>,
     /// A configuration file that counts before all others.
     pub config: Option<&'a str>,

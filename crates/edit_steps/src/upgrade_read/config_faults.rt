@@ -53,7 +53,8 @@ fn config_paths(
     Ok(paths)
 }
 
-/// The place and the cause of the error of a configuration file: where it stops being TOML, else what it has to be.
+/// The place and the cause of the error of a configuration file: where it stops being TOML, else what it
+/// has to be.
 fn place_and_cause<S: Store>(
     alloc: Global,
     path: &str,

@@ -10,7 +10,7 @@ ghost use Rattle.edit_steps.specs.Own.{IsManifestRead, SaysOfItself};
 use crate::upgrade_read::asked::RustChoice;
 use crate::upgrade_read::locate::manifest_path;
 use crate::upgrade_read::own::{own_name, rust_version_for};
-use crate::{RunResult, at_byte, at_path};
+use crate::{RunResult, at_byte, at_file, at_path};
 use edit_base::Error;
 use edit_document::Document;
 use edit_manifest::Manifest;
@@ -53,8 +53,8 @@ fn manifest_of(
     Ok(ReadManifest { input, document })
 }
 
-/// Reads the manifest that is named, or the nearest one where none is. Where it is to be written, other runs on it are
-/// kept waiting.
+/// Reads the manifest that is named, or the nearest one where none is. Where it is to be written, other
+/// runs on it are kept waiting.
 pub(crate) fn read_manifest<S: Store>(
     alloc: Global,
     named: Option<&str>,
@@ -76,7 +76,7 @@ pub(crate) fn read_manifest<S: Store>(
     let bytes = match files.read(alloc, path.as_str()) {
         Ok(Some(bytes)) => bytes,
         Ok(None) => return Err(at_path(alloc, Error::NoManifest, path.as_str())),
-        Err(error) => return Err(at_path(alloc, error, path.as_str())),
+        Err(error) => return Err(at_file(alloc, error, path.as_str(), files.reason(alloc))),
     };
     manifest_of(alloc, rust, path, bytes)
 }

@@ -6,7 +6,7 @@ ghost use Rattle.edit_store.specs.Store.{OnlyReads, RefusesCall};
 ghost use Rattle.edit_steps.specs.Causes.{HasNoIndex, IsIndexCause};
 ghost use Rattle.edit_steps.specs.Sources.{IsIndexAt, IsIndexOf};
 
-use crate::{RunResult, absolute, at_path};
+use crate::{RunResult, absolute, at_file, at_path};
 use edit_base::Error;
 use edit_sources::FileIndex;
 use edit_store::Store;
@@ -41,7 +41,7 @@ fn read_file<S: Store>(
     let lines = match files.read_stream(alloc, path.as_str()) {
         Ok(Some(lines)) => lines,
         Ok(None) => return Err(at_path(alloc, Error::NoPath, path.as_str())),
-        Err(error) => return Err(at_path(alloc, error, path.as_str())),
+        Err(error) => return Err(at_file(alloc, error, path.as_str(), files.reason(alloc))),
     };
     match FileIndex::read(alloc, &lines) {
         Ok(index) => Ok(index),

@@ -5,26 +5,32 @@ ghost use Rattle.edit_store.specs.Store.{OnlyReads, RefusesCall};
 ghost use Rattle.edit_manifest.specs.Located.{HasNoManifest, IsManifestPath};
 ghost use Rattle.edit_sources.specs.Configured.{given};
 
-use crate::{Refusal, RunResult, absolute, at_path};
+use crate::{Refusal, RunResult, absolute, at_file};
 use edit_base::Error;
 use edit_base::paths::folder;
 use edit_manifest::find;
 use edit_store::Store;
 use std::alloc::Global;
 
-/// A refusal of what stands at a path that is named, without its place where memory is short.
-fn at_named(alloc: Global, error: Error, current: &str, named: &str) -> Refusal
+/// An error about what stands at a path that is named, with the machine's own reason where its device failed.
+fn at_named(
+    alloc: Global,
+    error: Error,
+    current: &str,
+    named: &str,
+    reason: Option<String>,
+) -> Refusal
     ensures { result.error ≡ error }
 {
     match absolute(alloc, current, named) {
-        Ok(path) => at_path(alloc, error, path.as_str()),
+        Ok(path) => at_file(alloc, error, path.as_str(), reason),
         Err(_) => Refusal::from(error),
     }
 }
 
-/// The path of the manifest: the file named, or the nearest `Cargo.toml` from the folder named upwards; from
-/// the current folder where none is named. Where it is to be written, other runs on it are waited for and then kept
-/// waiting, and what runs that were killed left beside it is removed.
+/// The path of the manifest: the file named, or the nearest `Cargo.toml` from the folder named upwards;
+/// from the current folder where none is named. Where it is to be written, other runs on it are waited for
+/// and then kept waiting, and what runs that were killed left beside it is removed.
 pub(crate) fn manifest_path<S: Store>(
     alloc: Global,
     named: Option<&str>,
@@ -47,6 +53,10 @@ pub(crate) fn manifest_path<S: Store>(
             }
             Ok(path)
         }
-        Err(error) => Err(at_named(alloc, error, current, named.unwrap_or(current))),
+        Err(error) => {
+            let named = named.unwrap_or(current);
+            let reason = files.reason(alloc);
+            Err(at_named(alloc, error, current, named, reason))
+        }
     }
 }

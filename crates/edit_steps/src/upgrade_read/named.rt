@@ -9,7 +9,7 @@ ghost use Rattle.edit_steps.specs.Causes.{LacksNamed};
 ghost use Rattle.edit_steps.specs.Named.{ArePairRead, AreSaid, HasNoFile, IsNamedRead, IsUnreadFile, pair_of, path_and_bytes, seen};
 
 use crate::upgrade_read::asked::Asked;
-use crate::{RunResult, absolute, at_path};
+use crate::{RunResult, absolute, at_file, at_path};
 use edit_base::{CargoResult, Error};
 use edit_sources::Config;
 use edit_store::Store;
@@ -51,7 +51,7 @@ fn read_file<S: Store>(
     match files.read_stream(alloc, path.as_str()) {
         Ok(Some(bytes)) => Ok(Some(NamedFile { path, bytes })),
         Ok(None) => Err(at_path(alloc, Error::NoPath, path.as_str())),
-        Err(error) => Err(at_path(alloc, error, path.as_str())),
+        Err(error) => Err(at_file(alloc, error, path.as_str(), files.reason(alloc))),
     }
 }
 
