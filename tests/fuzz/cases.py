@@ -10,8 +10,7 @@ import tempfile
 from dataclasses import dataclass
 
 HERE = "@HERE@"
-# (a path with a tab or a line end is left out: a diff does not quote it, and calls of `cargo update` cannot
-# hold it)
+# (a path with a line end is left out: calls of `cargo update` cannot hold it)
 SECONDS, TIMEOUT = 3, 30
 
 

@@ -63,11 +63,10 @@ def one_manifest(rng):
 
 def members_of(rng):
     """The members of a workspace: the name of each, its version, its folder, and what its package has
-    further. (A folder with a blank in its name is left out, since a diff does not mark its end for `patch`
-    yet.)"""
+    further."""
     members = []
     for number in range(rng.choice((1, 2, 3, 5))):
-        folder = rng.choice((f"m{number}", f"crates/m{number}", f"\u00e9{number}"))
+        folder = rng.choice((f"m{number}", f"crates/m{number}", f"\u00e9{number}", f"m {number}"))
         further = {"rust_version": rng.choice(RUST)} if rng.random() < 0.3 else {}
         members.append((f"m{number}", rng.choice(VERSIONS), folder, further))
     if rng.random() < 0.3:

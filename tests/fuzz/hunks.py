@@ -3,9 +3,20 @@ elsewhere too."""
 
 import re
 
-HEAD = re.compile(rb"^--- a/(.*)\n\+\+\+ b/(.*)\n", re.MULTILINE)
+HEAD = re.compile(rb'^--- ("?a/.*)\n\+\+\+ ("?b/.*)\n', re.MULTILINE)
+ESCAPE = re.compile(rb"\\([0-7]{3}|.)")
+LETTERS = dict(zip(b'abtnvfr"\\', b'\a\b\t\n\v\f\r"\\'))
 HUNK = re.compile(rb"@@ -(\d+)(?:,(\d+))? \+(\d+)(?:,(\d+))? @@\n")
 NO_END = b"\\ No newline at end of file\n"
+
+
+def unquoted(name):
+    """A name as git writes it: in quotes, with escapes, where it has to be; a tab ends one with a space."""
+    if name.endswith(b"\t") and b" " in name:
+        name = name[:-1]
+    if not name.startswith(b'"'):
+        return name
+    return ESCAPE.sub(lambda e: bytes([int(e[1], 8) if len(e[1]) == 3 else LETTERS[e[1][0]]]), name[1:-1])
 
 
 def lines_of(text):
@@ -41,11 +52,12 @@ def faults_of(body, before, after):
 
 
 def faults(diff, before, after):
-    """What is wrong with a diff, between files by their paths below the folder of the run."""
+    """What is wrong with a diff, between files by their paths below the root of the workspace."""
     heads = list(HEAD.finditer(diff))
     for head, end in zip(heads, [*(one.start() for one in heads[1:]), len(diff)]):
-        name = "ws/" + head[1].decode()
-        if head[1] != head[2] or name not in before:
+        old, new = unquoted(head[1]), unquoted(head[2])
+        name = "ws/" + old[2:].decode(errors="replace")
+        if old[:2] != b"a/" or new != b"b/" + old[2:] or name not in before:
             yield f"a head of no file: {head.group()!r}"
         else:
             yield from faults_of(diff[head.end():end], before[name], after[name])

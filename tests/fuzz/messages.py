@@ -59,6 +59,8 @@ def faults(command, messages):
         if form is None or reason not in reasons:
             yield f"a message with the reason {reason}"
             continue
+        if told.get("version") != 1:
+            yield f"a message of no format's number: {told}"
         lacks = form.keys() - told.keys()
         if lacks:
             yield f"a message without {sorted(lacks)}: {told}"

@@ -9,7 +9,7 @@ use Rattle.serde_json.specs.Written.{has_float, items_have_float, members_have_f
 use Rattle.edit_document.specs.declared.place.Step.{Step}
 use Rattle.edit_document.specs.declared.place.Step.TheVariants.{Key, Index}
 use Rattle.edit_shown.specs.Fields.{field_data, list_data, member_data, step_data, text_data}
-use Rattle.edit_shown.specs.JsonMessages.{message_data, with_member}
+use Rattle.edit_shown.specs.JsonMessages.{format_member, message_data, with_member}
 use Rattle.edit_shown.specs.declared.json.fields.Field.{Field}
 use Rattle.edit_shown.specs.declared.json.fields.Field.TheVariants as field
 use Rattle.edit_shown.specs.declared.json.fields.Member.{Member}
@@ -77,4 +77,4 @@ all (m ∷ members) ms h =
 
 -- the object of a message has no float
 pub no_float : (members : List Member) → has_float (message_data (map member_data members)) ≡ false
-no_float members = all members no_members refl
+no_float members = all members format_member refl

@@ -8,7 +8,7 @@ use Rattle.edit_report.specs.declared.output.Output.{Output}
 
 -- a folder's path with the `/` that ends it (own)
 abbrev pub folder_text : List ℕ → List ℕ
-folder_text current = if ends_with nat_eq current (codes "/") then current else current ++ codes "/"
+folder_text root = if ends_with nat_eq root (codes "/") then root else root ++ codes "/"
 
 -- a path as it is shown below a folder: what stands behind the folder, else behind the first `/` (own)
 abbrev pub below : List ℕ → List ℕ → List ℕ
@@ -17,14 +17,14 @@ below folder path =
     else if starts_with nat_eq path (codes "/") then drop 1 path
     else path
 
--- a path as it is shown in the current folder (own)
+-- a path as it is shown in a folder (own)
 abbrev pub shown_path : List ℕ → List ℕ → List ℕ
-shown_path current path = below (folder_text current) path
+shown_path root path = below (folder_text root) path
 
 -- the change of a manifest (own)
 abbrev pub diff_of : List ℕ → Input → Output → List ℕ
-diff_of current input output =
-    diff_text (shown_path current (string_bytes input.path)) input.bytes.items output.bytes.items
+diff_of root input output =
+    diff_text (shown_path root (string_bytes input.path)) input.bytes.items output.bytes.items
 
 -- whether an output is this input's (own)
 abbrev pub is_of : Input → Output → Bool
@@ -32,8 +32,8 @@ is_of input output = bytes_eq (string_bytes input.path) (string_bytes output.pat
 
 -- the change of an input, where the first output is its own (own)
 abbrev pub next_diff : List ℕ → Input → List Output → List ℕ
-next_diff current input [] = []
-next_diff current input (output ∷ outputs) = if is_of input output then diff_of current input output else []
+next_diff root input [] = []
+next_diff root input (output ∷ outputs) = if is_of input output then diff_of root input output else []
 
 -- the outputs of the other inputs (own)
 abbrev pub other_outputs : Input → List Output → List Output
@@ -42,6 +42,6 @@ other_outputs input (output ∷ outputs) = if is_of input output then outputs el
 
 -- the changes of the inputs that have an output; outputs stand in the order of their inputs (own)
 abbrev pub diffs : List ℕ → List Input → List Output → List ℕ
-diffs current [] outputs = []
-diffs current (input ∷ inputs) outputs =
-    next_diff current input outputs ++ diffs current inputs (other_outputs input outputs)
+diffs root [] outputs = []
+diffs root (input ∷ inputs) outputs =
+    next_diff root input outputs ++ diffs root inputs (other_outputs input outputs)

@@ -2,7 +2,7 @@
 -- the messages of cargo: Cargo reference, "External tools", JSON messages).
 use Rattle.std.specs.Prelude.{ℕ, List, [], ◌∷◌, ◌++◌, Bool, Option, Some, None, option_map, codes, string_bytes}
 use Rattle.std.specs.List.{fold}
-use Rattle.serde_json.specs.Data.{Data, Members, boolean, no_members, object, put, string}
+use Rattle.serde_json.specs.Data.{Data, Members, boolean, no_members, number, object, put, string, unsigned}
 use Rattle.serde_json.specs.Written.{compact_text}
 use Rattle.edit_report.specs.declared.row.Change.{Change}
 use Rattle.edit_report.specs.declared.row.Change.TheVariants as change
@@ -20,9 +20,13 @@ MessageMembers = List (List ℕ × Data)
 abbrev pub with_member : Members → List ℕ × Data → Members
 with_member members m = put m.0 m.1 members
 
--- the object of some members, which stand in the byte order of their keys (own)
+-- the member that each message has beside its own: the number of this format (own)
+abbrev pub format_member : Members
+format_member = put (codes "version") (number (unsigned 1)) no_members
+
+-- the object of the format's number and of some members, which stand in the byte order of their keys (own)
 abbrev pub message_data : MessageMembers → Data
-message_data members = object (fold with_member no_members members)
+message_data members = object (fold with_member format_member members)
 
 -- the text of a message: its object without spaces, and a line end (own)
 abbrev pub message_text : MessageMembers → List ℕ

@@ -3,6 +3,7 @@ pub mod Messages
 pub mod Hunks
 pub mod Lines
 pub mod Marks
+pub mod Names
 pub mod Shown
 pub mod Unified
 pub mod Fields

@@ -3,11 +3,13 @@ use Rattle.std.specs.Prelude.{ℕ, List, [], ◌++◌, codes, if◌then◌else�
 use Rattle.std.specs.Str.{bytes_eq}
 use Rattle.edit_shown.specs.Hunks.{parts_text}
 use Rattle.edit_shown.specs.Lines.{lines_of}
+use Rattle.edit_shown.specs.Names.{name_text}
 use Rattle.edit_shown.specs.Marks.{MarkedLine, lines_in, marked, marks_in}
 
 -- the two lines that name a file (own)
 abbrev pub names_text : List ℕ → List ℕ
-names_text path = codes "--- a/" ++ (path ++ (codes "\n+++ b/" ++ (path ++ codes "\n")))
+names_text path =
+    codes "--- " ++ (name_text (codes "a/") path ++ (codes "+++ " ++ name_text (codes "b/") path))
 
 -- the parts of a diff of lines that are compared (own)
 abbrev pub parts_of : List MarkedLine → List ℕ

@@ -3,6 +3,7 @@
 mod hunks;
 mod lines;
 mod marks;
+mod names;
 mod shown;
 pub mod unified;
 

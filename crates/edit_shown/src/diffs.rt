@@ -23,29 +23,29 @@ fn is_of(input: &Input, output: &Output) -> bool
 /// Prints the change of a manifest.
 fn print_diff<O: io::Write>(
     alloc: Global,
-    current: &str,
+    root: &str,
     input: &Input,
     output: &Output,
     out: &mut O,
 ) -> CargoResult<()>
     ensures text { OnOk result (Appends (O.contents out.old) (O.contents out.new)
-        (diff_of current.now input.now output.now)) }
+        (diff_of root.now input.now output.now)) }
     ensures refused { IfErr result (λ e. IsMemory e ⊎ (e ≡ error.Output)) }
 {
-    let path = shown_path(alloc, current, input.path.as_str())?;
+    let path = shown_path(alloc, root, input.path.as_str())?;
     write_diff(alloc, out, path, &input.bytes, &output.bytes)
 }
 
 /// Prints the change of an input where the first output is its own. Answers the outputs of the other inputs.
 fn print_next<'a, O: io::Write>(
     alloc: Global,
-    current: &str,
+    root: &str,
     input: &Input,
     outputs: &'a [Output],
     out: &mut O,
 ) -> CargoResult<&'a [Output]>
     ensures text { OnOk result (Appends (O.contents out.old) (O.contents out.new)
-        (next_diff current.now input.now outputs.now)) }
+        (next_diff root.now input.now outputs.now)) }
     ensures others { IfOk result (λ others. others.now ≡ other_outputs input.now outputs.now) }
     ensures refused { IfErr result (λ e. IsMemory e ⊎ (e ≡ error.Output)) }
 {
@@ -55,26 +55,27 @@ fn print_next<'a, O: io::Write>(
     if !is_of(input, output) {
         return Ok(outputs);
     }
-    print_diff(alloc, current, input, output, out)?;
+    print_diff(alloc, root, input, output, out)?;
     Ok(others)
 }
 
-/// Prints the change of each manifest as a unified diff, by its path below the current folder (another path
-/// without its first `/`). Outputs stand in the order of their inputs.
+/// Prints the change of each manifest as a unified diff, by its path below the folder `root` (another path
+/// without its first `/`), as `git apply` and `patch -p1` take it there. Outputs stand in the order of their
+/// inputs.
 pub fn print_diffs<O: io::Write>(
     alloc: Global,
-    current: &str,
+    root: &str,
     inputs: &[Input],
     outputs: &[Output],
     out: &mut O,
 ) -> CargoResult<()>
     ensures text { OnOk result (Appends (O.contents out.old) (O.contents out.new)
-        (diffs current.now inputs.now outputs.now)) }
+        (diffs root.now inputs.now outputs.now)) }
     ensures refused { IfErr result (λ e. IsMemory e ⊎ (e ≡ error.Output)) }
 {
     let mut rest = outputs;
     for input in inputs {
-        rest = print_next(alloc, current, input, rest, out)?;
+        rest = print_next(alloc, root, input, rest, out)?;
     }
     Ok(())
 }

@@ -7,14 +7,14 @@ use edit_base::CargoResult;
 use std::alloc::Global;
 
 /// A folder's path with the `/` that ends it.
-fn folder_text(alloc: Global, current: &str) -> CargoResult<String>
-    ensures text { IfOk result (λ s. string_bytes s ≡ folder_text current.now) }
+fn folder_text(alloc: Global, folder: &str) -> CargoResult<String>
+    ensures text { IfOk result (λ s. string_bytes s ≡ folder_text folder.now) }
     ensures refused { IfErr result IsMemory }
 {
-    if current.ends_with('/') {
-        return Ok(String::from_str(alloc, current)?);
+    if folder.ends_with('/') {
+        return Ok(String::from_str(alloc, folder)?);
     }
-    Ok(format!(in alloc; "{current}/")?)
+    Ok(format!(in alloc; "{folder}/")?)
 }
 
 /// A path as it is shown below a folder: what stands behind the folder, else behind the first `/`.
@@ -30,11 +30,11 @@ fn below<'a>(folder: &str, path: &'a str) -> &'a str
     }
 }
 
-/// A path as it is shown in the current folder.
-pub(crate) fn shown_path<'a>(alloc: Global, current: &str, path: &'a str) -> CargoResult<&'a str>
-    ensures text { IfOk result (λ s. s.now ≡ shown_path current.now path.now) }
+/// A path as it is shown in a folder.
+pub(crate) fn shown_path<'a>(alloc: Global, folder: &str, path: &'a str) -> CargoResult<&'a str>
+    ensures text { IfOk result (λ s. s.now ≡ shown_path folder.now path.now) }
     ensures refused { IfErr result IsMemory }
 {
-    let folder = folder_text(alloc, current)?;
+    let folder = folder_text(alloc, folder)?;
     Ok(below(folder.as_str(), path))
 }

@@ -99,8 +99,8 @@ def names(check):
 
 
 # The message of a manifest that is written, and of a line of new versions.
-FILE = '{"manifest_path":"/w/Cargo.toml","reason":"upgrade-file","written":true}\n'
-VERSION = '{"action":"Upgrading","message":"a from 0.1.0 to 0.2.0","reason":"set-version-change"}\n'
+FILE = '{"manifest_path":"/w/Cargo.toml","reason":"upgrade-file","version":1,"written":true}\n'
+VERSION = '{"action":"Upgrading","message":"a from 0.1.0 to 0.2.0","reason":"set-version-change","version":1}\n'
 
 ONE = {
     "workspace_root": "@ROOT@/w", "workspace_members": ["a"],
@@ -157,7 +157,7 @@ held|latest|1.0.0|2.0.0|2.0|1.0|-
 left|explicit|1.5.0|1.5.0|1.1|1.0|-"""
 
 SUMMARY = {"dry_run": False, "git_crates": [], "incompatible_present": False, "missing": [], "modified": [],
-           "pinned_present": False, "reason": "upgrade-summary", "update_calls": []}
+           "pinned_present": False, "reason": "upgrade-summary", "update_calls": [], "version": 1}
 CALL = ["cargo", "update", "--manifest-path", "/w/Cargo.toml", "--aggressive", "--package", "raised@1.0.0",
         "--offline"]
 
@@ -175,7 +175,7 @@ def row_message(row):
     members = {name: None if field == "-" else field for name, field in zip(names, fields, strict=True)}
     return line_of(members | {
         "manifest_path": "/w/Cargo.toml", "name": package or key, "place": ["dependencies", key],
-        "reason": "upgrade-row", "rename": key if package else None})
+        "reason": "upgrade-row", "rename": key if package else None, "version": 1})
 
 
 def row_messages(check):
@@ -184,7 +184,7 @@ def row_messages(check):
     lines = [dict(zip(("name", "vers"), version.split())) for version in VERSIONS]
     files = {"/w/Cargo.toml": EACH, "/w/index": "".join(map(line_of, lines))}
     words = ["upgrade", "--index-file", "index", "--message-format", "json"]
-    warning = line_of({"manifest_path": "/w/Cargo.toml", "reason": "upgrade-warning",
+    warning = line_of({"manifest_path": "/w/Cargo.toml", "reason": "upgrade-warning", "version": 1,
                        "message": "keeping a\tb, unreadable requirement `one`"})
     want = "".join(map(row_message, PLAIN.splitlines())) + warning + FILE + line_of(SUMMARY | {
         "git_crates": ["git"], "incompatible_present": True, "modified": ["raised", "renamed"],

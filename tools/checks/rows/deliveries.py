@@ -68,12 +68,12 @@ note: Re-run with `--verbose` to show more dependencies@  incompatible: y@  pinn
 done;dependencies.serde = "1.2";\
 {"change":"compatible","compatible":"1.2.3","latest":"1.2.3","manifest_path":"/w/Cargo.toml",\
 "name":"serde","new":"1.2","old":"1.0","place":["dependencies","serde"],"reason":"upgrade-row",\
-"rename":null,"why":null}@\
-{"manifest_path":"/w/Cargo.toml","reason":"upgrade-file","written":true}@\
+"rename":null,"version":1,"why":null}@\
+{"manifest_path":"/w/Cargo.toml","reason":"upgrade-file","version":1,"written":true}@\
 {"dry_run":false,"git_crates":[],"incompatible_present":false,"missing":[],\
 "modified":["serde"],"pinned_present":false,"reason":"upgrade-summary",\
 "update_calls":[["cargo","update","--manifest-path","/w/Cargo.toml","--aggressive",\
-"--package","serde@1.2.3","--offline"]]}@;    \
+"--package","serde@1.2.3","--offline"]],"version":1}@;    \
 Checking x's dependencies@         \
 Run cargo update --manifest-path /w/Cargo.toml --aggressive --package serde@1.2.3 --offline@;\
 cargo@update@--manifest-path@/w/Cargo.toml@--aggressive@--package@serde@1.2.3@--offline@@\
@@ -92,17 +92,17 @@ cargo@update@--manifest-path@/w/Cargo.toml@--aggressive@--package@serde@1.2.3@--
 done;old;\
 {"change":null,"compatible":"1.0.0","latest":"1.0.0","manifest_path":"/w/Cargo.toml",\
 "name":"a","new":"1","old":"1","place":["dependencies","a"],"reason":"upgrade-row",\
-"rename":null,"why":"latest"}@\
+"rename":null,"version":1,"why":"latest"}@\
 {"change":"compatible","compatible":"1.2.3","latest":"1.2.3","manifest_path":"/w/Cargo.toml",\
 "name":"serde","new":"1.2","old":"1.0","place":["dependencies","serde"],"reason":"upgrade-row",\
-"rename":null,"why":null}@\
+"rename":null,"version":1,"why":null}@\
 {"change":null,"compatible":"1.5.0","latest":"3.0.0","manifest_path":"/w/Cargo.toml",\
 "name":"x","new":"<2","old":"<2","place":["dependencies","x"],"reason":"upgrade-row",\
-"rename":null,"why":"pinned"}@\
-{"manifest_path":"/w/Cargo.toml","message":"ignoring w, source is workspace","reason":"upgrade-warning"}@\
-{"manifest_path":"/w/Cargo.toml","reason":"upgrade-file","written":false}@\
+"rename":null,"version":1,"why":"pinned"}@\
+{"manifest_path":"/w/Cargo.toml","message":"ignoring w, source is workspace","reason":"upgrade-warning","version":1}@\
+{"manifest_path":"/w/Cargo.toml","reason":"upgrade-file","version":1,"written":false}@\
 {"dry_run":true,"git_crates":[],"incompatible_present":false,"missing":[],"modified":["serde"],\
-"pinned_present":true,"reason":"upgrade-summary","update_calls":[]}@;    \
+"pinned_present":true,"reason":"upgrade-summary","update_calls":[],"version":1}@;    \
 Checking x's dependencies@\
 note: Re-run with `--pinned` to upgrade pinned version requirements@\
 note: Re-run with `--verbose` to show more dependencies@  latest: a@  pinned: x@\

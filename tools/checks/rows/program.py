@@ -147,10 +147,10 @@ note: Re-run with `--verbose` to show more dependencies
 §messages as JSON|mi|- --message-format json|0 raised \
 {"change":"compatible","compatible":"1.2.3","latest":"1.2.3","manifest_path":"/w/Cargo.toml",\
 "name":"serde","new":"1.2","old":"1.0","place":["dependencies","serde"],"reason":"upgrade-row",\
-"rename":null,"why":null}
-{"manifest_path":"/w/Cargo.toml","reason":"upgrade-file","written":true}
+"rename":null,"version":1,"why":null}
+{"manifest_path":"/w/Cargo.toml","reason":"upgrade-file","version":1,"written":true}
 {"dry_run":false,"git_crates":[],"incompatible_present":false,"missing":[],"modified":["serde"],\
-"pinned_present":false,"reason":"upgrade-summary","update_calls":[]}
+"pinned_present":false,"reason":"upgrade-summary","update_calls":[],"version":1}
     Checking virtual workspace's dependencies
 §a lock|mi|- --locked --dry-run|1 manifest name  old req compatible latest new req
 ====  ======= ========== ====== =======

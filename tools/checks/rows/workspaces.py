@@ -255,20 +255,20 @@ U§a workspace as JSON|mirab||--metadata-json metadata.json --index-file index.j
 --message-format=json|RAb|\
 0 {"change":"compatible","compatible":"1.2.3","latest":"1.2.3","manifest_path":"/w/Cargo.toml",\
 "name":"serde","new":"1.2","old":"1.0","place":["workspace","dependencies","serde"],\
-"reason":"upgrade-row","rename":null,"why":null}
+"reason":"upgrade-row","rename":null,"version":1,"why":null}
 {"change":"compatible","compatible":"0.4.5","latest":"0.4.5","manifest_path":"/w/a/Cargo.toml",\
 "name":"log","new":"0.4.5","old":"0.4.0","place":["dependencies","log"],\
-"reason":"upgrade-row","rename":null,"why":null}
+"reason":"upgrade-row","rename":null,"version":1,"why":null}
 {"change":null,"compatible":"1.2.3","latest":"1.2.3","manifest_path":"/w/b/Cargo.toml",\
 "name":"serde","new":"1","old":"1","place":["dev-dependencies","serde"],\
-"reason":"upgrade-row","rename":null,"why":"latest"}
+"reason":"upgrade-row","rename":null,"version":1,"why":"latest"}
 {"manifest_path":"/w/a/Cargo.toml","message":"ignoring serde, source is workspace",\
-"reason":"upgrade-warning"}
-{"manifest_path":"/w/Cargo.toml","reason":"upgrade-file","written":true}
-{"manifest_path":"/w/a/Cargo.toml","reason":"upgrade-file","written":true}
+"reason":"upgrade-warning","version":1}
+{"manifest_path":"/w/Cargo.toml","reason":"upgrade-file","version":1,"written":true}
+{"manifest_path":"/w/a/Cargo.toml","reason":"upgrade-file","version":1,"written":true}
 {"dry_run":false,"git_crates":[],"incompatible_present":false,"missing":[],"modified":["log","serde"],\
 "pinned_present":false,"reason":"upgrade-summary","update_calls":[["cargo","update","--manifest-path",\
-"/w/Cargo.toml","--aggressive","--package","serde@1.0.5","--package","log@0.4.3","--offline"]]}
+"/w/Cargo.toml","--aggressive","--package","serde@1.0.5","--package","log@0.4.3","--offline"]],"version":1}
     Checking virtual workspace's dependencies
     Checking a's dependencies
     Checking b's dependencies
@@ -302,8 +302,8 @@ warning: aborting set-version due to dry run
 0 warning: aborting set-version due to dry run
 §new versions as JSON|mrvy||set-version --metadata-json metadata.json --bump minor -p a \
 --message-format json|rVY|\
-0 {"action":"Upgrading","message":"a from 0.1.0 to 0.2.0","reason":"set-version-change"}
-{"action":"Updating","message":"b's dependency from 0.1 to 0.2","reason":"set-version-change"}
+0 {"action":"Upgrading","message":"a from 0.1.0 to 0.2.0","reason":"set-version-change","version":1}
+{"action":"Updating","message":"b's dependency from 0.1 to 0.2","reason":"set-version-change","version":1}
 §new versions as diffs|mrvy||set-version --metadata-json metadata.json --bump minor -p a --diff|rVY|\
 0 --- a/a/Cargo.toml
 +++ b/a/Cargo.toml

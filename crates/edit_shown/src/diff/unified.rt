@@ -10,6 +10,7 @@ ghost use Rattle.edit_shown.specs.Unified as spec;
 use crate::diff::hunks::push_parts;
 use crate::diff::lines::lines_of;
 use crate::diff::marks::marked;
+use crate::diff::names::push_name;
 use edit_base::{CargoResult, Error};
 use std::alloc::{AllocError, Global};
 use std::io;
@@ -18,11 +19,10 @@ use std::io;
 fn push_names(text: &mut Vec<u8>, path: &str) -> Result<(), AllocError>
     ensures ok { OnOk result (text.new.items ≡ text.old.items ++ spec.names_text path.now) }
 {
-    text.extend_from_slice(b"--- a/")?;
-    text.extend_from_slice(path.as_bytes())?;
-    text.extend_from_slice(b"\n+++ b/")?;
-    text.extend_from_slice(path.as_bytes())?;
-    text.push(b'\n')?;
+    text.extend_from_slice(b"--- ")?;
+    push_name(text, b"a/", path.as_bytes())?;
+    text.extend_from_slice(b"+++ ")?;
+    push_name(text, b"b/", path.as_bytes())?;
     Ok(())
 }
 

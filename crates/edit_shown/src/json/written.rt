@@ -11,11 +11,15 @@ use edit_base::CargoResult;
 use serde_json::{Map, Value, put};
 use std::alloc::{AllocError, Global};
 
-/// The object of some members.
+/// The number of this format of messages.
+const FORMAT: u64 = 1;
+
+/// The object of the format's number and of some members.
 fn object_of(alloc: Global, members: &[Member<'_>]) -> Result<Value, AllocError>
     ensures { IfOk result (λ v. view v ≡ message_data (map member_data members.now)) }
 {
     let mut object = Map::new(alloc);
+    put(&mut object, alloc, "version", Value::from(FORMAT))?;
     for member in members {
         put(
             &mut object,
@@ -27,7 +31,7 @@ fn object_of(alloc: Global, members: &[Member<'_>]) -> Result<Value, AllocError>
     Ok(Value::Object(object))
 }
 
-/// The text of the object of some members, without spaces.
+/// The text of that object, without spaces.
 fn object_text(alloc: Global, members: &[Member<'_>]) -> Result<String, AllocError>
     ensures { IfOk result (λ s. string_bytes s ≡ compact_text (message_data (map member_data members.now))) }
 {
@@ -35,7 +39,7 @@ fn object_text(alloc: Global, members: &[Member<'_>]) -> Result<String, AllocErr
     object.to_string(alloc)
 }
 
-/// The text of a message with these members.
+/// The text of a message with these members and the number of its format.
 pub(crate) fn message(alloc: Global, members: &[Member<'_>]) -> CargoResult<String>
     ensures text { IfOk result (λ s. string_bytes s ≡ message_text (map member_data members.now)) }
     ensures refused { IfErr result IsMemory }

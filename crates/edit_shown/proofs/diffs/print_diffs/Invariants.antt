@@ -6,5 +6,5 @@ use Rattle.edit_shown.proofs.diffs.print_diffs.Given as goal
 -- with the changes of the inputs that are left, all of them are printed
 abbrev pub invariant-loop-input : goal.invariant-loop-input
 invariant-loop-input g l = (end : Option (List ℕ))
-    → Appends (g.O.Write.contents l.out) end (diffs l.current (drop l.input-index l.inputs) l.rest)
-    → Appends (g.O.Write.contents l.initial.out) end (diffs l.current l.inputs l.initial.rest)
+    → Appends (g.O.Write.contents l.out) end (diffs l.root (drop l.input-index l.inputs) l.rest)
+    → Appends (g.O.Write.contents l.initial.out) end (diffs l.root l.inputs l.initial.rest)
