@@ -315,17 +315,31 @@ os.execvp("cargo-upgrade", ["cargo-upgrade", "upgrade"])' > "$room/out" 2> "$roo
   done
   unwritten
 }
-# An error about a cached entry names its file and line.
-# (the entry that the message names stands in the folder of the run, which is gone afterwards, and not in the cache)
-open_broken_entry() {
+# A damaged entry in the cache is no entry: a warning names its file and the line, and it is fetched again without
+# a validator.
+row_damaged_entry() {
+  local damaged
   fill
-  printf 'nothing\n' > "$(entry one 3/d/dep)"
-  run 1 upgrade --offline
-  says 'Error: Invalid index line 1'
-  says "  at $(entry one 3/d/dep):1"
+  damaged=$(entry one 3/d/dep)
+  printf '\nnothing\n' > "$damaged"
+  run 0 upgrade -n --offline
+  says "warning: the cached index entry $damaged:2 "
+  says_once '^warning: no index entries of .* dep '
+  silent '[.]run[.]'
+  silent '^dep '
+  grep -q '^other .* 0[.]2[.]5 ' "$room/out" || fail 'other is not raised'
+  mode down
+  run 1 upgrade
+  says "$damaged:2 "
+  missing '/one/: dep '
+  silent '[.]run[.]'
   unwritten
+  rm "$room/mode" "$room/asked"
   run 0 upgrade
   raised
+  whole
+  grep -q '^/one/3/d/dep sent ' "$room/asked" || fail 'the entry is not fetched again'
+  lacks "$room/err" "$damaged"
 }
 
 all_rows

@@ -1,22 +1,37 @@
 -- Which bodies are whole index files.
-use Rattle.std.proofs.Common.{ℕ, List, Bool, true, false, map, subst, arith, refl}
-use Rattle.std.specs.Prelude.{All, IsTrue, MatchBool, ◌↔◌}
+use Rattle.std.proofs.Common.{◌≡◌, ℕ, List, Bool, true, false, map, sym, ◌∙◌, subst, arith}
+use Rattle.std.specs.Prelude.{All, IsTrue, ◌↔◌}
 use Rattle.std.proofs.lemmas.Bool.{false≢true}
 use Rattle.std.proofs.lemmas.List.{length-map}
 use Rattle.std.proofs.Math.ListN.{get_or-map}
+use Rattle.edit_base.specs.declared.errors.Error.TheVariants.{IndexLine}
 use Rattle.edit_version.specs.IndexEntry.{IndexEntry}
 use Rattle.edit_sources.specs.IndexLines.{LinesSay, lines_of}
-use Rattle.edit_sources.proofs.OutcomeLemmas.{one_reading}
-use Rattle.edit_answers.specs.Bodies.{AreNamed, EndsLine, IsWholeIndex}
+use Rattle.edit_sources.proofs.OutcomeLemmas.{none_said, one_reading}
+use Rattle.edit_answers.specs.Bodies.{AreNamed, EndsLine, IsDamaged, IsWholeIndex}
+use Rattle.edit_answers.specs.Bodies.IsDamaged.{bad_line, not_whole}
+use Rattle.edit_answers.specs.declared.bodies.Damage.{Damage}
 
 pub All-unmap : {X Y : Type 0} (P : Y → Type 0) (f : X → Y) (xs : List X) → All P (map f xs) → All (λ x. P (f x)) xs
 All-unmap P f xs h k d w =
     subst P (get_or-map f xs k d) (h k (f d) (omega (arith, length-map xs f)))
 
-pub whole-cases : (b : Bool) (name body : List ℕ) (entries : List IndexEntry) → EndsLine body
-    → LinesSay (lines_of body) entries → (IsTrue b ↔ AreNamed entries name)
-    → MatchBool b (IsWholeIndex name body) (IsWholeIndex name body → ⊥)
-whole-cases true name body entries ended say named =
-    record { ended = ended; entries = entries; say = say; named = named.0 refl }
-whole-cases false name body entries ended say named = λ w.
-    false≢true (named.1 (subst (λ es. AreNamed es name) (one_reading (lines_of body) w.entries entries w.say say) w.named))
+-- a damaged file is not whole
+pub damaged-not-whole : (name body : List ℕ) (damage : Damage) → IsDamaged name body damage → IsWholeIndex name body → ⊥
+damaged-not-whole name body damage (bad_line n bad) w = none_said (lines_of body) w.entries n w.say bad
+damaged-not-whole name body damage (not_whole entries say none) w = none w
+
+-- a file that does not end with a line end is not whole
+pub not-ended : (b : Bool) (name body : List ℕ) → (IsTrue b ↔ EndsLine body) → b ≡ false → IsWholeIndex name body → ⊥
+not-ended b name body ends is w = false≢true (sym is ∙ ends.1 w.ended)
+
+-- the line of an error
+pub one-line : (m n : ℕ) → IndexLine m ≡ IndexLine n → m ≡ n
+one-line m n e = cc
+
+-- a file whose entries do not all have the name is not whole
+pub not-named : (b : Bool) (name body : List ℕ) (entries : List IndexEntry) → LinesSay (lines_of body) entries
+    → (IsTrue b ↔ AreNamed entries name) → b ≡ false → IsWholeIndex name body → ⊥
+not-named b name body entries say named is w =
+    false≢true (sym is
+    ∙ named.1 (subst (λ es. AreNamed es name) (one_reading (lines_of body) w.entries entries w.say say) w.named))

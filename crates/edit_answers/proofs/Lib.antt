@@ -1,4 +1,5 @@
 pub mod BodyLemmas
+mod CacheLemmas
 pub mod ChangeLemmas
 pub mod LineLemmas
 mod LinkLemmas

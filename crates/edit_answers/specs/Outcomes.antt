@@ -1,19 +1,20 @@
 -- What becomes of lookups.
-use Rattle.std.specs.Prelude.{◌≡◌, ◌⊎◌, ℕ, List, Option, Some, None, Bool, true, false, slice_get}
+use Rattle.std.specs.Prelude.{◌≡◌, ◌⊎◌, ℕ, List, Option, Some, None, Bool, true, false, MatchOption, slice_get}
 use Rattle.edit_store.specs.Store.{Files}
 use Rattle.edit_lookups.specs.Cached.{cached_path, validator_path}
 use Rattle.edit_lookups.specs.Lookups.{LookupText}
 use Rattle.edit_lookups.specs.Validators.{IsValidatorOf}
-use Rattle.edit_answers.specs.Bodies.{IsWholeIndex}
+use Rattle.edit_answers.specs.Bodies.{IsDamaged, IsWholeIndex}
 use Rattle.edit_answers.specs.Meanings.{new_meaning}
 use Rattle.edit_answers.specs.Places.{body_path, index_path}
+use Rattle.edit_answers.specs.declared.bodies.Damage.{Damage}
 use Rattle.edit_answers.specs.declared.meaning.Failure.{Failure}
 use Rattle.edit_answers.specs.declared.meaning.Failure.TheVariants.{NotAnIndex}
 use Rattle.edit_answers.specs.declared.meaning.Meaning.{Meaning}
 use Rattle.edit_answers.specs.declared.meaning.Meaning.TheVariants.{Failed, NotModified}
 use Rattle.edit_answers.specs.declared.meaning.Meaning.TheVariants as meaning
 use Rattle.edit_answers.specs.declared.meaning.Outcome.{Outcome}
-use Rattle.edit_answers.specs.declared.meaning.Outcome.TheVariants.{Absent, Cached, Current, Fetched, Missing, Moved}
+use Rattle.edit_answers.specs.declared.meaning.Outcome.TheVariants.{Absent, Cached, Current, Damaged, Fetched, Missing, Moved}
 use Rattle.edit_answers.specs.declared.places.Places.{Places}
 
 -- the entry was fetched, as the answer to the request or behind a redirect
@@ -33,10 +34,22 @@ abbrev pub by_link : Bool → Outcome → Failure → Outcome
 by_link true had lost = had
 by_link false had lost = Missing lost
 
--- the same by the cached entry
+-- what a lookup comes to by the file of its entry in the cache, whatever that holds
 abbrev pub by_cached : Option (List ℕ) → Outcome → Failure → Outcome
 by_cached None had lost = Missing lost
 by_cached (Some bytes) had lost = had
+
+-- what is wrong with a file in the cache, which need not be there: nothing where it is the whole index file of the crate
+abbrev pub HasDamage : List ℕ → Option (List ℕ) → Option Damage → Type 0
+HasDamage name None damage = damage ≡ None
+HasDamage name (Some bytes) damage = MatchOption damage (IsWholeIndex name bytes) (IsDamaged name bytes)
+
+-- what a lookup comes to by its entry in the cache: a damaged one serves no more than none
+pub data FromCache (name : List ℕ) (had : Outcome) (lost : Failure) : Option (List ℕ) → Outcome → Type 0 where
+  none : FromCache name had lost None (Missing lost)
+  whole : (bytes : List ℕ) → IsWholeIndex name bytes → FromCache name had lost (Some bytes) had
+  damaged : (bytes : List ℕ) (damage : Damage) → IsDamaged name bytes damage
+      → FromCache name had lost (Some bytes) (Damaged damage lost)
 
 -- the file of the transfer's body is a whole index file of the crate
 abbrev pub HasBody : Places → LookupText → ℕ → Files → Type 0
@@ -53,14 +66,16 @@ stored false = Moved
 pub data Settles (p : Places) (l : LookupText) (number : ℕ) (files : Files) : Meaning → Outcome → Type 0 where
   fetched : (is_direct : Bool) → HasBody p l number files
       → Settles p l number files (new_meaning is_direct) (stored is_direct)
-  unusable : (is_direct : Bool) → (HasBody p l number files → ⊥)
-      → Settles p l number files (new_meaning is_direct)
-      (by_cached (files (cached_path p.cache.now l)) (Cached NotAnIndex) NotAnIndex)
-  current : (lost : Failure) → Settles p l number files NotModified
-      (by_cached (files (cached_path p.cache.now l)) Current lost)
+  unusable : (is_direct : Bool) (o : Outcome) → (HasBody p l number files → ⊥)
+      → FromCache l.name (Cached NotAnIndex) NotAnIndex (files (cached_path p.cache.now l)) o
+      → Settles p l number files (new_meaning is_direct) o
+  current : (lost : Failure) (o : Outcome)
+      → FromCache l.name Current lost (files (cached_path p.cache.now l)) o
+      → Settles p l number files NotModified o
   absent : Settles p l number files meaning.Absent Absent
-  failed : (f : Failure) → Settles p l number files (Failed f)
-      (by_cached (files (cached_path p.cache.now l)) (Cached f) f)
+  failed : (f : Failure) (o : Outcome)
+      → FromCache l.name (Cached f) f (files (cached_path p.cache.now l)) o
+      → Settles p l number files (Failed f) o
 
 -- the validator of a body beside its entry
 abbrev pub PutsValidator : List ℕ → List ℕ → List ℕ → List ℕ → Type 0

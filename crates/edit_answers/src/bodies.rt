@@ -1,12 +1,22 @@
 //! Which bodies are index files.
-ghost use Rattle.std.specs.Prelude.{◌≡◌, ◌↔◌, All, IsTrue, IfOk, MatchBool, map, string_bytes};
-ghost use Rattle.edit_answers.specs.Bodies.{AreNamed, EndsLine, IsSameName, IsWholeIndex};
+ghost use Rattle.std.specs.Prelude.{◌≡◌, ◌↔◌, All, IsTrue, IfOk, MatchBool, MatchOption, map, string_bytes};
+ghost use Rattle.edit_answers.specs.Bodies.{AreNamed, EndsLine, IsDamaged, IsSameName, IsWholeIndex};
 ghost use Rattle.edit_version.specs.IndexEntry.{entry_of};
 
 use edit_base::{CargoResult, Error};
 use edit_sources::index_lines::read_lines;
 use edit_version::fetch::IndexVersion;
 use std::alloc::{AllocError, Global};
+
+/// Why a file is not the whole index file of a crate.
+#[derive(Clone, Copy, Debug)]
+pub enum Damage {
+    /// The line of this number, from 1, is the first one that is no line of an index.
+    BadLine(usize),
+    /// Each line is one of an index, but the file has none, does not end with a line end, or has a line of
+    /// another crate.
+    NotWhole,
+}
 
 /// Whether a name is this one, the case of letters of ASCII aside.
 fn is_named(entry: &IndexVersion, name: &str) -> bool
@@ -43,19 +53,36 @@ fn ends_with_line_end(body: &[u8]) -> bool
     }
 }
 
-/// Whether a body is a whole index file of a crate: it ends with a line end, it has entries, each line that
-/// is not blank is one, and each has the name of the crate, the case of letters of ASCII aside.
+/// Why a body is not the whole index file of a crate; none where it is: it ends with a line end, it has
+/// entries, each line that is not blank is one, and each has the name of the crate, the case of letters of
+/// ASCII aside.
+pub fn damage_of(alloc: Global, name: &str, body: &[u8]) -> Result<Option<Damage>, AllocError>
+    ensures { IfOk result (λ o. MatchOption o (IsWholeIndex name.now body.now)
+        (IsDamaged name.now body.now)) }
+{
+    match read_lines(alloc, body) {
+        Ok(entries) => {
+            if !ends_with_line_end(body) {
+                return Ok(Some(Damage::NotWhole));
+            }
+            if !are_named(&entries, name) {
+                return Ok(Some(Damage::NotWhole));
+            }
+            Ok(None)
+        }
+        Err(Error::IndexLine { line }) => Ok(Some(Damage::BadLine(line))),
+        // the only other error is want of memory
+        Err(_) => Err(AllocError),
+    }
+}
+
+/// Whether a body is the whole index file of a crate.
 pub fn is_whole_index(alloc: Global, name: &str, body: &[u8]) -> Result<bool, AllocError>
     ensures { IfOk result (λ b. MatchBool b (IsWholeIndex name.now body.now)
         (IsWholeIndex name.now body.now → ⊥)) }
 {
-    if !ends_with_line_end(body) {
-        return Ok(false);
-    }
-    match read_lines(alloc, body) {
-        Ok(entries) => Ok(are_named(&entries, name)),
-        Err(Error::IndexLine { .. }) => Ok(false),
-        // the only other error is want of memory
-        Err(_) => Err(AllocError),
+    match damage_of(alloc, name, body)? {
+        Some(_) => Ok(false),
+        None => Ok(true),
     }
 }

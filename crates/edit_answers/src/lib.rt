@@ -18,6 +18,7 @@ pub mod stored;
 mod validators;
 
 pub use answers::{Answer, read_answers};
+pub use bodies::{Damage, damage_of};
 pub use cache_store::CacheStore;
 pub use curl_version::is_new_enough;
 pub use link_store::LinkStore;

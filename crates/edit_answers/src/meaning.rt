@@ -4,6 +4,7 @@ ghost use Rattle.std.specs.Str.{bytes_eq};
 ghost use Rattle.edit_answers.specs.Meanings.{IsAbsence, Means, MeansBy, new_meaning};
 
 use crate::answers::Answer;
+use crate::bodies::Damage;
 
 /// Why an entry is not had by this run.
 #[derive(Clone, Copy, Debug)]
@@ -58,6 +59,8 @@ pub enum Outcome<'a> {
     Cached(Failure<'a>),
     /// The entry was not had, and none is cached.
     Missing(Failure<'a>),
+    /// The entry was not had, and the cached one is damaged.
+    Damaged(Damage, Failure<'a>),
 }
 
 /// Whether a status says that there is no such crate.

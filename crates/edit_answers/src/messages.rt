@@ -1,9 +1,11 @@
 //! What is said of entries that were not had.
 ghost use Rattle.std.specs.Prelude.{◌≡◌, [], Some, IfOk, codes, option_map, string_bytes};
 
+use crate::bodies::Damage;
 use crate::local::{local_folder, local_path};
 use crate::meaning::{Failure, Outcome};
-use edit_lookups::{Lookup, shown_address};
+use crate::places::Places;
+use edit_lookups::{Lookup, cached_path, shown_address};
 use std::alloc::{AllocError, Global};
 use std::collections::BTreeMap;
 use std::fmt::Write;
@@ -191,7 +193,7 @@ fn add_outcome(
     match outcome {
         Outcome::Cached(Failure::Offline) => Ok(()),
         Outcome::Cached(failure) => add(alloc, &mut groups.cached, lookup, failure),
-        Outcome::Missing(failure) => {
+        Outcome::Missing(failure) | Outcome::Damaged(_, failure) => {
             if is_fatal(failure, offline) {
                 add(alloc, &mut groups.fatal, lookup, failure)
             } else {
@@ -200,6 +202,27 @@ fn add_outcome(
         }
         _ => Ok(()),
     }
+}
+
+/// Adds the warning of an outcome whose cached entry is damaged, with the file of that entry.
+fn push_damage(
+    alloc: Global,
+    text: &mut String,
+    cache: &str,
+    lookup: &Lookup,
+    outcome: Outcome,
+) -> Result<(), AllocError> {
+    let Outcome::Damaged(damage, _) = outcome else {
+        return Ok(());
+    };
+    let path = cached_path(alloc, cache, lookup)?;
+    text.push_str("warning: the cached index entry ")?;
+    push_shown(text, path.as_str())?;
+    match damage {
+        Damage::BadLine(line) => write!(text, ":{line} is no index line")?,
+        Damage::NotWhole => text.push_str(" is not whole")?,
+    }
+    text.push_str(", so the file is not used: remove it\n")
 }
 
 /// The error of the groups without which an upgrade cannot go on.
@@ -220,6 +243,7 @@ fn error_of(alloc: Global, groups: &BTreeMap<String, Group>) -> Result<Option<St
 /// What is said of the outcomes of lookups. Nothing is said of crates that are not upgraded.
 pub fn report_of(
     alloc: Global,
+    places: &Places,
     lookups: &[Lookup<'_>],
     outcomes: &[Outcome<'_>],
     options: &StoreOptions<'_>,
@@ -229,12 +253,13 @@ pub fn report_of(
         left: BTreeMap::new(alloc),
         fatal: BTreeMap::new(alloc),
     };
+    let mut warnings = String::new(alloc);
     for (lookup, outcome) in lookups.iter().zip(outcomes) {
         if !is_excluded(options.excluded, lookup.name) {
             add_outcome(alloc, &mut groups, lookup, *outcome, options.offline)?;
+            push_damage(alloc, &mut warnings, places.cache, lookup, *outcome)?;
         }
     }
-    let mut warnings = String::new(alloc);
     for (shown, group) in &groups.cached {
         push_cached(&mut warnings, shown.as_str(), group)?;
     }

@@ -3,12 +3,12 @@ ghost use Rattle.std.specs.Prelude.{◌≡◌, ℕ, List, Some, true, IfErr, IfO
 ghost use Rattle.edit_answers.specs.Bodies.{IsWholeIndex};
 ghost use Rattle.edit_answers.specs.Changes.{Changes, Fails};
 ghost use Rattle.edit_answers.specs.Meanings.{new_meaning};
-ghost use Rattle.edit_answers.specs.Outcomes.{Puts, PutsIndexed, Settles, by_cached, by_link, stored};
+ghost use Rattle.edit_answers.specs.Outcomes.{FromCache, HasDamage, Puts, PutsIndexed, Settles, by_cached, by_link, stored};
 ghost use Rattle.edit_lookups.specs.Cached.{cached_path};
 ghost use Rattle.edit_lookups.specs.Lookups.{lookup_text};
 ghost use Rattle.edit_store.specs.Store.{OnlyReads};
 
-use crate::bodies::is_whole_index;
+use crate::bodies::{Damage, damage_of, is_whole_index};
 use crate::link_store::LinkStore;
 use crate::meaning::{Failure, Meaning, Outcome};
 use crate::places::{Places, body_path, index_path};
@@ -55,9 +55,28 @@ fn by_link<'a>(is_cached: bool, had: Outcome<'a>, lost: Failure<'a>) -> Outcome<
     }
 }
 
-/// Puts the cached entry of a lookup where an upgrade reads it. What became of the lookup is `had`, where
-/// there is a cached entry.
-fn from_cache<'a, S: LinkStore>(
+/// What is wrong with the cached entry at a path; none where it is whole, or there is none.
+fn cached_damage<S: Store>(
+    alloc: Global,
+    files: &mut S,
+    name: &str,
+    path: &str,
+) -> CargoResult<Option<Damage>>
+    ensures reads { OnlyReads (S.view files.old) (S.view files.new) }
+    ensures damage { IfOk result (λ o. (S.view files.old).tells ≡ true
+        → HasDamage name.now ((S.view files.old).file_at path.now) o) }
+    ensures refused { IfErr result (Fails (S.view files.old).faults (S.view files.new).faults) }
+{
+    match files.read(alloc, path) {
+        Ok(Some(bytes)) => Ok(damage_of(alloc, name, &bytes)?),
+        Ok(None) => Ok(None),
+        Err(error) => Err(error),
+    }
+}
+
+/// Puts the file of a lookup in the cache where an upgrade reads it. What became of the lookup is `had`, where
+/// there is such a file.
+fn link_cached<'a, S: LinkStore>(
     alloc: Global,
     files: &mut S,
     places: &Places,
@@ -75,6 +94,30 @@ fn from_cache<'a, S: LinkStore>(
     let indexed = index_path(alloc, places.room, lookup)?;
     match files.link(alloc, entry.as_str(), indexed.as_str()) {
         Ok(is_cached) => Ok(by_link(is_cached, had, lost)),
+        Err(error) => Err(error),
+    }
+}
+
+/// Puts the cached entry of a lookup where an upgrade reads it, unless it is damaged. What became of the
+/// lookup is `had`, where there is such an entry.
+fn from_cache<'a, S: LinkStore>(
+    alloc: Global,
+    files: &mut S,
+    places: &Places,
+    lookup: &Lookup,
+    had: Outcome<'a>,
+    lost: Failure<'a>,
+) -> CargoResult<Outcome<'a>>
+    ensures changes { Changes (λ _. PutsIndexed places.now (lookup_text lookup.now))
+        (PutsIndexed places.now (lookup_text lookup.now)) (S.view files.old) (S.view files.new) result }
+    ensures told { IfOk result (λ o. (S.view files.old).tells ≡ true
+        → FromCache lookup.now.name.now had.entry lost.entry
+        ((S.view files.old).file_at (cached_path places.now.cache.now (lookup_text lookup.now))) o) }
+{
+    let entry = cached_path(alloc, places.cache, lookup)?;
+    match cached_damage(alloc, files, lookup.name, entry.as_str()) {
+        Ok(Some(damage)) => Ok(Outcome::Damaged(damage, lost)),
+        Ok(None) => link_cached(alloc, files, places, lookup, had, lost),
         Err(error) => Err(error),
     }
 }
@@ -156,7 +199,7 @@ fn store_body<'a, S: LinkStore>(
         Ok(()) => {}
         Err(error) => return Err(error),
     }
-    let outcome = match from_cache(
+    let outcome = match link_cached(
         alloc,
         files,
         places,

@@ -66,7 +66,7 @@ fn store_lookups<S: LinkStore>(
         Ok(outcomes) => outcomes,
         Err(error) => return Err(error),
     };
-    Ok(report_of(alloc, lookups, &outcomes, options)?)
+    Ok(report_of(alloc, places, lookups, &outcomes, options)?)
 }
 
 /// Stores the good answers to the lookups of a run in the cache, puts each entry that the run has where an
@@ -194,6 +194,47 @@ mod tests {
                 b"{\"name\":\"log\",\"vers\":\"1.1.0\"}\n"
             )?,
             "another crate"
+        );
+        Ok(())
+    }
+
+    /// What is said of a run without an answer whose cached entry is this.
+    fn said_of(alloc: Global, cached: &[u8], options: &StoreOptions<'_>) -> Result<Report, Fail> {
+        let (mut store, _report) = run_with(alloc, b"1\t403\t0\t0\t\n", b"")?;
+        put(alloc, &mut store, SERDE, cached)?;
+        put(alloc, &mut store, INDEXED, b"")?;
+        let report = store_answers(alloc, &mut store, &PLACES, options)?;
+        // (a damaged entry is not put where an upgrade reads it, and stays)
+        let indexed = store.read(alloc, INDEXED)?.ok_or("not indexed")?;
+        if !indexed.is_empty() || entry(alloc, &mut store)?.as_slice() != cached {
+            return Err(Fail::from("the entry is used"));
+        }
+        Ok(report)
+    }
+
+    #[test]
+    fn a_damaged_entry(rt: HostRuntime) -> Result<(), Fail> {
+        let offline = StoreOptions {
+            offline: true,
+            excluded: &[],
+        };
+        let report = said_of(rt.alloc(), b"\nnothing\n", &offline)?;
+        assert!(rt; report.error.is_none());
+        assert_eq!(rt;
+            report.warnings.as_str(),
+            "warning: the cached index entry /c/sparse+https:%2F%2Fh.example%2F/se/rd/serde:2 is no index line, so the file is not used: remove it
+warning: no index entries of sparse+https://h.example/ are cached for serde (nothing is fetched offline): these crates stay as they are
+"
+        );
+        let report = said_of(
+            rt.alloc(),
+            b"{\"name\":\"serde\",\"vers\":\"1.0.0\"}",
+            &OPTIONS,
+        )?;
+        assert!(rt; report.error.is_some());
+        assert_eq!(rt;
+            report.warnings.as_str(),
+            "warning: the cached index entry /c/sparse+https:%2F%2Fh.example%2F/se/rd/serde is not whole, so the file is not used: remove it\n"
         );
         Ok(())
     }

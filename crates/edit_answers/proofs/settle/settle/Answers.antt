@@ -27,6 +27,5 @@ returns-in-Failed-clause-told g c =
     let files = (g.S.Store.view c.args.files.now).file_at in
     on-ok _ _ c.from_cache.result
     (λ o h t. subst (λ m. Settles p l c.args.number files m o) (sym c.in-Failed.is)
-    (subst (λ o. Settles p l c.args.number files (Failed c.in-Failed.failure) o) (sym (h t))
-    (failed c.in-Failed.failure)))
+    (failed c.in-Failed.failure o (h t)))
     c.from_cache.ensures.told

@@ -29,10 +29,7 @@ returns-in-Ok-renew_validator-clause-changes g c =
 
 pub returns-in-Ok-renew_validator-clause-told : goal.returns-in-Ok-renew_validator-clause-told
 returns-in-Ok-renew_validator-clause-told g c t number =
-    let p = c.args.places.now in
-    let l = lookup_text c.args.lookup.now in
-    subst (λ o. Settles p l number (g.S.Store.view c.args.files.now).file_at NotModified o)
-    (sym (c.in-Ok.ensures.told t)) (current _)
+    current _ c.in-Ok.outcome (c.in-Ok.ensures.told t)
 
 pub returns-clause-changes : goal.returns-clause-changes
 returns-clause-changes g c =

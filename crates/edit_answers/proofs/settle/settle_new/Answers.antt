@@ -2,7 +2,7 @@ use Rattle.std.proofs.Common.{◌≡◌, ◌∙◌, Some, ap, sym, subst}
 use Rattle.edit_lookups.specs.Cached.{cached_path}
 use Rattle.edit_lookups.specs.Lookups.{lookup_text}
 use Rattle.edit_answers.specs.Meanings.{new_meaning}
-use Rattle.edit_answers.specs.Outcomes.{Puts, PutsIndexed, Settles, by_cached}
+use Rattle.edit_answers.specs.Outcomes.{FromCache, Puts, PutsIndexed, Settles}
 use Rattle.edit_answers.specs.Outcomes.Settles.{fetched, unusable}
 use Rattle.edit_answers.specs.declared.meaning.Failure.TheVariants.{NotAnIndex}
 use Rattle.edit_answers.specs.declared.meaning.Outcome.TheVariants.{Cached, Fetched}
@@ -25,11 +25,11 @@ returns-in-Ok-None-clause-told g c =
     let files = (g.S.Store.view c.args.files.now).file_at in
     let reads = c.read_body.ensures.reads in
     on-ok _ _ c.from_cache.result
-    (λ o h t. subst (λ o. Settles p l c.args.number files (new_meaning c.args.is_direct) o)
-    (sym (h (reads.tells ∙ t)
-    ∙ ap (λ x. by_cached x (Cached NotAnIndex) NotAnIndex) (reads.files (cached_path p.cache.now l))))
-    (unusable c.args.is_direct (λ b. (rw c.in-Ok-None.field-0-is at (c.in-Ok-None.ensures.body t)) b.0
-    (subst (λ q. files q ≡ Some b.0) (sym (c.as_str.ensures.value ∙ c.in_ok-body_path.ensures)) b.1) b.2)))
+    (λ o h t. unusable c.args.is_direct o
+    (λ b. (rw c.in-Ok-None.field-0-is at (c.in-Ok-None.ensures.body t)) b.0
+    (subst (λ q. files q ≡ Some b.0) (sym (c.as_str.ensures.value ∙ c.in_ok-body_path.ensures)) b.1) b.2)
+    (subst (λ x. FromCache l.name (Cached NotAnIndex) NotAnIndex x o) (reads.files (cached_path p.cache.now l))
+    (h (reads.tells ∙ t))))
     c.from_cache.ensures.told
 
 pub returns-clause-changes : goal.returns-clause-changes

@@ -9,8 +9,8 @@ use Rattle.edit_answers.proofs.ChangeLemmas.{as-err, as-ok, keeps-write, then, w
 use Rattle.edit_answers.proofs.PutLemmas.{direct-puts, indexed-puts, is-stored, validator-puts}
 use Rattle.edit_answers.proofs.settle.store_body.Goals as goal
 
-pub returns-in-Err-from_cache-clause-changes : goal.returns-in-Err-from_cache-clause-changes
-returns-in-Err-from_cache-clause-changes g c =
+pub returns-in-Err-link_cached-clause-changes : goal.returns-in-Err-link_cached-clause-changes
+returns-in-Err-link_cached-clause-changes g c =
     let p = c.args.places.now in
     let l = lookup_text c.args.lookup.now in
     let may = Puts p l Fetched in
@@ -21,7 +21,7 @@ returns-in-Err-from_cache-clause-changes g c =
     (subst (λ q. may q c.args.body.now) (sym path) (entry c.args.body.now (inl refl) c.requires))) in
     as-err {T = Outcome} (λ _. may) (Puts p l) may may _ _ _ (λ _ _ h. h)
     (then may _ _ _ _ _ first
-    (as-err _ (λ _. may) (PutsIndexed p l) may _ _ _ (indexed-puts p l Fetched) c.in-Err-from_cache.ensures.changes))
+    (as-err _ (λ _. may) (PutsIndexed p l) may _ _ _ (indexed-puts p l Fetched) c.in-Err-link_cached.ensures.changes))
 
 pub returns-in-Ok-store_direct-clause-changes :
     goal.returns-in-Ok-store_direct-clause-changes
@@ -34,17 +34,17 @@ returns-in-Ok-store_direct-clause-changes g c =
     c.in-Ok.ensures.others c.in-Ok.ensures.cause
     (λ t is v. keeps-write may _ _ _ _ c.in-Ok.ensures.others is
     (subst (λ q. may q c.args.body.now) (sym path) (entry c.args.body.now (is-stored c.args.is_direct) c.requires))) in
-    let second = as-ok (λ _. PutsIndexed p l) (λ _. may) (PutsIndexed p l) may _ _ _ c.in-Ok-from_cache.outcome
-    (λ t. indexed-puts p l (stored c.args.is_direct)) c.in-Ok-from_cache.ensures.changes in
+    let second = as-ok (λ _. PutsIndexed p l) (λ _. may) (PutsIndexed p l) may _ _ _ c.in-Ok-link_cached.outcome
+    (λ t. indexed-puts p l (stored c.args.is_direct)) c.in-Ok-link_cached.ensures.changes in
     let third = weakened _ (λ _. may) _ may _ _ _
     (λ t v q bytes. direct-puts p l c.args.is_direct c.args.body.now _ q bytes c.requires
     (c.as_str-2.ensures.value ∙ c.in_ok-entry.ensures))
     (λ q bytes. direct-puts p l c.args.is_direct c.args.body.now _ q bytes c.requires
     (c.as_str-2.ensures.value ∙ c.in_ok-entry.ensures))
     c.in-Ok-store_direct.ensures in
-    as-ok (λ _. may) (Puts p l) may (Puts p l Fetched) _ _ _ c.in-Ok-from_cache.outcome
+    as-ok (λ _. may) (Puts p l) may (Puts p l Fetched) _ _ _ c.in-Ok-link_cached.outcome
     (λ t q bytes h. subst (λ o. Puts p l o q bytes)
-    (sym (c.in-Ok-from_cache.ensures.told (c.write.ensures.tells ∙ t)
+    (sym (c.in-Ok-link_cached.ensures.told (c.write.ensures.tells ∙ t)
     ∙ (ap (λ o. by_cached o c.stored.result Unanswered)
     (subst (λ q. (g.S.Store.view c.write.new.self).file_at q ≡ Some c.args.body.now) path
     (c.in-Ok.ensures.written t)) ∙ c.stored.ensures))) h)
@@ -60,8 +60,8 @@ returns-clause-changes g c =
     c.in-Ok.ensures.others c.in-Ok.ensures.cause
     (λ t is v. keeps-write may _ _ _ _ c.in-Ok.ensures.others is
     (subst (λ q. may q c.args.body.now) (sym path) (entry c.args.body.now (inl refl) c.requires))) in
-    let second = as-ok (λ _. PutsIndexed p l) (λ _. may) (PutsIndexed p l) may _ _ _ c.in-Ok-from_cache.outcome
-    (λ t. indexed-puts p l Fetched) c.in-Ok-from_cache.ensures.changes in
+    let second = as-ok (λ _. PutsIndexed p l) (λ _. may) (PutsIndexed p l) may _ _ _ c.in-Ok-link_cached.outcome
+    (λ t. indexed-puts p l Fetched) c.in-Ok-link_cached.ensures.changes in
     as-err {T = Outcome} (λ _. may) (Puts p l) may may _ _ _ (λ _ _ h. h)
     (then may _ _ _ _ _ first (then may _ _ _ _ _ second
     (as-err _ (λ _. may) _ may _ _ _

@@ -1,0 +1,15 @@
+use Rattle.std.proofs.Common.{◌∙◌}
+use Rattle.edit_lookups.specs.Lookups.{lookup_text}
+use Rattle.edit_answers.specs.Outcomes.{PutsIndexed}
+use Rattle.edit_answers.proofs.LinkLemmas.{links-changes, links-told}
+use Rattle.edit_answers.proofs.settle.link_cached.Goals as goal
+
+pub returns-in-Ok-clause-changes : goal.returns-in-Ok-clause-changes
+returns-in-Ok-clause-changes g c =
+    let may = PutsIndexed c.args.places.now (lookup_text c.args.lookup.now) in
+    links-changes (λ _. may) may _ _ _ _ _ _ c.in-Ok.ensures
+    (λ bytes. c.as_str-2.ensures.value ∙ c.in_ok-indexed.ensures)
+
+pub returns-in-Ok-clause-told : goal.returns-in-Ok-clause-told
+returns-in-Ok-clause-told g c t =
+    links-told _ _ _ _ _ _ _ _ _ c.in-Ok.ensures (c.as_str.ensures.value ∙ c.in_ok-entry.ensures) c.by_link.ensures t
