@@ -1,6 +1,7 @@
 pub mod BodyLemmas
 mod CacheLemmas
 pub mod ChangeLemmas
+mod FollowLemmas
 pub mod LineLemmas
 mod LinkLemmas
 pub mod PutLemmas

@@ -3,7 +3,9 @@ pub mod Bodies
 pub mod CacheStore
 pub mod Changes
 pub mod CurlVersion
+pub mod Followed
 pub mod Links
+pub mod Locals
 pub mod Meanings
 pub mod Outcomes
 pub mod Places

@@ -1,9 +1,10 @@
 //! Registries in folders of this machine.
-ghost use Rattle.std.specs.Prelude.{◌≡◌, IfErr, IfOk, string_bytes};
+ghost use Rattle.std.specs.Prelude.{◌≡◌, ℕ, List, true, false, IfErr, IfOk, MatchOption, string_bytes};
 ghost use Rattle.edit_answers.specs.Changes.{Changes, Fails};
+ghost use Rattle.edit_answers.specs.Locals.{HasNoFolder, IsLocalFile, IsLocalFolder, IsPathText, IsStanding, SettlesLocal, folder_of, without_slash};
 ghost use Rattle.edit_answers.specs.Outcomes.{Puts};
 ghost use Rattle.edit_answers.specs.Places.{local_path};
-ghost use Rattle.edit_lookups.specs.Lookups.{lookup_text};
+ghost use Rattle.edit_lookups.specs.Lookups.{HasNo, lookup_text};
 ghost use Rattle.edit_store.specs.Store.{OnlyReads};
 
 use crate::meaning::{Failure, Outcome};
@@ -15,48 +16,69 @@ use edit_store::{Kind, Store};
 use percent_encoding::percent_decode;
 use std::alloc::{AllocError, Global};
 use std::str;
-use url::Url;
+use url::{ParseError, Url};
 
 /// Whether U+0000 stands in a text.
-fn has_nul(bytes: &[u8]) -> bool {
+fn has_nul(bytes: &[u8]) -> bool
+    ensures free { result ≡ false → HasNo 0 bytes.now }
+    ensures found { result ≡ true → HasNo 0 bytes.now → ⊥ }
+{
     bytes.iter().any(|b| *b == 0)
 }
 
-/// A path with each escape read; none where that is no text, or has U+0000.
-fn decoded(alloc: Global, path: &str) -> Result<Option<String>, AllocError> {
+/// A path without the slash at its end, the root aside.
+fn without_slash(path: &[u8]) -> &[u8]
+    ensures { result.now ≡ without_slash path.now }
+{
+    if path.ends_with(b"/") && path != b"/".as_slice() {
+        &path[..path.len() - 1]
+    } else {
+        path
+    }
+}
+
+/// A path as text; none where it is no UTF-8, or has U+0000.
+fn path_text(bytes: &[u8]) -> Option<&str>
+    ensures { MatchOption result (IsPathText bytes.now → ⊥)
+        (λ s. (s.now ≡ bytes.now) × IsPathText bytes.now) }
+{
+    if has_nul(bytes) {
+        return None;
+    }
+    match str::from_utf8(bytes) {
+        Ok(text) => Some(text),
+        Err(_) => None,
+    }
+}
+
+/// The folder that the path of a URL names, its escapes read; none where that is no path of this machine.
+fn decoded(alloc: Global, path: &str) -> Result<Option<String>, AllocError>
+    ensures { IfOk result (λ o. MatchOption o (IsPathText (folder_of path.now) → ⊥)
+        (λ s. (string_bytes s ≡ folder_of path.now) × IsPathText (folder_of path.now))) }
+{
     let mut bytes = Vec::new(alloc);
     percent_decode(path.as_bytes()).append_to(&mut bytes)?;
-    if has_nul(&bytes) {
-        return Ok(None);
-    }
-    match str::from_utf8(&bytes) {
-        Ok(text) => Ok(Some(String::from_str(alloc, text)?)),
-        Err(_) => Ok(None),
+    match path_text(without_slash(&bytes)) {
+        Some(text) => Ok(Some(String::from_str(alloc, text)?)),
+        None => Ok(None),
     }
 }
 
-/// A folder without the slash at its end, the root aside.
-fn without_slash(folder: &str) -> &str {
-    match folder.strip_suffix('/') {
-        Some(front) => { if front.is_empty() { folder } else { front } }
-        None => folder,
-    }
-}
-
-/// The folder that an address of the scheme `file` names.
-pub fn local_folder(alloc: Global, address: &str) -> Result<Option<String>, AllocError> {
+/// The folder that an address of the scheme `file` names; none where the address names none.
+pub fn local_folder(alloc: Global, address: &str) -> Result<Option<String>, AllocError>
+    ensures { IfOk result (λ o. MatchOption o ((folder : List ℕ) → IsLocalFolder address.now folder → ⊥)
+        (λ s. IsLocalFolder address.now (string_bytes s))) }
+{
     let url = match Url::parse(alloc, address) {
         Ok(url) => url,
-        Err(url::ParseError::OutOfMemory) => return Err(AllocError),
+        // (a URL of 4 GB or more has no room either)
+        Err(ParseError::OutOfMemory | ParseError::Overflow) => return Err(AllocError),
         Err(_) => return Ok(None),
     };
     if url.scheme() != "file" || url.has_host() {
         return Ok(None);
     }
-    match decoded(alloc, url.path())? {
-        Some(folder) => Ok(Some(String::from_str(alloc, without_slash(folder.as_str()))?)),
-        None => Ok(None),
-    }
+    decoded(alloc, url.path())
 }
 
 /// The folder of a registry on this machine, where it stands.
@@ -66,6 +88,9 @@ fn standing_folder<S: Store>(
     address: &str,
 ) -> CargoResult<Option<String>>
     ensures reads { OnlyReads (S.view files.old) (S.view files.new) }
+    ensures folder { IfOk result (λ o. (S.view files.old).tells ≡ true → MatchOption o
+        (HasNoFolder address.now (S.view files.old).file_at)
+        (λ s. IsStanding address.now (S.view files.old).file_at (string_bytes s))) }
     ensures refused { IfErr result (Fails (S.view files.old).faults (S.view files.new).faults) }
 {
     let Some(folder) = local_folder(alloc, address)? else {
@@ -73,7 +98,8 @@ fn standing_folder<S: Store>(
     };
     match files.kind(alloc, folder.as_str()) {
         Ok(Kind::Folder) => Ok(Some(folder)),
-        Ok(_) => Ok(None),
+        Ok(Kind::File) => Ok(None),
+        Ok(Kind::Absent) => Ok(None),
         Err(error) => Err(error),
     }
 }
@@ -97,9 +123,10 @@ fn put_local<'a, S: Store>(
     lookup: &Lookup,
     bytes: &[u8],
 ) -> CargoResult<Outcome<'a>>
-    ensures { Changes (Puts places.now (lookup_text lookup.now))
+    ensures changes { Changes (Puts places.now (lookup_text lookup.now))
         (Puts places.now (lookup_text lookup.now) Outcome.Fetched)
         (S.view files.old) (S.view files.new) result }
+    ensures told { IfOk result (λ o. IsLocalFile bytes.now o) }
 {
     match read_lines(alloc, bytes) {
         Ok(_) => {}
@@ -120,9 +147,11 @@ pub fn settle_local<'a, S: Store>(
     places: &Places,
     lookup: &Lookup,
 ) -> CargoResult<Outcome<'a>>
-    ensures { Changes (Puts places.now (lookup_text lookup.now))
+    ensures changes { Changes (Puts places.now (lookup_text lookup.now))
         (Puts places.now (lookup_text lookup.now) Outcome.Fetched)
         (S.view files.old) (S.view files.new) result }
+    ensures told { IfOk result (λ o. (S.view files.old).tells ≡ true
+        → SettlesLocal (lookup_text lookup.now) (S.view files.old).file_at o) }
 {
     let folder = match standing_folder(alloc, files, lookup.address) {
         Ok(Some(folder)) => folder,
@@ -134,5 +163,38 @@ pub fn settle_local<'a, S: Store>(
         Ok(Some(bytes)) => put_local(alloc, files, places, lookup, &bytes),
         Ok(None) => Ok(Outcome::Absent),
         Err(error) => Err(error),
+    }
+}
+
+#[cfg(test)]
+mod tests {
+    use super::*;
+    use std::test::Fail;
+
+    /// The folder of an address, or a `-`.
+    fn shown(alloc: Global, address: &str) -> Result<String, Fail> {
+        match local_folder(alloc, address)? {
+            Some(folder) => Ok(folder),
+            None => Ok(String::from_str(alloc, "-")?),
+        }
+    }
+
+    #[test]
+    fn folders(rt: HostRuntime) -> Result<(), Fail> {
+        let cases = [
+            ("file:///idx/", "/idx"),
+            ("file:///a%20b/c", "/a b/c"),
+            ("file:///", "/"),
+            ("file:///a%2F", "/a"),
+            ("file://host.example/idx", "-"),
+            ("file:///a%00b", "-"),
+            ("file:///a%FF", "-"),
+            ("https://h.example/idx", "-"),
+            ("idx", "-"),
+        ];
+        for (address, folder) in cases {
+            assert_eq!(rt; shown(rt.alloc(), address)?.as_str(), folder);
+        }
+        Ok(())
     }
 }

@@ -1,6 +1,7 @@
 //! What becomes of all lookups of a run.
-ghost use Rattle.std.specs.Prelude.{◌≡◌, IfOk, length, map};
+ghost use Rattle.std.specs.Prelude.{◌≡◌, true, IfOk, length, map};
 ghost use Rattle.edit_answers.specs.Changes.{Changes};
+ghost use Rattle.edit_answers.specs.Followed.{AllFollow, Follows, MeansFor, answer_at, is_local, is_sparse};
 ghost use Rattle.edit_answers.specs.Outcomes.{Puts, PutsOne, PutsSome};
 ghost use Rattle.edit_lookups.specs.Lookups.{lookup_text};
 
@@ -14,9 +15,25 @@ use edit_base::CargoResult;
 use edit_lookups::Lookup;
 use std::alloc::Global;
 
+/// Whether an address is that of a sparse registry.
+fn is_sparse(address: &[u8]) -> bool
+    ensures { result ≡ is_sparse address.now }
+{
+    address.starts_with(b"sparse+http://") || address.starts_with(b"sparse+https://")
+}
+
+/// Whether an address is that of a registry on this machine.
+fn is_local(address: &[u8]) -> bool
+    ensures { result ≡ is_local address.now }
+{
+    address.starts_with(b"file:")
+}
+
 /// What an answer to a lookup means: by the kind of its registry, whether this run is offline, and by curl.
-fn meaning_for<'a>(address: &str, offline: bool, answer: Option<Answer<'a>>) -> Meaning<'a> {
-    if !address.starts_with("sparse+http://") && !address.starts_with("sparse+https://") {
+fn meaning_for<'a>(address: &str, offline: bool, answer: Option<Answer<'a>>) -> Meaning<'a>
+    ensures { MeansFor address.now offline answer.entry result }
+{
+    if !is_sparse(address.as_bytes()) {
         return Meaning::Failed(Failure::NotFetchable);
     }
     if offline {
@@ -38,12 +55,24 @@ fn settle_one<'a, S: LinkStore>(
     ensures changes { Changes (Puts places.now (lookup_text lookup.now))
         (Puts places.now (lookup_text lookup.now) Outcome.Fetched)
         (S.view files.old) (S.view files.new) result }
+    ensures follows { IfOk result (λ o. (S.view files.old).tells ≡ true
+        → Follows places.now (lookup_text lookup.now) number offline answer.entry (S.view files.old).file_at o) }
 {
-    if lookup.address.starts_with("file:") {
+    if is_local(lookup.address.as_bytes()) {
         return settle_local(alloc, files, places, lookup);
     }
     let meaning = meaning_for(lookup.address, offline, answer);
     settle(alloc, files, places, lookup, number, meaning)
+}
+
+/// The answer at a place of a table; none after its end.
+fn answer_at<'a>(answers: &[Option<Answer<'a>>], place: usize) -> Option<Answer<'a>>
+    ensures { result ≡ answer_at answers.now place }
+{
+    match answers.get(place) {
+        Some(answer) => *answer,
+        None => None,
+    }
 }
 
 /// What becomes of each lookup, in order. The answer to lookup number `k`, from 1, is number `k` of the
@@ -59,10 +88,13 @@ pub fn settle_all<'a, S: LinkStore>(
     ensures changes { Changes (λ v. PutsOne places.now (map lookup_text lookups.now) v.items)
         (PutsSome places.now (map lookup_text lookups.now)) (S.view files.old) (S.view files.new) result }
     ensures count { IfOk result (λ v. length v.items ≡ length lookups.now) }
+    ensures follows { IfOk result (λ v. (S.view files.old).tells ≡ true
+        → AllFollow places.now (map lookup_text lookups.now) offline answers.now (S.view files.old).file_at
+        v.items) }
 {
     let mut outcomes = Vec::new(alloc);
     for (i, lookup) in lookups.iter().enumerate() {
-        let answer = answers.get(i).copied().unwrap_or(None);
+        let answer = answer_at(answers, i);
         match settle_one(alloc, files, places, lookup, i + 1, offline, answer) {
             Ok(outcome) => outcomes.push(outcome)?,
             Err(error) => return Err(error),
