@@ -187,7 +187,7 @@ def word(check, text):
 def refused_word(check, text, refusal):
     """The refusal of a word, where an upgrade is refused by the same text."""
     said = upgrade(check, "[dependencies]\n", words=["-p", text]).err
-    return refusal if said == f"Error: {refusal.partition(' ')[2]}\n" else f"{refusal}, but {said}"
+    return refusal if said.split("\n")[0] == f"Error: {refusal.partition(' ')[2]}" else f"{refusal}, but {said}"
 
 
 def refused(check, key, entries):

@@ -117,7 +117,7 @@ def refusal(check, files, said):
     """A refusal with its number, which `edit_calls` tells of another version of the same files."""
     ran = check.call(["set_version", "@ROOT@/w"], files)
     number, _, text = ran.out.removeprefix("refused ").rstrip("\n").partition(" ")
-    return f"{number} {text}" if said == f"Error: {text}\n" else f"{ran.out}, but {said}"
+    return f"{number} {text}" if said.split("\n")[0] == f"Error: {text}" else f"{ran.out}, but {said}"
 
 
 def raised(check, requirement, version):

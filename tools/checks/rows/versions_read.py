@@ -124,8 +124,8 @@ def unread(check, version):
 
 
 def numbered(text):
-    """A refusal with its number."""
-    text = text.removeprefix("Error: ").rstrip("\n")
+    """The text of an error with its number, without the lines about its place, cause and cure."""
+    text = text.removeprefix("Error: ").split("\n")[0]
     numbers = [number for begin, number in NUMBERS.items() if text.startswith(begin)]
     return f"{numbers} {text}" if len(numbers) != 1 else f"{numbers[0]} {text}"
 
