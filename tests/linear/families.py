@@ -165,12 +165,15 @@ def arguments():
 def choices():
     """Requirements and versions."""
     yield Family("entries of one crate and its versions, none of which is admitted", 2000, lambda n: single(
-        entries(n, b'c%d = { package = "x", version = "^0.1" }\n'), versions(n)), ("time",))
+        entries(n, b'c%d = { package = "x", version = "^0.1" }\n'), versions(n)))
     yield Family("the same with requirements of 32 comparators", 1000, lambda n: single(
-        entries(n, b'c%%d = { package = "x", version = "%s" }\n' % COMPARATORS), versions(n)), ("time",))
+        entries(n, b'c%%d = { package = "x", version = "%s" }\n' % COMPARATORS), versions(n)))
     yield Family("entries of one crate, all of whose versions are pre-releases", 4000, lambda n: single(
         entries(n, b'c%d = { package = "x", version = "1" }\n'),
-        numbered(n, b'{"name":"x","vers":"1.0.0-a.%d"}\n')), ("time",))
+        numbered(n, b'{"name":"x","vers":"1.0.0-a.%d"}\n')))
+    yield Family("entries of one crate with requirements of their own, none of which admits a version", 2000,
+                 lambda n: single(b"[dependencies]\n" + b"".join(
+        b'c%d = { package = "x", version = "^0.%d" }\n' % (at, at) for at in range(n)), versions(n)), ("time",))
     yield Family("one requirement of 32 comparators over versions", 40000, lambda n: single(
         b'[dependencies]\nx = "%s"\n' % COMPARATORS, versions(n)))
     yield Family("versions that differ in build metadata alone", 40000, lambda n: single(

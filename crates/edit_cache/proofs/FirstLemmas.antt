@@ -17,7 +17,8 @@ use Rattle.edit_version.specs.VersionOrder.{full_order}
 use Rattle.edit_version.proofs.GreatestEntries.{greatest-versions, none-versions}
 use Rattle.edit_version.proofs.Kept.{admissible-version}
 use Rattle.edit_version.proofs.Orders.{full_total}
-use Rattle.edit_cache.specs.Ranking.{IsRanking, Ranking, passes, rank_order}
+use Rattle.edit_cache.specs.Ranking.{IsRanking, rank_order}
+use Rattle.edit_cache.specs.Ranks.{Ranking, passes}
 use Rattle.edit_cache.proofs.ToldRanks.{rank_total, IsFirst, first_found, none_found, any_all, slice_get-take, slice_get-drop, parted, Told, told, tells-version, order_by_version, kept-passes, kept-read, decide, le_or_lt, same_place, sorted_order}
 
 -- what each rank of a ranking is, beside the first that passes

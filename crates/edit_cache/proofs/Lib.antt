@@ -1,3 +1,5 @@
 pub mod ToldRanks
 pub mod FirstLemmas
 pub mod RankLemmas
+pub mod PlaceLemmas
+pub mod ChoiceLemmas

@@ -24,8 +24,9 @@ use Rattle.semver.specs.Parse.{Parts}
 use Rattle.edit_version.specs.Admissible.{candidate_in}
 use Rattle.edit_version.specs.IndexEntry.{IndexEntry, entry_of}
 use Rattle.edit_version.specs.RustVersions.{Numbers}
-use Rattle.edit_cache.specs.Ranking.{IsInOrder, IsRanking, Ranking, Tells, ranking, rank_at, rank_of, rank_order, ranks_from}
-use Rattle.edit_cache.specs.declared.ranking.Rank.{Rank}
+use Rattle.edit_cache.specs.Ranking.{IsInOrder, IsRanking, Tells, ranking, rank_at, rank_order, ranks_from}
+use Rattle.edit_cache.specs.Ranks.{Ranking, rank_of}
+use Rattle.edit_cache.specs.declared.rank.Rank.{Rank}
 
 -- one entry more
 pub ranks_from-more : (n : ℕ) (xs : List IndexEntry) (x : IndexEntry)

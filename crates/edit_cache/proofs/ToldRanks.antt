@@ -22,7 +22,8 @@ use Rattle.edit_version.specs.RustVersions.{Numbers}
 use Rattle.edit_version.specs.VersionOrder.{full_order}
 use Rattle.edit_version.proofs.Kept.{read-parts}
 use Rattle.edit_version.proofs.Orders.{full_total}
-use Rattle.edit_cache.specs.Ranking.{IsInOrder, Ranking, Tells, passes, rank_order}
+use Rattle.edit_cache.specs.Ranking.{IsInOrder, Tells, rank_order}
+use Rattle.edit_cache.specs.Ranks.{Ranking, passes}
 
 -- the order of ranks is total
 pub rank_total : IsTotalOrder rank_order

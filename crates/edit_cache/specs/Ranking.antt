@@ -1,33 +1,16 @@
 -- The entries of an answer ranked by their versions, the greatest first (own).
-use Rattle.std.specs.Prelude.{◌≡◌, ℕ, ◌+◌, ◌==◌, ◌&&◌, List, [], ◌∷◌, ◌++◌, map, Option, Some, Bool, true, not, IsSome, option_map, option_and_then, option_to_list, slice_get, string_bytes, All}
+use Rattle.std.specs.Prelude.{◌≡◌, ℕ, ◌+◌, ◌==◌, List, [], ◌∷◌, ◌++◌, map, Option, Some, true, IsSome, option_map, option_and_then, option_to_list, slice_get, All}
 use Rattle.std.specs.List.{AllPairs, list_any}
 use Rattle.std.specs.Ordering.{nat_cmp, ordering_then}
 use Rattle.std.specs.declared.cmp.Ordering.{Ordering}
 use Rattle.std.specs.declared.cmp.Ordering.TheVariants.{Less}
-use Rattle.semver.specs.Identifiers.{parts_of}
 use Rattle.semver.specs.Parse.{Parts}
-use Rattle.edit_version.specs.Admissible.{candidate_in, is_too_new}
+use Rattle.edit_version.specs.Admissible.{candidate_in}
 use Rattle.edit_version.specs.IndexEntry.{IndexEntry}
-use Rattle.edit_version.specs.RustVersions.{Numbers, numbers_of}
+use Rattle.edit_version.specs.RustVersions.{Numbers}
 use Rattle.edit_version.specs.VersionOrder.{full_order}
-use Rattle.edit_cache.specs.declared.ranking.Rank.{Rank}
+use Rattle.edit_cache.specs.Ranks.{Ranking, rank_of}
 use Rattle.edit_cache.specs.declared.ranking.Ranked.{Ranked}
-
--- an entry of an answer: its place there, its name, and the versions that were read of it (own)
-pub record Ranking : Type 0 where
-  pub place : ℕ
-  pub name : List ℕ
-  pub version : Parts
-  pub rust_version : Option Numbers
-
--- a rank, as clauses see it (own)
-abbrev pub rank_of : Rank → Ranking
-rank_of r = record {
-  place = r.place.0;
-  name = string_bytes r.name;
-  version = parts_of r.version.0;
-  rust_version = option_map numbers_of r.rust_version;
-}
 
 -- the ranks of a ranking, from the first (own)
 abbrev pub ranks_of : Ranked → List Ranking
@@ -60,10 +43,6 @@ pub record IsRanking (entries : List IndexEntry) (ranks : List Ranking) : Type 0
 -- what holds of each list of entries of which this is the ranking (own)
 abbrev pub OfEntries : Ranked → (List IndexEntry → Type 0) → Type 0
 OfEntries ranked P = (entries : List IndexEntry) → IsRanking entries (ranks_of ranked) → P entries
-
--- whether a rank is for a Rust version and passes a test of its version (own)
-abbrev pub passes : Option Numbers → (Parts → Bool) → Ranking → Bool
-passes rust test r = not (is_too_new r.rust_version rust) && test r.version
 
 -- an entry at a place, with what is read of it (own)
 abbrev pub ranking : ℕ → IndexEntry → Parts × Option Numbers → Ranking

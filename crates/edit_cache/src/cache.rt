@@ -7,6 +7,8 @@ ghost use Rattle.edit_sources.specs.Index.{answer_of};
 ghost use Rattle.edit_cache.specs.IndexCache.{Fetches, IsMissed, Ranks, SameKept, SameKeptBut, has_version, index_of, kept_at, krate_at, ranking_at, told_at};
 ghost use Rattle.edit_cache.specs.Kept.{IsRanked, IsRankedAt};
 
+mod choosing;
+
 use crate::kept::Kept;
 use crate::ranking::Ranked;
 use edit_base::errors::CargoResult;

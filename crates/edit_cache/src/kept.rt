@@ -6,6 +6,7 @@ ghost use Rattle.edit_cache.specs.Kept.{FitsAnswer, FitsAnswer-prop, IsRanked};
 use crate::ranking::Ranked;
 use edit_base::errors::CargoResult;
 use edit_sources::index::IndexKrate;
+use edit_version::{Requirement, RustVersion};
 use std::alloc::Global;
 
 /// An answer of an index, and the ranking of its entries.
@@ -39,6 +40,24 @@ impl Kept {
         if let Some(krate) = &self.answer {
             let ranked = Ranked::new(alloc, &krate.versions)?;
             self.ranked = Some(ranked);
+        }
+        Ok(())
+    }
+
+    /// Ranks the entries, once, and remembers what a requirement leads to for a Rust version.
+    pub(crate) fn rank_for(
+        &mut self,
+        alloc: Global,
+        old: &Requirement<'_>,
+        rust_version: Option<RustVersion>,
+    ) -> CargoResult<()>
+        ensures answer { self.new.answer ≡ self.old.answer }
+        ensures ranked { OnOk result (IsRanked self.new.answer self.new.ranked) }
+        ensures refused { IfErr result IsMemory }
+    {
+        self.rank(alloc)?;
+        if let Some(ranked) = &mut self.ranked {
+            ranked.remember_choice(alloc, old, rust_version)?;
         }
         Ok(())
     }

@@ -2,7 +2,9 @@
 #![tactic(auto)]
 
 pub mod cache;
+mod choices;
 mod kept;
+mod rank;
 pub mod ranking;
 
 pub use cache::IndexCache;

@@ -1,132 +1,49 @@
 //! The entries of an answer, ranked once.
-ghost use Rattle.std.specs.Prelude.{◌≡◌, ◌++◌, ℕ, List, IfOk, IfErr, IsTrue, OnOk, map, option_copied, option_map, slice_get};
-ghost use Rattle.std.specs.List.{find};
-ghost use Rattle.semver.specs.Identifiers.{parts_of, parts_text};
+ghost use Rattle.std.specs.Prelude.{◌≡◌, ℕ, List, IfOk, IfErr, IsTrue, map, option_map, slice_get};
 ghost use Rattle.semver.specs.Parse.{Parts};
 ghost use Rattle.edit_base.specs.Errors.{IsMemory};
 ghost use Rattle.edit_version.specs.Admissible.{admissible_in, entry_order, is_kept};
 ghost use Rattle.edit_version.specs.Admits.{admits};
 ghost use Rattle.edit_version.specs.Candidates.{numbers_in, parts_in, wants};
-ghost use Rattle.edit_record.specs.Finding.{IsFound, IsFoundAtLeast};
 ghost use Rattle.edit_version.specs.Greatest.{IsGreatest, IsGreatestKept};
 ghost use Rattle.edit_version.specs.IndexEntry.{IndexEntry, entry_of};
-ghost use Rattle.edit_record.specs.Records.{IsRegistryDependency};
-ghost use Rattle.edit_version.specs.Selection.{is_admitted, is_allowed};
 ghost use Rattle.edit_version.specs.Laws.{holds_dash};
+ghost use Rattle.edit_version.specs.ReadRequirement.{text_in};
 ghost use Rattle.edit_version.specs.Requirement.{comparators_of};
-ghost use Rattle.edit_version.specs.RustVersions.{numbers_of};
+ghost use Rattle.edit_version.specs.Selection.{is_admitted, is_allowed, is_offered};
 ghost use Rattle.edit_version.specs.VersionOrder.{full_order};
-ghost use Rattle.edit_cache.specs.Ranking.{passes, rank_at, rank_of, ranks_from};
+ghost use Rattle.edit_record.specs.Finding.{IsFound, IsFoundAtLeast};
+ghost use Rattle.edit_cache.specs.Choices.{AreChoices, AreChoices-prop, IsChoice, version_at};
+ghost use Rattle.edit_cache.specs.Ranks.{rank_of};
 
+use crate::choices::{Choice, Choices, known_choice, remember};
+use crate::rank::{Rank, choose, dependency_of, first_wanted, read_ranks};
 use edit_base::errors::CargoResult;
 use edit_record::dependency::Dependency;
-use edit_record::find::dependency_on;
-use edit_version::candidates::{is_for, is_wanted, read_candidate};
+use edit_version::Requirement;
 use edit_version::fetch::IndexVersion;
 use edit_version::rust_version::RustVersion;
 use semver::{Version, VersionReq};
-use std::alloc::Global;
-use std::cmp::Reverse;
+use std::alloc::{AllocError, Global};
+use std::collections::BTreeMap;
 
-/// An entry that is readable and not yanked, with what is read of it.
-///
-/// Ranks are ordered by version, the greatest first, and then by place, the later first.
-#[derive(Debug, Drop)]
-#[derive_where(PartialEq, Eq, PartialOrd, Ord)]
-pub struct Rank {
-    version: Reverse<Version>,
-    place: Reverse<usize>,
-    #[derive_where(skip(EqHashOrd))]
-    rust_version: Option<RustVersion>,
-    #[derive_where(skip(EqHashOrd))]
-    name: String,
-}
-
-/// Adds the rank of an entry that is readable and not yanked.
-fn push_rank(
-    alloc: Global,
-    ranks: &mut Vec<Rank>,
-    place: usize,
-    told: &IndexVersion,
-) -> CargoResult<()>
-    ensures ok { OnOk result (map rank_of ranks.new.items
-        ≡ map rank_of ranks.old.items ++ rank_at place (entry_of told.now)) }
-    ensures refused { IfErr result IsMemory }
-{
-    let Some(candidate) = read_candidate(alloc, told)? else {
-        return Ok(());
-    };
-    ranks.push(Rank {
-        version: Reverse(candidate.version),
-        place: Reverse(place),
-        rust_version: candidate.rust_version,
-        name: told.name.clone()?,
-    })?;
-    Ok(())
-}
-
-/// The ranks of entries, in the order of the entries.
-fn read_ranks(alloc: Global, entries: &[IndexVersion]) -> CargoResult<Vec<Rank>>
-    ensures ok { IfOk result (λ v. map rank_of v.items ≡ ranks_from 0 (map entry_of entries.now)) }
-    ensures refused { IfErr result IsMemory }
-{
-    let mut ranks = Vec::with_capacity(alloc, entries.len())?;
-    for (place, told) in entries.iter().enumerate() {
-        push_rank(alloc, &mut ranks, place, told)?;
-    }
-    Ok(ranks)
-}
-
-/// The dependency on the entry of a rank. The version's text is written anew, as it was read.
-fn dependency_of(alloc: Global, rank: &Rank) -> CargoResult<Dependency>
-    ensures ok { IfOk result
-        (IsRegistryDependency (rank_of rank.now).name (parts_text (rank_of rank.now).version)) }
-    ensures refused { IfErr result IsMemory }
-{
-    let version = &rank.version.0;
-    let told = IndexVersion {
-        name: rank.name.clone()?,
-        version: format!(in alloc; "{version}")?,
-        yanked: false,
-        rust_version: None,
-    };
-    dependency_on(alloc, &told)
-}
-
-/// The first rank that is for a Rust version and whose version is wanted.
-fn first_wanted<'a>(
-    ranks: &'a [Rank],
-    allow_prerelease: bool,
-    req: Option<&VersionReq>,
-    rust_version: Option<RustVersion>,
-) -> Option<&'a Rank>
-    ensures { option_copied result
-        ≡ find (λ r. passes (numbers_in rust_version) (wants allow_prerelease req.entry) (rank_of r))
-        ranks.now }
-{
-    ranks
-        .iter()
-        .find(|rank| is_first(rank, allow_prerelease, req, rust_version))
-}
-
-/// Whether a rank is for a Rust version and its version is wanted.
-fn is_first(
-    rank: &Rank,
-    allow_prerelease: bool,
-    req: Option<&VersionReq>,
-    rust_version: Option<RustVersion>,
-) -> bool
-    ensures { result
-        ≡ passes (numbers_in rust_version) (wants allow_prerelease req.entry) (rank_of rank.now) }
-{
-    is_for(rank.rust_version, rust_version) && is_wanted(&rank.version.0, allow_prerelease, req)
-}
+/// Among how many ranks a search is as fast as what is remembered.
+const FEW: usize = 16;
 
 /// The entries of an answer that are readable and not yanked, the greatest version first and among
 /// equal ones the later entry.
 #[derive(Debug, Drop)]
 pub struct Ranked {
     ranks: Vec<Rank>,
+    choices: Choices,
+    ghost known: { AreChoices (map rank_of ranks.items) choices } by { AreChoices-prop (map rank_of ranks.items) choices },
+}
+
+/// The greatest version that a requirement admits, and the latest.
+#[derive(Clone, Copy)]
+pub struct VersionPair<'a> {
+    pub compatible: Option<&'a Version>,
+    pub latest: Option<&'a Version>,
 }
 
 impl Ranked {
@@ -139,7 +56,10 @@ impl Ranked {
     {
         let mut ranks = read_ranks(alloc, entries)?;
         ranks.sort_unstable();
-        Ok(Ranked { ranks })
+        Ok(Ranked {
+            ranks,
+            choices: BTreeMap::new(alloc),
+        })
     }
 
     /// The version of a rank, from 0; none past the last.
@@ -152,46 +72,65 @@ impl Ranked {
         }
     }
 
-    /// The version of the first rank that is for a Rust version and whose version is wanted.
-    fn best_version(
-        &self,
-        allow_prerelease: bool,
-        req: Option<&VersionReq>,
-        rust_version: Option<RustVersion>,
-    ) -> Option<&Version>
-        ensures { OfEntries self.now (λ entries. IsGreatest (wants allow_prerelease req.entry) full_order
-            (admissible_in (numbers_in rust_version) entries) (parts_in result)) }
+    /// The version at a place.
+    fn version_at(&self, place: Option<usize>) -> Option<&Version>
+        ensures { parts_in result ≡ version_at (ranks_of self.now) place }
     {
-        match first_wanted(&self.ranks, allow_prerelease, req, rust_version) {
-            Some(rank) => Some(&rank.version.0),
+        match place {
+            Some(n) => self.version(n),
             None => None,
         }
     }
 
-    /// The greatest version that may be taken, of those without a pre-release or, where they are allowed,
-    /// of all.
-    pub fn latest_version(
-        &self,
-        allow_prerelease: bool,
-        rust_version: Option<RustVersion>,
-    ) -> Option<&Version>
-        ensures { OfEntries self.now (λ entries. IsGreatest (is_allowed allow_prerelease) full_order
-            (admissible_in (numbers_in rust_version) entries) (parts_in result)) }
+    /// What a requirement leads to for a Rust version, as it is remembered, or else found anew.
+    fn choice(&self, old: &Requirement<'_>, rust_version: Option<RustVersion>) -> Choice
+        ensures asked { result.rust_version ≡ rust_version }
+        ensures is { IsChoice (ranks_of self.now) (text_in old.now) result }
     {
-        self.best_version(allow_prerelease, None, rust_version)
+        match known_choice(&self.choices, old.text(), rust_version) {
+            Some(choice) => choice,
+            None => choose(&self.ranks, old, rust_version),
+        }
     }
 
-    /// The greatest version that may be taken and that a requirement admits.
-    pub fn compatible_version(
+    /// The greatest version that a requirement admits and the latest, of those that may be taken.
+    pub fn version_pair(
         &self,
-        version_req: &VersionReq,
+        old: &Requirement<'_>,
         rust_version: Option<RustVersion>,
-    ) -> Option<&Version>
-        ensures { OfEntries self.now (λ entries.
-            IsGreatest (admits (comparators_of version_req.now)) full_order
-            (admissible_in (numbers_in rust_version) entries) (parts_in result)) }
+    ) -> VersionPair<'_>
+        ensures compatible { OfEntries self.now (λ entries.
+            IsGreatest (is_admitted (text_in old.now)) full_order
+            (admissible_in (numbers_in rust_version) entries) (parts_in result.compatible)) }
+        ensures latest { OfEntries self.now (λ entries.
+            IsGreatest (is_offered (text_in old.now)) full_order
+            (admissible_in (numbers_in rust_version) entries) (parts_in result.latest)) }
     {
-        self.best_version(false, Some(version_req), rust_version)
+        let choice = self.choice(old, rust_version);
+        VersionPair {
+            compatible: self.version_at(choice.compatible),
+            latest: self.version_at(choice.latest),
+        }
+    }
+
+    /// Remembers what a requirement leads to for a Rust version, so that `version_pair` need not find it anew:
+    /// where the ranks are few, that is not worth it.
+    pub(crate) fn remember_choice(
+        &mut self,
+        alloc: Global,
+        old: &Requirement<'_>,
+        rust_version: Option<RustVersion>,
+    ) -> Result<(), AllocError>
+        ensures { self.new.ranks ≡ self.old.ranks }
+    {
+        if self.ranks.len() <= FEW {
+            return Ok(());
+        }
+        if known_choice(&self.choices, old.text(), rust_version).is_some() {
+            return Ok(());
+        }
+        let choice = choose(&self.ranks, old, rust_version);
+        remember(alloc, &mut self.choices, old.text(), choice)
     }
 
     /// The dependency on the first rank that is for a Rust version and whose version is wanted.

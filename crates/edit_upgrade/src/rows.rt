@@ -21,13 +21,13 @@ use crate::decision::offers::{Offer, offer_of};
 use crate::seen::{Entry, Source};
 use edit_base::CargoResult;
 use edit_cache::cache::IndexCache;
-use edit_cache::ranking::Ranked;
+use edit_cache::ranking::{Ranked, VersionPair};
 use edit_document::copied_place;
 use edit_record::Requirement;
 use edit_report::{Reason, Row};
 use edit_sources::Config;
 use edit_sources::index::Index;
-use edit_version::{RustVersion, allows_prerelease};
+use edit_version::RustVersion;
 use semver::Version;
 use std::alloc::{AllocError, Global};
 use url::Url;
@@ -42,36 +42,25 @@ pub(crate) struct Job<'a> {
     pub(crate) configs: &'a [Config],
 }
 
-/// The greatest version that a requirement admits; none where it is not read or no version is told.
-fn compatible_for<'a>(
+/// The greatest version that a requirement admits, and the latest: pre-releases are among those where the
+/// requirement has a `-`. None where no version is told.
+fn version_pair<'a>(
     ranked: Option<&'a Ranked>,
     old: &Requirement<'_>,
     rust_version: Option<RustVersion>,
-) -> Option<&'a Version>
-    ensures { (answer : Option Answer) → IsRankingOf answer (option_copied ranked.entry)
-        → IsCompatible (text_in old.now) (versions_in (numbers_in rust_version) answer) (parts_in result) }
+) -> VersionPair<'a>
+    ensures compatible { (answer : Option Answer) → IsRankingOf answer (option_copied ranked.entry)
+        → IsCompatible (text_in old.now) (versions_in (numbers_in rust_version) answer)
+        (parts_in result.compatible) }
+    ensures latest { (answer : Option Answer) → IsRankingOf answer (option_copied ranked.entry)
+        → IsLatest (text_in old.now) (versions_in (numbers_in rust_version) answer) (parts_in result.latest) }
 {
     match ranked {
-        Some(ranked) => match old.version_req() {
-            Some(req) => ranked.compatible_version(req, rust_version),
-            None => None,
+        Some(ranked) => ranked.version_pair(old, rust_version),
+        None => VersionPair {
+            compatible: None,
+            latest: None,
         },
-        None => None,
-    }
-}
-
-/// The greatest version, pre-releases among them where the requirement has a `-`.
-fn latest_for<'a>(
-    ranked: Option<&'a Ranked>,
-    old: &str,
-    rust_version: Option<RustVersion>,
-) -> Option<&'a Version>
-    ensures { (answer : Option Answer) → IsRankingOf answer (option_copied ranked.entry)
-        → IsLatest old.now (versions_in (numbers_in rust_version) answer) (parts_in result) }
-{
-    match ranked {
-        Some(ranked) => ranked.latest_version(allows_prerelease(old), rust_version),
-        None => None,
     }
 }
 
@@ -164,19 +153,17 @@ fn row_with(
     alloc: Global,
     job: Job<'_>,
     entry: &Entry,
-    old: &str,
+    old: &Requirement<'_>,
     ranked: Option<&Ranked>,
 ) -> CargoResult<Row>
     ensures ok { IfOk result (λ r. (answer : Option Answer) → IsRankingOf answer (option_copied ranked.entry)
         → IsDecided job.entry.number job.entry.asked.options.now
         (versions_in (numbers_in job.entry.rust_version) answer)
-        (seen_of entry.now) old.now (line_of r)) }
+        (seen_of entry.now) (text_in old.now) (line_of r)) }
     ensures refused { IfErr result IsMemory }
 {
-    let old = Requirement::read(alloc, old)?;
-    let compatible = compatible_for(ranked, &old, job.rust_version);
-    let latest = latest_for(ranked, old.text(), job.rust_version);
-    let row = row_over(alloc, job, entry, &old, compatible, latest)?;
+    let pair = version_pair(ranked, old, job.rust_version);
+    let row = row_over(alloc, job, entry, old, pair.compatible, pair.latest)?;
     Ok(row)
 }
 
@@ -228,12 +215,40 @@ pub(crate) fn row_for(
     ensures refused { IfErr result IsMemory }
 {
     match &entry.old {
-        Some(old) => row_with(alloc, job, entry, old.as_str(), ranked),
+        Some(old) => {
+            let old = Requirement::read(alloc, old.as_str())?;
+            row_with(alloc, job, entry, &old, ranked)
+        }
         None => dash_row(alloc, job, entry),
     }
 }
 
-/// The row of an entry, over the answer that is kept for its name, which is ranked where it was not.
+/// The row of an entry with a requirement, over the answer that is kept for its name, which is ranked where it
+/// was not. What the requirement leads to is remembered, for the further entries that have it.
+fn kept_row_with<I: Index>(
+    alloc: Global,
+    job: Job<'_>,
+    registry: &Url,
+    entry: &Entry,
+    old: &str,
+    index: &mut IndexCache<I>,
+) -> CargoResult<Row>
+    ensures ok { IfOk result (λ r. IsDecided job.entry.number job.entry.asked.options.now
+        (versions_in (numbers_in job.entry.rust_version)
+        (kept_by index.new (serialize registry.now) (seen_of entry.now).name))
+        (seen_of entry.now) old.now (line_of r)) }
+    ensures index { index_of index.new ≡ index_of index.old }
+    ensures kept { kept_by index.new ≡ kept_by index.old }
+    ensures refused { IfErr result IsMemory }
+{
+    let name = entry.name.as_str();
+    let old = Requirement::read(alloc, old)?;
+    index.rank_for(alloc, registry, name, &old, job.rust_version)?;
+    let ranked = index.shown_ranking(registry, name);
+    row_with(alloc, job, entry, &old, ranked)
+}
+
+/// The row of an entry, over the answer that is kept for its name.
 pub(crate) fn kept_row<I: Index>(
     alloc: Global,
     job: Job<'_>,
@@ -249,8 +264,8 @@ pub(crate) fn kept_row<I: Index>(
     ensures kept { kept_by index.new ≡ kept_by index.old }
     ensures refused { IfErr result IsMemory }
 {
-    let name = entry.name.as_str();
-    index.rank_kept(alloc, registry, name)?;
-    let ranked = index.shown_ranking(registry, name);
-    row_for(alloc, job, entry, ranked)
+    match &entry.old {
+        Some(old) => kept_row_with(alloc, job, registry, entry, old.as_str(), index),
+        None => dash_row(alloc, job, entry),
+    }
 }

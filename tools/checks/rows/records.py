@@ -22,6 +22,9 @@ x 1.6.0-rc.1 -|1.6.0-rc.0|1.31
 -|2|
 -|no entries|"""
 
+# So many lower versions that what a requirement leads to is remembered for the next entry.
+LOWER = [f"0.0.{number}" for number in range(20)]
+
 # What is told of an entry that asks for Rust 1.70.
 READ = """\
 its own|suits
@@ -125,15 +128,17 @@ def told(row, column):
     return f"{row['name']} {row[column]} {row['rename'] or '-'}" if row[column] else "-"
 
 
-def greatest(check, call, rust_version):
-    """What an upgrade chooses."""
+def greatest(check, call, rust_version, others=()):
+    """What an upgrade chooses for each of three entries with one requirement, of these versions and others."""
     fields = [line.split("|") for line in ENTRIES.split("\n")] if call != "no entries" else []
     lines = [index_line(version, yanked == "yanked", rust) for version, yanked, rust in fields]
+    lines += [index_line(version, False, None) for version in others]
     latest = {"latest": "0.1", "with pre-releases": "0.1.0-0", "no entries": "0.1.0-0"}
     rust = ["--rust-version", rust_version] if rust_version else []
-    ran = upgrade(check, f'[dependencies]\nx = "{latest.get(call, call)}"\n', lines, rust)
-    row, = messages(ran, "upgrade-row")
-    return told(row, "latest" if call in latest else "compatible")
+    tables = ("dependencies", "dev-dependencies", "build-dependencies")
+    ran = upgrade(check, "".join(f'[{table}]\nx = "{latest.get(call, call)}"\n' for table in tables), lines, rust)
+    column = "latest" if call in latest else "compatible"
+    return ", ".join(sorted({told(row, column) for row in messages(ran, "upgrade-row")}))
 
 
 def latest_for(check, words):
@@ -206,6 +211,8 @@ def rows(check):
     for row in GREATEST.split("\n"):
         want, call, rust = row.split("|")
         check.same("greatest entries", row, greatest(check, call, rust), want)
+        if call != "no entries":
+            check.same("greatest entries", f"{row} of many", greatest(check, call, rust, LOWER), want)
     for row in READ.split("\n"):
         want, call = row.split("|")
         check.same("entries read", row, read(check, call), want)

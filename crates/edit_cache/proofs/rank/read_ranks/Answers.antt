@@ -2,7 +2,7 @@ use Rattle.std.proofs.Common.{ap, sym, ◌∙◌, ◌++◌}
 use Rattle.edit_version.specs.IndexEntry.{entry_of}
 use Rattle.edit_cache.specs.Ranking.{rank_at}
 use Rattle.edit_cache.proofs.RankLemmas.{ranks_from-step}
-use Rattle.edit_cache.proofs.ranking.read_ranks.Goals as goal
+use Rattle.edit_cache.proofs.rank.read_ranks.Goals as goal
 
 pub loop-place-preserved : goal.loop-place-preserved
 loop-place-preserved c =

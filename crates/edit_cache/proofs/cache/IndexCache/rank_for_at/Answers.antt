@@ -1,0 +1,10 @@
+use Rattle.std.proofs.Common.{arith}
+use Rattle.std.proofs.lemmas.Map.Text.{text_keys}
+use Rattle.edit_cache.proofs.cache.IndexCache.rank_for_at.Goals as goal
+
+-- the answer is the one that was, and so is each other
+pub returns-in-Some-get_mut-clause-kept : goal.returns-in-Some-get_mut-clause-kept
+returns-in-Some-get_mut-clause-kept g c = λ address name. grind (arith, text_keys)
+
+pub returns-in-None-clause-kept : goal.returns-in-None-clause-kept
+returns-in-None-clause-kept g c = λ address name. grind (arith, text_keys)

@@ -1,0 +1,58 @@
+//! What requirements lead to, remembered beside the answers that are kept.
+ghost use Rattle.std.specs.Prelude.{◌≡◌, IfErr, OnOk};
+ghost use Rattle.url.specs.Parts.{serialize};
+ghost use Rattle.edit_base.specs.Errors.{IsMemory};
+ghost use Rattle.edit_cache.specs.IndexCache.{SameKept, index_of, kept_at, ranking_at};
+ghost use Rattle.edit_cache.specs.Kept.{IsRankedAt};
+
+use crate::cache::IndexCache;
+use edit_base::errors::CargoResult;
+use edit_sources::index::Index;
+use edit_version::{Requirement, RustVersion};
+use std::alloc::Global;
+use url::Url;
+
+impl<I: Index> IndexCache<I> {
+    /// `rank_kept`, and remembers what a requirement leads to for a Rust version: `Ranked::version_pair` then
+    /// finds it by the requirement's text, however many entries have that text.
+    pub fn rank_for(
+        &mut self,
+        alloc: Global,
+        registry: &Url,
+        name: &str,
+        old: &Requirement<'_>,
+        rust_version: Option<RustVersion>,
+    ) -> CargoResult<()>
+        ensures index { index_of self.new ≡ index_of self.old }
+        ensures kept { SameKept self.old self.new }
+        ensures ranked { OnOk result (IsRankedAt (kept_at self.new (serialize registry.now) name.now)
+            (ranking_at self.new (serialize registry.now) name.now)) }
+        ensures refused { IfErr result IsMemory }
+    {
+        self.rank_for_at(alloc, registry.as_str(), name, old, rust_version)
+    }
+
+    /// The same by the text of an address.
+    fn rank_for_at(
+        &mut self,
+        alloc: Global,
+        address: &str,
+        name: &str,
+        old: &Requirement<'_>,
+        rust_version: Option<RustVersion>,
+    ) -> CargoResult<()>
+        ensures index { self.new.index ≡ self.old.index }
+        ensures kept { SameKept self.old self.new }
+        ensures ranked { OnOk result (IsRankedAt (kept_at self.new address.now name.now)
+            (ranking_at self.new address.now name.now)) }
+        ensures refused { IfErr result IsMemory }
+    {
+        let Some(names) = self.answers.get_mut(address) else {
+            return Ok(());
+        };
+        match names.get_mut(name) {
+            Some(kept) => kept.rank_for(alloc, old, rust_version),
+            None => Ok(()),
+        }
+    }
+}

@@ -1,0 +1,75 @@
+//! What requirements lead to among the ranks of a crate, remembered.
+ghost use Rattle.std.specs.Prelude.{◌≡◌, All, IfSome, List, ℕ};
+ghost use Rattle.edit_cache.specs.Choices.{AreChoices, IsChoice};
+ghost use Rattle.edit_cache.specs.Ranks.{Ranking};
+
+use edit_version::RustVersion;
+use std::alloc::{AllocError, Global};
+use std::collections::BTreeMap;
+
+/// For how many Rust versions the choice of a text is remembered.
+const MOST: usize = 64;
+
+/// What a requirement leads to for a Rust version: the places among the ranks of the greatest version that it
+/// admits and of the latest.
+#[derive(Clone, Copy, Debug)]
+pub struct Choice {
+    pub(crate) rust_version: Option<RustVersion>,
+    pub(crate) compatible: Option<usize>,
+    pub(crate) latest: Option<usize>,
+}
+
+/// Choices by the texts of requirements.
+pub(crate) type Choices = BTreeMap<String, Vec<Choice>>;
+
+/// The first of the choices that is for a Rust version.
+fn choice_for(known: &[Choice], rust_version: Option<RustVersion>) -> Option<Choice>
+    ensures asked { IfSome result (λ c. c.rust_version ≡ rust_version) }
+    ensures among { (ranks : List Ranking) (text : List ℕ) → All (IsChoice ranks text) known.now
+        → IfSome result (IsChoice ranks text) }
+{
+    for choice in known {
+        if choice.rust_version == rust_version {
+            return Some(*choice);
+        }
+    }
+    None
+}
+
+/// The choice of a text for a Rust version that is remembered, if one is.
+pub(crate) fn known_choice(
+    choices: &Choices,
+    text: &str,
+    rust_version: Option<RustVersion>,
+) -> Option<Choice>
+    ensures asked { IfSome result (λ c. c.rust_version ≡ rust_version) }
+    ensures known { (ranks : List Ranking) → AreChoices ranks choices.now
+        → IfSome result (IsChoice ranks text.now) }
+{
+    match choices.get(text) {
+        Some(known) => choice_for(known, rust_version),
+        None => None,
+    }
+}
+
+/// Remembers the choice of a text, but for no more than so many Rust versions.
+pub(crate) fn remember(
+    alloc: Global,
+    choices: &mut Choices,
+    text: &str,
+    choice: Choice,
+) -> Result<(), AllocError>
+    ensures { (ranks : List Ranking) → IsChoice ranks text.now choice → AreChoices ranks choices.old
+        → AreChoices ranks choices.new }
+{
+    if let Some(known) = choices.get_mut(text) {
+        if known.len() < MOST {
+            known.push(choice)?;
+        }
+        return Ok(());
+    }
+    let mut known = Vec::new(alloc);
+    known.push(choice)?;
+    choices.insert(String::from_str(alloc, text)?, known)?;
+    Ok(())
+}

@@ -1,0 +1,177 @@
+//! An entry of an answer that is ranked, and searches among them.
+ghost use Rattle.std.specs.Prelude.{◌≡◌, ◌++◌, IfOk, IfErr, OnOk, map, option_copied};
+ghost use Rattle.std.specs.List.{find, position, position_from};
+ghost use Rattle.semver.specs.Identifiers.{parts_text};
+ghost use Rattle.edit_base.specs.Errors.{IsMemory};
+ghost use Rattle.edit_record.specs.Records.{IsRegistryDependency};
+ghost use Rattle.edit_version.specs.Candidates.{numbers_in, wants};
+ghost use Rattle.edit_version.specs.IndexEntry.{entry_of};
+ghost use Rattle.edit_version.specs.ReadRequirement.{text_in};
+ghost use Rattle.edit_version.specs.Selection.{is_admitted, is_offered};
+ghost use Rattle.edit_cache.specs.Choices.{IsChoice};
+ghost use Rattle.edit_cache.specs.Ranking.{rank_at, ranks_from};
+ghost use Rattle.edit_cache.specs.Ranks.{passes, rank_of};
+
+use crate::choices::Choice;
+use edit_base::errors::CargoResult;
+use edit_record::dependency::Dependency;
+use edit_record::find::dependency_on;
+use edit_version::candidates::{is_for, is_wanted, read_candidate};
+use edit_version::fetch::IndexVersion;
+use edit_version::rust_version::RustVersion;
+use edit_version::{Requirement, allows_prerelease};
+use semver::{Version, VersionReq};
+use std::alloc::Global;
+use std::cmp::Reverse;
+
+/// An entry that is readable and not yanked, with what is read of it.
+///
+/// Ranks are ordered by version, the greatest first, and then by place, the later first.
+#[derive(Debug, Drop)]
+#[derive_where(PartialEq, Eq, PartialOrd, Ord)]
+pub struct Rank {
+    pub(crate) version: Reverse<Version>,
+    pub(crate) place: Reverse<usize>,
+    #[derive_where(skip(EqHashOrd))]
+    pub(crate) rust_version: Option<RustVersion>,
+    #[derive_where(skip(EqHashOrd))]
+    pub(crate) name: String,
+}
+
+/// Adds the rank of an entry that is readable and not yanked.
+fn push_rank(
+    alloc: Global,
+    ranks: &mut Vec<Rank>,
+    place: usize,
+    told: &IndexVersion,
+) -> CargoResult<()>
+    ensures ok { OnOk result (map rank_of ranks.new.items
+        ≡ map rank_of ranks.old.items ++ rank_at place (entry_of told.now)) }
+    ensures refused { IfErr result IsMemory }
+{
+    let Some(candidate) = read_candidate(alloc, told)? else {
+        return Ok(());
+    };
+    ranks.push(Rank {
+        version: Reverse(candidate.version),
+        place: Reverse(place),
+        rust_version: candidate.rust_version,
+        name: told.name.clone()?,
+    })?;
+    Ok(())
+}
+
+/// The ranks of entries, in the order of the entries.
+pub(crate) fn read_ranks(alloc: Global, entries: &[IndexVersion]) -> CargoResult<Vec<Rank>>
+    ensures ok { IfOk result (λ v. map rank_of v.items ≡ ranks_from 0 (map entry_of entries.now)) }
+    ensures refused { IfErr result IsMemory }
+{
+    let mut ranks = Vec::with_capacity(alloc, entries.len())?;
+    for (place, told) in entries.iter().enumerate() {
+        push_rank(alloc, &mut ranks, place, told)?;
+    }
+    Ok(ranks)
+}
+
+/// The dependency on the entry of a rank. The version's text is written anew, as it was read.
+pub(crate) fn dependency_of(alloc: Global, rank: &Rank) -> CargoResult<Dependency>
+    ensures ok { IfOk result
+        (IsRegistryDependency (rank_of rank.now).name (parts_text (rank_of rank.now).version)) }
+    ensures refused { IfErr result IsMemory }
+{
+    let version = &rank.version.0;
+    let told = IndexVersion {
+        name: rank.name.clone()?,
+        version: format!(in alloc; "{version}")?,
+        yanked: false,
+        rust_version: None,
+    };
+    dependency_on(alloc, &told)
+}
+
+/// The first rank that is for a Rust version and whose version is wanted.
+pub(crate) fn first_wanted<'a>(
+    ranks: &'a [Rank],
+    allow_prerelease: bool,
+    req: Option<&VersionReq>,
+    rust_version: Option<RustVersion>,
+) -> Option<&'a Rank>
+    ensures { option_copied result
+        ≡ find (λ r. passes (numbers_in rust_version) (wants allow_prerelease req.entry) (rank_of r))
+        ranks.now }
+{
+    ranks
+        .iter()
+        .find(|rank| is_first(rank, allow_prerelease, req, rust_version))
+}
+
+/// Whether a rank is for a Rust version and its version is wanted.
+fn is_first(
+    rank: &Rank,
+    allow_prerelease: bool,
+    req: Option<&VersionReq>,
+    rust_version: Option<RustVersion>,
+) -> bool
+    ensures { result
+        ≡ passes (numbers_in rust_version) (wants allow_prerelease req.entry) (rank_of rank.now) }
+{
+    is_for(rank.rust_version, rust_version) && is_wanted(&rank.version.0, allow_prerelease, req)
+}
+
+/// The place of the first rank that is for a Rust version and whose version is wanted.
+fn first_place(
+    ranks: &[Rank],
+    allow_prerelease: bool,
+    req: Option<&VersionReq>,
+    rust_version: Option<RustVersion>,
+) -> Option<usize>
+    ensures { result ≡ position (λ r. passes (numbers_in rust_version) (wants allow_prerelease req.entry)
+        (rank_of r)) ranks.now }
+{
+    ranks
+        .iter()
+        .position(|rank| is_first(rank, allow_prerelease, req, rust_version))
+}
+
+/// The place of the first rank that is for a Rust version and that a requirement admits.
+fn compatible_place(
+    ranks: &[Rank],
+    old: &Requirement<'_>,
+    rust_version: Option<RustVersion>,
+) -> Option<usize>
+    ensures { result ≡ position_from (passes (numbers_in rust_version) (is_admitted (text_in old.now))) 0
+        (map rank_of ranks.now) }
+{
+    match old.version_req() {
+        Some(req) => first_place(ranks, false, Some(req), rust_version),
+        None => None,
+    }
+}
+
+/// The place of the first rank that is for a Rust version and that a requirement offers.
+fn latest_place(
+    ranks: &[Rank],
+    old: &Requirement<'_>,
+    rust_version: Option<RustVersion>,
+) -> Option<usize>
+    ensures { result ≡ position_from (passes (numbers_in rust_version) (is_offered (text_in old.now))) 0
+        (map rank_of ranks.now) }
+{
+    first_place(ranks, allows_prerelease(old.text()), None, rust_version)
+}
+
+/// What a requirement leads to for a Rust version.
+pub(crate) fn choose(
+    ranks: &[Rank],
+    old: &Requirement<'_>,
+    rust_version: Option<RustVersion>,
+) -> Choice
+    ensures asked { result.rust_version ≡ rust_version }
+    ensures is { IsChoice (map rank_of ranks.now) (text_in old.now) result }
+{
+    Choice {
+        rust_version,
+        compatible: compatible_place(ranks, old, rust_version),
+        latest: latest_place(ranks, old, rust_version),
+    }
+}
