@@ -4,7 +4,7 @@ use Rattle.std.specs.Prelude.{◌⊎◌, slice_get}
 use Rattle.edit_store.specs.Store.{Files}
 use Rattle.edit_lookups.specs.Lookups.{LookupText}
 use Rattle.edit_answers.specs.Changes.{Keeps}
-use Rattle.edit_answers.specs.Followed.{AllFollow, Follows, HasFollowed, answer_at}
+use Rattle.edit_answers.specs.Followed.{AllFollow, Follows, answer_at}
 use Rattle.edit_answers.specs.Outcomes.{PutsOne, PutsSome}
 use Rattle.edit_answers.specs.declared.answers.Answer.{Answer}
 use Rattle.edit_answers.specs.declared.meaning.Outcome.{Outcome}

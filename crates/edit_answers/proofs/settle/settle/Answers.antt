@@ -2,7 +2,6 @@ use Rattle.std.proofs.Common.{sym, subst}
 use Rattle.edit_lookups.specs.Lookups.{lookup_text}
 use Rattle.edit_answers.specs.Outcomes.{Puts, PutsIndexed, Settles}
 use Rattle.edit_answers.specs.Outcomes.Settles.{absent, failed}
-use Rattle.edit_answers.specs.declared.meaning.Meaning.TheVariants.{Failed}
 use Rattle.edit_answers.specs.declared.meaning.Outcome.TheVariants.{Absent, Fetched}
 use Rattle.edit_answers.proofs.ChangeLemmas.{on-ok, weakened}
 use Rattle.edit_answers.proofs.PutLemmas.{indexed-puts}

@@ -1,8 +1,6 @@
-use Rattle.std.proofs.Common.{sym, subst}
 use Rattle.edit_lookups.specs.Lookups.{lookup_text}
-use Rattle.edit_answers.specs.Outcomes.{Puts, PutsIndexed, Settles}
+use Rattle.edit_answers.specs.Outcomes.{Puts, PutsIndexed}
 use Rattle.edit_answers.specs.Outcomes.Settles.{current}
-use Rattle.edit_answers.specs.declared.meaning.Meaning.TheVariants.{NotModified}
 use Rattle.edit_answers.specs.declared.meaning.Outcome.{Outcome}
 use Rattle.edit_answers.specs.declared.meaning.Outcome.TheVariants.{Fetched}
 use Rattle.edit_answers.proofs.ChangeLemmas.{as-err, as-ok, then, weakened}

@@ -1,4 +1,4 @@
-use Rattle.std.proofs.Common.{◌≡◌, ◌∙◌, Some, ap, sym, subst}
+use Rattle.std.proofs.Common.{◌≡◌, ◌∙◌, Some, sym, subst}
 use Rattle.edit_lookups.specs.Cached.{cached_path}
 use Rattle.edit_lookups.specs.Lookups.{lookup_text}
 use Rattle.edit_answers.specs.Meanings.{new_meaning}
