@@ -1,8 +1,8 @@
 # shellcheck shell=bash disable=SC2034
-# Sourced by tools/checks/cargo_*.sh: the commands, installed from the tarball of tools/dist.sh, real cargo, and the loopback
-# registries of registry.py. A check is a function `row_NAME`; `all_rows` runs each by itself, says which failed, and ends
-# with status 1 where one did. With CARGO_CHECK_SCRIPTS=DIR the scripts of DIR stand in for the installed ones, so that one
-# can see which rows other scripts fail; ROWS='NAME ..' runs these alone.
+# Sourced by tools/checks/cargo_*.sh: the commands, installed from the tarball of tools/dist.sh, real cargo, and the
+# loopback registries of registry.py. A check is a function `row_NAME`; `all_rows` runs each by itself, prints which
+# failed, and has status 1 if one did. CARGO_CHECK_SCRIPTS=DIR replaces the installed scripts by those of DIR, to see
+# which rows other scripts fail; ROWS='NAME ..' runs these rows only.
 set -u -o pipefail
 export LC_ALL=C
 self=$(basename "$0")

@@ -1,6 +1,6 @@
 #!/usr/bin/env bash
-# cargo_fetch.sh PROGRAM   how `cargo upgrade` fetches and caches index entries, with real cargo and curl over loopback
-# registries: what becomes of each kind of answer, what is said where an entry is not had, and with which status it ends.
+# cargo_fetch.sh PROGRAM   how `cargo upgrade` fetches and caches index entries, with real cargo and curl over
+# loopback registries: what it does with each kind of answer, and the messages and the status if an entry is missing.
 # shellcheck source-path=SCRIPTDIR source=../cargo_checks/lib.sh
 . "$(dirname "$0")/../cargo_checks/lib.sh"
 begin "$1"
@@ -10,7 +10,7 @@ fill() {
   run 0 upgrade -n
   shown
 }
-# A plain run fetches each entry once, and the next one has 304 for each.
+# A run fetches each entry once, and the next run gets 304 for each.
 row_revalidates() {
   run 0 upgrade -n
   shown
@@ -20,7 +20,8 @@ row_revalidates() {
   [ "$(grep -c ' kept ' "$room/asked")" = 2 ] || fail 'an entry was sent again'
 }
 
-# A 200 that is no index of this crate leaves what is cached, which serves this run and one with --offline.
+# An answer of status 200 that is no index entry of this crate does not replace the cached entry, which this run and
+# one with --offline use.
 refused_body() { # MODE
   fill
   find "$cache" -name '*.etag' -delete
@@ -68,7 +69,8 @@ row_one_is_not_there() {
   has Cargo.toml 'other = "0.2.5"'
 }
 
-# Not had and not cached: status 1 and nothing written, also at a check; the crates once, with the reason.
+# If an entry can neither be fetched nor is cached, the status is 1, also with --check, and nothing is written; the
+# error names each crate once, with the reason.
 row_nothing_is_had() {
   local option
   for option in -v --check -n; do
@@ -97,7 +99,7 @@ row_offline_without_cache() {
   unwritten
   [ "$(requests)" = 0 ] || fail 'a request'
 }
-# What is not needed is not asked for.
+# Entries of excluded crates are not needed.
 row_exclude_leaves_out() {
   mode 'status 503 other'
   run 0 upgrade --exclude other
@@ -105,7 +107,8 @@ row_exclude_leaves_out() {
   has Cargo.toml 'other = "0.2.0"'
 }
 
-# The validator belongs to the body: a body that another run wrote, or that stands there since a kill, is asked for anew.
+# A validator counts only for the body that it came with: a body that another run wrote, or that a killed run left,
+# is fetched again.
 row_validator_of_another_body() {
   fill
   cp "$(entry one 3/d/dep)" "$room/old"
@@ -119,7 +122,7 @@ row_validator_of_another_body() {
   silent '1\.2\.3'
 }
 
-# An ETag that came behind a redirect may be that of the answer which redirects: no validator is stored beside the entry.
+# After a redirect the ETag that curl saved may be that of the answer which redirects, so no validator is stored.
 row_redirected_validator() {
   mode "redirect-once $base"
   run 0 upgrade -n
@@ -132,7 +135,7 @@ row_redirected_validator() {
   [ "$(find "$cache" -name '*.etag' | wc -l)" = 2 ] || fail 'an answer without a redirect has no validator'
 }
 
-# The cache is the user's alone, and no userinfo gets into it or into a message.
+# Only the user can read the cache, and no user name or password of an address gets into it or into a message.
 row_private_cache() {
   (umask 022; run 0 upgrade) || exit 1
   [ "$(stat -c %a "$cache")" = 700 ] || fail "the cache has mode $(stat -c %a "$cache")"
@@ -257,7 +260,7 @@ row_no_folder() {
   says "$room/nowhere"
 }
 
-# Odd folders, no HOME, a relative one for caches, a link to the script.
+# Folders with odd names, no HOME, a relative folder for caches, a link to the script.
 row_odd_names() {
   local odd="$room/ws/a b\"c\\d'e"
   mkdir "$odd" "$odd/ws" "$odd/tmp"
@@ -293,7 +296,7 @@ row_link_to_the_script() {
   PATH="$room/user/links:$(dirname "$cargo"):/usr/bin:/bin" run 0 set-version 0.3.0
   has Cargo.toml 'version = "0.3.0"'
 }
-# Nothing is left where a signal ends the run.
+# A run that a signal ends leaves no file.
 row_signals() {
   local signal
   for signal in HUP INT TERM; do

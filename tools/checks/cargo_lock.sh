@@ -1,6 +1,6 @@
 #!/usr/bin/env bash
-# cargo_lock.sh PROGRAM   what `cargo upgrade` and `cargo set-version` do to Cargo.lock, which calls of cargo they make, and with
-# which status they end, with real cargo over loopback registries.
+# cargo_lock.sh PROGRAM   what `cargo upgrade` and `cargo set-version` do to Cargo.lock, which calls of cargo they
+# make, and their status, with real cargo over loopback registries.
 # shellcheck source-path=SCRIPTDIR source=../cargo_checks/lib.sh
 . "$(dirname "$0")/../cargo_checks/lib.sh"
 begin "$1"
@@ -21,13 +21,13 @@ begins() { # DEPENDENCIES [NAME@VERSION ..]
 scoped() {
   ! updates | grep -v -e ' --package ' > "$room/log" || fail "a call without a package: $(cat "$room/log")"
 }
-# Of all calls that are told as `Run ..`, each is made as it is told, and no other is made. (Where a call before it moved its
-# packages, a call is told once more, with the versions that are there then.)
-told_is_run() {
+# Each call that is printed as `Run ..` is made as printed, and no other is made. (If an earlier call changed the
+# versions of its packages, a call is printed once more, with the new versions.)
+printed_is_run() {
   sed -n "s/^ *Run //p" "$room/err" | awk '{ key = $0; gsub(/@[^ ]*/, "", key); if (!(key in last)) order[++n] = key; last[key] = $0 }
-    END { for (k = 1; k <= n; k++) print last[order[k]] }' > "$room/told"
+    END { for (k = 1; k <= n; k++) print last[order[k]] }' > "$room/printed"
   updates > "$room/log"
-  cmp -s "$room/told" "$room/log" || fail "told: $(cat "$room/told"); made: $(cat "$room/log")"
+  cmp -s "$room/printed" "$room/log" || fail "printed: $(cat "$room/printed"); made: $(cat "$room/log")"
 }
 # Keeps a full `cargo metadata` from resolving, or an update from being made.
 broken_cargo() { # CONDITION
@@ -107,14 +107,14 @@ row_update_fails() {
 # The calls can be written to a file of the user's.
 row_update_calls() {
   noted 0 upgrade --update-calls calls.txt
-  awk '{ printf "%s%s", sep, $0; sep = " " } /^$/ { print ""; sep = "" }' calls.txt | sed 's/ *$//' > "$room/told"
-  updates | cmp -s - "$room/told" || fail "$(cat "$room/told" "$room/calls")"
+  awk '{ printf "%s%s", sep, $0; sep = " " } /^$/ { print ""; sep = "" }' calls.txt | sed 's/ *$//' > "$room/printed"
+  updates | cmp -s - "$room/printed" || fail "$(cat "$room/printed" "$room/calls")"
   cp "$room/first/Cargo.toml" "$room/first/Cargo.lock" .
   : > "$room/calls"
   noted 0 upgrade --update-calls=calls.txt
   [ -s calls.txt ] || fail 'no calls'
 }
-# A dry run neither makes nor changes the lock file, however it is asked for.
+# A dry run neither makes nor changes the lock file, whichever option asks for it.
 row_dry_runs() {
   local option status
   for option in -n --dry-run --check -qn -nv; do
@@ -180,12 +180,12 @@ row_set_version_locks() {
   locks a 0.2.0
   locks dep 1.0.0
 }
-# cargo is asked for the lock file only where a version changed.
+# cargo updates the lock file only if a version changed.
 row_set_version_unchanged() {
   noted 0 set-version 0.1.0
   [ "$(wc -l < "$room/calls")" = 1 ] || fail "$(cat "$room/calls")"
 }
-# What cargo cannot do ends with status 1, and it is said that the manifests are written.
+# If cargo fails, the status is 1, and the message says that the manifests are written.
 row_set_version_unresolved() {
   broken_cargo '*metadata*--no-deps*) ;; *metadata*'
   broken 1 set-version 0.2.0
@@ -193,7 +193,8 @@ row_set_version_unresolved() {
   says 'out of luck'
   says_once '^Error: .*manifests? '
 }
-# A member without `package.version`: the error names its file and the option that leaves it out, and nothing is written.
+# A member without `package.version` is an error that names its file and the option that leaves it out; nothing is
+# written.
 row_member_without_version() {
   mkdir -p b/src
   touch b/src/lib.rs
@@ -227,26 +228,26 @@ row_statuses() {
   run 2 set-version --wrong
   run 2 upgrade --pinned maybe
 }
-# What is told as run is run, with --offline only where the user gave it.
-row_told_is_run() {
+# Calls have --offline only if the user gave it.
+row_printed_is_run() {
   noted 0 upgrade
   updates | grep -q -e --package || fail 'no call'
   ! updates | grep -q -e --offline || fail 'a call has --offline'
-  told_is_run
+  printed_is_run
 }
-row_told_is_run_git() {
+row_printed_is_run_git() {
   begins "third = \"1.0\"
 $git_dependency }" third@1.0.0 dep@1.0.0
   noted 0 upgrade
-  told_is_run
+  printed_is_run
 }
-row_told_is_run_offline() {
+row_printed_is_run_offline() {
   noted 0 upgrade -n
   cargo fetch -q
   sed -i 's/"1.0"/"1.0.0"/' Cargo.toml
   : > "$room/calls"
   noted 0 upgrade --offline -p dep@1.0.0 -p other@0.2.0
-  told_is_run
+  printed_is_run
 }
 
 all_rows

@@ -1,13 +1,14 @@
 #!/usr/bin/env bash
-# cargo_races.sh PROGRAM   the cache of `cargo upgrade` where runs meet or end early: several at once over a
-# registry that changes, kills at varying moments, a temporary folder on another file system, and files that cannot
-# grow. An entry is always one that the registry had, whole, and the next run has the newest.
+# cargo_races.sh PROGRAM   the cache of `cargo upgrade` if runs overlap or end early: several at once over a registry
+# that changes, kills at varying moments, a temporary folder on another file system, and a full disk. A cached entry
+# is always a whole one that the registry had, and the next run gets the newest.
 # shellcheck source-path=SCRIPTDIR source=../cargo_checks/lib.sh
 . "$(dirname "$0")/../cargo_checks/lib.sh"
 begin "$1"
 published=0
 
-# The registry gets version 1.N.0 of dep, with a description that makes its file large; $room/bodies has each file that it had.
+# The registry gets version 1.N.0 of dep, with a description that makes its entry large; $room/bodies keeps each entry
+# that it had.
 publish() {
   published=$((published + 1))
   [ -d "$room/bodies" ] || { mkdir "$room/bodies"; cp "$room/served/one/3/d/dep" "$room/bodies"; }

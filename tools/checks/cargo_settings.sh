@@ -1,6 +1,6 @@
 #!/usr/bin/env bash
-# cargo_settings.sh PROGRAM   the settings of cargo that `cargo upgrade` follows, and kinds of registries: offline, retries,
-# time-outs, proxies, certificates, tokens, registries of the environment, git registries and vendored sources.
+# cargo_settings.sh PROGRAM   the settings of cargo that `cargo upgrade` follows, and kinds of registries: offline,
+# retries, time-outs, proxies, certificates, tokens, registries of the environment, git registries, vendored sources.
 # shellcheck source-path=SCRIPTDIR source=../cargo_checks/lib.sh
 . "$(dirname "$0")/../cargo_checks/lib.sh"
 begin "$1"
