@@ -4,8 +4,8 @@ use Rattle.std.specs.Str.Parse.{ParsesUnsigned}
 use Rattle.edit_lookups.specs.Lookups.{HasNo}
 use Rattle.edit_answers.specs.declared.answers.Answer.{Answer}
 
--- a line says an answer to a transfer: its number, the status, curl's exit code, how many redirects it followed, and its
--- message, parted by tabs
+-- a line says an answer to a transfer: its number, the status, curl's exit code, how many redirects it
+-- followed, and its message, parted by tabs
 pub record SaysAnswer (line : List ℕ) (number : ℕ) (a : Answer) : Type 0 where
   pub digits : List ℕ
   pub is : line ≡ digits ++ 9 ∷ (a.code.now ++ 9 ∷ (a.exit.now ++ 9 ∷ (a.redirects.now ++ 9 ∷ a.message.now)))

@@ -19,15 +19,16 @@ pub record AreNamed (entries : List IndexEntry) (name : List ℕ) : Type 0 where
 abbrev pub EndsLine : List ℕ → Type 0
 EndsLine body = slice_index body (length body - 1) ≡ 10
 
--- a body is a whole index file of a crate: it ends with a line end, its lines say entries, and each has the name
+-- a body is a whole index file of a crate: it ends with a line end, its lines say entries, and each has the
+-- name
 pub record IsWholeIndex (name body : List ℕ) : Type 0 where
   pub ended : EndsLine body
   pub entries : List IndexEntry
   pub say : LinesSay (lines_of body) entries
   pub named : AreNamed entries name
 
--- why a body is not the whole index file of a crate: its first line that is no index line, or, where there is none, the
--- whole
+-- why a body is not the whole index file of a crate: its first line that is no index line, or, where there is
+-- none, the whole
 pub data IsDamaged (name body : List ℕ) : Damage → Type 0 where
   bad_line : (number : ℕ) → IsBadLine (lines_of body) number → IsDamaged name body (BadLine number)
   not_whole : (entries : List IndexEntry) → LinesSay (lines_of body) entries → (IsWholeIndex name body → ⊥)

@@ -22,8 +22,8 @@ KeepsBut P old new = (torn : List ℕ) × ((path : List ℕ) → path ≢ torn �
 abbrev pub Fails : ℕ → ℕ → Error → Type 0
 Fails before now e = IsMemory e ⊎ ((call : DeviceCall) × (e ≡ Device call) × raised before now)
 
--- how a call changes a store: by its answer, what may newly stand in the files; where it fails, one file may hold
--- anything, and each other one is as it was or has what may stand there
+-- how a call changes a store: by its answer, what may newly stand in the files; where it fails, one file may
+-- hold anything, and each other one is as it was or has what may stand there
 pub record Changes {T : Type 0} (P : T → List ℕ → List ℕ → Type 0) (Q : List ℕ → List ℕ → Type 0)
     (old new : StoreView) (result : Result T Error) : Type 0 where
   pub tells : new.tells ≡ old.tells

@@ -1,4 +1,5 @@
--- Which curl can fetch index entries (curl's manual: `%{exitcode}` and `%{errormsg}` of `--write-out` are there from 7.75 on).
+-- Which curl can fetch index entries (curl's manual: `%{exitcode}` and `%{errormsg}` of `--write-out` are
+-- there from 7.75 on).
 use Rattle.std.specs.Prelude.{◌≡◌, ◌⊎◌, ℕ, ◌<◌, ◌≤◌, List, ◌∷◌, ◌++◌, Ok, codes}
 use Rattle.std.specs.Str.Parse.{ParsesUnsigned}
 use Rattle.edit_lookups.specs.Lookups.{HasNo}

@@ -47,7 +47,8 @@ the_answer (Some answer) = answer
 abbrev pub answer_at : List (Option Answer) → ℕ → Option Answer
 answer_at answers k = the_answer (slice_get answers k)
 
--- an outcome follows from the answer at its place, over files that differ from the old ones only by what lookups may put
+-- an outcome follows from the answer at its place, over files that differ from the old ones only by what
+-- lookups may put
 pub record HasFollowed (p : Places) (ls : List LookupText) (is_offline : Bool) (answers : List (Option Answer))
     (old : Files) (k : ℕ) (l : LookupText) (o : Outcome) : Type 0 where
   pub files : Files

@@ -21,8 +21,8 @@ use Rattle.edit_answers.specs.declared.places.Places.{Places}
 abbrev pub IsStored : Outcome → Type 0
 IsStored o = (o ≡ Fetched) ⊎ (o ≡ Moved)
 
--- what a step may write for a lookup: where it was fetched, its entry, a whole index file of its crate; where no
--- redirect was followed, the validator of such a body; and the file where an upgrade reads it
+-- what a step may write for a lookup: where it was fetched, its entry, a whole index file of its crate; where
+-- no redirect was followed, the validator of such a body; and the file where an upgrade reads it
 pub data Puts (p : Places) (l : LookupText) (o : Outcome) : List ℕ → List ℕ → Type 0 where
   entry : (bytes : List ℕ) → IsStored o → IsWholeIndex l.name bytes → Puts p l o (cached_path p.cache.now l) bytes
   validator : (body bytes etag : List ℕ) → o ≡ Fetched → IsWholeIndex l.name body → IsValidatorOf body bytes etag
@@ -39,7 +39,8 @@ abbrev pub by_cached : Option (List ℕ) → Outcome → Failure → Outcome
 by_cached None had lost = Missing lost
 by_cached (Some bytes) had lost = had
 
--- what is wrong with a file in the cache, which need not be there: nothing where it is the whole index file of the crate
+-- what is wrong with a file in the cache, which need not be there: nothing where it is the whole index file
+-- of the crate
 abbrev pub HasDamage : List ℕ → Option (List ℕ) → Option Damage → Type 0
 HasDamage name None damage = damage ≡ None
 HasDamage name (Some bytes) damage = MatchOption damage (IsWholeIndex name bytes) (IsDamaged name bytes)
@@ -61,8 +62,8 @@ abbrev pub stored : Bool → Outcome
 stored true = Fetched
 stored false = Moved
 
--- what becomes of a lookup by what its answer means, over these files: a new body counts only as a whole index file;
--- where nothing was had, the cached entry serves
+-- what becomes of a lookup by what its answer means, over these files: a new body counts only as a whole
+-- index file; where nothing was had, the cached entry serves
 pub data Settles (p : Places) (l : LookupText) (number : ℕ) (files : Files) : Meaning → Outcome → Type 0 where
   fetched : (is_direct : Bool) → HasBody p l number files
       → Settles p l number files (new_meaning is_direct) (stored is_direct)

@@ -74,8 +74,8 @@ fn cached_damage<S: Store>(
     }
 }
 
-/// Puts the file of a lookup in the cache where an upgrade reads it. What became of the lookup is `had`, where
-/// there is such a file.
+/// Puts the file of a lookup in the cache where an upgrade reads it. What became of the lookup is `had`,
+/// where there is such a file.
 fn link_cached<'a, S: LinkStore>(
     alloc: Global,
     files: &mut S,

@@ -113,8 +113,8 @@ impl Ranked {
         }
     }
 
-    /// Remembers what a requirement leads to for a Rust version, so that `version_pair` need not find it anew:
-    /// where the ranks are few, that is not worth it.
+    /// Remembers what a requirement leads to for a Rust version, so that `version_pair` need not find it
+    /// anew: where the ranks are few, that is not worth it.
     pub(crate) fn remember_choice(
         &mut self,
         alloc: Global,

@@ -15,7 +15,8 @@ file_lines calls = flat_map call_lines calls
 abbrev pub HasTexts : Call → Type 0
 HasTexts call = All (λ argument. argument ≢ []) call
 
--- the calls of lines, the first of which goes on behind these arguments; arguments that no empty line ends are none
+-- the calls of lines, the first of which goes on behind these arguments; arguments that no empty line ends
+-- are none
 abbrev pub calls_behind : Call → List (List ℕ) → List Call
 calls_behind arguments [] = []
 calls_behind arguments ([] ∷ rest) = arguments ∷ calls_behind [] rest

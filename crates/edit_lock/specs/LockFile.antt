@@ -1,4 +1,5 @@
--- The packages of a lock file (The Cargo Book, "Cargo.toml vs Cargo.lock"; the TOML specification, "Array of Tables").
+-- The packages of a lock file (The Cargo Book, "Cargo.toml vs Cargo.lock"; the TOML specification, "Array of
+-- Tables").
 use Rattle.std.specs.Prelude.{◌≡◌, ℕ, List, [], ◌∷◌, ◌++◌, Option, Some, None, codes, option_and_then}
 use Rattle.std.specs.Str.{IsUtf8}
 use Rattle.toml.specs.Data.{Data, Items, no_items, item, Members, get_member, as_array, as_str, as_table}

@@ -1,5 +1,5 @@
--- Which calls of `cargo update` are right against a lock file (The Cargo Book, "cargo update": what `--package` names
--- must be locked, and a call without `--package` updates every package).
+-- Which calls of `cargo update` are right against a lock file (The Cargo Book, "cargo update": what
+-- `--package` names must be locked, and a call without `--package` updates every package).
 use Rattle.std.specs.Prelude.{ℕ, List, [], ◌∷◌, ◌++◌, ◌==◌, ◌&&◌, ◌||◌, Bool, if◌then◌else◌, not, codes, map}
 use Rattle.std.specs.List.{before_first, filter, flat_map, list_any}
 use Rattle.std.specs.Str.{bytes_eq}
@@ -22,8 +22,8 @@ pub record Changes : Type 0 where
   -- the packages of a name that are locked and were not
   pub gained : List ℕ → List (List ℕ)
 
--- what two lock files say by their packages, before the first call and now; what a name has gained is in the order
--- of the present file
+-- what two lock files say by their packages, before the first call and now; what a name has gained is in the
+-- order of the present file
 abbrev pub changes : List Package → List Package → Changes
 changes before now = record {
   had = locks before;
@@ -35,8 +35,8 @@ changes before now = record {
 abbrev pub name_in : List ℕ → List ℕ
 name_in spec = before_first (λ b. b == 64) spec
 
--- the packages that stand for one that a call names: itself where it is locked, what its name has gained where
--- it was locked, else none
+-- the packages that stand for one that a call names: itself where it is locked, what its name has gained
+-- where it was locked, else none
 abbrev pub standing_specs : Changes → List ℕ → List (List ℕ)
 standing_specs c spec =
     if c.has spec then spec ∷ [] else if c.had spec then c.gained (name_in spec) else []
@@ -45,8 +45,8 @@ standing_specs c spec =
 abbrev pub package_arguments : List ℕ → Call
 package_arguments spec = codes "--package" ∷ spec ∷ []
 
--- an argument that does not stand by itself: `--package`, which goes with what it names, and `--offline` where
--- packages may be fetched
+-- an argument that does not stand by itself: `--package`, which goes with what it names, and `--offline`
+-- where packages may be fetched
 abbrev pub is_left_out : Bool → List ℕ → Bool
 is_left_out offline argument =
     bytes_eq argument (codes "--package") || (bytes_eq argument (codes "--offline") && not offline)

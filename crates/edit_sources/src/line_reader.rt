@@ -1,7 +1,7 @@
 //! Reads an index line token by token, without making a tree of its members.
 //!
-//! A line that this reader does not take is left to the reader that makes a tree, which alone decides whether a line is
-//! malformed.
+//! A line that this reader does not take is left to the reader that makes a tree, which alone decides whether
+//! a line is malformed.
 ghost use Rattle.std.specs.Prelude.{◌≡◌, ◌<◌, ◌⊎◌, codes, true, length, IfSome, MatchOption, Some};
 ghost use Rattle.json.specs.Json.{value, items, members};
 ghost use Rattle.serde_json.specs.Data.{Data, Items, Members, boolean, no_members, null, object, put, string};

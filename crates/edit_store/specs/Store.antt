@@ -11,8 +11,8 @@ use Rattle.edit_store.specs.declared.store.Kind.TheVariants.{File, Folder, Absen
 abbrev pub Files : Type 0
 Files = List ℕ → Option (List ℕ)
 
--- a store as contracts see it: whether it tells its files, what they hold, how often its device has failed, and
--- how often a write could not be made ready (own)
+-- a store as contracts see it: whether it tells its files, what they hold, how often its device has failed,
+-- and how often a write could not be made ready (own)
 pub record StoreView : Type 0 where
   pub tells : Bool
   pub file_at : Files

@@ -51,8 +51,8 @@ fn rename<R: Files<File = File> + Alloc<A = Global> + Env>(
     }
 }
 
-/// Whether the machine refuses to move a file over another one that it might let be overwritten: one that is mounted, or
-/// another user's in a folder where each may remove only what is theirs.
+/// Whether the machine refuses to move a file over another one that it might let be overwritten: one that is
+/// mounted, or another user's in a folder where each may remove only what is theirs.
 fn is_refused(kind: ErrorKind) -> bool {
     matches!(
         kind,
@@ -60,8 +60,8 @@ fn is_refused(kind: ErrorKind) -> bool {
     )
 }
 
-/// Overwrites a file while a copy of its old text stands. After an error it gets its old text again; where that fails
-/// too, the copy stays, and the error says where.
+/// Overwrites a file while a copy of its old text stands. After an error it gets its old text again; where
+/// that fails too, the copy stays, and the error says where.
 fn overwrite_beside<R: Files<File = File> + Alloc<A = Global>>(
     rt: &R,
     alloc: Global,

@@ -29,8 +29,8 @@ impl Fingerprint {
     }
 }
 
-/// The bytes of a regular file. A device is read where it has none, as `/dev/null`; what else is no regular file is
-/// an error.
+/// The bytes of a regular file. A device is read where it has none, as `/dev/null`; what else is no regular
+/// file is an error.
 pub(crate) fn read_regular<R: Files<File = File>>(
     rt: &R,
     alloc: Global,

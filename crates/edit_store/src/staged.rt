@@ -37,8 +37,8 @@ pub(crate) struct Staged {
     pub(crate) verified: bool,
 }
 
-/// Makes a write ready: the bytes are on the disk, in a file with the owner and the permissions of the old one, or a
-/// copy of the old text is.
+/// Makes a write ready: the bytes are on the disk, in a file with the owner and the permissions of the old
+/// one, or a copy of the old text is.
 pub(crate) fn prepare<R: Files<File = File> + Alloc<A = Global> + Env>(
     rt: &R,
     alloc: Global,
@@ -81,7 +81,8 @@ fn is_descriptor(path: &str) -> bool {
         || (path.starts_with("/proc/") && path.contains("/fd/"))
 }
 
-/// A write of these bytes. The texts are made before any file is, so that a lack of memory leaves none behind.
+/// A write of these bytes. The texts are made before any file is, so that a lack of memory leaves none
+/// behind.
 fn make_staged(
     path: String,
     target: String,
@@ -99,7 +100,8 @@ fn make_staged(
     }
 }
 
-/// Makes a write ready where no file stands yet. A link that leads nowhere is followed when the write is made.
+/// Makes a write ready where no file stands yet. A link that leads nowhere is followed when the write is
+/// made.
 fn prepare_new<R: Files<File = File>>(
     rt: &R,
     alloc: Global,
@@ -136,8 +138,9 @@ fn fill(file: &mut File, bytes: &[u8]) -> io::Result<()> {
     file.sync_all()
 }
 
-/// How a regular file is to be written, made ready. It is overwritten where no file may be made in its folder, and
-/// where a new file could not have its owner and its group, which might take the access to it from somebody.
+/// How a regular file is to be written, made ready. It is overwritten where no file may be made in its
+/// folder, and where a new file could not have its owner and its group, which might take the access to it
+/// from somebody.
 fn way_over<R: Files<File = File> + Alloc<A = Global> + Env>(
     rt: &R,
     alloc: Global,
@@ -170,8 +173,8 @@ fn may_write<R: Files>(rt: &R, path: &str, old: &Metadata) -> io::Result<()> {
     Ok(())
 }
 
-/// Writes bytes to the disk in a file that gets the owner, the group and then the permissions of the old one; answers
-/// whether it could. Each is set on the open file, so that no link can lead elsewhere.
+/// Writes bytes to the disk in a file that gets the owner, the group and then the permissions of the old one;
+/// answers whether it could. Each is set on the open file, so that no link can lead elsewhere.
 fn fill_like(file: &mut File, old: &Metadata, bytes: &[u8]) -> io::Result<bool> {
     let new = file.metadata()?;
     if new.uid() != old.uid() || new.gid() != old.gid() {
@@ -186,7 +189,8 @@ fn fill_like(file: &mut File, old: &Metadata, bytes: &[u8]) -> io::Result<bool> 
     Ok(true)
 }
 
-/// A copy of a file's text on the disk: in its folder, or in the folder for temporary files where none may be made there.
+/// A copy of a file's text on the disk: in its folder, or in the folder for temporary files where none may be
+/// made there.
 pub(crate) fn keep_copy<R: Files<File = File> + Alloc<A = Global> + Env>(
     rt: &R,
     alloc: Global,

@@ -19,11 +19,12 @@ pub enum Kind {
 ///
 /// A store that `tells` its files is a finite map from paths to bytes.
 ///
-/// A caller that writes several files calls `stage` for each of them, then `verify` for each, and then `write` for each:
-/// what the machine can refuse is then refused while every file is as it was. After an error it calls `unstage`.
+/// A caller that writes several files calls `stage` for each of them, then `verify` for each, and then
+/// `write` for each: what the machine can refuse is then refused while every file is as it was. After an
+/// error it calls `unstage`.
 pub trait Store {
-    /// Whether it tells what its files hold, the bytes of the file at each path where it tells them, how often its
-    /// device has failed, and how often a write could not be made ready.
+    /// Whether it tells what its files hold, the bytes of the file at each path where it tells them, how
+    /// often its device has failed, and how often a write could not be made ready.
     ghost view: { Self → StoreView };
 
     /// What stands at a path, links followed.
@@ -42,8 +43,8 @@ pub trait Store {
             → option_map (λ v. v.items) r ≡ (view self.old).file_at path.now) }
         ensures cause { HasCause DeviceCall.Read (view self.old) (view self.new) result };
 
-    /// The bytes of a file, as `read` gives them, or what a pipe or a terminal gives up to its end. For files that a
-    /// user names.
+    /// The bytes of a file, as `read` gives them, or what a pipe or a terminal gives up to its end. For files
+    /// that a user names.
     fn read_stream(&mut self, alloc: Global, path: &str) -> CargoResult<Option<Vec<u8>>>
         ensures tells { (view self.new).tells ≡ (view self.old).tells }
         ensures files { SameFiles (view self.old).file_at (view self.new).file_at }
@@ -65,7 +66,8 @@ pub trait Store {
         Ok(())
     }
 
-    /// Compares a file that is staged with what was read of it: an error where another program has changed it since.
+    /// Compares a file that is staged with what was read of it: an error where another program has changed it
+    /// since.
     fn verify(&mut self, _alloc: Global, _path: &str) -> CargoResult<()>
         ensures tells { (view self.new).tells ≡ (view self.old).tells }
         ensures files { SameFiles (view self.old).file_at (view self.new).file_at }
@@ -93,8 +95,8 @@ pub trait Store {
         ensures ready { (view self.new).stage_errors ≡ (view self.old).stage_errors }
     {}
 
-    /// Keeps other runs that lock this folder waiting until the program ends, and waits for them first. Where the
-    /// machine has no locks nothing happens.
+    /// Keeps other runs that lock this folder waiting until the program ends, and waits for them first. Where
+    /// the machine has no locks nothing happens.
     fn lock(&mut self, _alloc: Global, _folder: &str)
         ensures { OnlyReads (view self.old) (view self.new) }
     {}

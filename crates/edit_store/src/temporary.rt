@@ -15,9 +15,11 @@ pub(crate) struct Temporary {
     inode: u64,
 }
 
-/// Makes an empty file in a folder, with this mode and this end of its name; none where none may be made there.
+/// Makes an empty file in a folder, with this mode and this end of its name; none where none may be made
+/// there.
 ///
-/// No link is followed, and nothing that stands there is touched. The file gets its name once its number is known.
+/// No link is followed, and nothing that stands there is touched. The file gets its name once its number is
+/// known.
 pub(crate) fn make_temporary<R: Files<File = File>>(
     rt: &R,
     alloc: Global,
@@ -164,8 +166,8 @@ fn remove_left<R: Files<File = File> + Alloc<A = Global>>(
     }
 }
 
-/// Whether a file under the name of a temporary one is one: a regular file with the number in its name, or an empty one
-/// where the name has none.
+/// Whether a file under the name of a temporary one is one: a regular file with the number in its name, or an
+/// empty one where the name has none.
 fn is_own<R: Files<File = File>>(entry: &DirEntry<R>, name: Name) -> bool {
     match entry.metadata() {
         Ok(metadata) if !metadata.is_file() || metadata.nlink() != 1 => false,

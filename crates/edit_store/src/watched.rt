@@ -79,8 +79,8 @@ impl Watched {
     }
 }
 
-/// Looks whether another program wrote to one of the files while they were replaced. Then each of them gets its old
-/// text again, with what was written, and the answer is an error with the path of that file.
+/// Looks whether another program wrote to one of the files while they were replaced. Then each of them gets
+/// its old text again, with what was written, and the answer is an error with the path of that file.
 pub(crate) fn settle<R: Files<File = File> + Alloc<A = Global> + Env>(
     rt: &R,
     alloc: Global,

@@ -97,8 +97,8 @@ impl Work {
         }
     }
 
-    /// Notes the path of a write that is ready, and answers a copy of it; an error where another path of the same file is
-    /// staged.
+    /// Notes the path of a write that is ready, and answers a copy of it; an error where another path of the
+    /// same file is staged.
     fn put(&mut self, alloc: Global, path: &str, staged: &Staged) -> Answer<String> {
         if let Some(identity) = staged.identity
             && matches!(staged.way, Way::Rename(_) | Way::InPlace(_))
@@ -153,8 +153,8 @@ impl Work {
         Ok(())
     }
 
-    /// Writes a file. Behind the last write that is compared the folders are flushed to the disk, and the files that
-    /// were replaced are looked at again.
+    /// Writes a file. Behind the last write that is compared the folders are flushed to the disk, and the
+    /// files that were replaced are looked at again.
     pub(crate) fn write<R: Files<File = File> + Alloc<A = Global> + Env>(
         &mut self,
         rt: &R,
@@ -190,8 +190,8 @@ impl Work {
         Ok(())
     }
 
-    /// Flushes the folders of the files that were replaced, and looks at those files again. A folder that cannot be
-    /// flushed is passed over: each file is whole, the old one or the new one.
+    /// Flushes the folders of the files that were replaced, and looks at those files again. A folder that
+    /// cannot be flushed is passed over: each file is whole, the old one or the new one.
     fn settle<R: Files<File = File> + Alloc<A = Global> + Env>(
         &mut self,
         rt: &R,
@@ -223,7 +223,8 @@ impl Work {
         let _ = self.settle(rt, alloc);
     }
 
-    /// Locks a folder until the end of the run. Where another run has locked it, this is told, and waited for.
+    /// Locks a folder until the end of the run. Where another run has locked it, this is told, and waited
+    /// for.
     pub(crate) fn lock<R: Files<File = File> + Eprint>(
         &mut self,
         rt: &R,

@@ -77,7 +77,8 @@ unless false a = a
 abbrev pub is_too_low : Bool → List ℕ → Option Parts → Bool
 is_too_low never old far = never && is_below old far
 
--- for the latest version: where the old text cannot be raised, the version itself; none where that would lower
+-- for the latest version: where the old text cannot be raised, the version itself; none where that would
+-- lower
 abbrev pub latest_text : Case → Option (List ℕ)
 latest_text c = unless (is_too_low c.never_lower c.old (newer c.latest c.compatible))
     (option_and_then (λ v. text_or (plain_text v) (raise c.old v)) (newer c.latest c.compatible))

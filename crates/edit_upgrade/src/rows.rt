@@ -223,8 +223,8 @@ pub(crate) fn row_for(
     }
 }
 
-/// The row of an entry with a requirement, over the answer that is kept for its name, which is ranked where it
-/// was not. What the requirement leads to is remembered, for the further entries that have it.
+/// The row of an entry with a requirement, over the answer that is kept for its name, which is ranked where
+/// it was not. What the requirement leads to is remembered, for the further entries that have it.
 fn kept_row_with<I: Index>(
     alloc: Global,
     job: Job<'_>,

@@ -42,7 +42,8 @@ fn inputs_of(rt: &impl Abort, alloc: Global, rows: &str) -> Vec<Input> {
     all
 }
 
-/// The file, line and column of an error, without the lines of the file that are shown below them; `-` being none.
+/// The file, line and column of an error, without the lines of the file that are shown below them; `-` being
+/// none.
 fn shown(rt: &impl Abort, alloc: Global, refusal: &Refusal) -> String {
     match &refusal.place {
         Some(place) => {

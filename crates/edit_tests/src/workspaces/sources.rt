@@ -120,8 +120,8 @@ fn read(rt: &impl Abort, alloc: Global, target: &str, more: &str) -> String {
     answered(rt, alloc, &asked, &mut store)
 }
 
-/// What is read; the manifest and the metadata that are named; the index, the Rust version, the folder, and the
-/// two configuration files.
+/// What is read; the manifest and the metadata that are named; the index, the Rust version, the folder, and
+/// the two configuration files.
 const READ: &str = "\
 a /w/a/Cargo.toml 1.70.0 2; files, 1|- -|- -\
 ~virtual workspace /w/Cargo.toml - 2; a file, 1|/w -|../../index -\
